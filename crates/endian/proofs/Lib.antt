@@ -1,0 +1,2 @@
+-- The turns of the loops that copy, fill and compare.
+pub mod Turns
