@@ -1,0 +1,59 @@
+-- What the definitions of `Dol` say: the words by index, and the largest sum as the least number that no sum passes.
+-- Assumes nothing.
+use Prim.Native.Nat.{ℕ, zero, suc, _+_, _-_, _*_, _≤_, _<_, _^_, min}
+use mathlib.Core.Path.{_≡_, refl, ap}
+use mathlib.Core.List.{List, [], _∷_}
+use native.Mathlib.Omega.{arith}
+use native.Mathlib.Nat.{add-zero}
+use lib.ListN.{length, getD}
+use Rattle.dol.specs.declared.DolHeader.{DolHeader}
+use Rattle.endian.specs.Bytes.{be32}
+use Rattle.window.specs.Window.{newWindow, countOf}
+use Rattle.dol.specs.Dol.{words, headerOf, largestOf, fileSizeOf}
+
+pub length-words : (s : List ℕ) (at n : ℕ) → length (words s at n) ≡ n
+unfolding words
+length-words s at zero = refl
+length-words s at (suc n) = ap suc (length-words s (at + 4) n)
+
+-- word i stands at at + 4 * i
+pub getD-words : (s : List ℕ) (at n i : ℕ) → i < n → getD (words s at n) i 0 ≡ be32 s (at + 4 * i)
+unfolding words
+getD-words s at zero i h = absurd (omega arith)
+getD-words s at (suc n) zero h = let e : at + 4 * zero ≡ at = omega arith in rw e
+getD-words s at (suc n) (suc i) h = let e : at + 4 + 4 * i ≡ at + 4 * suc i = omega arith in rw e at (getD-words s (at + 4) n i (omega arith))
+
+-- no sum passes the largest, and it passes no number that every sum keeps to
+pub sum-le-largest : (os ss : List ℕ) (i : ℕ) → i < length os → i < length ss → getD os i 0 + getD ss i 0 ≤ largestOf os ss
+unfolding largestOf
+sum-le-largest [] ss i h k = absurd (omega arith)
+sum-le-largest (o ∷ os) [] i h k = absurd (omega arith)
+sum-le-largest (o ∷ os) (s ∷ ss) zero h k = omega arith
+sum-le-largest (o ∷ os) (s ∷ ss) (suc i) h k = omega (arith, sum-le-largest os ss i (omega arith) (omega arith))
+
+pub largest-le : (os ss : List ℕ) (n : ℕ) → ((i : ℕ) → i < length os → i < length ss → getD os i 0 + getD ss i 0 ≤ n) → largestOf os ss ≤ n
+unfolding largestOf
+largest-le [] ss n f = omega arith
+largest-le (o ∷ os) [] n f = omega arith
+largest-le (o ∷ os) (s ∷ ss) n f = omega (arith, f zero (omega arith) (omega arith), largest-le os ss n (λ i h k. f (suc i) (omega arith) (omega arith)))
+
+-- so the file size is below 2^32 exactly if each of the 18 sums is
+module _ (s : List ℕ) (at : ℕ) where
+  abbrev h : DolHeader
+  h = headerOf s at
+
+  pub size-fits : ((i : ℕ) → i < 7 → getD (h .«text_offsets») i 0 + getD (h .«text_sizes») i 0 < 2 ^ 32) → ((i : ℕ) → i < 11 → getD (h .«data_offsets») i 0 + getD (h .«data_sizes») i 0 < 2 ^ 32) → fileSizeOf h < 2 ^ 32
+  size-fits f g =
+      let a : largestOf (h .«text_offsets») (h .«text_sizes») ≤ 2 ^ 32 - 1 = largest-le _ _ _ (λ i k _. omega (arith, f i (omega (arith, length-words s at 7)))) in
+      let b : largestOf (h .«data_offsets») (h .«data_sizes») ≤ 2 ^ 32 - 1 = largest-le _ _ _ (λ i k _. omega (arith, g i (omega (arith, length-words s (at + 0x1C) 11)))) in
+      omega arith
+
+  pub text-sum-fits : fileSizeOf h < 2 ^ 32 → (i : ℕ) → i < 7 → getD (h .«text_offsets») i 0 + getD (h .«text_sizes») i 0 < 2 ^ 32
+  text-sum-fits f i k = omega (arith, sum-le-largest (h .«text_offsets») (h .«text_sizes») i (omega (arith, length-words s at 7)) (omega (arith, length-words s (at + 0x90) 7)))
+
+  pub data-sum-fits : fileSizeOf h < 2 ^ 32 → (i : ℕ) → i < 11 → getD (h .«data_offsets») i 0 + getD (h .«data_sizes») i 0 < 2 ^ 32
+  data-sum-fits f i k = omega (arith, sum-le-largest (h .«data_offsets») (h .«data_sizes») i (omega (arith, length-words s (at + 0x1C) 11)) (omega (arith, length-words s (at + 0xAC) 11)))
+
+-- a read at the front of a DOL window gives no more than the file has, and stops at the image's end
+pub window-reads : (at size there asked : ℕ) → countOf (newWindow at size) there asked ≡ min asked (min size (there - at))
+window-reads at size there asked = let z : size - 0 ≡ size = omega arith in rw (add-zero at, z)
