@@ -113,7 +113,7 @@ runs-rising p i (suc n) = go (p i) (runs-rising p (suc i) n)
     go true f = join-rising i (runs p (suc i) n) f
     go false f = rising-le i (suc i) (runs p (suc i) n) (omega arith) f
 
-covers-late : (j x m : ℕ) (rs : List DiscRegion) → Rising j rs → x < j → Covers x m rs → ⊥
+pub covers-late : (j x m : ℕ) (rs : List DiscRegion) → Rising j rs → x < j → Covers x m rs → ⊥
 covers-late j x m [] f h c = c
 covers-late j x m (r ∷ rs) f h c = ⊎-elim (λ d. omega arith) (covers-late (suc (r .offset + r .size)) x m rs (f .1) (omega arith)) c
 
