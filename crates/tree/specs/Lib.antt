@@ -3,3 +3,4 @@ pub mod Lookup
 pub mod Texts
 pub mod Accepted
 pub mod Steps
+pub mod RoundTrip
