@@ -1,2 +1,6 @@
 pub mod Table
 pub mod Lookup
+pub mod Texts
+pub mod Accepted
+pub mod Steps
+pub mod RoundTrip
