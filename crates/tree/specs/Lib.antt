@@ -4,3 +4,4 @@ pub mod Texts
 pub mod Accepted
 pub mod Steps
 pub mod RoundTrip
+pub mod Nesting
