@@ -5,3 +5,4 @@ pub mod Accepted
 pub mod Steps
 pub mod RoundTrip
 pub mod Nesting
+pub mod Insert
