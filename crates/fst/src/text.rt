@@ -1,0 +1,87 @@
+// The texts of a table: bytes up to a zero byte, or up to the table's end (string_table.rs).
+ghost use mathlib.Core.Path.{_≡_};
+ghost use lib.ListN.{length, getD};
+ghost use Rattle.tree.specs.Table.{every, plainByte, safeByte, dots, safe};
+ghost use Rattle.fst.specs.Reading.{textAt, byteTest};
+
+// The byte at `at`; a text ends at the table's end as it does at a zero byte.
+pub fn byte_at(table: &[u8], at: usize) -> u8
+    ensures { λ r. ⌜ r ≡ getD (now (table .entry)) at 0 ⌝ }
+{
+    if at < table.len() { table[at] } else { 0 }
+}
+
+fn is_plain(b: u8) -> bool
+    ensures { λ r. ⌜ r ≡ plainByte b ⌝ }
+{
+    if b < 0x20 {
+        return false;
+    }
+    b <= 0x7E
+}
+
+fn is_safe(b: u8) -> bool
+    ensures { λ r. ⌜ r ≡ safeByte b ⌝ }
+{
+    if b == b'/' {
+        return false;
+    }
+    if b == b'\\' {
+        return false;
+    }
+    b != b':'
+}
+
+fn fits(b: u8, safe_only: bool) -> bool
+    ensures { λ r. ⌜ r ≡ byteTest «safe_only» b ⌝ }
+{
+    if safe_only { is_safe(b) } else { is_plain(b) }
+}
+
+// Whether each byte of the text at `at` is safe, or each is plain.
+pub fn every_byte(table: &[u8], at: usize, safe_only: bool) -> bool
+    ensures { λ r. ⌜ r ≡ every (byteTest «safe_only») (textAt (now (table .entry)) at) ⌝ }
+{
+    let mut i = at;
+    while i < table.len() {
+        let b = table[i];
+        if b == 0 {
+            return true;
+        }
+        if fits(b, safe_only) {
+            i += 1;
+        } else {
+            return false;
+        }
+    }
+    true
+}
+
+// Whether the text at `at` is `.` or `..`.
+fn is_dots(table: &[u8], at: usize) -> bool
+    ensures { λ r. ⌜ r ≡ dots (textAt (now (table .entry)) at) ⌝ }
+{
+    if byte_at(table, at) != b'.' {
+        return false;
+    }
+    let second = byte_at(table, at + 1);
+    if second == 0 {
+        return true;
+    }
+    if second != b'.' {
+        return false;
+    }
+    byte_at(table, at + 2) == 0
+}
+
+pub fn is_safe_name(table: &[u8], at: usize) -> bool
+    ensures { λ r. ⌜ r ≡ safe (textAt (now (table .entry)) at) ⌝ }
+{
+    if byte_at(table, at) == 0 {
+        return false;
+    }
+    if is_dots(table, at) {
+        return false;
+    }
+    every_byte(table, at, true)
+}
