@@ -1,3 +1,4 @@
 pub mod Opening
 pub mod Prepared
+pub mod OpeningLaws
 pub mod Calls

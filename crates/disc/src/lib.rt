@@ -1,12 +1,14 @@
 // Opening an image, and every call that reads it. Each call opens the image anew, and leaves the working words zero.
 use refusal::Refusal;
+use refusal::Verdict;
 use window::Window;
 ghost use mathlib.Core.Path.{_≡_};
 ghost use Prim.Native.Nat.{_+_, _-_, _*_, _≤_, _<_};
 ghost use lib.ListN.{length};
 ghost use Rattle.space.specs.Sort.{regionsIn};
 ghost use Rattle.space.specs.Used.{usedRegions};
-ghost use Rattle.disc.specs.Prepared.{AddedEntry, entryRegions};
+ghost use Rattle.refusal.specs.declared.Verdict.the-variants.{Passed};
+ghost use Rattle.disc.specs.Prepared.{tableVerdict, AddedEntry, entryRegions, Prepares};
 
 pub struct Disc {
     pub fst_offset: u32,
@@ -71,4 +73,45 @@ fn collect(table: &[u8], words: &mut [u32], count: usize, table_end: u32) -> usi
         k += 1;
     }
     m
+}
+
+// The tests 1 to 13.
+fn check_table(image: &[u8], words: usize) -> Verdict
+    ensures { λ r. ⌜ r ≡ tableVerdict (now (image .entry)) words ⌝ }
+{
+    let verdict = header::check_bounds(image);
+    if verdict.is_refused() {
+        return verdict;
+    }
+    let from = header::fst_offset(image) as usize;
+    let to = header::table_end(image) as usize;
+    fst::check(&image[from..to], words)
+}
+
+// Test 14, which leaves the used regions in order.
+fn check_used(image: &[u8], words: &mut [u32]) -> Prepared
+    requires { ⌜ tableVerdict (now image) (length (now words)) ≡ Passed ⌝ }
+    ensures { λ r. ⌜ Prepares (now (image .entry)) (length (now (words .entry))) (now (words .exit)) r ⌝ }
+{
+    let from = header::fst_offset(image) as usize;
+    let to = header::table_end(image) as usize;
+    let end = header::disc_end(image) as u32;
+    let count = endian::read_u32(image, from + 8) as usize;
+    let m = collect(&image[from..to], words, count, to as u32);
+    let verdict = space::check_regions(words, count + 2, m, end);
+    match verdict {
+        Verdict::Passed => Prepared::Ready(m),
+        Verdict::Refused(cause) => Prepared::Refused(cause),
+    }
+}
+
+// Opens the image. Accepted, it leaves the used regions in the words, in order.
+pub fn prepare(image: &[u8], words: &mut [u32]) -> Prepared
+    ensures { λ r. ⌜ Prepares (now (image .entry)) (length (now (words .entry))) (now (words .exit)) r ⌝ }
+{
+    let verdict = check_table(image, words.len());
+    if let Verdict::Refused(cause) = verdict {
+        return Prepared::Refused(cause);
+    }
+    check_used(image, words)
 }
