@@ -34,4 +34,3 @@ pub enum WindowAnswer {
     Opened(Window),
     Refused(Refusal),
 }
-

@@ -125,7 +125,7 @@ impl Window {
 }
 
 // The window after a seek: the one found, or with a refusal the one it was.
-fn settled(w: Window, s: Sought) -> Window
+pub fn settled(w: Window, s: Sought) -> Window
     ensures { λ r. ⌜ r ≡ settledOf w s ⌝ }
 {
     match s {
