@@ -16,6 +16,7 @@ use Rattle.window.specs.declared.SeekFrom.the-variants.{Start, Current, 
 use Rattle.window.specs.declared.Sought.{Sought}
 use Rattle.window.specs.declared.Sought.the-variants.{At, Refused}
 use Rattle.window.specs.declared.BytesRead.{BytesRead}
+use Rattle.window.specs.declared.SoughtAndRead.{SoughtAndRead}
 
 -- a window on `len` bytes from `start` on, at its first byte
 abbrev pub newWindow : ℕ → ℕ → Window
@@ -55,10 +56,25 @@ seekOf w (End d) = judged w (movedBy (w .len) d)
 abbrev pub countOf : Window → ℕ → ℕ → ℕ
 countOf w there asked = min asked (min (w .len - w .position) (there - (w .start + w .position)))
 
+-- the same part, n bytes further on
+abbrev pub movedOn : Window → ℕ → Window
+movedOn w n = moveTo w (w .position + n)
+
 -- the answer of a read: the count, and the window moved by it
 abbrev pub readOf : Window → ℕ → ℕ → BytesRead
-readOf w there asked = record { count = countOf w there asked; window = moveTo w (w .position + countOf w there asked) }
+readOf w there asked = record { count = countOf w there asked; window = movedOn w (countOf w there asked) }
 
 -- the buffer after a read: at its front the bytes of the image from start + position on; "the rest of the buffer stays"
 abbrev pub bufferOf : Window → List ℕ → List ℕ → List ℕ
 bufferOf w image buf = put buf 0 (span image (w .start + w .position) (countOf w (length image) (length buf)))
+
+-- ---- "the same two calls on a window that the caller lends and finds moved"
+
+-- the window after a seek: the one found, or with a refusal the one it was ("Left as it was: window too")
+abbrev pub settledOf : Window → Sought → Window
+settledOf w (At v) = v
+settledOf w (Refused c) = w
+
+-- a seek and then a read on one window
+abbrev pub seekReadOf : Window → SeekFrom → ℕ → ℕ → SoughtAndRead
+seekReadOf w to there asked = record { sought = seekOf w to; read = readOf (settledOf w (seekOf w to)) there asked }

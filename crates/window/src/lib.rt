@@ -1,10 +1,10 @@
 // A window shows a part of an image: where the part starts, how long it is, and the position in it. It goes in by value, and each
-// call gives back the moved window.
+// call gives back the moved window. `seek_lent` and `read_lent` are the same two calls on a window that the caller lends and finds moved.
 use refusal::Refusal;
 ghost use mathlib.Core.Path.{_≡_};
 ghost use Prim.Native.Nat.{_-_, min};
 ghost use lib.ListN.{length};
-ghost use Rattle.window.specs.Window.{newWindow, movedBy, judged, seekOf, readOf, bufferOf};
+ghost use Rattle.window.specs.Window.{newWindow, movedBy, judged, seekOf, settledOf, countOf, movedOn, readOf, bufferOf, seekReadOf};
 
 pub struct Window {
     pub start: u64,
@@ -122,4 +122,58 @@ impl Window {
             },
         }
     }
+}
+
+// The window after a seek: the one found, or with a refusal the one it was.
+pub fn settled(w: Window, s: Sought) -> Window
+    ensures { λ r. ⌜ r ≡ settledOf w s ⌝ }
+{
+    match s {
+        Sought::At(v) => v,
+        Sought::Refused(_) => w,
+    }
+}
+
+// `seek` on a window that the caller lends.
+pub fn seek_lent(w: &mut Window, to: SeekFrom) -> Sought
+    ensures { λ r. ⌜ (r ≡ seekOf (now (w .entry)) to) × (now (w .exit) ≡ settledOf (now (w .entry)) (seekOf (now (w .entry)) to)) ⌝ }
+{
+    let old = *w;
+    let s = Window::seek(old, to);
+    *w = settled(old, s);
+    s
+}
+
+// `read` on a window that the caller lends.
+pub fn read_lent(w: &mut Window, image: &[u8], buf: &mut [u8]) -> usize
+    ensures { λ r. ⌜ (r ≡ countOf (now (w .entry)) (length (now (image .entry))) (length (now (buf .entry))))
+        × (now (w .exit) ≡ movedOn (now (w .entry)) r)
+        × (now (buf .exit) ≡ bufferOf (now (w .entry)) (now (image .entry)) (now (buf .entry))) ⌝ }
+{
+    let r = Window::read(*w, image, buf);
+    *w = r.window;
+    r.count
+}
+
+pub struct SoughtAndRead {
+    pub sought: Sought,
+    pub read: BytesRead,
+}
+
+fn sought_and_read(sought: Sought, count: usize, window: Window) -> SoughtAndRead
+    ensures { λ r. ⌜ (r .sought ≡ sought) × (r .read .count ≡ count) × (r .read .window ≡ window) ⌝ }
+{
+    let read = BytesRead { count, window };
+    SoughtAndRead { sought, read }
+}
+
+// A seek and then a read on one window, which this function lends to both. Its own parameters are plain values and slices.
+pub fn seek_and_read(w: Window, to: SeekFrom, image: &[u8], buf: &mut [u8]) -> SoughtAndRead
+    ensures { λ r. ⌜ (r ≡ seekReadOf w to (length (now (image .entry))) (length (now (buf .entry))))
+        × (now (buf .exit) ≡ bufferOf (settledOf w (seekOf w to)) (now (image .entry)) (now (buf .entry))) ⌝ }
+{
+    let mut lent = w;
+    let sought = seek_lent(&mut lent, to);
+    let count = read_lent(&mut lent, image, buf);
+    sought_and_read(sought, count, lent)
 }

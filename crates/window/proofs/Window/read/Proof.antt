@@ -12,7 +12,7 @@ use Rattle.endian.specs.Bytes.{put, span}
 use Rattle.endian.specs.Laws.{put-none}
 use Rattle.window.specs.declared.Window.{Window}
 use Rattle.window.specs.declared.BytesRead.{BytesRead}
-use Rattle.window.specs.Window.{moveTo, countOf, readOf, bufferOf}
+use Rattle.window.specs.Window.{movedOn, countOf, readOf, bufferOf}
 use Rattle.window.proofs.Window.read.Statement.{statement}
 use Rattle.window.proofs.Window.read.Tie as tie
 
@@ -27,7 +27,7 @@ count w there asked l m n s k e₁ e₂ e₃ e₄ e₅ = cc (off there (w .start
 module _ (w : Window) (there asked : ℕ) where
   -- the answer with the count k
   abbrev given : ℕ → BytesRead
-  given k = record { count = k; window = moveTo w (w .position + k) }
+  given k = record { count = k; window = movedOn w k }
 
   counted : (k : ℕ) → k ≡ countOf w there asked → given k ≡ readOf w there asked
   counted k e = ap given e
