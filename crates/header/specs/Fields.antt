@@ -10,7 +10,7 @@ use lib.ListN.{getD}
 use Rattle.header.specs.declared.Field.{Field}
 
 abbrev pub place : ℕ → ℕ → Field
-place o w = record { offset = o; width = w }
+place o w = record { at = o; len = w }
 
 abbrev pub gameCodeField : Field
 gameCodeField = place 0 4
@@ -86,4 +86,4 @@ fieldAt k = getD fields k (place 0 0)
 -- fields that tile the bytes from a to b: each starts where the one before it ends, so that there is no gap and no overlap
 abbrev pub tile : ℕ → ℕ → List Field → Bool
 tile a b [] = eqb a b
-tile a b (f ∷ fs) = eqb (f .offset) a && tile (a + f .width) b fs
+tile a b (f ∷ fs) = eqb (f .at) a && tile (a + f .len) b fs

@@ -1,3 +1,4 @@
 pub mod Fields
 pub mod Verdicts
+pub mod Header
 pub mod Laws
