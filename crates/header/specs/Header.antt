@@ -3,7 +3,7 @@ use Prim.Native.Nat.{ℕ, _+_}
 use mathlib.Core.Bool.{Bool, true, false}
 use mathlib.Core.List.{List, [], _∷_}
 use lib.Dec.{ltb}
-use lib.ListN.{length, getD, replicate}
+use lib.ListN.{length, getD, take, drop, replicate}
 use Rattle.endian.specs.Bytes.{be32, be32Bytes, put, span}
 use Rattle.refusal.specs.declared.Refusal.the-variants.{HeaderPastImage}
 use Rattle.refusal.specs.declared.Verdict.{Verdict}
@@ -81,3 +81,56 @@ answerOf (Refused c) h = record { verdict = Refused c; header = blank 0 }
 
 abbrev pub readOf : List ℕ → HeaderRead
 readOf image = answerOf (headerVerdict image) (headerOf image)
+
+-- ---- written
+
+-- what a header puts in each field, in the order of the table; the game name, the word at 0x18 and the unused runs "as read"
+unfoldable pub fieldBytes : DiscHeader → List (List ℕ)
+fieldBytes h =
+    h .«game_code»
+    ∷ h .«maker_code»
+    ∷ (h .«disc_id» ∷ [])
+    ∷ (h .version ∷ [])
+    ∷ (h .«audio_streaming» ∷ [])
+    ∷ (h .«stream_buffer_size» ∷ [])
+    ∷ h .«unused_00a»
+    ∷ be32Bytes (h .«wii_magic»)
+    ∷ be32Bytes (h .«gcn_magic»)
+    ∷ h .«game_name»
+    ∷ be32Bytes (h .«debug_monitor_offset»)
+    ∷ be32Bytes (h .«debug_monitor_addr»)
+    ∷ h .«unused_408»
+    ∷ be32Bytes (h .«dol_offset»)
+    ∷ be32Bytes (h .«fst_offset»)
+    ∷ be32Bytes (h .«fst_size»)
+    ∷ be32Bytes (h .«fst_max_size»)
+    ∷ be32Bytes (h .«user_position»)
+    ∷ be32Bytes (h .«user_size»)
+    ∷ be32Bytes (h .«disc_size»)
+    ∷ be32Bytes (h .«unused_43c»)
+    ∷ []
+
+-- each field's bytes at its offset
+unfoldable pub putFields : List Field → List (List ℕ) → List ℕ → List ℕ
+putFields [] bss image = image
+putFields (f ∷ fs) [] image = image
+putFields (f ∷ fs) (bs ∷ bss) image = putFields fs bss (put image (f .at) bs)
+
+-- the n fields from number k on
+unfoldable pub putSome : ℕ → ℕ → DiscHeader → List ℕ → List ℕ
+putSome k n h image = putFields (take n (drop k fields)) (take n (drop k (fieldBytes h))) image
+
+-- the image with the header in it
+abbrev pub putHeader : DiscHeader → List ℕ → List ℕ
+putHeader h image = putFields fields (fieldBytes h) image
+
+-- an image that is too short is refused, and left as it was
+abbrev pub writeVerdict : List ℕ → Verdict
+writeVerdict image = refuse (ltb (length image) 0x440) HeaderPastImage Passed
+
+abbrev pub writtenBy : Verdict → DiscHeader → List ℕ → List ℕ
+writtenBy Passed h image = putHeader h image
+writtenBy (Refused c) h image = image
+
+abbrev pub written : DiscHeader → List ℕ → List ℕ
+written h image = writtenBy (writeVerdict image) h image

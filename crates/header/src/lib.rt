@@ -6,8 +6,8 @@ ghost use Prim.Native.Nat.{_+_, _≤_, _<_};
 ghost use lib.ListN.{length};
 ghost use Rattle.refusal.specs.Refusal.{first};
 ghost use Rattle.header.specs.Fields.{fieldAt};
-ghost use Rattle.endian.specs.Bytes.{span};
-ghost use Rattle.header.specs.Header.{headerOf, blank, readOf};
+ghost use Rattle.endian.specs.Bytes.{put, span};
+ghost use Rattle.header.specs.Header.{headerOf, blank, readOf, putSome, writeVerdict, written};
 ghost use Rattle.header.specs.Verdicts.{gcnMagic, fieldVerdict, headerVerdict, dolOffset, fstOffset, fstSize, discEnd, tableEnd, boundsVerdict};
 ghost use Rattle.header.specs.Laws.{Judged};
 
@@ -361,5 +361,78 @@ fn read_fields(image: &[u8]) -> DiscHeader
         user_size,
         disc_size,
         unused_43c,
+    }
+}
+
+// All bytes of `bytes`, from `at` on.
+fn write_all(image: &mut [u8], at: usize, bytes: &[u8])
+    requires { ⌜ at + length (now bytes) ≤ length (now image) ⌝ }
+    ensures { λ _. ⌜ now (image .exit) ≡ put (now (image .entry)) at (now (bytes .entry)) ⌝ }
+{
+    let n = bytes.len();
+    endian::copy(bytes, 0, image, at, n);
+}
+
+// The header written in three parts: the fields up to the magics, those up to the DOL offset, and the words from there on.
+impl DiscHeader {
+    fn write_codes(self, image: &mut [u8])
+        requires { ⌜ 0x440 ≤ length (now image) ⌝ }
+        ensures { λ _. ⌜ now (image .exit) ≡ putSome 0 7 self (now (image .entry)) ⌝ }
+    {
+        let game_code = self.game_code;
+        write_all(image, Field::GAME_CODE.at, &game_code);
+        let maker_code = self.maker_code;
+        write_all(image, Field::MAKER_CODE.at, &maker_code);
+        endian::write_u8(image, Field::DISC_ID.at, self.disc_id);
+        endian::write_u8(image, Field::VERSION.at, self.version);
+        endian::write_u8(image, Field::AUDIO_STREAMING.at, self.audio_streaming);
+        endian::write_u8(image, Field::STREAM_BUFFER_SIZE.at, self.stream_buffer_size);
+        let unused_00a = self.unused_00a;
+        write_all(image, Field::UNUSED_00A.at, &unused_00a);
+    }
+
+    fn write_magics_and_name(self, image: &mut [u8])
+        requires { ⌜ 0x440 ≤ length (now image) ⌝ }
+        ensures { λ _. ⌜ now (image .exit) ≡ putSome 7 6 self (now (image .entry)) ⌝ }
+    {
+        endian::write_u32(image, Field::WII_MAGIC.at, self.wii_magic);
+        endian::write_u32(image, Field::GCN_MAGIC.at, self.gcn_magic);
+        let game_name = self.game_name;
+        write_all(image, Field::GAME_NAME.at, &game_name);
+        endian::write_u32(
+            image,
+            Field::DEBUG_MONITOR_OFFSET.at,
+            self.debug_monitor_offset,
+        );
+        endian::write_u32(image, Field::DEBUG_MONITOR_ADDR.at, self.debug_monitor_addr);
+        let unused_408 = self.unused_408;
+        write_all(image, Field::UNUSED_408.at, &unused_408);
+    }
+
+    fn write_places(self, image: &mut [u8])
+        requires { ⌜ 0x440 ≤ length (now image) ⌝ }
+        ensures { λ _. ⌜ now (image .exit) ≡ putSome 13 8 self (now (image .entry)) ⌝ }
+    {
+        endian::write_u32(image, Field::DOL_OFFSET.at, self.dol_offset);
+        endian::write_u32(image, Field::FST_OFFSET.at, self.fst_offset);
+        endian::write_u32(image, Field::FST_SIZE.at, self.fst_size);
+        endian::write_u32(image, Field::FST_MAX_SIZE.at, self.fst_max_size);
+        endian::write_u32(image, Field::USER_POSITION.at, self.user_position);
+        endian::write_u32(image, Field::USER_SIZE.at, self.user_size);
+        endian::write_u32(image, Field::DISC_SIZE.at, self.disc_size);
+        endian::write_u32(image, Field::UNUSED_43C.at, self.unused_43c);
+    }
+
+    // Every field at its place. An image too short for the header is left as it was.
+    pub fn write_to(self, image: &mut [u8]) -> Verdict
+        ensures { λ r. ⌜ (r ≡ writeVerdict (now (image .entry))) × (now (image .exit) ≡ written self (now (image .entry))) ⌝ }
+    {
+        if image.len() < 0x440 {
+            return Verdict::Refused(Refusal::HeaderPastImage);
+        }
+        self.write_codes(image);
+        self.write_magics_and_name(image);
+        self.write_places(image);
+        Verdict::Passed
     }
 }
