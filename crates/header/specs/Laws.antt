@@ -1,11 +1,11 @@
--- The table tiles 0x440 bytes; what a header that passes is, and what passes. Assumes nothing.
+-- What the tests of a field answer; what a header that passes is, and what passes. Assumes nothing.
 use Prim.Native.Nat.{ℕ, zero, suc, _+_, _-_, _^_, _<_, _≤_}
-use mathlib.Core.Path.{_≡_, refl, sym, ap, _∙_}
+use mathlib.Core.Path.{_≡_, refl}
 use mathlib.Core.Bool.{Bool, true, false, _&&_, _||_, not}
-use mathlib.Core.List.{List, [], _∷_, _++_}
+use mathlib.Core.List.{List, [], _∷_}
 use native.Mathlib.Omega.{arith}
 use lib.Dec.{eqb, ltb, leb}
-use lib.ListN.{length, getD}
+use lib.ListN.{length}
 use borrow.Author.Tests.{leb-true, ltb-false, eqb-true, eqb-false, not-false, le-ltb, lt-ltb, eq-eqb, ne-eqb}
 use Rattle.endian.specs.Bytes.{be32}
 use Rattle.refusal.specs.declared.Refusal.the-variants.{HeaderPastImage, WiiNotSupported, InvalidMagic, InvalidBounds}
@@ -14,36 +14,9 @@ use Rattle.refusal.specs.declared.Verdict.the-variants.{Passed, Refused}
 use Rattle.refusal.specs.Refusal.{refuse, first}
 use Rattle.refusal.specs.Laws.{refuse-passed, first-passed}
 use Rattle.header.specs.declared.Field.{Field}
-use Rattle.header.specs.Fields.{place, fields, fieldAt, tile, wiiMagicField, gcnMagicField}
+use Rattle.header.specs.Fields.{fields, nth, fieldAt, wiiMagicField, gcnMagicField}
+use Rattle.header.specs.Tiling.{fields-count, every-at}
 use Rattle.header.specs.Verdicts.{gcnMagic, wiiMagic, wordOf, fieldVerdict, fieldsVerdict, headerVerdict, fstOffset, discEnd, tableEnd, boundsVerdict}
-
--- the 21 fields tile 0x440 bytes, without gap or overlap
-pub fields-tile : tile 0 0x440 fields ≡ true
-unfolding fields
-fields-tile = refl
-
-pub fields-count : length fields ≡ 21
-unfolding fields
-fields-count = refl
-
--- ---- a test that all fields of a list pass, computed once, and passed by each of them
-
-abbrev pub every : (Field → Bool) → List Field → Bool
-every t [] = true
-every t (f ∷ fs) = t f && every t fs
-
-pub and-left : (a b : Bool) → (a && b) ≡ true → a ≡ true
-and-left true b e = refl
-and-left false b e = e
-
-pub and-right : (a b : Bool) → (a && b) ≡ true → b ≡ true
-and-right true b e = e
-and-right false b e = let z : _≡_ {A = ℕ} 0 1 = cc in absurd (omega arith)
-
-every-at : (t : Field → Bool) (fs : List Field) → every t fs ≡ true → (k : ℕ) → k < length fs → t (getD fs k (place 0 0)) ≡ true
-every-at t [] e k h = absurd (omega arith)
-every-at t (f ∷ fs) e zero h = and-left (t f) (every t fs) e
-every-at t (f ∷ fs) e (suc k) h = every-at t fs (and-right (t f) (every t fs) e) k (omega arith)
 
 -- what the tests of a field ask of its place: inside the header, and a magic has 4 bytes
 pub record Judged (f : Field) : Type 0 where
@@ -130,13 +103,13 @@ module _ (image : List ℕ) (f : Field) (e : fieldVerdict image f ≡ Passed) wh
       eqb-true (wordOf f image) gcnMagic (not-false (eqb (wordOf f image) gcnMagic) (rw (eq-eqb (f .at) 0x1C o) at t))
 
 module _ (image : List ℕ) where
-  each-passed : (fs : List Field) → fieldsVerdict image fs ≡ Passed → (k : ℕ) → k < length fs → fieldVerdict image (getD fs k (place 0 0)) ≡ Passed
+  each-passed : (fs : List Field) → fieldsVerdict image fs ≡ Passed → (k : ℕ) → k < length fs → fieldVerdict image (nth fs k) ≡ Passed
   unfolding fieldsVerdict
   each-passed [] e k h = absurd (omega arith)
   each-passed (f ∷ fs) e zero h = first-passed (fieldVerdict image f) (fieldsVerdict image fs) e .0
   each-passed (f ∷ fs) e (suc k) h = each-passed fs (first-passed (fieldVerdict image f) (fieldsVerdict image fs) e .1) k (omega arith)
 
-  all-pass : (fs : List Field) → ((k : ℕ) → k < length fs → fieldVerdict image (getD fs k (place 0 0)) ≡ Passed) → fieldsVerdict image fs ≡ Passed
+  all-pass : (fs : List Field) → ((k : ℕ) → k < length fs → fieldVerdict image (nth fs k) ≡ Passed) → fieldsVerdict image fs ≡ Passed
   unfolding fieldsVerdict
   all-pass [] p = refl
   all-pass (f ∷ fs) p = rw (p 0 (omega arith)) (all-pass fs (λ k h. p (suc k) (omega arith)))

@@ -1,24 +1,23 @@
 -- Reading and writing undo each other: a header that was read and is written back changes no byte, and a header that was written is read. Assumes nothing.
 use Prim.Native.Nat.{ℕ, zero, suc, _+_, _-_, _*_, _/_, _%_, _^_, _<_, _≤_}
 use mathlib.Core.Path.{_≡_, refl, sym, ap, _∙_}
-use mathlib.Core.Bool.{true, _&&_}
+use mathlib.Core.Bool.{true}
 use mathlib.Core.List.{List, [], _∷_, map}
 use native.Mathlib.Omega.{arith}
 use native.Mathlib.Nat.{div-div-eq-div-mul, add-zero}
-use lib.Dec.{eqb}
 use lib.ListN.{length, getD, take, drop, take-append-drop}
 use lib.Seq.{drop-drop}
-use borrow.Author.Tests.{eqb-true, le-ltb}
+use borrow.Author.Tests.{le-ltb}
 use Rattle.endian.specs.Bytes.{be32, be32Bytes, put, span, AllBytes}
 use Rattle.endian.specs.Laws.{be32-value, length-put, put-before, put-after, span-put, length-span, getD-span, span-cons, span-ext}
 use Rattle.refusal.specs.declared.Verdict.the-variants.{Passed}
 use Rattle.header.specs.declared.Field.{Field}
 use Rattle.header.specs.declared.DiscHeader.{DiscHeader}
-use Rattle.header.specs.declared.HeaderRead.{HeaderRead}
-use Rattle.header.specs.Fields.{place, fields, tile}
+use Rattle.header.specs.Fields.{fields, nth, tile}
 use Rattle.header.specs.Verdicts.{gcnMagic, wiiMagic, headerVerdict}
 use Rattle.header.specs.Header.{bytesOf, headerOf, readOf, fieldBytes, putFields, putHeader, written}
-use Rattle.header.specs.Laws.{fields-tile, and-left, and-right, GoodHeader, header-passed, header-passes}
+use Rattle.header.specs.Laws.{GoodHeader, header-passed, header-passes}
+use Rattle.header.specs.Tiling.{fields-tile, tile-start, tile-rest, tile-le}
 
 -- ---- fields that tile, and bytes that fill them
 
@@ -28,16 +27,6 @@ Fills [] [] = Unit
 Fills [] (bs ∷ bss) = ⊥
 Fills (f ∷ fs) [] = ⊥
 Fills (f ∷ fs) (bs ∷ bss) = (length bs ≡ f .len) × Fills fs bss
-
-tile-start : (a b : ℕ) (f : Field) (fs : List Field) → tile a b (f ∷ fs) ≡ true → f .at ≡ a
-tile-start a b f fs t = eqb-true (f .at) a (and-left (eqb (f .at) a) (tile (a + f .len) b fs) t)
-
-tile-rest : (a b : ℕ) (f : Field) (fs : List Field) → tile a b (f ∷ fs) ≡ true → tile (a + f .len) b fs ≡ true
-tile-rest a b f fs t = and-right (eqb (f .at) a) (tile (a + f .len) b fs) t
-
-tile-le : (a b : ℕ) (fs : List Field) → tile a b fs ≡ true → a ≤ b
-tile-le a b [] t = omega (arith, eqb-true a b t)
-tile-le a b (f ∷ fs) t = omega (arith, tile-le (a + f .len) b fs (tile-rest a b f fs t))
 
 -- the first of the fields lies inside
 module _ (a b : ℕ) (f : Field) (fs : List Field) (t : tile a b (f ∷ fs) ≡ true) (bs : List ℕ) (e : length bs ≡ f .len) (image : List ℕ) (fits : b ≤ length image) where
@@ -73,7 +62,7 @@ putFields-after a b (f ∷ fs) (bs ∷ bss) image t s fits i h =
     ∙ put-after image (f .at) bs (inside a b f fs t bs (s .0) image fits) i (omega (arith, tile-start a b f fs t, s .0, tile-le (a + f .len) b fs (tile-rest a b f fs t)))
 
 -- each field holds its bytes
-pub putFields-in : (a b : ℕ) (fs : List Field) (bss : List (List ℕ)) (image : List ℕ) → tile a b fs ≡ true → Fills fs bss → b ≤ length image → (k : ℕ) → k < length fs → bytesOf (getD fs k (place 0 0)) (putFields fs bss image) ≡ getD bss k []
+pub putFields-in : (a b : ℕ) (fs : List Field) (bss : List (List ℕ)) (image : List ℕ) → tile a b fs ≡ true → Fills fs bss → b ≤ length image → (k : ℕ) → k < length fs → bytesOf (nth fs k) (putFields fs bss image) ≡ getD bss k []
 unfolding putFields
 putFields-in a b [] bss image t s fits k h = absurd (omega arith)
 putFields-in a b (f ∷ fs) [] image t s fits k h = absurd s
@@ -207,7 +196,7 @@ module _ (h : DiscHeader) (s : Sized h) (image : List ℕ) (whole : 0x440 ≤ le
   pub written-behind : (i : ℕ) → 0x440 ≤ i → getD (putHeader h image) i 0 ≡ getD image i 0
   written-behind i l = putFields-after 0 0x440 fields (fieldBytes h) image fields-tile fills whole i l
 
-  field : (k : ℕ) → k < length fields → bytesOf (getD fields k (place 0 0)) (putHeader h image) ≡ getD (fieldBytes h) k []
+  field : (k : ℕ) → k < length fields → bytesOf (nth fields k) (putHeader h image) ≡ getD (fieldBytes h) k []
   field k l = putFields-in 0 0x440 fields (fieldBytes h) image fields-tile fills whole k l
 
   pub read-write : headerOf (putHeader h image) ≡ h
