@@ -1,1 +1,4 @@
 pub mod Turns
+pub mod Whole
+pub mod Answers
+pub mod Parts

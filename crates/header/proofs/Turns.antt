@@ -13,7 +13,7 @@ use Rattle.refusal.specs.Refusal.{first, isRefused}
 use Rattle.refusal.specs.Laws.{first-stop, first-go}
 use Rattle.header.specs.Fields.{place, fields, fieldAt}
 use Rattle.header.specs.Verdicts.{fieldVerdict, fieldsVerdict}
-use Rattle.header.specs.Laws.{fields-count}
+use Rattle.header.specs.Tiling.{fields-count}
 
 module _ (image : List ℕ) (k : ℕ) where
   pub fields-end : 21 ≤ k → fieldsVerdict image (drop k fields) ≡ Passed

@@ -10,7 +10,7 @@ use lib.ListN.{getD}
 use Rattle.header.specs.declared.Field.{Field}
 
 abbrev pub place : ℕ → ℕ → Field
-place o w = record { offset = o; width = w }
+place o w = record { at = o; len = w }
 
 abbrev pub gameCodeField : Field
 gameCodeField = place 0 4
@@ -80,10 +80,13 @@ unfoldable pub fields : List Field
 fields = gameCodeField ∷ makerCodeField ∷ discIdField ∷ versionField ∷ audioStreamingField ∷ streamBufferSizeField ∷ unused00aField ∷ wiiMagicField ∷ gcnMagicField ∷ gameNameField ∷ debugMonitorOffsetField ∷ debugMonitorAddrField ∷ unused408Field ∷ dolOffsetField ∷ fstOffsetField ∷ fstSizeField ∷ fstMaxSizeField ∷ userPositionField ∷ userSizeField ∷ discSizeField ∷ unused43cField ∷ []
 
 -- the field with number k, counted from 0
+abbrev pub nth : List Field → ℕ → Field
+nth fs k = getD fs k (place 0 0)
+
 abbrev pub fieldAt : ℕ → Field
-fieldAt k = getD fields k (place 0 0)
+fieldAt k = nth fields k
 
 -- fields that tile the bytes from a to b: each starts where the one before it ends, so that there is no gap and no overlap
 abbrev pub tile : ℕ → ℕ → List Field → Bool
 tile a b [] = eqb a b
-tile a b (f ∷ fs) = eqb (f .offset) a && tile (a + f .width) b fs
+tile a b (f ∷ fs) = eqb (f .at) a && tile (a + f .len) b fs

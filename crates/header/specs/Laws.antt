@@ -1,11 +1,11 @@
--- The table tiles 0x440 bytes; what a header that passes is, and what passes. Assumes nothing.
+-- What the tests of a field answer; what a header that passes is, and what passes. Assumes nothing.
 use Prim.Native.Nat.{ℕ, zero, suc, _+_, _-_, _^_, _<_, _≤_}
-use mathlib.Core.Path.{_≡_, refl, sym, ap, _∙_}
+use mathlib.Core.Path.{_≡_, refl}
 use mathlib.Core.Bool.{Bool, true, false, _&&_, _||_, not}
-use mathlib.Core.List.{List, [], _∷_, _++_}
+use mathlib.Core.List.{List, [], _∷_}
 use native.Mathlib.Omega.{arith}
 use lib.Dec.{eqb, ltb, leb}
-use lib.ListN.{length, getD}
+use lib.ListN.{length}
 use borrow.Author.Tests.{leb-true, ltb-false, eqb-true, eqb-false, not-false, le-ltb, lt-ltb, eq-eqb, ne-eqb}
 use Rattle.endian.specs.Bytes.{be32}
 use Rattle.refusal.specs.declared.Refusal.the-variants.{HeaderPastImage, WiiNotSupported, InvalidMagic, InvalidBounds}
@@ -14,54 +14,27 @@ use Rattle.refusal.specs.declared.Verdict.the-variants.{Passed, Refused}
 use Rattle.refusal.specs.Refusal.{refuse, first}
 use Rattle.refusal.specs.Laws.{refuse-passed, first-passed}
 use Rattle.header.specs.declared.Field.{Field}
-use Rattle.header.specs.Fields.{place, fields, fieldAt, tile, wiiMagicField, gcnMagicField}
+use Rattle.header.specs.Fields.{fields, nth, fieldAt, wiiMagicField, gcnMagicField}
+use Rattle.header.specs.Tiling.{fields-count, every-at}
 use Rattle.header.specs.Verdicts.{gcnMagic, wiiMagic, wordOf, fieldVerdict, fieldsVerdict, headerVerdict, fstOffset, discEnd, tableEnd, boundsVerdict}
-
--- the 21 fields tile 0x440 bytes, without gap or overlap
-pub fields-tile : tile 0 0x440 fields ≡ true
-unfolding fields
-fields-tile = refl
-
-pub fields-count : length fields ≡ 21
-unfolding fields
-fields-count = refl
-
--- ---- a test that all fields of a list pass, computed once, and passed by each of them
-
-abbrev pub every : (Field → Bool) → List Field → Bool
-every t [] = true
-every t (f ∷ fs) = t f && every t fs
-
-and-left : (a b : Bool) → (a && b) ≡ true → a ≡ true
-and-left true b e = refl
-and-left false b e = e
-
-and-right : (a b : Bool) → (a && b) ≡ true → b ≡ true
-and-right true b e = e
-and-right false b e = let z : _≡_ {A = ℕ} 0 1 = cc in absurd (omega arith)
-
-every-at : (t : Field → Bool) (fs : List Field) → every t fs ≡ true → (k : ℕ) → k < length fs → t (getD fs k (place 0 0)) ≡ true
-every-at t [] e k h = absurd (omega arith)
-every-at t (f ∷ fs) e zero h = and-left (t f) (every t fs) e
-every-at t (f ∷ fs) e (suc k) h = every-at t fs (and-right (t f) (every t fs) e) k (omega arith)
 
 -- what the tests of a field ask of its place: inside the header, and a magic has 4 bytes
 pub record Judged (f : Field) : Type 0 where
-  pub inside : f .offset + f .width ≤ 0x440
-  pub wii : f .offset ≡ wiiMagicField .offset → f .width ≡ 4
-  pub gcn : f .offset ≡ gcnMagicField .offset → f .width ≡ 4
+  pub inside : f .at + f .len ≤ 0x440
+  pub wii : f .at ≡ wiiMagicField .at → f .len ≡ 4
+  pub gcn : f .at ≡ gcnMagicField .at → f .len ≡ 4
 
 wordAt : ℕ → Field → Bool
-wordAt at f = not (eqb (f .offset) at) || eqb (f .width) 4
+wordAt at f = not (eqb (f .at) at) || eqb (f .len) 4
 
-word-at : (at : ℕ) (f : Field) → wordAt at f ≡ true → f .offset ≡ at → f .width ≡ 4
+word-at : (at : ℕ) (f : Field) → wordAt at f ≡ true → f .at ≡ at → f .len ≡ 4
 unfolding wordAt
-word-at at f e o = eqb-true (f .width) 4 (rw (eq-eqb (f .offset) at o) at e)
+word-at at f e o = eqb-true (f .len) 4 (rw (eq-eqb (f .at) at o) at e)
 
 pub judged : (k : ℕ) → k < 21 → Judged (fieldAt k)
 unfolding fields wordAt
 judged k h = record {
-  inside = leb-true (fieldAt k .offset + fieldAt k .width) 0x440 (every-at (λ f. leb (f .offset + f .width) 0x440) fields refl k h);
+  inside = leb-true (fieldAt k .at + fieldAt k .len) 0x440 (every-at (λ f. leb (f .at + f .len) 0x440) fields refl k h);
   wii = word-at 0x18 (fieldAt k) (every-at (wordAt 0x18) fields refl k h);
   gcn = word-at 0x1C (fieldAt k) (every-at (wordAt 0x1C) fields refl k h);
 }
@@ -69,36 +42,36 @@ judged k h = record {
 -- ---- what the tests of a field answer, case by case
 
 module _ (image : List ℕ) (f : Field) where
-  pub past : length image < f .offset + f .width → fieldVerdict image f ≡ Refused HeaderPastImage
+  pub past : length image < f .at + f .len → fieldVerdict image f ≡ Refused HeaderPastImage
   unfolding fieldVerdict
-  past h = rw (lt-ltb (length image) (f .offset + f .width) h)
+  past h = rw (lt-ltb (length image) (f .at + f .len) h)
 
-  module _ (fits : f .offset + f .width ≤ length image) where
-    pub wii : f .offset ≡ 0x18 → wordOf f image ≡ wiiMagic → fieldVerdict image f ≡ Refused WiiNotSupported
+  module _ (fits : f .at + f .len ≤ length image) where
+    pub wii : f .at ≡ 0x18 → wordOf f image ≡ wiiMagic → fieldVerdict image f ≡ Refused WiiNotSupported
     unfolding fieldVerdict
-    wii o m = rw (le-ltb (length image) (f .offset + f .width) fits, eq-eqb (f .offset) 0x18 o, eq-eqb (wordOf f image) wiiMagic m)
+    wii o m = rw (le-ltb (length image) (f .at + f .len) fits, eq-eqb (f .at) 0x18 o, eq-eqb (wordOf f image) wiiMagic m)
 
-    pub other-word : f .offset ≡ 0x18 → (wordOf f image ≡ wiiMagic → ⊥) → fieldVerdict image f ≡ Passed
+    pub other-word : f .at ≡ 0x18 → (wordOf f image ≡ wiiMagic → ⊥) → fieldVerdict image f ≡ Passed
     unfolding fieldVerdict
     other-word o m =
-        let g : f .offset ≡ 0x1C → ⊥ = λ e. omega arith in
-        rw (le-ltb (length image) (f .offset + f .width) fits, eq-eqb (f .offset) 0x18 o, ne-eqb (wordOf f image) wiiMagic m, ne-eqb (f .offset) 0x1C g)
+        let g : f .at ≡ 0x1C → ⊥ = λ e. omega arith in
+        rw (le-ltb (length image) (f .at + f .len) fits, eq-eqb (f .at) 0x18 o, ne-eqb (wordOf f image) wiiMagic m, ne-eqb (f .at) 0x1C g)
 
-    pub gcn : f .offset ≡ 0x1C → wordOf f image ≡ gcnMagic → fieldVerdict image f ≡ Passed
+    pub gcn : f .at ≡ 0x1C → wordOf f image ≡ gcnMagic → fieldVerdict image f ≡ Passed
     unfolding fieldVerdict
     gcn o m =
-        let g : f .offset ≡ 0x18 → ⊥ = λ e. omega arith in
-        rw (le-ltb (length image) (f .offset + f .width) fits, ne-eqb (f .offset) 0x18 g, eq-eqb (f .offset) 0x1C o, eq-eqb (wordOf f image) gcnMagic m)
+        let g : f .at ≡ 0x18 → ⊥ = λ e. omega arith in
+        rw (le-ltb (length image) (f .at + f .len) fits, ne-eqb (f .at) 0x18 g, eq-eqb (f .at) 0x1C o, eq-eqb (wordOf f image) gcnMagic m)
 
-    pub not-gcn : f .offset ≡ 0x1C → (wordOf f image ≡ gcnMagic → ⊥) → fieldVerdict image f ≡ Refused InvalidMagic
+    pub not-gcn : f .at ≡ 0x1C → (wordOf f image ≡ gcnMagic → ⊥) → fieldVerdict image f ≡ Refused InvalidMagic
     unfolding fieldVerdict
     not-gcn o m =
-        let g : f .offset ≡ 0x18 → ⊥ = λ e. omega arith in
-        rw (le-ltb (length image) (f .offset + f .width) fits, ne-eqb (f .offset) 0x18 g, eq-eqb (f .offset) 0x1C o, ne-eqb (wordOf f image) gcnMagic m)
+        let g : f .at ≡ 0x18 → ⊥ = λ e. omega arith in
+        rw (le-ltb (length image) (f .at + f .len) fits, ne-eqb (f .at) 0x18 g, eq-eqb (f .at) 0x1C o, ne-eqb (wordOf f image) gcnMagic m)
 
-    pub no-magic : (f .offset ≡ 0x18 → ⊥) → (f .offset ≡ 0x1C → ⊥) → fieldVerdict image f ≡ Passed
+    pub no-magic : (f .at ≡ 0x18 → ⊥) → (f .at ≡ 0x1C → ⊥) → fieldVerdict image f ≡ Passed
     unfolding fieldVerdict
-    no-magic a b = rw (le-ltb (length image) (f .offset + f .width) fits, ne-eqb (f .offset) 0x18 a, ne-eqb (f .offset) 0x1C b)
+    no-magic a b = rw (le-ltb (length image) (f .at + f .len) fits, ne-eqb (f .at) 0x18 a, ne-eqb (f .at) 0x1C b)
 
 -- ---- what a header that passes is, and what passes
 
@@ -109,34 +82,34 @@ pub record GoodHeader (image : List ℕ) : Type 0 where
 
 -- a field that passes
 module _ (image : List ℕ) (f : Field) (e : fieldVerdict image f ≡ Passed) where
-  held : f .offset + f .width ≤ length image
+  held : f .at + f .len ≤ length image
   unfolding fieldVerdict
-  held = ltb-false (length image) (f .offset + f .width) (refuse-passed (ltb (length image) (f .offset + f .width)) HeaderPastImage _ e .0)
+  held = ltb-false (length image) (f .at + f .len) (refuse-passed (ltb (length image) (f .at + f .len)) HeaderPastImage _ e .0)
 
-  word-passed : (refuse (eqb (f .offset) 0x18 && eqb (wordOf f image) wiiMagic) WiiNotSupported (refuse (eqb (f .offset) 0x1C && not (eqb (wordOf f image) gcnMagic)) InvalidMagic Passed)) ≡ Passed
+  word-passed : (refuse (eqb (f .at) 0x18 && eqb (wordOf f image) wiiMagic) WiiNotSupported (refuse (eqb (f .at) 0x1C && not (eqb (wordOf f image) gcnMagic)) InvalidMagic Passed)) ≡ Passed
   unfolding fieldVerdict
-  word-passed = refuse-passed (ltb (length image) (f .offset + f .width)) HeaderPastImage _ e .1
+  word-passed = refuse-passed (ltb (length image) (f .at + f .len)) HeaderPastImage _ e .1
 
-  no-wii : f .offset ≡ 0x18 → wordOf f image ≡ wiiMagic → ⊥
+  no-wii : f .at ≡ 0x18 → wordOf f image ≡ wiiMagic → ⊥
   no-wii o m =
-      let t = refuse-passed (eqb (f .offset) 0x18 && eqb (wordOf f image) wiiMagic) WiiNotSupported _ word-passed .0 in
-      let u : true ≡ false = rw (eq-eqb (f .offset) 0x18 o, eq-eqb (wordOf f image) wiiMagic m) at t in
+      let t = refuse-passed (eqb (f .at) 0x18 && eqb (wordOf f image) wiiMagic) WiiNotSupported _ word-passed .0 in
+      let u : true ≡ false = rw (eq-eqb (f .at) 0x18 o, eq-eqb (wordOf f image) wiiMagic m) at t in
       let z : _≡_ {A = ℕ} 0 1 = cc in omega arith
 
-  a-gcn : f .offset ≡ 0x1C → wordOf f image ≡ gcnMagic
+  a-gcn : f .at ≡ 0x1C → wordOf f image ≡ gcnMagic
   a-gcn o =
-      let w = refuse-passed (eqb (f .offset) 0x18 && eqb (wordOf f image) wiiMagic) WiiNotSupported _ word-passed .1 in
-      let t = refuse-passed (eqb (f .offset) 0x1C && not (eqb (wordOf f image) gcnMagic)) InvalidMagic _ w .0 in
-      eqb-true (wordOf f image) gcnMagic (not-false (eqb (wordOf f image) gcnMagic) (rw (eq-eqb (f .offset) 0x1C o) at t))
+      let w = refuse-passed (eqb (f .at) 0x18 && eqb (wordOf f image) wiiMagic) WiiNotSupported _ word-passed .1 in
+      let t = refuse-passed (eqb (f .at) 0x1C && not (eqb (wordOf f image) gcnMagic)) InvalidMagic _ w .0 in
+      eqb-true (wordOf f image) gcnMagic (not-false (eqb (wordOf f image) gcnMagic) (rw (eq-eqb (f .at) 0x1C o) at t))
 
 module _ (image : List ℕ) where
-  each-passed : (fs : List Field) → fieldsVerdict image fs ≡ Passed → (k : ℕ) → k < length fs → fieldVerdict image (getD fs k (place 0 0)) ≡ Passed
+  each-passed : (fs : List Field) → fieldsVerdict image fs ≡ Passed → (k : ℕ) → k < length fs → fieldVerdict image (nth fs k) ≡ Passed
   unfolding fieldsVerdict
   each-passed [] e k h = absurd (omega arith)
   each-passed (f ∷ fs) e zero h = first-passed (fieldVerdict image f) (fieldsVerdict image fs) e .0
   each-passed (f ∷ fs) e (suc k) h = each-passed fs (first-passed (fieldVerdict image f) (fieldsVerdict image fs) e .1) k (omega arith)
 
-  all-pass : (fs : List Field) → ((k : ℕ) → k < length fs → fieldVerdict image (getD fs k (place 0 0)) ≡ Passed) → fieldsVerdict image fs ≡ Passed
+  all-pass : (fs : List Field) → ((k : ℕ) → k < length fs → fieldVerdict image (nth fs k) ≡ Passed) → fieldsVerdict image fs ≡ Passed
   unfolding fieldsVerdict
   all-pass [] p = refl
   all-pass (f ∷ fs) p = rw (p 0 (omega arith)) (all-pass fs (λ k h. p (suc k) (omega arith)))
@@ -150,15 +123,15 @@ module _ (image : List ℕ) where
   }
 
   good-field : (f : Field) → Judged f → GoodHeader image → fieldVerdict image f ≡ Passed
-  good-field f j g = go (eqb (f .offset) 0x18) refl (eqb (f .offset) 0x1C) refl
+  good-field f j g = go (eqb (f .at) 0x18) refl (eqb (f .at) 0x1C) refl
     where
-      fits : f .offset + f .width ≤ length image
+      fits : f .at + f .len ≤ length image
       fits = omega (arith, j .inside, g .whole)
 
-      go : (s : Bool) → eqb (f .offset) 0x18 ≡ s → (t : Bool) → eqb (f .offset) 0x1C ≡ t → fieldVerdict image f ≡ Passed
-      go true a t b = let o : f .offset ≡ 0x18 = eqb-true (f .offset) 0x18 a in other-word image f fits o (λ m. g .not-wii (rw o at m))
-      go false a true b = let o : f .offset ≡ 0x1C = eqb-true (f .offset) 0x1C b in gcn image f fits o (rw o (g .is-gcn))
-      go false a false b = no-magic image f fits (eqb-false (f .offset) 0x18 a) (eqb-false (f .offset) 0x1C b)
+      go : (s : Bool) → eqb (f .at) 0x18 ≡ s → (t : Bool) → eqb (f .at) 0x1C ≡ t → fieldVerdict image f ≡ Passed
+      go true a t b = let o : f .at ≡ 0x18 = eqb-true (f .at) 0x18 a in other-word image f fits o (λ m. g .not-wii (rw o at m))
+      go false a true b = let o : f .at ≡ 0x1C = eqb-true (f .at) 0x1C b in gcn image f fits o (rw o (g .is-gcn))
+      go false a false b = no-magic image f fits (eqb-false (f .at) 0x18 a) (eqb-false (f .at) 0x1C b)
 
   pub header-passes : GoodHeader image → headerVerdict image ≡ Passed
   unfolding headerVerdict

@@ -21,14 +21,14 @@ wiiMagic = 0x5D1C9EA3
 
 -- the number in a field of 4 bytes
 abbrev pub wordOf : Field → List ℕ → ℕ
-wordOf f image = be32 image (f .offset)
+wordOf f image = be32 image (f .at)
 
 -- "header field past the image", "Wii magic", "not GameCube magic": the tests made as a field is read
 unfoldable pub fieldVerdict : List ℕ → Field → Verdict
 fieldVerdict image f =
-    refuse (ltb (length image) (f .offset + f .width)) HeaderPastImage
-    (refuse (eqb (f .offset) (wiiMagicField .offset) && eqb (wordOf f image) wiiMagic) WiiNotSupported
-    (refuse (eqb (f .offset) (gcnMagicField .offset) && not (eqb (wordOf f image) gcnMagic)) InvalidMagic
+    refuse (ltb (length image) (f .at + f .len)) HeaderPastImage
+    (refuse (eqb (f .at) (wiiMagicField .at) && eqb (wordOf f image) wiiMagic) WiiNotSupported
+    (refuse (eqb (f .at) (gcnMagicField .at) && not (eqb (wordOf f image) gcnMagic)) InvalidMagic
     Passed))
 
 -- "header fields in order (Wii before GameCube)"

@@ -6,120 +6,59 @@ ghost use Prim.Native.Nat.{_+_, _≤_, _<_};
 ghost use lib.ListN.{length};
 ghost use Rattle.refusal.specs.Refusal.{first};
 ghost use Rattle.header.specs.Fields.{fieldAt};
-ghost use Rattle.header.specs.Verdicts.{fieldVerdict, headerVerdict, dolOffset, fstOffset, fstSize, discEnd, tableEnd, boundsVerdict};
+ghost use Rattle.endian.specs.Bytes.{put, span};
+ghost use Rattle.header.specs.Header.{headerOf, blank, readOf, putSome, writeVerdict, written};
+ghost use Rattle.header.specs.Verdicts.{gcnMagic, fieldVerdict, headerVerdict, dolOffset, fstOffset, fstSize, discEnd, tableEnd, boundsVerdict};
 ghost use Rattle.header.specs.Laws.{Judged};
 
 // The place of a field.
 pub struct Field {
-    pub offset: usize,
-    pub width: usize,
+    pub at: usize,
+    pub len: usize,
 }
 
 impl Field {
-    pub const GAME_CODE: Field = Field {
-        offset: 0x000,
-        width: 4,
-    };
+    pub const GAME_CODE: Field = Field { at: 0x0, len: 4 };
 
-    pub const MAKER_CODE: Field = Field {
-        offset: 0x004,
-        width: 2,
-    };
+    pub const MAKER_CODE: Field = Field { at: 0x4, len: 2 };
 
-    pub const DISC_ID: Field = Field {
-        offset: 0x006,
-        width: 1,
-    };
+    pub const DISC_ID: Field = Field { at: 0x6, len: 1 };
 
-    pub const VERSION: Field = Field {
-        offset: 0x007,
-        width: 1,
-    };
+    pub const VERSION: Field = Field { at: 0x7, len: 1 };
 
-    pub const AUDIO_STREAMING: Field = Field {
-        offset: 0x008,
-        width: 1,
-    };
+    pub const AUDIO_STREAMING: Field = Field { at: 0x8, len: 1 };
 
-    pub const STREAM_BUFFER_SIZE: Field = Field {
-        offset: 0x009,
-        width: 1,
-    };
+    pub const STREAM_BUFFER_SIZE: Field = Field { at: 0x9, len: 1 };
 
-    pub const UNUSED_00A: Field = Field {
-        offset: 0x00A,
-        width: 14,
-    };
+    pub const UNUSED_00A: Field = Field { at: 0xA, len: 14 };
 
-    pub const WII_MAGIC: Field = Field {
-        offset: 0x018,
-        width: 4,
-    };
+    pub const WII_MAGIC: Field = Field { at: 0x18, len: 4 };
 
-    pub const GCN_MAGIC: Field = Field {
-        offset: 0x01C,
-        width: 4,
-    };
+    pub const GCN_MAGIC: Field = Field { at: 0x1C, len: 4 };
 
-    pub const GAME_NAME: Field = Field {
-        offset: 0x020,
-        width: 0x3E0,
-    };
+    pub const GAME_NAME: Field = Field { at: 0x20, len: 992 };
 
-    pub const DEBUG_MONITOR_OFFSET: Field = Field {
-        offset: 0x400,
-        width: 4,
-    };
+    pub const DEBUG_MONITOR_OFFSET: Field = Field { at: 0x400, len: 4 };
 
-    pub const DEBUG_MONITOR_ADDR: Field = Field {
-        offset: 0x404,
-        width: 4,
-    };
+    pub const DEBUG_MONITOR_ADDR: Field = Field { at: 0x404, len: 4 };
 
-    pub const UNUSED_408: Field = Field {
-        offset: 0x408,
-        width: 0x18,
-    };
+    pub const UNUSED_408: Field = Field { at: 0x408, len: 24 };
 
-    pub const DOL_OFFSET: Field = Field {
-        offset: 0x420,
-        width: 4,
-    };
+    pub const DOL_OFFSET: Field = Field { at: 0x420, len: 4 };
 
-    pub const FST_OFFSET: Field = Field {
-        offset: 0x424,
-        width: 4,
-    };
+    pub const FST_OFFSET: Field = Field { at: 0x424, len: 4 };
 
-    pub const FST_SIZE: Field = Field {
-        offset: 0x428,
-        width: 4,
-    };
+    pub const FST_SIZE: Field = Field { at: 0x428, len: 4 };
 
-    pub const FST_MAX_SIZE: Field = Field {
-        offset: 0x42C,
-        width: 4,
-    };
+    pub const FST_MAX_SIZE: Field = Field { at: 0x42C, len: 4 };
 
-    pub const USER_POSITION: Field = Field {
-        offset: 0x430,
-        width: 4,
-    };
+    pub const USER_POSITION: Field = Field { at: 0x430, len: 4 };
 
-    pub const USER_SIZE: Field = Field {
-        offset: 0x434,
-        width: 4,
-    };
+    pub const USER_SIZE: Field = Field { at: 0x434, len: 4 };
 
-    pub const DISC_SIZE: Field = Field {
-        offset: 0x438,
-        width: 4,
-    };
+    pub const DISC_SIZE: Field = Field { at: 0x438, len: 4 };
 
-    pub const UNUSED_43C: Field = Field {
-        offset: 0x43C,
-        width: 4,
-    };
+    pub const UNUSED_43C: Field = Field { at: 0x43C, len: 4 };
 }
 
 // The 21 fields in order.
@@ -171,10 +110,35 @@ pub struct DiscHeader {
     pub unused_43c: u32,
 }
 
+// What reading a header gives: the header, or why there is none, and then every field is 0.
+pub struct HeaderRead {
+    pub verdict: Verdict,
+    pub header: DiscHeader,
+}
+
 impl DiscHeader {
     pub const GCN_MAGIC: u32 = 0xC2339F3D;
 
     pub const WII_MAGIC: u32 = 0x5D1C9EA3;
+
+    // A header of a GameCube disc, with every other field 0.
+    pub fn new() -> Self
+        ensures { λ r. ⌜ r ≡ blank gcnMagic ⌝ }
+    {
+        blank_header(Self::GCN_MAGIC)
+    }
+
+    pub fn read_from(image: &[u8]) -> HeaderRead
+        ensures { λ r. ⌜ r ≡ readOf (now (image .entry)) ⌝ }
+    {
+        let verdict = check(image);
+        if verdict.is_refused() {
+            let header = blank_header(0);
+            return HeaderRead { verdict, header };
+        }
+        let header = read_fields(image);
+        HeaderRead { verdict, header }
+    }
 }
 
 // The field with number k.
@@ -190,17 +154,17 @@ fn check_field(image: &[u8], f: Field) -> Verdict
     requires { ⌜ Judged f ⌝ }
     ensures { λ r. ⌜ r ≡ fieldVerdict (now (image .entry)) f ⌝ }
 {
-    let at = f.offset;
-    if image.len() < at + f.width {
+    let at = f.at;
+    if image.len() < at + f.len {
         return Verdict::Refused(Refusal::HeaderPastImage);
     }
-    if at == Field::WII_MAGIC.offset {
+    if at == Field::WII_MAGIC.at {
         if endian::read_u32(image, at) == DiscHeader::WII_MAGIC {
             return Verdict::Refused(Refusal::WiiNotSupported);
         }
         return Verdict::Passed;
     }
-    if at == Field::GCN_MAGIC.offset {
+    if at == Field::GCN_MAGIC.at {
         if endian::read_u32(image, at) == DiscHeader::GCN_MAGIC {
             return Verdict::Passed;
         }
@@ -230,21 +194,21 @@ pub fn dol_offset(image: &[u8]) -> u32
     requires { ⌜ 0x440 ≤ length (now image) ⌝ }
     ensures { λ r. ⌜ r ≡ dolOffset (now (image .entry)) ⌝ }
 {
-    endian::read_u32(image, Field::DOL_OFFSET.offset)
+    endian::read_u32(image, Field::DOL_OFFSET.at)
 }
 
 pub fn fst_offset(image: &[u8]) -> u32
     requires { ⌜ 0x440 ≤ length (now image) ⌝ }
     ensures { λ r. ⌜ r ≡ fstOffset (now (image .entry)) ⌝ }
 {
-    endian::read_u32(image, Field::FST_OFFSET.offset)
+    endian::read_u32(image, Field::FST_OFFSET.at)
 }
 
 pub fn fst_size(image: &[u8]) -> u32
     requires { ⌜ 0x440 ≤ length (now image) ⌝ }
     ensures { λ r. ⌜ r ≡ fstSize (now (image .entry)) ⌝ }
 {
-    endian::read_u32(image, Field::FST_SIZE.offset)
+    endian::read_u32(image, Field::FST_SIZE.at)
 }
 
 // The sum of two words: it never wraps.
@@ -258,8 +222,8 @@ pub fn disc_end(image: &[u8]) -> u64
     requires { ⌜ 0x440 ≤ length (now image) ⌝ }
     ensures { λ r. ⌜ r ≡ discEnd (now (image .entry)) ⌝ }
 {
-    let user_size = endian::read_u32(image, Field::USER_SIZE.offset);
-    let disc_size = endian::read_u32(image, Field::DISC_SIZE.offset);
+    let user_size = endian::read_u32(image, Field::USER_SIZE.at);
+    let disc_size = endian::read_u32(image, Field::DISC_SIZE.at);
     sum(user_size, disc_size)
 }
 
@@ -299,4 +263,176 @@ pub fn check_bounds(image: &[u8]) -> Verdict
         return verdict;
     }
     bounds(image)
+}
+
+// ---- the header made, and read field by field
+
+fn blank_header(gcn_magic: u32) -> DiscHeader
+    ensures { λ r. ⌜ r ≡ blank «gcn_magic» ⌝ }
+{
+    let game_code = [0u8; 4];
+    let maker_code = [0u8; 2];
+    let unused_00a = [0u8; 0x0E];
+    let game_name = [0u8; 0x3E0];
+    let unused_408 = [0u8; 0x18];
+    DiscHeader {
+        game_code,
+        maker_code,
+        disc_id: 0,
+        version: 0,
+        audio_streaming: 0,
+        stream_buffer_size: 0,
+        unused_00a,
+        wii_magic: 0,
+        gcn_magic,
+        game_name,
+        debug_monitor_offset: 0,
+        debug_monitor_addr: 0,
+        unused_408,
+        dol_offset: 0,
+        fst_offset: 0,
+        fst_size: 0,
+        fst_max_size: 0,
+        user_position: 0,
+        user_size: 0,
+        disc_size: 0,
+        unused_43c: 0,
+    }
+}
+
+// As many bytes as `out` has, from `at` on.
+fn read_exact(image: &[u8], at: usize, out: &mut [u8])
+    requires { ⌜ at + length (now out) ≤ length (now image) ⌝ }
+    ensures { λ _. ⌜ now (out .exit) ≡ span (now (image .entry)) at (length (now (out .entry))) ⌝ }
+{
+    let n = out.len();
+    endian::copy(image, at, out, 0, n);
+}
+
+fn read_fields(image: &[u8]) -> DiscHeader
+    requires { ⌜ 0x440 ≤ length (now image) ⌝ }
+    ensures { λ r. ⌜ r ≡ headerOf (now (image .entry)) ⌝ }
+{
+    let mut game_code = [0u8; 4];
+    read_exact(image, Field::GAME_CODE.at, &mut game_code);
+    let mut maker_code = [0u8; 2];
+    read_exact(image, Field::MAKER_CODE.at, &mut maker_code);
+    let disc_id = endian::read_u8(image, Field::DISC_ID.at);
+    let version = endian::read_u8(image, Field::VERSION.at);
+    let audio_streaming = endian::read_u8(image, Field::AUDIO_STREAMING.at);
+    let stream_buffer_size = endian::read_u8(image, Field::STREAM_BUFFER_SIZE.at);
+    let mut unused_00a = [0u8; 14];
+    read_exact(image, Field::UNUSED_00A.at, &mut unused_00a);
+    let wii_magic = endian::read_u32(image, Field::WII_MAGIC.at);
+    let gcn_magic = endian::read_u32(image, Field::GCN_MAGIC.at);
+    let mut game_name = [0u8; 992];
+    read_exact(image, Field::GAME_NAME.at, &mut game_name);
+    let debug_monitor_offset = endian::read_u32(image, Field::DEBUG_MONITOR_OFFSET.at);
+    let debug_monitor_addr = endian::read_u32(image, Field::DEBUG_MONITOR_ADDR.at);
+    let mut unused_408 = [0u8; 24];
+    read_exact(image, Field::UNUSED_408.at, &mut unused_408);
+    let dol_offset = endian::read_u32(image, Field::DOL_OFFSET.at);
+    let fst_offset = endian::read_u32(image, Field::FST_OFFSET.at);
+    let fst_size = endian::read_u32(image, Field::FST_SIZE.at);
+    let fst_max_size = endian::read_u32(image, Field::FST_MAX_SIZE.at);
+    let user_position = endian::read_u32(image, Field::USER_POSITION.at);
+    let user_size = endian::read_u32(image, Field::USER_SIZE.at);
+    let disc_size = endian::read_u32(image, Field::DISC_SIZE.at);
+    let unused_43c = endian::read_u32(image, Field::UNUSED_43C.at);
+    DiscHeader {
+        game_code,
+        maker_code,
+        disc_id,
+        version,
+        audio_streaming,
+        stream_buffer_size,
+        unused_00a,
+        wii_magic,
+        gcn_magic,
+        game_name,
+        debug_monitor_offset,
+        debug_monitor_addr,
+        unused_408,
+        dol_offset,
+        fst_offset,
+        fst_size,
+        fst_max_size,
+        user_position,
+        user_size,
+        disc_size,
+        unused_43c,
+    }
+}
+
+// All bytes of `bytes`, from `at` on.
+fn write_all(image: &mut [u8], at: usize, bytes: &[u8])
+    requires { ⌜ at + length (now bytes) ≤ length (now image) ⌝ }
+    ensures { λ _. ⌜ now (image .exit) ≡ put (now (image .entry)) at (now (bytes .entry)) ⌝ }
+{
+    let n = bytes.len();
+    endian::copy(bytes, 0, image, at, n);
+}
+
+// The header written in three parts: the fields up to the magics, those up to the DOL offset, and the words from there on.
+impl DiscHeader {
+    fn write_codes(self, image: &mut [u8])
+        requires { ⌜ 0x440 ≤ length (now image) ⌝ }
+        ensures { λ _. ⌜ now (image .exit) ≡ putSome 0 7 self (now (image .entry)) ⌝ }
+    {
+        let game_code = self.game_code;
+        write_all(image, Field::GAME_CODE.at, &game_code);
+        let maker_code = self.maker_code;
+        write_all(image, Field::MAKER_CODE.at, &maker_code);
+        endian::write_u8(image, Field::DISC_ID.at, self.disc_id);
+        endian::write_u8(image, Field::VERSION.at, self.version);
+        endian::write_u8(image, Field::AUDIO_STREAMING.at, self.audio_streaming);
+        endian::write_u8(image, Field::STREAM_BUFFER_SIZE.at, self.stream_buffer_size);
+        let unused_00a = self.unused_00a;
+        write_all(image, Field::UNUSED_00A.at, &unused_00a);
+    }
+
+    fn write_magics_and_name(self, image: &mut [u8])
+        requires { ⌜ 0x440 ≤ length (now image) ⌝ }
+        ensures { λ _. ⌜ now (image .exit) ≡ putSome 7 6 self (now (image .entry)) ⌝ }
+    {
+        endian::write_u32(image, Field::WII_MAGIC.at, self.wii_magic);
+        endian::write_u32(image, Field::GCN_MAGIC.at, self.gcn_magic);
+        let game_name = self.game_name;
+        write_all(image, Field::GAME_NAME.at, &game_name);
+        endian::write_u32(
+            image,
+            Field::DEBUG_MONITOR_OFFSET.at,
+            self.debug_monitor_offset,
+        );
+        endian::write_u32(image, Field::DEBUG_MONITOR_ADDR.at, self.debug_monitor_addr);
+        let unused_408 = self.unused_408;
+        write_all(image, Field::UNUSED_408.at, &unused_408);
+    }
+
+    fn write_places(self, image: &mut [u8])
+        requires { ⌜ 0x440 ≤ length (now image) ⌝ }
+        ensures { λ _. ⌜ now (image .exit) ≡ putSome 13 8 self (now (image .entry)) ⌝ }
+    {
+        endian::write_u32(image, Field::DOL_OFFSET.at, self.dol_offset);
+        endian::write_u32(image, Field::FST_OFFSET.at, self.fst_offset);
+        endian::write_u32(image, Field::FST_SIZE.at, self.fst_size);
+        endian::write_u32(image, Field::FST_MAX_SIZE.at, self.fst_max_size);
+        endian::write_u32(image, Field::USER_POSITION.at, self.user_position);
+        endian::write_u32(image, Field::USER_SIZE.at, self.user_size);
+        endian::write_u32(image, Field::DISC_SIZE.at, self.disc_size);
+        endian::write_u32(image, Field::UNUSED_43C.at, self.unused_43c);
+    }
+
+    // Every field at its place. An image too short for the header is left as it was.
+    pub fn write_to(self, image: &mut [u8]) -> Verdict
+        ensures { λ r. ⌜ (r ≡ writeVerdict (now (image .entry))) × (now (image .exit) ≡ written self (now (image .entry))) ⌝ }
+    {
+        if image.len() < 0x440 {
+            return Verdict::Refused(Refusal::HeaderPastImage);
+        }
+        self.write_codes(image);
+        self.write_magics_and_name(image);
+        self.write_places(image);
+        Verdict::Passed
+    }
 }
