@@ -1,7 +1,7 @@
 -- What a caller needs who collects the used regions of a disc in words: the table first, then each file.
 -- Assumes nothing.
-use Prim.Native.Nat.{ℕ, _+_, _≤_}
-use mathlib.Core.Path.{_≡_, refl, sym, ap, _∙_}
+use Prim.Native.Nat.{ℕ}
+use mathlib.Core.Path.{_≡_, sym, ap, _∙_}
 use mathlib.Core.List.{List, [], _∷_, _++_}
 use Rattle.refusal.specs.declared.Verdict.{Verdict}
 use Rattle.space.specs.declared.DiscRegion.{DiscRegion}
