@@ -1,7 +1,7 @@
 -- Document 01, "Free space": "Allocation takes each free region from its first multiple of the alignment, drops it if the padding reaches its size
 -- or the rest is below the wish, and returns the largest rest, the last among equals." Calls: "allocation 22, 21". Assumes nothing: these are definitions.
 use Prim.Native.Nat.{ℕ, zero, suc, _+_, _-_, _*_, _/_, _^_}
-use mathlib.Core.Bool.{Bool, true, false, cond, _&&_, _||_}
+use mathlib.Core.Bool.{Bool, false, cond, _&&_, _||_}
 use mathlib.Core.List.{List, [], _∷_}
 use lib.Dec.{leb, ltb, eqb}
 use Rattle.refusal.specs.declared.Refusal.the-variants.{NotEnoughSpace, InvalidAlignment}

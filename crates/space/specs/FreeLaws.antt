@@ -1,7 +1,7 @@
 -- The free regions: their bytes are free, they rise, they are maximal, and each free place lies in one.
 -- Assumes nothing.
 use Prim.Native.Nat.{ℕ, zero, suc, _+_, _-_, _<_, _≤_}
-use mathlib.Core.Path.{_≡_, refl, sym, ap, _∙_}
+use mathlib.Core.Path.{_≡_, refl, ap, _∙_}
 use mathlib.Core.Logic.{_⊎_, inl, inr, ⊎-elim}
 use mathlib.Core.Bool.{Bool, true, false, cond, not}
 use mathlib.Core.List.{List, [], _∷_}
@@ -10,9 +10,10 @@ use native.Mathlib.Nat.{add-zero}
 use borrow.Author.Tests.{eqb-true}
 use lib.Dec.{eqb}
 use Rattle.space.specs.declared.DiscRegion.{DiscRegion}
-use Rattle.space.specs.Used.{endOf, AllNonempty}
+use Rattle.space.specs.Used.{endOf, used, usedRegions, AllNonempty}
 use Rattle.space.specs.Free.{freeIn, join, runs, freeRegions}
 use Rattle.space.specs.Tests.{lt-or-le, is-false, never-both}
+use Rattle.space.specs.UsedLaws.{used-is}
 use Rattle.space.specs.RunLaws.{Covers, AllPass, runs-sound, Rising, runs-rising, covers-late, runs-cover}
 
 -- two regions with the same offset and size
@@ -23,6 +24,11 @@ pub runs-same : (p q : ℕ → Bool) (i n : ℕ) → ((j : ℕ) → p j ≡ q j)
 unfolding runs
 runs-same p q i zero h = refl
 runs-same p q i (suc n) h = rw (h i, runs-same p q (suc i) n h)
+
+-- LAW: the free regions between the table's end and the files are the runs of bytes that are not used
+pub free-used : (e t : ℕ) (fs : List DiscRegion) → freeRegions e (usedRegions t fs) ≡ runs (λ i. not (used t fs i)) 0 e
+unfolding freeRegions
+free-used e t fs = runs-same (freeIn (usedRegions t fs)) (λ i. not (used t fs i)) 0 e (λ j. ap not (used-is t fs j))
 
 -- each byte of a free region is free; they rise with a byte between each and the next; each free stretch lies in one
 pub free-sound : (e : ℕ) (xs : List DiscRegion) → AllPass (freeIn xs) (freeRegions e xs)
