@@ -5,3 +5,5 @@ pub mod Accepted
 pub mod Steps
 pub mod RoundTrip
 pub mod Nesting
+pub mod Insert
+pub mod InsertLaws
