@@ -7,3 +7,4 @@ pub mod RoundTrip
 pub mod Nesting
 pub mod Insert
 pub mod InsertLaws
+pub mod PlaceLaws
