@@ -4,7 +4,10 @@ pub mod Texts
 pub mod Accepted
 pub mod Steps
 pub mod RoundTrip
+pub mod WrittenBytes
 pub mod Nesting
 pub mod Insert
 pub mod InsertLaws
 pub mod PlaceLaws
+pub mod Records
+pub mod Writing

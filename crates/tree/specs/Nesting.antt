@@ -226,7 +226,8 @@ pub not-empty : (nodes : List Node) → WellFormed nodes → 0 < length nodes
 not-empty [] w = absurd (nil≢cons (w .root))
 not-empty (r ∷ xs) w = omega arith
 
-entry-at : (nodes : List Node) (i : ℕ) → WellFormed nodes → suc i < length nodes →
+-- entry i + 1, with the directories open there
+pub entry-at : (nodes : List Node) (i : ℕ) → WellFormed nodes → suc i < length nodes →
     GoodName (nameOf (getD nodes (suc i) none)) × GoodEntry (length nodes) (openAt (length nodes ∷ []) 1 (tail nodes) i) (suc i) (getD nodes (suc i) none)
 entry-at [] i w h = absurd (omega arith)
 entry-at (r ∷ xs) i w h = rw one-add at (sound-at (suc (length xs)) 1 (suc (length xs) ∷ []) xs i (w .sound) (omega arith))
