@@ -11,3 +11,5 @@ pub mod InsertLaws
 pub mod PlaceLaws
 pub mod Records
 pub mod Writing
+pub mod Patch
+pub mod PatchLaws
