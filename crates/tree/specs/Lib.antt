@@ -4,5 +4,12 @@ pub mod Texts
 pub mod Accepted
 pub mod Steps
 pub mod RoundTrip
+pub mod WrittenBytes
 pub mod Nesting
 pub mod Insert
+pub mod InsertLaws
+pub mod PlaceLaws
+pub mod Records
+pub mod Writing
+pub mod Patch
+pub mod PatchLaws

@@ -155,6 +155,10 @@ abbrev pub Inside : List Node → ℕ → ℕ → Type 0
 Inside nodes d k = (d < k) × (encloses (getD nodes d none) k ≡ true)
 
 -- one step of a search downwards
+pub parent-step : (nodes : List Node) (k i : ℕ) → parentBelow nodes k (suc i) ≡ cond (encloses (getD nodes i none) k) i (parentBelow nodes k i)
+unfolding parentBelow
+parent-step nodes k i = refl
+
 pub parent-here : (nodes : List Node) (k i : ℕ) → encloses (getD nodes i none) k ≡ true → parentBelow nodes k (suc i) ≡ i
 unfolding parentBelow
 parent-here nodes k i e = rw e
@@ -163,15 +167,15 @@ pub parent-lower : (nodes : List Node) (k i : ℕ) → encloses (getD nodes i no
 unfolding parentBelow
 parent-lower nodes k i e = rw e
 
-below-le : (nodes : List Node) (k i : ℕ) → 0 < i → parentBelow nodes k i < i
+pub below-lt : (nodes : List Node) (k i : ℕ) → 0 < i → parentBelow nodes k i < i
 unfolding parentBelow
-below-le nodes k zero h = absurd (omega arith)
-below-le nodes k (suc zero) h = go (encloses (getD nodes 0 none) k)
+below-lt nodes k zero h = absurd (omega arith)
+below-lt nodes k (suc zero) h = go (encloses (getD nodes 0 none) k)
   where
     go : (t : Bool) → cond t 0 0 < 1
     go true = omega arith
     go false = omega arith
-below-le nodes k (suc (suc i)) h = go (encloses (getD nodes (suc i) none) k) (below-le nodes k (suc i) (omega arith))
+below-lt nodes k (suc (suc i)) h = go (encloses (getD nodes (suc i) none) k) (below-lt nodes k (suc i) (omega arith))
   where
     go : (t : Bool) → parentBelow nodes k (suc i) < suc i → cond t (suc i) (parentBelow nodes k (suc i)) < suc (suc i)
     go true ih = omega arith
@@ -179,7 +183,7 @@ below-le nodes k (suc (suc i)) h = go (encloses (getD nodes (suc i) none) k) (be
 
 pub parent-before : (nodes : List Node) (k : ℕ) → 0 < k → parentOf nodes k < k
 unfolding parentOf
-parent-before nodes k h = below-le nodes k k h
+parent-before nodes k h = below-lt nodes k k h
 
 -- the last of those that enclose it: none between it and i does
 below-last : (nodes : List Node) (k d i : ℕ) → d < i → encloses (getD nodes d none) k ≡ true → ((j : ℕ) → d < j → j < i → encloses (getD nodes j none) k ≡ false) → parentBelow nodes k i ≡ d
@@ -222,7 +226,8 @@ pub not-empty : (nodes : List Node) → WellFormed nodes → 0 < length nodes
 not-empty [] w = absurd (nil≢cons (w .root))
 not-empty (r ∷ xs) w = omega arith
 
-entry-at : (nodes : List Node) (i : ℕ) → WellFormed nodes → suc i < length nodes →
+-- entry i + 1, with the directories open there
+pub entry-at : (nodes : List Node) (i : ℕ) → WellFormed nodes → suc i < length nodes →
     GoodName (nameOf (getD nodes (suc i) none)) × GoodEntry (length nodes) (openAt (length nodes ∷ []) 1 (tail nodes) i) (suc i) (getD nodes (suc i) none)
 entry-at [] i w h = absurd (omega arith)
 entry-at (r ∷ xs) i w h = rw one-add at (sound-at (suc (length xs)) 1 (suc (length xs) ∷ []) xs i (w .sound) (omega arith))
@@ -245,7 +250,7 @@ pub parent-inside : (nodes : List Node) (k : ℕ) → WellFormed nodes → 0 < k
 unfolding parentOf
 parent-inside nodes k w h l =
     let e : encloses (getD nodes 0 none) k ≡ true = rw (root-is nodes w) (lt-ltb k (length nodes) l) in
-    (below-le nodes k k h, below-encloses nodes k k h e)
+    (below-lt nodes k k h, below-encloses nodes k k h e)
 
 -- what is open at an entry has in it each directory around the entry
 open-has : (nodes : List Node) (d k i m : ℕ) → d < i → encloses (getD nodes d none) k ≡ true → AllGe m (openDirs nodes k i) → m ≤ nextOf (getD nodes d none)

@@ -1,0 +1,510 @@
+-- An entry put in as the last child of a directory: the tree stays well-formed, every other entry keeps its name, kind and parent, and
+-- only the new entry can be too deep. Assumes nothing.
+use Prim.Native.Nat.{ℕ, zero, suc, _+_, _-_, _^_, _<_, _≤_, min, zero-le}
+use mathlib.Core.Path.{_≡_, refl, sym, ap, _∙_}
+use mathlib.Core.Bool.{Bool, true, false, cond, _&&_}
+use mathlib.Core.List.{List, [], _∷_, _++_, map, tail, head-eq-of-cons-eq}
+use native.Mathlib.Omega.{arith}
+use native.Mathlib.Nat.{add-zero}
+use borrow.Author.Tests.{ltb-true, leb-true, leb-false, ltb-false, le-leb, lt-leb, lt-ltb, le-ltb}
+use lib.ListN.{length, getD, length-map, length-append}
+use lib.Dec.{leb, ltb}
+use Rattle.tree.specs.Table.{Node, file, directory, nameOf, none, top, shut, enter, encloses, parentBelow, parentOf, GoodName, GoodEntry, Sound, WellFormed, shallowEntry, shallowFrom, shallow}
+use Rattle.tree.specs.Lookup.{isDirectory, nextOf}
+use Rattle.tree.specs.Insert.{bump, earlier, later, splice, insertAt, shifted}
+use Rattle.tree.specs.Steps.{shut-open, shut-pop}
+use Rattle.tree.specs.Nesting.{openAt, sound-at, openDirs, stack-is, Inside, parent-step, parent-lower, below-lt, parent-is, next-bounds, nests}
+
+-- what can be put in as entry q
+abbrev pub Fresh : ℕ → Node → Type 0
+Fresh q (file nm offset size) = (offset < 2 ^ 32) × (size < 2 ^ 32)
+Fresh q (directory nm next) = next ≡ suc q
+
+-- the number of directories around entry k: its depth
+abbrev pub depthOf : List Node → ℕ → ℕ
+depthOf nodes k = length (openDirs nodes k k)
+
+-- a directory at depth d is not too deep
+abbrev pub depthOk : ℕ → Node → Bool
+depthOk d (file nm offset size) = true
+depthOk d (directory nm next) = leb d 64
+
+and-swap : (a b c : Bool) → (a && (b && c)) ≡ (b && (a && c))
+and-swap true b c = refl
+and-swap false true c = refl
+and-swap false false c = refl
+
+-- ---- `bump` and `shut`
+
+pub bump-min : (p n : ℕ) → bump p n ≡ n + min 1 (n - p)
+unfolding bump
+bump-min p n = go (ltb p n) refl
+  where
+    go : (t : Bool) → ltb p n ≡ t → cond t (suc n) n ≡ n + min 1 (n - p)
+    go true e = omega (arith, ltb-true p n e)
+    go false e = omega (arith, ltb-false p n e)
+
+pub shifted-min : (q k : ℕ) → shifted q k ≡ k + min 1 (suc k - q)
+unfolding shifted
+shifted-min q k = go (leb q k) refl
+  where
+    go : (t : Bool) → leb q k ≡ t → cond t (suc k) k ≡ k + min 1 (suc k - q)
+    go true e = omega (arith, leb-true q k e)
+    go false e = omega (arith, leb-false q k e)
+
+ltb-suc : (a b : ℕ) → ltb (suc a) (suc b) ≡ ltb a b
+ltb-suc a b = go (ltb a b) refl
+  where
+    go : (t : Bool) → ltb a b ≡ t → ltb (suc a) (suc b) ≡ t
+    go true e = lt-ltb (suc a) (suc b) (omega (arith, ltb-true a b e))
+    go false e = le-ltb (suc a) (suc b) (omega (arith, ltb-false a b e))
+
+leb-iff : (a b c d : ℕ) → (a ≤ b → c ≤ d) → (c ≤ d → a ≤ b) → leb a b ≡ leb c d
+leb-iff a b c d f g = go (leb a b) refl
+  where
+    go : (t : Bool) → leb a b ≡ t → t ≡ leb c d
+    go true e = sym (le-leb c d (f (leb-true a b e)))
+    go false e = sym (go′ (leb c d) refl)
+      where
+        go′ : (u : Bool) → leb c d ≡ u → u ≡ false
+        go′ true h = sym (le-leb a b (g (leb-true c d h))) ∙ e
+        go′ false h = refl
+
+-- a stack whose numbers change so that the same ones are shut
+shut-map : (f : ℕ → ℕ) (k k′ : ℕ) → ((n : ℕ) → leb (f n) k′ ≡ leb n k) → (dirs : List ℕ) → shut k′ (map f dirs) ≡ map f (shut k dirs)
+unfolding shut
+shut-map f k k′ h [] = refl
+shut-map f k k′ h (n ∷ dirs) = rw (h n) (go (leb n k) (shut-map f k k′ h dirs))
+  where
+    go : (t : Bool) → shut k′ (map f dirs) ≡ map f (shut k dirs) → cond t (shut k′ (map f dirs)) (f n ∷ map f dirs) ≡ map f (cond t (shut k dirs) (n ∷ dirs))
+    go true ih = ih
+    go false ih = refl
+
+-- what is shut on top of a stack is passed over
+abbrev AllLe : ℕ → List ℕ → Type 0
+AllLe q [] = Unit {0}
+AllLe q (n ∷ dirs) = (n ≤ q) × AllLe q dirs
+
+shut-past : (k : ℕ) (ds r : List ℕ) → AllLe k ds → shut k (ds ++ r) ≡ shut k r
+unfolding shut
+shut-past k [] r h = refl
+shut-past k (n ∷ ds) r h = rw (le-leb n k (h .0)) (shut-past k ds r (h .1))
+
+-- what stays open keeps all below it
+shut-keep : (k : ℕ) (ds : List ℕ) (n : ℕ) (r : List ℕ) → k < n → shut k (ds ++ (n ∷ r)) ≡ shut k ds ++ (n ∷ r)
+unfolding shut
+shut-keep k [] n r h = rw (lt-leb n k h)
+shut-keep k (m ∷ ds) n r h = go (leb m k) (shut-keep k ds n r h)
+  where
+    go : (t : Bool) → shut k (ds ++ (n ∷ r)) ≡ shut k ds ++ (n ∷ r) →
+        cond t (shut k (ds ++ (n ∷ r))) (m ∷ (ds ++ (n ∷ r))) ≡ cond t (shut k ds) (m ∷ ds) ++ (n ∷ r)
+    go true ih = ih
+    go false ih = refl
+
+enter-append : (s r : List ℕ) (x : Node) → enter (s ++ r) x ≡ enter s x ++ r
+enter-append s r (file nm offset size) = refl
+enter-append s r (directory nm next) = refl
+
+top-AllLe : (q : ℕ) (ds up : List ℕ) → AllLe q ds → top (ds ++ (q ∷ up)) ≤ q
+top-AllLe q [] up h = omega arith
+top-AllLe q (d ∷ ds) up h = h .0
+
+enter-AllLe : (c q k : ℕ) (ds up : List ℕ) (x : Node) → AllLe q ds → GoodEntry c (ds ++ (q ∷ up)) k x → AllLe q (enter ds x)
+enter-AllLe c q k ds up (file nm offset size) h g = h
+enter-AllLe c q k ds up (directory nm next) h g = (omega (arith, top-AllLe q ds up h), h)
+
+shut-AllLe : (q k : ℕ) (ds : List ℕ) → AllLe q ds → AllLe q (shut k ds)
+unfolding shut
+shut-AllLe q k [] h = tt
+shut-AllLe q k (n ∷ ds) h = go (leb n k) (shut-AllLe q k ds (h .1))
+  where
+    go : (t : Bool) → AllLe q (shut k ds) → AllLe q (cond t (shut k ds) (n ∷ ds))
+    go true ih = ih
+    go false ih = h
+
+module _ (p : ℕ) where
+  before-shut : (k : ℕ) (dirs : List ℕ) → k ≤ p → shut k (map (bump p) dirs) ≡ map (bump p) (shut k dirs)
+  before-shut k dirs h =
+      shut-map (bump p) k k (λ n. leb-iff (bump p n) k n k (λ e. omega (arith, bump-min p n)) (λ e. omega (arith, bump-min p n))) dirs
+
+  after-shut : (k : ℕ) (dirs : List ℕ) → p < k → shut (suc k) (map (bump p) dirs) ≡ map (bump p) (shut k dirs)
+  after-shut k dirs h =
+      shut-map (bump p) k (suc k) (λ n. leb-iff (bump p n) (suc k) n k (λ e. omega (arith, bump-min p n)) (λ e. omega (arith, bump-min p n))) dirs
+
+  bump-top : (n : ℕ) (s : List ℕ) → 0 < n → n ≤ top s → bump p n ≤ top (map (bump p) s)
+  bump-top n [] h e = absurd (omega arith)
+  bump-top n (m ∷ s) h e = omega (arith, bump-min p n, bump-min p m)
+
+  -- ---- an entry up to p
+  good-before : (c k : ℕ) (s : List ℕ) (x : Node) → k ≤ p → GoodEntry c s k x → GoodEntry (suc c) (map (bump p) s) k (earlier p k x)
+  good-before c k s (file nm offset size) h g = g
+  good-before c k s (directory nm next) h g =
+      rw (le-leb k p h) (omega (arith, bump-min p next), omega (arith, bump-min p next), bump-top next s (omega arith) (g .2))
+
+  enter-before : (k : ℕ) (s : List ℕ) (x : Node) → k ≤ p → enter (map (bump p) s) (earlier p k x) ≡ map (bump p) (enter s x)
+  enter-before k s (file nm offset size) h = refl
+  enter-before k s (directory nm next) h = rw (le-leb k p h)
+
+  -- ---- an entry after the new one
+  good-after : (c k : ℕ) (s : List ℕ) (x : Node) → p < k → GoodEntry c s k x → GoodEntry (suc c) (map (bump p) s) (suc k) (later x)
+  good-after c k s (file nm offset size) h g = g
+  good-after c k s (directory nm next) h g =
+      (omega arith, omega arith, omega (arith, bump-min p next, bump-top next s (omega arith) (g .2)))
+
+  enter-after : (c k : ℕ) (s t : List ℕ) (x : Node) → p < k → GoodEntry c t k x → enter (map (bump p) s) (later x) ≡ map (bump p) (enter s x)
+  enter-after c k s t (file nm offset size) h g = refl
+  enter-after c k s t (directory nm next) h g = ap (λ (n : ℕ). n ∷ map (bump p) s) (omega (arith, bump-min p next))
+
+  pub name-later : (x : Node) → nameOf (later x) ≡ nameOf x
+  name-later (file nm offset size) = refl
+  name-later (directory nm next) = refl
+
+  pub name-earlier : (k : ℕ) (x : Node) → nameOf (earlier p k x) ≡ nameOf x
+  name-earlier k (file nm offset size) = refl
+  name-earlier k (directory nm next) = refl
+
+  -- the same depth
+  same-length : (s s′ : List ℕ) (x : Node) → length s′ ≡ length s → (shallowEntry s′ (later x) ≡ shallowEntry s x) × ((k : ℕ) → shallowEntry s′ (earlier p k x) ≡ shallowEntry s x)
+  same-length s s′ (file nm offset size) e = (refl, λ k. refl)
+  same-length s s′ (directory nm next) e = (rw e, λ k. rw e)
+
+  enter-between : (k : ℕ) (s : List ℕ) (x : Node) → p < k → enter s (earlier p k x) ≡ enter s x
+  enter-between k s (file nm offset size) h = refl
+  enter-between k s (directory nm next) h = rw (lt-leb k p h)
+
+  sound-after : (c k : ℕ) (dirs dirs′ : List ℕ) (xs : List Node) → p < k → shut (suc k) dirs′ ≡ map (bump p) (shut k dirs) → Sound c dirs k xs →
+      Sound (suc c) dirs′ (suc k) (map later xs) × (shallowFrom dirs′ (suc k) (map later xs) ≡ shallowFrom dirs k xs)
+  unfolding shallowFrom
+  sound-after c k dirs dirs′ [] h e g = (tt, refl)
+  sound-after c k dirs dirs′ (x ∷ xs) h e g =
+      let ih = sound-after c (suc k) (enter (shut k dirs) x) (map (bump p) (enter (shut k dirs) x)) xs (omega arith) (after-shut (suc k) _ (omega arith)) (g .2) in
+      rw (e, name-later x, enter-after c k (shut k dirs) (shut k dirs) x h (g .1), ih .1, same-length (shut k dirs) (map (bump p) (shut k dirs)) x (length-map (shut k dirs) (bump p)) .0)
+      ((g .0, good-after c k (shut k dirs) x h (g .1), ih .0), refl)
+
+  -- ---- an entry between p and the new one
+  module _ (c q : ℕ) (new : Node) (up : List ℕ) (p<q : p < q) (q≤c : q ≤ c) (named : GoodName (nameOf new)) (fresh : Fresh q new) where
+    good-new : (new′ : Node) → Fresh q new′ → GoodEntry (suc c) (suc q ∷ map (bump p) up) q new′
+    good-new (file nm offset size) f = f
+    good-new (directory nm next) f = (omega arith, omega arith, omega arith)
+
+    shut-top : shut q (q ∷ up) ≡ shut q up
+    shut-top = shut-pop q q up (omega arith)
+
+    shut-new : (new′ : Node) → Fresh q new′ → shut (suc q) (enter (suc q ∷ map (bump p) up) new′) ≡ shut (suc q) (map (bump p) up)
+    shut-new (file nm offset size) f = shut-pop (suc q) (suc q) _ (omega arith)
+    shut-new (directory nm next) f = shut-pop (suc q) next _ (omega arith) ∙ shut-pop (suc q) (suc q) _ (omega arith)
+
+    top-between : (n : ℕ) (ds : List ℕ) → n ≤ top (ds ++ (q ∷ up)) → n ≤ top (ds ++ (suc q ∷ map (bump p) up))
+    top-between n [] h = omega arith
+    top-between n (d ∷ ds) h = h
+
+    good-between : (k : ℕ) (ds : List ℕ) (x : Node) → p < k → GoodEntry c (ds ++ (q ∷ up)) k x →
+        GoodEntry (suc c) (ds ++ (suc q ∷ map (bump p) up)) k (earlier p k x)
+    good-between k ds (file nm offset size) h g = g
+    good-between k ds (directory nm next) h g = rw (lt-leb k p h) (g .0, omega arith, top-between next ds (g .2))
+
+    length-between : (ds : List ℕ) → length (ds ++ (suc q ∷ map (bump p) up)) ≡ length (ds ++ (q ∷ up))
+    length-between ds = simp (length-append, length-map)
+
+    depth-new : (new′ : Node) → shallowEntry (suc q ∷ map (bump p) up) new′ ≡ depthOk (suc (length up)) new′
+    depth-new (file nm offset size) = refl
+    depth-new (directory nm next) = rw (length-map up (bump p))
+
+    sound-between : (j k : ℕ) (ds : List ℕ) (xs : List Node) → k + j ≡ q → p < k → k + length xs ≡ c → AllLe q ds →
+        Sound c (ds ++ (q ∷ up)) k xs → Sound (suc c) (ds ++ (suc q ∷ map (bump p) up)) k (splice p new k j xs) ×
+        (shallowFrom (ds ++ (suc q ∷ map (bump p) up)) k (splice p new k j xs) ≡ (depthOk (suc (length up)) new && shallowFrom (ds ++ (q ∷ up)) k xs))
+    unfolding splice shallowFrom
+    sound-between zero k ds xs e h l d g =
+        let k≡q : k ≡ q = omega arith in
+        let s : shut q (ds ++ (suc q ∷ map (bump p) up)) ≡ suc q ∷ map (bump p) up = shut-past q ds _ d ∙ shut-open q (suc q) _ (omega arith) in
+        let g′ : Sound c (ds ++ (q ∷ up)) q xs = rw k≡q at g in
+        let f = sound-after c q (ds ++ (q ∷ up)) (enter (suc q ∷ map (bump p) up) new) xs p<q (shut-new new fresh ∙ after-shut q up p<q ∙ ap (map (bump p)) (sym (shut-past q ds _ d ∙ shut-top))) g′ in
+        rw (k≡q, s, depth-new new, f .1) ((named, good-new new fresh, f .0), refl)
+    sound-between (suc j) k ds [] e h l d g = absurd (omega arith)
+    sound-between (suc j) k ds (x ∷ xs) e h l d g =
+        let s = shut-keep k ds q up (omega arith) in
+        let s′ = shut-keep k ds (suc q) (map (bump p) up) (omega arith) in
+        let g₁ : GoodEntry c (shut k ds ++ (q ∷ up)) k x = rw s at (g .1) in
+        let g₂ : Sound c (enter (shut k ds ++ (q ∷ up)) x) (suc k) xs = rw s at (g .2) in
+        let ih = sound-between j (suc k) (enter (shut k ds) x) xs (omega arith) (omega arith) (omega arith) (enter-AllLe c q k (shut k ds) up x (shut-AllLe q k ds d) g₁) (rw enter-append at g₂) in
+        rw (
+          s,
+          s′,
+          name-earlier k x,
+          enter-between k (shut k ds ++ (suc q ∷ map (bump p) up)) x h,
+          enter-append (shut k ds) (suc q ∷ map (bump p) up) x,
+          enter-append (shut k ds) (q ∷ up) x,
+          ih .1,
+          same-length (shut k ds ++ (q ∷ up)) (shut k ds ++ (suc q ∷ map (bump p) up)) x (length-between (shut k ds)) .1 k,
+        )
+        ((g .0, good-between k (shut k ds) x h g₁, ih .0), and-swap (shallowEntry (shut k ds ++ (q ∷ up)) x) (depthOk (suc (length up)) new) _)
+
+  -- ---- the entries up to p
+  module _ (c q : ℕ) (nm : List ℕ) (new : Node) (p<q : p < q) (q≤c : q ≤ c) (named : GoodName (nameOf new)) (fresh : Fresh q new) where
+    sound-before : (i j k : ℕ) (dirs : List ℕ) (xs : List Node) → k + i ≡ p → k + j ≡ q → k + length xs ≡ c →
+        getD xs i none ≡ directory nm q → i < length xs → Sound c dirs k xs →
+        Sound (suc c) (map (bump p) dirs) k (splice p new k j xs) ×
+        (shallowFrom (map (bump p) dirs) k (splice p new k j xs) ≡ (depthOk (suc (length (openAt dirs k xs i))) new && shallowFrom dirs k xs))
+    unfolding splice openAt shallowFrom
+    sound-before i zero k dirs xs e₁ e₂ l x h g = absurd (omega arith)
+    sound-before i (suc j) k dirs [] e₁ e₂ l x h g = absurd (omega arith)
+    sound-before zero (suc j) k dirs (y ∷ xs) e₁ e₂ l x h g =
+        let b : bump p q ≡ suc q = omega (arith, bump-min p q) in
+        let g₂ : Sound c (q ∷ shut k dirs) (suc k) xs = rw x at (g .2) in
+        let f = sound-between c q new (shut k dirs) p<q q≤c named fresh j (suc k) [] xs (omega arith) (omega arith) (omega arith) tt g₂ in
+        rw (before-shut k dirs (omega arith), name-earlier k y, same-length (shut k dirs) (map (bump p) (shut k dirs)) y (length-map (shut k dirs) (bump p)) .1 k, enter-before k (shut k dirs) y (omega arith)) (
+          (g .0, good-before c k (shut k dirs) y (omega arith) (g .1), rw (x, b) (f .0)),
+          rw (x, b, f .1) (and-swap (shallowEntry (shut k dirs) (directory nm q)) (depthOk (suc (length (shut k dirs))) new) _),
+        )
+    sound-before (suc i) (suc j) k dirs (y ∷ xs) e₁ e₂ l x h g =
+        let ih = sound-before i j (suc k) (enter (shut k dirs) y) xs (omega arith) (omega arith) (omega arith) x (omega arith) (g .2) in
+        rw (before-shut k dirs (omega arith), name-earlier k y, same-length (shut k dirs) (map (bump p) (shut k dirs)) y (length-map (shut k dirs) (bump p)) .1 k, enter-before k (shut k dirs) y (omega arith), ih .1) (
+          (g .0, good-before c k (shut k dirs) y (omega arith) (g .1), ih .0),
+          and-swap (shallowEntry (shut k dirs) y) (depthOk (suc (length (openAt (enter (shut k dirs) y) (suc k) xs i))) new) _,
+        )
+
+-- ---- the list
+
+length-splice : (p : ℕ) (new : Node) (k j : ℕ) (xs : List Node) → j ≤ length xs → length (splice p new k j xs) ≡ suc (length xs)
+unfolding splice
+length-splice p new k zero xs h = ap suc (length-map xs later)
+length-splice p new k (suc j) [] h = absurd (omega arith)
+length-splice p new k (suc j) (x ∷ xs) h = ap suc (length-splice p new (suc k) j xs (omega arith))
+
+splice-before : (p : ℕ) (new : Node) (k j : ℕ) (xs : List Node) (i : ℕ) → i < j → j ≤ length xs → getD (splice p new k j xs) i none ≡ earlier p (k + i) (getD xs i none)
+unfolding splice
+splice-before p new k zero xs i h l = absurd (omega arith)
+splice-before p new k (suc j) [] i h l = absurd (omega arith)
+splice-before p new k (suc j) (x ∷ xs) zero h l = rw (add-zero k)
+splice-before p new k (suc j) (x ∷ xs) (suc i) h l =
+    let n : k + suc i ≡ suc k + i = omega arith in
+    rw n (splice-before p new (suc k) j xs i (omega arith) (omega arith))
+
+splice-at : (p : ℕ) (new : Node) (k j : ℕ) (xs : List Node) → j ≤ length xs → getD (splice p new k j xs) j none ≡ new
+unfolding splice
+splice-at p new k zero xs l = refl
+splice-at p new k (suc j) [] l = absurd (omega arith)
+splice-at p new k (suc j) (x ∷ xs) l = splice-at p new (suc k) j xs (omega arith)
+
+map-later : (xs : List Node) (i : ℕ) → i < length xs → getD (map later xs) i none ≡ later (getD xs i none)
+map-later [] i h = absurd (omega arith)
+map-later (x ∷ xs) zero h = refl
+map-later (x ∷ xs) (suc i) h = map-later xs i (omega arith)
+
+splice-after : (p : ℕ) (new : Node) (k j : ℕ) (xs : List Node) (i : ℕ) → j ≤ i → i < length xs → getD (splice p new k j xs) (suc i) none ≡ later (getD xs i none)
+unfolding splice
+splice-after p new k zero xs i h l = map-later xs i l
+splice-after p new k (suc j) [] i h l = absurd (omega arith)
+splice-after p new k (suc j) (x ∷ xs) zero h l = absurd (omega arith)
+splice-after p new k (suc j) (x ∷ xs) (suc i) h l = splice-after p new (suc k) j xs i (omega arith) (omega arith)
+
+-- ---- the whole tree; p is a directory with next q
+module _ (nodes : List Node) (p q : ℕ) (nm : List ℕ) (new : Node) (w : WellFormed nodes) (here : getD nodes p none ≡ directory nm q) (p<n : p < length nodes) where
+  q≤n : q ≤ length nodes
+  q≤n = next-bounds nodes p q nm w here p<n .1
+
+  p<q : p < q
+  p<q = next-bounds nodes p q nm w here p<n .0
+
+  is-splice : insertAt p new nodes ≡ splice p new 0 q nodes
+  unfolding insertAt
+  is-splice = rw here
+
+  pub length-insert : length (insertAt p new nodes) ≡ suc (length nodes)
+  length-insert = rw is-splice (length-splice p new 0 q nodes q≤n)
+
+  -- entry k, before the new one; the new one; and entry k, which comes after it
+  pub insert-before : (k : ℕ) → k < q → getD (insertAt p new nodes) k none ≡ earlier p k (getD nodes k none)
+  insert-before k h = rw (is-splice, splice-before p new 0 q nodes k h q≤n) (ap (λ (m : ℕ). earlier p m (getD nodes k none)) (omega arith))
+
+  pub insert-at : getD (insertAt p new nodes) q none ≡ new
+  insert-at = rw is-splice (splice-at p new 0 q nodes q≤n)
+
+  pub insert-after : (k : ℕ) → q ≤ k → k < length nodes → getD (insertAt p new nodes) (suc k) none ≡ later (getD nodes k none)
+  insert-after k h l = rw is-splice (splice-after p new 0 q nodes k h l)
+
+-- ---- the tree stays well-formed, and only the new entry can be too deep
+
+-- the depth of entry p by the walk's stack, where the entries past the root are xs
+abbrev stackDepth : ℕ → List Node → ℕ → ℕ
+stackDepth c xs zero = 0
+stackDepth c xs (suc i) = length (openAt (c ∷ []) 1 xs i)
+
+record Kept (c p q : ℕ) (new : Node) (xs : List Node) : Type 0 where
+  j : ℕ
+  next : q ≡ suc j
+  inside : j ≤ length xs
+  raised : bump p c ≡ suc c
+  sound : Sound (suc c) (suc c ∷ []) 1 (splice p new 1 j xs)
+  depth : shallowFrom (suc c ∷ []) 1 (splice p new 1 j xs) ≡ (depthOk (suc (stackDepth c xs p)) new && shallowFrom (c ∷ []) 1 xs)
+
+kept : (c p q : ℕ) (nm : List ℕ) (new : Node) (xs : List Node) → c ≡ suc (length xs) →
+    Sound c (c ∷ []) 1 xs → getD (directory [] c ∷ xs) p none ≡ directory nm q → p < c → GoodName (nameOf new) → Fresh q new → Kept c p q new xs
+kept c zero q nm new xs l g e h named f =
+    let q≡ : q ≡ c = sym (ap nextOf e) in
+    let f′ : Fresh c new = rw q≡ at f in
+    let s = sound-between zero c c new [] h (omega arith) named f′ (length xs) 1 [] xs (omega arith) (omega arith) (omega arith) tt g in
+    record { j = length xs; next = q≡ ∙ l; inside = omega arith; raised = omega (arith, bump-min zero c); sound = s .0; depth = s .1 }
+kept c (suc i) q nm new xs l g e h named f =
+    let at : GoodEntry c (openAt (c ∷ []) 1 xs i) (1 + i) (directory nm q) = rw e at (sound-at c 1 (c ∷ []) xs i g (omega arith) .1) in
+    let b : bump (suc i) c ≡ suc c = omega (arith, bump-min (suc i) c) in
+    let s = sound-before (suc i) c q nm new (omega arith) (omega arith) named f i (q - 1) 1 (c ∷ []) xs (omega arith) (omega arith) (omega arith) e (omega arith) g in
+    record { j = q - 1; next = omega arith; inside = omega arith; raised = b; sound = rw b at (s .0); depth = rw b at (s .1) }
+
+kept-whole : (c p q : ℕ) (nm : List ℕ) (new : Node) (xs : List Node) → c ≡ suc (length xs) → getD (directory [] c ∷ xs) p none ≡ directory nm q → Kept c p q new xs →
+    WellFormed (insertAt p new (directory [] c ∷ xs)) × (shallow (insertAt p new (directory [] c ∷ xs)) ≡ (depthOk (suc (stackDepth c xs p)) new && shallow (directory [] c ∷ xs)))
+unfolding insertAt splice shallow
+kept-whole c p q nm new xs l e s =
+    let len : suc (length (splice p new 1 (s .j) xs)) ≡ suc c = rw (length-splice p new 1 (s .j) xs (s .inside), ← l) in
+    rw (e, s .next) (
+      record { root = rw (le-leb 0 p zero-le, s .raised, len); sound = rw len (s .sound) },
+      rw (len, ← l) (s .depth),
+    )
+
+depth-is : (nodes : List Node) (p : ℕ) → WellFormed nodes → p < length nodes → depthOf nodes p ≡ stackDepth (length nodes) (tail nodes) p
+unfolding openDirs
+depth-is nodes zero w h = refl
+depth-is nodes (suc i) w h = ap length (stack-is nodes w i h)
+
+insert-whole : (nodes : List Node) (p q : ℕ) (nm : List ℕ) (new : Node) → WellFormed nodes → getD nodes p none ≡ directory nm q → p < length nodes → GoodName (nameOf new) → Fresh q new →
+    WellFormed (insertAt p new nodes) × (shallow (insertAt p new nodes) ≡ (depthOk (suc (depthOf nodes p)) new && shallow nodes))
+insert-whole [] p q nm new w e h named f = absurd (omega arith)
+insert-whole (r ∷ xs) p q nm new w e h named f =
+    let c : ℕ = suc (length xs) in
+    let r≡ : r ∷ xs ≡ directory [] c ∷ xs = w .root in
+    let e′ : getD (directory [] c ∷ xs) p none ≡ directory nm q = rw r≡ at e in
+    rw (depth-is (r ∷ xs) p w h, r≡) (kept-whole c p q nm new xs refl e′ (kept c p q nm new xs refl (w .sound) e′ h named f))
+
+pub insert-sound : (nodes : List Node) (p q : ℕ) (nm : List ℕ) (new : Node) → WellFormed nodes → getD nodes p none ≡ directory nm q → p < length nodes → GoodName (nameOf new) → Fresh q new →
+    WellFormed (insertAt p new nodes)
+insert-sound nodes p q nm new w e h named f = insert-whole nodes p q nm new w e h named f .0
+
+pub insert-shallow : (nodes : List Node) (p q : ℕ) (nm : List ℕ) (new : Node) → WellFormed nodes → getD nodes p none ≡ directory nm q → p < length nodes → GoodName (nameOf new) → Fresh q new →
+    shallow (insertAt p new nodes) ≡ (depthOk (suc (depthOf nodes p)) new && shallow nodes)
+insert-shallow nodes p q nm new w e h named f = insert-whole nodes p q nm new w e h named f .1
+
+-- ---- every other entry keeps its parent
+
+below-same : (a b : List Node) (k m i : ℕ) → ((j : ℕ) → j < i → encloses (getD a j none) k ≡ encloses (getD b j none) m) → parentBelow a k i ≡ parentBelow b m i
+unfolding parentBelow
+below-same a b k m zero f = refl
+below-same a b k m (suc i) f = rw (f i (omega arith), below-same a b k m i (λ j h. f j (omega arith)))
+
+-- an entry j up to p, seen from entry k before the new one: a directory that ends past p ends at q or later
+up-before : (p q j k : ℕ) (x : Node) → j ≤ p → k < q → (p < nextOf x → q ≤ nextOf x) → encloses (earlier p j x) k ≡ encloses x k
+unfolding bump
+up-before p q j k (file nm offset size) h l f = refl
+up-before p q j k (directory nm n) h l f = rw (le-leb j p h) (go (ltb p n) refl)
+  where
+    go : (t : Bool) → ltb p n ≡ t → ltb k (cond t (suc n) n) ≡ ltb k n
+    go true e =
+        let g : q ≤ n = f (ltb-true p n e) in
+        lt-ltb k (suc n) (omega arith) ∙ sym (lt-ltb k n (omega arith))
+    go false e = refl
+
+-- seen from entry k, which comes after the new one
+up-after : (p j k : ℕ) (x : Node) → j ≤ p → p < k → encloses (earlier p j x) (suc k) ≡ encloses x k
+unfolding bump
+up-after p j k (file nm offset size) h l = refl
+up-after p j k (directory nm n) h l = rw (le-leb j p h) (go (ltb p n) refl)
+  where
+    go : (t : Bool) → ltb p n ≡ t → ltb (suc k) (cond t (suc n) n) ≡ ltb k n
+    go true e = ltb-suc k n
+    go false e =
+        let g : n ≤ p = ltb-false p n e in
+        le-ltb (suc k) n (omega arith) ∙ sym (le-ltb k n (omega arith))
+
+-- an entry j between p and the new one
+between-same : (p j k : ℕ) (x : Node) → p < j → encloses (earlier p j x) k ≡ encloses x k
+between-same p j k (file nm offset size) h = refl
+between-same p j k (directory nm n) h = rw (lt-leb j p h)
+
+ended : (k : ℕ) (x : Node) → nextOf x ≤ k → encloses x k ≡ false
+ended k (file nm offset size) h = refl
+ended k (directory nm n) h = le-ltb k n h
+
+later-same : (k : ℕ) (x : Node) → encloses (later x) (suc k) ≡ encloses x k
+later-same k (file nm offset size) = refl
+later-same k (directory nm n) = ltb-suc k n
+
+new-ended : (q k : ℕ) (x : Node) → Fresh q x → q ≤ k → encloses x (suc k) ≡ false
+new-ended q k (file nm offset size) f h = refl
+new-ended q k (directory nm n) f h = le-ltb (suc k) n (omega arith)
+
+module _ (nodes : List Node) (p q : ℕ) (nm : List ℕ) (new : Node) (w : WellFormed nodes) (here : getD nodes p none ≡ directory nm q) (p<n : p < length nodes) where
+  -- a directory up to p that ends past p ends at q or later
+  around : (j : ℕ) → j ≤ p → p < nextOf (getD nodes j none) → q ≤ nextOf (getD nodes j none)
+  around j h l = go (ltb j p) refl (getD nodes j none) refl
+    where
+      go : (t : Bool) → ltb j p ≡ t → (x : Node) → getD nodes j none ≡ x → q ≤ nextOf (getD nodes j none)
+      go true e (file a b c) x≡ = absurd (omega (arith, rw x≡ at l))
+      go true e (directory a n) x≡ = nests nodes j p q nm w (ltb-true j p e, rw x≡ (lt-ltb p n (rw x≡ at l))) p<n here
+      go false e x x≡ =
+          let j≡ : j ≡ p = omega (arith, ltb-false j p e) in
+          rw (j≡, here) (omega arith)
+
+  -- an entry between p and q ends at q or before
+  between : (j : ℕ) → p < j → j < q → nextOf (getD nodes j none) ≤ q
+  between j h l = go (getD nodes j none) refl
+    where
+      go : (x : Node) → getD nodes j none ≡ x → nextOf (getD nodes j none) ≤ q
+      go (file a b c) x≡ = rw x≡ (omega arith)
+      go (directory a n) x≡ =
+          let b : q ≤ length nodes = q≤n nodes p q nm new w here p<n in
+          let g : n ≤ nextOf (getD nodes p none) = nests nodes p j n a w (h, rw here (lt-ltb j q l)) (omega arith) x≡ in
+          rw x≡ (rw here at g)
+
+  encl-before : (k : ℕ) → k < q → (j : ℕ) → j < k → encloses (getD (insertAt p new nodes) j none) k ≡ encloses (getD nodes j none) k
+  encl-before k h j l = rw (insert-before nodes p q nm new w here p<n j (omega arith)) (go (leb j p) refl)
+    where
+      go : (t : Bool) → leb j p ≡ t → encloses (earlier p j (getD nodes j none)) k ≡ encloses (getD nodes j none) k
+      go true e = up-before p q j k (getD nodes j none) (leb-true j p e) h (around j (leb-true j p e))
+      go false e = between-same p j k (getD nodes j none) (leb-false j p e)
+
+  encl-after : (k : ℕ) → q ≤ k → (j : ℕ) → j < q → encloses (getD (insertAt p new nodes) j none) (suc k) ≡ encloses (getD nodes j none) k
+  encl-after k h j l = rw (insert-before nodes p q nm new w here p<n j l) (go (leb j p) refl)
+    where
+      go : (t : Bool) → leb j p ≡ t → encloses (earlier p j (getD nodes j none)) (suc k) ≡ encloses (getD nodes j none) k
+      go true e = up-after p j k (getD nodes j none) (leb-true j p e) (omega (arith, p<q nodes p q nm new w here p<n))
+      go false e =
+          let b : nextOf (getD nodes j none) ≤ q = between j (leb-false j p e) l in
+          between-same p j (suc k) (getD nodes j none) (leb-false j p e) ∙ ended (suc k) (getD nodes j none) (omega arith) ∙ sym (ended k (getD nodes j none) (omega arith))
+
+  pub parent-insert-before : (k : ℕ) → k < q → parentOf (insertAt p new nodes) k ≡ parentOf nodes k
+  unfolding parentOf
+  parent-insert-before k h = below-same (insertAt p new nodes) nodes k k k (encl-before k h)
+
+  pub parent-insert-at : parentOf (insertAt p new nodes) q ≡ p
+  parent-insert-at =
+      let h : p < q = p<q nodes p q nm new w here p<n in
+      let b : bump p q ≡ suc q = omega (arith, bump-min p q) in
+      parent-is (insertAt p new nodes) q p
+      (h, rw (insert-before nodes p q nm new w here p<n p h, here, le-leb p p (omega arith), b) (lt-ltb q (suc q) (omega arith)))
+      (λ j a l. rw (insert-before nodes p q nm new w here p<n j l) (between-same p j q (getD nodes j none) a ∙ ended q (getD nodes j none) (between j a l)))
+
+  module _ (fresh : Fresh q new) where
+    below-after : (k : ℕ) → q ≤ k → k < length nodes → (m : ℕ) → q ≤ m → m ≤ k → parentBelow (insertAt p new nodes) (suc k) (suc m) ≡ shifted q (parentBelow nodes k m)
+    below-after k h l zero a b = absurd (omega (arith, p<q nodes p q nm new w here p<n))
+    below-after k h l (suc m) a b = go (leb q m) refl (λ e. below-after k h l m e (omega arith))
+      where
+        step : (t : Bool) (d : ℕ) → q ≤ m → cond t (suc m) (shifted q d) ≡ shifted q (cond t m d)
+        step true d e = omega (arith, shifted-min q m)
+        step false d e = refl
+
+        go : (t : Bool) → leb q m ≡ t → (q ≤ m → parentBelow (insertAt p new nodes) (suc k) (suc m) ≡ shifted q (parentBelow nodes k m)) →
+            parentBelow (insertAt p new nodes) (suc k) (suc (suc m)) ≡ shifted q (parentBelow nodes k (suc m))
+        go true e ih =
+            let r : q ≤ m = leb-true q m e in
+            parent-step (insertAt p new nodes) (suc k) (suc m)
+            ∙ rw (insert-after nodes p q nm new w here p<n m r (omega arith), later-same k (getD nodes m none), ih r) (step (encloses (getD nodes m none) k) (parentBelow nodes k m) r)
+            ∙ ap (shifted q) (sym (parent-step nodes k m))
+        go false e ih =
+            let m≡ : suc m ≡ q = omega (arith, leb-false q m e) in
+            let v : parentBelow nodes k (suc m) < suc m = below-lt nodes k (suc m) (omega arith) in
+            parent-lower (insertAt p new nodes) (suc k) (suc m) (rw (m≡, insert-at nodes p q nm new w here p<n) (new-ended q k new fresh h))
+            ∙ below-same (insertAt p new nodes) nodes (suc k) k (suc m) (λ j l. encl-after k h j (omega arith))
+            ∙ omega (arith, shifted-min q (parentBelow nodes k (suc m)))
+
+    pub parent-insert-after : (k : ℕ) → q ≤ k → k < length nodes → parentOf (insertAt p new nodes) (suc k) ≡ shifted q (parentOf nodes k)
+    unfolding parentOf
+    parent-insert-after k h l = below-after k h l k h (omega arith)
