@@ -13,29 +13,10 @@ use Rattle.refusal.specs.declared.Verdict.{Verdict}
 use Rattle.refusal.specs.declared.Verdict.the-variants.{Passed, Refused}
 use Rattle.refusal.specs.declared.Refusal.the-variants.{EntryPastTable, UnrecognizedKind, InvalidNextIndex, LimitOrMemory}
 use Rattle.refusal.specs.Refusal.{refuse, first, isRefused}
-use Rattle.refusal.specs.Laws.{refuse-passed, first-passed, first-stop, first-go, not-refused}
+use Rattle.refusal.specs.Laws.{refuse-passed, first-passed, not-refused}
 use Rattle.tree.specs.Table.{Node, file, directory, nameOf, count, kind, nameOffset, offsetOrParent, sizeOrNext, nameAt, nodeWith, nodeAt, nodesFrom, entryVerdict, entriesVerdict, top, shut, enter, nameVerdict, nextVerdict, walk}
+use Rattle.tree.specs.Steps.{walkEntry, walk-stop, walk-go, walk-end}
 use Rattle.fst.specs.Reading.{Inside, openIn, nodeVerdict}
-
--- ---- each entry in turn
-
-pub entries-step : (tab : List ℕ) (k n : ℕ) → k < n → entriesVerdict tab k (n - k) ≡ first (entryVerdict tab k) (entriesVerdict tab (k + 1) (n - (k + 1)))
-unfolding entriesVerdict
-entries-step tab k n h =
-    let e : n - k ≡ suc (n - (k + 1)) = omega arith in
-    rw (e, add-one k)
-
-pub entries-end : (tab : List ℕ) (k n : ℕ) → n ≤ k → entriesVerdict tab k (n - k) ≡ Passed
-unfolding entriesVerdict
-entries-end tab k n h =
-    let e : n - k ≡ 0 = omega arith in
-    rw e
-
-pub entries-stop : (tab : List ℕ) (k n : ℕ) (v : Verdict) → k < n → v ≡ entryVerdict tab k → isRefused v ≡ true → v ≡ entriesVerdict tab k (n - k)
-entries-stop tab k n v h q z = sym (entries-step tab k n h ∙ rw (← q) (first-stop v _ z))
-
-pub entries-go : (tab : List ℕ) (k n : ℕ) (v : Verdict) → k < n → v ≡ entryVerdict tab k → isRefused v ≡ false → entriesVerdict tab k (n - k) ≡ entriesVerdict tab (k + 1) (n - (k + 1))
-entries-go tab k n v h q z = entries-step tab k n h ∙ rw (← q) (first-go v _ z)
 
 -- entries that pass stand in the table
 entries-held : (tab : List ℕ) (k n : ℕ) → entriesVerdict tab k (suc n) ≡ Passed → 12 * (k + suc n) ≤ length tab
@@ -79,28 +60,6 @@ with-name (suc n) nm a b = refl
 pub node-name : (tab : List ℕ) (c k : ℕ) → nameOf (nodeAt tab c k) ≡ nameAt tab c (nameOffset tab k)
 unfolding nodeAt
 node-name tab c k = with-name (kind tab k) _ _ _
-
--- ---- the walk
-
-first-first : (a b c : Verdict) → first a (first b c) ≡ first (first a b) c
-first-first Passed b c = refl
-first-first (Refused r) b c = refl
-
-pub walk-step : (tab : List ℕ) (c k : ℕ) (dirs : List ℕ) → k < c →
-    walk tab c dirs k (nodesFrom tab c k (c - k)) ≡
-    first (nodeVerdict tab c (shut k dirs) k) (walk tab c (enter (shut k dirs) (nodeAt tab c k)) (k + 1) (nodesFrom tab c (k + 1) (c - (k + 1))))
-unfolding walk nodesFrom
-walk-step tab c k dirs h =
-    let e : c - k ≡ suc (c - (k + 1)) = omega arith in
-    let nm = nameAt tab c (nameOffset tab k) in
-    rw (e, add-one k, node-name tab c k)
-    (first-first (nameVerdict tab c k nm) (nextVerdict c (shut k dirs) k (nodeAt tab c k)) (walk tab c (enter (shut k dirs) (nodeAt tab c k)) (suc k) (nodesFrom tab c (suc k) (c - suc k))))
-
-pub walk-end : (tab : List ℕ) (c k : ℕ) (dirs : List ℕ) → c ≤ k → walk tab c dirs k (nodesFrom tab c k (c - k)) ≡ Passed
-unfolding walk nodesFrom
-walk-end tab c k dirs h =
-    let e : c - k ≡ 0 = omega arith in
-    rw e
 
 -- ---- the open directories in words
 
@@ -178,11 +137,11 @@ walked-start tab c = record { from = omega arith; shallow = omega arith; long = 
 
 module _ {tab : List ℕ} {c : ℕ} {words : List ℕ} {d k : ℕ} (w : Walked tab c words d k) (d′ : ℕ) (shuts : openIn words d′ ≡ shut k (openIn words d)) (v : Verdict) (test : v ≡ nodeVerdict tab c (openIn words d′) k)
     (more : k < c) where
-  step : walk tab c (c ∷ []) 1 (nodesFrom tab c 1 (c - 1)) ≡ first v (walk tab c (enter (openIn words d′) (nodeAt tab c k)) (k + 1) (nodesFrom tab c (k + 1) (c - (k + 1))))
-  step = w .left ∙ rw (test, shuts) (walk-step tab c k (openIn words d) more)
+  same : v ≡ walkEntry tab c (openIn words d) k (nodeAt tab c k)
+  same = test ∙ rw (shuts, node-name tab c k)
 
   pub walked-stop : isRefused v ≡ true → v ≡ walk tab c (c ∷ []) 1 (nodesFrom tab c 1 (c - 1))
-  walked-stop r = sym (step ∙ first-stop v (walk tab c (enter (openIn words d′) (nodeAt tab c k)) (k + 1) (nodesFrom tab c (k + 1) (c - (k + 1)))) r)
+  walked-stop r = sym (w .left ∙ walk-stop tab c (openIn words d) k c v more same r)
 
   -- an entry that passes has a next that does
   pub walked-passed : isRefused v ≡ false → nextVerdict c (openIn words d′) k (nodeAt tab c k) ≡ Passed
@@ -194,8 +153,8 @@ module _ {tab : List ℕ} {c : ℕ} {words : List ℕ} {d k : ℕ} (w : Walked t
         from = omega arith;
         shallow = s;
         long = l;
-        left = step ∙ first-go v (walk tab c (enter (openIn words d′) (nodeAt tab c k)) (k + 1) (nodesFrom tab c (k + 1) (c - (k + 1)))) r ∙ rw e;
+        left = w .left ∙ walk-go tab c (openIn words d) k c v more same r ∙ rw (e, shuts);
       }
 
 pub walked-end : (tab : List ℕ) (c : ℕ) (words : List ℕ) (d k : ℕ) → Walked tab c words d k → c ≤ k → Passed ≡ walk tab c (c ∷ []) 1 (nodesFrom tab c 1 (c - 1))
-walked-end tab c words d k w h = sym (w .left ∙ walk-end tab c k (openIn words d) h)
+walked-end tab c words d k w h = sym (w .left ∙ walk-end tab c (openIn words d) k c h)

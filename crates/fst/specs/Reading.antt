@@ -1,13 +1,15 @@
 -- What the functions that read a table compute on the way to the definitions of the file table. Assumes nothing: these are definitions.
 use Prim.Native.Nat.{ℕ, zero, suc, _+_, _-_, _*_, _<_, _≤_}
+use mathlib.Core.Path.{_≡_}
 use mathlib.Core.Bool.{Bool, true, false}
 use mathlib.Core.List.{List, [], _∷_}
 use lib.ListN.{length, getD, drop}
 use lib.Dec.{leb, ltb}
 use Rattle.refusal.specs.declared.Verdict.{Verdict}
+use Rattle.refusal.specs.declared.Verdict.the-variants.{Passed}
 use Rattle.refusal.specs.declared.Refusal.the-variants.{MissingNullTerminator, LimitOrMemory, InvalidNextIndex}
 use Rattle.refusal.specs.Refusal.{refuse, first}
-use Rattle.tree.specs.Table.{plainByte, safeByte, upTo0, nameOffset, sizeOrNext, nameAt, nodeAt, nodesFrom, unended, nameVerdict, nextVerdict, walk}
+use Rattle.tree.specs.Table.{plainByte, safeByte, upTo0, nameOffset, sizeOrNext, nameAt, nodeAt, nodesFrom, unended, nameVerdict, nextVerdict, walk, check}
 
 -- the text that starts at byte `at` of a table
 abbrev pub textAt : List ℕ → ℕ → List ℕ
@@ -17,6 +19,11 @@ textAt tab at = upTo0 (drop at tab)
 abbrev pub byteTest : Bool → ℕ → Bool
 byteTest true b = safeByte b
 byteTest false b = plainByte b
+
+-- the table is accepted, where some number of working words is lent
+pub record Opens (tab : List ℕ) : Type 0 where
+  pub words : ℕ
+  pub passed : check tab words ≡ Passed
 
 -- c entries stand in the table, the root at least, and no more than the limit
 pub record Inside (tab : List ℕ) (c : ℕ) : Type 0 where

@@ -6,7 +6,7 @@ use mathlib.Core.Path.{_≡_, refl, sym, _∙_}
 use mathlib.Core.Bool.{true, false}
 use Rattle.refusal.specs.Refusal.{isRefused}
 use Rattle.tree.specs.Table.{entriesVerdict}
-use Rattle.fst.proofs.Walking.{entries-stop, entries-go, entries-end}
+use Rattle.tree.specs.Steps.{entries-stop, entries-go, entries-end}
 use borrow.Author.Needs.{needs}
 use Rattle.fst.proofs.opening.entries_verdict.Statement.{statement}
 use Rattle.fst.proofs.opening.entries_verdict.Tie as tie
@@ -31,7 +31,7 @@ returns c =
     let v = c .before .before .entry-verdict in
     let l = c .before .before .before .before .loop in
     let r : isRefused (v .result) ≡ true = sym (c .before .is-refused .ensures) ∙ c .if1 .taken in
-    entries-stop _ _ _ _ (c .before .before .before .loop-test .taken) (v .ensures) r ∙ sym (l .inv .1)
+    sym (l .inv .1 ∙ entries-stop _ _ _ _ (c .before .before .before .loop-test .taken) (v .ensures) r)
 
 add-k : tie.Need-add-k Inv-loop μ-loop
 add-k c = omega arith

@@ -1,0 +1,77 @@
+// The entries of an accepted table, by number.
+ghost use mathlib.Core.Path.{_≡_};
+ghost use Prim.Native.Nat.{_≤_, _<_};
+ghost use lib.ListN.{getD};
+ghost use Rattle.tree.specs.Table as table_of;
+ghost use Rattle.tree.specs.Table.{none, nodesOf, parentOf};
+ghost use Rattle.tree.specs.Lookup.{isDirectory, nextOf, entryOf, entryFound};
+ghost use Rattle.fst.specs.Reading.{Opens};
+use crate::opening;
+use refusal::Refusal;
+use tree::DirectoryEntry;
+use tree::Entry;
+use tree::FileEntry;
+use tree::Found;
+
+pub fn is_directory(table: &[u8], k: usize) -> bool
+    requires { ⌜ Opens (now table) × (k < table_of.count (now table)) ⌝ }
+    ensures { λ r. ⌜ r ≡ isDirectory (getD (nodesOf (now (table .entry))) k none) ⌝ }
+{
+    table[12 * k] != 0
+}
+
+// A directory's next; 0 for a file.
+pub fn next(table: &[u8], k: usize) -> usize
+    requires { ⌜ Opens (now table) × (k < table_of.count (now table)) ⌝ }
+    ensures { λ r. ⌜ r ≡ nextOf (getD (nodesOf (now (table .entry))) k none) ⌝ }
+{
+    if table[12 * k] == 0 {
+        return 0;
+    }
+    endian::read_u32(table, 12 * k + 8) as usize
+}
+
+// The directory that entry k is nested in: the last one before it whose next is past it. The stored parent is not read.
+pub fn parent(table: &[u8], k: usize) -> usize
+    requires { ⌜ Opens (now table) × (k < table_of.count (now table)) ⌝ }
+    ensures { λ r. ⌜ (r ≡ parentOf (nodesOf (now (table .entry))) k) × (r ≤ k) ⌝ }
+{
+    let mut i = k;
+    while 0 < i {
+        i -= 1;
+        if k < next(table, i) {
+            return i;
+        }
+    }
+    0
+}
+
+fn entry_at(table: &[u8], k: usize) -> Entry
+    requires { ⌜ Opens (now table) × (k < table_of.count (now table)) ⌝ }
+    ensures { λ r. ⌜ r ≡ entryOf (nodesOf (now (table .entry))) k ⌝ }
+{
+    let last = endian::read_u32(table, 12 * k + 8);
+    if table[12 * k] == 0 {
+        Entry::File(FileEntry {
+            offset: endian::read_u32(table, 12 * k + 4),
+            size: last,
+        })
+    } else {
+        Entry::Directory(DirectoryEntry {
+            parent: parent(table, k) as u32,
+            next: last,
+        })
+    }
+}
+
+// Entry k, or 15 past the count.
+pub fn entry(table: &[u8], k: u32) -> Found
+    requires { ⌜ Opens (now table) ⌝ }
+    ensures { λ r. ⌜ r ≡ entryFound (nodesOf (now (table .entry))) k ⌝ }
+{
+    let place = k as usize;
+    if opening::count(table) <= place {
+        return Found::Refused(Refusal::NoSuchEntry);
+    }
+    Found::At(k, entry_at(table, place))
+}
