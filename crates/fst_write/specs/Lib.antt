@@ -1,0 +1,4 @@
+pub mod Valid
+pub mod Flat
+pub mod Accepted
+pub mod Measure

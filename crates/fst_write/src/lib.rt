@@ -1,0 +1,239 @@
+// The file table written anew, with no name shared: an entry that is a directory writes that directory, and a directory writes its entries.
+// The table is in preorder, so what is written is what `writeFlat` writes, entry by entry, and that is `encode` of the table's entries.
+ghost use mathlib.Core.Path.{_≡_};
+ghost use mathlib.Core.List.{[], _∷_, _++_};
+ghost use Prim.Native.Nat.{_+_, _-_, _*_, _≤_, _<_, _^_};
+ghost use lib.ListN.{length, drop};
+ghost use Rattle.endian.specs.Bytes.{put, be32Bytes};
+ghost use Rattle.tree.specs.Table.{kind, nameOffset, sizeOrNext, upTo0, count, nodesOf, parentOf, encode};
+ghost use Rattle.fst_write.specs.Valid.{Valid, nameSize};
+ghost use Rattle.fst_write.specs.Measure.{measureOf, capped};
+ghost use Rattle.fst_write.specs.Flat.{afterOf, placeOf, recordAt, textAt, textTo, writeTo, rootAt, Room};
+
+// More bytes of texts than this are refused (document 01: "texts over 1,048,576 bytes (9)").
+pub const TEXTS_LIMIT: usize = 1048576;
+
+// The size of the table written anew, or that its texts pass the limit.
+pub enum Measured {
+    Size(usize),
+    PastLimit,
+}
+
+// The length of the text at `at`, without its zero byte.
+fn name_len(table: &[u8], at: usize) -> usize
+    requires { ⌜ at + length (upTo0 (drop at (now table))) < length (now table) ⌝ }
+    ensures { λ r. ⌜ r ≡ length (upTo0 (drop at (now (table .entry)))) ⌝ }
+{
+    let mut i = 0;
+    while table[at + i] != 0 {
+        i += 1;
+    }
+    i
+}
+
+// What stands in the third field: a file's offset, or the parent that a directory is nested in.
+fn place_of(table: &[u8], k: usize, parent: u32) -> u32
+    requires { ⌜ 12 * k + 12 ≤ length (now table) ⌝ }
+    ensures { λ r. ⌜ r ≡ placeOf (now (table .entry)) parent k ⌝ }
+{
+    if table[12 * k] == 0 {
+        endian::read_u32(table, 12 * k + 4)
+    } else {
+        parent
+    }
+}
+
+// The entry after k in its directory.
+fn after(table: &[u8], k: usize) -> usize
+    requires { ⌜ 12 * k + 12 ≤ length (now table) ⌝ }
+    ensures { λ r. ⌜ r ≡ afterOf (now (table .entry)) k ⌝ }
+{
+    if table[12 * k] == 1 {
+        endian::read_u32(table, 12 * k + 8) as usize
+    } else {
+        k + 1
+    }
+}
+
+// The length of the name of entry k.
+fn name_size(table: &[u8], count: usize, k: usize) -> usize
+    requires { ⌜ Valid (now table) count × (0 < k) × (k < count) ⌝ }
+    ensures { λ r. ⌜ r ≡ nameSize (now (table .entry)) count k ⌝ }
+{
+    let from = 12 * count + endian::read_u24(table, 12 * k + 1) as usize;
+    name_len(table, from)
+}
+
+// Writes the record of entry k, whose name is to stand at `text`.
+fn write_record(table: &[u8], out: &mut [u8], count: usize, k: usize, parent: u32, text: usize)
+    requires { ⌜ (12 * k + 12 ≤ length (now table)) × (12 * k + 12 ≤ length (now out)) × (kind (now table) k ≤ 1) ⌝ }
+    requires { ⌜ (12 * count ≤ text) × (text < 2 ^ 24) × (count ≤ 16384) ⌝ }
+    ensures { λ _. ⌜ now (out .exit) ≡ recordAt (now (table .entry)) count parent k text (now (out .entry)) ⌝ }
+{
+    let at = 12 * k;
+    endian::write_u8(out, at, table[at]);
+    endian::write_u24(out, at + 1, (text - 12 * count) as u32);
+    endian::write_u32(out, at + 4, place_of(table, k, parent));
+    endian::write_u32(out, at + 8, endian::read_u32(table, at + 8));
+}
+
+// Writes the name of entry k at `text`, and returns the place after it.
+fn write_name(table: &[u8], out: &mut [u8], count: usize, k: usize, text: usize) -> usize
+    requires { ⌜ Valid (now table) count × (0 < k) × (k < count) ⌝ }
+    requires { ⌜ text + nameSize (now table) count k + 1 ≤ length (now out) ⌝ }
+    ensures { λ r. ⌜ r ≡ text + nameSize (now (table .entry)) count k + 1 ⌝ }
+    ensures { λ _. ⌜ now (out .exit) ≡ textAt (now (table .entry)) count k text (now (out .entry)) ⌝ }
+{
+    let from = 12 * count + endian::read_u24(table, 12 * k + 1) as usize;
+    let n = name_len(table, from);
+    endian::copy(table, from, out, text, n);
+    endian::write_u8(out, text + n, 0);
+    text + n + 1
+}
+
+// Writes the record and the name of entry k, and nothing that is in it.
+fn write_one(
+    table: &[u8],
+    out: &mut [u8],
+    count: usize,
+    k: usize,
+    parent: u32,
+    text: usize,
+) -> usize
+    requires { ⌜ Valid (now table) count × (0 < k) × (k < count) × (parent ≡ parentOf (nodesOf (now table)) k) ⌝ }
+    requires { ⌜ Room count text (textTo (now table) count k (k + 1) text) (length (now out)) ⌝ }
+    ensures { λ r. ⌜ r ≡ textTo (now (table .entry)) count k (k + 1) text ⌝ }
+    ensures { λ _. ⌜ now (out .exit) ≡ writeTo (now (table .entry)) count k (k + 1) text (now (out .entry)) ⌝ }
+{
+    write_record(table, out, count, k, parent, text);
+    write_name(table, out, count, k, text)
+}
+
+// Writes entry k, and if it is a directory all that is in it.
+fn write_entry(
+    table: &[u8],
+    out: &mut [u8],
+    count: usize,
+    k: usize,
+    parent: u32,
+    text: usize,
+) -> usize
+    requires { ⌜ Valid (now table) count × (0 < k) × (k < count) × (parent ≡ parentOf (nodesOf (now table)) k) ⌝ }
+    requires { ⌜ Room count text (textTo (now table) count k (afterOf (now table) k) text) (length (now out)) ⌝ }
+    ensures { λ r. ⌜ r ≡ textTo (now (table .entry)) count k (afterOf (now (table .entry)) k) text ⌝ }
+    ensures { λ _. ⌜ now (out .exit) ≡ writeTo (now (table .entry)) count k (afterOf (now (table .entry)) k) text (now (out .entry)) ⌝ }
+{
+    let next_text = write_one(table, out, count, k, parent, text);
+    if table[12 * k] == 1 {
+        write_directory(table, out, count, k, next_text)
+    } else {
+        next_text
+    }
+}
+
+// Writes all that is in directory k.
+fn write_directory(table: &[u8], out: &mut [u8], count: usize, k: usize, text: usize) -> usize
+    requires { ⌜ Valid (now table) count × (k < count) × (kind (now table) k ≡ 1) ⌝ }
+    requires { ⌜ Room count text (textTo (now table) count (k + 1) (sizeOrNext (now table) k) text) (length (now out)) ⌝ }
+    ensures { λ r. ⌜ r ≡ textTo (now (table .entry)) count (k + 1) (sizeOrNext (now (table .entry)) k) text ⌝ }
+    ensures { λ _. ⌜ now (out .exit) ≡ writeTo (now (table .entry)) count (k + 1) (sizeOrNext (now (table .entry)) k) text (now (out .entry)) ⌝ }
+{
+    let stop = endian::read_u32(table, 12 * k + 8) as usize;
+    let mut at = text;
+    let mut c = k + 1;
+    while c < stop {
+        at = write_entry(table, out, count, c, k as u32, at);
+        c = after(table, c);
+    }
+    at
+}
+
+// Writes the root's record: a directory with no name, with parent 0, that reaches to the end of the table.
+fn write_root(out: &mut [u8], count: usize)
+    requires { ⌜ (12 ≤ length (now out)) × (count ≤ 16384) ⌝ }
+    ensures { λ _. ⌜ now (out .exit) ≡ rootAt count (now (out .entry)) ⌝ }
+{
+    endian::write_u8(out, 0, 1);
+    endian::write_u24(out, 1, 0);
+    endian::write_u32(out, 4, 0);
+    endian::write_u32(out, 8, count as u32);
+}
+
+// Writes the whole table, and returns its size.
+pub fn write_table(table: &[u8], out: &mut [u8]) -> usize
+    requires { ⌜ Valid (now table) (count (now table)) ⌝ }
+    requires { ⌜ (length (encode (nodesOf (now table))) ≤ length (now out)) × (length (encode (nodesOf (now table))) ≤ 2 ^ 24) ⌝ }
+    ensures { λ r. ⌜ r ≡ length (encode (nodesOf (now (table .entry)))) ⌝ }
+    ensures { λ _. ⌜ now (out .exit) ≡ put (now (out .entry)) 0 (encode (nodesOf (now (table .entry)))) ⌝ }
+{
+    let count = endian::read_u32(table, 8) as usize;
+    write_root(out, count);
+    write_directory(table, out, count, 0, 12 * count)
+}
+
+// The texts so far and the name of entry k with its zero byte.
+fn measure_name(table: &[u8], count: usize, k: usize, texts: usize) -> usize
+    requires { ⌜ Valid (now table) count × (0 < k) × (k < count) × (texts ≤ 1048576) ⌝ }
+    ensures { λ r. ⌜ r ≡ capped (textTo (now (table .entry)) count k (k + 1) texts) ⌝ }
+{
+    let n = name_size(table, count, k);
+    if TEXTS_LIMIT - texts <= n {
+        TEXTS_LIMIT + 1
+    } else {
+        texts + n + 1
+    }
+}
+
+// The texts so far and those of entry k, and if it is a directory of all that is in it.
+fn measure_entry(table: &[u8], count: usize, k: usize, texts: usize) -> usize
+    requires { ⌜ Valid (now table) count × (0 < k) × (k < count) × (texts ≤ 1048576) ⌝ }
+    ensures { λ r. ⌜ r ≡ capped (textTo (now (table .entry)) count k (afterOf (now (table .entry)) k) texts) ⌝ }
+{
+    let next_texts = measure_name(table, count, k, texts);
+    if table[12 * k] == 1 {
+        measure_directory(table, count, k, next_texts)
+    } else {
+        next_texts
+    }
+}
+
+// The texts so far and those of all that is in directory k. Stops once the limit is passed.
+fn measure_directory(table: &[u8], count: usize, k: usize, texts: usize) -> usize
+    requires { ⌜ Valid (now table) count × (k < count) × (kind (now table) k ≡ 1) × (texts ≤ 1048577) ⌝ }
+    ensures { λ r. ⌜ r ≡ capped (textTo (now (table .entry)) count (k + 1) (sizeOrNext (now (table .entry)) k) texts) ⌝ }
+{
+    let stop = endian::read_u32(table, 12 * k + 8) as usize;
+    let mut sum = texts;
+    let mut c = k + 1;
+    while c < stop {
+        if TEXTS_LIMIT < sum {
+            return sum;
+        }
+        sum = measure_entry(table, count, c, sum);
+        c = after(table, c);
+    }
+    sum
+}
+
+// The size of what `write_table` writes, or that its texts pass the limit.
+pub fn measure(table: &[u8]) -> Measured
+    requires { ⌜ Valid (now table) (count (now table)) ⌝ }
+    ensures { λ r. ⌜ r ≡ measureOf (now (table .entry)) ⌝ }
+{
+    let count = endian::read_u32(table, 8) as usize;
+    let texts = measure_directory(table, count, 0, 0);
+    if TEXTS_LIMIT < texts {
+        Measured::PastLimit
+    } else {
+        Measured::Size(12 * count + texts)
+    }
+}
+
+// Sets the offset and the size of file k of a written table.
+pub fn set_place(table: &mut [u8], k: usize, offset: u32, size: u32)
+    requires { ⌜ 12 * k + 12 ≤ length (now table) ⌝ }
+    ensures { λ _. ⌜ now (table .exit) ≡ put (now (table .entry)) (12 * k + 4) (be32Bytes offset ++ be32Bytes size) ⌝ }
+{
+    endian::write_u32(table, 12 * k + 4, offset);
+    endian::write_u32(table, 12 * k + 8, size);
+}
