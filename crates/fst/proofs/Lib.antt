@@ -1,3 +1,5 @@
 pub mod Texts
 pub mod Walking
 pub mod Nodes
+pub mod ChildLaws
+pub mod PathLaws

@@ -13,9 +13,9 @@ use Rattle.refusal.specs.Laws.{refuse-passed, first-passed}
 use Rattle.tree.specs.Table.{Node, file, directory, nameOf, none, count, kind, nameOffset, offsetOrParent, sizeOrNext, nameAt, nodeAt, nodesOf, entriesVerdict, check, encloses, parentBelow, parentOf}
 use Rattle.tree.specs.Lookup.{isDirectory, nextOf, entryWith, entryOf}
 use Rattle.tree.specs.Accepted.{Accepted, accepted, length-nodesOf, getD-nodesOf}
-use Rattle.tree.specs.Nesting.{root-is, parent-here, parent-lower}
-use Rattle.fst.specs.Reading.{Inside, Opens}
-use Rattle.fst.proofs.Walking.{node-file, node-directory, entries-inside, count-some}
+use Rattle.tree.specs.Nesting.{root-is, parent-here, parent-lower, parent-before}
+use Rattle.fst.specs.Reading.{Inside, Opens, textAt}
+use Rattle.fst.proofs.Walking.{node-file, node-directory, node-name, entries-inside, count-some}
 
 pub opened : (tab : List ℕ) → AllBytes tab → (o : Opens tab) → Accepted tab (o .words)
 opened tab bytes o = accepted tab (o .words) bytes (o .passed)
@@ -81,3 +81,13 @@ parent-whole nodes k = refl
 pub parent-none : (nodes : List Node) (k i : ℕ) → i ≡ 0 → parentBelow nodes k i ≡ 0
 unfolding parentBelow
 parent-none nodes k i e = rw e
+
+pub parent-at-most : (nodes : List Node) (k : ℕ) → parentOf nodes k ≤ k
+unfolding parentOf parentBelow
+parent-at-most nodes zero = omega arith
+parent-at-most nodes (suc k) = omega (arith, parent-before nodes (suc k) (omega arith))
+
+-- the name of an entry past the root
+pub name-is : (tab : List ℕ) (k : ℕ) → 0 < k → k < count tab → nameOf (getD (nodesOf tab) k none) ≡ textAt tab (12 * count tab + nameOffset tab k)
+unfolding nameAt
+name-is tab k h l = ap nameOf (getD-nodesOf tab k h l) ∙ node-name tab (count tab) k

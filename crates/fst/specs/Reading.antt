@@ -1,7 +1,7 @@
 -- What the functions that read a table compute on the way to the definitions of the file table. Assumes nothing: these are definitions.
 use Prim.Native.Nat.{ℕ, zero, suc, _+_, _-_, _*_, _<_, _≤_}
 use mathlib.Core.Path.{_≡_}
-use mathlib.Core.Bool.{Bool, true, false}
+use mathlib.Core.Bool.{Bool, true, false, cond}
 use mathlib.Core.List.{List, [], _∷_}
 use lib.ListN.{length, getD, drop}
 use lib.Dec.{leb, ltb}
@@ -9,7 +9,8 @@ use Rattle.refusal.specs.declared.Verdict.{Verdict}
 use Rattle.refusal.specs.declared.Verdict.the-variants.{Passed}
 use Rattle.refusal.specs.declared.Refusal.the-variants.{MissingNullTerminator, LimitOrMemory, InvalidNextIndex}
 use Rattle.refusal.specs.Refusal.{refuse, first}
-use Rattle.tree.specs.Table.{plainByte, safeByte, upTo0, nameOffset, sizeOrNext, nameAt, nodeAt, nodesFrom, unended, nameVerdict, nextVerdict, walk, check}
+use Rattle.tree.specs.Table.{Node, none, plainByte, safeByte, upTo0, nameOffset, sizeOrNext, nameAt, nodeAt, nodesFrom, unended, nameVerdict, nextVerdict, walk, check}
+use Rattle.tree.specs.Lookup.{isDirectory, nextOf}
 
 -- the text that starts at byte `at` of a table
 abbrev pub textAt : List ℕ → ℕ → List ℕ
@@ -48,3 +49,7 @@ textsVerdict tab c words =
 -- the walk's tests of entry k, where the directories `dirs` are open
 abbrev pub nodeVerdict : List ℕ → ℕ → List ℕ → ℕ → Verdict
 nodeVerdict tab c dirs k = first (nameVerdict tab c k (nameAt tab c (nameOffset tab k))) (nextVerdict c dirs k (nodeAt tab c k))
+
+-- the entry after k and all that is in it
+abbrev pub afterOf : List Node → ℕ → ℕ
+afterOf nodes k = cond (isDirectory (getD nodes k none)) (nextOf (getD nodes k none)) (k + 1)

@@ -1,6 +1,8 @@
 // The texts of a table: bytes up to a zero byte, or up to the table's end (string_table.rs).
 ghost use mathlib.Core.Path.{_≡_};
+ghost use Prim.Native.Nat.{_≤_};
 ghost use lib.ListN.{length, getD};
+ghost use Rattle.endian.specs.Bytes.{sameBytes};
 ghost use Rattle.tree.specs.Table.{every, plainByte, safeByte, dots, safe};
 ghost use Rattle.fst.specs.Reading.{textAt, byteTest};
 
@@ -84,4 +86,23 @@ pub fn is_safe_name(table: &[u8], at: usize) -> bool
         return false;
     }
     every_byte(table, at, true)
+}
+
+// Whether the text at `at` has the bytes of `name`.
+pub fn text_is(table: &[u8], at: usize, name: &[u8]) -> bool
+    requires { ⌜ at ≤ length (now table) ⌝ }
+    ensures { λ r. ⌜ r ≡ sameBytes (textAt (now (table .entry)) at) (now (name .entry)) ⌝ }
+{
+    let mut i = 0;
+    while i < name.len() {
+        let b = byte_at(table, at + i);
+        if b == 0 {
+            return false;
+        }
+        if b != name[i] {
+            return false;
+        }
+        i += 1;
+    }
+    byte_at(table, at + i) == 0
 }

@@ -1,0 +1,63 @@
+-- `fst::path::component_end` meets its contract. The invariant of its loop: the bytes passed stand before the first component of the rest.
+-- Assumes nothing.
+use native.Mathlib.Omega.{arith}
+use Prim.Native.Nat.{_-_, _≤_}
+use mathlib.Core.Path.{_≡_, sym, _∙_}
+use lib.ListN.{length, drop}
+use Rattle.endian.specs.Bytes.{span}
+use Rattle.tree.specs.Lookup.{components}
+use Rattle.fst.proofs.PathLaws.{prepend, cut-start, cut-turn, cut-here, cut-end}
+use borrow.Author.Needs.{needs}
+use Rattle.fst.proofs.path.component_end.Statement.{statement}
+use Rattle.fst.proofs.path.component_end.Tie as tie
+
+abbrev Inv-loop : tie.InvT-loop
+Inv-loop path at end₀ end = (at ≤ end) × (end ≤ length path) × (components (drop at path) ≡ prepend (span path at (end - at)) (components (drop end path)))
+
+abbrev μ-loop : tie.MeasureT-loop
+μ-loop path at end₀ end = length path - end
+
+loop-holds : tie.Need-loop-holds Inv-loop μ-loop
+loop-holds c = (omega arith, omega arith, cut-start (c .before .args .path .now) (c .before .args .at))
+
+shared-slice-read-is-separator : tie.Need-shared-slice-read-is-separator Inv-loop μ-loop
+shared-slice-read-is-separator c = omega arith
+
+is-separator-requires : tie.Need-is-separator-requires Inv-loop μ-loop
+is-separator-requires c κs = search needs
+
+returns : tie.Need-returns Inv-loop μ-loop
+returns c =
+    let l = c .before .before .before .before .loop in
+    (omega arith, omega arith, l .inv .2 ∙ cut-here (c .before .before .before .before .before .before .args .path .now) (c .before .before .before .before .before .before .args .at) (l .end) (c .before .before .before .loop-test .taken) (sym (c .before .is-separator .ensures) ∙ c .if1 .taken))
+
+add-end : tie.Need-add-end Inv-loop μ-loop
+add-end c = omega arith
+
+loop-less : tie.Need-loop-less Inv-loop μ-loop
+loop-less c = omega arith
+
+loop-again : tie.Need-loop-again Inv-loop μ-loop
+loop-again c =
+    let l = c .before .before .before .before .loop in
+    (omega arith, omega arith, l .inv .2 ∙ cut-turn (c .before .before .before .before .before .before .args .path .now) (c .before .before .before .before .before .before .args .at) (l .end) (omega arith) (c .before .before .before .loop-test .taken) (sym (c .before .is-separator .ensures) ∙ c .if1 .left))
+
+returns-2 : tie.Need-returns-2 Inv-loop μ-loop
+returns-2 c =
+    let l = c .before .loop in
+    (omega arith, omega arith, l .inv .2 ∙ cut-end (c .before .before .before .args .path .now) (c .before .before .before .args .at) (l .end) (c .loop-test .left))
+
+pub component-end-spec : {M : Type 1} → statement M
+component-end-spec =
+    tie.close
+    (tie.spec
+    Inv-loop
+    μ-loop
+    loop-holds
+    shared-slice-read-is-separator
+    is-separator-requires
+    returns
+    add-end
+    loop-less
+    loop-again
+    returns-2)

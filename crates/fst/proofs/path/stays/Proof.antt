@@ -1,0 +1,22 @@
+-- `fst::path::stays` meets its contract: by the length.
+-- Assumes nothing.
+use mathlib.Core.Path.{sym}
+use Rattle.fst.proofs.PathLaws.{stays-none, stays-one, stays-more}
+use borrow.Author.Needs.{needs}
+use Rattle.fst.proofs.path.stays.Statement.{statement}
+use Rattle.fst.proofs.path.stays.Tie as tie
+
+returns : tie.Need-returns
+returns c = sym (stays-none (c .before .args .name .now) (c .if1 .taken))
+
+returns-2 : tie.Need-returns-2
+returns-2 c = sym (stays-more (c .before .before .args .name .now) (c .before .if1 .left) (c .if2 .taken))
+
+shared-slice-read-result : tie.Need-shared-slice-read-result
+shared-slice-read-result c = search needs
+
+returns-3 : tie.Need-returns-3
+returns-3 c = sym (stays-one (c .before .before .before .args .name .now) (c .before .if2 .left))
+
+pub stays-spec : {M : Type 1} → statement M
+stays-spec = tie.close (tie.spec returns returns-2 shared-slice-read-result returns-3)

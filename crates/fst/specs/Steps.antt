@@ -1,0 +1,40 @@
+-- Lookup without a list of the entries left behind: `..` goes to the directory that the entry is nested in, as often as named steps were
+-- taken. Assumes nothing: these are definitions.
+use Prim.Native.Nat.{ℕ, zero, suc, _+_, _-_}
+use mathlib.Core.Bool.{Bool, true, false, cond}
+use mathlib.Core.List.{List, [], _∷_}
+use lib.ListN.{length, getD, drop}
+use lib.Dec.{ltb}
+use Rattle.refusal.specs.declared.Refusal.the-variants.{ExpectedDirectory, NotFound}
+use Rattle.tree.specs.declared.Located.{Located}
+use Rattle.tree.specs.declared.Located.the-variants as located
+use Rattle.tree.specs.Table.{Node, none, parentOf}
+use Rattle.tree.specs.Lookup.{isDirectory, components, childOf, stays, goesBack}
+use Rattle.fst.specs.declared.path.Step.{Step}
+use Rattle.fst.specs.declared.path.Step.the-variants.{To, Refused}
+
+-- the components of a path behind the one that ends at e
+abbrev pub componentsAfter : List ℕ → ℕ → List (List ℕ)
+componentsAfter path e = cond (ltb e (length path)) (components (drop (e + 1) path)) []
+
+-- back over the last of n named steps
+abbrev pub backOf : List Node → ℕ → ℕ → Step
+backOf nodes k zero = Refused NotFound
+backOf nodes k (suc n) = To (parentOf nodes k) n
+
+-- one named step more
+abbrev pub stepTo : ℕ → Located → Step
+stepTo n (located.At j) = To j (n + 1)
+stepTo n (located.Refused c) = Refused c
+
+abbrev pub intoOf : List Node → ℕ → ℕ → List ℕ → Step
+intoOf nodes k n nm = stepTo n (childOf nodes k nm)
+
+-- from entry k, n named steps from the start, along the component nm
+abbrev pub stepOf : List Node → ℕ → ℕ → List ℕ → Step
+stepOf nodes k n nm =
+    cond (isDirectory (getD nodes k none))
+    (cond (stays nm) (To k n)
+    (cond (goesBack nm) (backOf nodes k n)
+    (intoOf nodes k n nm)))
+    (Refused ExpectedDirectory)

@@ -1,0 +1,160 @@
+// An entry by its path (`at_descendant`).
+ghost use mathlib.Core.Path.{_≡_};
+ghost use mathlib.Core.List.{[], _∷_};
+ghost use Prim.Native.Nat.{_-_, _≤_, _<_, _^_};
+ghost use lib.ListN.{length, drop};
+ghost use Rattle.endian.specs.Bytes.{span};
+ghost use Rattle.tree.specs.Table as table_of;
+ghost use Rattle.tree.specs.Table.{nodesOf};
+ghost use Rattle.tree.specs.Lookup as lookup_of;
+ghost use Rattle.tree.specs.Lookup.{separator, components, goesBack, foundAt};
+ghost use Rattle.fst.specs.Reading.{Opens};
+ghost use Rattle.fst.specs.Steps.{componentsAfter, stepOf, backOf, intoOf};
+
+use crate::children;
+use crate::entries;
+use crate::opening;
+use refusal::Refusal;
+use tree::Found;
+use tree::Located;
+
+// Where a component of a path leads: an entry, and how many named steps it is from the start.
+pub enum Step {
+    To(usize, usize),
+    Refused(Refusal),
+}
+
+fn is_separator(b: u8) -> bool
+    ensures { λ r. ⌜ r ≡ separator b ⌝ }
+{
+    if b == b'/' {
+        return true;
+    }
+    b == b'\\'
+}
+
+// The end of the component that starts at `at`: the next separator, or the path's end.
+fn component_end(path: &[u8], at: usize) -> usize
+    requires { ⌜ at ≤ length (now path) ⌝ }
+    ensures { λ r. ⌜ (at ≤ r) × (r ≤ length (now (path .entry))) × (components (drop at (now (path .entry))) ≡ span (now (path .entry)) at (r - at) ∷ componentsAfter (now (path .entry)) r) ⌝ }
+{
+    let mut end = at;
+    while end < path.len() {
+        if is_separator(path[end]) {
+            return end;
+        }
+        end += 1;
+    }
+    end
+}
+
+// Empty and `.` stay.
+fn stays(name: &[u8]) -> bool
+    ensures { λ r. ⌜ r ≡ lookup_of.stays (now (name .entry)) ⌝ }
+{
+    if name.len() == 0 {
+        return true;
+    }
+    if name.len() != 1 {
+        return false;
+    }
+    name[0] == b'.'
+}
+
+fn goes_back(name: &[u8]) -> bool
+    ensures { λ r. ⌜ r ≡ goesBack (now (name .entry)) ⌝ }
+{
+    if name.len() != 2 {
+        return false;
+    }
+    if name[0] != b'.' {
+        return false;
+    }
+    name[1] == b'.'
+}
+
+// Back over the last named step: to the directory that k is nested in.
+fn back(table: &[u8], k: usize, steps: usize) -> Step
+    requires { ⌜ Opens (now table) × (k < table_of.count (now table)) ⌝ }
+    ensures { λ r. ⌜ r ≡ backOf (nodesOf (now (table .entry))) k steps ⌝ }
+{
+    if steps == 0 {
+        return Step::Refused(Refusal::NotFound);
+    }
+    Step::To(entries::parent(table, k), steps - 1)
+}
+
+// To the first child with that name.
+fn into(table: &[u8], k: usize, steps: usize, name: &[u8]) -> Step
+    requires { ⌜ Opens (now table) × (k < table_of.count (now table)) × (steps < 2 ^ 63) ⌝ }
+    ensures { λ r. ⌜ r ≡ intoOf (nodesOf (now (table .entry))) k steps (now (name .entry)) ⌝ }
+{
+    match children::child(table, k, name) {
+        Located::At(j) => Step::To(j as usize, steps + 1),
+        Located::Refused(cause) => Step::Refused(cause),
+    }
+}
+
+fn take_step(table: &[u8], k: usize, steps: usize, name: &[u8]) -> Step
+    requires { ⌜ Opens (now table) × (k < table_of.count (now table)) × (steps < 2 ^ 63) ⌝ }
+    ensures { λ r. ⌜ r ≡ stepOf (nodesOf (now (table .entry))) k steps (now (name .entry)) ⌝ }
+{
+    if !entries::is_directory(table, k) {
+        return Step::Refused(Refusal::ExpectedDirectory);
+    }
+    if stays(name) {
+        return Step::To(k, steps);
+    }
+    if goes_back(name) {
+        return back(table, k, steps);
+    }
+    into(table, k, steps, name)
+}
+
+fn follow(table: &[u8], start: usize, path: &[u8]) -> Located
+    requires { ⌜ Opens (now table) × (start < table_of.count (now table)) × (length (now path) < 2 ^ 63) ⌝ }
+    ensures { λ r. ⌜ r ≡ lookup_of.follow (nodesOf (now (table .entry))) [] start (components (now (path .entry))) ⌝ }
+{
+    let mut k = start;
+    let mut steps = 0;
+    let mut at = 0;
+    loop {
+        let end = component_end(path, at);
+        match take_step(table, k, steps, &path[at..end]) {
+            Step::To(j, n) => {
+                k = j;
+                steps = n;
+            }
+            Step::Refused(cause) => {
+                return Located::Refused(cause);
+            }
+        }
+        if path.len() <= end {
+            return Located::At(k as u32);
+        }
+        at = end + 1;
+    }
+}
+
+// The entry that a path leads to from the entry `start`: 15, then along the path 17 and 18.
+pub fn lookup(table: &[u8], start: u32, path: &[u8]) -> Located
+    requires { ⌜ Opens (now table) × (length (now path) < 2 ^ 63) ⌝ }
+    ensures { λ r. ⌜ r ≡ lookup_of.lookup (nodesOf (now (table .entry))) start (now (path .entry)) ⌝ }
+{
+    let place = start as usize;
+    if opening::count(table) <= place {
+        return Located::Refused(Refusal::NoSuchEntry);
+    }
+    follow(table, place, path)
+}
+
+// The same, with the entry.
+pub fn find(table: &[u8], start: u32, path: &[u8]) -> Found
+    requires { ⌜ Opens (now table) × (length (now path) < 2 ^ 63) ⌝ }
+    ensures { λ r. ⌜ r ≡ foundAt (nodesOf (now (table .entry))) (lookup_of.lookup (nodesOf (now (table .entry))) start (now (path .entry))) ⌝ }
+{
+    match lookup(table, start, path) {
+        Located::At(k) => entries::entry(table, k),
+        Located::Refused(cause) => Found::Refused(cause),
+    }
+}
