@@ -13,7 +13,7 @@ use Rattle.endian.specs.Bytes.{be32, AllBytes}
 use Rattle.endian.specs.Laws.{be32-small}
 use Rattle.refusal.specs.declared.Verdict.{Verdict}
 use Rattle.refusal.specs.declared.Verdict.the-variants.{Passed}
-use Rattle.refusal.specs.declared.Refusal.the-variants.{EntryPastTable, UnrecognizedKind, RootIsNotDirectory, MissingNullTerminator, LimitOrMemory, InvalidNextIndex, InvalidNameOffset, InvalidNameByte, UnsafeName}
+use Rattle.refusal.specs.declared.Refusal.the-variants.{EntryPastTable, UnrecognizedKind, RootIsNotDirectory, MissingNullTerminator, LimitOrMemory, InvalidNextIndex}
 use Rattle.refusal.specs.Laws.{refuse-passed, first-passed}
 use Rattle.tree.specs.Table.{Node, file, directory, nameOf, none, plain, safe, kind, nameOffset, offsetOrParent, sizeOrNext, count, nameAt, nodeWith, nodeAt, nodesFrom, nodesOf, entryVerdict, entriesVerdict, unended, top, shut, enter, nameVerdict, nextVerdict, walk, check, GoodName, GoodEntry, Sound, WellFormed, shallowEntry, shallowFrom, shallow}
 use Rattle.tree.specs.Texts.{and-both, name-ends}
@@ -22,11 +22,14 @@ use Rattle.tree.specs.Texts.{and-both, name-ends}
 
 name-passed : (tab : List ℕ) (c k : ℕ) (nm : List ℕ) → nameVerdict tab c k nm ≡ Passed → (nameOffset tab k < length tab - 12 * c) × GoodName nm
 unfolding nameVerdict
-name-passed tab c k nm e =
-    let e₁ = refuse-passed (leb (length tab - 12 * c) (nameOffset tab k)) InvalidNameOffset _ e in
-    let e₂ = refuse-passed (not (plain nm)) InvalidNameByte _ (e₁ .1) in
-    let e₃ = refuse-passed (not (safe nm)) UnsafeName _ (e₂ .1) in
-    (leb-false _ _ (e₁ .0), (not-false (plain nm) (e₂ .0), not-false (safe nm) (e₃ .0)))
+name-passed tab c k nm e = go (leb (length tab - 12 * c) (nameOffset tab k)) refl (plain nm) refl (safe nm) refl
+  where
+    go : (a : Bool) → leb (length tab - 12 * c) (nameOffset tab k) ≡ a → (p : Bool) → plain nm ≡ p → (s : Bool) → safe nm ≡ s → (nameOffset tab k < length tab - 12 * c) × GoodName nm
+    go true a≡ p p≡ s s≡ = let e′ = simp a≡ at e in let z : _≡_ {A = ℕ} 0 1 = cc in absurd (omega arith)
+    go false a≡ true p≡ true s≡ = (leb-false _ _ a≡, (p≡, s≡))
+    go false a≡ true p≡ false s≡ = let e′ = simp (a≡, p≡, s≡) at e in let z : _≡_ {A = ℕ} 0 1 = cc in absurd (omega arith)
+    go false a≡ false p≡ true s≡ = let e′ = simp (a≡, p≡, s≡) at e in let z : _≡_ {A = ℕ} 0 1 = cc in absurd (omega arith)
+    go false a≡ false p≡ false s≡ = let e′ = simp (a≡, p≡, s≡) at e in let z : _≡_ {A = ℕ} 0 1 = cc in absurd (omega arith)
 
 next-passed : (c k : ℕ) (dirs : List ℕ) (kd : ℕ) (nm : List ℕ) (a b : ℕ) → a < 2 ^ 32 → b < 2 ^ 32 →
     nextVerdict c dirs k (nodeWith kd nm a b) ≡ Passed → GoodEntry c dirs k (nodeWith kd nm a b)

@@ -13,7 +13,7 @@ use Rattle.tree.specs.Table.{Node, file, directory, nameOf, none, top, s
 use Rattle.tree.specs.Lookup.{isDirectory, nextOf}
 use Rattle.tree.specs.Insert.{bump, earlier, later, splice, insertAt, shifted}
 use Rattle.tree.specs.Steps.{shut-open, shut-pop}
-use Rattle.tree.specs.Nesting.{openAt, sound-at, openDirs, stack-is, Inside, parent-step, parent-lower, below-lt, parent-is, next-bounds, nests}
+use Rattle.tree.specs.Nesting.{openAt, sound-at, openDirs, stack-is, Inside, parent-step, parent-lower, below-lt, parent-is, next-bounds, nests, ended}
 
 -- what can be put in as entry q
 abbrev pub Fresh : ℕ → Node → Type 0
@@ -418,10 +418,6 @@ up-after p j k (directory nm n) h l = rw (le-leb j p h) (go (ltb p n) refl)
 between-same : (p j k : ℕ) (x : Node) → p < j → encloses (earlier p j x) k ≡ encloses x k
 between-same p j k (file nm offset size) h = refl
 between-same p j k (directory nm n) h = rw (lt-leb j p h)
-
-ended : (k : ℕ) (x : Node) → nextOf x ≤ k → encloses x k ≡ false
-ended k (file nm offset size) h = refl
-ended k (directory nm n) h = le-ltb k n h
 
 later-same : (k : ℕ) (x : Node) → encloses (later x) (suc k) ≡ encloses x k
 later-same k (file nm offset size) = refl

@@ -1,11 +1,13 @@
 pub mod Table
 pub mod Lookup
 pub mod Texts
+pub mod Order
 pub mod Accepted
 pub mod Steps
 pub mod RoundTrip
 pub mod WrittenBytes
 pub mod Nesting
+pub mod LookupLaws
 pub mod Insert
 pub mod InsertLaws
 pub mod PlaceLaws
@@ -13,3 +15,5 @@ pub mod Records
 pub mod Writing
 pub mod Patch
 pub mod PatchLaws
+pub mod Depth
+pub mod Vectors

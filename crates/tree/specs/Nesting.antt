@@ -7,7 +7,7 @@ use mathlib.Core.List.{List, [], _∷_, tail, head-eq-of-cons-eq, nil≢cons}
 use native.Mathlib.Omega.{arith}
 use native.Mathlib.Nat.{add-zero}
 use native.Mathlib.Numerals.{one-add}
-use borrow.Author.Tests.{ltb-true, ltb-false, leb-false, lt-ltb, le-ltb, le-leb, lt-leb}
+use borrow.Author.Tests.{ltb-true, ltb-false, leb-true, leb-false, lt-ltb, le-ltb, le-leb, lt-leb}
 use lib.ListN.{length, getD}
 use lib.Dec.{leb, ltb}
 use Rattle.tree.specs.Table.{Node, file, directory, nameOf, none, top, shut, enter, encloses, parentBelow, parentOf, GoodName, GoodEntry, Sound, WellFormed}
@@ -150,9 +150,18 @@ parent-next nodes k (suc i) n dirs e = go (encloses (getD nodes i none) k) (pare
 
 -- ---- the parent
 
+pub ended : (k : ℕ) (x : Node) → nextOf x ≤ k → encloses x k ≡ false
+ended k (file nm offset size) h = refl
+ended k (directory nm n) h = le-ltb k n h
+
 -- entry k is among the entries of directory d
 abbrev pub Inside : List Node → ℕ → ℕ → Type 0
 Inside nodes d k = (d < k) × (encloses (getD nodes d none) k ≡ true)
+
+-- the root's own is 0
+pub parent-root : (nodes : List Node) → parentOf nodes 0 ≡ 0
+unfolding parentOf parentBelow
+parent-root nodes = refl
 
 -- one step of a search downwards
 pub parent-step : (nodes : List Node) (k i : ℕ) → parentBelow nodes k (suc i) ≡ cond (encloses (getD nodes i none) k) i (parentBelow nodes k i)
@@ -199,6 +208,36 @@ below-last nodes k d (suc i) h e f = go (ltb d i) refl (λ q. below-last nodes k
 pub parent-is : (nodes : List Node) (k d : ℕ) → Inside nodes d k → ((j : ℕ) → d < j → j < k → encloses (getD nodes j none) k ≡ false) → parentOf nodes k ≡ d
 unfolding parentOf
 parent-is nodes k d h f = below-last nodes k d k (h .0) (h .1) f
+
+-- no directory between its parent and an entry encloses it
+below-clear : (nodes : List Node) (k i j : ℕ) → parentBelow nodes k i < j → j < i → encloses (getD nodes j none) k ≡ false
+below-clear nodes k zero j h l = absurd (omega arith)
+below-clear nodes k (suc i) j h l = go (encloses (getD nodes i none) k) refl (below-clear nodes k i j)
+  where
+    go : (t : Bool) → encloses (getD nodes i none) k ≡ t → (parentBelow nodes k i < j → j < i → encloses (getD nodes j none) k ≡ false) → encloses (getD nodes j none) k ≡ false
+    go true e ih = absurd (omega (arith, parent-here nodes k i e))
+    go false e ih = last (ltb j i) refl
+      where
+        last : (u : Bool) → ltb j i ≡ u → encloses (getD nodes j none) k ≡ false
+        last true q = ih (omega (arith, parent-lower nodes k i e)) (ltb-true j i q)
+        last false q =
+            let j≡ : j ≡ i = omega (arith, ltb-false j i q) in
+            rw j≡ e
+
+pub parent-clear : (nodes : List Node) (k j : ℕ) → parentOf nodes k < j → j < k → encloses (getD nodes j none) k ≡ false
+unfolding parentOf
+parent-clear nodes k j h l = below-clear nodes k k j h l
+
+-- so the parent is at or behind each directory around the entry
+pub parent-at-least : (nodes : List Node) (d k : ℕ) → Inside nodes d k → d ≤ parentOf nodes k
+parent-at-least nodes d k h = go (leb d (parentOf nodes k)) refl
+  where
+    go : (t : Bool) → leb d (parentOf nodes k) ≡ t → d ≤ parentOf nodes k
+    go true e = leb-true d (parentOf nodes k) e
+    go false e =
+        let z : true ≡ false = sym (h .1) ∙ parent-clear nodes k d (leb-false d (parentOf nodes k) e) (h .0) in
+        let n : _≡_ {A = ℕ} 0 1 = cc in
+        absurd (omega arith)
 
 -- one that encloses the entry is found, if the root does
 below-encloses : (nodes : List Node) (k i : ℕ) → 0 < i → encloses (getD nodes 0 none) k ≡ true → encloses (getD nodes (parentBelow nodes k i) none) k ≡ true

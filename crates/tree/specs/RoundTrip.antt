@@ -28,7 +28,8 @@ pub length-entriesBytes : (nodes : List Node) (k o : ℕ) (xs : List Node) → l
 unfolding entriesBytes
 length-entriesBytes nodes k o [] = refl
 length-entriesBytes nodes k o (x ∷ xs) =
-    omega (arith, length-append (nodeBytes (parentOf nodes k) o x) (entriesBytes nodes (suc k) (o + suc (length (nameOf x))) xs), length-nodeBytes (parentOf nodes k) o x, length-entriesBytes nodes (suc k) (o + suc (length (nameOf x))) xs)
+    let ih : (o′ : ℕ) → length (entriesBytes nodes (suc k) o′ xs) ≡ 12 * length xs = λ o′. length-entriesBytes nodes (suc k) o′ xs in
+    simp (length-append, length-nodeBytes, ih) (omega arith)
 
 pub length-encode : (nodes : List Node) → length (encode nodes) ≡ 12 * length nodes + length (textsOf (tail nodes))
 unfolding encode textsOf
