@@ -1,6 +1,6 @@
 -- A layout that passes 14 still does after an edit: one file has another place, and the table another end.
 -- Assumes nothing.
-use Prim.Native.Nat.{ℕ, zero, suc, _+_, _<_, _≤_}
+use Prim.Native.Nat.{ℕ, zero, suc, _+_, _-_, _<_, _≤_}
 use mathlib.Core.Path.{_≡_, refl, sym, _∙_}
 use mathlib.Core.Logic.{_⊎_, inl, inr, ⊎-elim}
 use mathlib.Core.Bool.{Bool, true, false, not, _&&_, false≢true}
@@ -18,7 +18,7 @@ use Rattle.space.specs.Allocate.{noRegion}
 use Rattle.space.specs.Tests.{lt-or-le, and-left, and-right, and-both, or-cases, or-left, or-right, or-false, is-false, never-both}
 use Rattle.space.specs.UsedLaws.{inside-in, nonempty-empty, nonempty-append, liesWithin, filesWithin, disjoint-below-used, used-is}
 use Rattle.space.specs.LayoutLaws.{inside-from, inside-to, inside-disjoint, from-all-free, free-from-all}
-use Rattle.space.specs.GrowthLaws.{LargestSize, table-largest}
+use Rattle.space.specs.GrowthLaws.{LargestSize, max-size-largest, table-largest}
 
 -- ---- what 14 says, taken apart and put together
 
@@ -73,6 +73,14 @@ table-within-again t t′ e (x ∷ fs) w h =
 -- LAW: the table may end anywhere on the disc where it takes no byte of a file
 pub table-resized : (t t′ e : ℕ) (fs : List DiscRegion) → Passes t e fs → t′ ≤ e → ((i : ℕ) → t ≤ i → i < t′ → usedIn fs i ≡ false) → Passes t′ e fs
 table-resized t t′ e fs p b h = record { table = b; within = table-within-again t t′ e fs (p .within) h; pairwise = p .pairwise }
+
+-- a byte of a free region is not used
+pub free-not-used : (t : ℕ) (fs : List DiscRegion) (i : ℕ) → freeIn (usedRegions t fs) i ≡ true → used t fs i ≡ false
+free-not-used t fs i h = sym (used-is t fs i) ∙ go (usedIn (usedRegions t fs) i) h
+  where
+    go : (a : Bool) → not a ≡ true → a ≡ false
+    go true w = absurd (false≢true w)
+    go false w = refl
 
 -- ---- one file has another place
 
@@ -133,6 +141,12 @@ behind-table t e (x ∷ fs) zero i w h =
     omega (arith, inside-from x i h, inside-to x i h, lies t e x (and-left (liesWithin t e x) (filesWithin t e fs) w) (omega (arith, inside-from x i h, inside-to x i h)) .0)
 behind-table t e (x ∷ fs) (suc k) i w h = behind-table t e fs k i (and-right (liesWithin t e x) (filesWithin t e fs) w) h
 
+own-below : (t e : ℕ) (fs : List DiscRegion) (k : ℕ) → filesWithin t e fs ≡ true → 0 < getD fs k noRegion .size → endOf (getD fs k noRegion) ≤ e
+unfolding filesWithin
+own-below t e [] k w z = absurd (omega arith)
+own-below t e (x ∷ fs) zero w z = lies t e x (and-left (liesWithin t e x) (filesWithin t e fs) w) z .1
+own-below t e (x ∷ fs) (suc k) w z = own-below t e fs k (and-right (liesWithin t e x) (filesWithin t e fs) w) z
+
 -- LAW: a file may have any place on the disc whose bytes are free or were its own, and an empty file any
 pub file-replaced : (t e : ℕ) (fs : List DiscRegion) (k : ℕ) (f : DiscRegion) → Passes t e fs → (0 < f .size → endOf f ≤ e) → Replaces t fs k f → Passes t e (set fs k f)
 file-replaced t e fs k f p b h = record {
@@ -152,6 +166,34 @@ used-set [] k f i u v = u
 used-set (x ∷ fs) zero f i u v = rw (v, or-false (inside x i) (usedIn fs i) u .1)
 used-set (x ∷ fs) (suc k) f i u v = rw (or-false (inside x i) (usedIn fs i) u .0) (used-set fs k f i (or-false (inside x i) (usedIn fs i) u .1) v)
 
+-- LAW: the places that an edit gives a file: one that is free, one that has no bytes, and the present start with any size up to its largest
+pub replaces-free : (t : ℕ) (fs : List DiscRegion) (k : ℕ) (f : DiscRegion) → ((j : ℕ) → j < f .size → freeIn (usedRegions t fs) (f .offset + j) ≡ true) → Replaces t fs k f
+replaces-free t fs k f h i u =
+    let a = inside-from f i u in
+    let b = inside-to f i u in
+    let q : f .offset + (i - f .offset) ≡ i = omega arith in
+    inl (free-not-used t fs i (rw q at (h (i - f .offset) (omega arith))))
+
+pub replaces-empty : (t : ℕ) (fs : List DiscRegion) (k : ℕ) (f : DiscRegion) → f .size ≡ 0 → Replaces t fs k f
+replaces-empty t fs k f z i u = absurd (omega (arith, inside-from f i u, inside-to f i u))
+
+module _ (t e : ℕ) (fs : List DiscRegion) (k : ℕ) (f : DiscRegion) (p : Passes t e fs) (same : f .offset ≡ getD fs k noRegion .offset)
+    (fits : f .size ≤ maxRegionSize (getD fs k noRegion .offset) (getD fs k noRegion .size) (freeRegions e (usedRegions t fs))) where
+  abbrev own : DiscRegion
+  own = getD fs k noRegion
+
+  largest-own : LargestSize (freeIn (usedRegions t fs)) e (own .offset) (own .size) (maxRegionSize (own .offset) (own .size) (freeRegions e (usedRegions t fs)))
+  largest-own = max-size-largest e (usedRegions t fs) (own .offset) (own .size) (λ j u v. used-is t fs j ∙ or-right (ltb j t) (usedIn fs j) (own-used fs k j (inside-in own j u v)))
+
+  pub replaces-resized : Replaces t fs k f
+  replaces-resized i u =
+      let a = inside-from f i u in
+      let b = inside-to f i u in
+      ⊎-elim (λ l. inr (inside-in own i (omega (arith, same)) l)) (λ l. inl (free-not-used t fs i (largest-own .pass i l (omega (arith, same, fits))))) (lt-or-le i (endOf own))
+
+  pub resized-below : 0 < f .size → endOf f ≤ e
+  resized-below z = ⊎-elim (λ l. omega (arith, same, fits, largest-own .below, own-below t e fs k (p .within) l)) (λ l. omega (arith, same, fits, largest-own .below)) (lt-or-le 0 (own .size))
+
 -- LAW of an edit: file k has the place f, and the table of n bytes at o, which ended at t, ends at t′. 14 passes again, if the place is on the disc and
 -- its bytes were free or the file's own, the new table fits the table's own `max_region_size` as it was, and it ends at or before a new place that is not empty
 pub edited-passes : (e t t′ o n : ℕ) (fs : List DiscRegion) (k : ℕ) (f : DiscRegion) → 0 < t → o + n ≡ t → Passes t e fs → (0 < f .size → endOf f ≤ e) → Replaces t fs k f →
@@ -163,11 +205,7 @@ edited-passes e t t′ o n fs k f z q p b h l c =
     g = table-largest e t fs o n q
 
     free : (i : ℕ) → t ≤ i → i < t′ → usedIn fs i ≡ false
-    free i u v = or-false (ltb i t) (usedIn fs i) (sym (used-is t fs i) ∙ not-used (usedIn (usedRegions t fs) i) (g .pass i (omega arith) (omega arith))) .1
-      where
-        not-used : (a : Bool) → not a ≡ true → a ≡ false
-        not-used true w = absurd (false≢true w)
-        not-used false w = refl
+    free i u v = or-false (ltb i t) (usedIn fs i) (free-not-used t fs i (g .pass i (omega arith) (omega arith))) .1
 
     outside : (i : ℕ) → i < t′ → inside f i ≡ true → ⊥
     outside i v w = omega (arith, inside-from f i w, inside-to f i w, c (omega (arith, inside-from f i w, inside-to f i w)))

@@ -185,7 +185,7 @@ pub record LargestSize (p : ℕ → Bool) (e o n s : ℕ) : Type 0 where
   pub below : o + s ≤ max (o + n) e
   pub most : (s′ : ℕ) → o + s′ ≤ e → AllBetween p (o + n) (o + s′) → s′ ≤ s
 
--- LAW: of any place, what it grows over is free, and on the disc
+-- LAW: what any place grows over is free
 pub growth-free : (e : ℕ) (xs : List DiscRegion) (o n : ℕ) → AllBetween (freeIn xs) (o + n) (o + maxRegionSize o n (freeRegions e xs))
 growth-free e xs o n = growth-over (freeIn xs) o n 0 (freeRegions e xs) (λ j u v. absurd (omega arith)) (free-sound e xs)
 

@@ -11,7 +11,7 @@ use lib.Dec.{leb, eqb}
 use Rattle.space.specs.declared.DiscRegion.{DiscRegion}
 use Rattle.space.specs.Used.{endOf, inside, usedIn, used, nonempty, usedRegions, AllNonempty}
 use Rattle.space.specs.Layout.{disjoint, disjointFromAll, pairwiseDisjoint, endBy, disjointBelow}
-use Rattle.space.specs.Tests.{lt-or-le}
+use Rattle.space.specs.Tests.{lt-or-le, or-right, mix-and}
 
 pub inside-low : (r : DiscRegion) (i : ℕ) → i < r .offset → inside r i ≡ false
 inside-low r i h = rw (lt-leb (r .offset) i h)
@@ -43,13 +43,9 @@ nonempty-append (x ∷ xs) ys =
 
 -- ---- an empty region is disjoint from all
 
-or-true : (t : Bool) → (t || true) ≡ true
-or-true true = refl
-or-true false = refl
-
 disjoint-none : (a x : DiscRegion) → x .size ≡ 0 → disjoint a x ≡ true
 unfolding disjoint
-disjoint-none a x h = rw (eq-eqb (x .size) 0 h) (or-true (eqb (a .size) 0))
+disjoint-none a x h = rw (eq-eqb (x .size) 0 h) (or-right (eqb (a .size) 0) true refl)
 
 none-disjoint : (x a : DiscRegion) → x .size ≡ 0 → disjoint x a ≡ true
 unfolding disjoint
@@ -94,19 +90,13 @@ disjoint-table t x h k =
     go true = refl
     go false = refl
 
-mix : (p q r s : Bool) → ((p && q) && (r && s)) ≡ ((p && r) && (q && s))
-mix true true r s = refl
-mix true false true s = refl
-mix true false false s = refl
-mix false q r s = refl
-
 -- the files keep clear of the table and end by e, exactly if they lie within
 table-within : (t e : ℕ) (fs : List DiscRegion) → 0 < t → (disjointFromAll (record { offset = 0; size = t }) (nonempty fs) && endBy e (nonempty fs)) ≡ filesWithin t e fs
 unfolding disjointFromAll endBy filesWithin liesWithin
 table-within t e [] h = unfold nonempty in refl
 table-within t e (x ∷ fs) h =
     ⊎-elim (λ k. rw (nonempty-cons x fs k, disjoint-table t x h k, ne-eqb (x .size) 0 (λ q. omega arith), ← table-within t e fs h)
-    (mix (leb t (x .offset)) (disjointFromAll (record { offset = 0; size = t }) (nonempty fs)) (leb (endOf x) e) (endBy e (nonempty fs))))
+    (mix-and (leb t (x .offset)) (disjointFromAll (record { offset = 0; size = t }) (nonempty fs)) (leb (endOf x) e) (endBy e (nonempty fs))))
     (λ k. rw (nonempty-empty x fs (omega arith), table-within t e fs h, eq-eqb (x .size) 0 (omega arith))) (lt-or-le 0 (x .size))
 
 shuffle : (c p l q : Bool) → ((c && p) && (l && q)) ≡ (l && ((c && q) && p))
