@@ -18,7 +18,8 @@ use Rattle.space.specs.Free.{freeRegions}
 use Rattle.space.specs.Sort.{regionsIn}
 use Rattle.space.specs.Words.{Checked}
 use Rattle.space.specs.Layout.{regionsVerdict}
-use Rattle.disc.specs.Opening.{tableOf, nodesIn, regionOf, usedIn, usedOf, freeOf, opening}
+use Rattle.disc.specs.declared.Disc.{Disc}
+use Rattle.disc.specs.Opening.{tableOf, nodesIn, regionOf, usedIn, usedOf, freeOf, opening, discOf}
 use Rattle.disc.specs.Prepared.{tableVerdict, entryRegions, UsedWords}
 use Rattle.disc.specs.OpeningLaws.{Readable, readable, opening-split}
 use Rattle.disc.proofs.UsedRegions.{used-of-tree}
@@ -77,3 +78,8 @@ module _ (image w w′ : List ℕ) (words buf m e : ℕ) (v : Verdict) (before :
       total = k .total ∙ rw used (used-total image);
     },
   )
+
+-- the numbers that opening tells
+pub disc-is : (image : List ℕ) (a b e n u : ℕ) → a ≡ fstOffset image → b ≡ fstSize image → e ≡ discEnd image → n ≡ count (tableOf image) → u ≡ usedOf image
+    → _≡_ {A = Disc} (record { «fst_offset» = a; «fst_size» = b; «disc_end» = e; entries = n; used = u }) (discOf image)
+disc-is image a b e n u p q r s t = rw (p, q, r, s, t)

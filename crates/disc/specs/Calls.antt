@@ -6,16 +6,15 @@ use mathlib.Core.List.{List, [], _∷_, _++_, map}
 use lib.Dec.{ltb, leb}
 use lib.ListN.{length, getD, drop}
 use Rattle.refusal.specs.declared.Refusal.{Refusal}
-use Rattle.refusal.specs.declared.Refusal.the-variants.{LimitOrMemory, NoSuchEntry, ExpectedFile}
+use Rattle.refusal.specs.declared.Refusal.the-variants.{LimitOrMemory, ExpectedFile}
 use Rattle.refusal.specs.declared.Verdict.{Verdict}
 use Rattle.refusal.specs.declared.Verdict.the-variants as verdict
-use Rattle.refusal.specs.Refusal.{refuse}
+use Rattle.refusal.specs.Refusal.{refuse, first}
 use Rattle.header.specs.Verdicts.{dolOffset, discEnd}
-use Rattle.window.specs.declared.Window.{Window}
-use Rattle.dol.specs.declared.DolAnswer.{DolAnswer}
-use Rattle.dol.specs.Dol.{answerOf, refusedAnswer}
-use Rattle.tree.specs.Table.{Node, file, directory, none}
-use Rattle.tree.specs.Lookup.{isDirectory, lookup, foundAt, entryFound}
+use Rattle.window.specs.Window.{newWindow}
+use Rattle.dol.specs.Dol.{headerOf, fileSizeOf, verdictOf, newHeader}
+use Rattle.tree.specs.Lookup.{lookup, foundAt, entryFound}
+use Rattle.tree.specs.declared.Entry.the-variants.{File, Directory}
 use Rattle.tree.specs.declared.Found.{Found}
 use Rattle.tree.specs.declared.Found.the-variants as found
 use Rattle.space.specs.declared.DiscRegion.{DiscRegion}
@@ -26,14 +25,15 @@ use Rattle.space.specs.declared.Listing.the-variants as listing
 use Rattle.space.specs.Listing.{listingOf, listAfter}
 use Rattle.space.specs.MaxRegionSize.{maxRegionSize}
 use Rattle.space.specs.Allocate.{allocationOf}
-use Rattle.disc.specs.declared.Totals.{Totals}
+use Rattle.disc.specs.declared.DiscTotals.{DiscTotals}
 use Rattle.disc.specs.declared.TotalsAnswer.{TotalsAnswer}
 use Rattle.disc.specs.declared.TotalsAnswer.the-variants as totaled
 use Rattle.disc.specs.declared.SizeAnswer.{SizeAnswer}
 use Rattle.disc.specs.declared.SizeAnswer.the-variants as size
 use Rattle.disc.specs.declared.WindowAnswer.{WindowAnswer}
 use Rattle.disc.specs.declared.WindowAnswer.the-variants as window
-use Rattle.disc.specs.Opening.{opening, nodesIn, freeOf, usedOf, regionOf}
+use Rattle.disc.specs.declared.DolFile.{DolFile}
+use Rattle.disc.specs.Opening.{opening, nodesIn, freeOf, usedOf}
 
 -- an answer behind tests: the refusal that they give, or the answer
 abbrev pub behind : {A : Type 0} → Verdict → (Refusal → A) → A → A
@@ -72,21 +72,36 @@ allocateAnswer image words n align = behind (opening image words) allocation.Ref
 
 -- ---- files: 15, then 16
 
-abbrev pub fileVerdict : List Node → ℕ → Verdict
-fileVerdict nodes k = refuse (leb (length nodes) k) NoSuchEntry (refuse (isDirectory (getD nodes k none)) ExpectedFile verdict.Passed)
-
-unfoldable pub maxFileSizeAnswer : List ℕ → ℕ → ℕ → SizeAnswer
-maxFileSizeAnswer image words k =
-    behind (opening image words) size.Refused
-    (behind (fileVerdict (nodesIn image) k) size.Refused
-    (size.Bytes (maxRegionSize (regionOf (getD (nodesIn image) k none) .offset) (regionOf (getD (nodesIn image) k none) .size) (freeOf image))))
-
--- a window on a region, at its start
-abbrev pub windowOn : DiscRegion → Window
-windowOn r = record { start = r .offset; len = r .size; position = 0 }
+abbrev pub windowAnswer : Found → WindowAnswer
+windowAnswer (found.At k (File f)) = window.Opened (newWindow (f .offset) (f .size))
+windowAnswer (found.At k (Directory d)) = window.Refused ExpectedFile
+windowAnswer (found.Refused c) = window.Refused c
 
 unfoldable pub openFileAnswer : List ℕ → ℕ → ℕ → WindowAnswer
-openFileAnswer image words k =
-    behind (opening image words) window.Refused
-    (behind (fileVerdict (nodesIn image) k) window.Refused
-    (window.Opened (windowOn (regionOf (getD (nodesIn image) k none)))))
+openFileAnswer image words k = windowAnswer (entryAnswer image words k)
+
+-- `max_file_size` is `max_region_size` of the file's offset and size
+abbrev pub fileSizeAnswer : List ℕ → ℕ → Found → SizeAnswer
+fileSizeAnswer image words (found.At k (File f)) = maxRegionSizeAnswer image words (f .offset) (f .size)
+fileSizeAnswer image words (found.At k (Directory d)) = size.Refused ExpectedFile
+fileSizeAnswer image words (found.Refused c) = size.Refused c
+
+unfoldable pub maxFileSizeAnswer : List ℕ → ℕ → ℕ → SizeAnswer
+maxFileSizeAnswer image words k = fileSizeAnswer image words (entryAnswer image words k)
+
+-- ---- the executable: after opening, 24
+
+unfoldable pub dolVerdict : List ℕ → ℕ → Verdict
+dolVerdict image words = first (opening image words) (verdictOf image (dolOffset image))
+
+-- the header and the window; with a refusal zeros
+abbrev pub dolAs : Verdict → List ℕ → DolFile
+dolAs verdict.Passed image = record {
+  verdict = verdict.Passed;
+  header = headerOf image (dolOffset image);
+  window = newWindow (dolOffset image) (fileSizeOf (headerOf image (dolOffset image)));
+}
+dolAs (verdict.Refused c) image = record { verdict = verdict.Refused c; header = newHeader; window = newWindow 0 0 }
+
+unfoldable pub openDolAnswer : List ℕ → ℕ → DolFile
+openDolAnswer image words = dolAs (dolVerdict image words) image

@@ -2,3 +2,4 @@ pub mod Opening
 pub mod Prepared
 pub mod OpeningLaws
 pub mod Calls
+pub mod CallLaws

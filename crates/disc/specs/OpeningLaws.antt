@@ -114,3 +114,9 @@ opens image words bytes e =
 pub disc-filled : (image : List ℕ) (words : ℕ) → AllBytes image → opening image words ≡ Passed → usedOf image + freeBytes (discEnd image) (usedIn image) ≡ discEnd image
 unfolding usedOf usedIn
 disc-filled image words bytes e = used-and-free (tableEnd image) (discEnd image) (map regionOf (nodesIn image)) (opens image words bytes e .layout)
+
+-- the table of an image that opens is accepted
+pub table-accepted : (image : List ℕ) (words : ℕ) → opening image words ≡ Passed → check (tableOf image) words ≡ Passed
+unfolding opening
+table-accepted image words e =
+    first-passed (check (tableOf image) words) _ (first-passed (boundsVerdict image) _ (first-passed (headerVerdict image) _ e .1) .1) .0

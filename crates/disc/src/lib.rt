@@ -1,6 +1,21 @@
 // Opening an image, and every call that reads it. Each call opens the image anew, and leaves the working words zero.
+mod executable;
+mod files;
+mod regions;
+
+use dol::DolHeader;
+pub use executable::open_dol;
+pub use files::entry;
+pub use files::lookup;
+pub use files::max_file_size;
+pub use files::open_file;
 use refusal::Refusal;
 use refusal::Verdict;
+pub use regions::allocate;
+pub use regions::free_regions;
+pub use regions::max_region_size;
+pub use regions::open;
+pub use regions::totals;
 use window::Window;
 ghost use mathlib.Core.Path.{_≡_};
 ghost use Prim.Native.Nat.{_+_, _-_, _*_, _≤_, _<_};
@@ -23,13 +38,13 @@ pub enum Opened {
     Refused(Refusal),
 }
 
-pub struct Totals {
+pub struct DiscTotals {
     pub disc_end: u32,
     pub used: u32,
 }
 
 pub enum TotalsAnswer {
-    Found(Totals),
+    Found(DiscTotals),
     Refused(Refusal),
 }
 
@@ -42,6 +57,13 @@ pub enum WindowAnswer {
     Opened(Window),
     Refused(Refusal),
 }
+// The executable: its header, and the window that shows it.
+pub struct DolFile {
+    pub verdict: Verdict,
+    pub header: DolHeader,
+    pub window: Window,
+}
+
 // The used regions of an image that opened stand in the working words: how many there are.
 pub enum Prepared {
     Ready(usize),

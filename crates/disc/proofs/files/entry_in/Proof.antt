@@ -1,0 +1,39 @@
+-- `disc::files::entry_in` meets its contract, by the two cases of a prepared image.
+-- Assumes nothing.
+use mathlib.Core.Path.{_≡_, sym, ap, _∙_}
+use native.Mathlib.Omega.{arith}
+use lib.ListN.{length}
+use denote.Ref.{now}
+use Rattle.disc.specs.Opening.{opening, tableOf, nodesIn}
+use Rattle.disc.specs.OpeningLaws.{table-accepted}
+use Rattle.disc.specs.CallLaws.{was-ready, was-refused}
+use Rattle.fst.specs.Reading.{Opens}
+use Rattle.disc.specs.Calls.{entryAnswer}
+use borrow.Author.Needs.{needs}
+use Rattle.disc.proofs.files.entry_in.Statement.{statement}
+use Rattle.disc.proofs.files.entry_in.Tie as tie
+
+enum-told : tie.Need-enum-told
+enum-told c = search needs
+
+table-requires : tie.Need-table-requires
+table-requires c κs = was-ready (now (c .before .before .before .before .args .image)) (length (now (c .before .before .before .before .args .words))) (now (c .before .before .before .before .args .words)) (c .before .before .before .before .args .prepared) (c .before .before .before .before .pre) _ (c .enum-told .given .1) .0
+
+entry-requires : tie.Need-entry-requires
+entry-requires c κs = rw (c .table .ensures) (record { words = length (now (c .before .before .before .before .before .args .words)); passed = table-accepted _ _ (was-ready (now (c .before .before .before .before .before .args .image)) (length (now (c .before .before .before .before .before .args .words))) (now (c .before .before .before .before .before .args .words)) (c .before .before .before .before .before .args .prepared) (c .before .before .before .before .before .pre) _ (c .before .enum-told .given .1) .0) })
+
+enum-known-prepared : tie.Need-enum-known-prepared
+enum-known-prepared c = search needs
+
+returns : tie.Need-returns
+unfolding entryAnswer nodesIn
+returns c = rw (was-ready (now (c .before .before .before .before .before .before .args .image)) (length (now (c .before .before .before .before .before .before .args .words))) (now (c .before .before .before .before .before .before .args .words)) (c .before .before .before .before .before .before .args .prepared) (c .before .before .before .before .before .before .pre) _ (c .before .before .enum-told .given .1) .0) (rw (c .before .table .ensures) at (c .entry .ensures))
+
+returns-2 : tie.Need-returns-2
+unfolding entryAnswer
+returns-2 c = rw (was-refused (now (c .before .before .before .before .before .args .image)) (length (now (c .before .before .before .before .before .args .words))) (now (c .before .before .before .before .before .args .words)) (c .before .before .before .before .before .args .prepared) (c .before .before .before .before .before .pre) _ (c .before .prepared .given .1))
+
+pub entry-in-spec : {M : Type 1} → statement M
+entry-in-spec =
+    tie.close
+    (tie.spec enum-told table-requires entry-requires enum-known-prepared returns returns-2)

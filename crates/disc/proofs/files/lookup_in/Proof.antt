@@ -1,0 +1,52 @@
+-- `disc::files::lookup_in` meets its contract, by the two cases of a prepared image and the length of the path.
+-- Assumes nothing.
+use mathlib.Core.Path.{_≡_, sym, ap, _∙_}
+use native.Mathlib.Omega.{arith}
+use lib.ListN.{length}
+use denote.Ref.{now}
+use Rattle.disc.specs.Opening.{opening, tableOf, nodesIn}
+use Rattle.disc.specs.OpeningLaws.{table-accepted}
+use Rattle.disc.specs.CallLaws.{was-ready, was-refused}
+use Rattle.fst.specs.Reading.{Opens}
+use Prim.Native.Nat.{_<_, _≤_}
+use borrow.Author.Tests.{lt-ltb, le-ltb}
+use Rattle.disc.specs.Calls.{lookupAnswer}
+use borrow.Author.Needs.{needs}
+use Rattle.disc.proofs.files.lookup_in.Statement.{statement}
+use Rattle.disc.proofs.files.lookup_in.Tie as tie
+
+enum-told : tie.Need-enum-told
+enum-told c = search needs
+
+returns : tie.Need-returns
+unfolding lookupAnswer
+returns c = rw (was-ready (now (c .before .before .before .before .before .before .args .image)) (length (now (c .before .before .before .before .before .before .args .words))) (now (c .before .before .before .before .before .before .args .words)) (c .before .before .before .before .before .before .args .prepared) (c .before .before .before .before .before .before .pre) _ (c .before .enum-told .given .1) .0, lt-ltb 1024 (length (now (c .before .before .before .before .before .before .args .path))) (c .if1 .taken))
+
+table-requires : tie.Need-table-requires
+table-requires c κs = was-ready (now (c .before .before .before .before .before .before .args .image)) (length (now (c .before .before .before .before .before .before .args .words))) (now (c .before .before .before .before .before .before .args .words)) (c .before .before .before .before .before .before .args .prepared) (c .before .before .before .before .before .before .pre) _ (c .before .enum-told .given .1) .0
+
+find-requires : tie.Need-find-requires
+find-requires c κs = (rw (c .table .ensures) (record { words = length (now (c .before .before .before .before .before .before .before .args .words)); passed = table-accepted _ _ (was-ready (now (c .before .before .before .before .before .before .before .args .image)) (length (now (c .before .before .before .before .before .before .before .args .words))) (now (c .before .before .before .before .before .before .before .args .words)) (c .before .before .before .before .before .before .before .args .prepared) (c .before .before .before .before .before .before .before .pre) _ (c .before .before .enum-told .given .1) .0) }), omega arith)
+
+enum-known-prepared : tie.Need-enum-known-prepared
+enum-known-prepared c = search needs
+
+returns-2 : tie.Need-returns-2
+unfolding lookupAnswer nodesIn
+returns-2 c = rw (was-ready (now (c .before .before .before .before .before .before .before .before .args .image)) (length (now (c .before .before .before .before .before .before .before .before .args .words))) (now (c .before .before .before .before .before .before .before .before .args .words)) (c .before .before .before .before .before .before .before .before .args .prepared) (c .before .before .before .before .before .before .before .before .pre) _ (c .before .before .before .enum-told .given .1) .0, le-ltb 1024 (length (now (c .before .before .before .before .before .before .before .before .args .path))) (c .before .before .if1 .left)) (rw (c .before .table .ensures) at (c .find .ensures))
+
+returns-3 : tie.Need-returns-3
+unfolding lookupAnswer
+returns-3 c = rw (was-refused (now (c .before .before .before .before .before .before .args .image)) (length (now (c .before .before .before .before .before .before .args .words))) (now (c .before .before .before .before .before .before .args .words)) (c .before .before .before .before .before .before .args .prepared) (c .before .before .before .before .before .before .pre) _ (c .before .prepared .given .1))
+
+pub lookup-in-spec : {M : Type 1} → statement M
+lookup-in-spec =
+    tie.close
+    (tie.spec
+    enum-told
+    returns
+    table-requires
+    find-requires
+    enum-known-prepared
+    returns-2
+    returns-3)

@@ -1,0 +1,28 @@
+-- `disc::regions::totals` meets its contract: the prepared image gives the answer, and the words are zeroed.
+-- Assumes nothing.
+use mathlib.Core.Path.{_≡_, sym, ap, _∙_}
+use native.Mathlib.Omega.{arith}
+use lib.ListN.{length}
+use denote.Ref.{now}
+use borrow.Author.Needs.{needs}
+use Rattle.disc.proofs.regions.totals.Statement.{statement}
+use Rattle.disc.proofs.regions.totals.Tie as tie
+
+prepare-requires : tie.Need-prepare-requires
+prepare-requires c κs = search needs
+
+totaled-requires : tie.Need-totaled-requires
+totaled-requires c κs = rw (c .before .before .before .prepare .kept .1 .0) (c .before .before .before .prepare .ensures)
+
+zero-words-requires : tie.Need-zero-words-requires
+zero-words-requires c κs = search needs
+
+same-length : tie.Need-same-length
+same-length c = search needs
+
+returns : tie.Need-returns
+returns c = let k = c .before .before .before .before .before .before .before .before .prepare .kept .1 .0 in (rw k at (c .before .before .before .before .totaled .ensures), rw k at (c .before .before .zero-words .ensures))
+
+pub totals-spec : {M : Type 1} → statement M
+totals-spec =
+    tie.close (tie.spec prepare-requires totaled-requires zero-words-requires same-length returns)
