@@ -1,10 +1,10 @@
 -- Bytes put over a whole list, and the span that is a whole list. Assumes nothing.
 use Prim.Native.Nat.{ℕ}
-use mathlib.Core.Path.{_≡_, refl, sym, _∙_}
-use mathlib.Core.List.{List, [], _++_, append-nil}
+use mathlib.Core.Path.{_≡_}
+use mathlib.Core.List.{List, append-nil}
 use native.Mathlib.Omega.{arith}
 use native.Mathlib.Nat.{zero-add}
-use lib.ListN.{length, drop, drop-of-length-le}
+use lib.ListN.{length, drop-of-length-le}
 use Rattle.endian.specs.Bytes.{put}
 
 pub put-all : (s bs : List ℕ) → length bs ≡ length s → put s 0 bs ≡ bs

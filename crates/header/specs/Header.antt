@@ -1,10 +1,9 @@
 -- The header as it is read, made and written, from document 01, "The header". Assumes nothing: these are definitions.
-use Prim.Native.Nat.{ℕ, _+_}
-use mathlib.Core.Bool.{Bool, true, false}
+use Prim.Native.Nat.{ℕ}
 use mathlib.Core.List.{List, [], _∷_}
 use lib.Dec.{ltb}
 use lib.ListN.{length, getD, take, drop, replicate}
-use Rattle.endian.specs.Bytes.{be32, be32Bytes, put, span}
+use Rattle.endian.specs.Bytes.{be32Bytes, put, span}
 use Rattle.refusal.specs.declared.Refusal.the-variants.{HeaderPastImage}
 use Rattle.refusal.specs.declared.Verdict.{Verdict}
 use Rattle.refusal.specs.declared.Verdict.the-variants.{Passed, Refused}
@@ -13,7 +12,7 @@ use Rattle.header.specs.declared.Field.{Field}
 use Rattle.header.specs.declared.DiscHeader.{DiscHeader}
 use Rattle.header.specs.declared.HeaderRead.{HeaderRead}
 use Rattle.header.specs.Fields.{fields, gameCodeField, makerCodeField, discIdField, versionField, audioStreamingField, streamBufferSizeField, unused00aField, wiiMagicField, gcnMagicField, gameNameField, debugMonitorOffsetField, debugMonitorAddrField, unused408Field, dolOffsetField, fstOffsetField, fstSizeField, fstMaxSizeField, userPositionField, userSizeField, discSizeField, unused43cField}
-use Rattle.header.specs.Verdicts.{gcnMagic, wordOf, headerVerdict}
+use Rattle.header.specs.Verdicts.{wordOf, headerVerdict}
 
 -- the bytes of a field, and the number in a field of 1 byte
 abbrev pub bytesOf : Field → List ℕ → List ℕ

@@ -9,9 +9,8 @@ use lib.ListN.{length}
 use borrow.Author.Tests.{leb-true, ltb-false, eqb-true, eqb-false, not-false, le-ltb, lt-ltb, eq-eqb, ne-eqb}
 use Rattle.endian.specs.Bytes.{be32}
 use Rattle.refusal.specs.declared.Refusal.the-variants.{HeaderPastImage, WiiNotSupported, InvalidMagic, InvalidBounds}
-use Rattle.refusal.specs.declared.Verdict.{Verdict}
 use Rattle.refusal.specs.declared.Verdict.the-variants.{Passed, Refused}
-use Rattle.refusal.specs.Refusal.{refuse, first}
+use Rattle.refusal.specs.Refusal.{refuse}
 use Rattle.refusal.specs.Laws.{refuse-passed, first-passed}
 use Rattle.header.specs.declared.Field.{Field}
 use Rattle.header.specs.Fields.{fields, nth, fieldAt, wiiMagicField, gcnMagicField}

@@ -3,6 +3,7 @@ pub mod Verdicts
 pub mod Header
 pub mod Tiling
 pub mod Laws
+pub mod Kept
 pub mod Order
 pub mod RoundTrip
 pub mod Vectors

@@ -1,22 +1,22 @@
 -- The fields one by one come to five tests: the Wii magic is judged as soon as it is there, then the GameCube magic, then the rest of the header is asked for.
 -- Assumes nothing.
 use Prim.Native.Nat.{ℕ, _+_, _<_, _≤_}
-use mathlib.Core.Path.{_≡_, refl, sym, ap, _∙_}
+use mathlib.Core.Path.{_≡_, refl, _∙_}
 use mathlib.Core.Bool.{Bool, true, false, _&&_, not}
 use mathlib.Core.List.{List, [], _∷_, _++_}
 use native.Mathlib.Omega.{arith}
 use lib.Dec.{eqb, ltb}
 use lib.ListN.{length, take, drop}
-use borrow.Author.Tests.{ltb-true, ltb-false, eqb-true, lt-ltb, le-ltb, not-true}
+use borrow.Author.Tests.{ltb-true, eqb-true, lt-ltb, le-ltb, not-true}
 use Rattle.endian.specs.Bytes.{be32}
 use Rattle.refusal.specs.declared.Refusal.{Refusal}
 use Rattle.refusal.specs.declared.Refusal.the-variants.{HeaderPastImage, WiiNotSupported, InvalidMagic}
 use Rattle.refusal.specs.declared.Verdict.{Verdict}
-use Rattle.refusal.specs.declared.Verdict.the-variants.{Passed, Refused}
+use Rattle.refusal.specs.declared.Verdict.the-variants.{Passed}
 use Rattle.refusal.specs.Refusal.{refuse, first}
 use Rattle.header.specs.declared.Field.{Field}
 use Rattle.header.specs.Fields.{fields, tile, wiiMagicField, gcnMagicField, gameNameField}
-use Rattle.header.specs.Verdicts.{gcnMagic, wiiMagic, wordOf, fieldVerdict, fieldsVerdict, headerVerdict}
+use Rattle.header.specs.Verdicts.{gcnMagic, wiiMagic, fieldVerdict, fieldsVerdict, headerVerdict}
 use Rattle.header.specs.Tiling.{every, and-left, and-right, tile-start, tile-rest}
 
 first-refuse : (t : Bool) (c : Refusal) (r v : Verdict) → first (refuse t c r) v ≡ refuse t c (first r v)

@@ -5,7 +5,7 @@ use mathlib.Core.Bool.{true}
 use mathlib.Core.List.{List, [], _∷_, map}
 use native.Mathlib.Omega.{arith}
 use native.Mathlib.Nat.{div-div-eq-div-mul, add-zero}
-use lib.ListN.{length, getD, take, drop, take-append-drop}
+use lib.ListN.{length, getD, drop, take-append-drop}
 use lib.Seq.{drop-drop}
 use borrow.Author.Tests.{le-ltb}
 use Rattle.endian.specs.Bytes.{be32, be32Bytes, put, span, AllBytes}
@@ -13,9 +13,9 @@ use Rattle.endian.specs.Laws.{be32-value, length-put, put-before, put-after, sp
 use Rattle.refusal.specs.declared.Verdict.the-variants.{Passed}
 use Rattle.header.specs.declared.Field.{Field}
 use Rattle.header.specs.declared.DiscHeader.{DiscHeader}
-use Rattle.header.specs.Fields.{fields, nth, tile}
-use Rattle.header.specs.Verdicts.{gcnMagic, wiiMagic, headerVerdict}
-use Rattle.header.specs.Header.{bytesOf, headerOf, readOf, fieldBytes, putFields, putHeader, written}
+use Rattle.header.specs.Fields.{fields, nth, tile, gameCodeField, makerCodeField, discIdField, versionField, audioStreamingField, streamBufferSizeField, unused00aField, wiiMagicField, gcnMagicField, gameNameField, debugMonitorOffsetField, debugMonitorAddrField, unused408Field, dolOffsetField, fstOffsetField, fstSizeField, fstMaxSizeField, userPositionField, userSizeField, discSizeField, unused43cField}
+use Rattle.header.specs.Verdicts.{gcnMagic, wiiMagic, wordOf, headerVerdict}
+use Rattle.header.specs.Header.{bytesOf, byteOf, headerOf, readOf, fieldBytes, putFields, putHeader, written}
 use Rattle.header.specs.Laws.{GoodHeader, header-passed, header-passes}
 use Rattle.header.specs.Tiling.{fields-tile, tile-start, tile-rest, tile-le}
 
@@ -145,13 +145,9 @@ module _ (image : List ℕ) (whole : 0x440 ≤ length image) (bytes : AllBytes i
   spans : fieldBytes (headerOf image) ≡ map (λ (f : Field). bytesOf f image) fields
   unfolding fields fieldBytes headerOf
   spans =
-      let b : (at : ℕ) → at + 1 ≤ 0x440 → getD image at 0 ∷ [] ≡ span image at 1 = λ at h. sym (byte-span image at (omega arith)) in
-      let w : (at : ℕ) → at + 4 ≤ 0x440 → be32Bytes (be32 image at) ≡ span image at 4 = λ at h. word-span image at bytes (omega arith) in
-      λ i.
-      span image 0 4 ∷ span image 4 2 ∷ b 6 (omega arith) i ∷ b 7 (omega arith) i ∷ b 8 (omega arith) i ∷ b 9 (omega arith) i ∷ span image 0x0A 14
-      ∷ w 0x18 (omega arith) i ∷ w 0x1C (omega arith) i ∷ span image 0x20 0x3E0 ∷ w 0x400 (omega arith) i ∷ w 0x404 (omega arith) i ∷ span image 0x408 0x18
-      ∷ w 0x420 (omega arith) i ∷ w 0x424 (omega arith) i ∷ w 0x428 (omega arith) i ∷ w 0x42C (omega arith) i ∷ w 0x430 (omega arith) i ∷ w 0x434 (omega arith) i
-      ∷ w 0x438 (omega arith) i ∷ w 0x43C (omega arith) i ∷ []
+      let b : (f : Field) → f .at + 1 ≤ 0x440 → byteOf f image ∷ [] ≡ span image (f .at) 1 = λ f h. sym (byte-span image (f .at) (omega arith)) in
+      let w : (f : Field) → f .at + 4 ≤ 0x440 → be32Bytes (wordOf f image) ≡ span image (f .at) 4 = λ f h. word-span image (f .at) bytes (omega arith) in
+      λ i. bytesOf gameCodeField image ∷ bytesOf makerCodeField image ∷ b discIdField (omega arith) i ∷ b versionField (omega arith) i ∷ b audioStreamingField (omega arith) i ∷ b streamBufferSizeField (omega arith) i ∷ bytesOf unused00aField image ∷ w wiiMagicField (omega arith) i ∷ w gcnMagicField (omega arith) i ∷ bytesOf gameNameField image ∷ w debugMonitorOffsetField (omega arith) i ∷ w debugMonitorAddrField (omega arith) i ∷ bytesOf unused408Field image ∷ w dolOffsetField (omega arith) i ∷ w fstOffsetField (omega arith) i ∷ w fstSizeField (omega arith) i ∷ w fstMaxSizeField (omega arith) i ∷ w userPositionField (omega arith) i ∷ w userSizeField (omega arith) i ∷ w discSizeField (omega arith) i ∷ w unused43cField (omega arith) i ∷ []
 
   pub write-read : putHeader (headerOf image) image ≡ image
   write-read = rw spans (put-spans 0 0x440 fields image fields-tile whole)
@@ -206,25 +202,25 @@ module _ (h : DiscHeader) (s : Sized h) (image : List ℕ) (whole : 0x440 ≤ le
       λ i. record {
         «game_code» = field 0 (omega arith) i;
         «maker_code» = field 1 (omega arith) i;
-        «disc_id» = read-byte m 6 (h .«disc_id») (field 2 (omega arith)) i;
-        version = read-byte m 7 (h .version) (field 3 (omega arith)) i;
-        «audio_streaming» = read-byte m 8 (h .«audio_streaming») (field 4 (omega arith)) i;
-        «stream_buffer_size» = read-byte m 9 (h .«stream_buffer_size») (field 5 (omega arith)) i;
+        «disc_id» = read-byte m (discIdField .at) (h .«disc_id») (field 2 (omega arith)) i;
+        version = read-byte m (versionField .at) (h .version) (field 3 (omega arith)) i;
+        «audio_streaming» = read-byte m (audioStreamingField .at) (h .«audio_streaming») (field 4 (omega arith)) i;
+        «stream_buffer_size» = read-byte m (streamBufferSizeField .at) (h .«stream_buffer_size») (field 5 (omega arith)) i;
         «unused_00a» = field 6 (omega arith) i;
-        «wii_magic» = read-word m 0x18 (h .«wii_magic») (field 7 (omega arith)) (s .wii-magic) i;
-        «gcn_magic» = read-word m 0x1C (h .«gcn_magic») (field 8 (omega arith)) (s .gcn-magic) i;
+        «wii_magic» = read-word m (wiiMagicField .at) (h .«wii_magic») (field 7 (omega arith)) (s .wii-magic) i;
+        «gcn_magic» = read-word m (gcnMagicField .at) (h .«gcn_magic») (field 8 (omega arith)) (s .gcn-magic) i;
         «game_name» = field 9 (omega arith) i;
-        «debug_monitor_offset» = read-word m 0x400 (h .«debug_monitor_offset») (field 10 (omega arith)) (s .debug-monitor-offset) i;
-        «debug_monitor_addr» = read-word m 0x404 (h .«debug_monitor_addr») (field 11 (omega arith)) (s .debug-monitor-addr) i;
+        «debug_monitor_offset» = read-word m (debugMonitorOffsetField .at) (h .«debug_monitor_offset») (field 10 (omega arith)) (s .debug-monitor-offset) i;
+        «debug_monitor_addr» = read-word m (debugMonitorAddrField .at) (h .«debug_monitor_addr») (field 11 (omega arith)) (s .debug-monitor-addr) i;
         «unused_408» = field 12 (omega arith) i;
-        «dol_offset» = read-word m 0x420 (h .«dol_offset») (field 13 (omega arith)) (s .dol-offset) i;
-        «fst_offset» = read-word m 0x424 (h .«fst_offset») (field 14 (omega arith)) (s .fst-offset) i;
-        «fst_size» = read-word m 0x428 (h .«fst_size») (field 15 (omega arith)) (s .fst-size) i;
-        «fst_max_size» = read-word m 0x42C (h .«fst_max_size») (field 16 (omega arith)) (s .fst-max-size) i;
-        «user_position» = read-word m 0x430 (h .«user_position») (field 17 (omega arith)) (s .user-position) i;
-        «user_size» = read-word m 0x434 (h .«user_size») (field 18 (omega arith)) (s .user-size) i;
-        «disc_size» = read-word m 0x438 (h .«disc_size») (field 19 (omega arith)) (s .disc-size) i;
-        «unused_43c» = read-word m 0x43C (h .«unused_43c») (field 20 (omega arith)) (s .unused-43c) i;
+        «dol_offset» = read-word m (dolOffsetField .at) (h .«dol_offset») (field 13 (omega arith)) (s .dol-offset) i;
+        «fst_offset» = read-word m (fstOffsetField .at) (h .«fst_offset») (field 14 (omega arith)) (s .fst-offset) i;
+        «fst_size» = read-word m (fstSizeField .at) (h .«fst_size») (field 15 (omega arith)) (s .fst-size) i;
+        «fst_max_size» = read-word m (fstMaxSizeField .at) (h .«fst_max_size») (field 16 (omega arith)) (s .fst-max-size) i;
+        «user_position» = read-word m (userPositionField .at) (h .«user_position») (field 17 (omega arith)) (s .user-position) i;
+        «user_size» = read-word m (userSizeField .at) (h .«user_size») (field 18 (omega arith)) (s .user-size) i;
+        «disc_size» = read-word m (discSizeField .at) (h .«disc_size») (field 19 (omega arith)) (s .disc-size) i;
+        «unused_43c» = read-word m (unused43cField .at) (h .«unused_43c») (field 20 (omega arith)) (s .unused-43c) i;
       }
 
   module _ (gcn : h .«gcn_magic» ≡ gcnMagic) (not-wii : h .«wii_magic» ≡ wiiMagic → ⊥) where

@@ -3,7 +3,7 @@ use Prim.Native.Nat.{ℕ}
 use mathlib.Core.Path.{_≡_, refl}
 use mathlib.Core.List.{List, _++_}
 use lib.ListN.{replicate, take}
-use Rattle.endian.specs.Bytes.{be32, be32Bytes, put}
+use Rattle.endian.specs.Bytes.{be32, be32Bytes}
 use Rattle.refusal.specs.declared.Refusal.the-variants.{HeaderPastImage, WiiNotSupported, InvalidMagic, InvalidBounds}
 use Rattle.refusal.specs.declared.Verdict.the-variants.{Passed, Refused}
 use Rattle.header.specs.Fields.{fields}

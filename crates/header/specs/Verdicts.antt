@@ -1,6 +1,6 @@
 -- The header's refusals, 1 to 3 field by field, and 4, from document 01. Assumes nothing: these are definitions.
 use Prim.Native.Nat.{ℕ, _+_, _-_, _^_}
-use mathlib.Core.Bool.{Bool, _&&_, not}
+use mathlib.Core.Bool.{_&&_, not}
 use mathlib.Core.List.{List, [], _∷_}
 use lib.Dec.{eqb, ltb}
 use lib.ListN.{length}

@@ -5,13 +5,13 @@ ghost use mathlib.Core.Path.{_≡_};
 ghost use Prim.Native.Nat.{_+_, _≤_, _<_};
 ghost use lib.ListN.{length};
 ghost use Rattle.refusal.specs.Refusal.{first};
-ghost use Rattle.header.specs.Fields.{fieldAt};
 ghost use Rattle.endian.specs.Bytes.{put, span};
+ghost use Rattle.header.specs.Fields.{fieldAt};
 ghost use Rattle.header.specs.Header.{headerOf, blank, readOf, putSome, writeVerdict, written};
 ghost use Rattle.header.specs.Verdicts.{gcnMagic, fieldVerdict, headerVerdict, dolOffset, fstOffset, fstSize, discEnd, tableEnd, boundsVerdict};
 ghost use Rattle.header.specs.Laws.{Judged};
 
-// The place of a field.
+// The place of a field: its offset, and how many bytes it has.
 pub struct Field {
     pub at: usize,
     pub len: usize,
@@ -61,7 +61,7 @@ impl Field {
     pub const UNUSED_43C: Field = Field { at: 0x43C, len: 4 };
 }
 
-// The 21 fields in order.
+// The table: the 21 fields in order, which tile 0x440 bytes (specs/Tiling).
 const FIELDS: [Field; 21] = [
     Field::GAME_CODE,
     Field::MAKER_CODE,
@@ -110,7 +110,7 @@ pub struct DiscHeader {
     pub unused_43c: u32,
 }
 
-// What reading a header gives: the header, or why there is none, and then every field is 0.
+// What reading gives: a header, or why there is none, and then every field is 0. (An enum cannot hold an array.)
 pub struct HeaderRead {
     pub verdict: Verdict,
     pub header: DiscHeader,
@@ -128,6 +128,7 @@ impl DiscHeader {
         blank_header(Self::GCN_MAGIC)
     }
 
+    // The game name, the word at 0x18 and the unused runs are kept as they are.
     pub fn read_from(image: &[u8]) -> HeaderRead
         ensures { λ r. ⌜ r ≡ readOf (now (image .entry)) ⌝ }
     {
@@ -188,7 +189,7 @@ pub fn check(image: &[u8]) -> Verdict
     Verdict::Passed
 }
 
-// ---- what the header of an image says of the disc; asked once the header has passed
+// ---- what the header of an image says of the disc, for the layers above: they ask once the header has passed
 
 pub fn dol_offset(image: &[u8]) -> u32
     requires { ⌜ 0x440 ≤ length (now image) ⌝ }
@@ -234,6 +235,7 @@ pub fn table_end(image: &[u8]) -> u64
     sum(fst_offset(image), fst_size(image))
 }
 
+// The places that the header gives: 4. The table is held to the disc end, and not to the image's.
 fn bounds(image: &[u8]) -> Verdict
     requires { ⌜ 0x440 ≤ length (now image) ⌝ }
     ensures { λ r. ⌜ r ≡ boundsVerdict (now (image .entry)) ⌝ }
@@ -309,6 +311,7 @@ fn read_exact(image: &[u8], at: usize, out: &mut [u8])
     endian::copy(image, at, out, 0, n);
 }
 
+// Straight down the table.
 fn read_fields(image: &[u8]) -> DiscHeader
     requires { ⌜ 0x440 ≤ length (now image) ⌝ }
     ensures { λ r. ⌜ r ≡ headerOf (now (image .entry)) ⌝ }

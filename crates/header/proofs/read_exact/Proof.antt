@@ -1,7 +1,6 @@
 -- `header::read_exact` meets its contract: a span as long as `out` is put over the whole of it.
 -- Assumes nothing.
 use mathlib.Core.Path.{_∙_}
-use native.Mathlib.Omega.{arith}
 use lib.ListN.{length}
 use Rattle.endian.specs.Bytes.{span}
 use Rattle.endian.specs.Laws.{length-span}

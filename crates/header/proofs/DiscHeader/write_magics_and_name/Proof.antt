@@ -44,7 +44,7 @@ same-length c = search needs
 
 returns : tie.Need-returns
 unfolding fields fieldBytes putFields putSome
-returns c = cc
+returns c = rw (c .before .before .write-all2 .ensures, c .before .before .before .before .before .before .before .before .write-u324 .ensures, c .before .before .before .before .before .before .before .before .before .before .before .before .write-u323 .ensures, c .before .before .before .before .before .before .before .before .before .before .before .before .before .before .before .before .write-all .ensures, c .before .before .before .before .before .before .before .before .before .before .before .before .before .before .before .before .before .before .before .before .before .before .write-u322 .ensures, c .before .before .before .before .before .before .before .before .before .before .before .before .before .before .before .before .before .before .before .before .before .before .before .before .before .before .write-u32 .ensures)
 
 pub write-magics-and-name-spec : {M : Type 1} → statement M
 write-magics-and-name-spec =

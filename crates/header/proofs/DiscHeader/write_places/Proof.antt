@@ -35,7 +35,7 @@ same-length c = search needs
 
 returns : tie.Need-returns
 unfolding fields fieldBytes putFields putSome
-returns c = cc
+returns c = rw (c .before .before .write-u328 .ensures, c .before .before .before .before .before .before .write-u327 .ensures, c .before .before .before .before .before .before .before .before .before .before .write-u326 .ensures, c .before .before .before .before .before .before .before .before .before .before .before .before .before .before .write-u325 .ensures, c .before .before .before .before .before .before .before .before .before .before .before .before .before .before .before .before .before .before .write-u324 .ensures, c .before .before .before .before .before .before .before .before .before .before .before .before .before .before .before .before .before .before .before .before .before .before .write-u323 .ensures, c .before .before .before .before .before .before .before .before .before .before .before .before .before .before .before .before .before .before .before .before .before .before .before .before .before .before .write-u322 .ensures, c .before .before .before .before .before .before .before .before .before .before .before .before .before .before .before .before .before .before .before .before .before .before .before .before .before .before .before .before .before .before .write-u32 .ensures)
 
 pub write-places-spec : {M : Type 1} → statement M
 write-places-spec =

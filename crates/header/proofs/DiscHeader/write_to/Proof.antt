@@ -1,6 +1,5 @@
 -- `header::DiscHeader::write_to` meets its contract: the three parts are all fields, and an image that is too short is not touched.
 -- Assumes nothing.
-use Prim.Native.Nat.{_<_, _≤_}
 use mathlib.Core.Path.{refl}
 use borrow.Author.Tests.{le-ltb, lt-ltb}
 use lib.ListN.{length}
