@@ -13,12 +13,9 @@ use Rattle.tree.specs.Table.{Node, file, directory, nameOf, none, top, s
 use Rattle.tree.specs.Lookup.{isDirectory, nextOf}
 use Rattle.tree.specs.Insert.{bump, earlier, later, splice, insertAt, shifted}
 use Rattle.tree.specs.Steps.{shut-open, shut-pop}
+pub use Rattle.tree.specs.NestedInsert.{Fresh, bump-min, shifted-min}
+use Rattle.tree.specs.NestedInsert.{well-nested, length-splice, length-inserted, inserted-before, inserted-at, inserted-after, parent-inserted-before, parent-inserted-at, parent-inserted-after}
 use Rattle.tree.specs.Nesting.{openAt, sound-at, openDirs, stack-is, Inside, parent-step, parent-lower, below-lt, parent-is, next-bounds, nests, ended}
-
--- what can be put in as entry q
-abbrev pub Fresh : ℕ → Node → Type 0
-Fresh q (file nm offset size) = (offset < 2 ^ 32) × (size < 2 ^ 32)
-Fresh q (directory nm next) = next ≡ suc q
 
 -- the number of directories around entry k: its depth
 abbrev pub depthOf : List Node → ℕ → ℕ
@@ -35,29 +32,6 @@ and-swap false true c = refl
 and-swap false false c = refl
 
 -- ---- `bump` and `shut`
-
-pub bump-min : (p n : ℕ) → bump p n ≡ n + min 1 (n - p)
-unfolding bump
-bump-min p n = go (ltb p n) refl
-  where
-    go : (t : Bool) → ltb p n ≡ t → cond t (suc n) n ≡ n + min 1 (n - p)
-    go true e = omega (arith, ltb-true p n e)
-    go false e = omega (arith, ltb-false p n e)
-
-pub shifted-min : (q k : ℕ) → shifted q k ≡ k + min 1 (suc k - q)
-unfolding shifted
-shifted-min q k = go (leb q k) refl
-  where
-    go : (t : Bool) → leb q k ≡ t → cond t (suc k) k ≡ k + min 1 (suc k - q)
-    go true e = omega (arith, leb-true q k e)
-    go false e = omega (arith, leb-false q k e)
-
-ltb-suc : (a b : ℕ) → ltb (suc a) (suc b) ≡ ltb a b
-ltb-suc a b = go (ltb a b) refl
-  where
-    go : (t : Bool) → ltb a b ≡ t → ltb (suc a) (suc b) ≡ t
-    go true e = lt-ltb (suc a) (suc b) (omega (arith, ltb-true a b e))
-    go false e = le-ltb (suc a) (suc b) (omega (arith, ltb-false a b e))
 
 leb-iff : (a b c d : ℕ) → (a ≤ b → c ≤ d) → (c ≤ d → a ≤ b) → leb a b ≡ leb c d
 leb-iff a b c d f g = go (leb a b) refl
@@ -263,66 +237,6 @@ module _ (p : ℕ) where
           and-swap (shallowEntry (shut k dirs) y) (depthOk (suc (length (openAt (enter (shut k dirs) y) (suc k) xs i))) new) _,
         )
 
--- ---- the list
-
-length-splice : (p : ℕ) (new : Node) (k j : ℕ) (xs : List Node) → j ≤ length xs → length (splice p new k j xs) ≡ suc (length xs)
-unfolding splice
-length-splice p new k zero xs h = ap suc (length-map xs later)
-length-splice p new k (suc j) [] h = absurd (omega arith)
-length-splice p new k (suc j) (x ∷ xs) h = ap suc (length-splice p new (suc k) j xs (omega arith))
-
-splice-before : (p : ℕ) (new : Node) (k j : ℕ) (xs : List Node) (i : ℕ) → i < j → j ≤ length xs → getD (splice p new k j xs) i none ≡ earlier p (k + i) (getD xs i none)
-unfolding splice
-splice-before p new k zero xs i h l = absurd (omega arith)
-splice-before p new k (suc j) [] i h l = absurd (omega arith)
-splice-before p new k (suc j) (x ∷ xs) zero h l = rw (add-zero k)
-splice-before p new k (suc j) (x ∷ xs) (suc i) h l =
-    let n : k + suc i ≡ suc k + i = omega arith in
-    rw n (splice-before p new (suc k) j xs i (omega arith) (omega arith))
-
-splice-at : (p : ℕ) (new : Node) (k j : ℕ) (xs : List Node) → j ≤ length xs → getD (splice p new k j xs) j none ≡ new
-unfolding splice
-splice-at p new k zero xs l = refl
-splice-at p new k (suc j) [] l = absurd (omega arith)
-splice-at p new k (suc j) (x ∷ xs) l = splice-at p new (suc k) j xs (omega arith)
-
-map-later : (xs : List Node) (i : ℕ) → i < length xs → getD (map later xs) i none ≡ later (getD xs i none)
-map-later [] i h = absurd (omega arith)
-map-later (x ∷ xs) zero h = refl
-map-later (x ∷ xs) (suc i) h = map-later xs i (omega arith)
-
-splice-after : (p : ℕ) (new : Node) (k j : ℕ) (xs : List Node) (i : ℕ) → j ≤ i → i < length xs → getD (splice p new k j xs) (suc i) none ≡ later (getD xs i none)
-unfolding splice
-splice-after p new k zero xs i h l = map-later xs i l
-splice-after p new k (suc j) [] i h l = absurd (omega arith)
-splice-after p new k (suc j) (x ∷ xs) zero h l = absurd (omega arith)
-splice-after p new k (suc j) (x ∷ xs) (suc i) h l = splice-after p new (suc k) j xs i (omega arith) (omega arith)
-
--- ---- the whole tree; p is a directory with next q
-module _ (nodes : List Node) (p q : ℕ) (nm : List ℕ) (new : Node) (w : WellFormed nodes) (here : getD nodes p none ≡ directory nm q) (p<n : p < length nodes) where
-  q≤n : q ≤ length nodes
-  q≤n = next-bounds nodes p q nm w here p<n .1
-
-  p<q : p < q
-  p<q = next-bounds nodes p q nm w here p<n .0
-
-  is-splice : insertAt p new nodes ≡ splice p new 0 q nodes
-  unfolding insertAt
-  is-splice = rw here
-
-  pub length-insert : length (insertAt p new nodes) ≡ suc (length nodes)
-  length-insert = rw is-splice (length-splice p new 0 q nodes q≤n)
-
-  -- entry k, before the new one; the new one; and entry k, which comes after it
-  pub insert-before : (k : ℕ) → k < q → getD (insertAt p new nodes) k none ≡ earlier p k (getD nodes k none)
-  insert-before k h = rw (is-splice, splice-before p new 0 q nodes k h q≤n) (ap (λ (m : ℕ). earlier p m (getD nodes k none)) (omega arith))
-
-  pub insert-at : getD (insertAt p new nodes) q none ≡ new
-  insert-at = rw is-splice (splice-at p new 0 q nodes q≤n)
-
-  pub insert-after : (k : ℕ) → q ≤ k → k < length nodes → getD (insertAt p new nodes) (suc k) none ≡ later (getD nodes k none)
-  insert-after k h l = rw is-splice (splice-after p new 0 q nodes k h l)
-
 -- ---- the tree stays well-formed, and only the new entry can be too deep
 
 -- the depth of entry p by the walk's stack, where the entries past the root are xs
@@ -383,124 +297,28 @@ pub insert-shallow : (nodes : List Node) (p q : ℕ) (nm : List ℕ) (new : Node
     shallow (insertAt p new nodes) ≡ (depthOk (suc (depthOf nodes p)) new && shallow nodes)
 insert-shallow nodes p q nm new w e h named f = insert-whole nodes p q nm new w e h named f .1
 
--- ---- every other entry keeps its parent
-
-below-same : (a b : List Node) (k m i : ℕ) → ((j : ℕ) → j < i → encloses (getD a j none) k ≡ encloses (getD b j none) m) → parentBelow a k i ≡ parentBelow b m i
-unfolding parentBelow
-below-same a b k m zero f = refl
-below-same a b k m (suc i) f = rw (f i (omega arith), below-same a b k m i (λ j h. f j (omega arith)))
-
--- an entry j up to p, seen from entry k before the new one: a directory that ends past p ends at q or later
-up-before : (p q j k : ℕ) (x : Node) → j ≤ p → k < q → (p < nextOf x → q ≤ nextOf x) → encloses (earlier p j x) k ≡ encloses x k
-unfolding bump
-up-before p q j k (file nm offset size) h l f = refl
-up-before p q j k (directory nm n) h l f = rw (le-leb j p h) (go (ltb p n) refl)
-  where
-    go : (t : Bool) → ltb p n ≡ t → ltb k (cond t (suc n) n) ≡ ltb k n
-    go true e =
-        let g : q ≤ n = f (ltb-true p n e) in
-        lt-ltb k (suc n) (omega arith) ∙ sym (lt-ltb k n (omega arith))
-    go false e = refl
-
--- seen from entry k, which comes after the new one
-up-after : (p j k : ℕ) (x : Node) → j ≤ p → p < k → encloses (earlier p j x) (suc k) ≡ encloses x k
-unfolding bump
-up-after p j k (file nm offset size) h l = refl
-up-after p j k (directory nm n) h l = rw (le-leb j p h) (go (ltb p n) refl)
-  where
-    go : (t : Bool) → ltb p n ≡ t → ltb (suc k) (cond t (suc n) n) ≡ ltb k n
-    go true e = ltb-suc k n
-    go false e =
-        let g : n ≤ p = ltb-false p n e in
-        le-ltb (suc k) n (omega arith) ∙ sym (le-ltb k n (omega arith))
-
--- an entry j between p and the new one
-between-same : (p j k : ℕ) (x : Node) → p < j → encloses (earlier p j x) k ≡ encloses x k
-between-same p j k (file nm offset size) h = refl
-between-same p j k (directory nm n) h = rw (lt-leb j p h)
-
-later-same : (k : ℕ) (x : Node) → encloses (later x) (suc k) ≡ encloses x k
-later-same k (file nm offset size) = refl
-later-same k (directory nm n) = ltb-suc k n
-
-new-ended : (q k : ℕ) (x : Node) → Fresh q x → q ≤ k → encloses x (suc k) ≡ false
-new-ended q k (file nm offset size) f h = refl
-new-ended q k (directory nm n) f h = le-ltb (suc k) n (omega arith)
+-- ---- the new list by numbers; p is a directory with next q
 
 module _ (nodes : List Node) (p q : ℕ) (nm : List ℕ) (new : Node) (w : WellFormed nodes) (here : getD nodes p none ≡ directory nm q) (p<n : p < length nodes) where
-  -- a directory up to p that ends past p ends at q or later
-  around : (j : ℕ) → j ≤ p → p < nextOf (getD nodes j none) → q ≤ nextOf (getD nodes j none)
-  around j h l = go (ltb j p) refl (getD nodes j none) refl
-    where
-      go : (t : Bool) → ltb j p ≡ t → (x : Node) → getD nodes j none ≡ x → q ≤ nextOf (getD nodes j none)
-      go true e (file a b c) x≡ = absurd (omega (arith, rw x≡ at l))
-      go true e (directory a n) x≡ = nests nodes j p q nm w (ltb-true j p e, rw x≡ (lt-ltb p n (rw x≡ at l))) p<n here
-      go false e x x≡ =
-          let j≡ : j ≡ p = omega (arith, ltb-false j p e) in
-          rw (j≡, here) (omega arith)
+  pub length-insert : length (insertAt p new nodes) ≡ suc (length nodes)
+  length-insert = length-inserted nodes p q nm new (well-nested nodes w) here p<n
 
-  -- an entry between p and q ends at q or before
-  between : (j : ℕ) → p < j → j < q → nextOf (getD nodes j none) ≤ q
-  between j h l = go (getD nodes j none) refl
-    where
-      go : (x : Node) → getD nodes j none ≡ x → nextOf (getD nodes j none) ≤ q
-      go (file a b c) x≡ = rw x≡ (omega arith)
-      go (directory a n) x≡ =
-          let b : q ≤ length nodes = q≤n nodes p q nm new w here p<n in
-          let g : n ≤ nextOf (getD nodes p none) = nests nodes p j n a w (h, rw here (lt-ltb j q l)) (omega arith) x≡ in
-          rw x≡ (rw here at g)
+  -- entry k, before the new one; the new one; and entry k, which comes after it
+  pub insert-before : (k : ℕ) → k < q → getD (insertAt p new nodes) k none ≡ earlier p k (getD nodes k none)
+  insert-before = inserted-before nodes p q nm new (well-nested nodes w) here p<n
 
-  encl-before : (k : ℕ) → k < q → (j : ℕ) → j < k → encloses (getD (insertAt p new nodes) j none) k ≡ encloses (getD nodes j none) k
-  encl-before k h j l = rw (insert-before nodes p q nm new w here p<n j (omega arith)) (go (leb j p) refl)
-    where
-      go : (t : Bool) → leb j p ≡ t → encloses (earlier p j (getD nodes j none)) k ≡ encloses (getD nodes j none) k
-      go true e = up-before p q j k (getD nodes j none) (leb-true j p e) h (around j (leb-true j p e))
-      go false e = between-same p j k (getD nodes j none) (leb-false j p e)
+  pub insert-at : getD (insertAt p new nodes) q none ≡ new
+  insert-at = inserted-at nodes p q nm new (well-nested nodes w) here p<n
 
-  encl-after : (k : ℕ) → q ≤ k → (j : ℕ) → j < q → encloses (getD (insertAt p new nodes) j none) (suc k) ≡ encloses (getD nodes j none) k
-  encl-after k h j l = rw (insert-before nodes p q nm new w here p<n j l) (go (leb j p) refl)
-    where
-      go : (t : Bool) → leb j p ≡ t → encloses (earlier p j (getD nodes j none)) (suc k) ≡ encloses (getD nodes j none) k
-      go true e = up-after p j k (getD nodes j none) (leb-true j p e) (omega (arith, p<q nodes p q nm new w here p<n))
-      go false e =
-          let b : nextOf (getD nodes j none) ≤ q = between j (leb-false j p e) l in
-          between-same p j (suc k) (getD nodes j none) (leb-false j p e) ∙ ended (suc k) (getD nodes j none) (omega arith) ∙ sym (ended k (getD nodes j none) (omega arith))
+  pub insert-after : (k : ℕ) → q ≤ k → k < length nodes → getD (insertAt p new nodes) (suc k) none ≡ later (getD nodes k none)
+  insert-after = inserted-after nodes p q nm new (well-nested nodes w) here p<n
 
+  -- their parents
   pub parent-insert-before : (k : ℕ) → k < q → parentOf (insertAt p new nodes) k ≡ parentOf nodes k
-  unfolding parentOf
-  parent-insert-before k h = below-same (insertAt p new nodes) nodes k k k (encl-before k h)
+  parent-insert-before = parent-inserted-before nodes p q nm new (well-nested nodes w) here p<n
 
   pub parent-insert-at : parentOf (insertAt p new nodes) q ≡ p
-  parent-insert-at =
-      let h : p < q = p<q nodes p q nm new w here p<n in
-      let b : bump p q ≡ suc q = omega (arith, bump-min p q) in
-      parent-is (insertAt p new nodes) q p
-      (h, rw (insert-before nodes p q nm new w here p<n p h, here, le-leb p p (omega arith), b) (lt-ltb q (suc q) (omega arith)))
-      (λ j a l. rw (insert-before nodes p q nm new w here p<n j l) (between-same p j q (getD nodes j none) a ∙ ended q (getD nodes j none) (between j a l)))
+  parent-insert-at = parent-inserted-at nodes p q nm new (well-nested nodes w) here p<n
 
-  module _ (fresh : Fresh q new) where
-    below-after : (k : ℕ) → q ≤ k → k < length nodes → (m : ℕ) → q ≤ m → m ≤ k → parentBelow (insertAt p new nodes) (suc k) (suc m) ≡ shifted q (parentBelow nodes k m)
-    below-after k h l zero a b = absurd (omega (arith, p<q nodes p q nm new w here p<n))
-    below-after k h l (suc m) a b = go (leb q m) refl (λ e. below-after k h l m e (omega arith))
-      where
-        step : (t : Bool) (d : ℕ) → q ≤ m → cond t (suc m) (shifted q d) ≡ shifted q (cond t m d)
-        step true d e = omega (arith, shifted-min q m)
-        step false d e = refl
-
-        go : (t : Bool) → leb q m ≡ t → (q ≤ m → parentBelow (insertAt p new nodes) (suc k) (suc m) ≡ shifted q (parentBelow nodes k m)) →
-            parentBelow (insertAt p new nodes) (suc k) (suc (suc m)) ≡ shifted q (parentBelow nodes k (suc m))
-        go true e ih =
-            let r : q ≤ m = leb-true q m e in
-            parent-step (insertAt p new nodes) (suc k) (suc m)
-            ∙ rw (insert-after nodes p q nm new w here p<n m r (omega arith), later-same k (getD nodes m none), ih r) (step (encloses (getD nodes m none) k) (parentBelow nodes k m) r)
-            ∙ ap (shifted q) (sym (parent-step nodes k m))
-        go false e ih =
-            let m≡ : suc m ≡ q = omega (arith, leb-false q m e) in
-            let v : parentBelow nodes k (suc m) < suc m = below-lt nodes k (suc m) (omega arith) in
-            parent-lower (insertAt p new nodes) (suc k) (suc m) (rw (m≡, insert-at nodes p q nm new w here p<n) (new-ended q k new fresh h))
-            ∙ below-same (insertAt p new nodes) nodes (suc k) k (suc m) (λ j l. encl-after k h j (omega arith))
-            ∙ omega (arith, shifted-min q (parentBelow nodes k (suc m)))
-
-    pub parent-insert-after : (k : ℕ) → q ≤ k → k < length nodes → parentOf (insertAt p new nodes) (suc k) ≡ shifted q (parentOf nodes k)
-    unfolding parentOf
-    parent-insert-after k h l = below-after k h l k h (omega arith)
+  pub parent-insert-after : Fresh q new → (k : ℕ) → q ≤ k → k < length nodes → parentOf (insertAt p new nodes) (suc k) ≡ shifted q (parentOf nodes k)
+  parent-insert-after = parent-inserted-after nodes p q nm new (well-nested nodes w) here p<n

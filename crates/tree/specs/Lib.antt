@@ -9,7 +9,9 @@ pub mod WrittenBytes
 pub mod Nesting
 pub mod LookupLaws
 pub mod Insert
+pub mod NestedInsert
 pub mod InsertLaws
+pub mod ChildInsert
 pub mod PlaceLaws
 pub mod Records
 pub mod Writing

@@ -13,7 +13,7 @@ use lib.ListN.{length, getD, take, drop, length-drop}
 use lib.Seq.{getD-drop, drop-drop, take-all}
 use lib.Dec.{ltb, eqb}
 use Rattle.endian.specs.Bytes.{span, sameBytes}
-use Rattle.endian.specs.Laws.{same-eq, lt-or-le}
+use Rattle.endian.specs.Laws.{same-eq, same-refl, lt-or-le}
 use Rattle.refusal.specs.declared.Refusal.{Refusal}
 use Rattle.refusal.specs.declared.Refusal.the-variants.{NoSuchEntry, ExpectedDirectory, NotFound}
 use Rattle.tree.specs.declared.Located.{Located}
@@ -90,6 +90,9 @@ child-missing nodes d nm c e =
     let f = missing nodes d nm (suc d) (nextOf (getD nodes d none) - suc d) c e in
     (f .0, λ j a b. f .1 j (omega arith) (omega arith))
 
+pub child-named : (nodes : List Node) (d : ℕ) (nm : List ℕ) (k : ℕ) → Child nodes d nm k → childNamed nodes d nm k ≡ true
+child-named nodes d nm k c = rw (eq-eqb (parentOf nodes k) d (c .parent), c .name) (same-refl nm)
+
 -- ---- a loop over the children: from a child to the next, past all that is in it
 
 -- the entry after entry k and all that is in it
@@ -121,6 +124,29 @@ search-skip nodes d nm m k zero h f = rw (add-zero k)
 search-skip nodes d nm m k (suc i) h f =
     let e : k + suc i ≡ suc k + i = omega arith in
     rw (search-step nodes d nm k m (omega arith), f k (omega arith) (omega arith), e) (search-skip nodes d nm m (suc k) i (omega arith) (λ j a b. f j (omega arith) (omega arith)))
+
+-- the converse of `child-is` and `child-missing`
+pub child-at : (nodes : List Node) (d : ℕ) (nm : List ℕ) (k : ℕ) → d < k → k < nextOf (getD nodes d none) → childNamed nodes d nm k ≡ true →
+    ((j : ℕ) → d < j → j < k → childNamed nodes d nm j ≡ false) → childOf nodes d nm ≡ At k
+unfolding childOf
+child-at nodes d nm k a b e f =
+    let m : ℕ = nextOf (getD nodes d none) in
+    let n : suc d + (k - suc d) ≡ k = omega arith in
+    let s : firstChild nodes d nm (suc d) (m - suc d) ≡ firstChild nodes d nm k (m - k) = rw n at (search-skip nodes d nm m (suc d) (k - suc d) (omega arith) (λ j x y. f j (omega arith) (omega arith))) in
+    s ∙ search-step nodes d nm k m b ∙ rw e
+
+pub child-none : (nodes : List Node) (d : ℕ) (nm : List ℕ) → ((j : ℕ) → d < j → j < nextOf (getD nodes d none) → childNamed nodes d nm j ≡ false) → childOf nodes d nm ≡ Refused NotFound
+unfolding childOf
+child-none nodes d nm f = ⊎-elim (λ (h : d < m). passed h) (λ (h : m ≤ d). search-end nodes d nm (suc d) m (omega arith)) (lt-or-le d m)
+  where
+    m : ℕ
+    m = nextOf (getD nodes d none)
+
+    passed : d < m → firstChild nodes d nm (suc d) (m - suc d) ≡ Refused NotFound
+    passed h =
+        let n : suc d + (m - suc d) ≡ m = omega arith in
+        let s : firstChild nodes d nm (suc d) (m - suc d) ≡ firstChild nodes d nm m (m - m) = rw n at (search-skip nodes d nm m (suc d) (m - suc d) (omega arith) (λ j x y. f j (omega arith) (omega arith))) in
+        s ∙ search-end nodes d nm m m (omega arith)
 
 -- the first entry of a directory is its child
 pub first-child : (nodes : List Node) (d m : ℕ) (nm : List ℕ) → getD nodes d none ≡ directory nm m → d + 1 < m → parentOf nodes (d + 1) ≡ d
