@@ -143,7 +143,7 @@ module _ (nodes : List Node) (d : ℕ) (nm : List ℕ) (stop : ℕ) (w : WellFor
         later = omega (arith, s .later);
         child = λ q. child-next nodes d w k (omega arith) (s .later) (s .child h) (omega arith);
         left =
-          s .left ∙ ap (firstChild nodes d nm k) m ∙ skip nodes d nm k (afterOf nodes k - k) (stop - afterOf nodes k) passed ∙ ap (λ (i : ℕ). firstChild nodes d nm i (stop - afterOf nodes k)) n;
+            s .left ∙ ap (firstChild nodes d nm k) m ∙ skip nodes d nm k (afterOf nodes k - k) (stop - afterOf nodes k) passed ∙ ap (λ (i : ℕ). firstChild nodes d nm i (stop - afterOf nodes k)) n;
       }
     where
       bound : afterOf nodes k ≤ stop

@@ -3,3 +3,4 @@ pub mod Walking
 pub mod Nodes
 pub mod ChildLaws
 pub mod PathLaws
+pub mod RowLaws

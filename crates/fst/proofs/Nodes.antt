@@ -1,5 +1,5 @@
 -- What the bytes of an accepted table say of its entries, the root among them. Assumes nothing.
-use Prim.Native.Nat.{ℕ, zero, suc, _+_, _-_, _*_, _<_, _≤_}
+use Prim.Native.Nat.{ℕ, zero, suc, _+_, _-_, _*_, _^_, _<_, _≤_}
 use mathlib.Core.Path.{_≡_, refl, sym, ap, _∙_}
 use mathlib.Core.Bool.{Bool, true, false, not, cond}
 use mathlib.Core.List.{List, [], _∷_}
@@ -91,3 +91,13 @@ parent-at-most nodes (suc k) = omega (arith, parent-before nodes (suc k) (omega 
 pub name-is : (tab : List ℕ) (k : ℕ) → 0 < k → k < count tab → nameOf (getD (nodesOf tab) k none) ≡ textAt tab (12 * count tab + nameOffset tab k)
 unfolding nameAt
 name-is tab k h l = ap nameOf (getD-nodesOf tab k h l) ∙ node-name tab (count tab) k
+
+-- no name is longer than the texts may be; the root has none
+pub name-short : {tab : List ℕ} {words : ℕ} → Accepted tab words → (k : ℕ) → 0 < k → k < count tab → length (nameOf (getD (nodesOf tab) k none)) ≤ 2 ^ 20
+name-short {tab} a k h l =
+    let e : nameOf (getD (nodesOf tab) k none) ≡ nameAt tab (count tab) (nameOffset tab k) = ap nameOf (getD-nodesOf tab k h l) ∙ node-name tab (count tab) k in
+    rw e (omega (arith, a .names k h l, a .texts))
+
+pub root-name : (tab : List ℕ) (k : ℕ) → k ≡ 0 → nameOf (getD (nodesOf tab) k none) ≡ []
+unfolding nodesOf
+root-name tab k e = rw e

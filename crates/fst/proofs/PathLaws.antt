@@ -142,12 +142,14 @@ module _ (nodes : List Node) (w : WellFormed nodes) (k : ℕ) (inside : k < leng
           let p : parentOf nodes k ≡ j = cc in
           let q : n ≡ m = cc in
           (omega (arith, parent-at-most nodes k), omega arith)
+
       into : (r : Located) → childOf nodes k nm ≡ r → stepTo n r ≡ To j m → (j < length nodes) × (m ≤ n + 1)
       into (located.At i) c e =
           let p : i ≡ j = cc in
           let q : n + 1 ≡ m = cc in
           (omega (arith, child-found nodes k nm i w inside c .1), omega arith)
       into (located.Refused c′) c e = let z : _≡_ {A = ℕ} 0 1 = cc in absurd (omega arith)
+
       go : (t u v : Bool) → cond t (cond u (To k n) (cond v (backOf nodes k n) (intoOf nodes k n nm))) (Refused ExpectedDirectory) ≡ To j m → (j < length nodes) × (m ≤ n + 1)
       go false u v e = let z : _≡_ {A = ℕ} 0 1 = cc in absurd (omega arith)
       go true true v e =

@@ -8,11 +8,12 @@ use native.Mathlib.Numerals.{add-one}
 use borrow.Author.Tests.{eq-eqb, ne-eqb, eqb-true, eqb-false}
 use native.Mathlib.Nat.{add-zero}
 use lib.ListN.{length, getD, drop, List·getD-eq-default, drop-of-length-le}
-use lib.Seq.{drop-cons}
+use lib.Seq.{drop-cons, drop-drop}
 use Rattle.endian.specs.Bytes.{sameBytes}
 use lib.Dec.{eqb}
-use Rattle.tree.specs.Table.{every, dots, safe, safeByte}
-use Rattle.fst.specs.Reading.{textAt}
+use Rattle.tree.specs.Table.{every, dots, safe, plainByte, safeByte, upTo0}
+use Rattle.tree.specs.Texts.{and-left, and-right, and-both}
+use Rattle.fst.specs.Reading.{textAt, byteTest, cleanByte, cleanFrom}
 
 pub text-end : (tab : List ℕ) (i : ℕ) → getD tab i 0 ≡ 0 → textAt tab i ≡ []
 text-end [] zero h = refl
@@ -89,6 +90,10 @@ module _ (tab : List ℕ) (at : ℕ) where
 
 -- ---- a safe name
 
+pub safe-none : (tab : List ℕ) (at : ℕ) → getD tab at 0 ≡ 0 → safe (textAt tab at) ≡ false
+unfolding safe
+safe-none tab at h = rw (text-end tab at h)
+
 pub safe-more : (tab : List ℕ) (at : ℕ) (d t : Bool) → (getD tab at 0 ≡ 0 → ⊥) → dots (textAt tab at) ≡ d → every safeByte (textAt tab at) ≡ t → safe (textAt tab at) ≡ (not d && t)
 unfolding safe
 safe-more tab at d t h e f =
@@ -130,3 +135,34 @@ length-past tab i h = length-end tab i (List·getD-eq-default tab 0 h)
 
 pub length-turn : (tab : List ℕ) (i : ℕ) → (getD tab i 0 ≡ 0 → ⊥) → length (textAt tab i) ≡ suc (length (textAt tab (i + 1)))
 length-turn tab i h = ap length (text-more tab i h)
+
+-- ---- texts of clean bytes
+
+pub clean-past : (tab : List ℕ) (i : ℕ) → length tab ≤ i → cleanFrom tab i ≡ true
+unfolding cleanFrom
+clean-past tab i h = rw (drop-of-length-le tab {i = i} h)
+
+pub clean-turn : (tab : List ℕ) (i : ℕ) (t : Bool) → i < length tab → cleanByte (getD tab i 0) ≡ t → cleanFrom tab i ≡ (t && cleanFrom tab (i + 1))
+unfolding cleanFrom
+clean-turn tab i t h e = rw (drop-cons tab i 0 h, e, add-one i)
+
+clean-drop : (n : ℕ) (s : List ℕ) → every cleanByte s ≡ true → every cleanByte (drop n s) ≡ true
+clean-drop zero s e = e
+clean-drop (suc n) [] e = e
+clean-drop (suc n) (b ∷ s) e = clean-drop n s (and-right (cleanByte b) _ e)
+
+clean-byte : (s : Bool) (b : ℕ) → cleanByte (suc b) ≡ true → byteTest s (suc b) ≡ true
+clean-byte s b e = go s (rw (ne-eqb (suc b) 0 (λ z. omega arith)) at e)
+  where
+    go : (s : Bool) → (plainByte (suc b) && safeByte (suc b)) ≡ true → byteTest s (suc b) ≡ true
+    go true q = and-right (plainByte (suc b)) _ q
+    go false q = and-left (plainByte (suc b)) (safeByte (suc b)) q
+
+clean-text : (s : Bool) (l : List ℕ) → every cleanByte l ≡ true → every (byteTest s) (upTo0 l) ≡ true
+clean-text s [] e = refl
+clean-text s (zero ∷ l) e = refl
+clean-text s (suc b ∷ l) e = and-both _ _ (clean-byte s b (and-left (cleanByte (suc b)) _ e)) (clean-text s l (and-right (cleanByte (suc b)) _ e))
+
+pub clean-every : (tab : List ℕ) (from o : ℕ) (s : Bool) → cleanFrom tab from ≡ true → every (byteTest s) (textAt tab (from + o)) ≡ true
+unfolding cleanFrom
+clean-every tab from o s e = clean-text s (drop (from + o) tab) (rw (← drop-drop o from tab) (clean-drop o (drop from tab) e))

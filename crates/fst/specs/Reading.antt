@@ -1,15 +1,15 @@
 -- What the functions that read a table compute on the way to the definitions of the file table. Assumes nothing: these are definitions.
 use Prim.Native.Nat.{ℕ, zero, suc, _+_, _-_, _*_, _<_, _≤_}
 use mathlib.Core.Path.{_≡_}
-use mathlib.Core.Bool.{Bool, true, false, cond}
+use mathlib.Core.Bool.{Bool, true, false, not, cond, _&&_, _||_}
 use mathlib.Core.List.{List, [], _∷_}
 use lib.ListN.{length, getD, drop}
-use lib.Dec.{leb, ltb}
+use lib.Dec.{leb, ltb, eqb}
 use Rattle.refusal.specs.declared.Verdict.{Verdict}
 use Rattle.refusal.specs.declared.Verdict.the-variants.{Passed}
-use Rattle.refusal.specs.declared.Refusal.the-variants.{MissingNullTerminator, LimitOrMemory, InvalidNextIndex}
+use Rattle.refusal.specs.declared.Refusal.the-variants.{MissingNullTerminator, LimitOrMemory, InvalidNextIndex, InvalidNameByte, UnsafeName}
 use Rattle.refusal.specs.Refusal.{refuse, first}
-use Rattle.tree.specs.Table.{Node, none, plainByte, safeByte, upTo0, nameOffset, sizeOrNext, nameAt, nodeAt, nodesFrom, unended, nameVerdict, nextVerdict, walk, check}
+use Rattle.tree.specs.Table.{Node, none, every, plain, safe, plainByte, safeByte, upTo0, nameOffset, sizeOrNext, nameAt, nodeAt, nodesFrom, unended, nameVerdict, nextVerdict, walk, check}
 use Rattle.tree.specs.Lookup.{isDirectory, nextOf}
 
 -- the text that starts at byte `at` of a table
@@ -53,3 +53,14 @@ nodeVerdict tab c dirs k = first (nameVerdict tab c k (nameAt tab c (nameOffset 
 -- the entry after k and all that is in it
 abbrev pub afterOf : List Node → ℕ → ℕ
 afterOf nodes k = cond (isDirectory (getD nodes k none)) (nextOf (getD nodes k none)) (k + 1)
+
+-- a byte that no name is refused for: the end of a text, or plain and safe
+abbrev pub cleanByte : ℕ → Bool
+cleanByte b = eqb b 0 || (plainByte b && safeByte b)
+
+unfoldable pub cleanFrom : List ℕ → ℕ → Bool
+cleanFrom tab from = every cleanByte (drop from tab)
+
+-- the tests 12 and 13 of a name
+abbrev pub textVerdict : List ℕ → Verdict
+textVerdict nm = refuse (not (plain nm)) InvalidNameByte (refuse (not (safe nm)) UnsafeName Passed)

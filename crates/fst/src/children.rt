@@ -7,7 +7,6 @@ ghost use Rattle.tree.specs.Table as table_of;
 ghost use Rattle.tree.specs.Table.{none, nodesOf, nameOf};
 ghost use Rattle.tree.specs.Lookup.{childOf};
 ghost use Rattle.fst.specs.Reading.{Opens, afterOf};
-
 use crate::entries;
 use crate::opening;
 use crate::text;

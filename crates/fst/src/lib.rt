@@ -1,6 +1,7 @@
 // The file table read (fst.rs, string_table.rs): whether it is accepted, its entries by number and by path.
 mod children;
 mod entries;
+mod listing;
 mod opening;
 mod path;
 mod text;
@@ -10,6 +11,7 @@ pub use entries::entry;
 pub use entries::is_directory;
 pub use entries::next;
 pub use entries::parent;
+pub use listing::list_entries;
 pub use opening::check;
 pub use opening::count;
 pub use path::find;

@@ -1,12 +1,13 @@
 // Whether a table is accepted: document 01's tests 5 to 13, in the order of "Opening".
 ghost use mathlib.Core.Path.{_≡_};
+ghost use mathlib.Core.Bool.{true};
 ghost use mathlib.Core.List.{[], _∷_};
-ghost use Prim.Native.Nat.{_-_, _≤_, _<_};
+ghost use Prim.Native.Nat.{_-_, _*_, _≤_, _<_};
 ghost use lib.ListN.{length};
 ghost use Rattle.refusal.specs.declared.Verdict.the-variants.{Passed};
 ghost use Rattle.tree.specs.Table as table_of;
-ghost use Rattle.tree.specs.Table.{nameOffset, nameAt, nodeAt, nodesFrom, entryVerdict, entriesVerdict, nameVerdict, nextVerdict, top};
-ghost use Rattle.fst.specs.Reading.{Inside, openIn, nodeVerdict, textsVerdict};
+ghost use Rattle.tree.specs.Table.{every, plainByte, safeByte, nameOffset, nameAt, nodeAt, nodesFrom, entryVerdict, entriesVerdict, nameVerdict, nextVerdict, top};
+ghost use Rattle.fst.specs.Reading.{Inside, openIn, nodeVerdict, textsVerdict, textAt, textVerdict, cleanFrom};
 use crate::text;
 use refusal::Refusal;
 use refusal::Verdict;
@@ -50,16 +51,10 @@ fn entries_verdict(table: &[u8], count: usize) -> Verdict
     Verdict::Passed
 }
 
-// The name of entry k: 11, 12, 13.
-fn name_verdict(table: &[u8], count: usize, k: usize) -> Verdict
-    requires { ⌜ Inside (now table) count × (k < count) ⌝ }
-    ensures { λ r. ⌜ r ≡ nameVerdict (now (table .entry)) count k (nameAt (now (table .entry)) count (nameOffset (now (table .entry)) k)) ⌝ }
+// The bytes of the name at `at`: 12, 13.
+fn bytes_verdict(table: &[u8], at: usize) -> Verdict
+    ensures { λ r. ⌜ r ≡ textVerdict (textAt (now (table .entry)) at) ⌝ }
 {
-    let offset = endian::read_u24(table, 12 * k + 1) as usize;
-    if table.len() - 12 * count <= offset {
-        return Verdict::Refused(Refusal::InvalidNameOffset);
-    }
-    let at = 12 * count + offset;
     if !text::every_byte(table, at, false) {
         return Verdict::Refused(Refusal::InvalidNameByte);
     }
@@ -67,6 +62,36 @@ fn name_verdict(table: &[u8], count: usize, k: usize) -> Verdict
         return Verdict::Refused(Refusal::UnsafeName);
     }
     Verdict::Passed
+}
+
+// The same where no byte of the texts is unfit: the first bytes decide.
+fn clean_verdict(table: &[u8], at: usize) -> Verdict
+    requires { ⌜ (every plainByte (textAt (now table) at) ≡ true) × (every safeByte (textAt (now table) at) ≡ true) ⌝ }
+    ensures { λ r. ⌜ r ≡ textVerdict (textAt (now (table .entry)) at) ⌝ }
+{
+    if text::byte_at(table, at) == 0 {
+        return Verdict::Refused(Refusal::UnsafeName);
+    }
+    if text::is_dots(table, at) {
+        return Verdict::Refused(Refusal::UnsafeName);
+    }
+    Verdict::Passed
+}
+
+// The name of entry k: 11, 12, 13. Where the texts are clean, no name is looked at byte by byte.
+fn name_verdict(table: &[u8], count: usize, k: usize, clean: bool) -> Verdict
+    requires { ⌜ Inside (now table) count × (k < count) × ((clean ≡ true) → cleanFrom (now table) (12 * count) ≡ true) ⌝ }
+    ensures { λ r. ⌜ r ≡ nameVerdict (now (table .entry)) count k (nameAt (now (table .entry)) count (nameOffset (now (table .entry)) k)) ⌝ }
+{
+    let offset = endian::read_u24(table, 12 * k + 1) as usize;
+    if table.len() - 12 * count <= offset {
+        return Verdict::Refused(Refusal::InvalidNameOffset);
+    }
+    let at = 12 * count + offset;
+    if clean {
+        return clean_verdict(table, at);
+    }
+    bytes_verdict(table, at)
 }
 
 // The next of the innermost open directory.
@@ -130,11 +155,11 @@ fn enter(table: &[u8], count: usize, nexts: &mut [u32; 65], depth: usize, k: usi
 }
 
 // Entry k of the walk: its name, then its next.
-fn node_verdict(table: &[u8], count: usize, nexts: &[u32; 65], depth: usize, k: usize) -> Verdict
-    requires { ⌜ Inside (now table) count × (k < count) × (depth ≤ 65) ⌝ }
+fn node_verdict(table: &[u8], count: usize, nexts: &[u32; 65], depth: usize, k: usize, clean: bool) -> Verdict
+    requires { ⌜ Inside (now table) count × (k < count) × (depth ≤ 65) × ((clean ≡ true) → cleanFrom (now table) (12 * count) ≡ true) ⌝ }
     ensures { λ r. ⌜ r ≡ nodeVerdict (now (table .entry)) count (openIn (now (nexts .entry)) depth) k ⌝ }
 {
-    let name = name_verdict(table, count, k);
+    let name = name_verdict(table, count, k, clean);
     if name.is_refused() {
         return name;
     }
@@ -146,12 +171,13 @@ fn walk(table: &[u8], count: usize) -> Verdict
     requires { ⌜ Inside (now table) count ⌝ }
     ensures { λ r. ⌜ r ≡ table_of.walk (now (table .entry)) count (count ∷ []) 1 (nodesFrom (now (table .entry)) count 1 (count - 1)) ⌝ }
 {
+    let clean = text::clean_from(table, 12 * count);
     let mut nexts: [u32; 65] = [count as u32; 65];
     let mut depth = 1;
     let mut k = 1;
     while k < count {
         depth = shut(&nexts, depth, k);
-        let verdict = node_verdict(table, count, &nexts, depth, k);
+        let verdict = node_verdict(table, count, &nexts, depth, k, clean);
         if verdict.is_refused() {
             return verdict;
         }

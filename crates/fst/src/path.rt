@@ -10,7 +10,6 @@ ghost use Rattle.tree.specs.Lookup as lookup_of;
 ghost use Rattle.tree.specs.Lookup.{separator, components, goesBack, foundAt};
 ghost use Rattle.fst.specs.Reading.{Opens};
 ghost use Rattle.fst.specs.Steps.{componentsAfter, stepOf, backOf, intoOf};
-
 use crate::children;
 use crate::entries;
 use crate::opening;

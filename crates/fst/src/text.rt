@@ -4,7 +4,7 @@ ghost use Prim.Native.Nat.{_≤_};
 ghost use lib.ListN.{length, getD};
 ghost use Rattle.endian.specs.Bytes.{sameBytes};
 ghost use Rattle.tree.specs.Table.{every, plainByte, safeByte, dots, safe};
-ghost use Rattle.fst.specs.Reading.{textAt, byteTest};
+ghost use Rattle.fst.specs.Reading.{textAt, byteTest, cleanByte, cleanFrom};
 
 // The byte at `at`; a text ends at the table's end as it does at a zero byte.
 pub fn byte_at(table: &[u8], at: usize) -> u8
@@ -34,6 +34,19 @@ fn is_safe(b: u8) -> bool
     b != b':'
 }
 
+fn is_clean(b: u8) -> bool
+    ensures { λ r. ⌜ r ≡ cleanByte b ⌝ }
+{
+    if b == 0 {
+        return true;
+    }
+    if is_plain(b) {
+        is_safe(b)
+    } else {
+        false
+    }
+}
+
 fn fits(b: u8, safe_only: bool) -> bool
     ensures { λ r. ⌜ r ≡ byteTest «safe_only» b ⌝ }
 {
@@ -59,8 +72,23 @@ pub fn every_byte(table: &[u8], at: usize, safe_only: bool) -> bool
     true
 }
 
+// Whether each byte from `from` on is 0, or plain and safe: then so are the bytes of each text there.
+pub fn clean_from(table: &[u8], from: usize) -> bool
+    ensures { λ r. ⌜ r ≡ cleanFrom (now (table .entry)) from ⌝ }
+{
+    let mut i = from;
+    while i < table.len() {
+        if is_clean(table[i]) {
+            i += 1;
+        } else {
+            return false;
+        }
+    }
+    true
+}
+
 // Whether the text at `at` is `.` or `..`.
-fn is_dots(table: &[u8], at: usize) -> bool
+pub fn is_dots(table: &[u8], at: usize) -> bool
     ensures { λ r. ⌜ r ≡ dots (textAt (now (table .entry)) at) ⌝ }
 {
     if byte_at(table, at) != b'.' {
@@ -105,4 +133,18 @@ pub fn text_is(table: &[u8], at: usize, name: &[u8]) -> bool
         i += 1;
     }
     byte_at(table, at + i) == 0
+}
+
+// The length of the text at `at`, without its zero byte.
+pub fn text_length(table: &[u8], at: usize) -> usize
+    ensures { λ r. ⌜ r ≡ length (textAt (now (table .entry)) at) ⌝ }
+{
+    let mut i = at;
+    while i < table.len() {
+        if table[i] == 0 {
+            return i - at;
+        }
+        i += 1;
+    }
+    i - at
 }

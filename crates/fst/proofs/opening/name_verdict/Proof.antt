@@ -1,12 +1,14 @@
--- `fst::opening::name_verdict` meets its contract: each return by the tests that led there.
+-- `fst::opening::name_verdict` meets its contract: the name's text starts at its offset behind the entries.
 -- Assumes nothing.
 use native.Mathlib.Omega.{arith}
 use mathlib.Core.Path.{_≡_, sym, _∙_}
 use mathlib.Core.Bool.{true, false}
-use Prim.Native.Nat.{_-_, _*_}
-use borrow.Author.Tests.{le-leb, lt-leb, not-true, not-false}
+use Prim.Native.Nat.{_+_, _-_, _*_}
+use borrow.Author.Tests.{le-leb, lt-leb}
 use lib.ListN.{length}
-use Rattle.tree.specs.Table.{plain, safe, nameOffset, nameAt, nameVerdict}
+use Rattle.tree.specs.Table.{nameOffset, nameAt, nameVerdict}
+use Rattle.fst.specs.Reading.{textAt, textVerdict}
+use Rattle.fst.proofs.Texts.{clean-every}
 use borrow.Author.Needs.{needs}
 use Rattle.fst.proofs.opening.name_verdict.Statement.{statement}
 use Rattle.fst.proofs.opening.name_verdict.Tie as tie
@@ -41,37 +43,28 @@ mul-at c = search needs
 add-at : tie.Need-add-at
 add-at c = search needs
 
-every-byte-requires : tie.Need-every-byte-requires
-every-byte-requires c κs = search needs
+clean-verdict-requires : tie.Need-clean-verdict-requires
+clean-verdict-requires c κs =
+    let a = c .before .before .before .before .args in
+    let e = c .before .before .before .before .pre .2 (c .if2 .taken) in
+    (clean-every (a .table .now) (12 * a .count) (c .before .before .read-u24 .result) false e, clean-every (a .table .now) (12 * a .count) (c .before .before .read-u24 .result) true e)
 
 returns-2 : tie.Need-returns-2
-unfolding nameVerdict nameAt plain
+unfolding nameVerdict nameAt
 returns-2 c =
     let a = c .before .before .before .before .before .args in
     let o : c .before .before .before .read-u24 .result ≡ nameOffset (a .table .now) (a .k) = c .before .before .before .read-u24 .ensures .0 in
-    let p = sym (c .before .every-byte .ensures) ∙ not-true (c .before .every-byte .result) (c .if2 .taken) in
-    rw (lt-leb (length (a .table .now) - 12 * a .count) (nameOffset (a .table .now) (a .k)) (omega arith), rw o at p)
+    rw (lt-leb (length (a .table .now) - 12 * a .count) (nameOffset (a .table .now) (a .k)) (omega arith)) (rw o at (c .clean-verdict .ensures))
 
-is-safe-name-requires : tie.Need-is-safe-name-requires
-is-safe-name-requires c κs = search needs
+bytes-verdict-requires : tie.Need-bytes-verdict-requires
+bytes-verdict-requires c κs = search needs
 
 returns-3 : tie.Need-returns-3
-unfolding nameVerdict nameAt plain
+unfolding nameVerdict nameAt
 returns-3 c =
-    let a = c .before .before .before .before .before .before .before .args in
-    let o : c .before .before .before .before .before .read-u24 .result ≡ nameOffset (a .table .now) (a .k) = c .before .before .before .before .before .read-u24 .ensures .0 in
-    let p = sym (c .before .before .before .every-byte .ensures) ∙ not-false (c .before .before .before .every-byte .result) (c .before .before .if2 .left) in
-    let q = sym (c .before .is-safe-name .ensures) ∙ not-true (c .before .is-safe-name .result) (c .if3 .taken) in
-    rw (lt-leb (length (a .table .now) - 12 * a .count) (nameOffset (a .table .now) (a .k)) (omega arith), rw o at p, rw o at q)
-
-returns-4 : tie.Need-returns-4
-unfolding nameVerdict nameAt plain
-returns-4 c =
-    let a = c .before .before .before .before .before .before .before .args in
-    let o : c .before .before .before .before .before .read-u24 .result ≡ nameOffset (a .table .now) (a .k) = c .before .before .before .before .before .read-u24 .ensures .0 in
-    let p = sym (c .before .before .before .every-byte .ensures) ∙ not-false (c .before .before .before .every-byte .result) (c .before .before .if2 .left) in
-    let q = sym (c .before .is-safe-name .ensures) ∙ not-false (c .before .is-safe-name .result) (c .if3 .left) in
-    rw (lt-leb (length (a .table .now) - 12 * a .count) (nameOffset (a .table .now) (a .k)) (omega arith), rw o at p, rw o at q)
+    let a = c .before .before .before .before .before .args in
+    let o : c .before .before .before .read-u24 .result ≡ nameOffset (a .table .now) (a .k) = c .before .before .before .read-u24 .ensures .0 in
+    rw (lt-leb (length (a .table .now) - 12 * a .count) (nameOffset (a .table .now) (a .k)) (omega arith)) (rw o at (c .bytes-verdict .ensures))
 
 pub name-verdict-spec : {M : Type 1} → statement M
 name-verdict-spec =
@@ -86,8 +79,7 @@ name-verdict-spec =
     returns
     mul-at
     add-at
-    every-byte-requires
+    clean-verdict-requires
     returns-2
-    is-safe-name-requires
-    returns-3
-    returns-4)
+    bytes-verdict-requires
+    returns-3)

@@ -11,22 +11,28 @@ use Rattle.fst.proofs.opening.walk.Statement.{statement}
 use Rattle.fst.proofs.opening.walk.Tie as tie
 
 abbrev Inv-loop : tie.InvT-loop
-Inv-loop table count nexts₀ depth₀ k₀ nexts depth k = Walked table count nexts depth k
+Inv-loop table count clean nexts₀ depth₀ k₀ nexts depth k = Walked table count nexts depth k
 
 abbrev μ-loop : tie.MeasureT-loop
-μ-loop table count nexts₀ depth₀ k₀ nexts depth k = count - k
+μ-loop table count clean nexts₀ depth₀ k₀ nexts depth k = count - k
+
+mul-clean-from : tie.Need-mul-clean-from Inv-loop μ-loop
+mul-clean-from c = omega arith
+
+clean-from-requires : tie.Need-clean-from-requires Inv-loop μ-loop
+clean-from-requires c κs = search needs
 
 cast-nexts : tie.Need-cast-nexts Inv-loop μ-loop
 cast-nexts c = search needs
 
 loop-holds : tie.Need-loop-holds Inv-loop μ-loop
-loop-holds c = walked-start (c .before .args .table .now) (c .before .args .count)
+loop-holds c = walked-start (c .before .before .args .table .now) (c .before .before .args .count)
 
 shut-requires : tie.Need-shut-requires Inv-loop μ-loop
 shut-requires c κs = omega arith
 
 node-verdict-requires : tie.Need-node-verdict-requires Inv-loop μ-loop
-node-verdict-requires c κs = search needs
+node-verdict-requires c κs = (c .before .before .before .before .before .before .before .pre, omega arith, omega arith, λ e. sym (c .before .before .before .before .before .clean-from .ensures) ∙ e)
 
 is-refused-requires : tie.Need-is-refused-requires Inv-loop μ-loop
 is-refused-requires c κs = search needs
@@ -61,6 +67,8 @@ walk-spec =
     (tie.spec
     Inv-loop
     μ-loop
+    mul-clean-from
+    clean-from-requires
     cast-nexts
     loop-holds
     shut-requires

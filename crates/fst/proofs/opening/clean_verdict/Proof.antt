@@ -1,0 +1,32 @@
+-- `fst::opening::clean_verdict` meets its contract: of plain and safe bytes only the empty text, `.` and `..` are no names.
+-- Assumes nothing.
+use mathlib.Core.Path.{_≡_, sym, _∙_}
+use mathlib.Core.Bool.{true, false}
+use Rattle.tree.specs.Table.{plain, safe}
+use Rattle.fst.specs.Reading.{textAt}
+use Rattle.fst.proofs.Texts.{safe-none, safe-more}
+use borrow.Author.Needs.{needs}
+use Rattle.fst.proofs.opening.clean_verdict.Statement.{statement}
+use Rattle.fst.proofs.opening.clean_verdict.Tie as tie
+
+byte-at-requires : tie.Need-byte-at-requires
+byte-at-requires c κs = search needs
+
+returns : tie.Need-returns
+unfolding plain
+returns c = rw (c .before .before .before .pre .0, safe-none (c .before .before .before .args .table .now) (c .before .before .before .args .at) (sym (c .before .byte-at .ensures) ∙ c .if1 .taken))
+
+is-dots-requires : tie.Need-is-dots-requires
+is-dots-requires c κs = search needs
+
+returns-2 : tie.Need-returns-2
+unfolding plain
+returns-2 c = rw (c .before .before .before .before .before .pre .0, safe-more (c .before .before .before .before .before .args .table .now) (c .before .before .before .before .before .args .at) true true (λ e. c .before .before .if1 .left (c .before .before .before .byte-at .ensures ∙ e)) (sym (c .before .is-dots .ensures) ∙ c .if2 .taken) (c .before .before .before .before .before .pre .1))
+
+returns-3 : tie.Need-returns-3
+unfolding plain
+returns-3 c = rw (c .before .before .before .before .before .pre .0, safe-more (c .before .before .before .before .before .args .table .now) (c .before .before .before .before .before .args .at) false true (λ e. c .before .before .if1 .left (c .before .before .before .byte-at .ensures ∙ e)) (sym (c .before .is-dots .ensures) ∙ c .if2 .left) (c .before .before .before .before .before .pre .1))
+
+pub clean-verdict-spec : {M : Type 1} → statement M
+clean-verdict-spec =
+    tie.close (tie.spec byte-at-requires returns is-dots-requires returns-2 returns-3)

@@ -1,0 +1,42 @@
+-- All entries of an accepted table at once, six words an entry. Assumes nothing: these are definitions.
+use Prim.Native.Nat.{ℕ, zero, suc, _+_, _*_, _<_}
+use mathlib.Core.Path.{_≡_}
+use mathlib.Core.Bool.{Bool, true, false, cond}
+use mathlib.Core.List.{List, [], _∷_, _++_}
+use lib.ListN.{length, getD}
+use lib.Dec.{ltb}
+use Rattle.endian.specs.Bytes.{put}
+use Rattle.refusal.specs.declared.Verdict.{Verdict}
+use Rattle.refusal.specs.declared.Verdict.the-variants.{Passed}
+use Rattle.refusal.specs.declared.Refusal.the-variants.{LimitOrMemory}
+use Rattle.refusal.specs.Refusal.{refuse}
+use Rattle.tree.specs.Table.{Node, file, directory, none, count, nameOffset, nodesOf, parentOf}
+
+-- kind, the directory that it is nested in, offset (0 for a directory), size or next, where its name stands in the table, the name's length
+abbrev pub rowWith : ℕ → ℕ → Node → List ℕ
+rowWith parent place (file nm offset size) = 0 ∷ parent ∷ offset ∷ size ∷ place ∷ length nm ∷ []
+rowWith parent place (directory nm next) = 1 ∷ parent ∷ 0 ∷ next ∷ place ∷ length nm ∷ []
+
+-- where the name of entry k stands in the table; 0 for the root, which has none
+abbrev pub namePlace : List ℕ → ℕ → ℕ
+namePlace tab zero = 0
+namePlace tab (suc k) = 12 * count tab + nameOffset tab (suc k)
+
+unfoldable pub rowOf : List ℕ → ℕ → List ℕ
+rowOf tab k = rowWith (parentOf (nodesOf tab) k) (namePlace tab k) (getD (nodesOf tab) k none)
+
+-- the rows of the entries below k
+unfoldable pub rowsBelow : List ℕ → ℕ → List ℕ
+rowsBelow tab zero = []
+rowsBelow tab (suc k) = rowsBelow tab k ++ rowOf tab k
+
+-- in a list, the parents of the entries below k, as `rowsBelow` has them
+pub record ParentsIn (tab : List ℕ) (k : ℕ) (list : List ℕ) : Type 0 where
+  pub at : (i : ℕ) → i < k → getD list (6 * i + 1) 0 ≡ parentOf (nodesOf tab) i
+
+-- "result list short 9": nothing is written then; words past the answer stay
+unfoldable pub listVerdict : List ℕ → ℕ → Verdict
+listVerdict tab room = refuse (ltb room (6 * count tab)) LimitOrMemory Passed
+
+unfoldable pub listed : List ℕ → List ℕ → List ℕ
+listed tab list = cond (ltb (length list) (6 * count tab)) list (put list 0 (rowsBelow tab (count tab)))
