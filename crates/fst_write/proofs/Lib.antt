@@ -6,3 +6,6 @@ pub mod Split
 pub mod Turn
 pub mod Whole
 pub mod Measuring
+pub mod Patches
+pub mod Inserted
+pub mod Written

@@ -1,10 +1,10 @@
 -- The sum of the texts that stops at the limit, over the turns of a directory's loop. Assumes nothing.
-use Prim.Native.Nat.{ℕ, _+_, _-_, _*_, _≤_, _<_, min}
+use Prim.Native.Nat.{ℕ, _+_, _-_, _*_, _≤_, _<_, _^_, min}
 use mathlib.Core.Path.{_≡_, refl, sym, ap, _∙_}
-use mathlib.Core.Bool.{true, false}
+use mathlib.Core.Bool.{Bool, true, false, cond}
 use mathlib.Core.List.{List, tail}
 use native.Mathlib.Omega.{arith}
-use borrow.Author.Tests.{eq-eqb, lt-ltb, le-ltb}
+use borrow.Author.Tests.{eq-eqb, lt-ltb, le-ltb, ltb-false}
 use lib.ListN.{length}
 use lib.Dec.{ltb}
 use Rattle.tree.specs.Table.{kind, sizeOrNext, count, nodesFrom, nodesOf, textsOf, encode}
@@ -80,3 +80,15 @@ module _ (tab : List ℕ) (n : ℕ) (v : Valid tab n) where
   measured-size h =
       let e : 12 * n + textTo tab n 1 n 0 ≡ length (encode (nodesOf tab)) = omega (arith, encode-size tab n v, text-end tab n (n - 1) 1 0) in
       rw (le-ltb 1048576 (length (textsOf (tail (nodesOf tab)))) (omega (arith, texts-are)), e)
+
+  -- for callers: what was measured is the size of what is written, and name offsets fit
+  pub measured-fits : (m : ℕ) → measureOf tab ≡ Size m → (length (encode (nodesOf tab)) ≡ m) × (length (encode (nodesOf tab)) ≤ 2 ^ 24)
+  unfolding measureOf
+  measured-fits m = go (ltb 1048576 (length (textsOf (tail (nodesOf tab))))) refl
+    where
+      go : (t : Bool) → ltb 1048576 (length (textsOf (tail (nodesOf tab)))) ≡ t → cond t PastLimit (Size (length (encode (nodesOf tab)))) ≡ Size m
+          → (length (encode (nodesOf tab)) ≡ m) × (length (encode (nodesOf tab)) ≤ 2 ^ 24)
+      go true e h = let z : _≡_ {A = ℕ} 0 1 = cc in absurd (omega arith)
+      go false e h =
+          let z : length (encode (nodesOf tab)) ≡ m = cc in
+          (z, omega (arith, ltb-false 1048576 (length (textsOf (tail (nodesOf tab)))) e, texts-are, encode-size tab n v, text-end tab n (n - 1) 1 0, v .few))

@@ -9,6 +9,7 @@ use native.Mathlib.Nat.{add-assoc}
 use lib.ListN.{length, getD, take, drop, length-append}
 use lib.Seq.{length-take-le, take-at, ext-getD}
 use Rattle.endian.specs.Bytes.{put, be24Bytes, be32Bytes}
+use Rattle.fst_write.specs.Inserting.{fieldBytes}
 use Rattle.endian.specs.Laws.{length-put, put-before, put-in, put-after, put-outside, drop-put, lt-or-le, Outside}
 
 pub take-put : (s : List ℕ) (at : ℕ) (a : List ℕ) → at + length a ≤ length s → take (at + length a) (put s at a) ≡ take at s ++ a
@@ -84,9 +85,13 @@ module _ (s : List ℕ) (at : ℕ) (a : List ℕ) (m : ℕ) (b : List ℕ) (apar
       length-put (put s at a) m b second ∙ len ∙ sym (length-put (put s m b) at a first′ ∙ len′) in
       ext-getD 0 (put (put s at a) m b) (put (put s m b) at a) l (λ i h. each i)
 
+-- the second part before the first
+pub put-prepend : (s : List ℕ) (at : ℕ) (a : List ℕ) (m : ℕ) (b : List ℕ) → m ≡ at + length a → m + length b ≤ length s → put (put s m b) at a ≡ put s at (a ++ b)
+put-prepend s at a m b e h = sym (put-swap s at a m b (omega arith) h) ∙ put-append s at a m b e h
+
 -- an entry's four fields
 pub put-fields : (s : List ℕ) (at kind o a b : ℕ) → at + 12 ≤ length s →
-    put (put (put (put s at (kind ∷ [])) (at + 1) (be24Bytes o)) (at + 4) (be32Bytes a)) (at + 8) (be32Bytes b) ≡ put s at (kind ∷ (be24Bytes o ++ (be32Bytes a ++ be32Bytes b)))
+    put (put (put (put s at (kind ∷ [])) (at + 1) (be24Bytes o)) (at + 4) (be32Bytes a)) (at + 8) (be32Bytes b) ≡ put s at (fieldBytes kind o a b)
 put-fields s at kind o a b h =
     rw (
       put-append s at (kind ∷ []) (at + 1) (be24Bytes o) refl (omega arith),

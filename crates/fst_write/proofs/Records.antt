@@ -7,29 +7,24 @@ use mathlib.Core.List.{List, [], _∷_, _++_}
 use native.Mathlib.Omega.{arith}
 use lib.ListN.{length, drop}
 use lib.Dec.{eqb}
-use Rattle.endian.specs.Bytes.{put, span, be24Bytes, be32Bytes}
-use Rattle.tree.specs.Table.{kind, nameOffset, offsetOrParent, sizeOrNext, upTo0, nameAt, nodeWith, nodeAt, nodeBytes, directory}
+use Rattle.endian.specs.Bytes.{put, span}
+use Rattle.tree.specs.Table.{kind, nameOffset, offsetOrParent, sizeOrNext, upTo0, nameAt, nodeWith, nodeAt, nodeBytes}
 use Rattle.fst_write.specs.Valid.{nameSize}
-use Rattle.fst_write.specs.Flat.{placeOf, recordAt, textAt, rootAt}
+use Rattle.fst_write.specs.Flat.{placeOf, recordAt, textAt}
+use Rattle.fst_write.specs.Inserting.{fieldBytes}
 use Rattle.fst_write.proofs.Names.{take-run}
-use Rattle.fst_write.proofs.Puts.{put-append, put-fields}
+use Rattle.fst_write.proofs.Puts.{put-append}
 
-fields-of : (t : ℕ) (nm : List ℕ) (a b p o : ℕ) → t ≤ 1 → t ∷ (be24Bytes o ++ (be32Bytes (cond (eqb t 0) a p) ++ be32Bytes b)) ≡ nodeBytes p o (nodeWith t nm a b)
+fields-of : (t : ℕ) (nm : List ℕ) (a b p o : ℕ) → t ≤ 1 → fieldBytes t o (cond (eqb t 0) a p) b ≡ nodeBytes p o (nodeWith t nm a b)
 fields-of zero nm a b p o h = refl
 fields-of (suc zero) nm a b p o h = refl
 fields-of (suc (suc t)) nm a b p o h = absurd (omega arith)
 
-pub record-is : (tab : List ℕ) (n parent k text : ℕ) (out : List ℕ) → kind tab k ≤ 1 → 12 * k + 12 ≤ length out →
-    put (put (put (put out (12 * k) (kind tab k ∷ [])) (12 * k + 1) (be24Bytes (text - 12 * n))) (12 * k + 4) (be32Bytes (placeOf tab parent k))) (12 * k + 8) (be32Bytes (sizeOrNext tab k))
-    ≡ recordAt tab n parent k text out
+pub record-is : (tab : List ℕ) (n parent k text : ℕ) (out : List ℕ) → kind tab k ≤ 1 →
+    put out (12 * k) (fieldBytes (kind tab k) (text - 12 * n) (placeOf tab parent k) (sizeOrNext tab k)) ≡ recordAt tab n parent k text out
 unfolding recordAt nodeAt
-record-is tab n parent k text out t h =
-    put-fields out (12 * k) (kind tab k) (text - 12 * n) (placeOf tab parent k) (sizeOrNext tab k) h
-    ∙ ap (λ (l : List ℕ). put out (12 * k) l) (fields-of (kind tab k) (nameAt tab n (nameOffset tab k)) (offsetOrParent tab k) (sizeOrNext tab k) parent (text - 12 * n) t)
-
-pub root-is : (n : ℕ) (out : List ℕ) → 12 ≤ length out → put (put (put (put out 0 (1 ∷ [])) 1 (be24Bytes 0)) 4 (be32Bytes 0)) 8 (be32Bytes n) ≡ rootAt n out
-unfolding rootAt
-root-is n out h = put-fields out 0 1 0 0 n h
+record-is tab n parent k text out t =
+    ap (λ (l : List ℕ). put out (12 * k) l) (fields-of (kind tab k) (nameAt tab n (nameOffset tab k)) (offsetOrParent tab k) (sizeOrNext tab k) parent (text - 12 * n) t)
 
 pub text-is : (tab : List ℕ) (n k text : ℕ) (out : List ℕ) → text + nameSize tab n k + 1 ≤ length out →
     put (put out text (span tab (12 * n + nameOffset tab k) (nameSize tab n k))) (text + nameSize tab n k) (0 ∷ []) ≡ textAt tab n k text out

@@ -1,5 +1,8 @@
 // The file table written anew, with no name shared: an entry that is a directory writes that directory, and a directory writes its entries.
 // The table is in preorder, so what is written is what `writeFlat` writes, entry by entry, and that is `encode` of the table's entries.
+mod patch;
+
+pub use patch::insert;
 ghost use mathlib.Core.Path.{_≡_};
 ghost use mathlib.Core.List.{[], _∷_, _++_};
 ghost use Prim.Native.Nat.{_+_, _-_, _*_, _≤_, _<_, _^_};
@@ -8,6 +11,7 @@ ghost use Rattle.endian.specs.Bytes.{put, be32Bytes};
 ghost use Rattle.tree.specs.Table.{kind, nameOffset, sizeOrNext, upTo0, count, nodesOf, parentOf, encode};
 ghost use Rattle.fst_write.specs.Valid.{Valid, nameSize};
 ghost use Rattle.fst_write.specs.Measure.{measureOf, capped};
+ghost use Rattle.fst_write.specs.Inserting.{fieldBytes};
 ghost use Rattle.fst_write.specs.Flat.{afterOf, placeOf, recordAt, textAt, textTo, writeTo, rootAt, Room};
 
 // More bytes of texts than this are refused (document 01: "texts over 1,048,576 bytes (9)").
@@ -64,17 +68,29 @@ fn name_size(table: &[u8], count: usize, k: usize) -> usize
     name_len(table, from)
 }
 
+// Writes the four fields of entry k.
+fn write_fields(out: &mut [u8], k: usize, kind: u8, name: u32, place: u32, next: u32)
+    requires { ⌜ (12 * k + 12 ≤ length (now out)) × (name < 2 ^ 24) ⌝ }
+    ensures { λ _. ⌜ now (out .exit) ≡ put (now (out .entry)) (12 * k) (fieldBytes kind name place next) ⌝ }
+{
+    let at = 12 * k;
+    endian::write_u8(out, at, kind);
+    endian::write_u24(out, at + 1, name);
+    endian::write_u32(out, at + 4, place);
+    endian::write_u32(out, at + 8, next);
+}
+
 // Writes the record of entry k, whose name is to stand at `text`.
 fn write_record(table: &[u8], out: &mut [u8], count: usize, k: usize, parent: u32, text: usize)
     requires { ⌜ (12 * k + 12 ≤ length (now table)) × (12 * k + 12 ≤ length (now out)) × (kind (now table) k ≤ 1) ⌝ }
     requires { ⌜ (12 * count ≤ text) × (text < 2 ^ 24) × (count ≤ 16384) ⌝ }
     ensures { λ _. ⌜ now (out .exit) ≡ recordAt (now (table .entry)) count parent k text (now (out .entry)) ⌝ }
 {
-    let at = 12 * k;
-    endian::write_u8(out, at, table[at]);
-    endian::write_u24(out, at + 1, (text - 12 * count) as u32);
-    endian::write_u32(out, at + 4, place_of(table, k, parent));
-    endian::write_u32(out, at + 8, endian::read_u32(table, at + 8));
+    let kind = table[12 * k];
+    let name = (text - 12 * count) as u32;
+    let place = place_of(table, k, parent);
+    let next = endian::read_u32(table, 12 * k + 8);
+    write_fields(out, k, kind, name, place, next);
 }
 
 // Writes the name of entry k at `text`, and returns the place after it.
@@ -153,10 +169,7 @@ fn write_root(out: &mut [u8], count: usize)
     requires { ⌜ (12 ≤ length (now out)) × (count ≤ 16384) ⌝ }
     ensures { λ _. ⌜ now (out .exit) ≡ rootAt count (now (out .entry)) ⌝ }
 {
-    endian::write_u8(out, 0, 1);
-    endian::write_u24(out, 1, 0);
-    endian::write_u32(out, 4, 0);
-    endian::write_u32(out, 8, count as u32);
+    write_fields(out, 0, 1, 0, 0, count as u32);
 }
 
 // Writes the whole table, and returns its size.
