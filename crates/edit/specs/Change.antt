@@ -34,7 +34,7 @@ padded table size = table ++ replicate (size - length table) 0
 
 -- `commit_file_tree`: the table at f, over one of that size, and "the new FST size in the header"
 unfoldable pub withTable : ℕ → ℕ → List ℕ → List ℕ → List ℕ
-withTable f size table image = put (put image f (padded table size)) (fstSizeField .offset) (be32Bytes (length table))
+withTable f size table image = put (put image f (padded table size)) (fstSizeField .at) (be32Bytes (length table))
 
 -- "Move copies the smaller of both sizes, writes the table, then zeroes the old place; a shrink zeroes the lost end after the table."
 unfoldable pub written : Change → List ℕ → List ℕ

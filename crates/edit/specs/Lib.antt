@@ -1,2 +1,3 @@
 pub mod Change
 pub mod Edits
+pub mod Decision

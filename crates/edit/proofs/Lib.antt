@@ -1,0 +1,5 @@
+-- What the proofs of the functions cite.
+pub mod Puts
+pub mod Decisions
+pub mod Images
+pub mod Files

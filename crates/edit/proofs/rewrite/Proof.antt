@@ -1,0 +1,46 @@
+-- `edit::rewrite` meets its contract: the decision is carried out, and the working memory zeroed.
+-- Assumes nothing.
+use mathlib.Core.Path.{_≡_, refl, sym, ap, _∙_}
+use Prim.Native.Nat.{ℕ, _+_, _-_, _*_, _≤_, _<_}
+use native.Mathlib.Omega.{arith}
+use denote.Ref.{now}
+use lib.ListN.{length, replicate}
+use mathlib.Core.List.{List}
+use Rattle.edit.specs.Edits as edits
+use Rattle.edit.proofs.Decisions.{edit-decided}
+use borrow.Author.Needs.{needs}
+use Rattle.edit.proofs.rewrite.Statement.{statement}
+use Rattle.edit.proofs.rewrite.Tie as tie
+
+decide-rewrite-requires : tie.Need-decide-rewrite-requires
+decide-rewrite-requires c κs = search needs
+
+finish-requires : tie.Need-finish-requires
+finish-requires c κs = rw (c .before .before .before .before .before .before .before .decide-rewrite .kept .1 .1 .0) (c .before .before .before .before .before .before .before .decide-rewrite .ensures .fits)
+
+same-length : tie.Need-same-length
+same-length c = search needs
+
+same-length-2 : tie.Need-same-length-2
+same-length-2 c = search needs
+
+same-length-3 : tie.Need-same-length-3
+same-length-3 c = search needs
+
+returns : tie.Need-returns
+returns c = let s = c .before .before .before .before .before .before .before .before .before .before .before .before .before .before .before .before .before .before .before .before .before in
+    let d = c .before .before .before .before .before .before .before .before .before .before .before .before .before .before .decide-rewrite in
+    let f = c .before .before .before .before .before .before .finish .ensures in
+    let e = edit-decided (now (s .args .image)) (length (now (s .args .words))) (length (now (s .args .bytes))) _ edits.rewrite _ (d .ensures) in
+    ((f .0 .0 ∙ e .0, f .0 .1 ∙ e .1), (f .1 .0 ∙ ap (λ (n : ℕ). replicate n 0) (d .kept .1 .0), f .1 .1 ∙ ap (λ (n : ℕ). replicate n 0) (d .kept .1 .1 .0)))
+
+pub rewrite-spec : {M : Type 1} → statement M
+rewrite-spec =
+    tie.close
+    (tie.spec
+    decide-rewrite-requires
+    finish-requires
+    same-length
+    same-length-2
+    same-length-3
+    returns)
