@@ -1,0 +1,94 @@
+-- Demand 3, "a single claim about the list and not one for each call": what holds of the image after any list of calls, by the ledger of the
+-- list. Beside it the same of a file that no accepted edit named, in the words of the licence. Assumes nothing.
+use Prim.Native.Nat.{ℕ, _+_, _≤_}
+use mathlib.Core.Path.{_≡_}
+use mathlib.Core.Bool.{false}
+use mathlib.Core.List.{List, map}
+use lib.ListN.{length, getD, take}
+use Rattle.endian.specs.Bytes.{span, AllBytes}
+use Rattle.refusal.specs.declared.Verdict.the-variants.{Passed}
+use Rattle.header.specs.Verdicts.{tableEnd, discEnd}
+use Rattle.tree.specs.Table.{file, none}
+use Rattle.space.specs.Used.{totalSize}
+use Rattle.space.specs.Listing.{listingOf, listAfter}
+use Rattle.disc.specs.Opening.{nodesIn, regionOf, usedIn, freeOf, opening}
+use Rattle.disc.specs.Calls.{totalsAnswer, freeRegionsAnswer, freeRegionsList}
+use Rattle.disc.specs.declared.TotalsAnswer.the-variants.{Found}
+use Rattle.ledger.specs.Ledger.{Ledger, bare, filesBefore, historyOf, firstLedger, Report, ledgerAfter}
+use Rattle.ledger.specs.Runs.{Call, imageAfterAll, reportsOf, AllWithin}
+use Rattle.ledger.specs.Spared.{numberAfter, Spared}
+use Rattle.ledger.specs.SparedLaws.{spared, begins}
+use Rattle.ledger.specs.Apart.{Has, region}
+use Rattle.ledger.specs.Kept.{Kept}
+use Rattle.ledger.specs.Sequence.{start, along, no-byte-twice, sum, used-reported, free-reported, free-listed, entry-least, entry-known, entry-first, entry-place, still-there}
+
+-- of the file with entry number k, which lies at `offset` and has `size` bytes, by "what the ledger holds for its file k"
+pub record TrueTo (image : List ℕ) (l : Ledger) (k offset size : ℕ) : Type 0 where
+  -- m is at most its size, and at most the number of its starting bytes
+  pub m-size : historyOf l k .m ≤ size
+  pub m-bytes : historyOf l k .m ≤ length (historyOf l k .bytes)
+  -- its first m bytes are its first m starting bytes
+  pub first-bytes : span image offset (historyOf l k .m) ≡ take (historyOf l k .m) (historyOf l k .bytes)
+  -- unnamed, it has its starting place, size and bytes
+  pub unnamed : historyOf l k .named ≡ false → (offset ≡ historyOf l k .place) × (size ≡ length (historyOf l k .bytes)) × (span image offset size ≡ historyOf l k .bytes)
+
+-- of the image after a list of calls, and the list's ledger; w is the "same memory"
+pub record Demand3 (w : ℕ) (image : List ℕ) (l : Ledger) : Type 0 where
+  pub opens : opening image w ≡ Passed
+  -- "After the list, opening reads the ledger's names, kinds, nesting, order and sizes"
+  pub tree : map bare (nodesIn image) ≡ l .nodes
+  -- no two used regions share a byte: regions i and j that both have byte n are one region
+  pub apart : (i j n : ℕ) → Has (region (usedIn image) i) n → Has (region (usedIn image) j) n → i ≡ j
+  -- table end + all file sizes + free bytes = disc end; "Free bytes are the free regions' sizes together"
+  pub sum : tableEnd image + totalSize (map regionOf (nodesIn image)) + totalSize (freeOf image) ≡ discEnd image
+  -- "a used total or free region reported then is the one defined above"
+  pub used-reported : totalsAnswer image w ≡ Found (record { «disc_end» = discEnd image; used = tableEnd image + totalSize (map regionOf (nodesIn image)) })
+  pub free-reported : (room : ℕ) → freeRegionsAnswer image w room ≡ listingOf (freeOf image) room
+  pub free-listed : (list : List ℕ) → freeRegionsList image w list ≡ listAfter (freeOf image) list
+  -- each file is true to its history
+  pub files : (k : ℕ) (nm : List ℕ) (offset size : ℕ) → getD (nodesIn image) k none ≡ file nm offset size → TrueTo image l k offset size
+
+-- THEOREM: an image of bytes that opening accepts with w₀ words, any list of calls, and w words, which are no fewer than w₀ and than any call of
+-- the list was lent
+pub demand-3 : (image : List ℕ) (w₀ w : ℕ) (calls : List Call) → AllBytes image → opening image w₀ ≡ Passed → w₀ ≤ w → AllWithin w calls →
+    Demand3 w (imageAfterAll calls image) (ledgerAfter (reportsOf calls image) (firstLedger image))
+demand-3 image w₀ w calls b e h a = claim (imageAfterAll calls image) (ledgerAfter (reportsOf calls image) (firstLedger image)) (along w calls image (firstLedger image) a (start image w₀ w h b e))
+  where
+    claim : (last : List ℕ) (l : Ledger) → Kept w last l → Demand3 w last l
+    claim last l k = record {
+      opens = k .opens;
+      tree = k .shape;
+      apart = no-byte-twice w last l k;
+      sum = sum w last l k;
+      used-reported = used-reported w last l k;
+      free-reported = free-reported w last l k;
+      free-listed = free-listed w last l k;
+      files = λ n nm offset size q. record {
+        m-size = entry-least w last l k n nm offset size q;
+        m-bytes = entry-known w last l k n nm offset size q;
+        first-bytes = entry-first w last l k n nm offset size q;
+        unnamed = entry-place w last l k n nm offset size q;
+      };
+    }
+
+-- ---- the licence: "after any list, a file that no accepted edit named lies where it lay, byte for byte"
+
+-- the file of that name that lay at `offset` in the first image, as the last image has it: the same place and size, and the same bytes
+pub record StillThere (first last : List ℕ) (f : ℕ) (nm : List ℕ) (offset size : ℕ) : Type 0 where
+  -- its entry number now; it is file f of them
+  pub entry : ℕ
+  pub number : filesBefore entry (nodesIn last) ≡ f
+  pub lies : getD (nodesIn last) entry none ≡ file nm offset size
+  pub bytes : span last offset size ≡ span first offset size
+
+pub unnamed-stays : (image : List ℕ) (w₀ w : ℕ) (calls : List Call) → AllBytes image → opening image w₀ ≡ Passed → w₀ ≤ w → AllWithin w calls →
+    (k : ℕ) (nm : List ℕ) (offset size : ℕ) → getD (nodesIn image) k none ≡ file nm offset size → Spared (reportsOf calls image) (firstLedger image) (filesBefore k (nodesIn image)) →
+    StillThere image (imageAfterAll calls image) (numberAfter (reportsOf calls image) (firstLedger image) (filesBefore k (nodesIn image))) nm offset size
+unnamed-stays image w₀ w calls b e h a k nm offset size q s =
+    let reports : List Report = reportsOf calls image in
+    let last : List ℕ = imageAfterAll calls image in
+    let l : Ledger = ledgerAfter reports (firstLedger image) in
+    let f : ℕ = numberAfter reports (firstLedger image) (filesBefore k (nodesIn image)) in
+    let g = spared reports (firstLedger image) (filesBefore k (nodesIn image)) _ nm s (begins image k nm offset size q) in
+    let t = still-there w last l (along w calls image (firstLedger image) a (start image w₀ w h b e)) f (record { offset = offset; size = size }) nm (span image offset size) (g .0 .0) (g .0 .1) (g .1 .1) in
+    record { entry = t .0; number = t .1; lies = t .2; bytes = t .3 }

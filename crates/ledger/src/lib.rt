@@ -1,0 +1,1 @@
+// No code: what holds after any list of edits is in specs/.
