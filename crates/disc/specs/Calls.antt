@@ -32,8 +32,11 @@ use Rattle.disc.specs.declared.SizeAnswer.{SizeAnswer}
 use Rattle.disc.specs.declared.SizeAnswer.the-variants as size
 use Rattle.disc.specs.declared.WindowAnswer.{WindowAnswer}
 use Rattle.disc.specs.declared.WindowAnswer.the-variants as window
+use Rattle.fst.specs.Rows.{listVerdict, listed}
+use Rattle.disc.specs.declared.Opened.{Opened}
+use Rattle.disc.specs.declared.Opened.the-variants as opened
 use Rattle.disc.specs.declared.DolFile.{DolFile}
-use Rattle.disc.specs.Opening.{opening, nodesIn, freeOf, usedOf}
+use Rattle.disc.specs.Opening.{opening, tableOf, nodesIn, freeOf, usedOf, discOf}
 
 -- an answer behind tests: the refusal that they give, or the answer
 abbrev pub behind : {A : Type 0} → Verdict → (Refusal → A) → A → A
@@ -50,6 +53,17 @@ lookupAnswer image words start path =
     behind (opening image words) found.Refused
     (behind (refuse (ltb 1024 (length path)) LimitOrMemory verdict.Passed) found.Refused
     (foundAt (nodesIn image) (lookup (nodesIn image) start path)))
+
+-- all entries at once, into a list of so many words: six an entry (`rowOf`); the place of a name counts from the FST offset, which the
+-- answer has beside the count
+unfoldable pub entriesAnswer : List ℕ → ℕ → ℕ → Opened
+entriesAnswer image words room =
+    behind (opening image words) opened.Refused
+    (behind (listVerdict (tableOf image) room) opened.Refused
+    (opened.Accepted (discOf image)))
+
+unfoldable pub entriesList : List ℕ → ℕ → List ℕ → List ℕ
+entriesList image words list = behind (opening image words) (λ c. list) (listed (tableOf image) list)
 
 -- ---- space
 

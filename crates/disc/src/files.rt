@@ -14,7 +14,7 @@ use tree::Found;
 use window::Window;
 
 // The table of an image that opened.
-fn table(image: &[u8], words: usize) -> &[u8]
+pub fn table(image: &[u8], words: usize) -> &[u8]
     requires { ⌜ opening (now image) words ≡ Passed ⌝ }
     ensures { λ r. ⌜ now r ≡ tableOf (now (image .entry)) ⌝ }
 {

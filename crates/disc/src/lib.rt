@@ -1,6 +1,7 @@
 // Opening an image, and every call that reads it. Each call opens the image anew, and leaves the working words zero.
 mod executable;
 mod files;
+mod listing;
 mod regions;
 
 use dol::DolHeader;
@@ -9,6 +10,7 @@ pub use files::entry;
 pub use files::lookup;
 pub use files::max_file_size;
 pub use files::open_file;
+pub use listing::entries;
 use refusal::Refusal;
 use refusal::Verdict;
 pub use regions::allocate;

@@ -15,7 +15,7 @@ use space::Allocation;
 use space::Listing;
 
 // What opening tells of an image that it accepts.
-fn disc_of(image: &[u8], words: &[u32], count: usize) -> Disc
+pub fn disc_of(image: &[u8], words: &[u32], count: usize) -> Disc
     requires { ⌜ (opening (now image) (length (now words)) ≡ Passed) × UsedWords (now image) (now words) count ⌝ }
     ensures { λ r. ⌜ r ≡ discOf (now (image .entry)) ⌝ }
 {
