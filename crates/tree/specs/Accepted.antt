@@ -1,7 +1,7 @@
 -- What acceptance gives: the entries of an accepted table are a well-formed tree within the limits, and every place that its entries
 -- name lies in the table. Assumes nothing.
 use Prim.Native.Nat.{ℕ, zero, suc, _+_, _-_, _*_, _^_, _<_, _≤_}
-use mathlib.Core.Path.{_≡_, refl, sym, ap, _∙_}
+use mathlib.Core.Path.{_≡_, refl, ap, _∙_}
 use mathlib.Core.Bool.{Bool, true, false, not, _&&_}
 use mathlib.Core.List.{List, [], _∷_}
 use native.Mathlib.Omega.{arith}
@@ -9,9 +9,8 @@ use native.Mathlib.Nat.{add-zero}
 use borrow.Author.Tests.{ltb-false, leb-false, lt-ltb, eqb-true, eqb-false, not-false, le-leb}
 use lib.ListN.{length, getD}
 use lib.Dec.{leb, ltb, eqb}
-use Rattle.endian.specs.Bytes.{be32, AllBytes}
+use Rattle.endian.specs.Bytes.{AllBytes}
 use Rattle.endian.specs.Laws.{be32-small}
-use Rattle.refusal.specs.declared.Verdict.{Verdict}
 use Rattle.refusal.specs.declared.Verdict.the-variants.{Passed}
 use Rattle.refusal.specs.declared.Refusal.the-variants.{EntryPastTable, UnrecognizedKind, RootIsNotDirectory, MissingNullTerminator, LimitOrMemory, InvalidNextIndex}
 use Rattle.refusal.specs.Laws.{refuse-passed, first-passed}

@@ -1,13 +1,13 @@
 -- An insert and lookup: each child is found under its name as before, and the new entry under its own. Assumes nothing.
 use Prim.Native.Nat.{ℕ, zero, suc, _+_, _-_, _<_, _≤_, min}
 use mathlib.Core.Path.{_≡_, refl, sym, ap, _∙_}
-use mathlib.Core.Logic.{_⊎_, ⊎-elim}
+use mathlib.Core.Logic.{⊎-elim}
 use mathlib.Core.Bool.{Bool, true, false, _&&_}
-use mathlib.Core.List.{List, [], _∷_}
+use mathlib.Core.List.{List}
 use native.Mathlib.Omega.{arith}
-use borrow.Author.Tests.{leb-true, leb-false, eqb-true, eqb-false, eq-eqb, ne-eqb}
+use borrow.Author.Tests.{eqb-true, eqb-false, eq-eqb, ne-eqb}
 use lib.ListN.{length, getD}
-use lib.Dec.{leb, ltb, eqb}
+use lib.Dec.{eqb}
 use Rattle.endian.specs.Bytes.{sameBytes}
 use Rattle.endian.specs.Laws.{lt-or-le, same-refl}
 use Rattle.refusal.specs.declared.Refusal.{Refusal}
@@ -17,9 +17,10 @@ use Rattle.tree.specs.declared.Located.the-variants.{At, Refused}
 use Rattle.tree.specs.Table.{Node, file, directory, nameOf, none, parentOf}
 use Rattle.tree.specs.Lookup.{isDirectory, nextOf, childNamed, childOf}
 use Rattle.tree.specs.Insert.{earlier, later, insertAt, shifted}
-use Rattle.tree.specs.Nesting.{parent-root, parent-before}
+use Rattle.tree.specs.Nesting.{parent-most}
 use Rattle.tree.specs.NestedInsert
-use Rattle.tree.specs.NestedInsert.{Nested, Fresh, shifted-min, place, Place, before, after, earlier-up, earlier-same, next-later, is-earlier, is-later, new-most, around, between, q≤n, p<q, inserted-before, inserted-at, inserted-after, parent-inserted-before, parent-inserted-at, parent-inserted-after}
+use Rattle.tree.specs.Texts.{and-false}
+use Rattle.tree.specs.NestedInsert.{Nested, Fresh, name-earlier, name-later, shifted-min, place, Place, before, after, earlier-up, earlier-same, is-earlier, is-later, new-most, around, between, q≤n, p<q, inserted-before, inserted-at, inserted-after, parent-inserted-before, parent-inserted-at, parent-inserted-after}
 use Rattle.tree.specs.LookupLaws.{Child, child-is, child-at, child-none, child-missing, child-named}
 
 -- an answer with the new numbers
@@ -43,21 +44,9 @@ shifted-same q a b = go (eqb a b) refl
     go true e = eq-eqb _ _ (ap (shifted q) (eqb-true a b e))
     go false e = ne-eqb _ _ (λ f. eqb-false a b e (back f))
 
-name-earlier : (p k : ℕ) (x : Node) → nameOf (earlier p k x) ≡ nameOf x
-name-earlier p k (file nm offset size) = refl
-name-earlier p k (directory nm next) = refl
-
-name-later : (x : Node) → nameOf (later x) ≡ nameOf x
-name-later (file nm offset size) = refl
-name-later (directory nm next) = refl
-
 reaching : (x : Node) → 0 < nextOf x → isDirectory x ≡ true
 reaching (file nm offset size) h = absurd (omega arith)
 reaching (directory nm next) h = refl
-
-parent-most : (nodes : List Node) (k : ℕ) → parentOf nodes k ≤ k
-parent-most nodes zero = rw (parent-root nodes) (omega arith)
-parent-most nodes (suc k) = omega (arith, parent-before nodes (suc k) (omega arith))
 
 module _ (nodes : List Node) (p q : ℕ) (nm : List ℕ) (new : Node) (w : Nested nodes) (dir : getD nodes p none ≡ directory nm q) (p<n : p < length nodes) (fresh : Fresh q new) where
   abbrev N : List Node
@@ -193,10 +182,6 @@ module _ (nodes : List Node) (p q : ℕ) (nm : List ℕ) (new : Node) (w : Neste
   child-other name c e s =
       child-none N p name (λ j a b. ⊎-elim (λ (l : j < q). none-before name c e j a l)
       (λ (l : q ≤ j). let j≡ : j ≡ q = omega (arith, next-here) in rw (j≡, inserted-at nodes p q nm new w dir p<n, s) (and-false (eqb (parentOf N q) p))) (lt-or-le j q))
-    where
-      and-false : (t : Bool) → (t && false) ≡ false
-      and-false true = refl
-      and-false false = refl
 
   -- and has no children
   pub child-empty : (name : List ℕ) → childOf N q name ≡ Refused NotFound

@@ -1,21 +1,20 @@
 -- An entry put in as the last child of a directory: the tree stays well-formed, every other entry keeps its name, kind and parent, and
 -- only the new entry can be too deep. Assumes nothing.
-use Prim.Native.Nat.{ℕ, zero, suc, _+_, _-_, _^_, _<_, _≤_, min, zero-le}
+use Prim.Native.Nat.{ℕ, zero, suc, _+_, _-_, _<_, _≤_, zero-le}
 use mathlib.Core.Path.{_≡_, refl, sym, ap, _∙_}
 use mathlib.Core.Bool.{Bool, true, false, cond, _&&_}
-use mathlib.Core.List.{List, [], _∷_, _++_, map, tail, head-eq-of-cons-eq}
+use mathlib.Core.List.{List, [], _∷_, _++_, map, tail}
 use native.Mathlib.Omega.{arith}
-use native.Mathlib.Nat.{add-zero}
-use borrow.Author.Tests.{ltb-true, leb-true, leb-false, ltb-false, le-leb, lt-leb, lt-ltb, le-ltb}
+use borrow.Author.Tests.{leb-true, le-leb, lt-leb}
 use lib.ListN.{length, getD, length-map, length-append}
-use lib.Dec.{leb, ltb}
-use Rattle.tree.specs.Table.{Node, file, directory, nameOf, none, top, shut, enter, encloses, parentBelow, parentOf, GoodName, GoodEntry, Sound, WellFormed, shallowEntry, shallowFrom, shallow}
-use Rattle.tree.specs.Lookup.{isDirectory, nextOf}
+use lib.Dec.{leb}
+use Rattle.tree.specs.Table.{Node, file, directory, nameOf, none, top, shut, enter, parentOf, GoodName, GoodEntry, Sound, WellFormed, shallowEntry, shallowFrom, shallow}
+use Rattle.tree.specs.Lookup.{nextOf}
 use Rattle.tree.specs.Insert.{bump, earlier, later, splice, insertAt, shifted}
 use Rattle.tree.specs.Steps.{shut-open, shut-pop}
-pub use Rattle.tree.specs.NestedInsert.{Fresh, bump-min, shifted-min}
+pub use Rattle.tree.specs.NestedInsert.{Fresh, bump-min, shifted-min, name-earlier, name-later}
 use Rattle.tree.specs.NestedInsert.{well-nested, length-splice, length-inserted, inserted-before, inserted-at, inserted-after, parent-inserted-before, parent-inserted-at, parent-inserted-after}
-use Rattle.tree.specs.Nesting.{openAt, sound-at, openDirs, stack-is, Inside, parent-step, parent-lower, below-lt, parent-is, next-bounds, nests, ended}
+use Rattle.tree.specs.Nesting.{openAt, sound-at, openDirs, stack-is}
 
 -- the number of directories around entry k: its depth
 abbrev pub depthOf : List Node → ℕ → ℕ
@@ -129,14 +128,6 @@ module _ (p : ℕ) where
   enter-after c k s t (file nm offset size) h g = refl
   enter-after c k s t (directory nm next) h g = ap (λ (n : ℕ). n ∷ map (bump p) s) (omega (arith, bump-min p next))
 
-  pub name-later : (x : Node) → nameOf (later x) ≡ nameOf x
-  name-later (file nm offset size) = refl
-  name-later (directory nm next) = refl
-
-  pub name-earlier : (k : ℕ) (x : Node) → nameOf (earlier p k x) ≡ nameOf x
-  name-earlier k (file nm offset size) = refl
-  name-earlier k (directory nm next) = refl
-
   -- the same depth
   same-length : (s s′ : List ℕ) (x : Node) → length s′ ≡ length s → (shallowEntry s′ (later x) ≡ shallowEntry s x) × ((k : ℕ) → shallowEntry s′ (earlier p k x) ≡ shallowEntry s x)
   same-length s s′ (file nm offset size) e = (refl, λ k. refl)
@@ -204,7 +195,7 @@ module _ (p : ℕ) where
         rw (
           s,
           s′,
-          name-earlier k x,
+          name-earlier p k x,
           enter-between k (shut k ds ++ (suc q ∷ map (bump p) up)) x h,
           enter-append (shut k ds) (suc q ∷ map (bump p) up) x,
           enter-append (shut k ds) (q ∷ up) x,
@@ -226,13 +217,13 @@ module _ (p : ℕ) where
         let b : bump p q ≡ suc q = omega (arith, bump-min p q) in
         let g₂ : Sound c (q ∷ shut k dirs) (suc k) xs = rw x at (g .2) in
         let f = sound-between c q new (shut k dirs) p<q q≤c named fresh j (suc k) [] xs (omega arith) (omega arith) (omega arith) tt g₂ in
-        rw (before-shut k dirs (omega arith), name-earlier k y, same-length (shut k dirs) (map (bump p) (shut k dirs)) y (length-map (shut k dirs) (bump p)) .1 k, enter-before k (shut k dirs) y (omega arith)) (
+        rw (before-shut k dirs (omega arith), name-earlier p k y, same-length (shut k dirs) (map (bump p) (shut k dirs)) y (length-map (shut k dirs) (bump p)) .1 k, enter-before k (shut k dirs) y (omega arith)) (
           (g .0, good-before c k (shut k dirs) y (omega arith) (g .1), rw (x, b) (f .0)),
           rw (x, b, f .1) (and-swap (shallowEntry (shut k dirs) (directory nm q)) (depthOk (suc (length (shut k dirs))) new) _),
         )
     sound-before (suc i) (suc j) k dirs (y ∷ xs) e₁ e₂ l x h g =
         let ih = sound-before i j (suc k) (enter (shut k dirs) y) xs (omega arith) (omega arith) (omega arith) x (omega arith) (g .2) in
-        rw (before-shut k dirs (omega arith), name-earlier k y, same-length (shut k dirs) (map (bump p) (shut k dirs)) y (length-map (shut k dirs) (bump p)) .1 k, enter-before k (shut k dirs) y (omega arith), ih .1) (
+        rw (before-shut k dirs (omega arith), name-earlier p k y, same-length (shut k dirs) (map (bump p) (shut k dirs)) y (length-map (shut k dirs) (bump p)) .1 k, enter-before k (shut k dirs) y (omega arith), ih .1) (
           (g .0, good-before c k (shut k dirs) y (omega arith) (g .1), ih .0),
           and-swap (shallowEntry (shut k dirs) y) (depthOk (suc (length (openAt (enter (shut k dirs) y) (suc k) xs i))) new) _,
         )

@@ -1,14 +1,13 @@
 -- Lookup in the terms of a loop: a directory's children one after the other, the path part by part, and `..` by the parent instead of a
 -- list of the steps taken. Assumes nothing.
 use Prim.Native.Nat.{ℕ, zero, suc, _+_, _-_, _<_, _≤_}
-use mathlib.Core.Path.{_≡_, refl, sym, ap, _∙_}
-use mathlib.Core.Logic.{_⊎_, inl, inr, ⊎-elim}
+use mathlib.Core.Path.{_≡_, refl, sym, _∙_}
+use mathlib.Core.Logic.{⊎-elim}
 use mathlib.Core.Bool.{Bool, true, false, cond, _&&_}
 use mathlib.Core.List.{List, [], _∷_}
 use native.Mathlib.Omega.{arith}
 use native.Mathlib.Nat.{add-zero}
-use native.Mathlib.Numerals.{add-one}
-use borrow.Author.Tests.{ltb-true, ltb-false, eqb-true, eqb-false, lt-ltb, le-ltb, eq-eqb, ne-eqb}
+use borrow.Author.Tests.{ltb-true, ltb-false, eqb-true, lt-ltb, le-ltb, eq-eqb, ne-eqb}
 use lib.ListN.{length, getD, take, drop, length-drop}
 use lib.Seq.{getD-drop, drop-drop, take-all}
 use lib.Dec.{ltb, eqb}
@@ -19,13 +18,9 @@ use Rattle.refusal.specs.declared.Refusal.the-variants.{NoSuchEntry, ExpectedDi
 use Rattle.tree.specs.declared.Located.{Located}
 use Rattle.tree.specs.declared.Located.the-variants.{At, Refused}
 use Rattle.tree.specs.Table.{Node, file, directory, nameOf, none, encloses, parentOf, WellFormed}
-use Rattle.tree.specs.Lookup.{isDirectory, nextOf, separator, longer, components, childNamed, firstChild, childOf, stays, goesBack, andThen, stepBack, follow, lookup}
-use Rattle.tree.specs.Texts.{and-left, and-right}
+use Rattle.tree.specs.Lookup.{isDirectory, nextOf, separator, components, childNamed, firstChild, childOf, stays, goesBack, andThen, stepBack, follow, lookup}
+use Rattle.tree.specs.Texts.{and-left, and-right, and-false}
 use Rattle.tree.specs.Nesting.{Inside, parent-is, parent-before, parent-clear, parent-at-least, next-bounds, nests, ended, parent-root}
-
-and-false : (a : Bool) → (a && false) ≡ false
-and-false true = refl
-and-false false = refl
 
 -- what does not reach past k reaches past nothing later
 still-ended : (x : Node) (k n : ℕ) → encloses x k ≡ false → k ≤ n → encloses x n ≡ false

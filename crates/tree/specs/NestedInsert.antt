@@ -2,16 +2,16 @@
 -- keeps its parent. Only the nesting is asked for, so that names play no part. Assumes nothing.
 use Prim.Native.Nat.{ℕ, zero, suc, _+_, _-_, _^_, _<_, _≤_, min}
 use mathlib.Core.Path.{_≡_, refl, sym, ap, _∙_}
-use mathlib.Core.Logic.{_⊎_, ⊎-elim}
+use mathlib.Core.Logic.{⊎-elim}
 use mathlib.Core.Bool.{Bool, true, false, cond}
 use mathlib.Core.List.{List, [], _∷_, map}
 use native.Mathlib.Omega.{arith}
 use native.Mathlib.Nat.{add-zero}
-use borrow.Author.Tests.{ltb-true, leb-true, leb-false, ltb-false, eqb-true, eqb-false, le-leb, lt-leb, lt-ltb, le-ltb}
+use borrow.Author.Tests.{ltb-true, leb-true, leb-false, ltb-false, le-leb, lt-leb, lt-ltb, le-ltb}
 use lib.ListN.{length, getD, length-map}
-use lib.Dec.{leb, ltb, eqb}
+use lib.Dec.{leb, ltb}
 use Rattle.endian.specs.Laws.{lt-or-le}
-use Rattle.tree.specs.Table.{Node, file, directory, none, encloses, parentBelow, parentOf, WellFormed}
+use Rattle.tree.specs.Table.{Node, file, directory, nameOf, none, encloses, parentBelow, parentOf, WellFormed}
 use Rattle.tree.specs.Lookup.{isDirectory, nextOf}
 use Rattle.tree.specs.Insert.{bump, earlier, later, splice, insertAt, shifted}
 use Rattle.tree.specs.Nesting.{Inside, parent-step, parent-lower, below-lt, parent-is, next-bounds, nests, ended}
@@ -63,6 +63,14 @@ ltb-suc a b = go (ltb a b) refl
     go : (t : Bool) → ltb a b ≡ t → ltb (suc a) (suc b) ≡ t
     go true e = lt-ltb (suc a) (suc b) (omega (arith, ltb-true a b e))
     go false e = le-ltb (suc a) (suc b) (omega (arith, ltb-false a b e))
+
+pub name-earlier : (p k : ℕ) (x : Node) → nameOf (earlier p k x) ≡ nameOf x
+name-earlier p k (file nm offset size) = refl
+name-earlier p k (directory nm next) = refl
+
+pub name-later : (x : Node) → nameOf (later x) ≡ nameOf x
+name-later (file nm offset size) = refl
+name-later (directory nm next) = refl
 
 -- ---- the list
 

@@ -1,6 +1,6 @@
 -- Nesting read off the table: the directories open at entry k are those before it whose next is past k, so the walk's tests are those of
 -- an entry's parent; and what every entry of a well-formed tree has. Assumes nothing.
-use Prim.Native.Nat.{ℕ, zero, suc, _+_, _-_, _<_, _≤_}
+use Prim.Native.Nat.{ℕ, zero, suc, _+_, _<_, _≤_}
 use mathlib.Core.Path.{_≡_, refl, sym, ap, _∙_}
 use mathlib.Core.Bool.{Bool, true, false, cond}
 use mathlib.Core.List.{List, [], _∷_, tail, head-eq-of-cons-eq, nil≢cons}
@@ -11,7 +11,7 @@ use borrow.Author.Tests.{ltb-true, ltb-false, leb-true, leb-false, lt-ltb, le-lt
 use lib.ListN.{length, getD}
 use lib.Dec.{leb, ltb}
 use Rattle.tree.specs.Table.{Node, file, directory, nameOf, none, top, shut, enter, encloses, parentBelow, parentOf, GoodName, GoodEntry, Sound, WellFormed}
-use Rattle.tree.specs.Lookup.{isDirectory, nextOf}
+use Rattle.tree.specs.Lookup.{nextOf}
 
 -- the nexts of the directories open at the i-th of the entries k and on
 unfoldable pub openAt : List ℕ → ℕ → List Node → ℕ → List ℕ
@@ -193,6 +193,10 @@ below-lt nodes k (suc (suc i)) h = go (encloses (getD nodes (suc i) none) k) (be
 pub parent-before : (nodes : List Node) (k : ℕ) → 0 < k → parentOf nodes k < k
 unfolding parentOf
 parent-before nodes k h = below-lt nodes k k h
+
+pub parent-most : (nodes : List Node) (k : ℕ) → parentOf nodes k ≤ k
+parent-most nodes zero = rw (parent-root nodes) (omega arith)
+parent-most nodes (suc k) = omega (arith, parent-before nodes (suc k) (omega arith))
 
 -- the last of those that enclose it: none between it and i does
 below-last : (nodes : List Node) (k d i : ℕ) → d < i → encloses (getD nodes d none) k ≡ true → ((j : ℕ) → d < j → j < i → encloses (getD nodes j none) k ≡ false) → parentBelow nodes k i ≡ d

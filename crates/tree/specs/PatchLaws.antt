@@ -1,18 +1,17 @@
 -- A written table changed in place is the table of the changed tree. Assumes nothing.
 use Prim.Native.Nat.{ℕ, zero, suc, _+_, _-_, _*_, _^_, _<_, _≤_}
 use mathlib.Core.Path.{_≡_, refl, sym, ap, _∙_}
-use mathlib.Core.Logic.{_⊎_, inl, inr, ⊎-elim}
+use mathlib.Core.Logic.{⊎-elim}
 use mathlib.Core.Bool.{Bool, true, false, cond}
 use mathlib.Core.List.{List, [], _∷_, _++_, map, tail, append-assoc}
 use native.Mathlib.Omega.{arith}
-use native.Mathlib.Nat.{zero-add}
-use borrow.Author.Tests.{ltb-true, ltb-false, eqb-true, eqb-false, lt-ltb, le-ltb, eq-eqb, ne-eqb}
+use borrow.Author.Tests.{ltb-true, ltb-false, eqb-true, eqb-false}
 use lib.ListN.{length, getD, set, take, drop, length-append, take-append-drop}
 use lib.Seq.{take-at, drop-at}
 use lib.Dec.{ltb, eqb}
 use Rattle.endian.specs.Bytes.{be32Bytes, put}
 use Rattle.endian.specs.Laws.{lt-or-le}
-use Rattle.tree.specs.Table.{Node, file, directory, nameOf, none, kind, nameOffset, offsetOrParent, sizeOrNext, nodeBytes, parentOf, textsOf, encode, WellFormed}
+use Rattle.tree.specs.Table.{Node, file, directory, nameOf, none, nameOffset, sizeOrNext, nodeBytes, parentOf, textsOf, encode, WellFormed}
 use Rattle.tree.specs.Lookup.{nextOf}
 use Rattle.tree.specs.Nesting.{next-bounds}
 use Rattle.tree.specs.Insert.{earlier, later, splice, insertAt, shifted, placed, setPlace}
@@ -21,7 +20,7 @@ use Rattle.tree.specs.PlaceLaws.{name-placed, length-setPlace, setPlace-
 use Rattle.tree.specs.RoundTrip.{length-encode}
 use Rattle.tree.specs.Records.{records, records-ext, records-at, length-records, put-middle}
 use Rattle.tree.specs.Writing.{texts-append, textStart, start-end, entryBytes, entry-twelve, encode-records, written-texts, Fields, written-fields}
-use Rattle.tree.specs.Patch.{placePatch, stored, recordBefore, recordAfter, patchedRecord, newStart, insertPatch}
+use Rattle.tree.specs.Patch.{placePatch, recordBefore, recordAfter, patchedRecord, newStart, insertPatch}
 
 -- ---- a file's place
 
@@ -73,12 +72,12 @@ texts-later : (xs : List Node) (i : ℕ) → textsOf (take i (map later xs)) ≡
 unfolding textsOf
 texts-later [] i = refl
 texts-later (x ∷ xs) zero = refl
-texts-later (x ∷ xs) (suc i) = rw (name-later 0 x, texts-later xs i)
+texts-later (x ∷ xs) (suc i) = rw (name-later x, texts-later xs i)
 
 later-texts : (xs : List Node) → textsOf (map later xs) ≡ textsOf xs
 unfolding textsOf
 later-texts [] = refl
-later-texts (x ∷ xs) = rw (name-later 0 x, later-texts xs)
+later-texts (x ∷ xs) = rw (name-later x, later-texts xs)
 
 module _ (p : ℕ) (new : Node) where
   texts-splice : (k j : ℕ) (xs : List Node) → j ≤ length xs → textsOf (splice p new k j xs) ≡ textsOf (take j xs) ++ (nameOf new ++ (0 ∷ textsOf (drop j xs)))

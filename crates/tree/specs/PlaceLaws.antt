@@ -1,14 +1,11 @@
 -- A file's offset and size changed: the tree stays well-formed, within the same limits, and keeps everything but that entry.
 -- Assumes nothing.
 use Prim.Native.Nat.{ℕ, zero, suc, _^_, _<_}
-use mathlib.Core.Path.{_≡_, refl, sym, ap, _∙_}
-use mathlib.Core.Bool.{Bool, true, false, _&&_}
-use mathlib.Core.List.{List, [], _∷_, _++_, tail, head-eq-of-cons-eq, nil≢cons}
-use native.Mathlib.Omega.{arith}
+use mathlib.Core.Path.{_≡_, refl}
+use mathlib.Core.List.{List, [], _∷_, tail, head-eq-of-cons-eq, nil≢cons}
 use lib.ListN.{length, getD, set, length-set}
-use lib.Seq.{getD-set-same, getD-set-other, set-getD}
-use Rattle.tree.specs.Table.{Node, file, directory, nameOf, none, top, shut, enter, encloses, parentBelow, parentOf, textsOf, GoodName, GoodEntry, Sound, WellFormed, shallowEntry, shallowFrom, shallow, limits}
-use Rattle.tree.specs.Lookup.{isDirectory, nextOf}
+use lib.Seq.{getD-set-same, getD-set-other}
+use Rattle.tree.specs.Table.{Node, file, directory, nameOf, none, shut, enter, encloses, parentBelow, parentOf, textsOf, GoodEntry, Sound, WellFormed, shallowEntry, shallowFrom, shallow, limits}
 use Rattle.tree.specs.Insert.{placed, setPlace}
 
 module _ (offset size : ℕ) where

@@ -2,12 +2,12 @@
 use Prim.Native.Nat.{ℕ, zero, suc, _+_, _-_, _*_, _<_, _≤_}
 use mathlib.Core.Path.{_≡_, refl, sym, ap, _∙_}
 use mathlib.Core.Bool.{Bool, true, false, cond}
-use mathlib.Core.List.{List, [], _∷_, _++_, append-assoc, append-nil}
+use mathlib.Core.List.{List, [], _++_, append-assoc, append-nil}
 use native.Mathlib.Omega.{arith}
 use native.Mathlib.Nat.{add-zero, zero-add, suc-add}
 use borrow.Author.Tests.{lt-ltb, le-ltb}
-use lib.ListN.{length, getD, take, drop, length-append}
-use lib.Seq.{drop-length, drop-at, take-at, take-append-add, drop-append-add, take-append-le, drop-append-le, length-take-le}
+use lib.ListN.{length, take, drop, length-append}
+use lib.Seq.{drop-length, drop-at, take-at, take-append-add, drop-append-add, take-append-le, drop-append-le}
 use lib.Dec.{ltb}
 use Rattle.endian.specs.Bytes.{put, span}
 

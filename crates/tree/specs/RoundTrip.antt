@@ -1,5 +1,5 @@
 -- What is written reads as what was written, and is accepted exactly if the tree is within the limits. Assumes nothing.
-use Prim.Native.Nat.{ℕ, zero, suc, _+_, _-_, _*_, _^_, _<_, _≤_}
+use Prim.Native.Nat.{ℕ, suc, _+_, _-_, _*_, _^_, _<_, _≤_}
 use mathlib.Core.Path.{_≡_, refl, sym, ap, _∙_}
 use mathlib.Core.Bool.{Bool, true, false, not, _&&_}
 use mathlib.Core.List.{List, [], _∷_, _++_, tail, append-assoc, nil≢cons}
@@ -15,7 +15,7 @@ use Rattle.refusal.specs.declared.Verdict.the-variants.{Passed}
 use Rattle.refusal.specs.declared.Refusal.the-variants.{LimitOrMemory}
 use Rattle.refusal.specs.Refusal.{refuse, first}
 use Rattle.refusal.specs.Laws.{refuse-passed}
-use Rattle.tree.specs.Table.{Node, file, directory, nameOf, every, plainByte, plain, safe, kind, nameOffset, offsetOrParent, sizeOrNext, count, upTo0, nameAt, nodeAt, nodesFrom, nodesOf, entryVerdict, entriesVerdict, unended, top, shut, enter, nameVerdict, nextVerdict, walk, check, nodeBytes, parentOf, entriesBytes, textsOf, encode, GoodName, GoodEntry, Sound, WellFormed, shallowEntry, shallowFrom, shallow, limits}
+use Rattle.tree.specs.Table.{Node, file, directory, nameOf, plain, kind, nameOffset, offsetOrParent, sizeOrNext, count, nameAt, nodeAt, nodesFrom, nodesOf, entryVerdict, entriesVerdict, unended, top, shut, enter, nameVerdict, nextVerdict, walk, check, nodeBytes, parentOf, entriesBytes, textsOf, encode, GoodEntry, Sound, WellFormed, shallowEntry, shallowFrom, shallow, limits}
 use Rattle.tree.specs.Texts.{upTo0-name}
 
 -- ---- lengths

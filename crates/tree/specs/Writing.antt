@@ -2,18 +2,18 @@
 -- Assumes nothing.
 use Prim.Native.Nat.{ℕ, zero, suc, _+_, _-_, _*_, _^_, _<_, _≤_}
 use mathlib.Core.Path.{_≡_, refl, sym, ap, _∙_}
-use mathlib.Core.List.{List, [], _∷_, _++_, tail, append-assoc, append-nil}
+use mathlib.Core.List.{List, [], _∷_, _++_, tail, append-assoc}
 use native.Mathlib.Omega.{arith}
 use native.Mathlib.Nat.{add-zero}
-use native.Mathlib.Numerals.{add-one, one-add}
+use native.Mathlib.Numerals.{one-add}
 use lib.ListN.{length, getD, take, drop, length-append}
-use lib.Seq.{take-suc, length-take-le, split-at, take-length, drop-at, drop-append-add}
-use Rattle.endian.specs.Bytes.{be24, be32, be24Bytes, be32Bytes}
+use lib.Seq.{take-suc, split-at, take-length}
+use Rattle.endian.specs.Bytes.{be24, be32}
 use Rattle.endian.specs.Laws.{be24-value, be32-value}
 use Rattle.tree.specs.Table.{Node, file, directory, nameOf, none, kind, nameOffset, offsetOrParent, sizeOrNext, nodesOf, nodeBytes, parentBelow, parentOf, entriesBytes, textsOf, encode, GoodEntry, WellFormed}
 use Rattle.tree.specs.RoundTrip.{length-nodeBytes, kind-is, nameOffset-is, word-is, drop-past}
-use Rattle.tree.specs.Nesting.{below-lt, root-is, entry-at}
-use Rattle.tree.specs.Records.{records, Twelve, length-records, drop-record, drop-records}
+use Rattle.tree.specs.Nesting.{parent-most, root-is, entry-at}
+use Rattle.tree.specs.Records.{records, Twelve, drop-record, drop-records}
 
 -- what is written is a function of the entries alone: neither the texts nor the stored parents that they were read from have a part in it
 pub write-again : (tab tab′ : List ℕ) → nodesOf tab ≡ nodesOf tab′ → encode (nodesOf tab) ≡ encode (nodesOf tab′)
@@ -157,11 +157,6 @@ good-fits c k dirs (directory nm next) h g = omega arith
 pub fits : (nodes : List Node) (k : ℕ) → WellFormed nodes → k < length nodes → length nodes < 2 ^ 32 → Fits32 (getD nodes k none)
 fits nodes zero w h few = rw (root-is nodes w) few
 fits nodes (suc i) w h few = good-fits (length nodes) (suc i) _ (getD nodes (suc i) none) few (entry-at nodes i w h .1)
-
-parent-most : (nodes : List Node) (k : ℕ) → parentOf nodes k ≤ k
-unfolding parentOf parentBelow
-parent-most nodes zero = omega arith
-parent-most nodes (suc i) = omega (arith, below-lt nodes (suc i) (suc i) (omega arith))
 
 pub written-fields : (nodes : List Node) (k : ℕ) → WellFormed nodes → length nodes < 2 ^ 32 → length (textsOf (tail nodes)) < 2 ^ 24 → k < length nodes →
     Fields (encode nodes) k (parentOf nodes k) (textStart nodes k) (getD nodes k none)
