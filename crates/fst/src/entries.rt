@@ -13,6 +13,7 @@ use tree::Entry;
 use tree::FileEntry;
 use tree::Found;
 
+// An accepted table has the kinds 0 and 1 only.
 pub fn is_directory(table: &[u8], k: usize) -> bool
     requires { ⌜ Opens (now table) × (k < table_of.count (now table)) ⌝ }
     ensures { λ r. ⌜ r ≡ isDirectory (getD (nodesOf (now (table .entry))) k none) ⌝ }
@@ -46,6 +47,7 @@ pub fn parent(table: &[u8], k: usize) -> usize
     0
 }
 
+// Entry k, a file with offset and size or a directory with parent and next.
 fn entry_at(table: &[u8], k: usize) -> Entry
     requires { ⌜ Opens (now table) × (k < table_of.count (now table)) ⌝ }
     ensures { λ r. ⌜ r ≡ entryOf (nodesOf (now (table .entry))) k ⌝ }

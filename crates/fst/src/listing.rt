@@ -25,6 +25,7 @@ fn name_place(table: &[u8], k: usize) -> usize
     12 * opening::count(table) + endian::read_u24(table, 12 * k + 1) as usize
 }
 
+// The length of its name; the root has none.
 fn name_length(table: &[u8], k: usize) -> usize
     requires { ⌜ Opens (now table) × (k < table_of.count (now table)) ⌝ }
     ensures { λ r. ⌜ (r ≡ length (nameOf (getD (nodesOf (now (table .entry))) k none))) × (r ≤ 2 ^ 20) ⌝ }
@@ -54,6 +55,7 @@ fn parent_in(table: &[u8], list: &[u32], k: usize) -> usize
     0
 }
 
+// The six words of entry k.
 fn write_row(
     list: &mut [u32],
     k: usize,

@@ -155,7 +155,14 @@ fn enter(table: &[u8], count: usize, nexts: &mut [u32; 65], depth: usize, k: usi
 }
 
 // Entry k of the walk: its name, then its next.
-fn node_verdict(table: &[u8], count: usize, nexts: &[u32; 65], depth: usize, k: usize, clean: bool) -> Verdict
+fn node_verdict(
+    table: &[u8],
+    count: usize,
+    nexts: &[u32; 65],
+    depth: usize,
+    k: usize,
+    clean: bool,
+) -> Verdict
     requires { ⌜ Inside (now table) count × (k < count) × (depth ≤ 65) × ((clean ≡ true) → cleanFrom (now table) (12 * count) ≡ true) ⌝ }
     ensures { λ r. ⌜ r ≡ nodeVerdict (now (table .entry)) count (openIn (now (nexts .entry)) depth) k ⌝ }
 {

@@ -60,6 +60,7 @@ fn stays(name: &[u8]) -> bool
     name[0] == b'.'
 }
 
+// `..` goes back over the last named step.
 fn goes_back(name: &[u8]) -> bool
     ensures { λ r. ⌜ r ≡ goesBack (now (name .entry)) ⌝ }
 {
@@ -94,6 +95,7 @@ fn into(table: &[u8], k: usize, steps: usize, name: &[u8]) -> Step
     }
 }
 
+// One component: from a file 17; empty and `.` stay, `..` goes back, any other is a child's name.
 fn take_step(table: &[u8], k: usize, steps: usize, name: &[u8]) -> Step
     requires { ⌜ Opens (now table) × (k < table_of.count (now table)) × (steps < 2 ^ 63) ⌝ }
     ensures { λ r. ⌜ r ≡ stepOf (nodesOf (now (table .entry))) k steps (now (name .entry)) ⌝ }
@@ -110,6 +112,7 @@ fn take_step(table: &[u8], k: usize, steps: usize, name: &[u8]) -> Step
     into(table, k, steps, name)
 }
 
+// Along the components of a path. No list of entries is kept: the last one left by a named step is the parent of the present one.
 fn follow(table: &[u8], start: usize, path: &[u8]) -> Located
     requires { ⌜ Opens (now table) × (start < table_of.count (now table)) × (length (now path) < 2 ^ 63) ⌝ }
     ensures { λ r. ⌜ r ≡ lookup_of.follow (nodesOf (now (table .entry))) [] start (components (now (path .entry))) ⌝ }

@@ -13,6 +13,7 @@ pub fn byte_at(table: &[u8], at: usize) -> u8
     if at < table.len() { table[at] } else { 0 }
 }
 
+// "one or more bytes 0x20 to 0x7E"
 fn is_plain(b: u8) -> bool
     ensures { λ r. ⌜ r ≡ plainByte b ⌝ }
 {
@@ -22,6 +23,7 @@ fn is_plain(b: u8) -> bool
     b <= 0x7E
 }
 
+// "without `/`, `\`, `:`"
 fn is_safe(b: u8) -> bool
     ensures { λ r. ⌜ r ≡ safeByte b ⌝ }
 {
@@ -34,19 +36,17 @@ fn is_safe(b: u8) -> bool
     b != b':'
 }
 
+// A byte that no name is refused for: the end of a text, or plain and safe.
 fn is_clean(b: u8) -> bool
     ensures { λ r. ⌜ r ≡ cleanByte b ⌝ }
 {
     if b == 0 {
         return true;
     }
-    if is_plain(b) {
-        is_safe(b)
-    } else {
-        false
-    }
+    if is_plain(b) { is_safe(b) } else { false }
 }
 
+// The one test or the other, so that one loop serves both.
 fn fits(b: u8, safe_only: bool) -> bool
     ensures { λ r. ⌜ r ≡ byteTest «safe_only» b ⌝ }
 {
@@ -104,6 +104,7 @@ pub fn is_dots(table: &[u8], at: usize) -> bool
     byte_at(table, at + 2) == 0
 }
 
+// Not empty, not `.` or `..`, each byte safe.
 pub fn is_safe_name(table: &[u8], at: usize) -> bool
     ensures { λ r. ⌜ r ≡ safe (textAt (now (table .entry)) at) ⌝ }
 {
