@@ -11,6 +11,9 @@ pub mod Opened
 pub mod Room
 pub mod Kept
 pub mod Placed
+pub mod Plans
+pub mod TableEdits
+pub mod PlaceEdits
 pub mod Steps
 pub mod Sequence
 pub mod Spared

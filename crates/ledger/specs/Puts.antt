@@ -3,11 +3,9 @@ use Prim.Native.Nat.{ℕ, zero, suc, _+_, _<_, _≤_}
 use mathlib.Core.Path.{_≡_, refl}
 use mathlib.Core.List.{List, [], _∷_, _++_}
 use native.Mathlib.Omega.{arith}
-use lib.ListN.{length, getD, take, drop, replicate, List·getD-eq-default, length-take}
-use lib.Seq.{getD-drop, getD-take}
-use mathlib.Core.Logic.{⊎-elim}
+use lib.ListN.{length, getD, replicate}
 use Rattle.endian.specs.Bytes.{put, span, AllBytes}
-use Rattle.endian.specs.Laws.{length-put, put-outside, put-bytes, put-none, Outside, length-span, lt-or-le}
+use Rattle.endian.specs.Laws.{length-put, put-outside, put-bytes, put-none, Outside, length-span}
 
 -- bytes that there are fit
 abbrev pub Fits : List ℕ → ℕ → ℕ → Type 0
@@ -28,11 +26,6 @@ put-else s at (b ∷ bs) h i o = put-outside s at (b ∷ bs) (h (omega arith)) i
 pub span-length : (s : List ℕ) (at n : ℕ) → Fits s at n → length (span s at n) ≡ n
 span-length s at zero h = refl
 span-length s at (suc n) h = length-span s at (suc n) (h (omega arith))
-
-pub span-all : (s : List ℕ) (at n : ℕ) → AllBytes s → AllBytes (span s at n)
-span-all s at n h i =
-    ⊎-elim (λ l. rw (getD-take n (drop at s) i 0 l, getD-drop at s i 0) (h (at + i)))
-    (λ l. rw (List·getD-eq-default (take n (drop at s)) 0 {n = i} (omega (arith, length-take n (drop at s)))) (omega arith)) (lt-or-le i n)
 
 pub zeros-all : (n : ℕ) → AllBytes (replicate n 0)
 zeros-all zero i = omega arith

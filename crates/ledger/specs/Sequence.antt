@@ -1,7 +1,7 @@
 -- What holds at the start, along a list of calls, and what it comes to for the image at its end. Assumes nothing.
 use Prim.Native.Nat.{ℕ, _+_, _-_, _<_, _≤_}
 use mathlib.Core.Path.{_≡_, refl, sym, ap, _∙_}
-use mathlib.Core.Bool.{false, cond, not}
+use mathlib.Core.Bool.{true, false, cond, not}
 use mathlib.Core.List.{List, [], _∷_, map}
 use native.Mathlib.Omega.{arith}
 use lib.ListN.{length, getD, take}
@@ -14,10 +14,11 @@ use Rattle.header.specs.Verdicts.{discEnd, tableEnd}
 use Rattle.tree.specs.Table.{file, none}
 use Rattle.tree.specs.Lookup.{isDirectory}
 use Rattle.space.specs.declared.DiscRegion.{DiscRegion}
-use Rattle.space.specs.Used.{totalSize}
+use Rattle.space.specs.Used.{inside, totalSize}
 use Rattle.space.specs.Layout.{pairwiseDisjoint, endBy, disjointBelow}
 use Rattle.space.specs.Tests.{and-left}
 use Rattle.space.specs.FreeLaws.{region-ext}
+use Rattle.space.specs.LayoutLaws.{inside-from, inside-to}
 use Rattle.space.specs.Listing.{listingOf, listAfter}
 use Rattle.disc.specs.Opening.{nodesIn, regionOf, usedIn, usedOf, freeOf, opening}
 use Rattle.disc.specs.OpeningLaws.{disc-filled}
@@ -28,7 +29,7 @@ use Rattle.ledger.specs.Ledger.{History, Ledger, filesBefore, newHistory
 use Rattle.ledger.specs.Runs.{Call, imageAfterAll, reportsOf, AllWithin}
 use Rattle.ledger.specs.Puts.{Fits, span-length}
 use Rattle.ledger.specs.Files.{namesOf, names-bare, files-at, files-count, entry-of}
-use Rattle.ledger.specs.Apart.{Has, region, apart-of}
+use Rattle.ledger.specs.Apart.{region, apart-of}
 use Rattle.ledger.specs.Histories.{True, trues-at, trues-length, starts}
 use Rattle.ledger.specs.Bare.{before-bare}
 use Rattle.ledger.specs.Opened.{Opened, opened, more-words}
@@ -59,9 +60,11 @@ module _ (w : ℕ) (image : List ℕ) (l : Ledger) (k : Kept w image l) where
   o : Opened image
   o = opened image w (k .opens) (k .bytes)
 
-  pub no-byte-twice : (i j n : ℕ) → Has (region (usedIn image) i) n → Has (region (usedIn image) j) n → i ≡ j
+  pub no-byte-twice : (i j n : ℕ) → inside (region (usedIn image) i) n ≡ true → inside (region (usedIn image) j) n ≡ true → i ≡ j
   unfolding disjointBelow
-  no-byte-twice = apart-of (usedIn image) (and-left (pairwiseDisjoint (usedIn image)) (endBy (discEnd image) (usedIn image)) (o .regions))
+  no-byte-twice i j n a b =
+      apart-of (usedIn image) (and-left (pairwiseDisjoint (usedIn image)) (endBy (discEnd image) (usedIn image)) (o .regions)) i j n
+      (inside-from (region (usedIn image) i) n a, inside-to (region (usedIn image) i) n a) (inside-from (region (usedIn image) j) n b, inside-to (region (usedIn image) j) n b)
 
   pub sum : tableEnd image + totalSize (map regionOf (nodesIn image)) + totalSize (freeOf image) ≡ discEnd image
   unfolding usedOf freeOf

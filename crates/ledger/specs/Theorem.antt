@@ -1,24 +1,24 @@
 -- Demand 3, "a single claim about the list and not one for each call": what holds of the image after any list of calls, by the ledger of the
--- list. Beside it the same of a file that no accepted edit named, in the words of the licence. Assumes nothing.
+-- list. Beside it, what it comes to for a file that no accepted edit named. Assumes nothing.
 use Prim.Native.Nat.{ℕ, _+_, _≤_}
 use mathlib.Core.Path.{_≡_}
-use mathlib.Core.Bool.{false}
+use mathlib.Core.Bool.{true, false}
 use mathlib.Core.List.{List, map}
 use lib.ListN.{length, getD, take}
 use Rattle.endian.specs.Bytes.{span, AllBytes}
 use Rattle.refusal.specs.declared.Verdict.the-variants.{Passed}
 use Rattle.header.specs.Verdicts.{tableEnd, discEnd}
 use Rattle.tree.specs.Table.{file, none}
-use Rattle.space.specs.Used.{totalSize}
+use Rattle.space.specs.Used.{inside, totalSize}
 use Rattle.space.specs.Listing.{listingOf, listAfter}
 use Rattle.disc.specs.Opening.{nodesIn, regionOf, usedIn, freeOf, opening}
 use Rattle.disc.specs.Calls.{totalsAnswer, freeRegionsAnswer, freeRegionsList}
 use Rattle.disc.specs.declared.TotalsAnswer.the-variants.{Found}
+use Rattle.edit.specs.Edits.{noPlace}
 use Rattle.ledger.specs.Ledger.{Ledger, bare, filesBefore, historyOf, firstLedger, Report, ledgerAfter}
 use Rattle.ledger.specs.Runs.{Call, imageAfterAll, reportsOf, AllWithin}
 use Rattle.ledger.specs.Spared.{numberAfter, Spared}
 use Rattle.ledger.specs.SparedLaws.{spared, begins}
-use Rattle.ledger.specs.Apart.{Has, region}
 use Rattle.ledger.specs.Kept.{Kept}
 use Rattle.ledger.specs.Sequence.{start, along, no-byte-twice, sum, used-reported, free-reported, free-listed, entry-least, entry-known, entry-first, entry-place, still-there}
 
@@ -37,8 +37,8 @@ pub record Demand3 (w : ℕ) (image : List ℕ) (l : Ledger) : Type 0 where
   pub opens : opening image w ≡ Passed
   -- "After the list, opening reads the ledger's names, kinds, nesting, order and sizes"
   pub tree : map bare (nodesIn image) ≡ l .nodes
-  -- no two used regions share a byte: regions i and j that both have byte n are one region
-  pub apart : (i j n : ℕ) → Has (region (usedIn image) i) n → Has (region (usedIn image) j) n → i ≡ j
+  -- no two used regions share a byte: used regions i and j that both have byte n are one
+  pub apart : (i j n : ℕ) → inside (getD (usedIn image) i noPlace) n ≡ true → inside (getD (usedIn image) j noPlace) n ≡ true → i ≡ j
   -- table end + all file sizes + free bytes = disc end; "Free bytes are the free regions' sizes together"
   pub sum : tableEnd image + totalSize (map regionOf (nodesIn image)) + totalSize (freeOf image) ≡ discEnd image
   -- "a used total or free region reported then is the one defined above"
@@ -71,7 +71,7 @@ demand-3 image w₀ w calls b e h a = claim (imageAfterAll calls image) (ledgerA
       };
     }
 
--- ---- the licence: "after any list, a file that no accepted edit named lies where it lay, byte for byte"
+-- ---- after any list, a file that no accepted edit named lies where it lay, byte for byte
 
 -- the file of that name that lay at `offset` in the first image, as the last image has it: the same place and size, and the same bytes
 pub record StillThere (first last : List ℕ) (f : ℕ) (nm : List ℕ) (offset size : ℕ) : Type 0 where

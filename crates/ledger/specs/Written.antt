@@ -14,8 +14,9 @@ use Rattle.header.specs.Laws.{GoodHeader, Bounded}
 use Rattle.tree.specs.Table.{encode, WellFormed}
 use Rattle.tree.specs.WrittenBytes.{encode-all, be32-all}
 use Rattle.disc.specs.Opening.{tableOf}
+use Rattle.disc.specs.OpeningLaws.{span-bytes}
 use Rattle.edit.specs.Change.{Change, padded, withTable, written}
-use Rattle.ledger.specs.Puts.{Fits, put-length, put-all, put-else, span-length, span-all, zeros-all, append-all}
+use Rattle.ledger.specs.Puts.{Fits, put-length, put-all, put-else, span-length, zeros-all, append-all}
 
 -- the new table's end
 abbrev pub newEnd : Change → List ℕ → ℕ
@@ -63,7 +64,7 @@ module _ (c : Change) (image : List ℕ) (s : Safe c image) where
   length₁ = put-length image (c .place .offset) (span image (c .source) (c .kept)) fits₁
 
   all₁ : AllBytes (image₁ c image)
-  all₁ = put-all image (c .place .offset) (span image (c .source) (c .kept)) fits₁ (s .bytes) (span-all image (c .source) (c .kept) (s .bytes))
+  all₁ = put-all image (c .place .offset) (span image (c .source) (c .kept)) fits₁ (s .bytes) (span-bytes image (c .source) (c .kept) (s .bytes))
 
   fits₂ : fstOffset image + length (padded (encode (c .nodes)) (fstSize image)) ≤ length (image₁ c image)
   fits₂ = rw length₁ (omega (arith, length-padded (encode (c .nodes)) (fstSize image), s .table, s .bounds .table, s .bounds .image-holds))
