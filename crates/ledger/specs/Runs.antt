@@ -33,7 +33,7 @@ Passable (moveFile k to) = to < 2 ^ 32
 Passable (resizeFile k n) = n < 2 ^ 32
 Passable rewrite = Unit {0}
 
--- no call is lent more than w words, and the numbers that it takes are such
+-- no call is lent more than w words, and its offset or size has 32 bits
 abbrev pub AllWithin : ℕ → List Call → Type 0
 AllWithin w [] = Unit {0}
 AllWithin w (c ∷ calls) = (c .words ≤ w) × Passable (c .edit) × AllWithin w calls
