@@ -18,4 +18,5 @@ pub mod Writing
 pub mod Patch
 pub mod PatchLaws
 pub mod Depth
+pub mod Growing
 pub mod Vectors

@@ -80,7 +80,7 @@ later-texts [] = refl
 later-texts (x ∷ xs) = rw (name-later x, later-texts xs)
 
 module _ (p : ℕ) (new : Node) where
-  texts-splice : (k j : ℕ) (xs : List Node) → j ≤ length xs → textsOf (splice p new k j xs) ≡ textsOf (take j xs) ++ (nameOf new ++ (0 ∷ textsOf (drop j xs)))
+  pub texts-splice : (k j : ℕ) (xs : List Node) → j ≤ length xs → textsOf (splice p new k j xs) ≡ textsOf (take j xs) ++ (nameOf new ++ (0 ∷ textsOf (drop j xs)))
   unfolding textsOf splice
   texts-splice k zero xs h = rw (later-texts xs)
   texts-splice k (suc j) [] h = absurd (omega arith)
@@ -104,7 +104,7 @@ module _ (p : ℕ) (new : Node) where
       let ih : length (textsOf (take (suc i) (splice p new (suc k) j xs))) ≡ length (textsOf (take i xs)) + suc (length (nameOf new)) = texts-after (suc k) j xs i (omega arith) (omega arith) in
       rw (name-earlier p k x, length-append (nameOf x) (0 ∷ textsOf (take (suc i) (splice p new (suc k) j xs))), length-append (nameOf x) (0 ∷ textsOf (take i xs))) (omega arith)
 
-tail-splice : (p : ℕ) (new : Node) (q : ℕ) (nodes : List Node) → 0 < q → q ≤ length nodes → tail (splice p new 0 q nodes) ≡ splice p new 1 (q - 1) (tail nodes)
+pub tail-splice : (p : ℕ) (new : Node) (q : ℕ) (nodes : List Node) → 0 < q → q ≤ length nodes → tail (splice p new 0 q nodes) ≡ splice p new 1 (q - 1) (tail nodes)
 unfolding splice
 tail-splice p new zero nodes h l = absurd (omega arith)
 tail-splice p new (suc j) [] h l = absurd (omega arith)
@@ -112,7 +112,7 @@ tail-splice p new (suc j) (r ∷ xs) h l =
     let e : suc j - 1 ≡ j = omega arith in
     rw e
 
-length-tail : (nodes : List Node) → 0 < length nodes → suc (length (tail nodes)) ≡ length nodes
+pub length-tail : (nodes : List Node) → 0 < length nodes → suc (length (tail nodes)) ≡ length nodes
 length-tail [] h = absurd (omega arith)
 length-tail (r ∷ xs) h = refl
 
