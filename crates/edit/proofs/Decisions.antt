@@ -1,9 +1,9 @@
 -- When a decision is what a plan comes to: behind tests that passed or refused, for a whole edit, and for a change that is written.
 -- Assumes nothing.
-use Prim.Native.Nat.{ℕ, _+_, _-_, _*_, _≤_, _<_, _^_}
+use Prim.Native.Nat.{ℕ, _-_}
 use mathlib.Core.Path.{_≡_, refl, sym, ap, _∙_}
 use mathlib.Core.Bool.{cond}
-use mathlib.Core.List.{List, tail}
+use mathlib.Core.List.{List}
 use native.Mathlib.Omega.{arith}
 use lib.ListN.{length}
 use Rattle.endian.specs.Bytes.{span}
@@ -11,18 +11,16 @@ use Rattle.refusal.specs.declared.Refusal.{Refusal}
 use Rattle.refusal.specs.declared.Verdict.{Verdict}
 use Rattle.refusal.specs.declared.Verdict.the-variants.{Passed, Refused}
 use Rattle.refusal.specs.Refusal.{first, isRefused}
-use Rattle.tree.specs.Table.{Node, encode, textsOf, limits}
+use Rattle.tree.specs.Table.{Node, encode}
 use Rattle.tree.specs.Insert.{setPlace}
 use Rattle.tree.specs.PlaceLaws.{length-setPlace, texts-setPlace, limits-setPlace}
 use Rattle.tree.specs.RoundTrip.{length-encode}
-use Rattle.space.specs.declared.DiscRegion.{DiscRegion}
 use Rattle.disc.specs.Opening.{opening}
 use Rattle.edit.specs.declared.Writing.{Writing}
 use Rattle.edit.specs.declared.Decision.{Decision}
 use Rattle.edit.specs.declared.Decision.the-variants as decision
-use Rattle.edit.specs.declared.TableSize.{TableSize}
 use Rattle.edit.specs.declared.TableSize.the-variants as table
-use Rattle.edit.specs.Change.{Change, written, tableVerdict, Plan, change}
+use Rattle.edit.specs.Change.{written, tableVerdict, Plan, change}
 use Rattle.edit.specs.Edits.{Edit, planned, planOf, planVerdict, planImage, verdictOf, imageAfter}
 use Rattle.disc.specs.declared.Prepared.{Prepared}
 use Rattle.disc.specs.declared.Prepared.the-variants as prepared

@@ -1,11 +1,11 @@
 -- A file of an open image: found by its number, given another place, and what that place asks. Assumes nothing.
-use Prim.Native.Nat.{ℕ, _+_, _-_, _*_, _≤_, _<_, _^_, min}
+use Prim.Native.Nat.{ℕ, _+_, _-_, _*_, _≤_, _<_, min}
 use mathlib.Core.Path.{_≡_, refl, sym, ap, _∙_}
-use mathlib.Core.Bool.{Bool, true, false, cond, _&&_, _||_}
+use mathlib.Core.Bool.{Bool, true, false, cond, _||_}
 use mathlib.Core.List.{List, _++_}
 use native.Mathlib.Omega.{arith}
 use borrow.Author.Tests.{ltb-true, ltb-false, leb-false, le-leb, lt-leb, ne-eqb, eq-eqb}
-use lib.Dec.{ltb, leb, eqb}
+use lib.Dec.{ltb, leb}
 use lib.ListN.{length, getD}
 use Rattle.endian.specs.Bytes.{put, be32Bytes}
 use Rattle.refusal.specs.declared.Refusal.{Refusal}
@@ -34,12 +34,11 @@ use Rattle.space.specs.Allocate.{allocationOf}
 use Rattle.disc.specs.Opening.{nodesIn, regionOf, freeOf}
 use Rattle.disc.specs.OpeningLaws.{OpenImage}
 use Rattle.disc.specs.Prepared.{UsedWords}
-use Rattle.edit.specs.declared.Writing.{Writing}
 use Rattle.edit.specs.declared.Decision.{Decision}
 use Rattle.edit.specs.declared.Decision.the-variants as decision
 use Rattle.edit.specs.declared.FileAt.{FileAt}
 use Rattle.edit.specs.declared.FileAt.the-variants as place
-use Rattle.edit.specs.Change.{Plan, change}
+use Rattle.edit.specs.Change.{change}
 use Rattle.edit.specs.Edits.{fileVerdict, overlapsItself, relocateVerdict, relocated, resized, planned, planElsewhere, planMove, planResize}
 use Rattle.edit.specs.Decision.{IsFile, InImage, Decided, fileOf, fileAs, planSized}
 use Rattle.edit.proofs.Puts.{put-inside}

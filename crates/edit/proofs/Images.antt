@@ -1,24 +1,22 @@
 -- An open image: its table, the tests of a new one, and where its files lie. Assumes nothing.
-use Prim.Native.Nat.{ℕ, zero, suc, _+_, _-_, _*_, _≤_, _<_, _^_, max}
+use Prim.Native.Nat.{ℕ, zero, suc, _+_, _-_, _≤_, _<_, _^_}
 use mathlib.Core.Path.{_≡_, refl, sym, ap, _∙_}
 use mathlib.Core.Logic.{⊎-elim}
 use mathlib.Core.Bool.{Bool, true, false, cond, _&&_}
 use mathlib.Core.List.{List, [], _∷_, map, tail}
 use native.Mathlib.Omega.{arith}
-use borrow.Author.Tests.{ltb-true, ltb-false, lt-ltb, le-ltb, leb-true, eqb-true}
+use borrow.Author.Tests.{ltb-false, le-ltb, leb-true, eqb-true}
 use lib.Dec.{ltb, leb, eqb}
-use lib.ListN.{length, getD, take, drop}
-use Rattle.endian.specs.Bytes.{AllBytes}
+use lib.ListN.{length, getD}
 use Rattle.refusal.specs.declared.Refusal.the-variants.{LimitOrMemory, NotEnoughSpace, OverlappingMove}
 use Rattle.refusal.specs.declared.Verdict.{Verdict}
 use Rattle.refusal.specs.declared.Verdict.the-variants.{Passed, Refused}
 use Rattle.refusal.specs.Refusal.{refuse, first}
 use Rattle.refusal.specs.Laws.{refuse-passed, first-passed}
 use Rattle.header.specs.Verdicts.{headerVerdict, boundsVerdict, fstOffset, fstSize, discEnd, tableEnd}
-use Rattle.tree.specs.Table.{Node, none, nodesOf, count, check, textsOf, encode, limits}
+use Rattle.tree.specs.Table.{Node, none, count, check, textsOf, encode, limits}
 use Rattle.tree.specs.Accepted.{length-nodesOf}
 use Rattle.tree.specs.RoundTrip.{length-encode, Within, within-limits, limits-within}
-use Rattle.fst_write.specs.declared.Measured.{Measured}
 use Rattle.fst_write.specs.declared.Measured.the-variants.{Size, PastLimit}
 use Rattle.fst_write.specs.Measure.{measureOf}
 use Rattle.fst_write.specs.Valid.{Valid}
@@ -32,8 +30,8 @@ use Rattle.space.specs.Free.{freeRegions}
 use Rattle.space.specs.GrowthLaws.{table-largest, place-free}
 use Rattle.space.specs.EditLaws.{passes}
 use Rattle.disc.specs.Opening.{tableOf, nodesIn, regionOf, usedIn, freeOf, opening}
-use Rattle.disc.specs.OpeningLaws.{OpenImage, opens}
-use Rattle.edit.specs.Change.{Change, tableVerdict}
+use Rattle.disc.specs.OpeningLaws.{OpenImage}
+use Rattle.edit.specs.Change.{tableVerdict}
 use Rattle.edit.specs.Edits.{overlapsItself, relocateVerdict}
 use Rattle.space.specs.Sort.{regionsIn}
 use Rattle.disc.specs.Prepared.{UsedWords}

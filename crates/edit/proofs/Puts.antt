@@ -1,15 +1,15 @@
 -- Bytes put over a list from its start. Assumes nothing.
-use Prim.Native.Nat.{ℕ, _+_, _-_, _*_, _≤_, _<_, _^_}
-use mathlib.Core.Path.{_≡_, refl, sym, ap, _∙_}
-use mathlib.Core.List.{List, [], _∷_, _++_, append-nil}
+use Prim.Native.Nat.{ℕ, _+_, _-_, _≤_}
+use mathlib.Core.Path.{_≡_, sym, ap, _∙_}
+use mathlib.Core.List.{List, [], _++_, append-nil}
 use native.Mathlib.Omega.{arith}
-use lib.ListN.{length, take, drop, replicate, length-replicate, drop-of-length-le}
+use lib.ListN.{length, drop, replicate, length-replicate, drop-of-length-le}
 use Rattle.endian.specs.Bytes.{put, span, be32Bytes}
 use Rattle.endian.specs.Laws.{length-put, length-span, span-put}
 use Rattle.header.specs.Fields.{fstSizeField}
 use Rattle.tree.specs.Records.{put-middle}
 use Rattle.fst_write.proofs.Puts.{put-append}
-use Rattle.edit.specs.Change.{padded, withTable}
+use Rattle.edit.specs.Change.{withTable}
 
 pub put-start : (s t : List ℕ) → put s 0 t ≡ t ++ drop (length t) s
 unfolding put

@@ -1,19 +1,18 @@
 -- What an edit decides on before it writes, and what a decision does to an image. The new table stands in the working bytes by then.
 -- Assumes nothing: these are definitions.
-use Prim.Native.Nat.{ℕ, _+_, _-_, _*_, _<_, _≤_, _^_}
+use Prim.Native.Nat.{ℕ, _+_, _-_, _<_, _≤_, _^_}
 use mathlib.Core.Path.{_≡_}
-use mathlib.Core.Bool.{Bool, true, false, cond, _&&_, _||_}
-use mathlib.Core.List.{List, [], _∷_}
+use mathlib.Core.Bool.{false, cond, _&&_, _||_}
+use mathlib.Core.List.{List}
 use lib.Dec.{ltb, leb, eqb}
 use lib.ListN.{length, getD, replicate}
 use Rattle.endian.specs.Bytes.{put, span}
-use Rattle.refusal.specs.declared.Refusal.{Refusal}
 use Rattle.refusal.specs.declared.Refusal.the-variants.{LimitOrMemory, ExpectedFile, NotEnoughSpace}
 use Rattle.refusal.specs.declared.Verdict.{Verdict}
 use Rattle.refusal.specs.declared.Verdict.the-variants.{Passed, Refused}
-use Rattle.refusal.specs.Refusal.{refuse, first, isRefused}
+use Rattle.refusal.specs.Refusal.{refuse, isRefused}
 use Rattle.header.specs.Verdicts.{fstOffset, fstSize}
-use Rattle.tree.specs.Table.{Node, none, encode}
+use Rattle.tree.specs.Table.{Node, none}
 use Rattle.tree.specs.Lookup.{isDirectory}
 use Rattle.tree.specs.declared.Entry.{Entry}
 use Rattle.tree.specs.declared.Entry.the-variants as entry

@@ -4,7 +4,7 @@ use crate::Writing;
 use header::Field;
 use refusal::Verdict;
 ghost use mathlib.Core.Path.{_≡_};
-ghost use Prim.Native.Nat.{_+_, _-_, _≤_, _<_, _^_};
+ghost use Prim.Native.Nat.{_+_, _-_, _<_};
 ghost use lib.ListN.{length, replicate};
 ghost use Rattle.endian.specs.Bytes.{put, span};
 ghost use Rattle.edit.specs.Change.{withTable};

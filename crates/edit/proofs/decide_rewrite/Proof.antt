@@ -1,12 +1,8 @@
 -- `edit::decide_rewrite` meets its contract: refused by opening, or what is decided on the open image.
 -- Assumes nothing.
-use mathlib.Core.Path.{_≡_, refl, sym, ap, _∙_}
-use Prim.Native.Nat.{ℕ, _+_, _-_, _*_, _≤_, _<_}
-use native.Mathlib.Omega.{arith}
+use Prim.Native.Nat.{_-_}
 use denote.Ref.{now}
-use lib.ListN.{length, replicate}
-use mathlib.Core.List.{List}
-use Rattle.disc.specs.Opening.{opening}
+use lib.ListN.{length}
 use Rattle.edit.specs.Edits as edits
 use Rattle.edit.specs.Edits.{planOf}
 use Rattle.edit.proofs.Decisions.{is-open, open-decided, unopened-decided}

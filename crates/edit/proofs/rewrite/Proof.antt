@@ -1,11 +1,9 @@
 -- `edit::rewrite` meets its contract: the decision is carried out, and the working memory zeroed.
 -- Assumes nothing.
-use mathlib.Core.Path.{_≡_, refl, sym, ap, _∙_}
-use Prim.Native.Nat.{ℕ, _+_, _-_, _*_, _≤_, _<_}
-use native.Mathlib.Omega.{arith}
+use mathlib.Core.Path.{ap, _∙_}
+use Prim.Native.Nat.{ℕ, _-_}
 use denote.Ref.{now}
 use lib.ListN.{length, replicate}
-use mathlib.Core.List.{List}
 use Rattle.edit.specs.Edits as edits
 use Rattle.edit.proofs.Decisions.{edit-decided}
 use borrow.Author.Needs.{needs}

@@ -1,18 +1,15 @@
 -- `edit::opened::file_at` meets its contract: the slice is the table, and its entry is a file or refused.
 -- Assumes nothing.
-use mathlib.Core.Path.{_≡_, refl, sym, ap, _∙_}
-use Prim.Native.Nat.{ℕ, _+_, _-_, _*_, _≤_, _<_}
+use mathlib.Core.Path.{sym, ap, _∙_}
+use Prim.Native.Nat.{ℕ, _-_}
 use native.Mathlib.Omega.{arith}
 use denote.Ref.{now}
-use lib.ListN.{length, replicate}
 use mathlib.Core.List.{List}
-use Rattle.header.specs.Verdicts.{fstOffset, fstSize, discEnd, tableEnd}
 use Rattle.disc.specs.OpeningLaws.{OpenImage, opens}
 use Rattle.disc.proofs.Tests.{part-table}
-use Rattle.fst.specs.Reading.{Opens}
 use Rattle.tree.specs.Table.{nodesOf}
 use Rattle.tree.specs.Lookup.{entryFound}
-use Rattle.disc.specs.Opening.{nodesIn, tableOf}
+use Rattle.disc.specs.Opening.{nodesIn}
 use Rattle.edit.proofs.Images.{checked}
 use Rattle.edit.proofs.Files.{entry-refused, entry-file}
 use borrow.Author.Needs.{needs}

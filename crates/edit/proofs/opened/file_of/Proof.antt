@@ -1,11 +1,6 @@
 -- `edit::opened::file_of` meets its contract, by the cases of the entry.
 -- Assumes nothing.
-use mathlib.Core.Path.{_≡_, refl, sym, ap, _∙_}
-use Prim.Native.Nat.{ℕ, _+_, _-_, _*_, _≤_, _<_}
-use native.Mathlib.Omega.{arith}
-use denote.Ref.{now}
-use lib.ListN.{length, replicate}
-use mathlib.Core.List.{List}
+use Prim.Native.Nat.{_-_}
 use borrow.Author.Needs.{needs}
 use Rattle.edit.proofs.opened.file_of.Statement.{statement}
 use Rattle.edit.proofs.opened.file_of.Tie as tie

@@ -1,13 +1,10 @@
 -- `edit::opened::overlaps_itself` meets its contract: each comparison is the definition's.
 -- Assumes nothing.
-use mathlib.Core.Path.{_≡_, refl, sym, ap, _∙_}
-use Prim.Native.Nat.{ℕ, _+_, _-_, _*_, _≤_, _<_}
+use mathlib.Core.Path.{ap}
+use Prim.Native.Nat.{_+_, _-_, _≤_, _<_}
 use native.Mathlib.Omega.{arith}
-use denote.Ref.{now}
-use lib.ListN.{length, replicate}
-use mathlib.Core.List.{List}
-use borrow.Author.Tests.{lt-ltb, le-ltb, le-leb, lt-leb}
-use lib.Dec.{ltb, leb}
+use borrow.Author.Tests.{lt-ltb, le-ltb}
+use lib.Dec.{ltb}
 use borrow.Author.Needs.{needs}
 use Rattle.edit.proofs.opened.overlaps_itself.Statement.{statement}
 use Rattle.edit.proofs.opened.overlaps_itself.Tie as tie

@@ -1,19 +1,16 @@
 -- `edit::opened::relocate` meets its contract: behind the tests of the new place it is the change that moves the file.
 -- Assumes nothing.
-use mathlib.Core.Path.{_≡_, refl, sym, ap, _∙_}
-use Prim.Native.Nat.{ℕ, _+_, _-_, _*_, _≤_, _<_}
+use mathlib.Core.Path.{sym, ap, _∙_}
+use Prim.Native.Nat.{_-_}
 use native.Mathlib.Omega.{arith}
 use denote.Ref.{now}
-use lib.ListN.{length, replicate}
+use lib.ListN.{length}
 use mathlib.Core.List.{List}
-use Rattle.header.specs.Verdicts.{fstOffset, fstSize, discEnd, tableEnd}
 use Rattle.disc.specs.OpeningLaws.{OpenImage, opens}
-use Rattle.refusal.specs.declared.Verdict.{Verdict}
-use Rattle.refusal.specs.declared.Verdict.the-variants.{Passed}
 use Rattle.space.specs.declared.DiscRegion.{DiscRegion}
 use Rattle.disc.specs.Opening.{nodesIn, freeOf}
 use Rattle.edit.specs.Change.{change}
-use Rattle.edit.specs.Edits.{relocateVerdict, relocated, resized, planElsewhere}
+use Rattle.edit.specs.Edits.{relocateVerdict, relocated}
 use Rattle.edit.proofs.Decisions.{behind-passed, behind-refused}
 use Rattle.edit.proofs.Files.{frees, relocate-inside}
 use borrow.Author.Needs.{needs}

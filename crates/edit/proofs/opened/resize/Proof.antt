@@ -1,21 +1,15 @@
 -- `edit::opened::resize` meets its contract: the present size, in place, or elsewhere.
 -- Assumes nothing.
-use mathlib.Core.Path.{_≡_, refl, sym, ap, _∙_}
-use Prim.Native.Nat.{ℕ, _+_, _-_, _*_, _≤_, _<_}
+use mathlib.Core.Path.{sym, ap, _∙_}
+use Prim.Native.Nat.{_-_}
 use native.Mathlib.Omega.{arith}
 use denote.Ref.{now}
-use lib.ListN.{length, replicate}
+use lib.ListN.{length}
 use mathlib.Core.List.{List}
-use Rattle.header.specs.Verdicts.{fstOffset, fstSize, discEnd, tableEnd}
 use Rattle.disc.specs.OpeningLaws.{OpenImage, opens}
-use Rattle.refusal.specs.declared.Verdict.{Verdict}
-use Rattle.refusal.specs.declared.Verdict.the-variants.{Passed}
 use Rattle.space.specs.declared.DiscRegion.{DiscRegion}
 use Rattle.disc.specs.Opening.{nodesIn, freeOf}
-use Rattle.edit.specs.Change.{change}
-use Rattle.edit.specs.Edits.{relocateVerdict, relocated, resized, planElsewhere}
-use borrow.Author.Tests.{lt-ltb, le-ltb, le-leb, lt-leb}
-use lib.Dec.{ltb, leb}
+use lib.Dec.{leb}
 use mathlib.Core.Bool.{_||_}
 use Rattle.space.specs.MaxRegionSize.{maxRegionSize}
 use Rattle.edit.proofs.Files.{frees, size-kept, size-in-place, size-elsewhere}

@@ -1,19 +1,9 @@
 -- `edit::opened::resize_file` meets its contract: 15 and 16, then the resize of the file that was found.
 -- Assumes nothing.
-use mathlib.Core.Path.{_≡_, refl, sym, ap, _∙_}
-use Prim.Native.Nat.{ℕ, _+_, _-_, _*_, _≤_, _<_}
-use native.Mathlib.Omega.{arith}
+use Prim.Native.Nat.{_-_}
 use denote.Ref.{now}
-use lib.ListN.{length, replicate}
-use mathlib.Core.List.{List}
-use Rattle.header.specs.Verdicts.{fstOffset, fstSize, discEnd, tableEnd}
-use Rattle.disc.specs.OpeningLaws.{OpenImage, opens}
-use Rattle.refusal.specs.declared.Verdict.{Verdict}
-use Rattle.refusal.specs.declared.Verdict.the-variants.{Passed}
-use Rattle.space.specs.declared.DiscRegion.{DiscRegion}
+use lib.ListN.{length}
 use Rattle.disc.specs.Opening.{nodesIn, freeOf}
-use Rattle.edit.specs.Change.{change}
-use Rattle.edit.specs.Edits.{relocateVerdict, relocated, resized, planElsewhere}
 use Rattle.edit.proofs.Files.{file-found, file-refused, resize-decided, resize-refused}
 use borrow.Author.Needs.{needs}
 use Rattle.edit.proofs.opened.resize_file.Statement.{statement}

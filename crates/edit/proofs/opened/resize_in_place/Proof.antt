@@ -1,19 +1,11 @@
 -- `edit::opened::resize_in_place` meets its contract: the change that keeps the place, whose lost end lies in the old one.
 -- Assumes nothing.
-use mathlib.Core.Path.{_≡_, refl, sym, ap, _∙_}
-use Prim.Native.Nat.{ℕ, _+_, _-_, _*_, _≤_, _<_}
+use mathlib.Core.Path.{_≡_}
+use Prim.Native.Nat.{_-_}
 use native.Mathlib.Omega.{arith}
 use denote.Ref.{now}
-use lib.ListN.{length, replicate}
-use mathlib.Core.List.{List}
-use Rattle.header.specs.Verdicts.{fstOffset, fstSize, discEnd, tableEnd}
+use lib.ListN.{length}
 use Rattle.disc.specs.OpeningLaws.{OpenImage, opens}
-use Rattle.refusal.specs.declared.Verdict.{Verdict}
-use Rattle.refusal.specs.declared.Verdict.the-variants.{Passed}
-use Rattle.space.specs.declared.DiscRegion.{DiscRegion}
-use Rattle.disc.specs.Opening.{nodesIn, freeOf}
-use Rattle.edit.specs.Change.{change}
-use Rattle.edit.specs.Edits.{relocateVerdict, relocated, resized, planElsewhere}
 use Rattle.edit.proofs.Files.{resize-inside}
 use borrow.Author.Needs.{needs}
 use Rattle.edit.proofs.opened.resize_in_place.Statement.{statement}

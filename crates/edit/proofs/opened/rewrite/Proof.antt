@@ -1,20 +1,17 @@
 -- `edit::opened::rewrite` meets its contract: the tests of the table as it is, and the table written anew.
 -- Assumes nothing.
-use mathlib.Core.Path.{_≡_, refl, sym, ap, _∙_}
-use Prim.Native.Nat.{ℕ, _+_, _-_, _*_, _≤_, _<_}
+use mathlib.Core.Path.{sym, _∙_}
+use Prim.Native.Nat.{_-_}
 use native.Mathlib.Omega.{arith}
 use denote.Ref.{now}
-use lib.ListN.{length, replicate}
-use mathlib.Core.List.{List}
-use Rattle.header.specs.Verdicts.{fstOffset, fstSize, discEnd, tableEnd}
+use lib.ListN.{length}
 use Rattle.disc.specs.OpeningLaws.{OpenImage, opens}
-use Rattle.endian.specs.Bytes.{span}
 use Rattle.refusal.specs.declared.Verdict.{Verdict}
 use Rattle.tree.specs.Table.{encode}
 use Rattle.disc.specs.Opening.{nodesIn}
 use Rattle.edit.specs.Change.{tableVerdict, change}
 use Rattle.edit.specs.Edits.{noPlace, tableOnly}
-use Rattle.edit.specs.Decision.{placing, changeWith}
+use Rattle.edit.specs.Decision.{placing}
 use Rattle.edit.proofs.Puts.{span-start}
 use Rattle.edit.proofs.Decisions.{sized-refused, refused-decided, write-decided}
 use Rattle.edit.proofs.Images.{NewTable, new-table}

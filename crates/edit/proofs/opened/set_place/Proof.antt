@@ -1,19 +1,16 @@
 -- `edit::opened::set_place` meets its contract: the tree with another place passes the tests of the tree as it is, and its table is the one written anew with 8 bytes changed.
 -- Assumes nothing.
-use mathlib.Core.Path.{_≡_, refl, sym, ap, _∙_}
-use Prim.Native.Nat.{ℕ, _+_, _-_, _*_, _≤_, _<_}
+use mathlib.Core.Path.{sym, _∙_}
+use Prim.Native.Nat.{_-_}
 use native.Mathlib.Omega.{arith}
 use denote.Ref.{now}
-use lib.ListN.{length, replicate}
-use mathlib.Core.List.{List}
-use Rattle.header.specs.Verdicts.{fstOffset, fstSize, discEnd, tableEnd}
+use lib.ListN.{length}
 use Rattle.disc.specs.OpeningLaws.{OpenImage, opens}
-use Rattle.endian.specs.Bytes.{span}
 use Rattle.refusal.specs.declared.Verdict.{Verdict}
 use Rattle.tree.specs.Table.{encode}
 use Rattle.tree.specs.Insert.{setPlace}
 use Rattle.tree.specs.RoundTrip.{length-encode}
-use Rattle.disc.specs.Opening.{nodesIn, freeOf}
+use Rattle.disc.specs.Opening.{nodesIn}
 use Rattle.edit.specs.Change.{tableVerdict, change}
 use Rattle.edit.specs.Decision.{placing, changeWith}
 use Rattle.edit.proofs.Puts.{span-start}

@@ -1,15 +1,14 @@
 -- `edit::table::check_place` meets its contract: each test is the definition's, once the largest size found in the words is that of the free regions.
 -- Assumes nothing.
-use mathlib.Core.Path.{_≡_, refl, sym, ap, _∙_}
-use Prim.Native.Nat.{ℕ, _+_, _-_, _*_, _≤_, _<_}
+use mathlib.Core.Path.{refl, sym, ap, _∙_}
+use Prim.Native.Nat.{ℕ, _+_, _-_, _≤_, _<_}
 use native.Mathlib.Omega.{arith}
 use denote.Ref.{now}
-use lib.ListN.{length, replicate}
-use mathlib.Core.List.{List}
-use Rattle.header.specs.Verdicts.{fstOffset, fstSize, discEnd, tableEnd}
+use lib.ListN.{length}
+use Rattle.header.specs.Verdicts.{fstOffset, fstSize}
 use Rattle.disc.specs.OpeningLaws.{OpenImage, opens}
 use borrow.Author.Tests.{lt-ltb, le-ltb}
-use mathlib.Core.Bool.{Bool, true, false, _&&_}
+use mathlib.Core.Bool.{_&&_}
 use lib.Dec.{ltb}
 use Rattle.edit.specs.Decision.{placeVerdict}
 use Rattle.edit.proofs.Images.{free-size, place-verdict}

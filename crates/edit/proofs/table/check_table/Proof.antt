@@ -1,18 +1,14 @@
 -- `edit::table::check_table` meets its contract: the size that was measured settles the limits, and the place is judged by it.
 -- Assumes nothing.
-use mathlib.Core.Path.{_≡_, refl, sym, ap, _∙_}
-use Prim.Native.Nat.{ℕ, _+_, _-_, _*_, _≤_, _<_}
+use mathlib.Core.Path.{sym, ap, _∙_}
+use Prim.Native.Nat.{_-_}
 use native.Mathlib.Omega.{arith}
 use denote.Ref.{now}
-use lib.ListN.{length, replicate}
-use mathlib.Core.List.{List}
-use Rattle.header.specs.Verdicts.{fstOffset, fstSize, discEnd, tableEnd}
+use lib.ListN.{length}
 use Rattle.disc.specs.OpeningLaws.{OpenImage, opens}
 use Rattle.disc.proofs.Tests.{part-table}
-use Rattle.tree.specs.Table.{encode}
-use Rattle.disc.specs.Opening.{nodesIn, tableOf}
+use Rattle.disc.specs.Opening.{nodesIn}
 use Rattle.fst_write.specs.Measure.{measureOf}
-use Rattle.fst_write.specs.declared.Measured.the-variants.{Size, PastLimit}
 use Rattle.edit.proofs.Images.{table-valid, measured-past, measured-size, table-past, table-sized}
 use borrow.Author.Needs.{needs}
 use Rattle.edit.proofs.table.check_table.Statement.{statement}

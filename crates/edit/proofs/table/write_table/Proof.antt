@@ -1,17 +1,15 @@
 -- `edit::table::write_table` meets its contract: the slice that is written anew is the table.
 -- Assumes nothing.
-use mathlib.Core.Path.{_≡_, refl, sym, ap, _∙_}
-use Prim.Native.Nat.{ℕ, _+_, _-_, _*_, _≤_, _<_}
+use mathlib.Core.Path.{ap, _∙_}
+use Prim.Native.Nat.{ℕ, _-_}
 use native.Mathlib.Omega.{arith}
 use denote.Ref.{now}
-use lib.ListN.{length, replicate}
 use mathlib.Core.List.{List}
-use Rattle.header.specs.Verdicts.{fstOffset, fstSize, discEnd, tableEnd}
 use Rattle.disc.specs.OpeningLaws.{OpenImage, opens}
 use Rattle.disc.proofs.Tests.{part-table}
 use Rattle.endian.specs.Bytes.{put}
 use Rattle.tree.specs.Table.{encode, nodesOf}
-use Rattle.disc.specs.Opening.{nodesIn, tableOf}
+use Rattle.disc.specs.Opening.{nodesIn}
 use Rattle.edit.proofs.Images.{table-valid}
 use borrow.Author.Needs.{needs}
 use Rattle.edit.proofs.table.write_table.Statement.{statement}

@@ -1,11 +1,7 @@
 -- `edit::written::carry_out` meets its contract, by the cases of the decision.
 -- Assumes nothing.
-use mathlib.Core.Path.{_≡_, refl, sym, ap, _∙_}
-use Prim.Native.Nat.{ℕ, _+_, _-_, _*_, _≤_, _<_}
-use native.Mathlib.Omega.{arith}
-use denote.Ref.{now}
-use lib.ListN.{length, replicate}
-use mathlib.Core.List.{List}
+use mathlib.Core.Path.{refl}
+use Prim.Native.Nat.{_-_}
 use borrow.Author.Needs.{needs}
 use Rattle.edit.proofs.written.carry_out.Statement.{statement}
 use Rattle.edit.proofs.written.carry_out.Tie as tie

@@ -1,11 +1,7 @@
 -- `edit::written::commit` meets its contract: the table and the zeros behind it are put at once, then the size.
 -- Assumes nothing.
-use mathlib.Core.Path.{_≡_, refl, sym, ap, _∙_}
-use Prim.Native.Nat.{ℕ, _+_, _-_, _*_, _≤_, _<_}
-use native.Mathlib.Omega.{arith}
+use Prim.Native.Nat.{_-_}
 use denote.Ref.{now}
-use lib.ListN.{length, replicate}
-use mathlib.Core.List.{List}
 use Rattle.edit.proofs.Puts.{committed}
 use borrow.Author.Needs.{needs}
 use Rattle.edit.proofs.written.commit.Statement.{statement}

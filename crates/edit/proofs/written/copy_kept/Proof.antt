@@ -1,11 +1,9 @@
 -- `edit::written::copy_kept` meets its contract: no byte put changes nothing, and otherwise it is the copy.
 -- Assumes nothing.
-use mathlib.Core.Path.{_≡_, refl, sym, ap, _∙_}
-use Prim.Native.Nat.{ℕ, _+_, _-_, _*_, _≤_, _<_}
+use mathlib.Core.Path.{_≡_, sym}
+use Prim.Native.Nat.{_-_, _<_}
 use native.Mathlib.Omega.{arith}
 use denote.Ref.{now}
-use lib.ListN.{length, replicate}
-use mathlib.Core.List.{List}
 use Rattle.endian.specs.Laws.{put-none}
 use borrow.Author.Needs.{needs}
 use Rattle.edit.proofs.written.copy_kept.Statement.{statement}

@@ -1,11 +1,7 @@
 -- `edit::written::write_change` meets its contract: copy, table and zeros in the order of the definition.
 -- Assumes nothing.
-use mathlib.Core.Path.{_≡_, refl, sym, ap, _∙_}
-use Prim.Native.Nat.{ℕ, _+_, _-_, _*_, _≤_, _<_}
+use Prim.Native.Nat.{_-_}
 use native.Mathlib.Omega.{arith}
-use denote.Ref.{now}
-use lib.ListN.{length, replicate}
-use mathlib.Core.List.{List}
 use Rattle.edit.specs.Decision.{writtenWith}
 use borrow.Author.Needs.{needs}
 use Rattle.edit.proofs.written.write_change.Statement.{statement}

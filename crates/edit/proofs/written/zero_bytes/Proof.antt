@@ -1,11 +1,8 @@
 -- `edit::written::zero_bytes` meets its contract: the whole slice is filled.
 -- Assumes nothing.
-use mathlib.Core.Path.{_≡_, refl, sym, ap, _∙_}
-use Prim.Native.Nat.{ℕ, _+_, _-_, _*_, _≤_, _<_}
-use native.Mathlib.Omega.{arith}
+use mathlib.Core.Path.{_∙_}
+use Prim.Native.Nat.{_-_}
 use denote.Ref.{now}
-use lib.ListN.{length, replicate}
-use mathlib.Core.List.{List}
 use Rattle.edit.proofs.Puts.{put-zeros}
 use borrow.Author.Needs.{needs}
 use Rattle.edit.proofs.written.zero_bytes.Statement.{statement}
