@@ -155,6 +155,10 @@ module _ (b : List ℕ) (nodes : List Node) (p q : ℕ) (pm : List ℕ) (d : Boo
 
   pub insert-written : put s 0 (insertPatch (take (length tab) s) (sizeOrNext s 0) p (newNode d nm (sizeOrNext s p))) ≡ put b 0 (encode (insertAt p (newNode d nm q) nodes))
   insert-written =
-      rw (take-front b tab (omega arith), root-next, parent-next,
-      insert-patched nodes p q pm (newNode d nm q) w here p<c (fresh-new d nm q) (omega arith) short)
+      rw (
+        take-front b tab (omega arith),
+        root-next,
+        parent-next,
+        insert-patched nodes p q pm (newNode d nm q) w here p<c (fresh-new d nm q) (omega arith) short,
+      )
       (put-over b tab (encode (insertAt p (newNode d nm q) nodes)) (omega (arith, grown)) (omega arith))
