@@ -1,3 +1,4 @@
 pub mod Change
 pub mod Edits
 pub mod Decision
+pub mod MakeLaws
