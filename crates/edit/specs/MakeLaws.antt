@@ -154,10 +154,12 @@ module _ (nodes M : List Node) (φ : ℕ → ℕ) (ν : ℕ → Bool) (bad : Boo
           let k : shifted q j ≡ j = shifted-low q j l in
           let s′ : shifted q p ≡ p = shifted-low q p (q≤ .0) in
           rw (e, s′) (inr (j, child-kept M p q nm new (g .nested) dir p<n refl name j f′, rw k at (marked-old q ν j ∙ v), s, λ z. or-true bad _ (b z)))
+
       other : (d ≡ p → ⊥) → Where M ν bad d name → Where M′ (marked q ν) bad′ (shifted q d) name
       other n (inl f) = inl (child-moved M p q nm new (g .nested) dir p<n refl d h name n ∙ ap (moved q) f)
       other n (inr (j, f, v, s, b)) =
           inr (shifted q j, child-moved M p q nm new (g .nested) dir p<n refl d h name n ∙ ap (moved q) f, marked-old q ν j ∙ v, s, λ z. or-true bad _ (b z))
+
       go : (t : Bool) → eqb d p ≡ t → Where M ν bad d name → Where M′ (marked q ν) bad′ (shifted q d) name
       go true e s = same (eqb-true d p e) s
       go false e s = other (eqb-false d p e) s
@@ -192,6 +194,7 @@ module _ (nodes M : List Node) (φ : ℕ → ℕ) (ν : ℕ → Bool) (bad : Boo
           let i< : i < length M = omega (arith, len, shifted-min q i, q≤ .1) in
           let v′ : ν i ≡ true = sym (marked-old q ν i) ∙ rw (← e) at v in
           rw e at (kept-kind M p q nm new (g .nested) dir p<n refl i i< ∙ g .dirs i i< v′)
+
       new-below : (j : ℕ) → j < length M′ → marked q ν j ≡ true → (name : List ℕ) → (j ≡ q) ⊎ ((i : ℕ) × (shifted q i ≡ j)) → Where M′ (marked q ν) bad′ j name
       new-below j h v name (inl e) = rw e (inl (child-empty M p q nm new (g .nested) dir p<n refl name))
       new-below j h v name (inr (i, e)) =
@@ -240,7 +243,7 @@ module _ (nodes : List Node) (start : ℕ) (c : List ℕ) (cs : List (List ℕ))
           let q : ℕ = newNumber M m in
           let b : (m < q) × (q ≤ length M) = q≤ nodes M φ ν bad g m nm q d m<n c ok e in
           ih (insertAt m (emptyDirectory c q) M) (λ i. shifted q (φ i)) (marked q ν) (bad || not (plain c)) (suc level) (m ∷ trail) q k (grown-more nodes M φ ν bad g m nm q d m<n c ok e)
-              (marked-new q ν, b .0, state-more nodes M φ ν bad g m nm q d m<n c ok e start level trail m k (b .0) s) (omega (arith, len nodes M φ ν bad g m nm q d m<n c ok e))
+          (marked-new q ν, b .0, state-more nodes M φ ν bad g m nm q d m<n c ok e start level trail m k (b .0) s) (omega (arith, len nodes M φ ν bad g m nm q d m<n c ok e))
       go false ok d = refl
   dive level s (inr (j, e, v, ok, b)) =
       let x : Child M m c j = child-is M m c j e in
@@ -317,6 +320,7 @@ make-trouble nodes start cs n h = same nodes start cs nodes (λ k. k) (λ j. fal
   where
     never : false ≡ true → ⊥
     never e = let z : _≡_ {A = ℕ} 0 1 = cc in omega arith
+
     none-yet : Grown nodes nodes (λ k. k) (λ j. false) false
     none-yet = record {
       first = n;
@@ -430,6 +434,7 @@ grows (c ∷ cs) M trail k bad F j w h a e =
         let f = ih (insertAt k (emptyDirectory c n) M) (k ∷ trail) n (bad || false) (g .well) (omega arith) (omega arith, lt-more (length M) _ trail (omega arith) a) q in
         (bigger-trans M (insertAt k (emptyDirectory c n) M) F g (f .0), f .1)
     more nm d ok false pl ih q = absurd (bad-stays cs (insertAt k (emptyDirectory c (newNumber M k)) M) (k ∷ trail) (newNumber M k) F j (rw (or-not bad false refl) at q))
+
     go : (t : Bool) → isDirectory (getD M k none) ≡ t → (u v : Bool) (tr : List ℕ) → AllLt (length M) tr → (x : Located) → childOf M k c ≡ x → (y : Bool) → safe c ≡ y →
         ((m : List Node) (t : List ℕ) (i : ℕ) (bd : Bool) → WellFormed m → i < length m → AllLt (length m) t → make m t i bd cs ≡ made F j false → Bigger m F × (j < length F)) →
         cond t (cond u (make M trail k bad cs) (cond v (madeBack tr (λ i rest. make M rest i bad cs)) (ifFound x (λ i. make M (k ∷ trail) i bad cs)
