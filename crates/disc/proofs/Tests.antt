@@ -1,5 +1,5 @@
 -- The tests of opening, joined: the table's slice, what `collect` needs, and what the test of the regions leaves. Assumes nothing.
-use Prim.Native.Nat.{ℕ, _+_, _-_, _*_, _<_, _≤_}
+use Prim.Native.Nat.{ℕ, _+_, _-_, _*_, _^_, _<_, _≤_}
 use mathlib.Core.Path.{_≡_, refl, sym, ap, _∙_}
 use mathlib.Core.List.{List, _∷_, map}
 use native.Mathlib.Omega.{arith}
@@ -30,6 +30,10 @@ unfolding tableOf
 part-table image from to e f =
     let n : to - from ≡ fstSize image = omega arith in
     rw (n, e)
+
+-- the table ends below 2^32
+pub table-ends : (image : List ℕ) (n from : ℕ) (tab : List ℕ) → Readable image n → from ≡ fstOffset image → tab ≡ tableOf image → from + length tab < 2 ^ 32
+table-ends image n from tab k e f = rw f (omega (arith, k .size, k .bounds .table, k .bounds .small))
 
 -- the root's next, read from the image
 pub count-is : (image : List ℕ) (n from r : ℕ) → Readable image n → from ≡ fstOffset image → r ≡ be32 image (from + 8) → r ≡ count (tableOf image)

@@ -10,7 +10,7 @@ use Rattle.refusal.specs.declared.Refusal.the-variants.{LimitOrMemory, Expected
 use Rattle.refusal.specs.declared.Verdict.{Verdict}
 use Rattle.refusal.specs.declared.Verdict.the-variants as verdict
 use Rattle.refusal.specs.Refusal.{refuse, first}
-use Rattle.header.specs.Verdicts.{dolOffset, discEnd}
+use Rattle.header.specs.Verdicts.{dolOffset, fstOffset, discEnd}
 use Rattle.window.specs.Window.{newWindow}
 use Rattle.dol.specs.Dol.{headerOf, fileSizeOf, verdictOf, newHeader}
 use Rattle.tree.specs.Lookup.{lookup, foundAt, entryFound}
@@ -54,8 +54,7 @@ lookupAnswer image words start path =
     (behind (refuse (ltb 1024 (length path)) LimitOrMemory verdict.Passed) found.Refused
     (foundAt (nodesIn image) (lookup (nodesIn image) start path)))
 
--- all entries at once, into a list of so many words: six an entry (`rowOf`); the place of a name counts from the FST offset, which the
--- answer has beside the count
+-- all entries at once, into a list of so many words: six an entry (`rowOf`), with the place of its name in the image
 unfoldable pub entriesAnswer : List ℕ → ℕ → ℕ → Opened
 entriesAnswer image words room =
     behind (opening image words) opened.Refused
@@ -63,7 +62,7 @@ entriesAnswer image words room =
     (opened.Accepted (discOf image)))
 
 unfoldable pub entriesList : List ℕ → ℕ → List ℕ → List ℕ
-entriesList image words list = behind (opening image words) (λ c. list) (listed (tableOf image) list)
+entriesList image words list = behind (opening image words) (λ c. list) (listed (fstOffset image) (tableOf image) list)
 
 -- ---- space
 

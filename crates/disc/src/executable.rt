@@ -2,10 +2,7 @@
 ghost use mathlib.Core.Path.{_≡_};
 ghost use lib.ListN.{length, replicate};
 ghost use mathlib.Core.List.{[]};
-ghost use Rattle.disc.specs.Opening.{opening};
 ghost use Rattle.disc.specs.Calls.{dolAs, openDolAnswer};
-ghost use Rattle.disc.specs.Prepared.{Prepares};
-ghost use Rattle.refusal.specs.declared.Verdict.the-variants.{Passed};
 ghost use Rattle.dol.specs.Dol.{verdictOf};
 ghost use Rattle.header.specs.Verdicts.{dolOffset};
 use crate::DolFile;
@@ -27,8 +24,7 @@ fn refused(cause: Refusal) -> DolFile
 }
 
 // The answer of an image that opened.
-fn dol_in(image: &[u8], words: usize) -> DolFile
-    requires { ⌜ opening (now image) words ≡ Passed ⌝ }
+fn dol_in(image: &[u8]) -> DolFile
     ensures { λ r. ⌜ r ≡ dolAs (verdictOf (now (image .entry)) (dolOffset (now (image .entry)))) (now (image .entry)) ⌝ }
 {
     let at = header::dol_offset(image);
@@ -51,7 +47,7 @@ pub fn open_dol(image: &[u8], words: &mut [u32]) -> DolFile
     let prepared = crate::prepare(image, words);
     space::zero_words(words);
     match prepared {
-        Prepared::Ready(_) => dol_in(image, words.len()),
+        Prepared::Ready(_) => dol_in(image),
         Prepared::Refused(cause) => refused(cause),
     }
 }

@@ -8,6 +8,7 @@ ghost use Rattle.disc.specs.Calls.{entryAnswer, lookupAnswer, windowAnsw
 use crate::Prepared;
 use crate::SizeAnswer;
 use crate::WindowAnswer;
+use crate::regions;
 use refusal::Refusal;
 use tree::Entry;
 use tree::Found;
@@ -95,16 +96,27 @@ pub fn open_file(image: &[u8], words: &mut [u32], number: u32) -> WindowAnswer
     window_of(found)
 }
 
-// The size that file `number` can grow to where it is.
-pub fn max_file_size(image: &[u8], words: &mut [u32], number: u32) -> SizeAnswer
-    ensures { λ r. ⌜ (r ≡ maxFileSizeAnswer (now (image .entry)) (length (now (words .entry))) number) × (now (words .exit) ≡ replicate (length (now (words .entry))) 0) ⌝ }
+// The size that the file can grow to, once the image is prepared.
+fn file_size_in(image: &[u8], words: &[u32], prepared: Prepared, number: u32) -> SizeAnswer
+    requires { ⌜ Prepares (now image) (length (now words)) (now words) prepared ⌝ }
+    ensures { λ r. ⌜ r ≡ maxFileSizeAnswer (now (image .entry)) (length (now (words .entry))) number ⌝ }
 {
-    let found = entry(image, words, number);
+    let found = entry_in(image, words, prepared, number);
     match found {
         Found::At(_, entry) => match entry {
-            Entry::File(file) => crate::max_region_size(image, words, file.offset, file.size),
+            Entry::File(file) => regions::sized(image, words, prepared, file.offset, file.size),
             Entry::Directory(_) => SizeAnswer::Refused(Refusal::ExpectedFile),
         },
         Found::Refused(cause) => SizeAnswer::Refused(cause),
     }
+}
+
+// The size that file `number` can grow to where it is.
+pub fn max_file_size(image: &[u8], words: &mut [u32], number: u32) -> SizeAnswer
+    ensures { λ r. ⌜ (r ≡ maxFileSizeAnswer (now (image .entry)) (length (now (words .entry))) number) × (now (words .exit) ≡ replicate (length (now (words .entry))) 0) ⌝ }
+{
+    let prepared = crate::prepare(image, words);
+    let answer = file_size_in(image, words, prepared, number);
+    space::zero_words(words);
+    answer
 }

@@ -16,8 +16,9 @@ fn entries_in(image: &[u8], words: &[u32], prepared: Prepared, list: &mut [u32])
 {
     match prepared {
         Prepared::Ready(count) => {
+            let base = header::fst_offset(image);
             let table = files::table(image, words.len());
-            let verdict = fst::list_entries(table, list);
+            let verdict = fst::list_entries(table, base, list);
             if let Verdict::Refused(cause) = verdict {
                 return Opened::Refused(cause);
             }
@@ -27,8 +28,8 @@ fn entries_in(image: &[u8], words: &[u32], prepared: Prepared, list: &mut [u32])
     }
 }
 
-// Each entry into `list`: kind, the directory it is nested in, offset, size or next, the place of its name from the FST offset on, the
-// name's length. The answer is that of `open`.
+// Each entry into `list`: kind, the directory it is nested in, offset, size or next, the place of its name in the image, the name's
+// length. The answer is that of `open`.
 pub fn entries(image: &[u8], words: &mut [u32], list: &mut [u32]) -> Opened
     ensures { λ r. ⌜ (r ≡ entriesAnswer (now (image .entry)) (length (now (words .entry))) (length (now (list .entry)))) × (now (list .exit) ≡ entriesList (now (image .entry)) (length (now (words .entry))) (now (list .entry))) × (now (words .exit) ≡ replicate (length (now (words .entry))) 0) ⌝ }
 {

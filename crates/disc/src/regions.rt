@@ -73,7 +73,7 @@ fn listed(image: &[u8], words: &[u32], prepared: Prepared, list: &mut [u32]) -> 
     }
 }
 
-fn sized(image: &[u8], words: &[u32], prepared: Prepared, offset: u32, size: u32) -> SizeAnswer
+pub fn sized(image: &[u8], words: &[u32], prepared: Prepared, offset: u32, size: u32) -> SizeAnswer
     requires { ⌜ Prepares (now image) (length (now words)) (now words) prepared ⌝ }
     ensures { λ r. ⌜ r ≡ maxRegionSizeAnswer (now (image .entry)) (length (now (words .entry))) offset size ⌝ }
 {

@@ -19,7 +19,7 @@ use Rattle.tree.specs.Table.{Node, file, directory, nameOf, none, count, kind, 
 use Rattle.tree.specs.Lookup.{nextOf}
 use Rattle.tree.specs.Accepted.{Accepted}
 use Rattle.tree.specs.Nesting.{parent-here, parent-lower, parent-before}
-use Rattle.fst.specs.Rows.{rowWith, namePlace, rowOf, rowsBelow, ParentsIn, listVerdict, listed}
+use Rattle.fst.specs.Rows.{rowWith, namePlace, imagePlace, rowOf, rowsBelow, ParentsIn, listVerdict, listed}
 use Rattle.fst.proofs.Nodes.{encloses-next, parent-whole, file-is, directory-is}
 use Rattle.fst.proofs.ChildLaws.{parent-last}
 
@@ -37,19 +37,19 @@ stores-6 s at a b c d e f h =
 
 -- ---- a row by the entry's kind
 
-module _ {tab : List ℕ} {words : ℕ} (a : Accepted tab words) (k : ℕ) (inside : k < count tab) where
+module _ {tab : List ℕ} {words : ℕ} (a : Accepted tab words) (base k : ℕ) (inside : k < count tab) where
   pub row-file : kind tab k ≡ 0 →
-      rowOf tab k ≡ 0 ∷ parentOf (nodesOf tab) k ∷ offsetOrParent tab k ∷ sizeOrNext tab k ∷ namePlace tab k ∷ length (nameOf (getD (nodesOf tab) k none)) ∷ []
+      rowOf base tab k ≡ 0 ∷ parentOf (nodesOf tab) k ∷ offsetOrParent tab k ∷ sizeOrNext tab k ∷ imagePlace base tab k ∷ length (nameOf (getD (nodesOf tab) k none)) ∷ []
   unfolding rowOf
   row-file e = rw (file-is a k inside e)
 
   pub row-directory : (kind tab k ≡ 0 → ⊥) →
-      rowOf tab k ≡ 1 ∷ parentOf (nodesOf tab) k ∷ 0 ∷ sizeOrNext tab k ∷ namePlace tab k ∷ length (nameOf (getD (nodesOf tab) k none)) ∷ []
+      rowOf base tab k ≡ 1 ∷ parentOf (nodesOf tab) k ∷ 0 ∷ sizeOrNext tab k ∷ imagePlace base tab k ∷ length (nameOf (getD (nodesOf tab) k none)) ∷ []
   unfolding rowOf
   row-directory e = go (getD (nodesOf tab) k none) (directory-is a k inside e)
     where
       go : (x : Node) → x ≡ directory (nameOf x) (sizeOrNext tab k) →
-          rowWith (parentOf (nodesOf tab) k) (namePlace tab k) x ≡ 1 ∷ parentOf (nodesOf tab) k ∷ 0 ∷ sizeOrNext tab k ∷ namePlace tab k ∷ length (nameOf x) ∷ []
+          rowWith (parentOf (nodesOf tab) k) (imagePlace base tab k) x ≡ 1 ∷ parentOf (nodesOf tab) k ∷ 0 ∷ sizeOrNext tab k ∷ imagePlace base tab k ∷ length (nameOf x) ∷ []
       go (file nm offset size) q = let z : _≡_ {A = ℕ} 0 1 = cc in absurd (omega arith)
       go (directory nm next) q = let n : next ≡ sizeOrNext tab k = cc in rw n
 
@@ -59,26 +59,26 @@ row-six : (p o : ℕ) (x : Node) → (length (rowWith p o x) ≡ 6) × (getD (ro
 row-six p o (file nm offset size) = (refl, refl)
 row-six p o (directory nm next) = (refl, refl)
 
-length-row : (tab : List ℕ) (k : ℕ) → length (rowOf tab k) ≡ 6
+length-row : (base : ℕ) (tab : List ℕ) (k : ℕ) → length (rowOf base tab k) ≡ 6
 unfolding rowOf
-length-row tab k = row-six _ _ (getD (nodesOf tab) k none) .0
+length-row base tab k = row-six _ _ (getD (nodesOf tab) k none) .0
 
-row-parent : (tab : List ℕ) (k : ℕ) → getD (rowOf tab k) 1 0 ≡ parentOf (nodesOf tab) k
+row-parent : (base : ℕ) (tab : List ℕ) (k : ℕ) → getD (rowOf base tab k) 1 0 ≡ parentOf (nodesOf tab) k
 unfolding rowOf
-row-parent tab k = row-six _ _ (getD (nodesOf tab) k none) .1
+row-parent base tab k = row-six _ _ (getD (nodesOf tab) k none) .1
 
-pub length-rows : (tab : List ℕ) (k : ℕ) → length (rowsBelow tab k) ≡ 6 * k
+pub length-rows : (base : ℕ) (tab : List ℕ) (k : ℕ) → length (rowsBelow base tab k) ≡ 6 * k
 unfolding rowsBelow
-length-rows tab zero = refl
-length-rows tab (suc k) = omega (arith, length-append (rowsBelow tab k) (rowOf tab k), length-row tab k, length-rows tab k)
+length-rows base tab zero = refl
+length-rows base tab (suc k) = omega (arith, length-append (rowsBelow base tab k) (rowOf base tab k), length-row base tab k, length-rows base tab k)
 
-rows-parent : (tab : List ℕ) (k i : ℕ) → i < k → getD (rowsBelow tab k) (6 * i + 1) 0 ≡ parentOf (nodesOf tab) i
+rows-parent : (base : ℕ) (tab : List ℕ) (k i : ℕ) → i < k → getD (rowsBelow base tab k) (6 * i + 1) 0 ≡ parentOf (nodesOf tab) i
 unfolding rowsBelow
-rows-parent tab zero i h = absurd (omega arith)
-rows-parent tab (suc k) i h = ⊎-elim (λ l. List·getD-append (rowsBelow tab k) (rowOf tab k) 0 (6 * i + 1) (omega (arith, length-rows tab k)) ∙ rows-parent tab k i l) (λ l. last (omega arith)) (lt-or-le i k)
+rows-parent base tab zero i h = absurd (omega arith)
+rows-parent base tab (suc k) i h = ⊎-elim (λ l. List·getD-append (rowsBelow base tab k) (rowOf base tab k) 0 (6 * i + 1) (omega (arith, length-rows base tab k)) ∙ rows-parent base tab k i l) (λ l. last (omega arith)) (lt-or-le i k)
   where
-    last : i ≡ k → getD (rowsBelow tab k ++ rowOf tab k) (6 * i + 1) 0 ≡ parentOf (nodesOf tab) i
-    last e = rw (e, ← length-rows tab k) (getD-append-add (rowsBelow tab k) (rowOf tab k) 1 0 ∙ row-parent tab k)
+    last : i ≡ k → getD (rowsBelow base tab k ++ rowOf base tab k) (6 * i + 1) 0 ≡ parentOf (nodesOf tab) i
+    last e = rw (e, ← length-rows base tab k) (getD-append-add (rowsBelow base tab k) (rowOf base tab k) 1 0 ∙ row-parent base tab k)
 
 put-behind : (s bs cs : List ℕ) (n : ℕ) → length bs ≡ n → n + length cs ≤ length s → put (put s 0 bs) n cs ≡ put s 0 (bs ++ cs)
 unfolding put
@@ -88,35 +88,35 @@ put-behind s bs cs n e h =
     rw (← e, z, m, take-append-seam bs (drop (length bs) s), drop-append-add bs (drop (length bs) s) (length cs), drop-drop (length cs) (length bs) s) (sym (append-assoc bs cs _))
 
 -- the list with the rows of the entries below k
-pub record Listing (tab list₀ list : List ℕ) (k : ℕ) : Type 0 where
+pub record Listing (base : ℕ) (tab list₀ list : List ℕ) (k : ℕ) : Type 0 where
   pub at-most : k ≤ count tab
   pub long : length list ≡ length list₀
-  pub is : list ≡ put list₀ 0 (rowsBelow tab k)
+  pub is : list ≡ put list₀ 0 (rowsBelow base tab k)
 
-pub listing-start : (tab list : List ℕ) → Listing tab list list 0
+pub listing-start : (base : ℕ) (tab list : List ℕ) → Listing base tab list list 0
 unfolding rowsBelow
-listing-start tab list = record { at-most = omega arith; long = refl; is = sym (put-none list 0) }
+listing-start base tab list = record { at-most = omega arith; long = refl; is = sym (put-none list 0) }
 
-module _ (tab list₀ list : List ℕ) (k : ℕ) (room : 6 * count tab ≤ length list₀) (l : Listing tab list₀ list k) where
+module _ (base : ℕ) (tab list₀ list : List ℕ) (k : ℕ) (room : 6 * count tab ≤ length list₀) (l : Listing base tab list₀ list k) where
   pub listing-parents : ParentsIn tab k list
   listing-parents = record { at = found }
     where
       found : (i : ℕ) → i < k → getD list (6 * i + 1) 0 ≡ parentOf (nodesOf tab) i
       found i h =
           let n : 0 + (6 * i + 1) ≡ 6 * i + 1 = omega arith in
-          let p = put-in list₀ 0 (rowsBelow tab k) (omega (arith, length-rows tab k, l .at-most)) (6 * i + 1) (omega (arith, length-rows tab k)) in
-          rw (l .is) ((rw n at p) ∙ rows-parent tab k i h)
+          let p = put-in list₀ 0 (rowsBelow base tab k) (omega (arith, length-rows base tab k, l .at-most)) (6 * i + 1) (omega (arith, length-rows base tab k)) in
+          rw (l .is) ((rw n at p) ∙ rows-parent base tab k i h)
 
-  pub listing-turn : k < count tab → (list′ : List ℕ) → list′ ≡ put list (6 * k) (rowOf tab k) → Listing tab list₀ list′ (k + 1)
+  pub listing-turn : k < count tab → (list′ : List ℕ) → list′ ≡ put list (6 * k) (rowOf base tab k) → Listing base tab list₀ list′ (k + 1)
   unfolding rowsBelow
   listing-turn h list′ e =
       record {
         at-most = omega arith;
-        long = ap length e ∙ length-put list (6 * k) (rowOf tab k) (omega (arith, length-row tab k, l .long)) ∙ l .long;
-        is = e ∙ rw (l .is, add-one k) (put-behind list₀ (rowsBelow tab k) (rowOf tab k) (6 * k) (length-rows tab k) (omega (arith, length-row tab k)));
+        long = ap length e ∙ length-put list (6 * k) (rowOf base tab k) (omega (arith, length-row base tab k, l .long)) ∙ l .long;
+        is = e ∙ rw (l .is, add-one k) (put-behind list₀ (rowsBelow base tab k) (rowOf base tab k) (6 * k) (length-rows base tab k) (omega (arith, length-row base tab k)));
       }
 
-  pub listing-end : count tab ≤ k → list ≡ listed tab list₀
+  pub listing-end : count tab ≤ k → list ≡ listed base tab list₀
   unfolding listed
   listing-end h =
       let e : k ≡ count tab = omega (arith, l .at-most) in
@@ -159,3 +159,11 @@ module _ (nodes : List Node) (k p : ℕ) where
 pub place-is : (tab : List ℕ) (k : ℕ) → (k ≡ 0 → ⊥) → namePlace tab k ≡ 12 * count tab + nameOffset tab k
 place-is tab zero h = absurd (h refl)
 place-is tab (suc k) h = refl
+
+-- in the image; it lies in the table, so that it is below the table's end
+pub image-place-is : (base : ℕ) (tab : List ℕ) (k : ℕ) → (k ≡ 0 → ⊥) → imagePlace base tab k ≡ base + namePlace tab k
+image-place-is base tab zero h = absurd (h refl)
+image-place-is base tab (suc k) h = refl
+
+pub place-inside : {tab : List ℕ} {words : ℕ} → Accepted tab words → (k : ℕ) → 0 < k → k < count tab → namePlace tab k < length tab
+place-inside {tab} a k h l = rw (place-is tab k (λ e. omega arith)) (a .offsets k h l)

@@ -12,7 +12,7 @@ use Rattle.refusal.specs.declared.Refusal.the-variants.{LimitOrMemory}
 use Rattle.refusal.specs.Refusal.{refuse}
 use Rattle.tree.specs.Table.{Node, file, directory, none, count, nameOffset, nodesOf, parentOf}
 
--- kind, the directory that it is nested in, offset (0 for a directory), size or next, where its name stands in the table, the name's length
+-- kind, the directory that it is nested in, offset (0 for a directory), size or next, where its name stands in the image, the name's length
 abbrev pub rowWith : ℕ → ℕ → Node → List ℕ
 rowWith parent place (file nm offset size) = 0 ∷ parent ∷ offset ∷ size ∷ place ∷ length nm ∷ []
 rowWith parent place (directory nm next) = 1 ∷ parent ∷ 0 ∷ next ∷ place ∷ length nm ∷ []
@@ -22,13 +22,19 @@ abbrev pub namePlace : List ℕ → ℕ → ℕ
 namePlace tab zero = 0
 namePlace tab (suc k) = 12 * count tab + nameOffset tab (suc k)
 
-unfoldable pub rowOf : List ℕ → ℕ → List ℕ
-rowOf tab k = rowWith (parentOf (nodesOf tab) k) (namePlace tab k) (getD (nodesOf tab) k none)
+-- where it stands in an image that has the table at `base`; 0 for the root
+abbrev pub imagePlace : ℕ → List ℕ → ℕ → ℕ
+imagePlace base tab zero = 0
+imagePlace base tab (suc k) = base + namePlace tab (suc k)
+
+-- the row of entry k of a table that stands at `base`
+unfoldable pub rowOf : ℕ → List ℕ → ℕ → List ℕ
+rowOf base tab k = rowWith (parentOf (nodesOf tab) k) (imagePlace base tab k) (getD (nodesOf tab) k none)
 
 -- the rows of the entries below k
-unfoldable pub rowsBelow : List ℕ → ℕ → List ℕ
-rowsBelow tab zero = []
-rowsBelow tab (suc k) = rowsBelow tab k ++ rowOf tab k
+unfoldable pub rowsBelow : ℕ → List ℕ → ℕ → List ℕ
+rowsBelow base tab zero = []
+rowsBelow base tab (suc k) = rowsBelow base tab k ++ rowOf base tab k
 
 -- in a list, the parents of the entries below k, as `rowsBelow` has them
 pub record ParentsIn (tab : List ℕ) (k : ℕ) (list : List ℕ) : Type 0 where
@@ -38,5 +44,5 @@ pub record ParentsIn (tab : List ℕ) (k : ℕ) (list : List ℕ) : Type 0 where
 unfoldable pub listVerdict : List ℕ → ℕ → Verdict
 listVerdict tab room = refuse (ltb room (6 * count tab)) LimitOrMemory Passed
 
-unfoldable pub listed : List ℕ → List ℕ → List ℕ
-listed tab list = cond (ltb (length list) (6 * count tab)) list (put list 0 (rowsBelow tab (count tab)))
+unfoldable pub listed : ℕ → List ℕ → List ℕ → List ℕ
+listed base tab list = cond (ltb (length list) (6 * count tab)) list (put list 0 (rowsBelow base tab (count tab)))

@@ -7,7 +7,7 @@ ghost use Rattle.endian.specs.Bytes.{put};
 ghost use Rattle.tree.specs.Table as table_of;
 ghost use Rattle.tree.specs.Table.{none, nodesOf, nameOf, parentOf};
 ghost use Rattle.fst.specs.Reading.{Opens};
-ghost use Rattle.fst.specs.Rows.{namePlace, rowOf, ParentsIn, listVerdict, listed};
+ghost use Rattle.fst.specs.Rows.{namePlace, imagePlace, rowOf, ParentsIn, listVerdict, listed};
 use crate::entries;
 use crate::opening;
 use crate::text;
@@ -23,6 +23,17 @@ fn name_place(table: &[u8], k: usize) -> usize
         return 0;
     }
     12 * opening::count(table) + endian::read_u24(table, 12 * k + 1) as usize
+}
+
+// Where it stands in an image that has the table at `base`; the root has no name.
+fn image_place(table: &[u8], base: u32, k: usize) -> u32
+    requires { ⌜ Opens (now table) × (k < table_of.count (now table)) × (base + length (now table) < 2 ^ 32) ⌝ }
+    ensures { λ r. ⌜ r ≡ imagePlace base (now (table .entry)) k ⌝ }
+{
+    if k == 0 {
+        return 0;
+    }
+    base + name_place(table, k) as u32
 }
 
 // The length of its name; the root has none.
@@ -78,13 +89,13 @@ fn write_row(
 }
 
 // Adds entry k to the entries below it.
-fn add_entry(table: &[u8], list: &mut [u32], k: usize)
-    requires { ⌜ Opens (now table) × (k < table_of.count (now table)) × (6 * table_of.count (now table) ≤ length (now list)) ⌝ }
+fn add_entry(table: &[u8], base: u32, list: &mut [u32], k: usize)
+    requires { ⌜ Opens (now table) × (k < table_of.count (now table)) × (6 * table_of.count (now table) ≤ length (now list)) × (base + length (now table) < 2 ^ 32) ⌝ }
     requires { ⌜ ParentsIn (now table) k (now list) ⌝ }
-    ensures { λ _. ⌜ now (list .exit) ≡ put (now (list .entry)) (6 * k) (rowOf (now (table .entry)) k) ⌝ }
+    ensures { λ _. ⌜ now (list .exit) ≡ put (now (list .entry)) (6 * k) (rowOf base (now (table .entry)) k) ⌝ }
 {
     let parent = parent_in(table, list, k) as u32;
-    let place = name_place(table, k) as u32;
+    let place = image_place(table, base, k);
     let size = name_length(table, k) as u32;
     let last = endian::read_u32(table, 12 * k + 8);
     if table[12 * k] == 0 {
@@ -96,11 +107,11 @@ fn add_entry(table: &[u8], list: &mut [u32], k: usize)
 }
 
 // All entries, six words each: kind, the directory it is nested in, offset (0 for a directory), size or next, and where its
-// name stands in the table and how long it is. A list that is too short stays as it is.
-pub fn list_entries(table: &[u8], list: &mut [u32]) -> Verdict
-    requires { ⌜ Opens (now table) ⌝ }
+// name stands in the image, which has the table at `base`, and how long it is. A list that is too short stays as it is.
+pub fn list_entries(table: &[u8], base: u32, list: &mut [u32]) -> Verdict
+    requires { ⌜ Opens (now table) × (base + length (now table) < 2 ^ 32) ⌝ }
     ensures { λ r. ⌜ r ≡ listVerdict (now (table .entry)) (length (now (list .entry))) ⌝ }
-    ensures { λ _. ⌜ now (list .exit) ≡ listed (now (table .entry)) (now (list .entry)) ⌝ }
+    ensures { λ _. ⌜ now (list .exit) ≡ listed base (now (table .entry)) (now (list .entry)) ⌝ }
 {
     let count = opening::count(table);
     if list.len() < 6 * count {
@@ -108,7 +119,7 @@ pub fn list_entries(table: &[u8], list: &mut [u32]) -> Verdict
     }
     let mut k = 0;
     while k < count {
-        add_entry(table, list, k);
+        add_entry(table, base, list, k);
         k += 1;
     }
     Verdict::Passed

@@ -33,7 +33,7 @@ fn is_separator(b: u8) -> bool
 }
 
 // The end of the component that starts at `at`: the next separator, or the path's end.
-fn component_end(path: &[u8], at: usize) -> usize
+pub fn component_end(path: &[u8], at: usize) -> usize
     requires { ⌜ at ≤ length (now path) ⌝ }
     ensures { λ r. ⌜ (at ≤ r) × (r ≤ length (now (path .entry))) × (components (drop at (now (path .entry))) ≡ span (now (path .entry)) at (r - at) ∷ componentsAfter (now (path .entry)) r) ⌝ }
 {
@@ -48,7 +48,7 @@ fn component_end(path: &[u8], at: usize) -> usize
 }
 
 // Empty and `.` stay.
-fn stays(name: &[u8]) -> bool
+pub fn stays(name: &[u8]) -> bool
     ensures { λ r. ⌜ r ≡ lookup_of.stays (now (name .entry)) ⌝ }
 {
     if name.len() == 0 {
@@ -61,7 +61,7 @@ fn stays(name: &[u8]) -> bool
 }
 
 // `..` goes back over the last named step.
-fn goes_back(name: &[u8]) -> bool
+pub fn goes_back(name: &[u8]) -> bool
     ensures { λ r. ⌜ r ≡ goesBack (now (name .entry)) ⌝ }
 {
     if name.len() != 2 {

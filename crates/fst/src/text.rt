@@ -47,7 +47,7 @@ fn is_clean(b: u8) -> bool
 }
 
 // The one test or the other, so that one loop serves both.
-fn fits(b: u8, safe_only: bool) -> bool
+pub fn fits(b: u8, safe_only: bool) -> bool
     ensures { λ r. ⌜ r ≡ byteTest «safe_only» b ⌝ }
 {
     if safe_only { is_safe(b) } else { is_plain(b) }

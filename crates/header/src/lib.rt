@@ -3,9 +3,9 @@ use refusal::Refusal;
 use refusal::Verdict;
 ghost use mathlib.Core.Path.{_≡_};
 ghost use Prim.Native.Nat.{_+_, _≤_, _<_};
-ghost use lib.ListN.{length};
+ghost use lib.ListN.{length, getD};
 ghost use Rattle.refusal.specs.Refusal.{first};
-ghost use Rattle.endian.specs.Bytes.{put, span};
+ghost use Rattle.endian.specs.Bytes.{be32, put, span};
 ghost use Rattle.header.specs.Fields.{fieldAt};
 ghost use Rattle.header.specs.Header.{headerOf, blank, readOf, putSome, writeVerdict, written};
 ghost use Rattle.header.specs.Verdicts.{gcnMagic, fieldVerdict, headerVerdict, dolOffset, fstOffset, fstSize, discEnd, tableEnd, boundsVerdict};
@@ -189,27 +189,44 @@ pub fn check(image: &[u8]) -> Verdict
     Verdict::Passed
 }
 
-// ---- what the header of an image says of the disc, for the layers above: they ask once the header has passed
+// ---- what the header of an image says of the disc, for the layers above: they ask once the header has passed. In an image too short for
+// a field a byte past the end reads as 0, so that the answer is settled there too.
+
+fn byte_at(image: &[u8], at: usize) -> u32
+    ensures { λ r. ⌜ (r ≡ getD (now (image .entry)) at 0) × (r < 256) ⌝ }
+{
+    if at < image.len() {
+        return image[at] as u32;
+    }
+    0
+}
+
+// The number in a field of 4 bytes.
+fn word_at(image: &[u8], at: usize) -> u32
+    requires { ⌜ at < 0x440 ⌝ }
+    ensures { λ r. ⌜ r ≡ be32 (now (image .entry)) at ⌝ }
+{
+    let high = byte_at(image, at) * 256 + byte_at(image, at + 1);
+    let low = byte_at(image, at + 2) * 256 + byte_at(image, at + 3);
+    high * 65536 + low
+}
 
 pub fn dol_offset(image: &[u8]) -> u32
-    requires { ⌜ 0x440 ≤ length (now image) ⌝ }
     ensures { λ r. ⌜ r ≡ dolOffset (now (image .entry)) ⌝ }
 {
-    endian::read_u32(image, Field::DOL_OFFSET.at)
+    word_at(image, Field::DOL_OFFSET.at)
 }
 
 pub fn fst_offset(image: &[u8]) -> u32
-    requires { ⌜ 0x440 ≤ length (now image) ⌝ }
     ensures { λ r. ⌜ r ≡ fstOffset (now (image .entry)) ⌝ }
 {
-    endian::read_u32(image, Field::FST_OFFSET.at)
+    word_at(image, Field::FST_OFFSET.at)
 }
 
 pub fn fst_size(image: &[u8]) -> u32
-    requires { ⌜ 0x440 ≤ length (now image) ⌝ }
     ensures { λ r. ⌜ r ≡ fstSize (now (image .entry)) ⌝ }
 {
-    endian::read_u32(image, Field::FST_SIZE.at)
+    word_at(image, Field::FST_SIZE.at)
 }
 
 // The sum of two words: it never wraps.
@@ -220,16 +237,14 @@ fn sum(a: u32, b: u32) -> u64
 }
 
 pub fn disc_end(image: &[u8]) -> u64
-    requires { ⌜ 0x440 ≤ length (now image) ⌝ }
     ensures { λ r. ⌜ r ≡ discEnd (now (image .entry)) ⌝ }
 {
-    let user_size = endian::read_u32(image, Field::USER_SIZE.at);
-    let disc_size = endian::read_u32(image, Field::DISC_SIZE.at);
+    let user_size = word_at(image, Field::USER_SIZE.at);
+    let disc_size = word_at(image, Field::DISC_SIZE.at);
     sum(user_size, disc_size)
 }
 
 pub fn table_end(image: &[u8]) -> u64
-    requires { ⌜ 0x440 ≤ length (now image) ⌝ }
     ensures { λ r. ⌜ r ≡ tableEnd (now (image .entry)) ⌝ }
 {
     sum(fst_offset(image), fst_size(image))
@@ -237,7 +252,6 @@ pub fn table_end(image: &[u8]) -> u64
 
 // The places that the header gives: 4. The table is held to the disc end, and not to the image's.
 fn bounds(image: &[u8]) -> Verdict
-    requires { ⌜ 0x440 ≤ length (now image) ⌝ }
     ensures { λ r. ⌜ r ≡ boundsVerdict (now (image .entry)) ⌝ }
 {
     if fst_offset(image) < 0x440 {

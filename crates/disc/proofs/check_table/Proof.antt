@@ -39,13 +39,13 @@ returns c =
     stopped (c .before .before .check-bounds .result) (headerVerdict image) (boundsVerdict image) (check (tableOf image) (s .args .words)) (c .before .before .check-bounds .ensures) (sym (c .before .is-refused .ensures) ∙ c .if1 .taken)
 
 fst-offset-requires : tie.Need-fst-offset-requires
-fst-offset-requires c κs = passed c .0 .whole
+fst-offset-requires c κs = search needs
 
 cast-from : tie.Need-cast-from
 cast-from c = search needs
 
 table-end-requires : tie.Need-table-end-requires
-table-end-requires c κs = passed (c .before) .0 .whole
+table-end-requires c κs = search needs
 
 sub-check : tie.Need-sub-check
 sub-check c = search needs

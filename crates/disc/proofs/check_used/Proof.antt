@@ -30,16 +30,16 @@ used c =
     used-words image _ _ _ _ _ (part-table image _ _ (c .before .before .before .before .before .before .fst-offset .ensures) (c .before .before .before .before .before .table-end .ensures)) (c .before .before .before .before .before .table-end .ensures) (counted (c .before .before .before)) (c .collect .ensures .0)
 
 fst-offset-requires : tie.Need-fst-offset-requires
-fst-offset-requires c κs = known c .header .whole
+fst-offset-requires c κs = search needs
 
 cast-from : tie.Need-cast-from
 cast-from c = search needs
 
 table-end-requires : tie.Need-table-end-requires
-table-end-requires c κs = known (c .before) .header .whole
+table-end-requires c κs = search needs
 
 disc-end-requires : tie.Need-disc-end-requires
-disc-end-requires c κs = known (c .before .before) .header .whole
+disc-end-requires c κs = search needs
 
 cast-end : tie.Need-cast-end
 cast-end c = let b = known (c .before .before .before) .bounds in omega (arith, b .small, c .disc-end .ensures)

@@ -2,10 +2,8 @@
 -- Assumes nothing.
 use mathlib.Core.Path.{_≡_, sym, _∙_}
 use borrow.Author.Needs.{needs}
-use Rattle.refusal.specs.declared.Verdict.the-variants.{Passed}
-use Rattle.refusal.specs.Laws.{first-stop, first-go, not-refused}
-use Rattle.header.specs.Verdicts.{headerVerdict, boundsVerdict}
-use Rattle.header.specs.Laws.{header-passed}
+use Rattle.refusal.specs.Laws.{first-stop, first-go}
+use Rattle.header.specs.Verdicts.{boundsVerdict}
 use Rattle.header.proofs.check_bounds.Statement.{statement}
 use Rattle.header.proofs.check_bounds.Tie as tie
 
@@ -22,11 +20,7 @@ returns c =
     rw (← (v .ensures)) (sym (first-stop (v .result) (boundsVerdict i) (sym (c .before .is-refused .ensures) ∙ c .if1 .taken)))
 
 bounds-requires : tie.Need-bounds-requires
-bounds-requires c κs =
-    let i = c .before .before .before .before .args .image .now in
-    let v = c .before .before .check in
-    let e : headerVerdict i ≡ Passed = sym (v .ensures) ∙ not-refused (v .result) (sym (c .before .is-refused .ensures) ∙ c .if1 .left) in
-    header-passed i e .whole
+bounds-requires c κs = search needs
 
 returns-2 : tie.Need-returns-2
 returns-2 c =

@@ -1,19 +1,16 @@
 -- `disc::executable::dol_in` meets its contract, by the verdict on the DOL's header.
 -- Assumes nothing.
 use mathlib.Core.Path.{_≡_, sym, ap, _∙_}
-use native.Mathlib.Omega.{arith}
-use lib.ListN.{length}
 use denote.Ref.{now}
 use Rattle.refusal.specs.declared.Verdict.{Verdict}
 use Rattle.disc.specs.Calls.{dolAs}
-use Rattle.disc.specs.OpeningLaws.{OpenImage, opens}
 use Rattle.disc.proofs.Dol.{dol-verdict, dol-is}
 use borrow.Author.Needs.{needs}
 use Rattle.disc.proofs.executable.dol_in.Statement.{statement}
 use Rattle.disc.proofs.executable.dol_in.Tie as tie
 
 dol-offset-requires : tie.Need-dol-offset-requires
-dol-offset-requires c κs = opens (now (c .before .args .image)) (c .before .args .words) (λ i. omega (arith, c .shared-slice-known .given i)) (c .before .pre) .reads .header .whole
+dol-offset-requires c κs = search needs
 
 cast-read : tie.Need-cast-read
 cast-read c = search needs

@@ -20,8 +20,7 @@ enum-told : tie.Need-enum-told
 enum-told c = search needs
 
 dol-in-requires : tie.Need-dol-in-requires
-dol-in-requires c κs = let s = c .before .before .before .before .before .before .before .before .before .before .before .before in
-    rw (c .before .before .before .before .zero-words .kept .0, c .before .before .before .before .before .before .before .before .prepare .kept .1 .0) (was-ready (now (s .args .image)) (length (now (s .args .words))) _ _ (c .before .before .before .before .before .before .before .before .prepare .ensures) _ (c .enum-told .given .1) .0)
+dol-in-requires c κs = search needs
 
 enum-known-prepared : tie.Need-enum-known-prepared
 enum-known-prepared c = search needs

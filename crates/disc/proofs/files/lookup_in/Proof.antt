@@ -20,24 +20,34 @@ enum-told c = search needs
 
 returns : tie.Need-returns
 unfolding lookupAnswer
-returns c = rw (was-ready (now (c .before .before .before .before .before .before .args .image)) (length (now (c .before .before .before .before .before .before .args .words))) (now (c .before .before .before .before .before .before .args .words)) (c .before .before .before .before .before .before .args .prepared) (c .before .before .before .before .before .before .pre) _ (c .before .enum-told .given .1) .0, lt-ltb 1024 (length (now (c .before .before .before .before .before .before .args .path))) (c .if1 .taken))
+returns c =
+    let s = c .before .before .before .before .before .before in
+    rw (was-ready (now (s .args .image)) (length (now (s .args .words))) (now (s .args .words)) (s .args .prepared) (s .pre) _ (c .before .enum-told .given .1) .0, lt-ltb 1024 (length (now (s .args .path))) (c .if1 .taken))
 
 table-requires : tie.Need-table-requires
-table-requires c κs = was-ready (now (c .before .before .before .before .before .before .args .image)) (length (now (c .before .before .before .before .before .before .args .words))) (now (c .before .before .before .before .before .before .args .words)) (c .before .before .before .before .before .before .args .prepared) (c .before .before .before .before .before .before .pre) _ (c .before .enum-told .given .1) .0
+table-requires c κs =
+    let s = c .before .before .before .before .before .before in
+    was-ready (now (s .args .image)) (length (now (s .args .words))) (now (s .args .words)) (s .args .prepared) (s .pre) _ (c .before .enum-told .given .1) .0
 
 find-requires : tie.Need-find-requires
-find-requires c κs = (rw (c .table .ensures) (record { words = length (now (c .before .before .before .before .before .before .before .args .words)); passed = table-accepted _ _ (was-ready (now (c .before .before .before .before .before .before .before .args .image)) (length (now (c .before .before .before .before .before .before .before .args .words))) (now (c .before .before .before .before .before .before .before .args .words)) (c .before .before .before .before .before .before .before .args .prepared) (c .before .before .before .before .before .before .before .pre) _ (c .before .before .enum-told .given .1) .0) }), omega arith)
+find-requires c κs =
+    let s = c .before .before .before .before .before .before .before in
+    (rw (c .table .ensures) (record { words = length (now (s .args .words)); passed = table-accepted _ _ (was-ready (now (s .args .image)) (length (now (s .args .words))) (now (s .args .words)) (s .args .prepared) (s .pre) _ (c .before .before .enum-told .given .1) .0) }), omega arith)
 
 enum-known-prepared : tie.Need-enum-known-prepared
 enum-known-prepared c = search needs
 
 returns-2 : tie.Need-returns-2
 unfolding lookupAnswer nodesIn
-returns-2 c = rw (was-ready (now (c .before .before .before .before .before .before .before .before .args .image)) (length (now (c .before .before .before .before .before .before .before .before .args .words))) (now (c .before .before .before .before .before .before .before .before .args .words)) (c .before .before .before .before .before .before .before .before .args .prepared) (c .before .before .before .before .before .before .before .before .pre) _ (c .before .before .before .enum-told .given .1) .0, le-ltb 1024 (length (now (c .before .before .before .before .before .before .before .before .args .path))) (c .before .before .if1 .left)) (rw (c .before .table .ensures) at (c .find .ensures))
+returns-2 c =
+    let s = c .before .before .before .before .before .before .before .before in
+    rw (was-ready (now (s .args .image)) (length (now (s .args .words))) (now (s .args .words)) (s .args .prepared) (s .pre) _ (c .before .before .before .enum-told .given .1) .0, le-ltb 1024 (length (now (s .args .path))) (c .before .before .if1 .left)) (rw (c .before .table .ensures) at (c .find .ensures))
 
 returns-3 : tie.Need-returns-3
 unfolding lookupAnswer
-returns-3 c = rw (was-refused (now (c .before .before .before .before .before .before .args .image)) (length (now (c .before .before .before .before .before .before .args .words))) (now (c .before .before .before .before .before .before .args .words)) (c .before .before .before .before .before .before .args .prepared) (c .before .before .before .before .before .before .pre) _ (c .before .prepared .given .1))
+returns-3 c =
+    let s = c .before .before .before .before .before .before in
+    rw (was-refused (now (s .args .image)) (length (now (s .args .words))) (now (s .args .words)) (s .args .prepared) (s .pre) _ (c .before .prepared .given .1))
 
 pub lookup-in-spec : {M : Type 1} → statement M
 lookup-in-spec =

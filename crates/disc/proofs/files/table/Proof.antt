@@ -15,13 +15,13 @@ known : (c : tie.After-shared-slice-known) → Readable (now (c .before .args .i
 known c = opens (now (c .before .args .image)) (c .before .args .words) (λ i. omega (arith, c .shared-slice-known .given i)) (c .before .pre) .reads
 
 fst-offset-requires : tie.Need-fst-offset-requires
-fst-offset-requires c κs = known c .header .whole
+fst-offset-requires c κs = search needs
 
 cast-from : tie.Need-cast-from
 cast-from c = search needs
 
 table-end-requires : tie.Need-table-end-requires
-table-end-requires c κs = known (c .before) .header .whole
+table-end-requires c κs = search needs
 
 sub-result : tie.Need-sub-result
 sub-result c = search needs

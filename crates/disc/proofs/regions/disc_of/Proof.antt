@@ -19,13 +19,13 @@ known : (c : tie.After-shared-slice-known2) → let s = c .before .before in Rea
 known c = opens (now (c .before .before .args .image)) (length (now (c .before .before .args .words))) (λ i. omega (arith, c .before .shared-slice-known .given i)) (c .before .before .pre .0) .reads
 
 fst-offset-requires : tie.Need-fst-offset-requires
-fst-offset-requires c κs = known c .header .whole
+fst-offset-requires c κs = search needs
 
 fst-size-requires : tie.Need-fst-size-requires
-fst-size-requires c κs = known (c .before) .header .whole
+fst-size-requires c κs = search needs
 
 disc-end-requires : tie.Need-disc-end-requires
-disc-end-requires c κs = known (c .before .before) .header .whole
+disc-end-requires c κs = search needs
 
 cast-disc-end : tie.Need-cast-disc-end
 cast-disc-end c = let k = known (c .before .before .before) in omega (arith, k .bounds .small, c .disc-end .ensures)

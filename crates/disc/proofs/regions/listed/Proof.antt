@@ -23,10 +23,14 @@ enum-known-prepared : tie.Need-enum-known-prepared
 enum-known-prepared c = search needs
 
 disc-of-requires : tie.Need-disc-of-requires
-disc-of-requires c κs = was-ready (now (c .before .before .before .before .before .before .args .image)) (length (now (c .before .before .before .before .before .before .args .words))) (now (c .before .before .before .before .before .before .args .words)) (c .before .before .before .before .before .before .args .prepared) (c .before .before .before .before .before .before .pre) _ (c .before .prepared .given .1)
+disc-of-requires c κs =
+    let s = c .before .before .before .before .before .before in
+    was-ready (now (s .args .image)) (length (now (s .args .words))) (now (s .args .words)) (s .args .prepared) (s .pre) _ (c .before .prepared .given .1)
 
 free-regions-requires : tie.Need-free-regions-requires
-free-regions-requires c κs = rw (c .before .disc-of .ensures) (was-ready (now (c .before .before .before .before .before .before .before .before .args .image)) (length (now (c .before .before .before .before .before .before .before .before .args .words))) (now (c .before .before .before .before .before .before .before .before .args .words)) (c .before .before .before .before .before .before .before .before .args .prepared) (c .before .before .before .before .before .before .before .before .pre) _ (c .before .before .before .prepared .given .1) .1 .sorted)
+free-regions-requires c κs =
+    let s = c .before .before .before .before .before .before .before .before in
+    rw (c .before .disc-of .ensures) (was-ready (now (s .args .image)) (length (now (s .args .words))) (now (s .args .words)) (s .args .prepared) (s .pre) _ (c .before .before .before .prepared .given .1) .1 .sorted)
 
 enum-known-prepared-2 : tie.Need-enum-known-prepared-2
 enum-known-prepared-2 c = search needs

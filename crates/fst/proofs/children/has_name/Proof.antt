@@ -24,7 +24,9 @@ cast-offset : tie.Need-cast-offset
 cast-offset c = search needs
 
 count-requires : tie.Need-count-requires
-count-requires c κs = let i = opens-inside (c .before .before .before .args .table .now) (c .before .before .before .pre .0) in omega (arith, c .before .before .before .pre .2)
+count-requires c κs =
+    let s = c .before .before .before in
+    let i = opens-inside (s .args .table .now) (s .pre .0) in omega (arith, s .pre .2)
 
 mul-text-is : tie.Need-mul-text-is
 mul-text-is c = let i = opens-inside (c .before .before .before .before .args .table .now) (c .before .before .before .before .pre .0) in omega (arith, c .count .ensures)
@@ -40,9 +42,10 @@ text-is-requires c κs =
 
 returns : tie.Need-returns
 returns c =
-    let T = c .before .before .before .before .before .args .table .now in
-    let e : c .before .before .read-u24 .result ≡ nameOffset T (c .before .before .before .before .before .args .k) = c .before .before .read-u24 .ensures .0 in
-    let n : nameOf (getD (nodesOf T) (c .before .before .before .before .before .args .k) none) ≡ textAt T (12 * count T + nameOffset T (c .before .before .before .before .before .args .k)) = name-is T (c .before .before .before .before .before .args .k) (c .before .before .before .before .before .pre .1) (c .before .before .before .before .before .pre .2) in
+    let s = c .before .before .before .before .before in
+    let T = s .args .table .now in
+    let e : c .before .before .read-u24 .result ≡ nameOffset T (s .args .k) = c .before .before .read-u24 .ensures .0 in
+    let n : nameOf (getD (nodesOf T) (s .args .k) none) ≡ textAt T (12 * count T + nameOffset T (s .args .k)) = name-is T (s .args .k) (s .pre .1) (s .pre .2) in
     rw n (rw (c .before .count .ensures, e) at (c .text-is .ensures))
 
 pub has-name-spec : {M : Type 1} → statement M

@@ -39,10 +39,14 @@ cast-t15 : tie.Need-cast-t15
 cast-t15 c = let i = opens-inside (c .before .before .before .before .before .args .table .now) (c .before .before .before .before .before .pre .0) in omega arith
 
 returns : tie.Need-returns
-returns c = rw (file-is (opened (c .before .before .before .before .before .args .table .now) (λ i. omega (arith, c .before .before .before .before .shared-slice-known .given i)) (c .before .before .before .before .before .pre .0)) (c .before .before .before .before .before .args .k) (c .before .before .before .before .before .pre .1) (c .before .if1 .taken)) (cc)
+returns c =
+    let s = c .before .before .before .before .before in
+    rw (file-is (opened (s .args .table .now) (λ i. omega (arith, c .before .before .before .before .shared-slice-known .given i)) (s .pre .0)) (s .args .k) (s .pre .1) (c .before .if1 .taken)) (cc)
 
 returns-2 : tie.Need-returns-2
-returns-2 c = rw (directory-is (opened (c .before .before .before .before .before .args .table .now) (λ i. omega (arith, c .before .before .before .before .shared-slice-known .given i)) (c .before .before .before .before .before .pre .0)) (c .before .before .before .before .before .args .k) (c .before .before .before .before .before .pre .1) (c .before .if1 .left)) (cc)
+returns-2 c =
+    let s = c .before .before .before .before .before in
+    rw (directory-is (opened (s .args .table .now) (λ i. omega (arith, c .before .before .before .before .shared-slice-known .given i)) (s .pre .0)) (s .args .k) (s .pre .1) (c .before .if1 .left)) (cc)
 
 pub entry-at-spec : {M : Type 1} → statement M
 entry-at-spec =

@@ -15,7 +15,9 @@ shared-slice-read-if1 : tie.Need-shared-slice-read-if1
 shared-slice-read-if1 c = let i = opens-inside (c .before .before .args .table .now) (c .before .before .pre .0) in omega arith
 
 returns : tie.Need-returns
-returns c = sym (ap nextOf (file-is (opened (c .before .before .before .args .table .now) (λ i. omega (arith, c .before .before .shared-slice-known .given i)) (c .before .before .before .pre .0)) (c .before .before .before .args .k) (c .before .before .before .pre .1) (c .if1 .taken)))
+returns c =
+    let s = c .before .before .before in
+    sym (ap nextOf (file-is (opened (s .args .table .now) (λ i. omega (arith, c .before .before .shared-slice-known .given i)) (s .pre .0)) (s .args .k) (s .pre .1) (c .if1 .taken)))
 
 mul-read-u32 : tie.Need-mul-read-u32
 mul-read-u32 c = let i = opens-inside (c .before .before .before .args .table .now) (c .before .before .before .pre .0) in omega arith
@@ -30,7 +32,9 @@ cast-result : tie.Need-cast-result
 cast-result c = search needs
 
 returns-2 : tie.Need-returns-2
-returns-2 c = c .read-u32 .ensures ∙ sym (ap nextOf (directory-is (opened (c .before .before .before .before .args .table .now) (λ i. omega (arith, c .before .before .before .shared-slice-known .given i)) (c .before .before .before .before .pre .0)) (c .before .before .before .before .args .k) (c .before .before .before .before .pre .1) (c .before .if1 .left)))
+returns-2 c =
+    let s = c .before .before .before .before in
+    c .read-u32 .ensures ∙ sym (ap nextOf (directory-is (opened (s .args .table .now) (λ i. omega (arith, c .before .before .before .shared-slice-known .given i)) (s .pre .0)) (s .args .k) (s .pre .1) (c .before .if1 .left)))
 
 pub next-spec : {M : Type 1} → statement M
 next-spec =

@@ -35,8 +35,9 @@ add-result c = let i = opens-inside (c .before .before .before .before .args .ta
 
 returns-2 : tie.Need-returns-2
 returns-2 c =
-    let i = opens-inside (c .before .before .before .before .args .table .now) (c .before .before .before .before .pre .0) in
-    (omega (arith, place-is (c .before .before .before .before .args .table .now) (c .before .before .before .before .args .k) (c .before .before .if1 .left), c .before .count .ensures, c .read-u24 .ensures .0), omega (arith, c .before .count .ensures, c .read-u24 .ensures .1))
+    let s = c .before .before .before .before in
+    let i = opens-inside (s .args .table .now) (s .pre .0) in
+    (omega (arith, place-is (s .args .table .now) (s .args .k) (c .before .before .if1 .left), c .before .count .ensures, c .read-u24 .ensures .0), omega (arith, c .before .count .ensures, c .read-u24 .ensures .1))
 
 pub name-place-spec : {M : Type 1} → statement M
 name-place-spec =

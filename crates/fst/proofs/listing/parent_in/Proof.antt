@@ -18,8 +18,9 @@ abbrev μ-loop : tie.MeasureT-loop
 
 returns : tie.Need-returns Inv-loop μ-loop
 returns c =
-    let N = nodesOf (c .before .before .before .args .table .now) in
-    (sym (parent-whole N (c .before .before .before .args .k) ∙ parent-none N (c .before .before .before .args .k) (c .before .before .before .args .k) (c .if1 .taken)), omega arith)
+    let s = c .before .before .before in
+    let N = nodesOf (s .args .table .now) in
+    (sym (parent-whole N (s .args .k) ∙ parent-none N (s .args .k) (s .args .k) (c .if1 .taken)), omega arith)
 
 sub-p : tie.Need-sub-p Inv-loop μ-loop
 sub-p c = omega arith
@@ -57,8 +58,9 @@ loop-less c =
 
 loop-again : tie.Need-loop-again Inv-loop μ-loop
 loop-again c =
-    let e = c .before .before .before .before .before .before .before .before .pre .1 .at (c .before .before .before .before .loop .p) (omega arith) in
-    (omega (arith, parent-before (nodesOf (c .before .before .before .before .before .before .before .before .args .table .now)) (c .before .before .before .before .loop .p) (omega arith)), rw e (c .before .before .before .before .loop .inv .1 ∙ climb-turn (nodesOf (c .before .before .before .before .before .before .before .before .args .table .now)) (c .before .before .before .before .before .before .before .before .args .k) (c .before .before .before .before .loop .p) (omega arith) (omega arith) (omega arith)))
+    let s = c .before .before .before .before .before .before .before .before in
+    let e = s .pre .1 .at (c .before .before .before .before .loop .p) (omega arith) in
+    (omega (arith, parent-before (nodesOf (s .args .table .now)) (c .before .before .before .before .loop .p) (omega arith)), rw e (c .before .before .before .before .loop .inv .1 ∙ climb-turn (nodesOf (s .args .table .now)) (s .args .k) (c .before .before .before .before .loop .p) (omega arith) (omega arith) (omega arith)))
 
 returns-3 : tie.Need-returns-3 Inv-loop μ-loop
 returns-3 c = (sym (c .before .loop .inv .1 ∙ climb-end (nodesOf (c .before .before .before .before .before .args .table .now)) (c .before .before .before .before .before .args .k) (c .before .loop .p) (omega arith)), omega arith)

@@ -24,15 +24,17 @@ is-safe-name-requires c κs = search needs
 returns-2 : tie.Need-returns-2
 unfolding plain
 returns-2 c =
-    let p : plain (textAt (c .before .before .before .before .before .args .table .now) (c .before .before .before .before .before .args .at)) ≡ true = sym (c .before .before .before .every-byte .ensures) ∙ not-false (c .before .before .before .every-byte .result) (c .before .before .if1 .left) in
-    let q : safe (textAt (c .before .before .before .before .before .args .table .now) (c .before .before .before .before .before .args .at)) ≡ false = sym (c .before .is-safe-name .ensures) ∙ not-true (c .before .is-safe-name .result) (c .if2 .taken) in
+    let s = c .before .before .before .before .before in
+    let p : plain (textAt (s .args .table .now) (s .args .at)) ≡ true = sym (c .before .before .before .every-byte .ensures) ∙ not-false (c .before .before .before .every-byte .result) (c .before .before .if1 .left) in
+    let q : safe (textAt (s .args .table .now) (s .args .at)) ≡ false = sym (c .before .is-safe-name .ensures) ∙ not-true (c .before .is-safe-name .result) (c .if2 .taken) in
     rw (p, q)
 
 returns-3 : tie.Need-returns-3
 unfolding plain
 returns-3 c =
-    let p : plain (textAt (c .before .before .before .before .before .args .table .now) (c .before .before .before .before .before .args .at)) ≡ true = sym (c .before .before .before .every-byte .ensures) ∙ not-false (c .before .before .before .every-byte .result) (c .before .before .if1 .left) in
-    let q : safe (textAt (c .before .before .before .before .before .args .table .now) (c .before .before .before .before .before .args .at)) ≡ true = sym (c .before .is-safe-name .ensures) ∙ not-false (c .before .is-safe-name .result) (c .if2 .left) in
+    let s = c .before .before .before .before .before in
+    let p : plain (textAt (s .args .table .now) (s .args .at)) ≡ true = sym (c .before .before .before .every-byte .ensures) ∙ not-false (c .before .before .before .every-byte .result) (c .before .before .if1 .left) in
+    let q : safe (textAt (s .args .table .now) (s .args .at)) ≡ true = sym (c .before .is-safe-name .ensures) ∙ not-false (c .before .is-safe-name .result) (c .if2 .left) in
     rw (p, q)
 
 pub bytes-verdict-spec : {M : Type 1} → statement M

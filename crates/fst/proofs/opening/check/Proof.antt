@@ -70,12 +70,13 @@ texts-verdict-requires c κs =
 returns-6 : tie.Need-returns-6
 unfolding check textsVerdict
 returns-6 c =
-    let T = c .before .before .before .before .before .before .before .before .before .before .before .before .args .table .now in
+    let s = c .before .before .before .before .before .before .before .before .before .before .before .before in
+    let T = s .args .table .now in
     let v = c .before .before .before .entries-verdict in
     let r : isRefused (v .result) ≡ false = sym (c .before .before .is-refused .ensures) ∙ c .before .if5 .left in
     let e : v .result ≡ entriesVerdict T 1 (count T - 1) = rw (c .before .before .before .before .before .count .ensures) at (v .ensures) in
-    let t : c .texts-verdict .result ≡ textsVerdict T (count T) (c .before .before .before .before .before .before .before .before .before .before .before .before .args .words) = rw (c .before .before .before .before .before .count .ensures) at (c .texts-verdict .ensures) in
-    rw (le-ltb (length T) 12 (c .before .before .before .before .before .before .before .before .before .before .if1 .left), le-ltb 1 (kind T 0) (c .before .before .before .before .before .before .before .before .if2 .left), ne-eqb (kind T 0) 0 (c .before .before .before .before .before .before .if3 .left), le-ltb 16384 (count T) (omega arith), ← e) (t ∙ sym (first-go (v .result) (textsVerdict T (count T) (c .before .before .before .before .before .before .before .before .before .before .before .before .args .words)) r))
+    let t : c .texts-verdict .result ≡ textsVerdict T (count T) (s .args .words) = rw (c .before .before .before .before .before .count .ensures) at (c .texts-verdict .ensures) in
+    rw (le-ltb (length T) 12 (c .before .before .before .before .before .before .before .before .before .before .if1 .left), le-ltb 1 (kind T 0) (c .before .before .before .before .before .before .before .before .if2 .left), ne-eqb (kind T 0) 0 (c .before .before .before .before .before .before .if3 .left), le-ltb 16384 (count T) (omega arith), ← e) (t ∙ sym (first-go (v .result) (textsVerdict T (count T) (s .args .words)) r))
 
 pub check-spec : {M : Type 1} → statement M
 check-spec =

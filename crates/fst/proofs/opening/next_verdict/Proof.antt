@@ -18,7 +18,9 @@ shared-slice-read-if1 c = search needs
 
 returns : tie.Need-returns
 unfolding nextVerdict
-returns c = rw (node-file (c .before .before .before .args .table .now) (c .before .before .before .args .count) (c .before .before .before .args .k) (c .if1 .taken))
+returns c =
+    let s = c .before .before .before in
+    rw (node-file (s .args .table .now) (s .args .count) (s .args .k) (c .if1 .taken))
 
 mul-read-u32 : tie.Need-mul-read-u32
 mul-read-u32 c = search needs

@@ -26,9 +26,10 @@ enum-known-cause c = search needs
 
 returns : tie.Need-returns
 returns c =
-    let T = c .before .before .before .before .before .before .before .args .table .now in
-    let w = opened T (λ i. omega (arith, c .before .before .before .before .before .before .shared-slice-known .given i)) (c .before .before .before .before .before .before .before .pre .0) .well in
-    let l = lookup-inside (nodesOf T) w (c .before .before .before .before .before .before .before .args .start) (c .before .before .before .before .before .before .before .args .path .now) _ (sym (c .before .before .before .before .lookup .ensures) ∙ c .before .before .k .given .1) in
+    let s = c .before .before .before .before .before .before .before in
+    let T = s .args .table .now in
+    let w = opened T (λ i. omega (arith, c .before .before .before .before .before .before .shared-slice-known .given i)) (s .pre .0) .well in
+    let l = lookup-inside (nodesOf T) w (s .args .start) (s .args .path .now) _ (sym (c .before .before .before .before .lookup .ensures) ∙ c .before .before .k .given .1) in
     rw (← c .before .before .before .before .lookup .ensures, c .before .before .k .given .1) (c .entry .ensures ∙ rw (lt-ltb _ (length (nodesOf T)) l))
 
 returns-2 : tie.Need-returns-2

@@ -37,8 +37,9 @@ part-take-step-end c = omega arith
 
 take-step-requires : tie.Need-take-step-requires Inv-loop μ-loop
 take-step-requires c κs =
-    let T = c .before .before .before .before .before .args .table .now in
-    (c .before .before .before .before .before .pre .0, omega (arith, c .before .before .loop .inv .inside, length-nodesOf T), omega (arith, c .before .before .loop .inv .steps, c .before .before .loop .inv .at-most, c .before .before .before .before .before .pre .2))
+    let s = c .before .before .before .before .before in
+    let T = s .args .table .now in
+    (s .pre .0, omega (arith, c .before .before .loop .inv .inside, length-nodesOf T), omega (arith, c .before .before .loop .inv .steps, c .before .before .loop .inv .at-most, s .pre .2))
 
 enum-known-j : tie.Need-enum-known-j Inv-loop μ-loop
 enum-known-j c = search needs

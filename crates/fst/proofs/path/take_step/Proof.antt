@@ -23,8 +23,9 @@ stays-requires c κs = search needs
 
 returns-2 : tie.Need-returns-2
 returns-2 c =
-    let t : isDirectory (getD (nodesOf (c .before .before .before .before .before .before .args .table .now)) (c .before .before .before .before .before .before .args .k) none) ≡ true = sym (c .before .before .before .is-directory .ensures) ∙ not-false (c .before .before .before .is-directory .result) (c .before .before .if1 .left) in
-    let u : stays (c .before .before .before .before .before .before .args .name .now) ≡ true = sym (c .before .stays .ensures) ∙ c .if2 .taken in
+    let s = c .before .before .before .before .before .before in
+    let t : isDirectory (getD (nodesOf (s .args .table .now)) (s .args .k) none) ≡ true = sym (c .before .before .before .is-directory .ensures) ∙ not-false (c .before .before .before .is-directory .result) (c .before .before .if1 .left) in
+    let u : stays (s .args .name .now) ≡ true = sym (c .before .stays .ensures) ∙ c .if2 .taken in
     rw (t, u)
 
 goes-back-requires : tie.Need-goes-back-requires
@@ -35,9 +36,10 @@ back-requires c κs = search needs
 
 returns-3 : tie.Need-returns-3
 returns-3 c =
-    let t : isDirectory (getD (nodesOf (c .before .before .before .before .before .before .before .before .before .args .table .now)) (c .before .before .before .before .before .before .before .before .before .args .k) none) ≡ true = sym (c .before .before .before .before .before .before .is-directory .ensures) ∙ not-false (c .before .before .before .before .before .before .is-directory .result) (c .before .before .before .before .before .if1 .left) in
-    let u : stays (c .before .before .before .before .before .before .before .before .before .args .name .now) ≡ false = sym (c .before .before .before .before .stays .ensures) ∙ c .before .before .before .if2 .left in
-    let v : goesBack (c .before .before .before .before .before .before .before .before .before .args .name .now) ≡ true = sym (c .before .before .goes-back .ensures) ∙ c .before .if3 .taken in
+    let s = c .before .before .before .before .before .before .before .before .before in
+    let t : isDirectory (getD (nodesOf (s .args .table .now)) (s .args .k) none) ≡ true = sym (c .before .before .before .before .before .before .is-directory .ensures) ∙ not-false (c .before .before .before .before .before .before .is-directory .result) (c .before .before .before .before .before .if1 .left) in
+    let u : stays (s .args .name .now) ≡ false = sym (c .before .before .before .before .stays .ensures) ∙ c .before .before .before .if2 .left in
+    let v : goesBack (s .args .name .now) ≡ true = sym (c .before .before .goes-back .ensures) ∙ c .before .if3 .taken in
     rw (t, u, v) (c .back .ensures)
 
 into-requires : tie.Need-into-requires
@@ -45,9 +47,10 @@ into-requires c κs = search needs
 
 returns-4 : tie.Need-returns-4
 returns-4 c =
-    let t : isDirectory (getD (nodesOf (c .before .before .before .before .before .before .before .before .before .args .table .now)) (c .before .before .before .before .before .before .before .before .before .args .k) none) ≡ true = sym (c .before .before .before .before .before .before .is-directory .ensures) ∙ not-false (c .before .before .before .before .before .before .is-directory .result) (c .before .before .before .before .before .if1 .left) in
-    let u : stays (c .before .before .before .before .before .before .before .before .before .args .name .now) ≡ false = sym (c .before .before .before .before .stays .ensures) ∙ c .before .before .before .if2 .left in
-    let v : goesBack (c .before .before .before .before .before .before .before .before .before .args .name .now) ≡ false = sym (c .before .before .goes-back .ensures) ∙ c .before .if3 .left in
+    let s = c .before .before .before .before .before .before .before .before .before in
+    let t : isDirectory (getD (nodesOf (s .args .table .now)) (s .args .k) none) ≡ true = sym (c .before .before .before .before .before .before .is-directory .ensures) ∙ not-false (c .before .before .before .before .before .before .is-directory .result) (c .before .before .before .before .before .if1 .left) in
+    let u : stays (s .args .name .now) ≡ false = sym (c .before .before .before .before .stays .ensures) ∙ c .before .before .before .if2 .left in
+    let v : goesBack (s .args .name .now) ≡ false = sym (c .before .before .goes-back .ensures) ∙ c .before .if3 .left in
     rw (t, u, v) (c .into .ensures)
 
 pub take-step-spec : {M : Type 1} → statement M

@@ -29,13 +29,17 @@ byte-at-requires : tie.Need-byte-at-requires Inv-loop μ-loop
 byte-at-requires c κs = search needs
 
 returns : tie.Need-returns Inv-loop μ-loop
-returns c = sym (c .before .before .before .loop .inv .1 ∙ same-zero (c .before .before .before .before .before .before .args .table .now) (c .before .before .before .before .before .before .args .name .now) (c .before .before .before .before .before .before .args .at) (c .before .before .before .loop .i) (c .before .before .loop-test .taken) (sym (c .before .byte-at .ensures) ∙ c .if1 .taken))
+returns c =
+    let s = c .before .before .before .before .before .before in
+    sym (c .before .before .before .loop .inv .1 ∙ same-zero (s .args .table .now) (s .args .name .now) (s .args .at) (c .before .before .before .loop .i) (c .before .before .loop-test .taken) (sym (c .before .byte-at .ensures) ∙ c .if1 .taken))
 
 shared-slice-read-if2 : tie.Need-shared-slice-read-if2 Inv-loop μ-loop
 shared-slice-read-if2 c = omega arith
 
 returns-2 : tie.Need-returns-2 Inv-loop μ-loop
-returns-2 c = sym (c .before .before .before .before .before .loop .inv .1 ∙ same-turn (c .before .before .before .before .before .before .before .before .args .table .now) (c .before .before .before .before .before .before .before .before .args .name .now) (c .before .before .before .before .before .before .before .before .args .at) (c .before .before .before .before .before .loop .i) false (c .before .before .before .before .loop-test .taken) (λ e. c .before .before .if1 .left (c .before .before .before .byte-at .ensures ∙ e)) (ne-eqb _ _ (λ e. c .if2 .taken (c .before .before .before .byte-at .ensures ∙ e))))
+returns-2 c =
+    let s = c .before .before .before .before .before .before .before .before in
+    sym (c .before .before .before .before .before .loop .inv .1 ∙ same-turn (s .args .table .now) (s .args .name .now) (s .args .at) (c .before .before .before .before .before .loop .i) false (c .before .before .before .before .loop-test .taken) (λ e. c .before .before .if1 .left (c .before .before .before .byte-at .ensures ∙ e)) (ne-eqb _ _ (λ e. c .if2 .taken (c .before .before .before .byte-at .ensures ∙ e))))
 
 add-i : tie.Need-add-i Inv-loop μ-loop
 add-i c = omega arith
@@ -44,7 +48,9 @@ loop-less : tie.Need-loop-less Inv-loop μ-loop
 loop-less c = omega arith
 
 loop-again : tie.Need-loop-again Inv-loop μ-loop
-loop-again c = (omega (arith, inside (c .before .before .before .before .before .before .before .before .args .table .now) (c .before .before .before .before .before .before .before .before .args .at + c .before .before .before .before .before .loop .i) (λ e. c .before .before .if1 .left (c .before .before .before .byte-at .ensures ∙ e))), c .before .before .before .before .before .loop .inv .1 ∙ same-turn (c .before .before .before .before .before .before .before .before .args .table .now) (c .before .before .before .before .before .before .before .before .args .name .now) (c .before .before .before .before .before .before .before .before .args .at) (c .before .before .before .before .before .loop .i) true (c .before .before .before .before .loop-test .taken) (λ e. c .before .before .if1 .left (c .before .before .before .byte-at .ensures ∙ e)) (eq-eqb _ _ (sym (c .before .before .before .byte-at .ensures) ∙ c .if2 .left)))
+loop-again c =
+    let s = c .before .before .before .before .before .before .before .before in
+    (omega (arith, inside (s .args .table .now) (s .args .at + c .before .before .before .before .before .loop .i) (λ e. c .before .before .if1 .left (c .before .before .before .byte-at .ensures ∙ e))), c .before .before .before .before .before .loop .inv .1 ∙ same-turn (s .args .table .now) (s .args .name .now) (s .args .at) (c .before .before .before .before .before .loop .i) true (c .before .before .before .before .loop-test .taken) (λ e. c .before .before .if1 .left (c .before .before .before .byte-at .ensures ∙ e)) (eq-eqb _ _ (sym (c .before .before .before .byte-at .ensures) ∙ c .if2 .left)))
 
 add-byte-at-2 : tie.Need-add-byte-at-2 Inv-loop μ-loop
 add-byte-at-2 c = omega arith
@@ -53,7 +59,9 @@ byte-at-requires-2 : tie.Need-byte-at-requires-2 Inv-loop μ-loop
 byte-at-requires-2 c κs = search needs
 
 returns-3 : tie.Need-returns-3 Inv-loop μ-loop
-returns-3 c = rw (c .byte-at2 .ensures) (sym (c .before .before .loop .inv .1 ∙ same-end (c .before .before .before .before .before .args .table .now) (c .before .before .before .before .before .args .name .now) (c .before .before .before .before .before .args .at) (c .before .before .loop .i) (c .before .loop-test .left)))
+returns-3 c =
+    let s = c .before .before .before .before .before in
+    rw (c .byte-at2 .ensures) (sym (c .before .before .loop .inv .1 ∙ same-end (s .args .table .now) (s .args .name .now) (s .args .at) (c .before .before .loop .i) (c .before .loop-test .left)))
 
 pub text-is-spec : {M : Type 1} → statement M
 text-is-spec =
