@@ -1,13 +1,21 @@
 // Lists the image that standard input gives: disc end and used total, the entries in table order, the free regions (document 01,
 // "A small master"). A refused image gives only the refusal's number. The file `stdout` is document 01's listing of its small master.
-use disc::Disc;
 use disc::Opened;
 use refusal::Refusal;
 use space::Listing;
-use tree::Entry;
-use tree::Found;
-ghost use Prim.Native.Nat.{_≤_};
-ghost use lib.ListN.{length};
+
+// The words of an entry, as `disc::entries` lists them.
+const KIND: usize = 0;
+
+const PARENT: usize = 1;
+
+const OFFSET: usize = 2;
+
+const SIZE_OR_NEXT: usize = 3;
+
+const NAME_PLACE: usize = 4;
+
+const NAME_LENGTH: usize = 5;
 
 fn number(n: u32) {
     io::write_all(1, b" ");
@@ -25,216 +33,100 @@ fn say_refused(cause: Refusal) {
     line();
 }
 
-// ---- paths
+// ---- entries
 
-// Where the text that starts at `start` ends: at its zero byte.
-fn text_end(image: &[u8], start: usize) -> usize
-    requires { ⌜ start ≤ length (now image) ⌝ }
-    ensures { λ r. ⌜ (start ≤ r) × (r ≤ length (now (image .entry))) ⌝ }
-{
-    let mut end = start;
-    while end < image.len() {
-        if image[end] == 0 {
-            return end;
-        }
-        end += 1;
-    }
-    end
+fn word(list: &[u32; 24576], at: usize) -> u32 {
+    if at < 24576 { list[at] } else { 0 }
 }
 
-fn say_text(image: &[u8], start: usize) {
-    if start <= image.len() {
-        let end = text_end(image, start);
+// One of the six words of entry k.
+fn field(list: &[u32; 24576], k: u32, i: usize) -> u32 {
+    if i < 6 {
+        return word(list, 6 * k as usize + i);
+    }
+    0
+}
+
+fn say_name(image: &[u8], list: &[u32; 24576], k: u32) {
+    let start = field(list, k, NAME_PLACE) as usize;
+    let end = start + field(list, k, NAME_LENGTH) as usize;
+    if end <= image.len() {
         io::write_all(1, &image[start..end]);
     }
 }
 
-// The name of an entry past the root: the texts stand after the last entry.
-fn say_name(image: &[u8], disc: Disc, k: u32) {
-    let table = disc.fst_offset as usize;
-    let texts = table + 12 * disc.entries as usize;
-    let at = table + 12 * k as usize + 1;
-    if at + 3 <= image.len() {
-        say_text(image, texts + endian::read_u24(image, at) as usize);
-    }
-}
-
-// The directories that an entry is nested in, the root first: their numbers and their nexts, of which the first `depth` hold. Opening
-// refuses a directory deeper than 64, so that 66 places are enough.
-fn directory_at(dirs: &[u32; 66], i: usize) -> u32 {
-    if i < 66 { dirs[i] } else { 0 }
-}
-
-// Whether the innermost of them goes on past entry k.
-fn still_open(nexts: &[u32; 66], depth: usize, k: u32) -> bool {
-    if depth == 0 {
-        return true;
-    }
-    k < directory_at(nexts, depth - 1)
-}
-
-fn shut(nexts: &[u32; 66], depth: usize, k: u32) -> usize {
-    let mut left = depth;
-    while 0 < left {
-        if still_open(nexts, left, k) {
-            return left;
-        }
-        left -= 1;
-    }
-    left
-}
-
-fn enter(dirs: &mut [u32; 66], nexts: &mut [u32; 66], depth: usize, k: u32, next: u32) -> usize {
-    if 66 <= depth {
-        return depth;
-    }
-    dirs[depth] = k;
-    nexts[depth] = next;
-    depth + 1
-}
-
-fn say_step(image: &[u8], disc: Disc, dirs: &[u32; 66], i: usize) {
-    let k = directory_at(dirs, i);
-    say_name(image, disc, k);
+fn say_step(image: &[u8], list: &[u32; 24576], k: u32) {
+    say_name(image, list, k);
     io::write_all(1, b"/");
 }
 
-fn say_steps(image: &[u8], disc: Disc, dirs: &[u32; 66], depth: usize) {
-    let mut i = 1;
-    while i < depth {
-        say_step(image, disc, dirs, i);
-        i += 1;
+// The directories that entry k is nested in, the outermost first; the root has no name.
+fn say_steps(image: &[u8], list: &[u32; 24576], k: u32) {
+    let parent = field(list, k, PARENT);
+    if parent == 0 {
+        return;
     }
+    if parent < k {
+        say_steps(image, list, parent);
+    }
+    say_step(image, list, parent);
 }
 
-// The path of what these directories hold, up to its own name.
-fn say_path(image: &[u8], disc: Disc, dirs: &[u32; 66], depth: usize) {
+fn say_path(image: &[u8], list: &[u32; 24576], k: u32) {
     io::write_all(1, b" /");
-    say_steps(image, disc, dirs, depth);
+    say_steps(image, list, k);
+    say_name(image, list, k);
 }
 
-// ---- entries
-
-fn say_file(
-    image: &[u8],
-    disc: Disc,
-    k: u32,
-    offset: u32,
-    size: u32,
-    dirs: &[u32; 66],
-    depth: usize,
-) {
+fn say_file(image: &[u8], list: &[u32; 24576], k: u32) {
     io::write_all(1, b"f");
     number(k);
-    number(offset);
-    number(size);
-    say_path(image, disc, dirs, depth);
-    say_name(image, disc, k);
+    number(field(list, k, OFFSET));
+    number(field(list, k, SIZE_OR_NEXT));
+    say_path(image, list, k);
     line();
 }
 
-fn say_directory(
-    image: &[u8],
-    disc: Disc,
-    k: u32,
-    parent: u32,
-    next: u32,
-    dirs: &[u32; 66],
-    depth: usize,
-) {
+fn say_directory(image: &[u8], list: &[u32; 24576], k: u32) {
     io::write_all(1, b"d");
     number(k);
-    number(parent);
-    number(next);
-    say_path(image, disc, dirs, depth);
+    number(field(list, k, PARENT));
+    number(field(list, k, SIZE_OR_NEXT));
+    say_path(image, list, k);
     if k > 0 {
-        say_name(image, disc, k);
         io::write_all(1, b"/");
     }
     line();
 }
 
-// One line. Gives back how many directories the next entry may be nested in.
-fn say_entry(
-    image: &[u8],
-    disc: Disc,
-    k: u32,
-    entry: Entry,
-    dirs: &mut [u32; 66],
-    nexts: &mut [u32; 66],
-    depth: usize,
-) -> usize {
-    match entry {
-        Entry::File(file) => {
-            say_file(image, disc, k, file.offset, file.size, dirs, depth);
-            depth
-        }
-        Entry::Directory(directory) => {
-            say_directory(
-                image,
-                disc,
-                k,
-                directory.parent,
-                directory.next,
-                dirs,
-                depth,
-            );
-            enter(dirs, nexts, depth, k, directory.next)
-        }
+fn say_entry(image: &[u8], list: &[u32; 24576], k: u32) {
+    if field(list, k, KIND) == 0 {
+        say_file(image, list, k);
+    } else {
+        say_directory(image, list, k);
     }
 }
 
-fn list_entry(
-    image: &[u8],
-    words: &mut [u32],
-    disc: Disc,
-    k: u32,
-    dirs: &mut [u32; 66],
-    nexts: &mut [u32; 66],
-    depth: usize,
-) -> usize {
-    let left = shut(nexts, depth, k);
-    let found = disc::entry(image, words, k);
-    match found {
-        Found::At(_, entry) => say_entry(image, disc, k, entry, dirs, nexts, left),
-        Found::Refused(_) => left,
-    }
-}
-
-fn list_each(
-    image: &[u8],
-    words: &mut [u32],
-    disc: Disc,
-    dirs: &mut [u32; 66],
-    nexts: &mut [u32; 66],
-) {
-    let count = disc.entries;
-    let mut depth = 0;
+fn say_entries(image: &[u8], list: &[u32; 24576], count: u32) {
     let mut k = 0;
     while k < count {
-        depth = list_entry(image, words, disc, k, dirs, nexts, depth);
+        say_entry(image, list, k);
         k += 1;
     }
 }
 
-fn list_entries(image: &[u8], words: &mut [u32], disc: Disc) {
-    let mut dirs = [0u32; 66];
-    let mut nexts = [0u32; 66];
-    list_each(image, words, disc, &mut dirs, &mut nexts);
-}
-
 // ---- free regions
 
-fn say_region(list: &[u32; 16384], i: usize) {
-    if i < 8192 {
+fn say_region(list: &[u32; 24576], i: usize) {
+    if i < 12288 {
         io::write_all(1, b"r");
-        number(list[2 * i]);
-        number(list[2 * i + 1]);
+        number(word(list, 2 * i));
+        number(word(list, 2 * i + 1));
         line();
     }
 }
 
-fn say_regions(list: &[u32; 16384], count: usize) {
+fn say_regions(list: &[u32; 24576], count: usize) {
     let mut i = 0;
     while i < count {
         say_region(list, i);
@@ -242,20 +134,20 @@ fn say_regions(list: &[u32; 16384], count: usize) {
     }
 }
 
-// An image of 65,536 bytes has fewer entries than 8,191, so that the list is never short.
-fn list_regions(image: &[u8], words: &mut [u32]) {
-    let mut list = [0u32; 16384];
-    let listing = disc::free_regions(image, words, &mut list);
+// ---- the listing
+
+fn list_regions(image: &[u8], words: &mut [u32; 16384], list: &mut [u32; 24576]) {
+    let listing = disc::free_regions(image, words, list);
     if let Listing::Listed(count) = listing {
-        say_regions(&list, count);
+        say_regions(list, count);
     }
 }
 
-// ---- the listing
-
+// The working words are enough for 4,094 entries, so that the list, with six words for each, is never short.
 fn list_image(image: &[u8]) {
     let mut words = [0u32; 16384];
-    let opened = disc::open(image, &mut words);
+    let mut list = [0u32; 24576];
+    let opened = disc::entries(image, &mut words, &mut list);
     match opened {
         Opened::Accepted(disc) => {
             io::write_all(1, b"total");
@@ -263,8 +155,8 @@ fn list_image(image: &[u8]) {
             io::write_all(1, b" used");
             number(disc.used);
             line();
-            list_entries(image, &mut words, disc);
-            list_regions(image, &mut words);
+            say_entries(image, &list, disc.entries);
+            list_regions(image, &mut words, &mut list);
         }
         Opened::Refused(cause) => say_refused(cause),
     }

@@ -4,6 +4,8 @@
 //                  it does not, as document 01 has limits, bounds and bytes of names that the Rust does not test
 //     tree         the Rust, on a table with nested directories, shared texts, a name inside another text, equal names, empty files in
 //                  the table and past the disc end, and stored parents that are wrong
+//     rows         document 01: the tree's entries with kind, the directory nested in, offset, size or next, and where the name's bytes stand
+//                  and how many they are; a list that is short is 9
 //     lookup       the Rust; of the small master the first three are document 01's P9, P10 and P11; 15 is document 01's (an entry
 //                  number past the count), and so is 9 (a path over 1,024 bytes)
 use disc::Opened;
@@ -191,6 +193,51 @@ fn say_entry(image: &[u8; 8192], k: u32) {
     line();
 }
 
+// The six words of entry k.
+fn say_row(list: &[u32; 42], k: usize) {
+    if k < 7 {
+        io::write_all(1, b"row");
+        number(list[6 * k]);
+        number(list[6 * k + 1]);
+        number(list[6 * k + 2]);
+        number(list[6 * k + 3]);
+        number(list[6 * k + 4]);
+        number(list[6 * k + 5]);
+        line();
+    }
+}
+
+fn say_rows(list: &[u32; 42]) {
+    say_row(list, 0);
+    say_row(list, 1);
+    say_row(list, 2);
+    say_row(list, 3);
+    say_row(list, 4);
+    say_row(list, 5);
+    say_row(list, 6);
+}
+
+// All entries at once, into a list that is just long enough.
+fn list_rows(image: &[u8; 8192]) {
+    let mut words = [0u32; 64];
+    let mut list = [0u32; 42];
+    let opened = disc::entries(image, &mut words, &mut list);
+    io::write_all(1, b"rows:");
+    say_opened(opened);
+    line();
+    say_rows(&list);
+}
+
+// The list is one word short.
+fn list_short(image: &[u8; 8192]) {
+    let mut words = [0u32; 64];
+    let mut list = [0u32; 41];
+    let opened = disc::entries(image, &mut words, &mut list);
+    io::write_all(1, b"rows in 41 words:");
+    say_opened(opened);
+    line();
+}
+
 fn look_up(image: &[u8; 8192], start: u32, path: &[u8]) {
     let mut words = [0u32; 64];
     io::write_all(1, b"lookup");
@@ -291,6 +338,8 @@ fn main() {
     nested(&mut image);
     open_whole(b"tree", &image);
     say_tree(&image);
+    list_rows(&image);
+    list_short(&image);
     look_up_in_the_tree(&image);
     long_paths(&image);
 }
