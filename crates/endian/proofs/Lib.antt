@@ -1,2 +1,3 @@
--- The turns of the loops that copy, fill and compare.
+-- The turns of the loops that copy, fill and compare, and copies in parts.
 pub mod Turns
+pub mod Chunks

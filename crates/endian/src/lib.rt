@@ -96,15 +96,52 @@ fn copy_up(s: &mut [u8], from: usize, to: usize, n: usize)
     }
 }
 
+// 65,536 bytes by way of an array, so it does not matter where the two spans lie. The compiler makes one memmove of it, which a loop
+// over one slice does not become.
+fn copy_chunk(s: &mut [u8], from: usize, to: usize)
+    requires { ⌜ (from + 65536 ≤ length (now s)) × (to + 65536 ≤ length (now s)) ⌝ }
+    ensures { λ _. ⌜ now (s .exit) ≡ put (now (s .entry)) to (span (now (s .entry)) from 65536) ⌝ }
+{
+    let mut chunk: [u8; 65536] = [0; 65536];
+    copy(s, from, &mut chunk, 0, 65536);
+    copy(&chunk, 0, s, to, 65536);
+}
+
+// The lowest chunk first, then the rest.
+fn chunks_down(s: &mut [u8], from: usize, to: usize, n: usize)
+    requires { ⌜ (from + n ≤ length (now s)) × (to ≤ from) ⌝ }
+    ensures { λ _. ⌜ now (s .exit) ≡ put (now (s .entry)) to (span (now (s .entry)) from n) ⌝ }
+{
+    let mut i = 0;
+    while 65536 <= n - i {
+        copy_chunk(s, from + i, to + i);
+        i += 65536;
+    }
+    copy_down(s, from + i, to + i, n - i);
+}
+
+// The highest chunk first, then the rest.
+fn chunks_up(s: &mut [u8], from: usize, to: usize, n: usize)
+    requires { ⌜ (to + n ≤ length (now s)) × (from ≤ to) ⌝ }
+    ensures { λ _. ⌜ now (s .exit) ≡ put (now (s .entry)) to (span (now (s .entry)) from n) ⌝ }
+{
+    let mut left = n;
+    while 65536 <= left {
+        left -= 65536;
+        copy_chunk(s, from + left, to + left);
+    }
+    copy_up(s, from, to, left);
+}
+
 // n bytes from `from` to `to` of the same slice, whether or not the two spans overlap.
 pub fn copy_within(s: &mut [u8], from: usize, to: usize, n: usize)
     requires { ⌜ (from + n ≤ length (now s)) × (to + n ≤ length (now s)) ⌝ }
     ensures { λ _. ⌜ now (s .exit) ≡ put (now (s .entry)) to (span (now (s .entry)) from n) ⌝ }
 {
     if to <= from {
-        copy_down(s, from, to, n);
+        chunks_down(s, from, to, n);
     } else {
-        copy_up(s, from, to, n);
+        chunks_up(s, from, to, n);
     }
 }
 
