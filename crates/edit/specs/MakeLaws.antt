@@ -381,7 +381,7 @@ module _ (nodes : List Node) (start k level : ℕ) (bad : Bool) (c : List ℕ) (
 -- ---- the tree that is made is one that the tree grew into
 
 -- a bad name is not forgotten
-bad-stays : (cs : List (List ℕ)) (M : List Node) (trail : List ℕ) (k : ℕ) (F : List Node) (j : ℕ) → make M trail k true cs ≡ made F j false → ⊥
+pub bad-stays : (cs : List (List ℕ)) (M : List Node) (trail : List ℕ) (k : ℕ) (F : List Node) (j : ℕ) → make M trail k true cs ≡ made F j false → ⊥
 unfolding make
 bad-stays [] M trail k F j e = go (isDirectory (getD M k none)) e
   where

@@ -26,7 +26,7 @@ fn reaches(place: DiscRegion, end: usize) -> bool
 }
 
 // The tests of a table of that size: the working bytes, the room behind the old table, and the edited file's new place.
-fn check_place(
+pub fn check_place(
     image: &[u8],
     words: &[u32],
     m: usize,

@@ -21,13 +21,13 @@ known : (c : tie.After-shared-slice-known) → let s = c .before in OpenImage (n
 known c = let s = c .before in opens (now (s .args .image)) (s .pre .words) (λ i. omega (arith, c .shared-slice-known .given i)) (s .pre .passed)
 
 fst-offset-requires : tie.Need-fst-offset-requires
-fst-offset-requires c κs = known c .reads .header .whole
+fst-offset-requires c κs = search needs
 
 cast-from : tie.Need-cast-from
 cast-from c = search needs
 
 table-end-requires : tie.Need-table-end-requires
-table-end-requires c κs = known (c .before) .reads .header .whole
+table-end-requires c κs = search needs
 
 sub-entry : tie.Need-sub-entry
 sub-entry c = search needs

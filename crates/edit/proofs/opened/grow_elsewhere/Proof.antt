@@ -20,7 +20,7 @@ known : (c : tie.After-slice-known) → let s = c .before .before .before in Ope
 known c = let s = c .before .before .before in opens (now (s .args .image)) (length (now (s .args .words))) (λ i. omega (arith, c .before .before .shared-slice-known .given i)) (s .pre .0 .passed)
 
 disc-end-requires : tie.Need-disc-end-requires
-disc-end-requires c κs = known c .reads .header .whole
+disc-end-requires c κs = search needs
 
 cast-disc-end : tie.Need-cast-disc-end
 cast-disc-end c = omega (arith, known (c .before) .reads .bounds .small, c .disc-end .ensures)

@@ -27,7 +27,7 @@ returns c = let s = c .before .before .before .before .before in
     size-kept image (length (now (s .args .words))) (length (now (s .args .bytes))) _ (freeOf image) (nodesIn image) (s .args .number) (s .args .old) (s .args .new-size) (c .if1 .taken)
 
 disc-end-requires : tie.Need-disc-end-requires
-disc-end-requires c κs = known (c .before .before) .reads .header .whole
+disc-end-requires c κs = search needs
 
 cast-disc-end : tie.Need-cast-disc-end
 cast-disc-end c = omega (arith, known (c .before .before .before) .reads .bounds .small, c .disc-end .ensures)

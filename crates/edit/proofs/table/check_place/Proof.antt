@@ -27,13 +27,13 @@ returns c = let s = c .before .before .before in
     rw (lt-ltb (s .args .room) (s .args .size) h)
 
 fst-offset-requires : tie.Need-fst-offset-requires
-fst-offset-requires c κs = known (c .before) .reads .header .whole
+fst-offset-requires c κs = search needs
 
 fst-size-requires : tie.Need-fst-size-requires
-fst-size-requires c κs = known (c .before .before) .reads .header .whole
+fst-size-requires c κs = search needs
 
 disc-end-requires : tie.Need-disc-end-requires
-disc-end-requires c κs = known (c .before .before .before) .reads .header .whole
+disc-end-requires c κs = search needs
 
 cast-disc-end : tie.Need-cast-disc-end
 cast-disc-end c = omega (arith, known (c .before .before .before .before) .reads .bounds .small, c .disc-end .ensures)

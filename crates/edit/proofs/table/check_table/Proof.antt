@@ -19,13 +19,13 @@ known : (c : tie.After-shared-slice-known2) → let s = c .before .before in Ope
 known c = let s = c .before .before in opens (now (s .args .image)) (length (now (s .args .words))) (λ i. omega (arith, c .before .shared-slice-known .given i)) (s .pre .passed)
 
 fst-offset-requires : tie.Need-fst-offset-requires
-fst-offset-requires c κs = known c .reads .header .whole
+fst-offset-requires c κs = search needs
 
 cast-from : tie.Need-cast-from
 cast-from c = search needs
 
 table-end-requires : tie.Need-table-end-requires
-table-end-requires c κs = known (c .before) .reads .header .whole
+table-end-requires c κs = search needs
 
 sub-measure : tie.Need-sub-measure
 sub-measure c = search needs

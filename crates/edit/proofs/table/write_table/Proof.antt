@@ -20,13 +20,13 @@ known : (c : tie.After-slice-known) → let s = c .before .before in OpenImage (
 known c = let s = c .before .before in opens (now (s .args .image)) (s .pre .0 .words) (λ i. omega (arith, c .before .shared-slice-known .given i)) (s .pre .0 .passed)
 
 fst-offset-requires : tie.Need-fst-offset-requires
-fst-offset-requires c κs = known c .reads .header .whole
+fst-offset-requires c κs = search needs
 
 cast-from : tie.Need-cast-from
 cast-from c = search needs
 
 table-end-requires : tie.Need-table-end-requires
-table-end-requires c κs = known (c .before) .reads .header .whole
+table-end-requires c κs = search needs
 
 sub-write-table : tie.Need-sub-write-table
 sub-write-table c = search needs
