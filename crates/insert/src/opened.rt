@@ -1,0 +1,146 @@
+// What an insert decides on an open image, whose used regions stand in the working words.
+use crate::Grown;
+use crate::growing;
+use crate::names;
+use edit::TableSize;
+use refusal::Refusal;
+use refusal::Verdict;
+use tree::Located;
+ghost use mathlib.Core.Path.{_≡_};
+ghost use Prim.Native.Nat.{_<_};
+ghost use lib.ListN.{length};
+ghost use Rattle.tree.specs.Table as table_of;
+ghost use Rattle.tree.specs.Table.{nodesOf, GoodName};
+ghost use Rattle.fst.specs.Reading as reading;
+ghost use Rattle.disc.specs.Opening.{nodesIn};
+ghost use Rattle.edit.specs.Change.{change};
+ghost use Rattle.edit.specs.Edits.{tableOnly, newNumber, insertVerdict, planOf, numberedAs};
+ghost use Rattle.edit.specs.Decision.{Opens, IsOpen, Decided};
+ghost use Rattle.insert.specs.Growth.{treeIn, Stands, IsDirectory, added};
+ghost use Rattle.insert.specs.Inserts.{insertion, childVerdict, tableDecision, grownAs, Numbered};
+
+// The tests of the new name among the entries of p: 17, 19, 12.
+fn check_child(table: &[u8], p: usize, name: &[u8]) -> Verdict
+    requires { ⌜ reading.Opens (now table) × (p < table_of.count (now table)) ⌝ }
+    ensures { λ r. ⌜ r ≡ childVerdict (nodesOf (now (table .entry))) p (now (name .entry)) ⌝ }
+{
+    if !fst::is_directory(table, p) {
+        return Verdict::Refused(Refusal::ExpectedDirectory);
+    }
+    if let Located::At(_) = fst::child(table, p, name) {
+        return Verdict::Refused(Refusal::AlreadyExists);
+    }
+    if !names::is_plain(name) {
+        return Verdict::Refused(Refusal::InvalidNameByte);
+    }
+    Verdict::Passed
+}
+
+// The tests of an insert: 15, 13, 17, 19, 12.
+fn check_insert(table: &[u8], parent: u32, name: &[u8]) -> Verdict
+    requires { ⌜ reading.Opens (now table) ⌝ }
+    ensures { λ r. ⌜ r ≡ insertVerdict (nodesOf (now (table .entry))) parent (now (name .entry)) ⌝ }
+{
+    let p = parent as usize;
+    if fst::count(table) <= p {
+        return Verdict::Refused(Refusal::NoSuchEntry);
+    }
+    if !names::is_safe(name) {
+        return Verdict::Refused(Refusal::UnsafeName);
+    }
+    check_child(table, p, name)
+}
+
+// The number that the new entry gets: it becomes the last child of its directory.
+fn new_number(table: &[u8], parent: u32, name: &[u8]) -> Located
+    requires { ⌜ reading.Opens (now table) ⌝ }
+    ensures { λ r. ⌜ r ≡ numberedAs (insertVerdict (nodesOf (now (table .entry))) parent (now (name .entry))) (newNumber (nodesOf (now (table .entry))) parent) ⌝ }
+{
+    let verdict = check_insert(table, parent, name);
+    match verdict {
+        Verdict::Refused(cause) => Located::Refused(cause),
+        Verdict::Passed => Located::At(fst::next(table, parent as usize) as u32),
+    }
+}
+
+fn number_in(image: &[u8], parent: u32, name: &[u8]) -> Located
+    requires { ⌜ Opens (now image) ⌝ }
+    ensures { λ r. ⌜ r ≡ numberedAs (insertVerdict (nodesIn (now (image .entry))) parent (now (name .entry))) (newNumber (nodesIn (now (image .entry))) parent) ⌝ }
+{
+    let from = header::fst_offset(image) as usize;
+    let to = header::table_end(image) as usize;
+    new_number(&image[from..to], parent, name)
+}
+
+// The table in the bytes with the new entry, and its place.
+fn add_entry(
+    image: &[u8],
+    words: &[u32],
+    m: usize,
+    bytes: &mut [u8],
+    size: usize,
+    p: usize,
+    is_directory: bool,
+    name: &[u8],
+) -> TableSize
+    requires { ⌜ IsOpen (now image) (now words) m × Stands (now bytes) size (length (now words)) × IsDirectory (treeIn (now bytes) size) p × GoodName (now name) ⌝ }
+    ensures { λ r. ⌜ Decided (change 0 (tableOnly (added (treeIn (now (bytes .entry)) size) «is_directory» p (now (name .entry))))) (now (image .entry)) (length (now (words .entry))) (length (now (bytes .entry))) (now (bytes .exit)) (tableDecision r) ⌝ }
+{
+    let grown = growing::grow(bytes, size, words.len(), p, is_directory, name);
+    match grown {
+        TableSize::Refused(cause) => TableSize::Refused(cause),
+        TableSize::Bytes(n) => growing::place_table(image, words, m, bytes, n),
+    }
+}
+
+// The tree with the new entry: its table, and its place.
+fn build(
+    image: &[u8],
+    words: &[u32],
+    m: usize,
+    bytes: &mut [u8],
+    p: usize,
+    is_directory: bool,
+    name: &[u8],
+) -> TableSize
+    requires { ⌜ IsOpen (now image) (now words) m × IsDirectory (nodesIn (now image)) p × GoodName (now name) ⌝ }
+    ensures { λ r. ⌜ Decided (change 0 (tableOnly (added (nodesIn (now (image .entry))) «is_directory» p (now (name .entry))))) (now (image .entry)) (length (now (words .entry))) (length (now (bytes .entry))) (now (bytes .exit)) (tableDecision r) ⌝ }
+{
+    let started = growing::start_table(image, words, m, bytes);
+    match started {
+        TableSize::Refused(cause) => TableSize::Refused(cause),
+        TableSize::Bytes(size) => { add_entry(image, words, m, bytes, size, p, is_directory, name) }
+    }
+}
+
+// With the number of the new entry.
+pub fn numbered(built: TableSize, number: u32) -> Grown
+    ensures { λ r. ⌜ r ≡ grownAs built number ⌝ }
+{
+    match built {
+        TableSize::Bytes(size) => Grown::Table(size, number),
+        TableSize::Refused(cause) => Grown::Refused(cause),
+    }
+}
+
+pub fn insert(
+    image: &[u8],
+    words: &[u32],
+    m: usize,
+    bytes: &mut [u8],
+    parent: u32,
+    is_directory: bool,
+    name: &[u8],
+) -> Grown
+    requires { ⌜ IsOpen (now image) (now words) m ⌝ }
+    ensures { λ r. ⌜ Numbered (planOf (insertion «is_directory» parent (now (name .entry))) (now (image .entry))) (now (image .entry)) (length (now (words .entry))) (length (now (bytes .entry))) (now (bytes .exit)) r ⌝ }
+{
+    let found = number_in(image, parent, name);
+    match found {
+        Located::Refused(cause) => Grown::Refused(cause),
+        Located::At(number) => {
+            let built = build(image, words, m, bytes, parent as usize, is_directory, name);
+            numbered(built, number)
+        }
+    }
+}
