@@ -1,0 +1,21 @@
+-- `make_directories::making::new_number` meets its contract: the part of the bytes is the table.
+-- Assumes nothing.
+use mathlib.Core.Path.{sym}
+use lib.Seq.{length-take-le}
+use Rattle.insert.specs.Growth.{treeIn}
+use borrow.Author.Needs.{needs}
+use Rattle.make_directories.proofs.making.new_number.Statement.{statement}
+use Rattle.make_directories.proofs.making.new_number.Tie as tie
+
+slice-aggregate-next : tie.Need-slice-aggregate-next
+slice-aggregate-next c = let s = c .before .before in sym (length-take-le (s .args .size) (s .args .bytes .now) (s .pre .held))
+
+next-requires : tie.Need-next-requires
+next-requires c κs = search needs
+
+returns : tie.Need-returns
+unfolding treeIn
+returns c = c .next .ensures
+
+pub new-number-spec : {M : Type 1} → statement M
+new-number-spec = tie.close (tie.spec slice-aggregate-next next-requires returns)

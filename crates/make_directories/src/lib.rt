@@ -1,0 +1,127 @@
+// Make-directories (`make_directories_from`): the troubles along the path, then the table with the directories that are missing, and only
+// then the image is written. All of them or none.
+mod making;
+mod walk;
+
+use disc::Prepared;
+use edit::TableSize;
+use insert::Grown;
+use making::Reached;
+use refusal::Refusal;
+use refusal::Verdict;
+use tree::Located;
+ghost use mathlib.Core.Path.{_≡_};
+ghost use mathlib.Core.Bool.{false};
+ghost use Prim.Native.Nat.{_<_, _^_};
+ghost use lib.Dec.{leb};
+ghost use lib.ListN.{length, replicate};
+ghost use Rattle.refusal.specs.declared.Refusal.the-variants.{NoSuchEntry};
+ghost use Rattle.refusal.specs.declared.Verdict.the-variants.{Passed};
+ghost use Rattle.refusal.specs.Refusal.{refuse};
+ghost use Rattle.tree.specs.Table.{nodesOf};
+ghost use Rattle.tree.specs.Lookup.{components};
+ghost use Rattle.fst.specs.Reading as reading;
+ghost use Rattle.disc.specs.Opening.{opening, nodesIn};
+ghost use Rattle.edit.specs.Edits.{planMakeDirectories, planned, planOf, makeDirectories, imageAfter, numberOf};
+ghost use Rattle.edit.specs.MakeLaws.{troubleOf};
+ghost use Rattle.edit.specs.Decision.{Opens, IsOpen};
+ghost use Rattle.insert.specs.Growth.{Stands, treeIn};
+ghost use Rattle.insert.specs.Inserts.{Numbered};
+ghost use Rattle.make_directories.specs.Walk.{pathVerdict};
+
+// 15, then the troubles along the path.
+fn check_start(table: &[u8], start: u32, path: &[u8]) -> Verdict
+    requires { ⌜ reading.Opens (now table) × (length (now path) < 2 ^ 63) ⌝ }
+    ensures { λ r. ⌜ r ≡ refuse (leb (length (nodesOf (now (table .entry)))) start) NoSuchEntry (troubleOf (nodesOf (now (table .entry))) start start 0 false (components (now (path .entry)))) ⌝ }
+{
+    let place = start as usize;
+    if fst::count(table) <= place {
+        return Verdict::Refused(Refusal::NoSuchEntry);
+    }
+    walk::trouble(table, place, path)
+}
+
+// The tests that need no memory: a path over 1,024 bytes 9, then those of the table.
+fn check_path(image: &[u8], start: u32, path: &[u8]) -> Verdict
+    requires { ⌜ Opens (now image) ⌝ }
+    ensures { λ r. ⌜ r ≡ pathVerdict (nodesIn (now (image .entry))) start (now (path .entry)) ⌝ }
+{
+    if 1024 < path.len() {
+        return Verdict::Refused(Refusal::LimitOrMemory);
+    }
+    let from = header::fst_offset(image) as usize;
+    let to = header::table_end(image) as usize;
+    check_start(&image[from..to], start, path)
+}
+
+// The missing directories are made in the table that stands in the bytes, and the table's place is judged.
+fn make_in(
+    image: &[u8],
+    words: &[u32],
+    m: usize,
+    bytes: &mut [u8],
+    size: usize,
+    start: u32,
+    path: &[u8],
+) -> Grown
+    requires { ⌜ IsOpen (now image) (now words) m × Stands (now bytes) size (length (now words)) × (treeIn (now bytes) size ≡ nodesIn (now image)) × (pathVerdict (nodesIn (now image)) start (now path) ≡ Passed) ⌝ }
+    ensures { λ r. ⌜ Numbered (planMakeDirectories (nodesIn (now (image .entry))) start (now (path .entry))) (now (image .entry)) (length (now (words .entry))) (length (now (bytes .entry))) (now (bytes .exit)) r ⌝ }
+{
+    let reached = making::make_along(bytes, size, words.len(), start as usize, path);
+    match reached {
+        Reached::Refused(cause) => Grown::Refused(cause),
+        Reached::At(k, n) => {
+            let placed = insert::place_table(image, words, m, bytes, n);
+            insert::numbered(placed, k as u32)
+        }
+    }
+}
+
+// What is decided on for an open image.
+fn decide_open(
+    image: &[u8],
+    words: &[u32],
+    m: usize,
+    bytes: &mut [u8],
+    start: u32,
+    path: &[u8],
+) -> Grown
+    requires { ⌜ IsOpen (now image) (now words) m ⌝ }
+    ensures { λ r. ⌜ Numbered (planMakeDirectories (nodesIn (now (image .entry))) start (now (path .entry))) (now (image .entry)) (length (now (words .entry))) (length (now (bytes .entry))) (now (bytes .exit)) r ⌝ }
+{
+    let verdict = check_path(image, start, path);
+    if let Verdict::Refused(cause) = verdict {
+        return Grown::Refused(cause);
+    }
+    let found = insert::start_table(image, words, m, bytes);
+    match found {
+        TableSize::Refused(cause) => Grown::Refused(cause),
+        TableSize::Bytes(size) => make_in(image, words, m, bytes, size, start, path),
+    }
+}
+
+fn decide(image: &[u8], words: &mut [u32], bytes: &mut [u8], start: u32, path: &[u8]) -> Grown
+    ensures { λ r. ⌜ Numbered (planned (opening (now (image .entry)) (length (now (words .entry)))) (planOf (makeDirectories start (now (path .entry))) (now (image .entry)))) (now (image .entry)) (length (now (words .entry))) (length (now (bytes .entry))) (now (bytes .exit)) r ⌝ }
+{
+    let prepared = disc::prepare(image, words);
+    match prepared {
+        Prepared::Refused(cause) => Grown::Refused(cause),
+        Prepared::Ready(m) => decide_open(image, words, m, bytes, start, path),
+    }
+}
+
+// Makes each directory of the path that is missing, from the entry `start`, and gives the number, in the new table, of the entry where the
+// path leads.
+pub fn make_directories(
+    image: &mut [u8],
+    words: &mut [u32],
+    bytes: &mut [u8],
+    start: u32,
+    path: &[u8],
+) -> Located
+    ensures { λ r. ⌜ (r ≡ numberOf (makeDirectories start (now (path .entry))) (now (image .entry)) (length (now (words .entry))) (length (now (bytes .entry)))) × (now (image .exit) ≡ imageAfter (makeDirectories start (now (path .entry))) (now (image .entry)) (length (now (words .entry))) (length (now (bytes .entry)))) ⌝ }
+    ensures { λ _. ⌜ (now (words .exit) ≡ replicate (length (now (words .entry))) 0) × (now (bytes .exit) ≡ replicate (length (now (bytes .entry))) 0) ⌝ }
+{
+    let grown = decide(image, words, bytes, start, path);
+    insert::finish(image, words, bytes, grown)
+}
