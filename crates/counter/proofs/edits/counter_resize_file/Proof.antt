@@ -1,0 +1,36 @@
+-- `counter::edits::counter_resize_file` meets its contract: it hands through what the edit answers.
+-- Assumes nothing.
+use mathlib.Core.Path.{ap, _∙_}
+use Rattle.counter.specs.Replies.{verdictNumber}
+use borrow.Author.Needs.{needs}
+use Rattle.counter.proofs.edits.counter_resize_file.Statement.{statement}
+use Rattle.counter.proofs.edits.counter_resize_file.Tie as tie
+
+resize-file-requires : tie.Need-resize-file-requires
+resize-file-requires c κs = search needs
+
+number-of-requires : tie.Need-number-of-requires
+number-of-requires c κs = search needs
+
+same-length : tie.Need-same-length
+same-length c = search needs
+
+same-length-2 : tie.Need-same-length-2
+same-length-2 c = search needs
+
+same-length-3 : tie.Need-same-length-3
+same-length-3 c = search needs
+
+returns : tie.Need-returns
+returns c = ((c .number-of .ensures ∙ ap verdictNumber (c .before .before .before .before .before .before .before .resize-file .ensures .0 .0), c .before .before .before .before .before .before .before .resize-file .ensures .0 .1), c .before .before .before .before .before .before .before .resize-file .ensures .1)
+
+pub counter-resize-file-spec : {M : Type 1} → statement M
+counter-resize-file-spec =
+    tie.close
+    (tie.spec
+    resize-file-requires
+    number-of-requires
+    same-length
+    same-length-2
+    same-length-3
+    returns)

@@ -1,0 +1,19 @@
+-- `counter::windows::counter_seek_end` meets its contract: it hands through what the seek answers. The distance is read back from its bits.
+-- Assumes nothing.
+use mir.Syntax.{w64}
+use mir.ValLaws.{toZ-ofZ}
+use borrow.Author.Needs.{needs}
+use Rattle.counter.proofs.windows.counter_seek_end.Statement.{statement}
+use Rattle.counter.proofs.windows.counter_seek_end.Tie as tie
+
+seek-requires : tie.Need-seek-requires
+seek-requires c κs = search needs
+
+same-length : tie.Need-same-length
+same-length c = search needs
+
+returns : tie.Need-returns
+returns c = let s = c .before .before .before .before .before in rw (toZ-ofZ w64 (s .args .distance) (s .fits .distance)) at (c .before .before .seek .ensures)
+
+pub counter-seek-end-spec : {M : Type 1} → statement M
+counter-seek-end-spec = tie.close (tie.spec seek-requires same-length returns)

@@ -1,0 +1,22 @@
+-- `counter::windows::give_count` meets its contract: single stores, one behind the other, put the words.
+-- Assumes nothing.
+use mathlib.Core.Path.{refl}
+use mathlib.Core.List.{[], _∷_}
+use native.Mathlib.Omega.{arith}
+use denote.Ref.{now}
+use Rattle.endian.specs.Laws.{put-sets}
+use borrow.Author.Needs.{needs}
+use Rattle.counter.proofs.windows.give_count.Statement.{statement}
+use Rattle.counter.proofs.windows.give_count.Tie as tie
+
+slice-write-answer : tie.Need-slice-write-answer
+slice-write-answer c = search needs
+
+same-length : tie.Need-same-length
+same-length c = search needs
+
+returns : tie.Need-returns
+returns c = let s = c in record { number = refl; slots = put-sets (now (s .args .answer)) 0 (s .args .count ∷ []) (omega arith) }
+
+pub give-count-spec : {M : Type 1} → statement M
+give-count-spec = tie.close (tie.spec slice-write-answer same-length returns)

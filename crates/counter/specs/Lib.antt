@@ -1,0 +1,4 @@
+pub mod HeaderLaws
+pub mod Headers
+pub mod Laws
+pub mod Replies
