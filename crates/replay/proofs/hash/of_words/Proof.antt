@@ -1,0 +1,57 @@
+-- `replay::hash::of_words` is safe and ends: the place rises up to the count.
+-- Assumes nothing.
+use Prim.Native.Nat.{_-_, _≤_}
+use native.Mathlib.Omega.{arith}
+use lib.ListN.{length}
+use borrow.Author.Needs.{needs}
+use Rattle.replay.proofs.hash.of_words.Statement.{statement}
+use Rattle.replay.proofs.hash.of_words.Tie as tie
+
+abbrev Inv-loop : tie.InvT-loop
+Inv-loop s n h₀ i₀ h i = i ≤ n
+
+abbrev μ-loop : tie.MeasureT-loop
+μ-loop s n h₀ i₀ h i = n - i
+
+loop-holds : tie.Need-loop-holds Inv-loop μ-loop
+loop-holds c = omega arith
+
+returns : tie.Need-returns Inv-loop μ-loop
+returns c = search needs
+
+mul-fold-word : tie.Need-mul-fold-word Inv-loop μ-loop
+mul-fold-word c = omega arith
+
+shared-slice-read-fold-word : tie.Need-shared-slice-read-fold-word Inv-loop μ-loop
+shared-slice-read-fold-word c = omega arith
+
+fold-word-requires : tie.Need-fold-word-requires Inv-loop μ-loop
+fold-word-requires c κs = search needs
+
+add-i : tie.Need-add-i Inv-loop μ-loop
+add-i c = omega arith
+
+loop-less : tie.Need-loop-less Inv-loop μ-loop
+loop-less c = omega arith
+
+loop-again : tie.Need-loop-again Inv-loop μ-loop
+loop-again c = omega arith
+
+returns-2 : tie.Need-returns-2 Inv-loop μ-loop
+returns-2 c = search needs
+
+pub of-words-spec : {M : Type 1} → statement M
+of-words-spec =
+    tie.close
+    (tie.spec
+    Inv-loop
+    μ-loop
+    loop-holds
+    returns
+    mul-fold-word
+    shared-slice-read-fold-word
+    fold-word-requires
+    add-i
+    loop-less
+    loop-again
+    returns-2)
