@@ -1,0 +1,193 @@
+//! Boundaries that calls meet, counted so that a run shows that it met them.
+
+use crate::calls::Call;
+use crate::judge::{New, new_place};
+use crate::paper::{self, Tree};
+
+/// What stands out about a call on `tree` that is answered `expected`, with the memory lent.
+pub fn features(
+    tree: &Tree,
+    call: &Call,
+    expected: &str,
+    words: usize,
+    bytes: usize,
+) -> Vec<&'static str> {
+    let mut met = vec![];
+    let accepted = expected.starts_with("ok");
+    let no_space = expected == "err 21";
+    let least = 4 * (tree.entries.len() + 2);
+    if accepted && !call.edits() && words == least {
+        met.push("memory: exactly the words that opening wants");
+    }
+    match call {
+        Call::Alloc(size, align) if align.is_power_of_two() => {
+            let (size, align) = (*size as u64, *align as u64);
+            let rests: Vec<u64> = tree
+                .free
+                .iter()
+                .filter_map(|(at, len)| (at + len).checked_sub(at.next_multiple_of(align)))
+                .filter(|rest| *rest > 0)
+                .collect();
+            let most = rests.iter().max().copied().unwrap_or(0);
+            if accepted && rests.iter().filter(|rest| **rest == most).count() > 1 {
+                met.push("allocate: the largest rest occurs twice");
+            }
+            if accepted && size == most {
+                met.push("allocate: exactly the largest rest");
+            }
+            if no_space && size == most + 1 && most > 0 {
+                met.push("allocate: one byte more than the largest rest");
+            }
+        }
+        Call::MaxRegion(offset, size) => {
+            let (offset, size) = (*offset as u64, *size as u64);
+            for (at, len) in &tree.free {
+                if offset == *at {
+                    met.push("max_region_size: from a free region's start");
+                }
+                if offset > *at && offset + size == at + len {
+                    met.push("max_region_size: up to a free region's end, from inside");
+                }
+                if offset > *at && offset + size < at + len {
+                    met.push("max_region_size: inside a free region");
+                }
+                if offset < *at && offset + size == *at {
+                    met.push("max_region_size: up to a free region's start");
+                }
+                if offset < *at && offset + size > *at {
+                    met.push("max_region_size: over a free region's start");
+                }
+            }
+        }
+        _ => (),
+    }
+    if call.edits() && (accepted || no_space || expected == "err 9") {
+        of_edit(&mut met, tree, call, expected, words, bytes);
+    }
+    met
+}
+
+fn of_edit(
+    met: &mut Vec<&'static str>,
+    tree: &Tree,
+    call: &Call,
+    expected: &str,
+    words: usize,
+    bytes: usize,
+) {
+    let accepted = expected.starts_with("ok");
+    let count = tree.entries.len();
+    if call.target().is_some_and(|target| target as usize >= count) {
+        return;
+    }
+    let Some(new) = New::of(tree, call) else { return };
+    let file = call.target().map(|target| &tree.entries[target as usize]);
+    let mut writes = true;
+    if let (Call::Resize(_, size), Some(file)) = (call, file.filter(|file| !file.directory)) {
+        let (old, size) = (file.size as u64, *size as u64);
+        let here = size <= old || size <= tree.most(file.offset as u64, old);
+        writes = size != old;
+        if accepted {
+            met.push(match size {
+                size if size == old => "resize: to the present size",
+                0 => "resize: to nothing",
+                size if size < old => "resize: a shrink",
+                _ if old == 0 && here => "resize: an empty file grows where it is",
+                _ if old == 0 => "resize: an empty file grows elsewhere",
+                _ if here => "resize: growth where it is",
+                _ => "resize: growth elsewhere",
+            });
+        }
+        let places = |rest: u64| {
+            let rest_of =
+                |(at, len): &(u64, u64)| (at + len).checked_sub(at.next_multiple_of(paper::ALIGN));
+            tree.free.iter().filter(|region| rest_of(region) == Some(rest)).count()
+        };
+        if accepted
+            && !here
+            && tree.place(size, paper::ALIGN).is_some_and(|(_, rest)| places(rest) > 1)
+        {
+            met.push("resize: growth elsewhere, and the largest place occurs twice");
+        }
+        if accepted && here && size > old && size == tree.most(file.offset as u64, old) {
+            met.push("resize: exactly as far as it goes");
+        }
+    }
+    if let (Call::Move(_, offset), Some(file)) = (call, file.filter(|file| !file.directory)) {
+        let (at, size) = (file.offset as u64, file.size as u64);
+        if accepted && size == 0 {
+            met.push("move: an empty file");
+        }
+        if accepted && size > 0 && (*offset as u64 == at + size || *offset as u64 + size == at) {
+            met.push("move: right beside its old place");
+        }
+        if accepted && size > 0 && tree.most(*offset as u64, 0) == size {
+            met.push("move: up to the end of a free region");
+        }
+    }
+    if !writes {
+        return;
+    }
+    let room = tree.most(tree.fst_offset, tree.fst_size);
+    let place = new_place(tree, call);
+    if accepted {
+        met.push(match new.size().cmp(&tree.fst_size) {
+            std::cmp::Ordering::Less => "table: shorter than before",
+            std::cmp::Ordering::Equal => "table: as long as before",
+            std::cmp::Ordering::Greater => "table: longer than before",
+        });
+        if new.size() == room && room > tree.fst_size {
+            met.push("table: grows exactly to what lies behind it");
+        }
+        if words == 4 * (new.entries + 2) {
+            met.push("memory: exactly the words that the new tree wants");
+        }
+        if bytes as u64 == new.size() {
+            met.push("memory: exactly the bytes of the new table");
+        }
+    }
+    if expected == "err 9" {
+        if words + 1 == 4 * (new.entries + 2) {
+            met.push("memory: one word too few for the new tree");
+        }
+        if bytes as u64 + 1 == new.size() {
+            met.push("memory: one byte too few for the new table");
+        }
+    }
+    if expected == "err 21" && place.is_some() && new.size() == room + 1 {
+        met.push("table: one byte too long for the room behind it");
+    }
+    if let Some((offset, size)) = place
+        && size > 0
+        && new.size() <= room
+    {
+        let end = tree.fst_offset + new.size();
+        if accepted && end == offset && new.size() > tree.fst_size {
+            met.push("table: grows exactly up to the file's new place");
+        }
+        if expected == "err 21" && end == offset + 1 {
+            met.push("table: one byte over the file's new place");
+        }
+    }
+    if accepted {
+        match call {
+            Call::InsertFile(parent, _) | Call::InsertDirectory(parent, _) => {
+                let behind = (tree.entries[*parent as usize].size as usize) < count;
+                met.push(if behind {
+                    "insert: entries behind it shift"
+                } else {
+                    "insert: as last entry"
+                });
+            }
+            Call::MakeDirectories(..) => met.push(match new.entries - count {
+                0 => "make-directories: all are there",
+                1 => "make-directories: one is new",
+                _ => "make-directories: two or more are new",
+            }),
+            _ => (),
+        }
+        if new.depth == paper::DEPTH {
+            met.push("depth: a new directory at 64");
+        }
+    }
+}

@@ -1,0 +1,307 @@
+//! Document 01's opening, and the few sums that the sorting of differences needs, written down
+//! here a second time and from the paper alone, so that a difference is sorted by what the paper
+//! says of its input and not by what either side answers.
+
+pub const ENTRIES: usize = 16_384;
+pub const TEXTS: usize = 1_048_576;
+pub const DEPTH: usize = 64;
+pub const PATH: usize = 1_024;
+pub const ALIGN: u64 = 0x8000;
+
+pub const WII: u32 = 0x5d1c_9ea3;
+pub const GAMECUBE: u32 = 0xc233_9f3d;
+
+pub fn word(image: &[u8], at: usize) -> u32 {
+    u32::from_be_bytes(image[at..at + 4].try_into().unwrap())
+}
+
+pub fn set_word(image: &mut [u8], at: usize, value: u32) {
+    image[at..at + 4].copy_from_slice(&value.to_be_bytes());
+}
+
+#[derive(Clone, Debug)]
+pub struct Entry {
+    pub directory: bool,
+    pub name: Vec<u8>,
+    /// The directory it is nested in.
+    pub parent: usize,
+    pub offset: u32,
+    /// A file's size or a directory's next.
+    pub size: u32,
+}
+
+/// An image that opens.
+#[derive(Clone, Debug)]
+pub struct Tree {
+    pub entries: Vec<Entry>,
+    pub fst_offset: u64,
+    pub fst_size: u64,
+    pub disc_end: u64,
+    /// Free regions: offset and size.
+    pub free: Vec<(u64, u64)>,
+}
+
+/// The header alone: 1, 2, 3 or accepted.
+pub fn header(image: &[u8]) -> Result<(), u32> {
+    if image.len() < 0x1c {
+        return Err(1);
+    }
+    if word(image, 0x18) == WII {
+        return Err(2);
+    }
+    if image.len() < 0x20 {
+        return Err(1);
+    }
+    if word(image, 0x1c) != GAMECUBE {
+        return Err(3);
+    }
+    if image.len() < 0x440 { Err(1) } else { Ok(()) }
+}
+
+/// The parts of cause 4, in the paper's order.
+#[derive(Clone, Copy, PartialEq, Eq, Debug)]
+pub enum Bound {
+    FstOffset,
+    DiscEnd,
+    TableEnd,
+    ImageShort,
+}
+
+pub fn bounds(image: &[u8]) -> Option<Bound> {
+    let (fst_offset, fst_size) = (word(image, 0x424) as u64, word(image, 0x428) as u64);
+    let disc_end = word(image, 0x434) as u64 + word(image, 0x438) as u64;
+    if fst_offset < 0x440 {
+        Some(Bound::FstOffset)
+    } else if disc_end > u32::MAX as u64 {
+        Some(Bound::DiscEnd)
+    } else if fst_offset + fst_size > disc_end {
+        Some(Bound::TableEnd)
+    } else if (image.len() as u64) < disc_end {
+        Some(Bound::ImageShort)
+    } else {
+        None
+    }
+}
+
+fn table(image: &[u8]) -> &[u8] {
+    let (at, size) = (word(image, 0x424) as usize, word(image, 0x428) as usize);
+    &image[at..at + size]
+}
+
+/// Offset and size of every nonempty file among the first `count` records.
+fn files(table: &[u8], count: usize) -> Vec<(u64, u64)> {
+    (1..count)
+        .filter(|i| table[12 * i] == 0)
+        .map(|i| (word(table, 12 * i + 4) as u64, word(table, 12 * i + 8) as u64))
+        .filter(|(_, size)| *size > 0)
+        .collect()
+}
+
+/// The free regions, or 14.
+fn free(mut used: Vec<(u64, u64)>, table_end: u64, disc_end: u64) -> Result<Vec<(u64, u64)>, u32> {
+    used.push((0, table_end));
+    used.sort();
+    let mut free = vec![];
+    let mut end = 0;
+    for (offset, size) in used {
+        if offset < end || offset + size > disc_end {
+            return Err(14);
+        }
+        if offset > end {
+            free.push((end, offset - end));
+        }
+        end = offset + size;
+    }
+    if end < disc_end {
+        free.push((end, disc_end - end));
+    }
+    Ok(free)
+}
+
+/// Whether used regions overlap or pass the disc end, whatever the walk would say. Only for a
+/// table whose records are all there.
+pub fn regions_are_bad(image: &[u8]) -> bool {
+    let table = table(image);
+    let count = (word(table, 8) as usize).max(1).min(table.len() / 12);
+    let table_end = word(image, 0x424) as u64 + word(image, 0x428) as u64;
+    let disc_end = word(image, 0x434) as u64 + word(image, 0x438) as u64;
+    free(files(table, count), table_end, disc_end).is_err()
+}
+
+pub fn fit(byte: u8) -> bool {
+    (0x20..=0x7e).contains(&byte)
+}
+
+pub fn unsafe_name(name: &[u8]) -> bool {
+    name.is_empty()
+        || name == b"."
+        || name == b".."
+        || name.iter().any(|b| matches!(b, b'/' | b'\\' | b':'))
+}
+
+/// A refusal, with what the sorting asks about it.
+#[derive(Clone, Copy, Debug, PartialEq, Eq)]
+pub struct Refusal {
+    pub number: u32,
+    /// The entry at which 5, 10 to 13 were met.
+    pub entry: usize,
+    /// 10 because a next passes its parent's, and nothing else.
+    pub past_parent: bool,
+}
+
+fn refusal(number: u32, entry: usize) -> Refusal {
+    Refusal { number, entry, past_parent: false }
+}
+
+pub fn open(image: &[u8], words: usize) -> Result<Tree, Refusal> {
+    header(image).map_err(|number| refusal(number, 0))?;
+    if bounds(image).is_some() {
+        return Err(refusal(4, 0));
+    }
+    let table = table(image);
+    if table.len() < 12 {
+        return Err(refusal(5, 0));
+    }
+    match table[0] {
+        0 => return Err(refusal(7, 0)),
+        1 => (),
+        _ => return Err(refusal(6, 0)),
+    }
+    let count = word(table, 8) as usize;
+    if count > ENTRIES {
+        return Err(refusal(9, 0));
+    }
+    let n = count.max(1);
+    for i in 1..n {
+        if 12 * (i + 1) > table.len() {
+            return Err(refusal(5, i));
+        }
+        if table[12 * i] > 1 {
+            return Err(refusal(6, i));
+        }
+    }
+    let texts = &table[12 * n..];
+    if texts.last().is_some_and(|b| *b != 0) {
+        return Err(refusal(8, 0));
+    }
+    if texts.len() > TEXTS || words < 4 * (n + 2) {
+        return Err(refusal(9, 0));
+    }
+    let entries = walk(table, texts, count)?;
+    let (fst_offset, fst_size) = (word(image, 0x424) as u64, word(image, 0x428) as u64);
+    let disc_end = word(image, 0x434) as u64 + word(image, 0x438) as u64;
+    let free = free(files(table, n), fst_offset + fst_size, disc_end)
+        .map_err(|number| refusal(number, 0))?;
+    Ok(Tree { entries, fst_offset, fst_size, disc_end, free })
+}
+
+fn walk(table: &[u8], texts: &[u8], count: usize) -> Result<Vec<Entry>, Refusal> {
+    if count == 0 {
+        return Err(refusal(10, 0));
+    }
+    let root = Entry { directory: true, name: vec![], parent: 0, offset: 0, size: count as u32 };
+    let mut entries = vec![root];
+    let mut around = vec![0]; // the directories that the entry is nested in
+    for k in 1..count {
+        while k >= entries[*around.last().unwrap()].size as usize {
+            around.pop();
+        }
+        let parent = *around.last().unwrap();
+        let record = &table[12 * k..12 * k + 12];
+        let at = (word(record, 0) & 0xff_ffff) as usize;
+        let text = texts.get(at..).filter(|t| !t.is_empty()).ok_or(refusal(11, k))?;
+        let name = &text[..text.iter().position(|b| *b == 0).unwrap()];
+        if !name.iter().all(|b| fit(*b)) {
+            return Err(refusal(12, k));
+        }
+        if unsafe_name(name) {
+            return Err(refusal(13, k));
+        }
+        let directory = record[0] == 1;
+        let (offset, size) = (word(record, 4), word(record, 8));
+        if directory {
+            let next = size as usize;
+            let past_parent = next > entries[parent].size as usize;
+            if next <= k || next > count || past_parent {
+                let past_parent = past_parent && next > k && next <= count;
+                return Err(Refusal { number: 10, entry: k, past_parent });
+            }
+            if around.len() > DEPTH {
+                return Err(refusal(9, k));
+            }
+            around.push(k);
+        }
+        entries.push(Entry { directory, name: name.to_vec(), parent, offset, size });
+    }
+    Ok(entries)
+}
+
+impl Tree {
+    pub fn table_end(&self) -> u64 {
+        self.fst_offset + self.fst_size
+    }
+
+    /// Texts of the table written anew.
+    pub fn texts(&self) -> usize {
+        self.entries[1..].iter().map(|e| e.name.len() + 1).sum()
+    }
+
+    pub fn depth(&self, mut number: usize) -> usize {
+        let mut depth = 0;
+        while number != 0 {
+            number = self.entries[number].parent;
+            depth += 1;
+        }
+        depth
+    }
+
+    /// The path of an entry below `start`, if it is below it.
+    pub fn path(&self, start: usize, mut number: usize) -> Option<Vec<Vec<u8>>> {
+        let mut parts = vec![];
+        while number != start {
+            if number == 0 {
+                return None;
+            }
+            parts.push(self.entries[number].name.clone());
+            number = self.entries[number].parent;
+        }
+        parts.reverse();
+        Some(parts)
+    }
+
+    pub fn child(&self, directory: usize, name: &[u8]) -> Option<usize> {
+        (1..self.entries.len())
+            .find(|k| self.entries[*k].parent == directory && self.entries[*k].name == name)
+    }
+
+    /// `max_region_size` in whole numbers.
+    pub fn most(&self, offset: u64, size: u64) -> u64 {
+        if let Some((_, size)) = self.free.iter().find(|(at, _)| *at == offset) {
+            return *size;
+        }
+        let end = offset + size;
+        let next = self.free.iter().position(|(at, _)| *at > offset).unwrap_or(self.free.len());
+        if next > 0 {
+            let (at, size) = self.free[next - 1];
+            if end < at + size {
+                return at + size - offset;
+            }
+        }
+        match self.free.get(next) {
+            Some((at, more)) if *at == end => size + more,
+            _ => size,
+        }
+    }
+
+    /// The place with the largest rest at a multiple of `align`, the last among equals.
+    pub fn place(&self, size: u64, align: u64) -> Option<(u64, u64)> {
+        self.free
+            .iter()
+            .filter_map(|(at, len)| {
+                let first = at.next_multiple_of(align);
+                let rest = (at + len).checked_sub(first).filter(|rest| *rest > 0)?;
+                (rest >= size).then_some((first, rest))
+            })
+            .max_by_key(|(_, rest)| *rest)
+    }
+}

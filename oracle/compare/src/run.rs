@@ -1,0 +1,642 @@
+//! Both sides under way: calls are asked in batches, many images side by side, and each answer is
+//! held to the verdict.
+
+use crate::calls::{self, Call, hex, unhex};
+use crate::child::{Side, batch};
+use crate::features::features;
+use crate::judge::{Class, Given, New, Verdict, judge, odd_name};
+use crate::masters;
+use crate::paper::{self, Refusal, Tree};
+use crate::random::Random;
+use std::collections::BTreeMap;
+use std::fs;
+use std::path::{Path, PathBuf};
+
+/// Images that are under way at a time.
+const WAVE: usize = 96;
+
+/// Faults after which a run ends.
+const FAULTS: usize = 8;
+
+#[derive(Default)]
+pub struct Counts {
+    pub images: u64,
+    pub refused_images: u64,
+    pub states: u64,
+    /// By command: calls, of them accepted.
+    pub calls: BTreeMap<&'static str, (u64, u64)>,
+    /// By command and number: refusals.
+    pub refusals: BTreeMap<(&'static str, u32), u64>,
+    /// Boundaries met.
+    pub features: BTreeMap<&'static str, u64>,
+    /// By entry and command: differences.
+    pub differences: BTreeMap<(Class, &'static str), u64>,
+    pub faults: usize,
+}
+
+impl Counts {
+    pub fn total(&self) -> u64 {
+        self.calls.values().map(|(calls, _)| calls).sum()
+    }
+}
+
+pub struct Run {
+    pub probe: Side,
+    pub oracle: Side,
+    pub counts: Counts,
+    place: PathBuf,
+    /// Whether the library has insert and make-directories.
+    pub inserts: bool,
+}
+
+/// One image under way.
+struct Case {
+    r: Random,
+    image: Vec<u8>,
+    /// 01's opening, however many words are lent.
+    opened: Result<Tree, Refusal>,
+    odd: Option<Class>,
+    name: String,
+}
+
+impl Case {
+    fn new(r: Random, image: Vec<u8>, name: String) -> Self {
+        let opened = paper::open(&image, usize::MAX);
+        let odd = odd_name(&image);
+        Self { r, image, opened, odd, name }
+    }
+
+    fn opened_with(&self, words: usize) -> Result<Tree, Refusal> {
+        match &self.opened {
+            Ok(tree) if words >= 4 * (tree.entries.len() + 2) => self.opened.clone(),
+            _ => paper::open(&self.image, words),
+        }
+    }
+
+    /// How much memory to lend for a call: often just enough, sometimes one too little.
+    fn lend(&mut self, call: &Call) -> (usize, usize) {
+        let r = &mut self.r;
+        let Ok(tree) = &self.opened else {
+            let count = match self.image.get(0x440..0x44c) {
+                Some(root) => paper::word(root, 8).min(200) as usize,
+                None => 1,
+            };
+            let least = 4 * (count.max(1) + 2);
+            return (*r.pick(&[400, 400, 400, least, least - 1, 0]), r.below(64));
+        };
+        let old = 4 * (tree.entries.len() + 2);
+        let valid = match call {
+            Call::InsertDirectory(number, _) | Call::MakeDirectories(number, _) => {
+                (*number as usize) < tree.entries.len()
+            }
+            _ => true,
+        };
+        let new = if valid { New::of(tree, call) } else { None };
+        let (least, table) =
+            new.map_or((old, 64), |new| (4 * (new.entries + 2), new.size() as usize));
+        let words = match r.below(24) {
+            0 => least - 1,
+            1..=4 => least,
+            5 => old,
+            6 => old - 1,
+            7 => r.below(16),
+            _ => least + r.below(100),
+        };
+        let bytes = match r.below(24) {
+            0 => table - 1,
+            1..=4 => table,
+            5 => 0,
+            _ => table + r.below(200),
+        };
+        if r.below(2000) == 0 { (65_544, 2_097_152) } else { (words, bytes) }
+    }
+}
+
+/// A call that was asked, and where in the batch its answers are.
+struct Asked {
+    case: usize,
+    call: Call,
+    words: usize,
+    bytes: usize,
+    probe: usize,
+    oracle: usize,
+    twin: Option<usize>,
+    /// Hashes after an edit: Counter's; the original's, as it is and with the game name put back.
+    hashes: Option<(usize, usize, usize)>,
+    peek: usize,
+    /// The listing afterwards, on both sides.
+    listing: Option<(usize, usize)>,
+}
+
+#[derive(Default)]
+struct Batch {
+    probe: Vec<String>,
+    oracle: Vec<String>,
+}
+
+impl Batch {
+    fn both(&mut self, line: String) {
+        self.probe.push(line.clone());
+        self.oracle.push(line);
+    }
+    fn probe(&mut self, line: String) -> usize {
+        self.probe.push(line);
+        self.probe.len() - 1
+    }
+    fn oracle(&mut self, line: String) -> usize {
+        self.oracle.push(line);
+        self.oracle.len() - 1
+    }
+}
+
+/// The game name that the original takes in place of one without a zero byte.
+fn without_name() -> String {
+    format!("patch 0x20 {}", "0".repeat(2 * 0x3e0))
+}
+
+impl Run {
+    pub fn new(probe: &str, oracle: &str, place: &Path, inserts: bool) -> std::io::Result<Self> {
+        fs::create_dir_all(place)?;
+        Ok(Self {
+            probe: Side::start(probe)?,
+            oracle: Side::start(oracle)?,
+            counts: Counts::default(),
+            place: place.into(),
+            inserts,
+        })
+    }
+
+    fn ask(&mut self, lines: &Batch) -> (Vec<String>, Vec<String>) {
+        self.probe.send(batch(&lines.probe));
+        self.oracle.send(batch(&lines.oracle));
+        (self.probe.read(&lines.probe), self.oracle.read(&lines.oracle))
+    }
+
+    pub fn over(&self) -> bool {
+        self.counts.faults >= FAULTS
+    }
+
+    fn count(&mut self, call: &Call, verdict: &Verdict) {
+        let (calls, accepted) = self.counts.calls.entry(call.name()).or_default();
+        *calls += 1;
+        match verdict.expected.strip_prefix("err ") {
+            Some(number) => {
+                let number = number.parse().unwrap_or(0);
+                *self.counts.refusals.entry((call.name(), number)).or_default() += 1;
+            }
+            None => *accepted += 1,
+        }
+        if let Some(class) = verdict.class {
+            *self.counts.differences.entry((class, call.name())).or_default() += 1;
+        }
+    }
+
+    // Images made up at random --------------------------------------------------------------
+
+    /// `images` masters and damaged copies, `looks` calls that look at each and `edits` edits of
+    /// each that opens.
+    pub fn random(&mut self, seed: u64, images: u64, looks: usize, edits: usize) {
+        let mut begun = 0;
+        while begun < images && !self.over() {
+            let mut cases = vec![];
+            while cases.len() < WAVE && begun < images {
+                let mut r =
+                    Random::new(seed.wrapping_add(begun.wrapping_mul(0x2545_f491_4f6c_dd1d)));
+                let image =
+                    if r.chance(35) { masters::damaged(&mut r) } else { masters::master(&mut r) };
+                cases.push(Case::new(r, image, format!("c{}a", cases.len())));
+                begun += 1;
+            }
+            self.looks(&mut cases, looks);
+            for _ in 0..edits {
+                if self.over() {
+                    break;
+                }
+                self.edits(&mut cases);
+            }
+            if begun % (WAVE as u64 * 100) == 0 {
+                eprintln!("{begun} images, {} calls", self.counts.total());
+            }
+        }
+    }
+
+    fn looks(&mut self, cases: &mut [Case], looks: usize) {
+        let (mut lines, mut asked, mut odd) = (Batch::default(), vec![], vec![]);
+        for (i, case) in cases.iter_mut().enumerate() {
+            self.counts.images += 1;
+            self.counts.refused_images += u64::from(case.opened.is_err());
+            let path = self.place.join(i.to_string());
+            fs::write(&path, &case.image).unwrap();
+            lines.both(format!("image {}", path.display()));
+            lines.both(format!("save {}", case.name));
+            let nameless = case.odd == Some(Class::NameWithoutZero) && case.opened.is_ok();
+            if nameless {
+                odd.push(lines.oracle("open".into()));
+                lines.oracle(without_name());
+            }
+            for j in 0..looks {
+                let mut call = calls::look(&mut case.r, case.opened.as_ref().ok(), &case.image);
+                if j == 0 {
+                    call = Call::Open;
+                }
+                if let Err(refusal) = &case.opened
+                    && j == looks - 1
+                    && refusal.number > 3
+                {
+                    call = edit_of_refused(&mut case.r, self.inserts);
+                }
+                let reads_name = matches!(
+                    call,
+                    Call::Header | Call::Window(..) | Call::Dol | Call::DolWindow(_)
+                );
+                if nameless && reads_name {
+                    call = Call::Free;
+                }
+                asked.push(ask_look(&mut lines, i, case, call));
+            }
+        }
+        let (probe, oracle) = self.ask(&lines);
+        for at in odd {
+            if oracle[at] != "err Text:NoNulTerminator" {
+                self.fault("the game name has no zero byte", &[], "open", &oracle[at], "", "ok");
+            }
+            *self.counts.differences.entry((Class::NameWithoutZero, "open")).or_default() += 1;
+        }
+        for asked in &asked {
+            self.hold(&cases[asked.case], asked, &probe, &oracle);
+        }
+    }
+
+    /// One edit of each image that opens.
+    fn edits(&mut self, cases: &mut [Case]) {
+        let (mut lines, mut asked) = (Batch::default(), vec![]);
+        for (i, case) in cases.iter_mut().enumerate() {
+            let Ok(tree) = &case.opened else { continue };
+            let call = calls::edit(&mut case.r, tree, self.inserts);
+            asked.push(ask_edit(&mut lines, i, case, call));
+        }
+        if asked.is_empty() {
+            return;
+        }
+        let (probe, oracle) = self.ask(&lines);
+        for asked in &asked {
+            if self.hold(&cases[asked.case], asked, &probe, &oracle)
+                && probe[asked.probe].starts_with("ok")
+            {
+                self.counts.states += 1;
+                let case = &mut cases[asked.case];
+                let head = unhex(probe[asked.peek].strip_prefix("ok ").unwrap());
+                case.image[..head.len()].copy_from_slice(&head);
+                case.name = other(&case.name);
+                case.opened = paper::open(&case.image, usize::MAX);
+                if case.opened.is_err() {
+                    let what = "an accepted edit left an image that does not open";
+                    self.fault(what, &[], &asked.call.line(), "", "", "");
+                }
+            }
+        }
+    }
+
+    /// The answers to one call, held to the verdict; true if all is well.
+    fn hold(&mut self, case: &Case, asked: &Asked, probe: &[String], oracle: &[String]) -> bool {
+        match trouble(case, asked, probe, oracle) {
+            Ok(verdict) => {
+                self.count(&asked.call, &verdict);
+                self.count_afterwards(asked, probe, oracle);
+                if let Ok(tree) = &case.opened_with(asked.words) {
+                    let (words, bytes) = (asked.words, asked.bytes);
+                    let met = features(tree, &asked.call, &verdict.expected, words, bytes);
+                    for feature in met {
+                        *self.counts.features.entry(feature).or_default() += 1;
+                    }
+                }
+                true
+            }
+            Err((what, expected)) => {
+                let (lines, ours) = (self.replay(case, asked, &what), &probe[asked.probe]);
+                let twin = asked.twin.map_or("", |at| oracle[at].as_str());
+                let theirs = format!("{} {twin}", oracle[asked.oracle]);
+                self.fault(&what, &lines, &asked.call.line(), &theirs, ours, &expected);
+                false
+            }
+        }
+    }
+
+    fn count_afterwards(&mut self, asked: &Asked, probe: &[String], oracle: &[String]) {
+        if !both_accept(asked, probe, oracle) {
+            return;
+        }
+        if let Some((ours, theirs, _)) = asked.hashes
+            && probe[ours] != oracle[theirs]
+        {
+            let key = (Class::NameBehindZero, asked.call.name());
+            *self.counts.differences.entry(key).or_default() += 1;
+        }
+        if asked.listing.is_some() {
+            let (calls, accepted) = self.counts.calls.entry("listing").or_default();
+            *calls += 1;
+            *accepted += 1;
+        }
+    }
+
+    pub fn fault(
+        &mut self,
+        what: &str,
+        lines: &[String],
+        call: &str,
+        theirs: &str,
+        ours: &str,
+        expected: &str,
+    ) {
+        self.counts.faults += 1;
+        println!("\nFAULT: {what}");
+        println!("  the original: {}", cut(theirs));
+        println!("  Counter:      {}", cut(ours));
+        println!("  01:           {}", cut(expected));
+        println!("  replay, on either side:");
+        for line in lines {
+            println!("    {line}");
+        }
+        println!("    {}", cut(call));
+    }
+
+    /// Commands that make the image a call was made on, with as many bytes zero as still show
+    /// the same trouble.
+    fn replay(&mut self, case: &Case, asked: &Asked, what: &str) -> Vec<String> {
+        let load = format!("load {}", case.name);
+        let answer = self.probe.ask(&[load, format!("peek 0 {}", case.image.len())]);
+        let mut image = unhex(answer[1].strip_prefix("ok ").unwrap_or(""));
+        if image.len() <= 0x2_0000 && case.odd.is_none() && self.shows(&image, asked, what) {
+            for step in [0x400, 0x100, 0x40, 0x10, 4, 1] {
+                for at in (0..image.len()).step_by(step) {
+                    let end = (at + step).min(image.len());
+                    if image[at..end].iter().all(|b| *b == 0) {
+                        continue;
+                    }
+                    let kept = image[at..end].to_vec();
+                    image[at..end].fill(0);
+                    if !self.shows(&image, asked, what) {
+                        image[at..end].copy_from_slice(&kept);
+                    }
+                }
+            }
+        }
+        let mut lines = image_lines(&image);
+        lines.push(format!("lend {} {}", asked.words, asked.bytes));
+        lines
+    }
+
+    /// Whether the same call on `image` meets the same trouble.
+    fn shows(&mut self, image: &[u8], asked: &Asked, what: &str) -> bool {
+        let path = self.place.join("shrink");
+        fs::write(&path, image).unwrap();
+        let mut case = Case::new(Random::new(0), image.to_vec(), "shrinka".into());
+        let mut lines = Batch::default();
+        lines.both(format!("image {}", path.display()));
+        lines.both("save shrinka".into());
+        let (call, words, bytes) = (asked.call.clone(), asked.words, asked.bytes);
+        let asked = if call.edits() && case.opened.is_ok() {
+            ask_edit_with(&mut lines, 0, &mut case, call, words, bytes)
+        } else {
+            ask_look_with(&mut lines, 0, call, words, bytes)
+        };
+        let (probe, oracle) = self.ask(&lines);
+        trouble(&case, &asked, &probe, &oracle).is_err_and(|(other, _)| other == what)
+    }
+
+    // Given calls on a given image -------------------------------------------------------------
+
+    /// Each call on the image as it is, edits too: nothing is carried on.
+    pub fn each(&mut self, image: Vec<u8>, calls: &[(Call, usize, usize)]) {
+        self.counts.images += 1;
+        self.counts.refused_images += u64::from(paper::open(&image, usize::MAX).is_err());
+        for part in calls.chunks(512) {
+            let mut case = Case::new(Random::new(0), image.clone(), "each".into());
+            let path = self.place.join("each");
+            fs::write(&path, &case.image).unwrap();
+            let (mut lines, mut asked) = (Batch::default(), vec![]);
+            lines.both(format!("image {}", path.display()));
+            lines.both("save each".into());
+            for (call, words, bytes) in part {
+                if call.edits() && case.opened.is_ok() {
+                    asked.push(ask_edit_with(
+                        &mut lines,
+                        0,
+                        &mut case,
+                        call.clone(),
+                        *words,
+                        *bytes,
+                    ));
+                } else {
+                    lines.both("load each".into());
+                    asked.push(ask_look_with(&mut lines, 0, call.clone(), *words, *bytes));
+                }
+            }
+            let (probe, oracle) = self.ask(&lines);
+            for asked in &asked {
+                self.hold(&case, asked, &probe, &oracle);
+            }
+            if self.over() {
+                return;
+            }
+        }
+    }
+
+    /// `open`, `list` and `free` on each image; each is given by the bytes from 0x428 on that
+    /// differ from those of `base`.
+    pub fn tables(&mut self, base: &[u8], tables: &[Vec<u8>]) {
+        let path = self.place.join("base");
+        fs::write(&path, base).unwrap();
+        for part in tables.chunks(2048) {
+            let (mut lines, mut asked, mut cases) = (Batch::default(), vec![], vec![]);
+            for (i, table) in part.iter().enumerate() {
+                let mut image = base.to_vec();
+                image[0x428..0x428 + table.len()].copy_from_slice(table);
+                lines.both(format!("image {}", path.display()));
+                lines.both(format!("patch 0x428 {}", hex(table)));
+                let case = Case::new(Random::new(0), image, String::new());
+                for call in [Call::Open, Call::List, Call::Free] {
+                    if call == Call::Open || case.opened.is_ok() {
+                        asked.push(ask_look_with(&mut lines, i, call, 64, 0));
+                    }
+                }
+                self.counts.images += 1;
+                self.counts.refused_images += u64::from(case.opened.is_err());
+                cases.push(case);
+            }
+            let (probe, oracle) = self.ask(&lines);
+            for asked in &asked {
+                if !self.over() {
+                    self.hold_table(&cases[asked.case], asked, &probe, &oracle);
+                }
+            }
+            if self.over() {
+                return;
+            }
+        }
+    }
+
+    fn hold_table(&mut self, case: &Case, asked: &Asked, probe: &[String], oracle: &[String]) {
+        match trouble(case, asked, probe, oracle) {
+            Ok(verdict) => self.count(&asked.call, &verdict),
+            Err((what, expected)) => {
+                let mut lines = image_lines(&case.image);
+                lines.push(format!("lend {} {}", asked.words, asked.bytes));
+                let (ours, theirs) = (&probe[asked.probe], &oracle[asked.oracle]);
+                self.fault(&what, &lines, &asked.call.line(), theirs, ours, &expected);
+            }
+        }
+    }
+
+    pub fn finish(self) -> Counts {
+        self.probe.finish();
+        self.oracle.finish();
+        let _ = fs::remove_dir_all(&self.place);
+        self.counts
+    }
+}
+
+/// Whether the original accepts, asked as 01 would have it, and Counter too.
+fn both_accept(asked: &Asked, probe: &[String], oracle: &[String]) -> bool {
+    let theirs = &oracle[asked.twin.unwrap_or(asked.oracle)];
+    probe[asked.probe].starts_with("ok") && theirs.starts_with("ok")
+}
+
+/// The verdict, if the answers to a call are as they have to be; otherwise what is wrong, and what
+/// Counter has to answer.
+fn trouble(
+    case: &Case,
+    asked: &Asked,
+    probe: &[String],
+    oracle: &[String],
+) -> Result<Verdict, (String, String)> {
+    let opened = case.opened_with(asked.words);
+    let (words, bytes) = (asked.words, asked.bytes);
+    let given = Given { image: &case.image, opened: &opened, call: &asked.call, words, bytes };
+    let twin = asked.twin.map(|at| oracle[at].as_str());
+    let verdict = judge(&given, &oracle[asked.oracle], twin)
+        .map_err(|what| (format!("on no list: {what}"), String::new()))?;
+    let wrong = |what: &str| Err((what.to_string(), verdict.expected.clone()));
+    if verdict.expected != probe[asked.probe] {
+        return wrong("Counter's answer");
+    }
+    if both_accept(asked, probe, oracle) {
+        if asked.hashes.is_some_and(|(ours, _, theirs)| probe[ours] != oracle[theirs]) {
+            return wrong("the image afterwards");
+        }
+        if asked.listing.is_some_and(|(ours, theirs)| probe[ours] != oracle[theirs]) {
+            return wrong("the listing afterwards");
+        }
+    }
+    Ok(verdict)
+}
+
+/// Commands that make an image.
+fn image_lines(image: &[u8]) -> Vec<String> {
+    let mut lines = vec!["size 0".to_string(), format!("size {}", image.len())];
+    let mut at = 0;
+    while at < image.len() {
+        if image[at] == 0 {
+            at += 1;
+            continue;
+        }
+        let mut end = at;
+        while end < image.len() && image[end..(end + 8).min(image.len())].iter().any(|b| *b != 0) {
+            end += 1;
+        }
+        lines.push(format!("patch {at:#x} {}", hex(&image[at..end])));
+        at = end;
+    }
+    lines
+}
+
+fn cut(text: &str) -> String {
+    if text.len() <= 3000 { text.into() } else { format!("{} ...", &text[..3000]) }
+}
+
+/// Two names take turns: an edit's result is saved beside what it was made from.
+fn other(name: &str) -> String {
+    let (stem, turn) = name.split_at(name.len() - 1);
+    format!("{stem}{}", if turn == "a" { "b" } else { "a" })
+}
+
+/// An edit of an image that 01 refuses; it has no tree to be made up from.
+fn edit_of_refused(r: &mut Random, inserts: bool) -> Call {
+    match r.below(if inserts { 6 } else { 3 }) {
+        0 => Call::Move(r.below(4) as u32, r.below(0x1000) as u32),
+        1 => Call::Resize(r.below(4) as u32, r.below(0x200) as u32),
+        2 => Call::Rewrite,
+        3 => Call::InsertFile(r.below(4) as u32, b"n".to_vec()),
+        4 => Call::InsertDirectory(r.below(4) as u32, b"n".to_vec()),
+        _ => Call::MakeDirectories(r.below(4) as u32, b"n/m".to_vec()),
+    }
+}
+
+fn ask_look(lines: &mut Batch, i: usize, case: &mut Case, call: Call) -> Asked {
+    let (words, bytes) = case.lend(&call);
+    ask_look_with(lines, i, call, words, bytes)
+}
+
+fn ask_look_with(lines: &mut Batch, case: usize, call: Call, words: usize, bytes: usize) -> Asked {
+    lines.probe(format!("lend {words} {bytes}"));
+    let probe = lines.probe(call.line());
+    // An edit of an image that 01 refuses is held to opening.
+    let oracle = lines.oracle(if call.edits() { "open".into() } else { call.line() });
+    let twin = if call.edits() { None } else { call.twin() }.map(|twin| lines.oracle(twin));
+    Asked { case, call, words, bytes, probe, oracle, twin, hashes: None, peek: 0, listing: None }
+}
+
+fn ask_edit(lines: &mut Batch, i: usize, case: &mut Case, call: Call) -> Asked {
+    let (words, bytes) = case.lend(&call);
+    ask_edit_with(lines, i, case, call, words, bytes)
+}
+
+fn ask_edit_with(
+    lines: &mut Batch,
+    i: usize,
+    case: &mut Case,
+    call: Call,
+    words: usize,
+    bytes: usize,
+) -> Asked {
+    let (from, to) = (&case.name, other(&case.name));
+    lines.probe(format!("load {from}"));
+    lines.probe(format!("lend {words} {bytes}"));
+    let probe = lines.probe(call.line());
+    let ours = lines.probe("hash".into());
+    lines.probe(format!("save {to}"));
+    // What the next edits are made up from: header and table.
+    let end = case.opened.as_ref().map_or(0, |tree| tree.table_end() as usize) + 0x4000;
+    let peek = lines.probe(format!("peek 0 {}", end.min(case.image.len())));
+    let begin = |lines: &mut Batch| {
+        lines.oracle(format!("load {from}"));
+        if case.odd == Some(Class::NameWithoutZero) {
+            lines.oracle(without_name());
+        }
+    };
+    begin(lines);
+    let oracle = lines.oracle(call.line());
+    let twin = call.twin().map(|twin| {
+        begin(lines);
+        lines.oracle(twin)
+    });
+    let listing = if case.r.chance(40) {
+        let words = case.opened.as_ref().map_or(0, |tree| 4 * tree.entries.len()) + 0x1000;
+        lines.probe(format!("lend {words} 0"));
+        Some((lines.probe("listing".into()), lines.oracle("listing".into())))
+    } else {
+        None
+    };
+    let mut theirs = lines.oracle("hash".into());
+    let mut repaired = theirs;
+    if case.odd.is_some() {
+        lines.oracle(format!("patch 0x20 {}", hex(&case.image[0x20..0x400])));
+        repaired = lines.oracle("hash".into());
+        if case.odd == Some(Class::NameWithoutZero) {
+            theirs = repaired;
+        }
+    }
+    lines.oracle(format!("save {to}"));
+    let hashes = Some((ours, theirs, repaired));
+    Asked { case: i, call, words, bytes, probe, oracle, twin, hashes, peek, listing }
+}

@@ -1,0 +1,346 @@
+//! Inputs that are not made up at random: every small table, every number on a small image, and
+//! the limits.
+
+use crate::calls::Call;
+use crate::masters::{chain, crowd};
+use crate::paper::{GAMECUBE, set_word};
+use crate::run::Run;
+
+/// Memory that is enough for any image.
+const WORDS: usize = 65_544;
+const BYTES: usize = 2_097_152;
+
+/// Document 01's small master, with bytes in place of zeros behind the table.
+fn small_master() -> Vec<u8> {
+    let mut image = vec![0; 0x2000];
+    for (i, byte) in image.iter_mut().enumerate().skip(0x45a) {
+        *byte = (i % 251) as u8 + 1;
+    }
+    set_word(&mut image, 0x1c, GAMECUBE);
+    set_word(&mut image, 0x424, 0x440);
+    set_word(&mut image, 0x428, 0x1a);
+    set_word(&mut image, 0x434, 0x2000);
+    let table = [0x0100_0000, 0, 2, 0, 0x500, 0x100];
+    for (i, word) in table.into_iter().enumerate() {
+        set_word(&mut image, 0x440 + 4 * i, word);
+    }
+    image[0x458..0x45a].copy_from_slice(b"a\0");
+    image
+}
+
+/// `/a/b`, `/a/a/`, `/ab`, `/b/`, with names shared in one text; the table abuts on the file `/ab`.
+fn nested_master() -> Vec<u8> {
+    let mut image = small_master();
+    let table = [
+        [0x0100_0000, 0, 6],
+        [0x0100_0004, 0, 4],
+        [0x0000_0001, 0x700, 0x10],
+        [0x0100_0004, 1, 4],
+        [0x0000_0000, 0x48e, 0x20],
+        [0x0100_0001, 0, 6],
+    ];
+    for (i, word) in table.as_flattened().iter().enumerate() {
+        set_word(&mut image, 0x440 + 4 * i, *word);
+    }
+    image[0x488..0x48e].copy_from_slice(b"ab\0\0a\0");
+    set_word(&mut image, 0x428, 0x4e);
+    image
+}
+
+fn all_texts(alphabet: &[u8], length: usize) -> Vec<Vec<u8>> {
+    let mut all = vec![vec![]];
+    let mut last = all.clone();
+    for _ in 0..length {
+        last = last
+            .iter()
+            .flat_map(|text| alphabet.iter().map(move |b| [&text[..], &[*b]].concat()))
+            .collect();
+        all.extend(last.clone());
+    }
+    all
+}
+
+/// Every number in reach on a small image, and every short path.
+pub fn numbers(run: &mut Run) {
+    let with = |calls: Vec<Call>| -> Vec<(Call, usize, usize)> {
+        calls.into_iter().map(|call| (call, 64, 0x400)).collect()
+    };
+    let mut calls = vec![Call::Header, Call::Listing, Call::List, Call::Rewrite];
+    for number in 0..0x2010 {
+        calls.push(Call::Move(1, number));
+        calls.push(Call::Resize(1, number));
+        calls.push(Call::MaxRegion(number, number % 7));
+        calls.push(Call::Alloc(number, 1 << (number % 16)));
+    }
+    for offset in [0, 0x440, 0x459, 0x45a, 0x45b, 0x4ff, 0x500, 0x501, 0x5ff, 0x600, 0x601, 0x1fff]
+    {
+        for size in 0..0x2010 {
+            calls.push(Call::MaxRegion(offset, size));
+        }
+    }
+    for align in 0..0x420 {
+        for size in [0, 1, 0xa5, 0xa6, 0xa7, 0x19ff, 0x1a00, 0x1a01] {
+            calls.push(Call::Alloc(size, align));
+        }
+    }
+    run.each(small_master(), &with(calls));
+
+    let mut calls = vec![Call::Header, Call::Listing, Call::List, Call::Rewrite];
+    for path in all_texts(b"ab./\\:\x01", 4) {
+        for start in [0, 1, 2] {
+            calls.push(Call::Lookup(start, path.clone()));
+            if run.inserts {
+                calls.push(Call::MakeDirectories(start, path.clone()));
+            }
+        }
+    }
+    if run.inserts {
+        let bytes: Vec<u8> = (0..=255).collect();
+        for name in all_texts(&bytes, 1).into_iter().chain(all_texts(b"ab./:\0\x7f", 3)) {
+            calls.push(Call::InsertFile(0, name.clone()));
+            calls.push(Call::InsertDirectory(1, name));
+        }
+    }
+    // The table may not grow here, and may there.
+    run.each(nested_master(), &with(calls.clone()));
+    let mut roomy = nested_master();
+    set_word(&mut roomy, 0x440 + 12 * 4 + 4, 0x600);
+    run.each(roomy, &with(calls));
+    let mut calls = vec![];
+    for number in 0..0x900 {
+        calls.push(Call::Move(2, number));
+        calls.push(Call::Resize(2, number));
+        calls.push(Call::Move(4, number));
+        calls.push(Call::Resize(4, number));
+    }
+    run.each(nested_master(), &with(calls));
+}
+
+/// Every table of up to four records over a few names, kinds and nexts, with every count up to
+/// five.
+pub fn tables(run: &mut Run) {
+    let base = small_master();
+    let texts = b"a\0b\0.\0\x1f\0";
+    // Names `a`, `b`, an empty one, `.`, one with a byte 0x1F, one at the texts' end.
+    let names = [0, 2, 1, 4, 6, 8];
+    let mut records = vec![];
+    for name in names {
+        for size in [0, 0x10] {
+            records.push((0u32, name, size));
+        }
+        for next in 0..6 {
+            records.push((1, name, next));
+        }
+        records.push((2, name, 0));
+    }
+    for length in 1..=4u32 {
+        let mut tables = vec![];
+        let kinds = records.len().pow(length - 1);
+        for count in 0..6 {
+            for mut number in 0..kinds {
+                let mut table = vec![0; 0x18 + 12 * length as usize];
+                table[..0x18].copy_from_slice(&base[0x428..0x440]);
+                let size = 12 * length + texts.len() as u32;
+                set_word(&mut table, 0, size);
+                let (root, rest) = table[0x18..].split_at_mut(12);
+                set_word(root, 0, 1 << 24);
+                set_word(root, 8, count);
+                for (i, record) in rest.chunks_mut(12).enumerate() {
+                    let (kind, name, value) = records[number % records.len()];
+                    number /= records.len();
+                    set_word(record, 0, kind << 24 | name);
+                    let place = if kind == 0 && value > 0 { 0x500 + 0x10 * i as u32 } else { 0 };
+                    set_word(record, 4, place);
+                    set_word(record, 8, value);
+                }
+                table.extend(texts);
+                tables.push(table);
+            }
+        }
+        run.tables(&base, &tables);
+        if run.over() {
+            return;
+        }
+    }
+    // The root's own record, and tables too short for it.
+    let mut tables = vec![];
+    for kind in 0..4 {
+        for size in 0..30 {
+            let mut table = base[0x428..0x45a].to_vec();
+            set_word(&mut table, 0, size);
+            set_word(&mut table, 0x18, kind << 24);
+            tables.push(table);
+        }
+    }
+    run.tables(&base, &tables);
+}
+
+/// Calls at the limits of 01: entries, texts, depth, memory.
+pub fn limits(run: &mut Run) {
+    let looks = [Call::Open, Call::Free, Call::Used, Call::Total, Call::Lookup(0, b"..".to_vec())];
+    let edits = |run: &Run| {
+        let mut edits = vec![Call::Rewrite];
+        if run.inserts {
+            edits.push(Call::InsertFile(0, b"x".to_vec()));
+            edits.push(Call::InsertDirectory(0, b"x".to_vec()));
+            edits.push(Call::MakeDirectories(0, b"x/y".to_vec()));
+            edits.push(Call::MakeDirectories(0, b"".to_vec()));
+        }
+        edits
+    };
+    for depth in 60..=67 {
+        for with_file in [false, true] {
+            let mut calls = looks.to_vec();
+            calls.push(Call::Listing);
+            calls.extend(edits(run));
+            let deep = [b"a".to_vec(), b"/a".repeat(depth.min(63))].concat();
+            calls.push(Call::Lookup(0, deep.clone()));
+            if with_file {
+                calls.push(Call::Move(depth as u32 + 1, 0x1900));
+                calls.push(Call::Resize(depth as u32 + 1, 0x20));
+            }
+            if run.inserts {
+                calls.push(Call::InsertFile(depth as u32, b"z".to_vec()));
+                calls.push(Call::InsertDirectory(depth as u32, b"z".to_vec()));
+                calls.push(Call::InsertDirectory(depth as u32 - 1, b"z".to_vec()));
+                for more in 0..4 {
+                    let path = [&b"z/"[..], &b"y/".repeat(more)].concat();
+                    calls.push(Call::MakeDirectories(depth as u32 - 1, path));
+                }
+            }
+            let calls: Vec<_> = calls.into_iter().map(|call| (call, WORDS, BYTES)).collect();
+            run.each(chain(depth, with_file), &calls);
+        }
+    }
+    // Entries and texts: count, length of the one name, length of the texts, room behind.
+    let crowds = [
+        (16_383, 1, 2, 0x40_000),
+        (16_384, 1, 2, 0x40_000),
+        (16_385, 1, 2, 0x40_000),
+        (16_384, 63, 64, 0x120_000), // written anew: texts of 16,383 x 64 bytes, just below the limit
+        (16_384, 64, 65, 0x120_000), // past it
+        (2, 5, 1_048_575, 0x100),
+        (2, 5, 1_048_576, 0x100),
+        (2, 5, 1_048_577, 0x100),
+        (3, 1_048_574, 1_048_575, 0x20_0000),
+        (2, 1_048_575, 1_048_576, 0x100),
+        (2, 1_048_574, 1_048_576, 0x100),
+    ];
+    for (count, length, texts, room) in crowds {
+        let mut calls = looks.to_vec();
+        calls.extend(edits(run));
+        calls.push(Call::Entry(count as u32 - 1));
+        calls.push(Call::Entry(count as u32));
+        calls.push(Call::Resize(1, 0x10));
+        calls.push(Call::Move(1, 7));
+        let mut with: Vec<_> = calls.iter().map(|call| (call.clone(), WORDS, BYTES)).collect();
+        with.extend(calls.iter().map(|call| (call.clone(), 4 * (count + 2), 12 * count + texts)));
+        with.push((Call::Open, 4 * (count + 2) - 1, 0));
+        run.each(crowd(count, length, texts, room), &with);
+    }
+}
+
+/// All trees of up to four entries over two names: kinds, nesting and names, each entry a
+/// directory, an empty file or one of 0x10 bytes.
+fn small_trees() -> Vec<Vec<(bool, u8, u32)>> {
+    let mut trees: Vec<Vec<(bool, u8, u32)>> = vec![vec![]];
+    let mut all = trees.clone();
+    for _ in 0..3 {
+        let mut longer = vec![];
+        for tree in &trees {
+            for name in [0, 2] {
+                for size in [0, 0x10] {
+                    longer.push([&tree[..], &[(false, name, size)]].concat());
+                }
+                for next in 1..=4 {
+                    longer.push([&tree[..], &[(true, name, next)]].concat());
+                }
+            }
+        }
+        all.extend(longer.clone());
+        trees = longer;
+    }
+    all
+}
+
+/// The image of a small tree; its files begin `gap` bytes behind the table. Names are shared.
+fn small_image(tree: &[(bool, u8, u32)], gap: u32) -> Vec<u8> {
+    let mut image = small_master();
+    let size = 12 * (tree.len() as u32 + 1) + 4;
+    set_word(&mut image, 0x428, size);
+    set_word(&mut image, 0x448, tree.len() as u32 + 1);
+    let mut place = 0x440 + size + gap;
+    for (i, (directory, name, value)) in tree.iter().enumerate() {
+        let at = 0x44c + 12 * i;
+        set_word(&mut image, at, u32::from(*directory) << 24 | u32::from(*name));
+        set_word(&mut image, at + 4, if *directory { 0 } else { place });
+        set_word(&mut image, at + 8, *value);
+        if !directory {
+            place += value;
+        }
+    }
+    let texts = 0x440 + size as usize - 4;
+    image[texts..texts + 4].copy_from_slice(b"a\0b\0");
+    image
+}
+
+/// Every small tree, with little room behind its table and much, and on each the edits that its
+/// entries allow or just do not allow.
+pub fn trees(run: &mut Run) {
+    let names: [&[u8]; 7] = [b"a", b"b", b"x", b"", b":", b"\x01", b"x\x01"];
+    let paths: [&[u8]; 14] = [
+        b"",
+        b"a",
+        b"b",
+        b"x",
+        b"..",
+        b"a/",
+        b"a/b",
+        b"a/../b",
+        b"x/y",
+        b"x/../x/y",
+        b"a/x/../b/x",
+        b"a/a/a",
+        b"x/:",
+        b"\x01/x",
+    ];
+    for tree in small_trees() {
+        let count = tree.len() as u32 + 1;
+        for gap in [0, 1, 2, 13, 14, 15, 28, 0x80] {
+            let image = small_image(&tree, gap);
+            if crate::paper::open(&image, usize::MAX).is_err() {
+                break;
+            }
+            let table_end = 0x440 + 12 * count + 4;
+            let mut calls = vec![Call::Listing, Call::Rewrite];
+            for entry in 0..=count {
+                for path in paths {
+                    calls.push(Call::Lookup(entry, path.to_vec()));
+                }
+                for place in [0, table_end - 1, table_end, table_end + gap, 0x600, u32::MAX] {
+                    calls.push(Call::Move(entry, place));
+                }
+                for by in 0..=2 * count {
+                    calls.push(Call::Move(entry, table_end + by));
+                }
+                for size in [0, 1, 0x0f, 0x10, 0x11, 0x20, 0x1c00, u32::MAX] {
+                    calls.push(Call::Resize(entry, size));
+                }
+                if run.inserts {
+                    for name in names {
+                        calls.push(Call::InsertFile(entry, name.to_vec()));
+                        calls.push(Call::InsertDirectory(entry, name.to_vec()));
+                    }
+                    for path in paths {
+                        calls.push(Call::MakeDirectories(entry, path.to_vec()));
+                    }
+                }
+            }
+            let calls: Vec<_> = calls.into_iter().map(|call| (call, 64, 0x100)).collect();
+            run.each(image, &calls);
+            if run.over() {
+                return;
+            }
+        }
+    }
+}
