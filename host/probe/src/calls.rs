@@ -1,0 +1,530 @@
+//! The calls, each with everything it is lent between margins, and what it promises of them held
+//! to afterwards: working memory zero; the image as it was, unless an edit was accepted; result
+//! slots past the answer, and on a refusal all of them, as they were.
+
+use crate::guarded::{Element, Guarded};
+use crate::language::{Answer, Stop};
+pub use counter_sys::ENTRY_WORDS;
+use counter_sys::{DOL_WORDS, HEADER_SIZE, ffi};
+
+/// Slots lent beyond what an answer takes.
+const SPARE: usize = 3;
+
+pub struct Lender {
+    pub image: Guarded<u8>,
+    before: Vec<u8>,
+    words: Guarded<u32>,
+    bytes: Guarded<u8>,
+}
+
+/// What a call does with the image.
+#[derive(Clone, Copy, PartialEq)]
+enum Does {
+    Look,
+    Edit,
+}
+
+fn hold(fact: bool, what: &'static str) -> Answer<()> {
+    if fact { Ok(()) } else { Err(Stop::Dirty(what)) }
+}
+
+/// The first `N` slots of an accepted answer.
+fn slots<T: Element, const N: usize>(lent: &Guarded<T>) -> [T; N] {
+    lent.slice()[..N].try_into().unwrap()
+}
+
+impl Lender {
+    pub fn new() -> Self {
+        Self {
+            image: Guarded::new(0),
+            before: vec![],
+            words: Guarded::new(65_544),
+            bytes: Guarded::new(2_097_152),
+        }
+    }
+
+    pub fn lend(&mut self, words: usize, bytes: usize) {
+        self.words = Guarded::new(words);
+        self.bytes = Guarded::new(bytes);
+    }
+
+    /// One call on the image with `results` lent; `used` of them are the answer.
+    fn call<T: Element>(
+        &mut self,
+        does: Does,
+        results: &mut Guarded<T>,
+        used: usize,
+        run: impl FnOnce(&mut Self, &mut Guarded<T>) -> u32,
+    ) -> Answer<()> {
+        self.words.mark();
+        if does == Does::Edit {
+            self.bytes.mark();
+        }
+        self.before.clear();
+        self.before.extend_from_slice(self.image.slice());
+        let cause = run(self, results);
+        hold(self.words.is_zero(), "words")?;
+        hold(self.words.margins_stay(), "beside words")?;
+        if does == Does::Edit {
+            hold(self.bytes.is_zero(), "bytes")?;
+        }
+        hold(self.bytes.margins_stay(), "beside bytes")?;
+        hold(self.image.margins_stay(), "beside image")?;
+        if does == Does::Look || cause != 0 {
+            hold(self.image.slice() == &self.before[..], "image")?;
+        }
+        hold(results.stays_from(if cause == 0 { used } else { 0 }), "answer")?;
+        if cause == 0 { Ok(()) } else { Err(Stop::Refused(cause)) }
+    }
+
+    /// A reading call with `N` slots for its answer.
+    fn look<const N: usize>(
+        &mut self,
+        run: impl FnOnce(&[u8], &mut [u32], &mut [u32]) -> u32,
+    ) -> Answer<[u32; N]> {
+        let mut answer = Guarded::new(N + SPARE);
+        self.call(Does::Look, &mut answer, N, |lender, answer| {
+            run(lender.image.slice(), lender.words.slice_mut(), answer.slice_mut())
+        })?;
+        Ok(slots(&answer))
+    }
+
+    /// An edit with `N` slots for its answer.
+    fn edit<const N: usize>(
+        &mut self,
+        run: impl FnOnce(&mut [u8], &mut [u32], &mut [u8], &mut [u32]) -> u32,
+    ) -> Answer<[u32; N]> {
+        let mut answer = Guarded::new(N + SPARE);
+        self.call(Does::Edit, &mut answer, N, |lender, answer| {
+            let (words, bytes) = (lender.words.slice_mut(), lender.bytes.slice_mut());
+            run(lender.image.slice_mut(), words, bytes, answer.slice_mut())
+        })?;
+        Ok(slots(&answer))
+    }
+
+    // Reading -------------------------------------------------------------------------------
+
+    pub fn header(&mut self) -> Answer<[u8; HEADER_SIZE]> {
+        let mut fields = Guarded::<u8>::new(HEADER_SIZE + SPARE);
+        self.before.clear();
+        self.before.extend_from_slice(self.image.slice());
+        let (image, lent) = (self.image.slice(), fields.slice_mut());
+        let cause = unsafe {
+            ffi::counter_header(image.as_ptr(), image.len(), lent.as_mut_ptr(), lent.len())
+        };
+        hold(self.image.margins_stay() && self.image.slice() == &self.before[..], "image")?;
+        hold(fields.stays_from(if cause == 0 { HEADER_SIZE } else { 0 }), "fields")?;
+        if cause == 0 { Ok(slots(&fields)) } else { Err(Stop::Refused(cause)) }
+    }
+
+    /// FST offset and size, which are the header's; disc end; entries; used total.
+    pub fn open(&mut self) -> Answer<[u32; 5]> {
+        let opened: [u32; 5] = self.look(|image, words, answer| unsafe {
+            ffi::counter_open(
+                image.as_ptr(),
+                image.len(),
+                words.as_mut_ptr(),
+                words.len(),
+                answer.as_mut_ptr(),
+                answer.len(),
+            )
+        })?;
+        hold(opened[..2] == [self.word(0x424), self.word(0x428)], "open: not the header's FST")?;
+        Ok(opened)
+    }
+
+    fn word(&self, at: usize) -> u32 {
+        u32::from_be_bytes(self.image.slice()[at..at + 4].try_into().unwrap())
+    }
+
+    pub fn totals(&mut self) -> Answer<[u32; 2]> {
+        self.look(|image, words, answer| unsafe {
+            ffi::counter_totals(
+                image.as_ptr(),
+                image.len(),
+                words.as_mut_ptr(),
+                words.len(),
+                answer.as_mut_ptr(),
+                answer.len(),
+            )
+        })
+    }
+
+    pub fn entry(&mut self, number: u32) -> Answer<[u32; 4]> {
+        self.look(|image, words, answer| unsafe {
+            ffi::counter_entry(
+                image.as_ptr(),
+                image.len(),
+                words.as_mut_ptr(),
+                words.len(),
+                number,
+                answer.as_mut_ptr(),
+                answer.len(),
+            )
+        })
+    }
+
+    /// The number of the entry found; the rest of the answer is what `entry` says of it.
+    pub fn lookup(&mut self, start: u32, path: &[u8]) -> Answer<u32> {
+        let path = Guarded::of(path);
+        let lent = path.slice();
+        let found: [u32; 4] = self.look(|image, words, answer| unsafe {
+            ffi::counter_lookup(
+                image.as_ptr(),
+                image.len(),
+                words.as_mut_ptr(),
+                words.len(),
+                start,
+                lent.as_ptr(),
+                lent.len(),
+                answer.as_mut_ptr(),
+                answer.len(),
+            )
+        })?;
+        hold(path.margins_stay(), "beside path")?;
+        hold(self.entry(found[0])? == found, "lookup: not as entry")?;
+        Ok(found[0])
+    }
+
+    /// One call that fills a list of `len` words, `used` of them if it is accepted.
+    fn filled<const N: usize>(
+        &mut self,
+        len: usize,
+        used: impl FnOnce(&[u32; N]) -> usize,
+        run: impl FnOnce(&[u8], &mut [u32], &mut [u32], &mut [u32]) -> u32,
+    ) -> Answer<(Vec<u32>, [u32; N])> {
+        let mut list = Guarded::new(len);
+        let lent = &mut list;
+        let result = self.look(|image, words, answer| run(image, words, lent.slice_mut(), answer));
+        match result {
+            Ok(answer) => {
+                let used = used(&answer);
+                hold(used <= len && list.stays_from(used), "list")?;
+                Ok((list.slice()[..used].to_vec(), answer))
+            }
+            Err(stop) => {
+                hold(list.stays_from(0), "list")?;
+                Err(stop)
+            }
+        }
+    }
+
+    fn fill_entries(&mut self, len: usize) -> Answer<(Vec<u32>, [u32; 5])> {
+        let used = |answer: &[u32; 5]| ENTRY_WORDS * answer[3] as usize;
+        self.filled(len, used, |image, words, list, answer| unsafe {
+            ffi::counter_entries(
+                image.as_ptr(),
+                image.len(),
+                words.as_mut_ptr(),
+                words.len(),
+                list.as_mut_ptr(),
+                list.len(),
+                answer.as_mut_ptr(),
+                answer.len(),
+            )
+        })
+    }
+
+    fn fill_free_regions(&mut self, len: usize) -> Answer<(Vec<u32>, [u32; 1])> {
+        let used = |answer: &[u32; 1]| 2 * answer[0] as usize;
+        self.filled(len, used, |image, words, list, answer| unsafe {
+            ffi::counter_free_regions(
+                image.as_ptr(),
+                image.len(),
+                words.as_mut_ptr(),
+                words.len(),
+                list.as_mut_ptr(),
+                list.len(),
+                answer.as_mut_ptr(),
+                answer.len(),
+            )
+        })
+    }
+
+    /// Entries of the image, or some number if it does not open.
+    fn entry_count(&mut self) -> Answer<usize> {
+        match self.open() {
+            Ok(opened) => Ok(opened[3] as usize),
+            Err(Stop::Refused(_)) => Ok(1),
+            Err(stop) => Err(stop),
+        }
+    }
+
+    /// The list in a longer one than it needs; and it fits one of its length and no shorter one.
+    pub fn entries(&mut self) -> Answer<Vec<u32>> {
+        let count = self.entry_count()?;
+        let (list, answer) = self.fill_entries(ENTRY_WORDS * count + SPARE)?;
+        hold(answer == self.open()?, "entries: not as open")?;
+        hold(self.fill_entries(list.len())?.0 == list, "entries: exact list")?;
+        let short = self.fill_entries(list.len() - 1);
+        hold(matches!(short, Err(Stop::Refused(9))), "entries: short list")?;
+        Ok(list)
+    }
+
+    pub fn free_regions(&mut self) -> Answer<Vec<u32>> {
+        let count = self.entry_count()?;
+        let (list, _) = self.fill_free_regions(2 * (count + 1) + SPARE)?;
+        hold(self.fill_free_regions(list.len())?.0 == list, "free regions: exact list")?;
+        if !list.is_empty() {
+            let short = self.fill_free_regions(list.len() - 1);
+            hold(matches!(short, Err(Stop::Refused(9))), "free regions: short list")?;
+        }
+        Ok(list)
+    }
+
+    pub fn max_region_size(&mut self, offset: u32, size: u32) -> Answer<u32> {
+        let [most] = self.look(|image, words, answer| unsafe {
+            ffi::counter_max_region_size(
+                image.as_ptr(),
+                image.len(),
+                words.as_mut_ptr(),
+                words.len(),
+                offset,
+                size,
+                answer.as_mut_ptr(),
+                answer.len(),
+            )
+        })?;
+        Ok(most)
+    }
+
+    pub fn max_file_size(&mut self, number: u32) -> Answer<u32> {
+        let [most] = self.look(|image, words, answer| unsafe {
+            ffi::counter_max_file_size(
+                image.as_ptr(),
+                image.len(),
+                words.as_mut_ptr(),
+                words.len(),
+                number,
+                answer.as_mut_ptr(),
+                answer.len(),
+            )
+        })?;
+        Ok(most)
+    }
+
+    pub fn allocate(&mut self, size: u32, align: u32) -> Answer<[u32; 2]> {
+        self.look(|image, words, answer| unsafe {
+            ffi::counter_allocate(
+                image.as_ptr(),
+                image.len(),
+                words.as_mut_ptr(),
+                words.len(),
+                size,
+                align,
+                answer.as_mut_ptr(),
+                answer.len(),
+            )
+        })
+    }
+
+    pub fn open_file(&mut self, number: u32) -> Answer<[u64; 3]> {
+        let mut window = Guarded::new(3 + SPARE);
+        self.call(Does::Look, &mut window, 3, |lender, window| {
+            let (image, words) = (lender.image.slice(), lender.words.slice_mut());
+            let window = window.slice_mut();
+            unsafe {
+                ffi::counter_open_file(
+                    image.as_ptr(),
+                    image.len(),
+                    words.as_mut_ptr(),
+                    words.len(),
+                    number,
+                    window.as_mut_ptr(),
+                    window.len(),
+                )
+            }
+        })?;
+        Ok(slots(&window))
+    }
+
+    /// The header's words, which are those of the image at the DOL offset, and the window.
+    pub fn open_dol(&mut self) -> Answer<([u32; DOL_WORDS], [u64; 3])> {
+        let mut header = Guarded::new(DOL_WORDS + SPARE);
+        let mut window = Guarded::new(3 + SPARE);
+        let lent = &mut header;
+        let result = self.call(Does::Look, &mut window, 3, |lender, window| {
+            let (image, words) = (lender.image.slice(), lender.words.slice_mut());
+            let (header, window) = (lent.slice_mut(), window.slice_mut());
+            unsafe {
+                ffi::counter_open_dol(
+                    image.as_ptr(),
+                    image.len(),
+                    words.as_mut_ptr(),
+                    words.len(),
+                    header.as_mut_ptr(),
+                    header.len(),
+                    window.as_mut_ptr(),
+                    window.len(),
+                )
+            }
+        });
+        hold(header.stays_from(if result.is_ok() { DOL_WORDS } else { 0 }), "DOL header")?;
+        result?;
+        let header: [u32; DOL_WORDS] = slots(&header);
+        let window: [u64; 3] = slots(&window);
+        let at = self.word(0x420) as usize;
+        let same = (0..DOL_WORDS).all(|i| header[i] == self.word(at + 4 * i));
+        hold(same, "DOL header: not the image's")?;
+        hold(window[0] == at as u64 && window[2] == 0, "DOL window")?;
+        Ok((header, window))
+    }
+
+    // Windows -------------------------------------------------------------------------------
+
+    /// A seek of `window`: 0 or the cause; a refused one leaves the window as it was.
+    pub fn seek(window: &mut [u64; 3], run: impl FnOnce(*mut u64, usize) -> u32) -> Answer<u32> {
+        let mut lent = Guarded::of(window);
+        let slice = lent.slice_mut();
+        let cause = run(slice.as_mut_ptr(), slice.len());
+        hold(lent.margins_stay(), "beside window")?;
+        let moved: [u64; 3] = slots(&lent);
+        hold(moved[..2] == window[..2] && (cause == 0 || moved == *window), "window")?;
+        *window = moved;
+        Ok(cause)
+    }
+
+    /// A read of `window` into `len` bytes of 0xAA: how many were read, and the bytes.
+    pub fn read(&mut self, window: &mut [u64; 3], len: usize) -> Answer<(u64, Vec<u8>)> {
+        let mut lent = Guarded::of(window);
+        let mut buf = Guarded::of(&vec![0xaa; len]);
+        let mut answer = Guarded::<u64>::new(1 + SPARE);
+        let image = self.image.slice();
+        let (window_lent, buf_lent) = (lent.slice_mut(), buf.slice_mut());
+        let answer_lent = answer.slice_mut();
+        let cause = unsafe {
+            ffi::counter_read(
+                window_lent.as_mut_ptr(),
+                window_lent.len(),
+                image.as_ptr(),
+                image.len(),
+                buf_lent.as_mut_ptr(),
+                buf_lent.len(),
+                answer_lent.as_mut_ptr(),
+                answer_lent.len(),
+            )
+        };
+        hold(lent.margins_stay(), "beside window")?;
+        hold(buf.margins_stay(), "beside buffer")?;
+        hold(answer.stays_from(if cause == 0 { 1 } else { 0 }), "answer")?;
+        if cause != 0 {
+            return Err(Stop::Refused(cause));
+        }
+        let moved: [u64; 3] = slots(&lent);
+        let [count] = slots(&answer);
+        hold(moved == [window[0], window[1], window[2].wrapping_add(count)], "window")?;
+        *window = moved;
+        Ok((count, buf.slice().to_vec()))
+    }
+
+    // Edits ---------------------------------------------------------------------------------
+
+    pub fn insert_file(&mut self, parent: u32, name: &[u8]) -> Answer<u32> {
+        let name = Guarded::of(name);
+        let name = name.slice();
+        let [number] = self.edit(|image, words, bytes, answer| unsafe {
+            ffi::counter_insert_file(
+                image.as_mut_ptr(),
+                image.len(),
+                words.as_mut_ptr(),
+                words.len(),
+                bytes.as_mut_ptr(),
+                bytes.len(),
+                parent,
+                name.as_ptr(),
+                name.len(),
+                answer.as_mut_ptr(),
+                answer.len(),
+            )
+        })?;
+        Ok(number)
+    }
+
+    pub fn insert_directory(&mut self, parent: u32, name: &[u8]) -> Answer<u32> {
+        let name = Guarded::of(name);
+        let name = name.slice();
+        let [number] = self.edit(|image, words, bytes, answer| unsafe {
+            ffi::counter_insert_directory(
+                image.as_mut_ptr(),
+                image.len(),
+                words.as_mut_ptr(),
+                words.len(),
+                bytes.as_mut_ptr(),
+                bytes.len(),
+                parent,
+                name.as_ptr(),
+                name.len(),
+                answer.as_mut_ptr(),
+                answer.len(),
+            )
+        })?;
+        Ok(number)
+    }
+
+    pub fn make_directories(&mut self, start: u32, path: &[u8]) -> Answer<u32> {
+        let path = Guarded::of(path);
+        let path = path.slice();
+        let [number] = self.edit(|image, words, bytes, answer| unsafe {
+            ffi::counter_make_directories(
+                image.as_mut_ptr(),
+                image.len(),
+                words.as_mut_ptr(),
+                words.len(),
+                bytes.as_mut_ptr(),
+                bytes.len(),
+                start,
+                path.as_ptr(),
+                path.len(),
+                answer.as_mut_ptr(),
+                answer.len(),
+            )
+        })?;
+        Ok(number)
+    }
+
+    pub fn move_file(&mut self, number: u32, new_offset: u32) -> Answer<()> {
+        let [] = self.edit(|image, words, bytes, _| unsafe {
+            ffi::counter_move_file(
+                image.as_mut_ptr(),
+                image.len(),
+                words.as_mut_ptr(),
+                words.len(),
+                bytes.as_mut_ptr(),
+                bytes.len(),
+                number,
+                new_offset,
+            )
+        })?;
+        Ok(())
+    }
+
+    pub fn resize_file(&mut self, number: u32, new_size: u32) -> Answer<()> {
+        let [] = self.edit(|image, words, bytes, _| unsafe {
+            ffi::counter_resize_file(
+                image.as_mut_ptr(),
+                image.len(),
+                words.as_mut_ptr(),
+                words.len(),
+                bytes.as_mut_ptr(),
+                bytes.len(),
+                number,
+                new_size,
+            )
+        })?;
+        Ok(())
+    }
+
+    pub fn rewrite(&mut self) -> Answer<()> {
+        let [] = self.edit(|image, words, bytes, _| unsafe {
+            ffi::counter_rewrite(
+                image.as_mut_ptr(),
+                image.len(),
+                words.as_mut_ptr(),
+                words.len(),
+                bytes.as_mut_ptr(),
+                bytes.len(),
+            )
+        })?;
+        Ok(())
+    }
+}

@@ -1,0 +1,193 @@
+//! The probe on the scope paper's small master: its listing, P1 to P12, every refusal number once,
+//! lists of edits, and calls with too little memory. `dirty` is never an answer.
+
+use std::io::{Read, Write};
+use std::process::{Command, Stdio};
+use std::thread;
+
+const LISTING: &str = "total 8192 used 1370\nd 0 0 2 /\nf 1 1280 256 /a\nr 1114 166\nr 1536 6656\n";
+
+/// Commands that make the small master.
+const MASTER: [&str; 6] = [
+    "size 0",
+    "size 0x2000",
+    "patch 0x1c c2339f3d",
+    "patch 0x424 000004400000001a",
+    "patch 0x434 00002000",
+    "patch 0x440 0100000000000000000000020000000000000500000001006100",
+];
+
+fn hex(bytes: &[u8]) -> String {
+    bytes.iter().map(|b| format!("{b:02x}")).collect()
+}
+
+/// The probe's answers to `commands`.
+fn answers(commands: &[String]) -> Vec<String> {
+    let mut probe = Command::new(env!("CARGO_BIN_EXE_probe"))
+        .stdin(Stdio::piped())
+        .stdout(Stdio::piped())
+        .spawn()
+        .unwrap();
+    let (mut input, text) = (probe.stdin.take().unwrap(), commands.join("\n") + "\n");
+    let writer = thread::spawn(move || input.write_all(text.as_bytes()).unwrap());
+    let mut output = String::new();
+    probe.stdout.take().unwrap().read_to_string(&mut output).unwrap();
+    writer.join().unwrap();
+    assert!(probe.wait().unwrap().success());
+    let answers: Vec<String> = output.lines().map(String::from).collect();
+    assert_eq!(answers.len(), commands.len());
+    for (command, answer) in commands.iter().zip(&answers) {
+        assert!(
+            !answer.starts_with("dirty") && !answer.starts_with("usage"),
+            "{command}: {answer}"
+        );
+    }
+    answers
+}
+
+/// Each list of commands on a fresh small master; its last answer.
+fn hold(cases: &[(&[&str], &str)]) {
+    let mut commands: Vec<String> = vec![];
+    let mut ends = vec![];
+    for (list, _) in cases {
+        commands.extend(MASTER.iter().chain(*list).map(|line| line.to_string()));
+        ends.push(commands.len() - 1);
+    }
+    let answers = answers(&commands);
+    for (end, (list, expected)) in ends.into_iter().zip(cases) {
+        assert_eq!(answers[end], *expected, "{list:?}");
+    }
+}
+
+#[test]
+fn listing() {
+    let listing = format!("ok {}", hex(LISTING.as_bytes()));
+    hold(&[
+        (&["listing"], &listing),
+        (&["list"], "ok d:0:0:2:1:2f f:1:1280:256:2f61"),
+        (&["free"], "ok 1114:166 1536:6656"),
+        (&["used"], "ok 1370"),
+        (&["total"], "ok 8192"),
+        (&["entry 0"], "ok d:0:0:2"),
+        (&["entry 1"], "ok f:1:1280:256"),
+    ]);
+}
+
+#[test]
+fn p1_to_p12() {
+    hold(&[
+        (&["maxfile 1"], "ok 6912"),
+        (&["alloc 0x100 0x100"], "ok 1536 6656"),
+        (&["alloc 0x1a01 1"], "err 21"),
+        (&["move 1 0x580"], "err 20"),
+        (&["move 1 0x600"], "ok"),
+        (&["move 1 0x600", "free"], "ok 1114:422 1792:6400"),
+        (&["move 1 0x400"], "err 21"),
+        (&["resize 1 0x1b00"], "ok"),
+        (&["resize 1 0x1b00", "list"], "ok d:0:0:2:1:2f f:1:1280:6912:2f61"),
+        (&["resize 1 0x1b01"], "err 21"),
+        (&["lookup 0 -"], "ok 0"),
+        (&["lookup 0 612f"], "err 17"),
+        (&["lookup 0 2e2e"], "err 18"),
+        (&["window 0x500 0x100 c:-1 c:0"], "ok c=err:23 c=0"),
+        (&["filewindow 1 c:-1 c:0"], "ok c=err:23 c=0"),
+    ]);
+}
+
+#[test]
+fn every_refusal() {
+    hold(&[
+        (&["size 0x43f", "open"], "err 1"),
+        (&["patch 0x18 5d1c9ea3", "size 0x1c", "header"], "err 2"),
+        (&["patch 0x1c 00", "size 0x20", "header"], "err 3"),
+        (&["patch 0x424 0000043f", "open"], "err 4"),
+        (&["size 0x1fff", "open"], "err 4"),
+        (&["patch 0x448 00000003", "open"], "err 5"),
+        (&["patch 0x44c 02", "open"], "err 6"),
+        (&["patch 0x440 00", "open"], "err 7"),
+        (&["patch 0x459 61", "open"], "err 8"),
+        (&["patch 0x448 ffffffff", "open"], "err 9"),
+        (&["lend 15 0", "open"], "err 9"),
+        (&["lend 16 0", "open"], "ok"),
+        (&["patch 0x448 00000000", "open"], "err 10"),
+        (&["patch 0x44f 02", "open"], "err 11"),
+        (&["patch 0x458 01", "open"], "err 12"),
+        (&["patch 0x458 3a", "open"], "err 13"),
+        (&["patch 0x450 00000459", "open"], "err 14"),
+        (&["entry 2"], "err 15"),
+        (&["maxfile 0"], "err 16"),
+        (&["insert_file 1 62"], "err 17"),
+        (&["lookup 0 62"], "err 18"),
+        (&["insert_dir 0 61"], "err 19"),
+        (&["move 1 0x500"], "err 20"),
+        (&["resize 1 0xffffffff"], "err 21"),
+        (&["alloc 1 0"], "err 22"),
+        (&["window 1 1 e:-2"], "ok e=err:23"),
+        (&["window 1 1 e:-3"], "ok e=18446744073709551614"),
+        (&["patch 0x420 00001f1d", "dol"], "err 24"),
+        (&["patch 0x420 00001f1c", "dol"], "ok 0 0 0 cbf29ce484222325"),
+    ]);
+}
+
+#[test]
+fn edits() {
+    hold(&[
+        (&["insert_file 0 62"], "ok 2"),
+        (&["insert_file 0 62", "list"], "ok d:0:0:3:2:2f f:1:1280:256:2f61 f:2:0:0:2f62"),
+        (&["insert_dir 0 62", "insert_file 2 63", "entry 3"], "ok f:3:0:0"),
+        (&["mkdirs 0 6e2f6d"], "ok 3"),
+        (&["mkdirs 0 6e2f2e2e2f6e", "list"], "ok d:0:0:3:2:2f f:1:1280:256:2f61 d:2:0:3:0:2f6e2f"),
+        (&["mkdirs 0 -"], "ok 0"),
+        (&["mkdirs 0 61"], "err 17"),
+        (&["insert_file 0 3a01"], "err 13"),
+        (&["insert_file 0 ff"], "err 12"),
+        (&["lend 20 0x27", "insert_file 0 62"], "err 9"),
+        (&["lend 19 0x28", "insert_file 0 62"], "err 9"),
+        (&["lend 20 0x28", "insert_file 0 62"], "ok 2"),
+        (&["lend 16 0", "resize 1 0x100"], "ok"),
+        (&["lend 16 0x19", "rewrite"], "err 9"),
+        (&["lend 16 0x1a", "rewrite"], "ok"),
+        // The lost end is zeroed, and growth shows what the free space held.
+        (
+            &["patch 0x5fe aabbcc", "resize 1 0xff", "resize 1 0x101", "filewindow 1 s:254 r:8"],
+            "ok s=254 r=3:aa00ccaaaaaaaaaa",
+        ),
+        // The bytes go with the file, and the old place is zeroed.
+        (&["patch 0x500 0102", "move 1 0x1f00", "peek 0x1f00 3"], "ok 010200"),
+        (&["patch 0x500 0102", "move 1 0x1f00", "peek 0x500 3"], "ok 000000"),
+    ]);
+}
+
+/// A list of calls made up by a small generator: nothing is ever left dirty.
+#[test]
+fn never_dirty() {
+    let mut state = 7u64;
+    let mut random = move |below: u64| {
+        state = state.wrapping_mul(6364136223846793005).wrapping_add(1442695040888963407);
+        (state >> 33) % below
+    };
+    let mut commands: Vec<String> = vec![];
+    for _ in 0..200 {
+        commands.extend(MASTER.map(String::from));
+        for _ in 0..30 {
+            let (entry, at, len) = (random(5), 0x440 + random(0x1c00), random(0x400));
+            commands.push(format!("lend {} {}", random(80), random(160)));
+            commands.push(match random(13) {
+                0 => format!("move {entry} {at}"),
+                1 => format!("resize {entry} {len}"),
+                2 => "rewrite".into(),
+                3 => format!("insert_file {entry} {:02x}", random(256)),
+                4 => format!("insert_dir {entry} {:02x}", random(256)),
+                5 => format!("mkdirs {entry} {:02x}2f{:02x}", random(256), random(256)),
+                6 => format!("lookup {entry} {:02x}", random(256)),
+                7 => "free".into(),
+                8 => "list".into(),
+                9 => format!("maxregion {at} {len}"),
+                10 => format!("alloc {len} {}", random(64)),
+                11 => format!("filewindow {entry} e:-1 r:4"),
+                _ => format!("patch {} {:02x}", 0x424 + random(0x40), random(4)),
+            });
+        }
+    }
+    answers(&commands);
+}
