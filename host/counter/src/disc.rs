@@ -1,0 +1,245 @@
+//! What the library tells of an image, with names and paths: the ground of every command.
+
+use crate::failure::{DATA, Failure, INTERNAL, Outcome};
+use crate::image::{Desk, Image, shown};
+use crate::trouble;
+use counter_sys::{self as counter, ENTRY_WORDS, HEADER_SIZE, Opened, Region};
+
+/// Most entries of a table that opens.
+const MOST_ENTRIES: usize = 16_384;
+
+/// Most bytes that all paths of an image may take to be kept. Names can share one long text, so that
+/// 16,384 paths of 64 MiB each are possible; those of a real disc take some hundred KiB.
+const MOST_PATHS: u64 = 64 << 20;
+
+#[derive(Clone, Copy, PartialEq, Eq)]
+pub enum Kind {
+    File { offset: u32, size: u32 },
+    Directory { next: u32 },
+}
+
+pub struct Node {
+    pub number: u32,
+    /// The directory it is nested in; the root's is 0.
+    pub parent: u32,
+    pub kind: Kind,
+    /// Where its name lies in the image, and how long it is.
+    place: (u32, u32),
+    pub name: String,
+    /// From the root on, a directory's with `/` at the end; `entry N` where paths are not kept.
+    pub path: String,
+}
+
+impl Node {
+    pub fn is_directory(&self) -> bool {
+        matches!(self.kind, Kind::Directory { .. })
+    }
+}
+
+/// What opening tells, and the free regions: no name is looked at.
+pub struct Space {
+    pub opened: Opened,
+    pub free: Vec<Region>,
+    pub files: usize,
+}
+
+impl Space {
+    pub fn read(image: &Image, desk: &mut Desk) -> Outcome<Space> {
+        let opened = counter::open(image.bytes(), &mut desk.lend())
+            .map_err(|number| not_opened(image, number))?;
+        let free = free_regions(image, desk)?;
+        let kinds = image.bytes()[opened.fst_offset as usize..].iter().step_by(12);
+        let files = kinds.take(opened.entries as usize).filter(|&&kind| kind == 0).count();
+        Ok(Space { opened, free, files })
+    }
+
+    /// Folders but for the root.
+    pub fn folders(&self) -> usize {
+        self.opened.entries as usize - self.files - 1
+    }
+
+    pub fn free_bytes(&self) -> u64 {
+        self.free.iter().map(|region| u64::from(region.size)).sum()
+    }
+
+    pub fn largest(&self) -> u32 {
+        self.free.iter().map(|region| region.size).max().unwrap_or(0)
+    }
+}
+
+pub fn table_end(opened: &Opened) -> u64 {
+    u64::from(opened.fst_offset) + u64::from(opened.fst_size)
+}
+
+fn free_regions(image: &Image, desk: &mut Desk) -> Outcome<Vec<Region>> {
+    let mut list = vec![0; 2 * (MOST_ENTRIES + 1)];
+    let count = counter::free_regions(image.bytes(), &mut desk.lend(), &mut list)
+        .map_err(|number| not_opened(image, number))?;
+    let pairs = list.chunks_exact(2).take(count as usize);
+    Ok(pairs.map(|pair| Region { offset: pair[0], size: pair[1] }).collect())
+}
+
+pub struct Disc {
+    pub opened: Opened,
+    pub nodes: Vec<Node>,
+    pub free: Vec<Region>,
+    /// Whether the paths are kept.
+    named: bool,
+}
+
+impl Disc {
+    /// Opens the image and reads its entries and free regions.
+    pub fn read(image: &Image, desk: &mut Desk) -> Outcome<Disc> {
+        let bytes = image.bytes();
+        let mut list = vec![0; MOST_ENTRIES * ENTRY_WORDS];
+        let opened = counter::entries(bytes, &mut desk.lend(), &mut list)
+            .map_err(|number| not_opened(image, number))?;
+        let words = list.chunks_exact(ENTRY_WORDS).take(opened.entries as usize);
+        let nodes: Vec<Node> = words.enumerate().map(|(i, words)| node(i as u32, words)).collect();
+        let free = free_regions(image, desk)?;
+        let mut disc = Disc { opened, nodes, free, named: false };
+        disc.keep_paths(image)?;
+        Ok(disc)
+    }
+
+    /// Keeps every name and path, if they are not too long in all.
+    fn keep_paths(&mut self, image: &Image) -> Outcome<()> {
+        let mut lengths: Vec<u64> = Vec::with_capacity(self.nodes.len());
+        for node in &self.nodes {
+            let above = lengths.get(node.parent as usize).copied().unwrap_or(0);
+            lengths.push(above + u64::from(node.place.1) + 1);
+        }
+        self.named = lengths.iter().sum::<u64>() <= MOST_PATHS;
+        if !self.named {
+            return Ok(());
+        }
+        for i in 0..self.nodes.len() {
+            let node = &self.nodes[i];
+            let name = name(image, node).ok_or_else(|| {
+                Failure::error(INTERNAL, format!("{}: libcounter told a wrong name", image.name))
+            })?;
+            let above = if i == 0 { "" } else { self.nodes[node.parent as usize].path.as_str() };
+            let path = format!("{above}{name}{}", if node.is_directory() { "/" } else { "" });
+            self.nodes[i].path = path;
+            self.nodes[i].name = name;
+        }
+        Ok(())
+    }
+
+    /// For a command that shows every path.
+    pub fn with_paths(self) -> Outcome<Disc> {
+        match self.named {
+            true => Ok(self),
+            false => Err(Failure::error(DATA, "the paths of this image take more than 64 MiB")),
+        }
+    }
+
+    /// The entry's path, kept or not.
+    pub fn path(&self, image: &Image, node: &Node) -> String {
+        if self.named {
+            return node.path.clone();
+        }
+        let mut parts: Vec<&[u8]> = Vec::new();
+        let mut at = node;
+        while at.number > 0 {
+            let (start, size) = (at.place.0 as usize, at.place.1 as usize);
+            parts.push(image.bytes().get(start..start + size).unwrap_or_default());
+            at = &self.nodes[at.parent as usize];
+        }
+        parts.reverse();
+        let end = if node.is_directory() && node.number > 0 { "/" } else { "" };
+        format!("/{}{end}", shown(&parts.join(&b'/')))
+    }
+
+    pub fn files(&self) -> impl Iterator<Item = (&Node, u32, u32)> {
+        self.nodes.iter().filter_map(|node| match node.kind {
+            Kind::File { offset, size } => Some((node, offset, size)),
+            Kind::Directory { .. } => None,
+        })
+    }
+
+    pub fn free_bytes(&self) -> u64 {
+        self.free.iter().map(|region| u64::from(region.size)).sum()
+    }
+
+    /// The table's size as an edit writes it: each name by itself.
+    pub fn written_size(&self) -> u64 {
+        self.nodes.iter().skip(1).map(|node| 13 + u64::from(node.place.1)).sum::<u64>() + 12
+    }
+
+    /// The entry at `path`, from the root on.
+    pub fn find(&self, image: &Image, desk: &mut Desk, path: &[u8]) -> Outcome<&Node> {
+        let found = counter::lookup(image.bytes(), &mut desk.lend(), 0, path)
+            .map_err(|number| no_path(number, path))?;
+        Ok(&self.nodes[found.number() as usize])
+    }
+}
+
+/// The entry that six words tell, without its path.
+fn node(number: u32, words: &[u32]) -> Node {
+    let kind = match words[0] {
+        0 => Kind::File { offset: words[2], size: words[3] },
+        _ => Kind::Directory { next: words[3] },
+    };
+    let (place, path) = ((words[4], words[5]), format!("entry {number}"));
+    Node { number, parent: words[1], kind, place, name: String::new(), path }
+}
+
+/// The entry's name. None where it is not one that opening lets through: names become files' names
+/// in `extract`, so they are looked at once more.
+fn name(image: &Image, node: &Node) -> Option<String> {
+    let (start, size) = (node.place.0 as usize, node.place.1 as usize);
+    let name = image.bytes().get(start..)?.get(..size)?;
+    let fit = |&b: &u8| (b' '..=b'~').contains(&b) && !b"/\\:".contains(&b);
+    let up = name == b"." || name == b"..";
+    if up || !name.iter().all(fit) || name.is_empty() != (node.number == 0) {
+        return None;
+    }
+    String::from_utf8(name.to_vec()).ok()
+}
+
+pub fn no_path(number: u32, path: &[u8]) -> Failure {
+    let failure = Failure::refused(number, shown(path));
+    match number {
+        9 => failure.because("a path has at most 1,024 bytes"),
+        17 => failure.because("a part of the path before the last is a file"),
+        _ => failure,
+    }
+}
+
+/// Opening's refusal, with what the image shows of its cause.
+pub fn not_opened(image: &Image, number: u32) -> Failure {
+    let failure = Failure::refused(number, image.name.as_str());
+    match trouble::words(image.bytes(), number) {
+        Some(more) => failure.because(more),
+        None => failure,
+    }
+}
+
+/// The disc header's 0x440 bytes.
+pub struct Header([u8; HEADER_SIZE]);
+
+impl Header {
+    pub fn read(bytes: &[u8]) -> Result<Header, u32> {
+        counter::header(bytes).map(Header)
+    }
+
+    pub fn bytes(&self, at: usize, len: usize) -> &[u8] {
+        &self.0[at..at + len]
+    }
+
+    pub fn word(&self, at: usize) -> u32 {
+        u32::from_be_bytes(self.0[at..at + 4].try_into().expect("four bytes"))
+    }
+
+    pub fn disc_end(&self) -> u64 {
+        u64::from(self.word(0x434)) + u64::from(self.word(0x438))
+    }
+
+    /// The game name up to its first zero byte.
+    pub fn game_name(&self) -> &[u8] {
+        let field = self.bytes(0x20, 0x3E0);
+        let end = field.iter().position(|&b| b == 0).unwrap_or(field.len());
+        &field[..end]
+    }
+}

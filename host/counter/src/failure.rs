@@ -1,0 +1,130 @@
+//! Why a command did not do what was asked: a refusal with its number, or an error with its exit
+//! status.
+
+use std::fmt;
+use std::io;
+use std::path::Path;
+
+/// Exit statuses besides 0 and the refusals' numbers.
+pub const USAGE: u8 = 64;
+pub const DATA: u8 = 65;
+pub const NO_INPUT: u8 = 66;
+pub const INTERNAL: u8 = 70;
+pub const CANNOT_CREATE: u8 = 73;
+pub const INPUT_OUTPUT: u8 = 74;
+pub const BUSY: u8 = 75;
+pub const NOT_ALLOWED: u8 = 77;
+
+/// The causes of a refusal in words; the cause with number n is the n-th.
+pub const CAUSES: [&str; 24] = [
+    "header field past the image",
+    "Wii magic",
+    "not GameCube magic",
+    "FST offset below 0x440, disc end above 2^32 - 1, table end past it, or image shorter than it",
+    "entry past the table",
+    "kind above 1",
+    "root a file",
+    "last text unended",
+    "limit or memory",
+    "next at or before its entry, past the count or past its parent's next",
+    "name offset at or past the texts' end",
+    "name byte",
+    "unsafe or empty name",
+    "used regions overlap or pass the disc end",
+    "no such entry",
+    "file wanted",
+    "directory wanted",
+    "not found",
+    "name exists",
+    "move overlaps itself",
+    "no space",
+    "alignment no power of two",
+    "seek",
+    "DOL header past the image, or a sum above 2^32 - 1",
+];
+
+pub fn cause(number: u32) -> &'static str {
+    match number {
+        1..=24 => CAUSES[number as usize - 1],
+        _ => "unknown number",
+    }
+}
+
+#[derive(Debug)]
+pub enum Failure {
+    /// The proved library said no. `what` is what it was asked about, `detail` more than the number.
+    Refused { number: u32, what: String, detail: Option<String> },
+    /// Anything else that went wrong.
+    Error { status: u8, text: String },
+    /// A signal came at a place where the program could stop.
+    Signal { number: i32, text: String },
+    /// Whoever read the output went away.
+    Pipe,
+}
+
+pub type Outcome<T> = Result<T, Failure>;
+
+impl Failure {
+    pub fn refused(number: u32, what: impl Into<String>) -> Failure {
+        if number == 0 || number > 24 {
+            let text = format!("libcounter answered {number}, which is no number of a cause");
+            return Failure::Error { status: INTERNAL, text };
+        }
+        Failure::Refused { number, what: what.into(), detail: None }
+    }
+
+    /// The same refusal with more said about it.
+    pub fn because(self, more: impl Into<String>) -> Failure {
+        match self {
+            Failure::Refused { number, what, .. } => {
+                Failure::Refused { number, what, detail: Some(more.into()) }
+            }
+            other => other,
+        }
+    }
+
+    pub fn error(status: u8, text: impl Into<String>) -> Failure {
+        Failure::Error { status, text: text.into() }
+    }
+
+    pub fn usage(text: impl Into<String>) -> Failure {
+        Failure::error(USAGE, text)
+    }
+
+    /// An input/output error about a file.
+    pub fn file(status: u8, path: &Path, error: &io::Error) -> Failure {
+        let text = match error.kind() {
+            io::ErrorKind::StorageFull | io::ErrorKind::QuotaExceeded => "the disk is full".into(),
+            io::ErrorKind::NotFound => "no such file".into(),
+            io::ErrorKind::PermissionDenied => "permission denied".into(),
+            io::ErrorKind::AlreadyExists => "is there already, and nothing is overwritten".into(),
+            _ => error.to_string(),
+        };
+        Failure::error(status, format!("{}: {text}", path.display()))
+    }
+
+    pub fn status(&self) -> u8 {
+        match self {
+            Failure::Refused { number, .. } => *number as u8,
+            Failure::Error { status, .. } => *status,
+            Failure::Signal { number, .. } => 128 + *number as u8,
+            Failure::Pipe => 128 + crate::os::SIGPIPE as u8,
+        }
+    }
+}
+
+impl fmt::Display for Failure {
+    fn fmt(&self, f: &mut fmt::Formatter<'_>) -> fmt::Result {
+        match self {
+            Failure::Refused { number, what, detail } => {
+                write!(f, "{what}: refused {number}: {}", cause(*number))?;
+                match detail {
+                    Some(more) => write!(f, " ({more})"),
+                    None => Ok(()),
+                }
+            }
+            Failure::Error { text, .. } | Failure::Signal { text, .. } => f.write_str(text),
+            Failure::Pipe => f.write_str("standard output was closed"),
+        }
+    }
+}

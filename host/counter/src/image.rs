@@ -1,0 +1,188 @@
+//! An image: a file that is locked and mapped, or the built-in small master.
+
+use crate::failure::{BUSY, Failure, INPUT_OUTPUT, NO_INPUT, NOT_ALLOWED, Outcome};
+use crate::os::{self, Access, Mapping};
+use counter_sys::Memory;
+use std::fs::{self, File, Metadata, OpenOptions, TryLockError};
+use std::io;
+use std::os::unix::fs::{OpenOptionsExt, PermissionsExt};
+use std::path::Path;
+
+/// How an image without a file is called in what the program says.
+pub const BUILT_IN: &str = "built-in small master";
+
+enum Bytes {
+    Mapped { file: File, mapping: Mapping },
+    BuiltIn(Vec<u8>),
+}
+
+pub struct Image {
+    pub name: String,
+    bytes: Bytes,
+}
+
+impl Image {
+    /// The file at `path`, or without one the built-in small master.
+    pub fn read(path: Option<&Path>) -> Outcome<Image> {
+        match path {
+            Some(path) => Image::map(path, Access::Read),
+            None => {
+                let bytes = Bytes::BuiltIn(small_master());
+                Ok(Image { name: BUILT_IN.into(), bytes })
+            }
+        }
+    }
+
+    /// The file at `path`, to be edited; with `dry` only in memory.
+    pub fn edit(path: &Path, dry: bool) -> Outcome<Image> {
+        Image::map(path, if dry { Access::Private } else { Access::Shared })
+    }
+
+    fn map(path: &Path, access: Access) -> Outcome<Image> {
+        let file = open(path, access)?;
+        lock(path, &file, access)?;
+        let len = regular(path, file.metadata())?.len();
+        let mapping = usize::try_from(len)
+            .map_err(io::Error::other)
+            .and_then(|len| Mapping::new(&file, len, access))
+            .map_err(|e| Failure::file(INPUT_OUTPUT, path, &e))?;
+        let name = path.display().to_string();
+        Ok(Image { name, bytes: Bytes::Mapped { file, mapping } })
+    }
+
+    pub fn bytes(&self) -> &[u8] {
+        match &self.bytes {
+            Bytes::Mapped { mapping, .. } => mapping.bytes(),
+            Bytes::BuiltIn(bytes) => bytes,
+        }
+    }
+
+    pub fn bytes_mut(&mut self) -> &mut [u8] {
+        match &mut self.bytes {
+            Bytes::Mapped { mapping, .. } => mapping.bytes_mut(),
+            Bytes::BuiltIn(bytes) => bytes,
+        }
+    }
+
+    pub fn file(&self) -> Option<&File> {
+        match &self.bytes {
+            Bytes::Mapped { file, .. } => Some(file),
+            Bytes::BuiltIn(_) => None,
+        }
+    }
+
+    /// Waits until every written byte is on the disk.
+    pub fn sync(&self) -> Outcome<()> {
+        let Bytes::Mapped { file, mapping } = &self.bytes else {
+            return Ok(());
+        };
+        mapping.sync().and_then(|()| file.sync_all()).map_err(|e| {
+            let text = format!(
+                "{}: the edit is made, but its bytes did not reach the disk: {e}",
+                self.name
+            );
+            Failure::error(INPUT_OUTPUT, text)
+        })
+    }
+}
+
+fn open(path: &Path, access: Access) -> Outcome<File> {
+    let told = regular(path, fs::metadata(path))?;
+    let write = access == Access::Shared;
+    // The owner of the machine may write to anything; a file marked read-only is still kept.
+    if write && told.permissions().mode() & 0o222 == 0 {
+        return Err(Failure::error(
+            NOT_ALLOWED,
+            format!("{}: the file is read-only", path.display()),
+        ));
+    }
+    OpenOptions::new()
+        .read(true)
+        .write(write)
+        .custom_flags(os::O_NONBLOCK)
+        .open(path)
+        .map_err(|e| cannot_open(path, &e))
+}
+
+fn cannot_open(path: &Path, error: &io::Error) -> Failure {
+    if error.raw_os_error() == Some(os::EROFS) {
+        let text = format!("{}: the file is on a read-only disk", path.display());
+        return Failure::error(NOT_ALLOWED, text);
+    }
+    let status = match error.kind() {
+        io::ErrorKind::PermissionDenied => NOT_ALLOWED,
+        io::ErrorKind::NotFound => NO_INPUT,
+        _ => INPUT_OUTPUT,
+    };
+    Failure::file(status, path, error)
+}
+
+fn regular(path: &Path, told: io::Result<Metadata>) -> Outcome<Metadata> {
+    let told = told.map_err(|e| cannot_open(path, &e))?;
+    if told.is_file() {
+        return Ok(told);
+    }
+    let kind = if told.is_dir() { "a folder" } else { "a special file" };
+    Err(Failure::error(NO_INPUT, format!("{}: {kind}, not an image", path.display())))
+}
+
+/// Readers share an image; an editor has it alone.
+fn lock(path: &Path, file: &File, access: Access) -> Outcome<()> {
+    let got = match access {
+        Access::Shared => file.try_lock(),
+        _ => file.try_lock_shared(),
+    };
+    match got {
+        Ok(()) => Ok(()),
+        Err(TryLockError::WouldBlock) => {
+            let who = if access == Access::Shared { "using" } else { "editing" };
+            let text = format!("{}: another program is {who} it; try again later", path.display());
+            Err(Failure::error(BUSY, text))
+        }
+        Err(TryLockError::Error(e)) => Err(Failure::file(INPUT_OUTPUT, path, &e)),
+    }
+}
+
+/// The scope paper's small master: one file `a` of 0x100 bytes at 0x500, the table at 0x440.
+fn small_master() -> Vec<u8> {
+    const TABLE: [u32; 6] = [0x0100_0000, 0, 2, 0, 0x500, 0x100];
+    let mut image = vec![0; 0x2000];
+    let mut put = |at: usize, word: u32| image[at..at + 4].copy_from_slice(&word.to_be_bytes());
+    put(0x1C, 0xC233_9F3D);
+    put(0x424, 0x440);
+    put(0x428, 0x1A);
+    put(0x434, 0x2000);
+    for (i, word) in TABLE.into_iter().enumerate() {
+        put(0x440 + 4 * i, word);
+    }
+    image[0x458] = b'a';
+    image
+}
+
+/// Working memory for every call: enough for the largest table that opens.
+pub struct Desk {
+    words: Vec<u32>,
+    bytes: Vec<u8>,
+}
+
+impl Desk {
+    pub fn new() -> Desk {
+        Desk { words: vec![0; 65_544], bytes: vec![0; 2_097_152] }
+    }
+
+    pub fn lend(&mut self) -> Memory<'_> {
+        Memory { words: &mut self.words, bytes: &mut self.bytes }
+    }
+}
+
+/// Bytes of a path or a name, for what is said about them.
+pub fn shown(path: &[u8]) -> String {
+    let mut out = String::new();
+    for &b in path {
+        match b {
+            b' '..=b'~' => out.push(b as char),
+            _ => out.push_str(&format!("\\x{b:02x}")),
+        }
+    }
+    out
+}

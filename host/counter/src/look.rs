@@ -1,0 +1,232 @@
+//! The commands that look at an image.
+
+use crate::args::Args;
+use crate::disc::{Disc, Header, Kind, Space, not_opened, table_end};
+use crate::dol::program_behind;
+use crate::failure::{Failure, Outcome};
+use crate::image::{Desk, Image, shown};
+use crate::json::{Json, latin};
+use crate::say;
+use crate::text::{both, counted, grouped, hex, human, line, size};
+use crate::tree::{free_json, node_json, weights};
+use counter_sys as counter;
+use std::fmt::Write;
+
+/// Opens the image of the command line and reads it.
+pub fn opened(args: &Args) -> Outcome<(Image, Desk, Disc)> {
+    let image = Image::read(args.image.as_deref())?;
+    let mut desk = Desk::new();
+    let disc = Disc::read(&image, &mut desk)?;
+    Ok((image, desk, disc))
+}
+
+/// The same without names.
+fn space(args: &Args) -> Outcome<(Image, Desk, Space)> {
+    let image = Image::read(args.image.as_deref())?;
+    let mut desk = Desk::new();
+    let space = Space::read(&image, &mut desk)?;
+    Ok((image, desk, space))
+}
+
+// info ------------------------------------------------------------------------------------
+
+/// The header's 4-byte numbers: how JSON and people call them, and where they are.
+const WORDS: [(&str, &str, usize); 12] = [
+    ("wii_magic", "Wii magic", 0x18),
+    ("gamecube_magic", "GameCube magic", 0x1C),
+    ("debug_offset", "debug offset", 0x400),
+    ("debug_address", "debug address", 0x404),
+    ("dol_offset", "DOL offset", 0x420),
+    ("fst_offset", "FST offset", 0x424),
+    ("fst_size", "FST size", 0x428),
+    ("fst_maximum", "FST maximum", 0x42C),
+    ("user_position", "user position", 0x430),
+    ("user_size", "user size", 0x434),
+    ("disc_size", "disc size", 0x438),
+    ("unused_43c", "unused at 0x43c", 0x43C),
+];
+
+/// The header's single bytes.
+const SMALL: [(&str, &str, usize); 4] = [
+    ("disc", "disc", 6),
+    ("version", "version", 7),
+    ("audio_streaming", "audio streaming", 8),
+    ("stream_buffer", "stream buffer", 9),
+];
+
+pub fn info(args: &Args) -> Outcome<()> {
+    let (image, mut desk, disc) = space(args)?;
+    let header = Header::read(image.bytes()).map_err(|n| not_opened(&image, n))?;
+    let behind = program_behind(&image, &mut desk, &disc.opened);
+    match args.json {
+        true => {
+            let mut fields = info_fields(&image, &header, &disc);
+            fields.push(("program_behind_table", behind.is_some().into()));
+            say(Json::Object(fields).document().as_bytes())
+        }
+        false => {
+            let mut text = info_text(&image, &header, &disc);
+            if let Some((start, size)) = behind {
+                let what =
+                    format!("{} bytes at {start:#x}, behind the table", grouped(size.into()));
+                line(&mut text, "program", format!("{what}, where the totals count free space"));
+            }
+            say(text.as_bytes())
+        }
+    }
+}
+
+fn info_fields(image: &Image, header: &Header, disc: &Space) -> Vec<(&'static str, Json)> {
+    let mut fields = vec![
+        ("image", Json::from(image.name.as_str())),
+        ("image_bytes", image.bytes().len().into()),
+        ("game_code", latin(header.bytes(0, 4))),
+        ("maker", latin(header.bytes(4, 2))),
+        ("game_name", latin(header.game_name())),
+    ];
+    for (name, _, at) in SMALL {
+        fields.push((name, u32::from(header.bytes(at, 1)[0]).into()));
+    }
+    for (name, _, at) in WORDS {
+        fields.push((name, header.word(at).into()));
+    }
+    fields.push(("disc_end", disc.opened.disc_end.into()));
+    fields.push(("table_end", table_end(&disc.opened).into()));
+    fields.push(("entries", disc.opened.entries.into()));
+    fields.push(("files", disc.files.into()));
+    fields.push(("directories", (disc.folders() + 1).into()));
+    fields.push(("used", disc.opened.used.into()));
+    fields.push(("free", disc.free_bytes().into()));
+    fields.push(("free_regions", disc.free.len().into()));
+    fields.push(("largest_free", disc.largest().into()));
+    fields
+}
+
+/// The game's six letters, without zero bytes at the end.
+fn game(header: &Header) -> String {
+    let code = header.bytes(0, 6);
+    let end = code.iter().rposition(|&b| b != 0).map_or(0, |at| at + 1);
+    shown(&code[..end])
+}
+
+fn info_text(image: &Image, header: &Header, disc: &Space) -> String {
+    let mut out = String::new();
+    line(&mut out, "image", &image.name);
+    line(&mut out, "file size", size(image.bytes().len() as u64));
+    line(&mut out, "game", game(header));
+    line(&mut out, "name", shown(header.game_name()));
+    for (_, name, at) in SMALL {
+        line(&mut out, name, header.bytes(at, 1)[0]);
+    }
+    for (_, name, at) in WORDS {
+        line(&mut out, name, hex(header.word(at)));
+    }
+    line(&mut out, "disc end", size(disc.opened.disc_end.into()));
+    line(&mut out, "entries", disc.opened.entries);
+    line(&mut out, "files", disc.files);
+    line(&mut out, "folders", format!("{} and the root", disc.folders()));
+    line(&mut out, "used", size(disc.opened.used.into()));
+    let regions = counted(disc.free.len(), "region", "regions");
+    line(&mut out, "free", format!("{} in {regions}", size(disc.free_bytes())));
+    line(&mut out, "largest free", size(disc.largest().into()));
+    out
+}
+
+// free, find, check -----------------------------------------------------------------------
+
+pub fn free(args: &Args) -> Outcome<()> {
+    let (_, _, disc) = space(args)?;
+    if args.json {
+        let json = Json::Object(vec![
+            ("disc_end", disc.opened.disc_end.into()),
+            ("free", disc.free_bytes().into()),
+            ("regions", free_json(&disc.free)),
+        ]);
+        return say(json.document().as_bytes());
+    }
+    let mut out = format!("{:>10}  {:>10}  {:>13}\n", "offset", "size", "bytes");
+    for region in &disc.free {
+        let bytes = u64::from(region.size);
+        let _ = writeln!(
+            out,
+            "{:#010x}  {:#010x}  {:>13}  {}",
+            region.offset,
+            region.size,
+            grouped(bytes),
+            human(bytes)
+        );
+    }
+    let regions = counted(disc.free.len(), "region", "regions");
+    let total = disc.free_bytes();
+    let _ = writeln!(
+        out,
+        "{} free of {} in {regions}",
+        size(total),
+        human(disc.opened.disc_end.into())
+    );
+    say(out.as_bytes())
+}
+
+pub fn find(args: &Args) -> Outcome<()> {
+    let (image, mut desk, disc) = opened(args)?;
+    let path = args.bytes(0);
+    let node = disc.find(&image, &mut desk, &path)?;
+    let grow = match node.kind {
+        Kind::Directory { .. } => None,
+        Kind::File { .. } => {
+            let size = counter::max_file_size(image.bytes(), &mut desk.lend(), node.number);
+            Some(size.map_err(|n| Failure::refused(n, shown(&path)))?)
+        }
+    };
+    if args.json {
+        let Json::Object(mut fields) = node_json(node) else { unreachable!("an object") };
+        fields.push(("largest_size", grow.into()));
+        return say(Json::Object(fields).document().as_bytes());
+    }
+    let mut out = String::new();
+    line(&mut out, "path", &node.path);
+    line(&mut out, "entry", node.number);
+    match node.kind {
+        Kind::File { offset, size: bytes } => {
+            line(&mut out, "kind", "file");
+            line(&mut out, "folder", &disc.nodes[node.parent as usize].path);
+            line(&mut out, "offset", both(offset));
+            line(&mut out, "size", size(bytes.into()));
+            line(&mut out, "can grow here to", size(grow.unwrap_or(bytes).into()));
+        }
+        Kind::Directory { next } => {
+            let (bytes, files) = weights(&disc)[node.number as usize];
+            line(&mut out, "kind", "folder");
+            line(&mut out, "folder", &disc.nodes[node.parent as usize].path);
+            line(&mut out, "entries below", next.saturating_sub(node.number + 1));
+            line(&mut out, "files below", format!("{files}, {}", size(bytes)));
+        }
+    }
+    say(out.as_bytes())
+}
+
+pub fn check(args: &Args) -> Outcome<()> {
+    let (image, _, disc) = space(args)?;
+    if args.json {
+        let json = Json::Object(vec![
+            ("status", 0u32.into()),
+            ("opens", true.into()),
+            ("entries", disc.opened.entries.into()),
+            ("files", disc.files.into()),
+            ("disc_end", disc.opened.disc_end.into()),
+            ("used", disc.opened.used.into()),
+            ("free", disc.free_bytes().into()),
+        ]);
+        return say(json.document().as_bytes());
+    }
+    let text = format!(
+        "{}: opens: {}, {}, {} used and {} free of {}\n",
+        image.name,
+        counted(disc.files, "file", "files"),
+        counted(disc.folders(), "folder", "folders"),
+        human(disc.opened.used.into()),
+        human(disc.free_bytes()),
+        human(disc.opened.disc_end.into())
+    );
+    say(text.as_bytes())
+}

@@ -1,0 +1,137 @@
+//! `counter`: looks at GameCube disc images, edits them and compares them, over libcounter.a.
+
+mod args;
+mod compare;
+mod disc;
+mod dol;
+mod edit;
+mod failure;
+mod help;
+mod image;
+mod json;
+mod look;
+mod map;
+mod os;
+mod progress;
+mod take;
+mod text;
+mod tree;
+mod trouble;
+
+use args::{Args, Form};
+use failure::{Failure, INPUT_OUTPUT, Outcome, cause};
+use json::Json;
+use std::env;
+use std::ffi::OsString;
+use std::io::{self, Write};
+use std::process;
+
+fn main() {
+    os::catch_signals();
+    let mut rest = env::args_os().skip(1);
+    let command = rest.next();
+    let status = match command.as_ref().and_then(|name| name.to_str()) {
+        None if command.is_none() => {
+            eprint!("{}", help::USAGE);
+            failure::USAGE.into()
+        }
+        Some("help" | "--help" | "-h") => finish(helped(rest.next()), false),
+        Some("--version" | "-V" | "version") => {
+            let text = format!("counter {}\n", env!("CARGO_PKG_VERSION"));
+            finish(say(text.as_bytes()).map(|()| 0), false)
+        }
+        name => match name.and_then(Form::find) {
+            Some(form) => {
+                let rest: Vec<OsString> = rest.collect();
+                let json = form.options.contains(&"--json") && rest.iter().any(|a| a == "--json");
+                finish(Args::read(form, rest).and_then(run), json)
+            }
+            None => {
+                let shown = command.unwrap_or_default();
+                let text = format!("no command {}; `counter help` has them", shown.display());
+                finish(Err(Failure::usage(text)), false)
+            }
+        },
+    };
+    process::exit(status);
+}
+
+fn helped(subject: Option<OsString>) -> Outcome<u8> {
+    let text = match subject {
+        None => help::general(),
+        Some(subject) => subject
+            .to_str()
+            .and_then(help::about)
+            .ok_or_else(|| Failure::usage(format!("no help on {}", subject.display())))?,
+    };
+    say(text.as_bytes())?;
+    Ok(0)
+}
+
+/// Carries the command out; the answer is the exit status.
+fn run(args: Args) -> Outcome<u8> {
+    if args.image.is_none() {
+        eprintln!("counter: no IMAGE given: this is the {}", image::BUILT_IN);
+    }
+    match args.form.name {
+        "info" => look::info(&args)?,
+        "list" => tree::list(&args)?,
+        "tree" => tree::tree(&args)?,
+        "free" => look::free(&args)?,
+        "find" => look::find(&args)?,
+        "check" => look::check(&args)?,
+        "extract" => take::extract(&args)?,
+        "cat" => take::cat(&args)?,
+        "dol" => dol::dol(&args)?,
+        "map" => map::map(&args)?,
+        "compare" => return compare::compare(&args),
+        _ => edit::edit(&args)?,
+    }
+    Ok(0)
+}
+
+/// Says what went wrong, and gives the exit status.
+fn finish(outcome: Outcome<u8>, json: bool) -> i32 {
+    let failure = match outcome {
+        Ok(status) => return status.into(),
+        Err(failure) => failure,
+    };
+    if let Failure::Pipe = failure {
+        return os::end_by(os::SIGPIPE);
+    }
+    if json {
+        let _ = say(told(&failure).document().as_bytes());
+    }
+    eprintln!("counter: {failure}");
+    match failure {
+        Failure::Signal { number, .. } => os::end_by(number),
+        other => other.status().into(),
+    }
+}
+
+/// A failure as JSON.
+fn told(failure: &Failure) -> Json {
+    let mut fields = vec![("status", Json::from(u32::from(failure.status())))];
+    match failure {
+        Failure::Refused { number, what, detail } => {
+            fields.push(("refused", (*number).into()));
+            fields.push(("cause", cause(*number).into()));
+            fields.push(("about", what.as_str().into()));
+            fields.push(("detail", detail.as_deref().into()));
+        }
+        other => fields.push(("error", other.to_string().into())),
+    }
+    Json::Object(fields)
+}
+
+/// Writes to standard output.
+pub fn say(bytes: &[u8]) -> Outcome<()> {
+    let mut out = io::stdout().lock();
+    out.write_all(bytes).and_then(|()| out.flush()).map_err(|e| match e.kind() {
+        io::ErrorKind::BrokenPipe => Failure::Pipe,
+        io::ErrorKind::StorageFull => {
+            Failure::error(INPUT_OUTPUT, "standard output: the disk is full")
+        }
+        _ => Failure::error(INPUT_OUTPUT, format!("standard output: {e}")),
+    })
+}

@@ -1,0 +1,61 @@
+//! Progress on standard error, where that is a terminal and the work takes more than a second.
+
+use crate::text::human;
+use std::io::{self, IsTerminal, Write};
+use std::sync::Arc;
+use std::sync::atomic::{AtomicU64, Ordering};
+use std::sync::mpsc::{self, RecvTimeoutError, Sender};
+use std::thread::{self, JoinHandle};
+use std::time::{Duration, Instant};
+
+pub struct Progress {
+    done: Arc<AtomicU64>,
+    running: Option<(Sender<()>, JoinHandle<()>)>,
+}
+
+impl Progress {
+    /// Starts to watch over `total` bytes of work; 0 where only the time can be told.
+    pub fn start(what: &str, total: u64) -> Progress {
+        let done = Arc::new(AtomicU64::new(0));
+        let running = io::stderr().is_terminal().then(|| {
+            let (stop, stopped) = mpsc::channel();
+            let (what, seen) = (what.to_string(), done.clone());
+            let watch = thread::spawn(move || {
+                let start = Instant::now();
+                let mut wait = Duration::from_secs(1);
+                while stopped.recv_timeout(wait) == Err(RecvTimeoutError::Timeout) {
+                    wait = Duration::from_millis(250);
+                    show(&what, seen.load(Ordering::Relaxed), total, start.elapsed());
+                }
+                if start.elapsed() > Duration::from_secs(1) {
+                    eprint!("\r\x1b[K");
+                }
+            });
+            (stop, watch)
+        });
+        Progress { done, running }
+    }
+
+    pub fn advance(&self, bytes: u64) {
+        self.done.fetch_add(bytes, Ordering::Relaxed);
+    }
+}
+
+fn show(what: &str, done: u64, total: u64, time: Duration) {
+    let seconds = time.as_secs();
+    let mut line = format!("\r\x1b[K{what}: {seconds} s");
+    if let Some(percent) = (done * 100).checked_div(total) {
+        line.push_str(&format!(", {percent}% ({} of {})", human(done), human(total)));
+    }
+    let mut err = io::stderr().lock();
+    let _ = err.write_all(line.as_bytes()).and_then(|()| err.flush());
+}
+
+impl Drop for Progress {
+    fn drop(&mut self) {
+        if let Some((stop, watch)) = self.running.take() {
+            drop(stop);
+            let _ = watch.join();
+        }
+    }
+}

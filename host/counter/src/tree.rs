@@ -1,0 +1,199 @@
+//! `list` and `tree`: every entry, for programs and for people.
+
+use crate::args::Args;
+use crate::disc::{Disc, Kind, Node};
+use crate::failure::{Failure, Outcome};
+use crate::image::Image;
+use crate::json::Json;
+use crate::look::opened;
+use crate::say;
+use crate::text::{counted, human};
+use counter_sys::Region;
+use std::fmt::Write;
+
+// list ------------------------------------------------------------------------------------
+
+/// The scope paper's listing, for an image of any size.
+pub fn list(args: &Args) -> Outcome<()> {
+    let (image, disc) = match opened(args) {
+        Ok((image, _, disc)) => (image, disc),
+        Err(Failure::Refused { number, what, detail }) => {
+            if !args.json {
+                say(format!("refused {number}\n").as_bytes())?;
+            }
+            return Err(Failure::Refused { number, what, detail });
+        }
+        Err(other) => return Err(other),
+    };
+    match args.json {
+        true => say(list_json(&disc.with_paths()?).document().as_bytes()),
+        false => list_text(&image, &disc),
+    }
+}
+
+/// Lines are said in parts, since their paths may be long.
+const PART: usize = 1 << 20;
+
+fn list_text(image: &Image, disc: &Disc) -> Outcome<()> {
+    let mut out = format!("total {} used {}\n", disc.opened.disc_end, disc.opened.used);
+    for node in &disc.nodes {
+        let (letter, first, second) = match node.kind {
+            Kind::File { offset, size } => ('f', offset, size),
+            Kind::Directory { next } => ('d', node.parent, next),
+        };
+        let path = disc.path(image, node);
+        let _ = writeln!(out, "{letter} {} {first} {second} {path}", node.number);
+        if out.len() > PART {
+            say(out.as_bytes())?;
+            out.clear();
+        }
+    }
+    for region in &disc.free {
+        let _ = writeln!(out, "r {} {}", region.offset, region.size);
+    }
+    say(out.as_bytes())
+}
+
+/// An entry as JSON: what a file has, or what a directory has.
+pub fn node_json(node: &Node) -> Json {
+    let mut fields = vec![("number", Json::from(node.number))];
+    match node.kind {
+        Kind::File { offset, size } => {
+            fields.push(("kind", "file".into()));
+            fields.push(("parent", node.parent.into()));
+            fields.push(("offset", offset.into()));
+            fields.push(("size", size.into()));
+        }
+        Kind::Directory { next } => {
+            fields.push(("kind", "directory".into()));
+            fields.push(("parent", node.parent.into()));
+            fields.push(("next", next.into()));
+        }
+    }
+    fields.push(("path", node.path.as_str().into()));
+    Json::Object(fields)
+}
+
+pub fn free_json(free: &[Region]) -> Json {
+    let regions = free.iter().map(|region| {
+        Json::Object(vec![("offset", region.offset.into()), ("size", region.size.into())])
+    });
+    Json::List(regions.collect())
+}
+
+fn list_json(disc: &Disc) -> Json {
+    Json::Object(vec![
+        ("total", disc.opened.disc_end.into()),
+        ("used", disc.opened.used.into()),
+        ("entries", Json::List(disc.nodes.iter().map(node_json).collect())),
+        ("free", free_json(&disc.free)),
+    ])
+}
+
+// tree ------------------------------------------------------------------------------------
+
+/// Bytes and files in each directory, with all below it; a file counts for itself.
+pub fn weights(disc: &Disc) -> Vec<(u64, usize)> {
+    let mut weights = vec![(0, 0); disc.nodes.len()];
+    for node in disc.nodes.iter().rev() {
+        let at = node.number as usize;
+        if let Kind::File { size, .. } = node.kind {
+            weights[at] = (size.into(), 1);
+        }
+        if at > 0 {
+            let (bytes, files) = weights[at];
+            let above = &mut weights[node.parent as usize];
+            *above = (above.0 + bytes, above.1 + files);
+        }
+    }
+    weights
+}
+
+pub fn tree(args: &Args) -> Outcome<()> {
+    let (_, _, disc) = opened(args)?;
+    let disc = disc.with_paths()?;
+    let weights = weights(&disc);
+    match args.json {
+        true => say(branch_json(&disc, &weights, 0).document().as_bytes()),
+        false => say(tree_text(&disc, &weights).as_bytes()),
+    }
+}
+
+/// The numbers of a directory's own entries.
+fn children(disc: &Disc, number: u32) -> Vec<u32> {
+    let Kind::Directory { next } = disc.nodes[number as usize].kind else {
+        return Vec::new();
+    };
+    let mut found = Vec::new();
+    let mut at = number + 1;
+    while at < next {
+        found.push(at);
+        at = match disc.nodes[at as usize].kind {
+            Kind::File { .. } => at + 1,
+            Kind::Directory { next } => next,
+        };
+    }
+    found
+}
+
+/// Directories are at most 64 deep, so this goes at most 65 deep.
+fn branch_json(disc: &Disc, weights: &[(u64, usize)], number: u32) -> Json {
+    let node = &disc.nodes[number as usize];
+    let Json::Object(mut fields) = node_json(node) else { unreachable!("an entry is an object") };
+    fields.pop();
+    fields.push(("name", node.name.as_str().into()));
+    if node.is_directory() {
+        let below = children(disc, number);
+        fields.push(("bytes", weights[number as usize].0.into()));
+        fields.push(("files", weights[number as usize].1.into()));
+        let below = below.into_iter().map(|child| branch_json(disc, weights, child));
+        fields.push(("children", Json::List(below.collect())));
+    }
+    Json::Object(fields)
+}
+
+fn tree_text(disc: &Disc, weights: &[(u64, usize)]) -> String {
+    let mut rows = Vec::new();
+    let (bytes, files) = weights[0];
+    rows.push(("/".to_string(), about_folder(bytes, files)));
+    branch(disc, weights, 0, "", &mut rows);
+    let width = rows.iter().map(|(name, _)| name.chars().count()).max().unwrap_or(0);
+    let mut out = String::new();
+    for (name, about) in rows {
+        let gap = " ".repeat(width - name.chars().count());
+        let _ = writeln!(out, "{name}{gap}  {about}");
+    }
+    out
+}
+
+fn about_folder(bytes: u64, files: usize) -> String {
+    format!("{:>9}  {}", human(bytes), counted(files, "file", "files"))
+}
+
+fn branch(
+    disc: &Disc,
+    weights: &[(u64, usize)],
+    number: u32,
+    before: &str,
+    rows: &mut Vec<(String, String)>,
+) {
+    let below = children(disc, number);
+    for (i, &child) in below.iter().enumerate() {
+        let last = i + 1 == below.len();
+        let node = &disc.nodes[child as usize];
+        let knee = if last { "`-- " } else { "|-- " };
+        match node.kind {
+            Kind::File { offset, size } => {
+                let about = format!("{:>9}  at {offset:#010x}", human(size.into()));
+                rows.push((format!("{before}{knee}{}", node.name), about));
+            }
+            Kind::Directory { .. } => {
+                let (bytes, files) = weights[child as usize];
+                let name = format!("{before}{knee}{}/", node.name);
+                rows.push((name, about_folder(bytes, files)));
+                let before = format!("{before}{}", if last { "    " } else { "|   " });
+                branch(disc, weights, child, &before, rows);
+            }
+        }
+    }
+}

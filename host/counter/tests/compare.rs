@@ -1,0 +1,291 @@
+//! `compare`: the licence check.
+
+mod support;
+
+use std::fs;
+use std::os::unix::fs::FileExt;
+use std::path::{Path, PathBuf};
+use support::*;
+
+const END: u32 = 0x20_0000;
+
+struct Pair {
+    temp: Temp,
+    before: PathBuf,
+    after: PathBuf,
+}
+
+/// Two equal realistic masters.
+fn pair() -> Pair {
+    pair_of(&usual(0x10_0000, 0x4_5678))
+}
+
+fn pair_of(entries: &[Wish]) -> Pair {
+    let temp = Temp::new();
+    let (before, after) = (temp.at("before.iso"), temp.at("after.iso"));
+    sparse(&before, entries, END);
+    fs::copy(&before, &after).unwrap();
+    Pair { temp, before, after }
+}
+
+impl Pair {
+    fn compare(&self, rest: &[&str]) -> Run {
+        let mut args = vec![self.after.to_str().unwrap()];
+        args.extend(rest);
+        on("compare", &self.before, &args)
+    }
+
+    fn given(&self, list: &str) -> Run {
+        let path = self.temp.write("list.txt", list.as_bytes());
+        self.compare(&["--given", path.to_str().unwrap()])
+    }
+
+    fn json(&self) -> Json {
+        Json::read(&self.compare(&["--json"]).out)
+    }
+
+    fn edit(&self, args: &[&str]) {
+        done(args[0], &self.after, &args[1..]);
+    }
+
+    fn spoil(&self, at: u64) {
+        let file = fs::OpenOptions::new().read(true).write(true).open(&self.after).unwrap();
+        let mut byte = [0];
+        file.read_exact_at(&mut byte, at).unwrap();
+        file.write_all_at(&[byte[0] ^ 1], at).unwrap();
+    }
+}
+
+fn status(told: &Json, path: &str) -> String {
+    let files = told.at("files").list();
+    let file = files.iter().find(|file| file.at("path").text() == path).unwrap();
+    file.at("status").text().to_string()
+}
+
+#[test]
+fn equal_images_pass() {
+    let pair = pair();
+    let run = pair.compare(&[]);
+    assert_eq!(run.status, 0, "{}", run.out);
+    assert!(run.out.contains("unchanged        /audio/theme.adp\n"), "{}", run.out);
+    assert!(run.out.contains("8 files: 8 unchanged, 0 moved, 0 resized, 0 changed, 0 new, 0 gone"));
+    assert!(run.out.contains("passed"), "{}", run.out);
+    let told = pair.json();
+    assert!(told.at("passed").flag());
+    assert_eq!(told.at("counts").at("unchanged").number(), 8);
+}
+
+#[test]
+fn every_kind_of_difference_is_told_and_held_against_the_list() {
+    let pair = pair();
+    pair.edit(&["move", "audio/theme.adp", "0x190000"]);
+    pair.edit(&["resize", "text/en/msg.bin", "0x1000"]);
+    pair.edit(&["resize", "audio/se/se000.dsp", "0x401"]);
+    pair.edit(&["add", "text/en/new.bin"]);
+    pair.edit(&["mkdir", "extra"]);
+    let theme = Table::of(&pair.after).entry("/audio/theme.adp").offset;
+    assert_eq!(theme, 0x19_0000);
+    pair.spoil(0x10_0000 + 0x2345);
+
+    let told = pair.json();
+    assert_eq!(status(&told, "/audio/theme.adp"), "moved");
+    assert_eq!(status(&told, "/text/en/msg.bin"), "resized");
+    assert_eq!(status(&told, "/audio/se/se000.dsp"), "moved+resized");
+    assert_eq!(status(&told, "/movie/intro.thp"), "changed");
+    assert_eq!(status(&told, "/text/en/new.bin"), "new");
+    assert_eq!(status(&told, "/opening.bnr"), "unchanged");
+    assert!(!told.at("passed").flag());
+    let extra: Vec<&str> = told
+        .at("folders")
+        .list()
+        .iter()
+        .filter(|folder| folder.at("status").text() == "new")
+        .map(|folder| folder.at("path").text())
+        .collect();
+    assert_eq!(extra, ["/extra/"]);
+
+    let run = pair.compare(&[]);
+    assert_eq!(run.status, 1);
+    assert!(
+        run.out
+            .contains("moved            /audio/theme.adp  offset 0x80000 -> 0x190000  [NOT GIVEN]")
+    );
+    assert!(
+        run.out.contains("resized          /text/en/msg.bin  size 4,660 -> 4,096  [NOT GIVEN]")
+    );
+    assert!(run.out.contains("FAILED: 4 differences"), "{}", run.out);
+
+    let all = "audio/theme.adp\r\n\n/text/en/msg.bin\n./audio/se/../se/se000.dsp\nmovie\\intro.thp";
+    let run = pair.given(all);
+    assert_eq!(run.status, 0, "{}{}", run.out, run.err);
+    assert!(run.out.contains("[given]") && !run.out.contains("NOT GIVEN"), "{}", run.out);
+    // Each single line is needed.
+    for line in
+        ["audio/theme.adp", "/text/en/msg.bin", "./audio/se/../se/se000.dsp", "movie\\intro.thp"]
+    {
+        let run = pair.given(&all.replace(line, ""));
+        assert_eq!(run.status, 1, "{line}: {}", run.out);
+    }
+    // A line that ends in / stands for the files below it, and for no more.
+    assert_eq!(pair.given("audio/\ntext/en/\nmovie/\n").status, 0);
+    assert_eq!(pair.given("/\n").status, 0);
+    assert_eq!(pair.given("audio/\ntext/e/\nmovie/\n").status, 1);
+    let run = pair.given(&format!("{all}\nno/such/file\naudio\n"));
+    assert_eq!(run.status, 0);
+    assert!(run.err.contains("the list has /no/such/file"), "{}", run.err);
+    assert!(run.err.contains("the list has /audio,"), "{}", run.err);
+}
+
+#[test]
+fn one_byte_anywhere_in_a_file_is_found() {
+    for (path, entry_at) in [("/opening.bnr", 0x6_0000u64), ("/text/fr/msg.bin", 0xA_8000)] {
+        let pair = pair();
+        let size = u64::from(Table::of(&pair.after).entry(path).size);
+        for at in [0, size / 2, size - 1] {
+            fs::copy(&pair.before, &pair.after).unwrap();
+            pair.spoil(entry_at + at);
+            assert_eq!(pair.compare(&[]).status, 1);
+            assert_eq!(status(&pair.json(), path), "changed");
+        }
+        // Free space may hold anything.
+        fs::copy(&pair.before, &pair.after).unwrap();
+        pair.spoil(entry_at + size);
+        assert_eq!(pair.compare(&[]).status, 0);
+    }
+}
+
+#[test]
+fn header_program_and_tail_are_watched() {
+    for (at, fails) in
+        [(0x21, true), (0x428, false), (APPLOADER as u64 + 0x30, true), (DOL as u64 + 0x1000, true)]
+    {
+        let pair = pair();
+        // The table's size is the one thing that edits change there; here only slack is added.
+        if at == 0x428 {
+            let file = fs::OpenOptions::new().write(true).open(&pair.after).unwrap();
+            let size = (Table::of(&pair.after).table_end - FST as u64) as u32;
+            file.write_all_at(&(size + 1).to_be_bytes(), at).unwrap();
+        } else {
+            pair.spoil(at);
+        }
+        let run = pair.compare(&[]);
+        assert_eq!(run.status, i32::from(fails), "{at:#x}: {}", run.out);
+        // No list gives leave for that.
+        assert_eq!(pair.given("/\n").status, i32::from(fails), "{at:#x}");
+    }
+    let pair = pair();
+    for path in [&pair.before, &pair.after] {
+        let mut bytes = fs::read(path).unwrap();
+        bytes.extend(b"tail");
+        fs::write(path, bytes).unwrap();
+    }
+    assert_eq!(pair.compare(&[]).status, 0);
+    pair.spoil(END.into());
+    let run = pair.compare(&[]);
+    assert_eq!(run.status, 1);
+    assert!(run.out.contains("changed          (disc end and all behind it)"), "{}", run.out);
+}
+
+#[test]
+fn a_program_behind_the_table_is_watched() {
+    let pair = pair();
+    let at = 0x18_0000u32;
+    for path in [&pair.before, &pair.after] {
+        let mut bytes = fs::read(path).unwrap();
+        bytes.copy_within(DOL..DOL + 0x2_C000, at as usize);
+        put(&mut bytes, 0x420, at);
+        fs::write(path, bytes).unwrap();
+    }
+    assert_eq!(pair.compare(&[]).status, 0);
+    // For the library this is free space: a file moved there would write over the program.
+    let time = modified(&pair.after);
+    for dry in [&["opening.bnr", "0x181000"][..], &["opening.bnr", "0x181000", "--dry-run"]] {
+        let run = on("move", &pair.after, dry);
+        assert_eq!(run.status, 65, "{}", run.err);
+        assert!(run.err.contains("the program lies at 0x180000 to 0x1ac000"), "{}", run.err);
+    }
+    // Growing into it is taking it too; growing up to it is not.
+    pair.edit(&["move", "opening.bnr", "0x17c000", "--dry-run"]);
+    assert_eq!(on("resize", &pair.after, &["movie/intro.thp", "0x80001"]).status, 65);
+    assert_eq!(modified(&pair.after), time);
+    pair.edit(&["resize", "movie/intro.thp", "0x80000", "--dry-run"]);
+    assert!(done("info", &pair.after, &[]).contains("180,224 bytes at 0x180000, behind the table"));
+    assert!(json("info", &pair.after, &[]).at("program_behind_table").flag());
+    // A file that holds the program does not leave it behind as zeros.
+    let inside = pair.temp.at("inside.iso");
+    let mut bytes = fs::read(&pair.before).unwrap();
+    put(&mut bytes, 0x420, 0x10_0000);
+    bytes[0x10_0000..0x10_00E4].fill(0);
+    fs::write(&inside, bytes).unwrap();
+    assert_eq!(on("move", &inside, &["movie/intro.thp", "0x1a0000"]).status, 65);
+    assert_eq!(on("move", &inside, &["opening.bnr", "0x1a0000"]).status, 0);
+    pair.edit(&["move", "opening.bnr", "0x181000", "--over-program"]);
+    let run = pair.given("opening.bnr\n");
+    assert_eq!(run.status, 1);
+    assert!(run.out.contains("changed          (program)"), "{}", run.out);
+}
+
+#[test]
+fn a_file_that_is_gone_fails_and_a_renamed_one_is_gone_and_new() {
+    let pair = pair();
+    let mut bytes = fs::read(&pair.after).unwrap();
+    let at = bytes[FST..].windows(9).position(|w| w == b"theme.adp").unwrap();
+    bytes[FST + at] = b'T';
+    fs::write(&pair.after, bytes).unwrap();
+    let told = pair.json();
+    assert_eq!(status(&told, "/audio/theme.adp"), "gone");
+    assert_eq!(status(&told, "/audio/Theme.adp"), "new");
+    assert_eq!(pair.compare(&[]).status, 1);
+    assert_eq!(pair.given("audio/theme.adp").status, 0);
+}
+
+#[test]
+fn equal_names_are_matched_by_their_order() {
+    let entries = [
+        file("x", 0x6_0000, 0x10),
+        file("x", 0x6_1000, 0x20),
+        folder("x", vec![file("x", 0x6_2000, 0x30)]),
+    ];
+    let pair = pair_of(&entries);
+    assert_eq!(pair.compare(&[]).status, 0);
+    // The first `x` moves: that is all that differs, and the list's `x` means it.
+    pair.edit(&["move", "x", "0x70000"]);
+    let told = pair.json();
+    let statuses: Vec<&str> =
+        told.at("files").list().iter().map(|file| file.at("status").text()).collect();
+    assert_eq!(statuses, ["moved", "unchanged", "unchanged"]);
+    assert_eq!(pair.given("x").status, 0);
+    // The second one differs: the list's `x` does not mean it.
+    pair.spoil(0x6_1000);
+    let run = pair.given("x");
+    assert_eq!(run.status, 1);
+    assert!(run.out.contains("changed          /x (entry 2)  [NOT GIVEN]"), "{}", run.out);
+}
+
+#[test]
+fn images_that_do_not_open_and_lists_that_are_not_there() {
+    let pair = pair();
+    let bad = pair.temp.write("bad.iso", &[0; 0x440]);
+    let short = pair.temp.write("short.iso", &[0; 10]);
+    let other = |a: &Path, b: &Path| on("compare", a, &[b.to_str().unwrap()]);
+    assert_eq!(other(&bad, &pair.after).status, 3);
+    assert_eq!(other(&pair.before, &bad).status, 3);
+    // 1 always says that something differs.
+    let run = other(&pair.before, &short);
+    assert_eq!(run.status, 65);
+    assert!(run.err.contains("refused 1"), "{}", run.err);
+    assert_eq!(other(&pair.before, &pair.temp.at("nothing")).status, 66);
+    assert_eq!(pair.compare(&["--given", "/no/such/list"]).status, 66);
+    let run = pair.compare(&["--given", "/no/such/list", "--json"]);
+    assert_eq!(Json::read(&run.out).at("status").number(), 66);
+}
+
+#[test]
+fn empty_files_may_lie_anywhere() {
+    let pair = pair();
+    pair.edit(&["move", "audio/silence.adp", "0xFFFFFFFF"]);
+    let told = pair.json();
+    assert_eq!(status(&told, "/audio/silence.adp"), "moved");
+    assert_eq!(pair.compare(&[]).status, 1);
+    assert_eq!(pair.given("audio/silence.adp").status, 0);
+}

@@ -1,0 +1,271 @@
+//! Edits that are cut: killed at random points, signalled, or short of disk. `counter help safety`
+//! says what is promised then; here it is tried.
+
+mod support;
+
+use std::fs::{self, File};
+use std::io::Read;
+use std::os::unix::fs::FileExt;
+use std::path::{Path, PathBuf};
+use std::process::{Child, Command, Stdio};
+use std::thread;
+use std::time::{Duration, Instant};
+use support::*;
+
+const END: u32 = 0x500_0000;
+const FROM: u32 = 0x10_0000;
+const TO: u32 = 0x300_0000;
+const SIZE: u32 = 0x180_0000;
+
+/// A master with a film of 24 MiB, every byte of which says where it is from.
+struct Stage {
+    temp: Temp,
+    bytes: Vec<u8>,
+}
+
+impl Stage {
+    fn new() -> Stage {
+        let temp = Temp::new();
+        let path = temp.at("first.iso");
+        sparse(&path, &usual(FROM, SIZE), END);
+        let mut bytes = fs::read(&path).unwrap();
+        for (i, word) in bytes[FROM as usize..][..SIZE as usize].chunks_exact_mut(4).enumerate() {
+            word.copy_from_slice(&(i as u32 | 0x8000_0000).to_be_bytes());
+        }
+        fs::remove_file(&path).unwrap();
+        Stage { temp, bytes }
+    }
+
+    /// The image as it was, on the disk; the zeros between stay holes.
+    fn reset(&self) -> PathBuf {
+        let path = self.temp.at("image.iso");
+        let _ = fs::remove_file(&path);
+        let file = File::create_new(&path).unwrap();
+        file.set_len(END.into()).unwrap();
+        for (i, part) in self.bytes.chunks(0x1000).enumerate() {
+            if part.iter().any(|&b| b != 0) {
+                file.write_all_at(part, i as u64 * 0x1000).unwrap();
+            }
+        }
+        path
+    }
+
+    fn start(&self, image: &Path) -> Child {
+        let mut command = program();
+        command.arg("move").arg(image).args(["movie/intro.thp", &TO.to_string()]);
+        command.stdout(Stdio::piped()).stderr(Stdio::piped()).spawn().unwrap()
+    }
+
+    fn film(&self) -> &[u8] {
+        &self.bytes[FROM as usize..][..SIZE as usize]
+    }
+
+    /// What is promised of an edit cut anywhere. Says how far it had come.
+    fn judge(&self, image: &Path) -> &'static str {
+        let now = fs::read(image).unwrap();
+        assert_eq!(now.len(), self.bytes.len());
+        let table = FST..FST + self.table_size() + 0x100;
+        let parts = [(FROM, SIZE), (TO, SIZE)];
+        let mut at = 0;
+        for (start, end) in [(0x428, 0x42C), (table.start, table.end)]
+            .into_iter()
+            .chain(parts.map(|(start, size)| (start as usize, (start + size) as usize)))
+        {
+            assert!(now[at..start] == self.bytes[at..start], "bytes from {at:#x} to {start:#x}");
+            at = end;
+        }
+        assert!(now[at..] == self.bytes[at..], "bytes from {at:#x} on");
+        let old = &now[FROM as usize..][..SIZE as usize] == self.film();
+        let new = &now[TO as usize..][..SIZE as usize] == self.film();
+        assert!(old || new, "the film is whole at one place at least");
+        let offset = Table::of(image).entry("/movie/intro.thp").offset;
+        match (offset, old, new) {
+            (FROM, _, false) => "before the table",
+            (FROM, _, true) => "copied, the table old",
+            (TO, true, _) => "the table new, nothing zeroed",
+            (TO, ..) if now[FROM as usize..][..SIZE as usize].iter().any(|&b| b != 0) => "zeroing",
+            (TO, ..) => "all written",
+            _ => panic!("the film at {offset:#x}"),
+        }
+    }
+
+    fn table_size(&self) -> usize {
+        get(&self.bytes, 0x428) as usize
+    }
+}
+
+/// Waits until the file's bytes at `at` are, or are not, zero, or the time is over.
+fn wait_for(image: &Path, at: u64, zero: bool, child: &mut Child) {
+    let file = File::open(image).unwrap();
+    let start = Instant::now();
+    let mut word = [0; 4];
+    while start.elapsed() < Duration::from_secs(20) {
+        file.read_exact_at(&mut word, at).unwrap();
+        if (word == [0; 4]) == zero || child.try_wait().unwrap().is_some() {
+            return;
+        }
+    }
+}
+
+fn finish(child: Child) -> Run {
+    child.wait_with_output().unwrap().into()
+}
+
+#[test]
+fn a_killed_edit_keeps_what_is_promised() {
+    let stage = Stage::new();
+    let mut seen: Vec<&str> = Vec::new();
+    let mut random = std::process::id().wrapping_mul(0x9E37_79B9) | 1;
+    let mut next = |below: u32| {
+        random ^= random << 13;
+        random ^= random >> 17;
+        random ^= random << 5;
+        random % below
+    };
+    for turn in 0..18 {
+        let image = stage.reset();
+        let mut child = stage.start(&image);
+        match turn % 3 {
+            // While the bytes are copied, while the old place is zeroed, at any time.
+            0 => wait_for(&image, u64::from(TO + next(SIZE - 4)), false, &mut child),
+            1 => wait_for(&image, u64::from(FROM + (next(SIZE - 4) & !3)), true, &mut child),
+            _ => thread::sleep(Duration::from_micros(next(60_000).into())),
+        }
+        send(&child, SIGKILL);
+        finish(child);
+        let state = stage.judge(&image);
+        seen.push(state);
+        // The lock died with the editor; the image opens, and an edit that was not begun or did
+        // not come to the table can be done again.
+        assert_eq!(on("check", &image, &[]).status, 0, "{state}");
+        if state == "before the table" || state == "copied, the table old" {
+            done("move", &image, &["movie/intro.thp", &TO.to_string()]);
+            assert_eq!(stage.judge(&image), "all written");
+        }
+    }
+    println!("{seen:?}");
+    assert!(seen.iter().any(|state| *state != "all written"), "no kill came in time: {seen:?}");
+}
+
+#[test]
+fn a_signal_during_an_edit_waits_for_its_end() {
+    let stage = Stage::new();
+    for turn in 0..10 {
+        let image = stage.reset();
+        let mut child = stage.start(&image);
+        wait_for(&image, u64::from(TO + 0x1000), false, &mut child);
+        let signal = if turn % 2 == 0 { SIGTERM } else { SIGINT };
+        send(&child, signal);
+        let run = finish(child);
+        assert!(run.out.ends_with("done: written and synced\n"), "{}{}", run.out, run.err);
+        assert_eq!(stage.judge(&image), "all written");
+        // Unless the edit was over before the signal came.
+        if run.signal == Some(signal) {
+            assert!(run.err.contains("came during the edit; the edit is done"), "{}", run.err);
+            return;
+        }
+    }
+    panic!("no signal came in time");
+}
+
+#[test]
+fn a_signal_while_reading_ends_at_once_and_leaves_no_half_file() {
+    let stage = Stage::new();
+    let image = stage.reset();
+    // Nobody reads the pipe: `cat` waits in the midst of its output.
+    let mut child = program()
+        .arg("cat")
+        .arg(&image)
+        .arg("movie/intro.thp")
+        .stdout(Stdio::piped())
+        .stderr(Stdio::piped())
+        .spawn()
+        .unwrap();
+    let mut first = [0; 1];
+    child.stdout.as_mut().unwrap().read_exact(&mut first).unwrap();
+    send(&child, SIGINT);
+    let mut err = String::new();
+    child.stderr.take().unwrap().read_to_string(&mut err).unwrap();
+    let run = finish(child);
+    assert_eq!(run.signal, Some(SIGINT), "{err}");
+    assert!(err.contains("stopped by Ctrl-C (SIGINT); the image is as it was"), "{err}");
+
+    for delay in [0, 2, 5, 10, 15, 20] {
+        let out = stage.temp.at(&format!("film{delay}"));
+        let child = program()
+            .arg("extract")
+            .arg(&image)
+            .arg("movie/intro.thp")
+            .arg(&out)
+            .stdout(Stdio::null())
+            .stderr(Stdio::piped())
+            .spawn()
+            .unwrap();
+        thread::sleep(Duration::from_millis(delay));
+        send(&child, SIGTERM);
+        let run = finish(child);
+        // There is all of it or nothing.
+        match fs::read(&out) {
+            Ok(bytes) => assert!(bytes == stage.film(), "{} bytes, {}", bytes.len(), run.err),
+            Err(_) => assert_eq!(run.signal, Some(SIGTERM)),
+        }
+    }
+}
+
+#[test]
+fn an_image_that_shrinks_while_it_is_read_is_told() {
+    let stage = Stage::new();
+    let image = stage.reset();
+    let mut child = program()
+        .arg("cat")
+        .arg(&image)
+        .arg("movie/intro.thp")
+        .stdout(Stdio::piped())
+        .stderr(Stdio::piped())
+        .spawn()
+        .unwrap();
+    let mut first = [0; 1];
+    child.stdout.as_mut().unwrap().read_exact(&mut first).unwrap();
+    File::options().write(true).open(&image).unwrap().set_len(0x20_0000).unwrap();
+    let run = finish(child);
+    assert_eq!(run.status, 74, "{}", run.err);
+    assert!(run.err.contains("could not be read to its end"), "{}", run.err);
+}
+
+/// A file system of 16 MiB that is nearly full; needs leave to mount one.
+#[test]
+fn a_full_disk_is_told_before_anything_is_written() {
+    let stage = Stage::new();
+    let image = stage.reset();
+    let small = stage.temp.at("small");
+    fs::create_dir(&small).unwrap();
+    let script = "set -e
+        mount -t tmpfs -o size=40M tmpfs \"$1\"
+        cp --sparse=always \"$2\" \"$1/image.iso\"
+        cp \"$1/image.iso\" \"$1/copy\" 2>/dev/null || true
+        sum=$(cksum < \"$1/image.iso\"); time=$(stat -c %y \"$1/image.iso\")
+        status=0; \"$3\" move \"$1/image.iso\" movie/intro.thp 0x3000000 || status=$?
+        test \"$sum\" = \"$(cksum < \"$1/image.iso\")\"
+        test \"$time\" = \"$(stat -c %y \"$1/image.iso\")\"
+        status2=0; \"$3\" extract \"$1/image.iso\" movie/intro.thp \"$1/film\" || status2=$?
+        test ! -e \"$1/film\"
+        rm \"$1/copy\"; \"$3\" move \"$1/image.iso\" opening.bnr 0x3000000
+        echo \"statuses $status $status2\"";
+    let output = Command::new("unshare")
+        .args(["-m", "sh", "-c", script, "sh"])
+        .args([&small, &image])
+        .arg(env!("CARGO_BIN_EXE_counter"))
+        .output();
+    let Ok(output) = output else {
+        println!("not tried: no unshare here");
+        return;
+    };
+    let run = Run::from(output);
+    if run.status != 0 && (run.err.contains("mount:") || run.err.contains("unshare")) {
+        println!("not tried: {}", run.err);
+        return;
+    }
+    assert_eq!(run.status, 0, "{}{}", run.out, run.err);
+    assert!(run.out.contains("statuses 74 74"), "{}{}", run.out, run.err);
+    assert!(run.err.contains("the disk is full: the edit fills 24 MiB of holes"), "{}", run.err);
+}

@@ -1,0 +1,747 @@
+//! The commands that look: what they say, as text and as JSON, and how they fail.
+
+mod support;
+
+use std::fs::{self, File, OpenOptions};
+use std::io::Read;
+use std::os::fd::FromRawFd;
+use std::os::unix::fs::PermissionsExt;
+use std::process::Stdio;
+use support::*;
+
+const END: u32 = 0x20_0000;
+
+/// A realistic master of 2 MiB.
+fn usual_master(temp: &Temp) -> std::path::PathBuf {
+    let path = temp.at("usual.iso");
+    sparse(&path, &usual(0x10_0000, 0x4_5678), END);
+    path
+}
+
+#[test]
+fn built_in_small_master_is_listed_as_the_paper_has_it() {
+    let listing = "total 8192 used 1370\nd 0 0 2 /\nf 1 1280 256 /a\nr 1114 166\nr 1536 6656\n";
+    let run = run(&["list"]);
+    assert_eq!((run.status, run.out.as_str()), (0, listing));
+    assert!(run.err.contains("built-in small master"));
+    let temp = Temp::new();
+    let image = temp.write("small.iso", &small_master());
+    assert_eq!(done("list", &image, &[]), listing);
+}
+
+#[test]
+fn every_reading_command_works_without_an_image() {
+    let temp = Temp::new();
+    let out = |name: &str| temp.at(name).display().to_string();
+    let (folder, one, svg) = (out("all"), out("one"), out("map.svg"));
+    let commands: [&[&str]; 10] = [
+        &["info"],
+        &["list"],
+        &["tree"],
+        &["free"],
+        &["find", "/a"],
+        &["check"],
+        &["extract", "--all", &folder],
+        &["extract", "a", &one],
+        &["cat", "a"],
+        &["map", &svg],
+    ];
+    for args in commands {
+        let plain = run(args);
+        assert_eq!(plain.status, 0, "{args:?}: {}", plain.err);
+    }
+    assert_eq!(fs::read(temp.at("one")).unwrap(), vec![0; 0x100]);
+    assert_eq!(fs::read(temp.at("all").join("a")).unwrap(), vec![0; 0x100]);
+    assert_eq!(run(&["dol"]).status, 0);
+}
+
+#[test]
+fn listing_equals_a_reading_of_the_table_by_itself() {
+    let temp = Temp::new();
+    let image = usual_master(&temp);
+    let table = Table::of(&image);
+    assert_eq!(done("list", &image, &[]), table.listing());
+
+    let told = json("list", &image, &[]);
+    assert_eq!(told.at("total").number(), u64::from(END));
+    let entries = told.at("entries").list();
+    assert_eq!(entries.len(), table.entries.len());
+    for (i, (told, entry)) in entries.iter().zip(&table.entries).enumerate() {
+        assert_eq!(told.at("number").number(), i as u64);
+        assert_eq!(told.at("parent").number(), u64::from(entry.parent));
+        let last = if entry.folder { told.at("next") } else { told.at("size") };
+        assert_eq!(last.number(), u64::from(entry.size));
+        assert_eq!(told.at("path").text().trim_end_matches('/'), entry.path);
+        assert_eq!(told.at("kind").text(), if entry.folder { "directory" } else { "file" });
+    }
+    let free: Vec<(u64, u64)> = told
+        .at("free")
+        .list()
+        .iter()
+        .map(|r| (r.at("offset").number(), r.at("size").number()))
+        .collect();
+    assert_eq!(free, table.free());
+    let regions = json("free", &image, &[]);
+    assert_eq!(regions.at("regions").list().len(), free.len());
+    assert_eq!(regions.at("free").number(), free.iter().map(|r| r.1).sum::<u64>());
+    assert!(done("free", &image, &[]).contains(&format!("{:#010x}", free[0].0)));
+}
+
+#[test]
+fn info_tells_the_header() {
+    let temp = Temp::new();
+    let image = usual_master(&temp);
+    let told = json("info", &image, &[]);
+    assert_eq!(told.at("game_code").text(), "GCTE");
+    assert_eq!(told.at("maker").text(), "01");
+    assert_eq!(told.at("game_name").text(), "Counter's test");
+    assert_eq!(told.at("version").number(), 2);
+    let words = [
+        ("gamecube_magic", 0xC233_9F3D),
+        ("debug_offset", 0x2_0000),
+        ("dol_offset", DOL as u64),
+        ("fst_offset", FST as u64),
+        ("fst_maximum", 0x8000),
+        ("user_position", 0x8_0000),
+        ("user_size", 0x10_0000),
+        ("disc_size", 0x10_0000),
+        ("disc_end", 0x20_0000),
+        ("files", 8),
+        ("directories", 8),
+        ("image_bytes", 0x20_0000),
+    ];
+    for (name, value) in words {
+        assert_eq!(told.at(name).number(), value, "{name}");
+    }
+    let text = done("info", &image, &[]);
+    assert!(text.contains("GCTE01") && text.contains("Counter's test") && text.contains("0x50000"));
+}
+
+#[test]
+fn any_bytes_of_a_game_name_are_valid_json() {
+    let temp = Temp::new();
+    let mut bytes = small_master();
+    for (i, byte) in (1..=255u8).enumerate() {
+        bytes[0x20 + i] = byte;
+    }
+    bytes[0..6].copy_from_slice(&[0xFF, b'"', b'\\', 1, 0x80, b'\n']);
+    let image = temp.write("odd.iso", &bytes);
+    let told = json("info", &image, &[]);
+    let name: Vec<u32> = told.at("game_name").text().chars().map(|c| c as u32).collect();
+    assert_eq!(name, (1..=255).collect::<Vec<u32>>());
+    assert_eq!(told.at("game_code").text(), "\u{FF}\"\\\u{1}");
+    assert!(done("info", &image, &[]).is_ascii());
+}
+
+#[test]
+fn tree_shows_folders_and_sizes() {
+    let temp = Temp::new();
+    let image = usual_master(&temp);
+    let text = done("tree", &image, &[]);
+    let lines: Vec<&str> = text.lines().collect();
+    assert_eq!(lines.len(), Table::of(&image).entries.len());
+    assert!(lines[0].starts_with("/ ") && lines[0].contains("8 files"), "{text}");
+    assert!(text.contains("|-- audio/") && text.contains("|   |-- se/"), "{text}");
+    assert!(text.contains("`-- msg.bin") && text.contains("at 0x000a0000"), "{text}");
+    let told = json("tree", &image, &[]);
+    let names: Vec<&str> =
+        told.at("children").list().iter().map(|child| child.at("name").text()).collect();
+    assert_eq!(names, ["opening.bnr", "audio", "movie", "empty", "text"]);
+    let audio = &told.at("children").list()[1];
+    assert_eq!(audio.at("bytes").number(), 0x8123 + 0x400 + 0x3FF);
+    assert_eq!(audio.at("files").number(), 4);
+}
+
+#[test]
+fn find_answers_as_the_paper_marks_it() {
+    let temp = Temp::new();
+    let image = temp.write("small.iso", &small_master());
+    // P1: the largest size of `a`; P9 to P11: lookups.
+    let told = json("find", &image, &["a"]);
+    assert_eq!(told.at("largest_size").number(), 0x1B00);
+    assert_eq!((told.at("offset").number(), told.at("size").number()), (0x500, 0x100));
+    let root = json("find", &image, &[""]);
+    assert_eq!((root.at("number").number(), root.at("kind").text()), (0, "directory"));
+    for (path, number) in [("a/", 17), ("..", 18), ("b", 18), ("a/b", 17), ("/./a/../b", 17)] {
+        let run = on("find", &image, &[path]);
+        assert_eq!(run.status, number, "{path}: {}", run.err);
+        assert!(run.err.contains(&format!("refused {number}")), "{}", run.err);
+    }
+    for path in ["a", "/a", "//a", "./a", "\\a"] {
+        assert_eq!(on("find", &image, &[path]).status, 0, "{path}");
+    }
+    assert_eq!(on("find", &image, &[&"x".repeat(1024)]).status, 18);
+    let long = on("find", &image, &[&"x".repeat(1025)]);
+    assert_eq!(long.status, 9);
+    assert!(long.err.contains("1,024"), "{}", long.err);
+
+    let usual = usual_master(&temp);
+    let told = json("find", &usual, &["audio/se/se000.dsp"]);
+    assert_eq!(told.at("offset").number(), 0x9_0000);
+    assert_eq!(told.at("largest_size").number(), 0x400);
+    let text = done("find", &usual, &["audio/se"]);
+    assert!(text.contains("folder") && text.contains("/audio/se/"), "{text}");
+}
+
+#[test]
+fn check_names_number_and_cause() {
+    let temp = Temp::new();
+    type Case = (u32, &'static str, fn(&mut Vec<u8>));
+    let cases: [Case; 18] = [
+        (1, "header field past the image (the file has 1087 bytes", |b| b.truncate(0x43F)),
+        (1, "the file is empty", |b| b.clear()),
+        (2, "Wii magic", |b| put(b, 0x18, 0x5D1C_9EA3)),
+        (3, "not GameCube magic", |b| put(b, 0x1C, 0)),
+        (4, "FST offset 0x43f", |b| put(b, 0x424, 0x43F)),
+        (4, "the file has 8191 bytes, the disc 8192", |b| b.truncate(0x1FFF)),
+        (4, "disc end 0x100001fff", |b| put(b, 0x438, 0xFFFF_FFFF)),
+        (4, "table end 0x2001, disc end 0x2000", |b| put(b, 0x428, 0x1BC1)),
+        (5, "entry past the table (the table has 26 bytes, and 3 entries take 36)", |b| {
+            put(b, 0x448, 3)
+        }),
+        (6, "kind above 1 (entry 1 has kind 2)", |b| b[0x44C] = 2),
+        (7, "root a file", |b| b[0x440] = 0),
+        (8, "last text unended", |b| b[0x459] = b'b'),
+        (9, "limit or memory", |b| put(b, 0x448, 16_385)),
+        (10, "its parent's next (entry 1 has next 1)", |b| {
+            b[0x44C] = 1;
+            put(b, 0x454, 1)
+        }),
+        (10, "its parent's next (entry 1 has next 3)", |b| {
+            b[0x44C] = 1;
+            put(b, 0x454, 3)
+        }),
+        (11, "the texts' end (entry 1 has name offset 2)", |b| put(b, 0x44C, 2)),
+        (12, "name byte (entry 1 is called \"\\x80\")", |b| b[0x458] = 0x80),
+        (13, "unsafe or empty name (entry 1 is called \":\")", |b| b[0x458] = b':'),
+    ];
+    for (number, words, spoil) in cases {
+        let mut bytes = small_master();
+        spoil(&mut bytes);
+        let image = temp.write("spoiled.iso", &bytes);
+        let run = on("check", &image, &[]);
+        assert_eq!(run.status, number as i32, "{words}: {}", run.err);
+        assert!(run.err.contains(&format!("refused {number}")), "{words}: {}", run.err);
+        assert!(run.err.contains(words), "{words}: {}", run.err);
+        assert_eq!(run.out, "");
+
+        let told = on("check", &image, &["--json"]);
+        let json = Json::read(&told.out);
+        assert_eq!(json.at("refused").number(), number.into());
+        assert_eq!(json.at("status").number(), number.into());
+
+        let listed = on("list", &image, &[]);
+        assert_eq!((listed.status, listed.out), (number as i32, format!("refused {number}\n")));
+    }
+}
+
+#[test]
+fn check_finds_overlaps_and_accepts_what_is_sound() {
+    let temp = Temp::new();
+    let mut bytes = small_master();
+    put(&mut bytes, 0x450, 0x459);
+    let image = temp.write("overlap.iso", &bytes);
+    let run = on("check", &image, &[]);
+    assert_eq!(run.status, 14);
+    assert!(run.err.contains("used regions overlap or pass the disc end"));
+    let more = "(the table 0x0 to 0x45a and entry 1 \"a\" 0x459 to 0x559)";
+    assert!(run.err.contains(more), "{}", run.err);
+    put(&mut bytes, 0x450, 0x1F01);
+    let image = temp.write("past.iso", &bytes);
+    let run = on("check", &image, &[]);
+    assert_eq!(run.status, 14);
+    assert!(run.err.contains("the disc ends at 0x2000"), "{}", run.err);
+
+    let image = usual_master(&temp);
+    let text = done("check", &image, &[]);
+    assert!(text.contains("opens") && text.contains("8 files, 7 folders"), "{text}");
+    let told = json("check", &image, &[]);
+    assert!(told.at("opens").flag());
+    let (used, free) = (told.at("used").number(), told.at("free").number());
+    assert_eq!(used + free, u64::from(END));
+}
+
+#[test]
+fn cat_and_extract_give_the_file_byte_for_byte() {
+    let temp = Temp::new();
+    let image = usual_master(&temp);
+    let all = temp.at("out");
+    done("extract", &image, &["--all", all.to_str().unwrap()]);
+    for entry in Table::of(&image).entries.iter().skip(1) {
+        let place = all.join(&entry.path[1..]);
+        if entry.folder {
+            assert!(place.is_dir(), "{}", entry.path);
+            continue;
+        }
+        let bytes = span(&image, entry.offset.into(), entry.size.into());
+        assert_eq!(fs::read(&place).unwrap(), bytes, "{}", entry.path);
+        assert_eq!(on("cat", &image, &[&entry.path]).bytes, bytes, "{}", entry.path);
+    }
+    let told = json("cat", &image, &["audio/se/se001.dsp"]);
+    let bytes = span(&image, 0x9_0400, 0x3FF);
+    let hex: String = bytes.iter().map(|b| format!("{b:02x}")).collect();
+    assert_eq!(told.at("hex").text(), hex);
+    assert_eq!(told.at("size").number(), 0x3FF);
+    assert_eq!(json("cat", &image, &["audio/silence.adp"]).at("hex").text(), "");
+
+    let text = temp.at("text");
+    let told = json("extract", &image, &["text", text.to_str().unwrap()]);
+    assert_eq!(told.at("files").list().len(), 2);
+    assert_eq!(told.at("bytes").number(), 0x1234 + 0x1235);
+    assert_eq!(fs::read(text.join("fr/msg.bin")).unwrap(), span(&image, 0xA_8000, 0x1235));
+    // Into a folder that is there, under its own name.
+    done("extract", &image, &["opening.bnr", text.to_str().unwrap()]);
+    assert_eq!(fs::read(text.join("opening.bnr")).unwrap(), span(&image, 0x6_0000, 0x1960));
+    assert_eq!(on("cat", &image, &["audio"]).status, 16);
+    assert_eq!(on("cat", &image, &["nothing"]).status, 18);
+}
+
+#[test]
+fn nothing_is_overwritten() {
+    let temp = Temp::new();
+    let image = temp.write("small.iso", &filled_master());
+    let before = State::of(&image);
+    let there = temp.write("there", b"keep me");
+    for args in [vec!["a", there.to_str().unwrap()], vec!["a", image.to_str().unwrap()]] {
+        let run = on("extract", &image, &args);
+        assert_eq!(run.status, 73, "{}", run.err);
+        assert!(run.err.contains("is there already"), "{}", run.err);
+    }
+    assert_eq!(on("map", &image, &[there.to_str().unwrap()]).status, 73);
+    assert_eq!(on("map", &image, &[image.to_str().unwrap()]).status, 73);
+    // IMAGE forgotten: what was meant as the image is not written over.
+    assert_eq!(run(&["map", image.to_str().unwrap()]).status, 73);
+    assert_eq!(on("dol", &image, &["--out", there.to_str().unwrap()]).status, 73);
+    let folder = temp.at("full");
+    fs::create_dir(&folder).unwrap();
+    fs::write(folder.join("x"), b"").unwrap();
+    let run = on("extract", &image, &["--all", folder.to_str().unwrap()]);
+    assert_eq!(run.status, 73);
+    assert!(!folder.join("a").exists());
+    assert_eq!(fs::read(&there).unwrap(), b"keep me");
+    assert_eq!(State::of(&image), before);
+    let missing = temp.at("no/such/folder");
+    assert_eq!(on("extract", &image, &["a", missing.to_str().unwrap()]).status, 73);
+}
+
+#[test]
+fn equal_names_are_all_extracted() {
+    let temp = Temp::new();
+    let entries = vec![
+        file("x", 0x6_0000, 5),
+        file("x", 0x6_1000, 6),
+        folder("x", vec![file("y", 0x6_2000, 7)]),
+    ];
+    let image = temp.at("equal.iso");
+    sparse(&image, &entries, END);
+    let out = temp.at("out");
+    done("extract", &image, &["--all", out.to_str().unwrap()]);
+    assert_eq!(fs::read(out.join("x")).unwrap(), span(&image, 0x6_0000, 5));
+    assert_eq!(fs::read(out.join("x~2")).unwrap(), span(&image, 0x6_1000, 6));
+    assert_eq!(fs::read(out.join("x~3/y")).unwrap(), span(&image, 0x6_2000, 7));
+}
+
+#[test]
+fn dol_tells_the_program() {
+    let temp = Temp::new();
+    let image = usual_master(&temp);
+    let told = json("dol", &image, &[]);
+    assert_eq!(told.at("offset").number(), DOL as u64);
+    assert_eq!(told.at("size").number(), 0x2_C000);
+    assert_eq!(told.at("entry_point").number(), 0x8000_3154);
+    assert_eq!(told.at("bss_address").number(), 0x8003_0000);
+    assert_eq!(told.at("bss_size").number(), 0x4_0000);
+    let sections = told.at("sections").list();
+    let names: Vec<&str> = sections.iter().map(|section| section.at("name").text()).collect();
+    assert_eq!(names, ["text0", "text1", "data0"]);
+    assert_eq!(sections[2].at("address").number(), 0x8002_5000);
+    assert!(done("dol", &image, &[]).contains("0x80003154"));
+    let out = temp.at("main.dol");
+    done("dol", &image, &["--out", out.to_str().unwrap()]);
+    assert_eq!(fs::read(&out).unwrap(), span(&image, DOL as u64, 0x2_C000));
+
+    let mut bytes = small_master();
+    put(&mut bytes, 0x420, 0x2000 - 0xE3);
+    let image = temp.write("short.iso", &bytes);
+    let run = on("dol", &image, &[]);
+    assert_eq!(run.status, 24);
+    assert!(run.err.contains("DOL header past the image"), "{}", run.err);
+}
+
+#[test]
+fn map_is_a_labelled_picture() {
+    let temp = Temp::new();
+    let image = usual_master(&temp);
+    let out = temp.at("map.svg");
+    let told = json("map", &image, &[out.to_str().unwrap()]);
+    let kinds: Vec<&str> =
+        told.at("pieces").list().iter().map(|piece| piece.at("kind").text()).collect();
+    for kind in ["table", "program", "file", "free", "system"] {
+        assert!(kinds.contains(&kind), "{kind}");
+    }
+    assert_eq!(kinds.iter().filter(|kind| **kind == "file").count(), 7);
+    let picture = fs::read_to_string(&out).unwrap();
+    well_formed(&picture);
+    let words = [
+        "GCTE01 Counter's test",
+        "table at 0x50000",
+        "program at 0x1e800",
+        "/audio/theme.adp",
+        "Largest files",
+        "Largest free regions",
+        "free",
+    ];
+    for words in words {
+        assert!(picture.contains(words), "{words}");
+    }
+    // Each nonempty file is drawn somewhere, with its place.
+    for entry in Table::of(&image).entries.iter().filter(|e| !e.folder && e.size > 0) {
+        let title = format!("<title>{}: {:#x}, ", entry.path, entry.offset);
+        assert!(picture.contains(&title), "{title}");
+    }
+    let again = temp.at("again.svg");
+    done("map", &image, &[again.to_str().unwrap()]);
+    assert_eq!(fs::read_to_string(&again).unwrap(), picture);
+}
+
+/// Tags are nested, and no text holds a stray `<` or `&`.
+fn well_formed(xml: &str) {
+    let mut open: Vec<&str> = Vec::new();
+    for part in xml.split('<').skip(1) {
+        let (tag, text) = part.split_once('>').expect("an ended tag");
+        for entity in text.split('&').skip(1) {
+            let name = entity.split(';').next().unwrap();
+            assert!(["amp", "lt", "gt", "quot"].contains(&name), "&{name}");
+        }
+        if tag.starts_with('?') || tag.ends_with('/') {
+            continue;
+        }
+        match tag.strip_prefix('/') {
+            Some(name) => assert_eq!(open.pop(), Some(name)),
+            None => open.push(tag.split(' ').next().unwrap()),
+        }
+    }
+    assert!(open.is_empty());
+}
+
+#[test]
+fn names_with_odd_signs_are_kept_apart_from_markup() {
+    let temp = Temp::new();
+    let image = temp.at("odd.iso");
+    sparse(&image, &[file("<&>\"'", 0x6_0000, 0x8_0000)], END);
+    let out = temp.at("map.svg");
+    done("map", &image, &[out.to_str().unwrap()]);
+    well_formed(&fs::read_to_string(&out).unwrap());
+    assert_eq!(json("list", &image, &[]).at("entries").list()[1].at("path").text(), "/<&>\"'");
+}
+
+#[test]
+fn wrong_files_give_clear_errors() {
+    let temp = Temp::new();
+    let missing = on("list", &temp.at("nothing.iso"), &[]);
+    assert_eq!(missing.status, 66);
+    assert!(missing.err.contains("no such file"), "{}", missing.err);
+    let json = Json::read(&on("list", &temp.at("nothing.iso"), &["--json"]).out);
+    assert_eq!(json.at("status").number(), 66);
+    assert!(json.at("error").text().contains("no such file"));
+
+    let folder = on("list", &temp.at(""), &[]);
+    assert_eq!(folder.status, 66);
+    assert!(folder.err.contains("a folder, not an image"), "{}", folder.err);
+    for command in ["list", "rewrite"] {
+        let special = on(command, std::path::Path::new("/dev/null"), &[]);
+        assert_eq!(special.status, 66);
+        assert!(special.err.contains("special file"), "{}", special.err);
+    }
+    // A pipe with a name and no writer: an error and not a wait.
+    let pipe = temp.at("pipe");
+    let made = std::process::Command::new("mkfifo").arg(&pipe).status();
+    if made.is_ok_and(|status| status.success()) {
+        assert_eq!(on("list", &pipe, &[]).status, 66);
+    }
+}
+
+#[test]
+fn a_file_that_may_not_be_read_is_told() {
+    let temp = Temp::new();
+    let image = temp.write("secret.iso", &small_master());
+    fs::set_permissions(&image, fs::Permissions::from_mode(0o000)).unwrap();
+    // The machine's owner reads everything.
+    if File::open(&image).is_err() {
+        let run = on("list", &image, &[]);
+        assert_eq!(run.status, 77);
+        assert!(run.err.contains("permission denied"), "{}", run.err);
+    }
+}
+
+#[test]
+fn an_image_that_is_being_edited_is_not_read() {
+    let temp = Temp::new();
+    let image = temp.write("small.iso", &small_master());
+    let editor = OpenOptions::new().read(true).write(true).open(&image).unwrap();
+    editor.lock().unwrap();
+    let run = on("list", &image, &[]);
+    assert_eq!(run.status, 75);
+    assert!(run.err.contains("another program is editing it"), "{}", run.err);
+    editor.unlock().unwrap();
+    editor.lock_shared().unwrap();
+    assert_eq!(on("list", &image, &[]).status, 0);
+}
+
+#[test]
+fn wrong_usage_is_64() {
+    let cases: [&[&str]; 15] = [
+        &[],
+        &["frobnicate"],
+        &["list", "a", "b"],
+        &["find"],
+        &["list", "--dry-run"],
+        &["list", "--jso"],
+        &["extract", "x"],
+        &["compare", "x"],
+        &["compare", "x", "y", "--given"],
+        &["rewrite"],
+        &["move", "x", "y"],
+        &["mkdir", "image"],
+        &["rewrite", "image", "--json"],
+        &["info", "--json=1"],
+        &["help", "nothing"],
+    ];
+    for args in cases {
+        let run = run(args);
+        assert_eq!(run.status, 64, "{args:?}: {}", run.err);
+        assert!(!run.err.is_empty() && run.out.is_empty(), "{args:?}");
+    }
+}
+
+#[test]
+fn help_documents_commands_statuses_and_safety() {
+    let run_help = run(&["help"]);
+    assert_eq!(run_help.status, 0);
+    let commands = [
+        "info", "list", "tree", "free", "find", "check", "extract", "cat", "dol", "map", "compare",
+        "mkdir", "add", "move", "resize", "rewrite",
+    ];
+    for command in commands {
+        assert!(run_help.out.contains(&format!("counter {command} ")), "{command}");
+        assert!(run(&["help", command]).out.contains(&format!("counter {command} ")));
+    }
+    // The causes are the scope paper's table, word for word.
+    let causes = [
+        "header field past the image",
+        "Wii magic",
+        "not GameCube magic",
+        "FST offset below 0x440, disc end above 2^32 - 1, table end past it, or image shorter than it",
+        "entry past the table",
+        "kind above 1",
+        "root a file",
+        "last text unended",
+        "limit or memory",
+        "next at or before its entry, past the count or past its parent's next",
+        "name offset at or past the texts' end",
+        "name byte",
+        "unsafe or empty name",
+        "used regions overlap or pass the disc end",
+        "no such entry",
+        "file wanted",
+        "directory wanted",
+        "not found",
+        "name exists",
+        "move overlaps itself",
+        "no space",
+        "alignment no power of two",
+        "seek",
+        "DOL header past the image, or a sum above 2^32 - 1",
+    ];
+    for (i, cause) in causes.iter().enumerate() {
+        assert!(run_help.out.contains(&format!("{:2}  refused: {cause}\n", i + 1)), "{cause}");
+    }
+    for status in [64, 65, 66, 70, 73, 74, 75, 77] {
+        assert!(run_help.out.contains(&format!("\n  {status}  ")), "{status}");
+    }
+    assert!(run(&["help", "safety"]).out.contains("SIGKILL"));
+    assert!(run(&["help", "exit"]).out.contains("128 + n"));
+    assert_eq!(run(&["--help"]).out, run_help.out);
+    assert_eq!(run(&["--version"]).status, 0);
+}
+
+#[test]
+fn help_names_every_field_of_the_json() {
+    let temp = Temp::new();
+    let image = usual_master(&temp);
+    let help = run(&["help", "json"]).out;
+    let words: Vec<&str> = help.split(|c: char| !c.is_ascii_alphanumeric() && c != '_').collect();
+    let (out, svg) = (temp.at("out"), temp.at("map.svg"));
+    let commands: [(&str, &[&str]); 11] = [
+        ("info", &[]),
+        ("list", &[]),
+        ("tree", &[]),
+        ("find", &["opening.bnr"]),
+        ("free", &[]),
+        ("check", &[]),
+        ("extract", &["opening.bnr", out.to_str().unwrap()]),
+        ("cat", &["audio/se/se000.dsp"]),
+        ("dol", &[]),
+        ("map", &[svg.to_str().unwrap()]),
+        ("compare", &[image.to_str().unwrap()]),
+    ];
+    for (command, rest) in commands {
+        assert!(words.contains(&command), "{command}");
+        for name in fields(&json(command, &image, rest)) {
+            assert!(words.contains(&name.as_str()), "{command}: {name}");
+        }
+    }
+    let refused = Json::read(&on("find", &image, &["nothing", "--json"]).out);
+    let failed = Json::read(&on("list", &temp.at("nothing"), &["--json"]).out);
+    for name in fields(&refused).into_iter().chain(fields(&failed)) {
+        assert!(words.contains(&name.as_str()), "{name}");
+    }
+}
+
+/// The names of all fields, of what is inside too.
+fn fields(json: &Json) -> Vec<String> {
+    match json {
+        Json::Object(all) => all
+            .iter()
+            .flat_map(|(name, value)| [vec![name.clone()], fields(value)].concat())
+            .collect(),
+        Json::List(items) => items.iter().flat_map(fields).collect(),
+        _ => Vec::new(),
+    }
+}
+
+#[test]
+fn output_that_cannot_be_written_is_told() {
+    let full = File::options().write(true).open("/dev/full").unwrap();
+    let run: Run =
+        program().arg("list").stdout(full).stderr(Stdio::piped()).output().unwrap().into();
+    assert_eq!(run.status, 74);
+    assert!(run.err.contains("standard output: the disk is full"), "{}", run.err);
+
+    // A reader that goes away ends the program quietly, as a signal would.
+    let (reader, writer) = std::io::pipe().unwrap();
+    drop(reader);
+    let run: Run =
+        program().arg("list").stdout(writer).stderr(Stdio::piped()).output().unwrap().into();
+    assert_eq!(run.signal, Some(13), "{}", run.err);
+    assert!(!run.err.contains("panic"), "{}", run.err);
+}
+
+#[test]
+fn reading_leaves_the_file_as_it_was() {
+    let temp = Temp::new();
+    let image = usual_master(&temp);
+    let before = State::of(&image);
+    for command in ["info", "list", "tree", "free", "check", "dol"] {
+        done(command, &image, &[]);
+        json(command, &image, &[]);
+    }
+    done("find", &image, &["audio"]);
+    done("compare", &image, &[image.to_str().unwrap()]);
+    assert_eq!(State::of(&image), before);
+    fs::set_permissions(&image, fs::Permissions::from_mode(0o444)).unwrap();
+    done("list", &image, &[]);
+}
+
+/// A table of `count` entries, 64 folders deep, all called by one text of 1 MiB.
+fn long_names(temp: &Temp, count: u32) -> std::path::PathBuf {
+    let mut table: Vec<u8> = Vec::new();
+    for k in 0..count {
+        let (kind, next) = if k <= 64 { (0x0100_0000u32, count) } else { (0, 0) };
+        for word in [kind, 0, next] {
+            table.extend(word.to_be_bytes());
+        }
+    }
+    table.extend(vec![b'n'; 0xF_FFFF]);
+    table.push(0);
+    let mut bytes = small_master();
+    bytes.resize(0x40_0000, 0);
+    put(&mut bytes, 0x428, table.len() as u32);
+    put(&mut bytes, 0x434, 0x40_0000);
+    bytes[0x440..0x440 + table.len()].copy_from_slice(&table);
+    temp.write("deep.iso", &bytes)
+}
+
+#[test]
+fn names_without_end_do_not_eat_the_machine() {
+    let temp = Temp::new();
+    // The most that a table may hold.
+    let image = long_names(&temp, 16_384);
+    assert!(done("check", &image, &[]).contains("16,319 files, 64 folders"));
+    assert_eq!(json("info", &image, &[]).at("entries").number(), 16_384);
+    assert_eq!(json("free", &image, &[]).at("regions").list().len(), 1);
+
+    let image = long_names(&temp, 100);
+    assert_eq!(on("find", &image, &["n"]).status, 18);
+    // Not shared any more, the names would not fit.
+    assert_eq!(on("rewrite", &image, &[]).status, 9);
+    for args in [&["tree"][..], &["list", "--json"]] {
+        let run = on(args[0], &image, &args[1..]);
+        assert_eq!(run.status, 65, "{args:?}");
+        assert!(run.err.contains("paths of this image take more than 64 MiB"), "{}", run.err);
+    }
+    // The listing itself has no such bound: its first lines come at once.
+    let mut child = program().arg("list").arg(&image).stdout(Stdio::piped()).spawn().unwrap();
+    let mut out = vec![0; 5 << 20];
+    child.stdout.take().unwrap().read_exact(&mut out).unwrap();
+    child.wait().unwrap();
+    let end = 0x440 + 1200 + 0x10_0000;
+    let wanted = format!("total 4194304 used {end}\nd 0 0 100 /\nd 1 0 100 /nnn");
+    assert!(out.starts_with(wanted.as_bytes()));
+}
+
+// Progress on a terminal ------------------------------------------------------------------
+
+unsafe extern "C" {
+    fn posix_openpt(flags: i32) -> i32;
+    fn grantpt(fd: i32) -> i32;
+    fn unlockpt(fd: i32) -> i32;
+    fn ptsname(fd: i32) -> *const std::ffi::c_char;
+}
+
+/// A terminal: the side that shows, and the side that a program writes to.
+fn terminal() -> Option<(File, File)> {
+    const O_RDWR_NOCTTY: i32 = 0o402;
+    let (shows, name) = unsafe {
+        let fd = posix_openpt(O_RDWR_NOCTTY);
+        if fd < 0 || grantpt(fd) != 0 || unlockpt(fd) != 0 {
+            return None;
+        }
+        let name = std::ffi::CStr::from_ptr(ptsname(fd)).to_str().ok()?.to_string();
+        (File::from_raw_fd(fd), name)
+    };
+    let writes = OpenOptions::new().read(true).write(true).open(name).ok()?;
+    Some((shows, writes))
+}
+
+#[test]
+fn progress_is_shown_on_a_terminal_after_a_second() {
+    let temp = Temp::new();
+    let image = usual_master(&temp);
+    let Some((mut shows, writes)) = terminal() else {
+        println!("not tried: no terminal to be had");
+        return;
+    };
+    // Nobody reads the pipe for a while, so that `cat` is slow.
+    let mut child = program()
+        .arg("cat")
+        .arg(&image)
+        .arg("movie/intro.thp")
+        .stdout(Stdio::piped())
+        .stderr(writes)
+        .spawn()
+        .unwrap();
+    let mut pipe = child.stdout.take().unwrap();
+    let mut bytes = vec![0];
+    pipe.read_exact(&mut bytes).unwrap();
+    std::thread::sleep(std::time::Duration::from_millis(2500));
+    pipe.read_to_end(&mut bytes).unwrap();
+    assert!(child.wait().unwrap().success());
+    assert_eq!(bytes, span(&image, 0x10_0000, 0x4_5678));
+    let mut shown = [0; 256];
+    let count = shows.read(&mut shown).unwrap();
+    let shown = String::from_utf8_lossy(&shown[..count]).into_owned();
+    assert!(shown.contains("cat: 1 s, ") && shown.contains("of 277 KiB"), "{shown:?}");
+    // Not on a terminal: nothing.
+    assert_eq!(on("cat", &image, &["movie/intro.thp"]).err, "");
+}
