@@ -1,0 +1,39 @@
+//! Paths as long as they may be: steps down and back, and as many new directories as fit.
+
+use crate::images::{self, FST_OFFSET, Node, Plan};
+use crate::sides::Call;
+
+/// A directory of `n - 3` files, and behind it an empty one: the farthest that a directory can be from the one it is in.
+pub fn plan(n: usize) -> Plan {
+    let node = |name: &str, is_directory, first, second| Node {
+        name: name.as_bytes().to_vec(),
+        is_directory,
+        first,
+        second,
+    };
+    let mut nodes = vec![node("", true, 0, n as u32), node("y", true, 0, n as u32 - 1)];
+    for k in 2..n - 1 {
+        nodes.push(node(&format!("{k}"), false, 0, 0));
+    }
+    nodes.push(node("z", true, 0, n as u32));
+    let table = images::table_of(&nodes).len();
+    let disc_end = (FST_OFFSET + table + 0x20000).next_multiple_of(0x8000) as u32;
+    Plan { nodes, path_of: vec![], file: 2, free: 0, disc_end }
+}
+
+/// `z/../z/../z`, up to 1,024 bytes.
+pub fn back_and_forth() -> Call {
+    Call::Lookup([&b"z/../".repeat(204)[..], b"z"].concat())
+}
+
+/// `000/../001/../`, up to 1,024 bytes: 146 new directories.
+pub fn many_new() -> Call {
+    let path: String = (0..146).map(|k| format!("{k:03}/../")).collect();
+    Call::MakeDirectories(path.trim_end_matches("/../").as_bytes().to_vec())
+}
+
+/// `z/0/1/2 ..`: as deep as it may be.
+pub fn deep_new() -> Call {
+    let path: String = (0..63).map(|k| format!("/{k}")).collect();
+    Call::MakeDirectories(format!("z{path}").into_bytes())
+}

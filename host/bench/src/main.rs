@@ -1,0 +1,58 @@
+//! Counter and the original Rust on the same images, call by call, in one process.
+
+#![allow(dead_code, unused_imports)]
+
+/// Stands for unplug's macro of this name, as in the oracle.
+macro_rules! from_error_boxed {
+    ($to:ident :: $variant:ident, $from:ty) => {
+        impl From<$from> for $to {
+            fn from(error: $from) -> Self {
+                $to::$variant(Box::new(error))
+            }
+        }
+    };
+}
+
+#[path = "../../../oracle/src/common.rs"]
+mod common;
+#[path = "../../../oracle/src/dvd.rs"]
+mod dvd;
+
+mod adversarial;
+mod calls;
+mod giant;
+mod growth;
+mod images;
+mod long;
+mod measure;
+mod sides;
+
+fn main() {
+    let wanted: Vec<String> = std::env::args().skip(1).collect();
+    let runs = |name: &str| wanted.is_empty() || wanted.iter().any(|w| w == name);
+    let mut misses = vec![];
+    if runs("calls") {
+        calls::run(&mut misses);
+    }
+    if runs("long") {
+        calls::run_long(&mut misses);
+    }
+    if runs("growth") {
+        growth::run(&mut misses);
+    }
+    if runs("adversarial") {
+        adversarial::run(&mut misses);
+    }
+    if runs("giant") {
+        giant::run(&mut misses);
+    }
+    println!();
+    match misses.is_empty() {
+        true => println!("every bar is met"),
+        false => println!("{} bars are missed:", misses.len()),
+    }
+    for miss in &misses {
+        println!("- {miss}");
+    }
+    std::process::exit(i32::from(!misses.is_empty()));
+}
