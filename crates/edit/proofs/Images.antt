@@ -24,7 +24,7 @@ use Rattle.fst_write.specs.Accepted.{accepted-valid}
 use Rattle.space.specs.declared.DiscRegion.{DiscRegion}
 use Rattle.space.specs.Used.{endOf, usedRegions}
 use Rattle.space.specs.UsedLaws.{liesWithin, filesWithin}
-use Rattle.space.specs.Tests.{and-left, and-right, or-cases}
+use Rattle.refusal.specs.Tests.{and-left, and-right, or-cases}
 use Rattle.space.specs.MaxRegionSize.{maxRegionSize}
 use Rattle.space.specs.Free.{freeRegions}
 use Rattle.space.specs.GrowthLaws.{table-largest, place-free}

@@ -16,6 +16,7 @@ use Rattle.refusal.specs.declared.Refusal.the-variants.{InvalidNameByte, Unsafe
 use Rattle.refusal.specs.declared.Verdict.{Verdict}
 use Rattle.refusal.specs.declared.Verdict.the-variants as verdict
 use Rattle.refusal.specs.Refusal.{refuse}
+use Rattle.refusal.specs.Tests.{or-left}
 use Rattle.tree.specs.declared.Located.{Located}
 use Rattle.tree.specs.declared.Located.the-variants.{At, Refused}
 use Rattle.tree.specs.Table.{Node, file, directory, nameOf, none, plain, safe, parentOf, WellFormed}
@@ -105,9 +106,6 @@ unshift : (q j : ℕ) → (j ≡ q) ⊎ ((i : ℕ) × (shifted q i ≡ j))
 unshift q zero = ⊎-elim (λ (h : 0 < q). inr (0, shifted-low q 0 h)) (λ (h : q ≤ 0). inl (omega arith)) (lt-or-le 0 q)
 unshift q (suc j) = ⊎-elim (λ (h : j < q). ⊎-elim (λ (l : suc j < q). inr (suc j, shifted-low q (suc j) l)) (λ (l : q ≤ suc j). inl (omega arith)) (lt-or-le (suc j) q)) (λ (h : q ≤ j). inr (j, shifted-high q j h)) (lt-or-le j q)
 
-or-true : (a b : Bool) → a ≡ true → (a || b) ≡ true
-or-true a b e = rw e
-
 or-not : (a b : Bool) → b ≡ false → (a || not b) ≡ true
 or-not true b e = refl
 or-not false b e = rw e
@@ -153,12 +151,12 @@ module _ (nodes M : List Node) (φ : ℕ → ℕ) (ν : ℕ → Bool) (bad : Boo
           let l : j < q = rw dir at (child-is M p name j f′ .before) in
           let k : shifted q j ≡ j = shifted-low q j l in
           let s′ : shifted q p ≡ p = shifted-low q p (q≤ .0) in
-          rw (e, s′) (inr (j, child-kept M p q nm new (g .nested) dir p<n refl name j f′, rw k at (marked-old q ν j ∙ v), s, λ z. or-true bad _ (b z)))
+          rw (e, s′) (inr (j, child-kept M p q nm new (g .nested) dir p<n refl name j f′, rw k at (marked-old q ν j ∙ v), s, λ z. or-left bad _ (b z)))
 
       other : (d ≡ p → ⊥) → Where M ν bad d name → Where M′ (marked q ν) bad′ (shifted q d) name
       other n (inl f) = inl (child-moved M p q nm new (g .nested) dir p<n refl d h name n ∙ ap (moved q) f)
       other n (inr (j, f, v, s, b)) =
-          inr (shifted q j, child-moved M p q nm new (g .nested) dir p<n refl d h name n ∙ ap (moved q) f, marked-old q ν j ∙ v, s, λ z. or-true bad _ (b z))
+          inr (shifted q j, child-moved M p q nm new (g .nested) dir p<n refl d h name n ∙ ap (moved q) f, marked-old q ν j ∙ v, s, λ z. or-left bad _ (b z))
 
       go : (t : Bool) → eqb d p ≡ t → Where M ν bad d name → Where M′ (marked q ν) bad′ (shifted q d) name
       go true e s = same (eqb-true d p e) s

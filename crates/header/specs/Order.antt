@@ -17,7 +17,8 @@ use Rattle.refusal.specs.Refusal.{refuse, first}
 use Rattle.header.specs.declared.Field.{Field}
 use Rattle.header.specs.Fields.{fields, tile, wiiMagicField, gcnMagicField, gameNameField}
 use Rattle.header.specs.Verdicts.{gcnMagic, wiiMagic, fieldVerdict, fieldsVerdict, headerVerdict}
-use Rattle.header.specs.Tiling.{every, and-left, and-right, tile-start, tile-rest}
+use Rattle.refusal.specs.Tests.{and-left, and-right}
+use Rattle.header.specs.Tiling.{every, tile-start, tile-rest}
 
 first-refuse : (t : Bool) (c : Refusal) (r v : Verdict) → first (refuse t c r) v ≡ refuse t c (first r v)
 first-refuse true c r v = refl

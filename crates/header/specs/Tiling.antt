@@ -9,6 +9,7 @@ use lib.Dec.{eqb}
 use lib.ListN.{length}
 use borrow.Author.Tests.{eqb-true}
 use Rattle.endian.specs.Laws.{lt-or-le}
+use Rattle.refusal.specs.Tests.{and-left, and-right}
 use Rattle.header.specs.declared.Field.{Field}
 use Rattle.header.specs.Fields.{fields, nth, fieldAt, tile}
 
@@ -20,16 +21,6 @@ fields-tile = refl
 pub fields-count : length fields ≡ 21
 unfolding fields
 fields-count = refl
-
--- ---- a conjunction of tests
-
-pub and-left : (a b : Bool) → (a && b) ≡ true → a ≡ true
-and-left true b e = refl
-and-left false b e = e
-
-pub and-right : (a b : Bool) → (a && b) ≡ true → b ≡ true
-and-right true b e = e
-and-right false b e = let z : _≡_ {A = ℕ} 0 1 = cc in absurd (omega arith)
 
 -- ---- a test that all fields of a list pass, computed once, and passed by each of them
 

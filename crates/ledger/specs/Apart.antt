@@ -14,7 +14,7 @@ use Rattle.space.specs.declared.DiscRegion.{DiscRegion}
 use Rattle.space.specs.Used.{endOf, inside, usedIn, used, usedRegions}
 use Rattle.space.specs.Layout.{disjointFromAll, pairwiseDisjoint, disjointBelow}
 use Rattle.space.specs.Free.{freeIn}
-use Rattle.space.specs.Tests.{lt-or-le, and-left, and-right, and-both, or-cases, or-left, or-right, or-false, is-false, never-both}
+use Rattle.refusal.specs.Tests.{lt-or-le, and-left, and-right, and-both, or-cases, or-left, or-right, or-false, is-false, never-both}
 use Rattle.space.specs.UsedLaws.{inside-in, liesWithin, filesWithin, disjoint-below-used, used-is}
 use Rattle.space.specs.LayoutLaws.{inside-from, inside-to, from-all-free, free-from-all}
 use Rattle.edit.specs.Edits.{noPlace}

@@ -18,7 +18,7 @@ use Rattle.tree.specs.Lookup.{isDirectory}
 use Rattle.space.specs.declared.DiscRegion.{DiscRegion}
 use Rattle.space.specs.declared.Allocation.{Allocation}
 use Rattle.space.specs.declared.Allocation.the-variants as allocation
-use Rattle.space.specs.Tests.{lt-or-le, or-false}
+use Rattle.refusal.specs.Tests.{lt-or-le, or-false}
 use Rattle.space.specs.MaxRegionSize.{maxRegionSize}
 use Rattle.space.specs.Allocate.{allocationOf}
 use Rattle.disc.specs.Opening.{nodesIn, freeOf, regionOf}

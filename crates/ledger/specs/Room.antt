@@ -19,7 +19,7 @@ use Rattle.space.specs.declared.DiscRegion.{DiscRegion}
 use Rattle.space.specs.Used.{usedRegions}
 use Rattle.space.specs.Free.{freeIn, freeRegions}
 use Rattle.space.specs.MaxRegionSize.{maxRegionSize}
-use Rattle.space.specs.Tests.{lt-or-le, or-cases}
+use Rattle.refusal.specs.Tests.{lt-or-le, or-cases}
 use Rattle.space.specs.FreeLaws.{In}
 use Rattle.space.specs.GrowthLaws.{LargestSize, table-largest, file-largest, place-free}
 use Rattle.disc.specs.Opening.{nodesIn, usedIn, freeOf}

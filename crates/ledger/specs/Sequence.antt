@@ -16,7 +16,7 @@ use Rattle.tree.specs.Lookup.{isDirectory}
 use Rattle.space.specs.declared.DiscRegion.{DiscRegion}
 use Rattle.space.specs.Used.{inside, totalSize}
 use Rattle.space.specs.Layout.{pairwiseDisjoint, endBy, disjointBelow}
-use Rattle.space.specs.Tests.{and-left}
+use Rattle.refusal.specs.Tests.{and-left}
 use Rattle.space.specs.FreeLaws.{region-ext}
 use Rattle.space.specs.LayoutLaws.{inside-from, inside-to}
 use Rattle.space.specs.Listing.{listingOf, listAfter}

@@ -20,7 +20,7 @@ use Rattle.space.specs.MaxRegionSize.{insideFree, besideFree, maxSizeFro
 use Rattle.space.specs.Allocate.{alignUp, rest, fits, betterOf, noRegion, largest, powers, allocationOf}
 use Rattle.space.specs.Sort.{regionsIn}
 use Rattle.space.specs.Words.{SortedDisjoint, gaps}
-use Rattle.space.specs.Tests.{lt-or-le}
+use Rattle.refusal.specs.Tests.{lt-or-le}
 use Rattle.space.specs.UsedLaws.{nonempty-cons, nonempty-empty}
 use Rattle.space.specs.AllocateLaws.{align-up-le}
 use Rattle.space.proofs.Pairs.{length-regions}

@@ -20,7 +20,7 @@ use Rattle.space.specs.Allocate.{noRegion}
 use Rattle.space.specs.Listing.{regionWords, listingOf, listAfter}
 use Rattle.space.specs.Sort.{regionAt, regionsIn}
 use Rattle.space.specs.Words.{Added, inSequence, SortedDisjoint, gaps}
-use Rattle.space.specs.Tests.{lt-or-le, and-left, and-right}
+use Rattle.refusal.specs.Tests.{lt-or-le, and-left, and-right}
 use Rattle.space.specs.UsedLaws.{nonempty-cons, nonempty-empty}
 use Rattle.space.proofs.Pairs.{length-regions, regions-none}
 use Rattle.space.proofs.Order.{sequence-le}

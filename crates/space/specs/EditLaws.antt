@@ -15,7 +15,7 @@ use Rattle.space.specs.Layout.{disjoint, disjointFromAll, pairwiseDisjoi
 use Rattle.space.specs.Free.{freeIn, freeRegions}
 use Rattle.space.specs.MaxRegionSize.{maxRegionSize}
 use Rattle.space.specs.Allocate.{noRegion}
-use Rattle.space.specs.Tests.{lt-or-le, and-left, and-right, and-both, or-cases, or-left, or-right, or-false, is-false, never-both}
+use Rattle.refusal.specs.Tests.{lt-or-le, and-left, and-right, and-both, or-cases, or-left, or-right, or-false, is-false, never-both}
 use Rattle.space.specs.UsedLaws.{inside-in, nonempty-empty, nonempty-append, liesWithin, filesWithin, disjoint-below-used, used-is}
 use Rattle.space.specs.LayoutLaws.{inside-from, inside-to, inside-disjoint, from-all-free, free-from-all}
 use Rattle.space.specs.GrowthLaws.{LargestSize, max-size-largest, table-largest}

@@ -12,7 +12,7 @@ use lib.Dec.{eqb}
 use Rattle.space.specs.declared.DiscRegion.{DiscRegion}
 use Rattle.space.specs.Used.{endOf, used, usedRegions, AllNonempty}
 use Rattle.space.specs.Free.{freeIn, join, runs, freeRegions}
-use Rattle.space.specs.Tests.{lt-or-le, is-false, never-both}
+use Rattle.refusal.specs.Tests.{lt-or-le, is-false, never-both}
 use Rattle.space.specs.UsedLaws.{used-is}
 use Rattle.space.specs.RunLaws.{Covers, AllPass, runs-sound, Rising, runs-rising, covers-late, runs-cover}
 

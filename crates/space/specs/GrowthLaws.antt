@@ -12,7 +12,7 @@ use Rattle.space.specs.declared.DiscRegion.{DiscRegion}
 use Rattle.space.specs.Used.{endOf, inside, usedIn, usedRegions, AllNonempty}
 use Rattle.space.specs.Free.{freeIn, freeRegions}
 use Rattle.space.specs.MaxRegionSize.{insideFree, besideFree, maxSizeFrom, maxRegionSize}
-use Rattle.space.specs.Tests.{lt-or-le, or-left, or-right, never-both}
+use Rattle.refusal.specs.Tests.{lt-or-le, or-left, or-right, never-both}
 use Rattle.space.specs.UsedLaws.{inside-in, used-is}
 use Rattle.space.specs.RunLaws.{Covers, AllPass, Rising, covers-late}
 use Rattle.space.specs.FreeLaws.{free-sound, free-rising, free-cover, In, AllEndBy, free-nonempty, free-end}

@@ -11,7 +11,7 @@ use lib.Dec.{leb, ltb, eqb}
 use Rattle.space.specs.declared.DiscRegion.{DiscRegion}
 use Rattle.space.specs.Used.{endOf, inside, usedIn}
 use Rattle.space.specs.Layout.{disjoint, disjointFromAll}
-use Rattle.space.specs.Tests.{lt-or-le, and-left, and-right, and-both, or-cases, or-left, or-right, or-false, is-false, never-both}
+use Rattle.refusal.specs.Tests.{lt-or-le, and-left, and-right, and-both, or-cases, or-left, or-right, or-false, is-false, never-both}
 use Rattle.space.specs.UsedLaws.{inside-in}
 
 pub inside-from : (r : DiscRegion) (i : ℕ) → inside r i ≡ true → r .offset ≤ i

@@ -11,7 +11,7 @@ use borrow.Author.Tests.{eqb-true, eqb-false, eq-eqb}
 use lib.Dec.{eqb}
 use Rattle.space.specs.declared.DiscRegion.{DiscRegion}
 use Rattle.space.specs.Free.{join, runs}
-use Rattle.space.specs.Tests.{lt-or-le}
+use Rattle.refusal.specs.Tests.{lt-or-le}
 
 -- some run of rs covers the m bytes at x
 abbrev pub Covers : ℕ → ℕ → List DiscRegion → Type 0

@@ -12,7 +12,7 @@ use Rattle.space.specs.declared.DiscRegion.{DiscRegion}
 use Rattle.space.specs.Used.{endOf, inside, usedIn, nonempty, usedRegions, totalSize, usedTotal}
 use Rattle.space.specs.Layout.{disjointFromAll, pairwiseDisjoint, endBy, disjointBelow}
 use Rattle.space.specs.Free.{freeIn, join, runs, freeRegions, freeBytes}
-use Rattle.space.specs.Tests.{lt-or-le, and-left, and-right, never-both}
+use Rattle.refusal.specs.Tests.{lt-or-le, and-left, and-right, never-both}
 use Rattle.space.specs.UsedLaws.{nonempty-cons, nonempty-empty}
 use Rattle.space.specs.LayoutLaws.{inside-from, from-all-free}
 

@@ -11,7 +11,7 @@ use lib.Dec.{leb, eqb}
 use Rattle.space.specs.declared.DiscRegion.{DiscRegion}
 use Rattle.space.specs.Used.{endOf, inside, usedIn, used, nonempty, usedRegions, AllNonempty}
 use Rattle.space.specs.Layout.{disjoint, disjointFromAll, pairwiseDisjoint, endBy, disjointBelow}
-use Rattle.space.specs.Tests.{lt-or-le, or-right, mix-and}
+use Rattle.refusal.specs.Tests.{lt-or-le, or-right, mix-and}
 
 pub inside-low : (r : DiscRegion) (i : ℕ) → i < r .offset → inside r i ≡ false
 inside-low r i h = rw (lt-leb (r .offset) i h)

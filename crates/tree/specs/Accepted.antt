@@ -15,7 +15,8 @@ use Rattle.refusal.specs.declared.Verdict.the-variants.{Passed}
 use Rattle.refusal.specs.declared.Refusal.the-variants.{EntryPastTable, UnrecognizedKind, RootIsNotDirectory, MissingNullTerminator, LimitOrMemory, InvalidNextIndex}
 use Rattle.refusal.specs.Laws.{refuse-passed, first-passed}
 use Rattle.tree.specs.Table.{Node, file, directory, nameOf, none, plain, safe, kind, nameOffset, offsetOrParent, sizeOrNext, count, nameAt, nodeWith, nodeAt, nodesFrom, nodesOf, entryVerdict, entriesVerdict, unended, top, shut, enter, nameVerdict, nextVerdict, walk, check, GoodName, GoodEntry, Sound, WellFormed, shallowEntry, shallowFrom, shallow}
-use Rattle.tree.specs.Texts.{and-both, name-ends}
+use Rattle.refusal.specs.Tests.{and-both}
+use Rattle.tree.specs.Texts.{name-ends}
 
 -- ---- each test
 

@@ -19,7 +19,7 @@ use Rattle.tree.specs.Lookup.{isDirectory, nextOf, childNamed, childOf}
 use Rattle.tree.specs.Insert.{earlier, later, insertAt, shifted}
 use Rattle.tree.specs.Nesting.{parent-most}
 use Rattle.tree.specs.NestedInsert
-use Rattle.tree.specs.Texts.{and-false}
+use Rattle.refusal.specs.Tests.{and-false}
 use Rattle.tree.specs.NestedInsert.{Nested, Fresh, name-earlier, name-later, shifted-min, place, Place, before, after, earlier-up, earlier-same, is-earlier, is-later, new-most, around, between, q≤n, p<q, inserted-before, inserted-at, inserted-after, parent-inserted-before, parent-inserted-at, parent-inserted-after}
 use Rattle.tree.specs.LookupLaws.{Child, child-is, child-at, child-none, child-missing, child-named}
 

@@ -15,7 +15,7 @@ use Rattle.tree.specs.Table.{Node, directory, nameOf, none, textsOf, enc
 use Rattle.tree.specs.Nesting.{next-bounds}
 use Rattle.tree.specs.Insert.{splice, insertAt}
 use Rattle.tree.specs.InsertLaws.{Fresh, depthOf, depthOk, length-insert, insert-sound, insert-shallow}
-use Rattle.tree.specs.Texts.{and-right}
+use Rattle.refusal.specs.Tests.{and-right}
 use Rattle.tree.specs.RoundTrip.{Within, within-limits, limits-within, length-encode}
 use Rattle.tree.specs.Writing.{texts-append}
 use Rattle.tree.specs.PatchLaws.{texts-splice, tail-splice, length-tail}

@@ -19,7 +19,7 @@ use Rattle.tree.specs.declared.Located.{Located}
 use Rattle.tree.specs.declared.Located.the-variants.{At, Refused}
 use Rattle.tree.specs.Table.{Node, file, directory, nameOf, none, encloses, parentOf, WellFormed}
 use Rattle.tree.specs.Lookup.{isDirectory, nextOf, separator, components, childNamed, firstChild, childOf, stays, goesBack, andThen, stepBack, follow, lookup}
-use Rattle.tree.specs.Texts.{and-left, and-right, and-false}
+use Rattle.refusal.specs.Tests.{and-left, and-right, and-false}
 use Rattle.tree.specs.Nesting.{Inside, parent-is, parent-before, parent-clear, parent-at-least, next-bounds, nests, ended, parent-root}
 
 -- what does not reach past k reaches past nothing later

@@ -1,28 +1,14 @@
 -- The name at a place of the texts: the bytes up to the first zero byte, one by one. Assumes nothing.
 use Prim.Native.Nat.{ℕ, zero, suc, _+_, _-_, _*_, _<_}
 use mathlib.Core.Path.{_≡_, refl, sym, ap, _∙_}
-use mathlib.Core.Bool.{Bool, true, false, _&&_}
+use mathlib.Core.Bool.{true}
 use mathlib.Core.List.{List, [], _∷_, _++_}
 use native.Mathlib.Omega.{arith}
 use lib.ListN.{length, getD, take, drop, length-drop}
 use lib.Seq.{getD-drop}
 use Rattle.endian.specs.Bytes.{span}
+use Rattle.refusal.specs.Tests.{and-right}
 use Rattle.tree.specs.Table.{every, plainByte, upTo0, nameAt}
-
-pub and-left : (a b : Bool) → (a && b) ≡ true → a ≡ true
-and-left true b e = refl
-and-left false b e = e
-
-pub and-right : (a b : Bool) → (a && b) ≡ true → b ≡ true
-and-right true b e = e
-and-right false b e = cc
-
-pub and-false : (a : Bool) → (a && false) ≡ false
-and-false true = refl
-and-false false = refl
-
-pub and-both : (a b : Bool) → a ≡ true → b ≡ true → (a && b) ≡ true
-and-both a b p q = rw (p, q)
 
 -- a name of bytes that are not zero, and its zero byte
 pub upTo0-name : (nm r : List ℕ) → every plainByte nm ≡ true → upTo0 (nm ++ (0 ∷ r)) ≡ nm

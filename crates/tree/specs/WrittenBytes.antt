@@ -9,7 +9,7 @@ use lib.ListN.{length}
 use lib.Dec.{leb}
 use Rattle.endian.specs.Bytes.{be24Bytes, be32Bytes, AllBytes}
 use Rattle.tree.specs.Table.{Node, file, directory, nameOf, every, plainByte, plain, shut, enter, nodeBytes, parentOf, entriesBytes, textsOf, encode, Sound, WellFormed}
-use Rattle.tree.specs.Texts.{and-left, and-right}
+use Rattle.refusal.specs.Tests.{and-left, and-right}
 
 all-nil : AllBytes []
 all-nil i = omega arith
