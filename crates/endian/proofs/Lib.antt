@@ -1,3 +1,4 @@
--- The turns of the loops that copy, fill and compare, and copies in parts.
+-- The turns of the loops that copy, fill and compare, and copies and comparisons in parts.
 pub mod Turns
-pub mod Chunks
+pub mod Parts
+pub mod Blocks

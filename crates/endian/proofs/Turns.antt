@@ -17,31 +17,9 @@ copy-turn source s₀ s from to i e h k =
     let l : length (span source from i) ≡ i = length-span source from i (omega arith) in
     rw (e, add-one i, span-snoc source from i h) (rw l at (put-snoc s₀ to (span source from i) (getD source (from + i) 0) (rw l k)))
 
--- within one list, down: the byte that is read is not yet written over
-pub down-turn : (s₀ s : List ℕ) (from to i : ℕ) → s ≡ put s₀ to (span s₀ from i) → from + i < length s₀ → to ≤ from
-    → set s (to + i) (getD s (from + i) 0) ≡ put s₀ to (span s₀ from (i + 1))
-down-turn s₀ s from to i e h k =
-    let l : length (span s₀ from i) ≡ i = length-span s₀ from i (omega arith) in
-    let r : getD s (from + i) 0 ≡ getD s₀ (from + i) 0 = rw e (put-after s₀ to (span s₀ from i) (rw l (omega arith)) (from + i) (rw l (omega arith))) in
-    rw r (copy-turn s₀ s₀ s from to i e h (omega arith))
-
--- and up, the highest byte first
+-- within one list, the highest bytes first: none yet, and all of them
 pub up-start : (s : List ℕ) (from to n : ℕ) → s ≡ put s (to + n) (span s (from + n) (n - n))
 up-start s from to n = let z : n - n ≡ 0 = omega arith in rw z (sym (put-none s (to + n)))
-
-pub up-turn : (s₀ s : List ℕ) (from to n left j : ℕ) → left ≡ suc j → s ≡ put s₀ (to + left) (span s₀ (from + left) (n - left)) → left ≤ n → to + n ≤ length s₀ → from ≤ to
-    → set s (to + j) (getD s (from + j) 0) ≡ put s₀ (to + j) (span s₀ (from + j) (n - j))
-up-turn s₀ s from to n left j is e h fits up =
-    let m : ℕ = n - left in
-    let bs : List ℕ = span s₀ (suc (from + j)) m in
-    let l : length bs ≡ m = length-span s₀ (suc (from + j)) m (omega arith) in
-    let a : to + left ≡ suc (to + j) = omega arith in
-    let b : from + left ≡ suc (from + j) = omega arith in
-    let e′ : s ≡ put s₀ (suc (to + j)) bs = rw (a, b) at e in
-    let f : suc (to + j) + length bs ≤ length s₀ = rw l (omega arith) in
-    let r : getD s (from + j) 0 ≡ getD s₀ (from + j) 0 = rw e′ (put-before s₀ (suc (to + j)) bs f (from + j) (omega arith)) in
-    let q : n - j ≡ suc m = omega arith in
-    rw (r, q, span-cons s₀ (from + j) m (omega arith), e′) (put-cons s₀ (to + j) bs (getD s₀ (from + j) 0) f)
 
 pub fill-turn : (s₀ s : List ℕ) (at i b : ℕ) → s ≡ put s₀ at (replicate i b) → at + i < length s₀ → set s (at + i) b ≡ put s₀ at (replicate (i + 1) b)
 fill-turn s₀ s at i b e h =

@@ -1,7 +1,8 @@
 // Fields of 1, 3 and 4 bytes, highest byte first, at an offset of a slice; and spans of bytes: copied, filled, compared.
 ghost use mathlib.Core.Path.{_≡_};
 ghost use mathlib.Core.List.{[], _∷_};
-ghost use Prim.Native.Nat.{_+_, _≤_, _<_, _^_};
+ghost use mathlib.Core.Logic.{_⊎_};
+ghost use Prim.Native.Nat.{_+_, _≤_, _<_, _^_, min};
 ghost use lib.ListN.{length, getD, replicate};
 ghost use Rattle.endian.specs.Bytes.{be24, be32, be24Bytes, be32Bytes, put, span, sameBytes};
 
@@ -72,65 +73,48 @@ pub fn copy(source: &[u8], from: usize, s: &mut [u8], to: usize, n: usize)
     }
 }
 
-// The lowest byte first: right where the bytes go down, or the two spans are apart.
+// Up to 65,536 bytes by way of an array, so it does not matter where the two spans lie. The compiler makes one memmove of it, which a loop
+// over one slice does not become.
+fn copy_part(s: &mut [u8], from: usize, to: usize, n: usize)
+    requires { ⌜ (from + n ≤ length (now s)) × (to + n ≤ length (now s)) × (n ≤ 65536) ⌝ }
+    ensures { λ _. ⌜ now (s .exit) ≡ put (now (s .entry)) to (span (now (s .entry)) from n) ⌝ }
+{
+    let mut part: [u8; 65536] = [0; 65536];
+    copy(s, from, &mut part, 0, n);
+    copy(&part, 0, s, to, n);
+}
+
+// How many of the bytes that are left go at once.
+fn part_size(left: usize) -> usize
+    ensures { λ r. ⌜ r ≡ min left 65536 ⌝ }
+{
+    if left < 65536 { left } else { 65536 }
+}
+
+// The lowest part first: right where the bytes go down, or the two spans are apart.
 fn copy_down(s: &mut [u8], from: usize, to: usize, n: usize)
-    requires { ⌜ (from + n ≤ length (now s)) × (to ≤ from) ⌝ }
+    requires { ⌜ (from + n ≤ length (now s)) × (to + n ≤ length (now s)) × ((to ≤ from) ⊎ (from + n ≤ to)) ⌝ }
     ensures { λ _. ⌜ now (s .exit) ≡ put (now (s .entry)) to (span (now (s .entry)) from n) ⌝ }
 {
     let mut i = 0;
     while i < n {
-        s[to + i] = s[from + i];
-        i += 1;
+        let m = part_size(n - i);
+        copy_part(s, from + i, to + i, m);
+        i += m;
     }
 }
 
-// The highest byte first: right where the bytes go up.
+// The highest part first: right where the bytes go up.
 fn copy_up(s: &mut [u8], from: usize, to: usize, n: usize)
     requires { ⌜ (to + n ≤ length (now s)) × (from ≤ to) ⌝ }
     ensures { λ _. ⌜ now (s .exit) ≡ put (now (s .entry)) to (span (now (s .entry)) from n) ⌝ }
 {
     let mut left = n;
     while 0 < left {
-        left -= 1;
-        s[to + left] = s[from + left];
+        let m = part_size(left);
+        left -= m;
+        copy_part(s, from + left, to + left, m);
     }
-}
-
-// 65,536 bytes by way of an array, so it does not matter where the two spans lie. The compiler makes one memmove of it, which a loop
-// over one slice does not become.
-fn copy_chunk(s: &mut [u8], from: usize, to: usize)
-    requires { ⌜ (from + 65536 ≤ length (now s)) × (to + 65536 ≤ length (now s)) ⌝ }
-    ensures { λ _. ⌜ now (s .exit) ≡ put (now (s .entry)) to (span (now (s .entry)) from 65536) ⌝ }
-{
-    let mut chunk: [u8; 65536] = [0; 65536];
-    copy(s, from, &mut chunk, 0, 65536);
-    copy(&chunk, 0, s, to, 65536);
-}
-
-// The lowest chunk first, then the rest.
-fn chunks_down(s: &mut [u8], from: usize, to: usize, n: usize)
-    requires { ⌜ (from + n ≤ length (now s)) × (to ≤ from) ⌝ }
-    ensures { λ _. ⌜ now (s .exit) ≡ put (now (s .entry)) to (span (now (s .entry)) from n) ⌝ }
-{
-    let mut i = 0;
-    while 65536 <= n - i {
-        copy_chunk(s, from + i, to + i);
-        i += 65536;
-    }
-    copy_down(s, from + i, to + i, n - i);
-}
-
-// The highest chunk first, then the rest.
-fn chunks_up(s: &mut [u8], from: usize, to: usize, n: usize)
-    requires { ⌜ (to + n ≤ length (now s)) × (from ≤ to) ⌝ }
-    ensures { λ _. ⌜ now (s .exit) ≡ put (now (s .entry)) to (span (now (s .entry)) from n) ⌝ }
-{
-    let mut left = n;
-    while 65536 <= left {
-        left -= 65536;
-        copy_chunk(s, from + left, to + left);
-    }
-    copy_up(s, from, to, left);
 }
 
 // n bytes from `from` to `to` of the same slice, whether or not the two spans overlap.
@@ -139,9 +123,11 @@ pub fn copy_within(s: &mut [u8], from: usize, to: usize, n: usize)
     ensures { λ _. ⌜ now (s .exit) ≡ put (now (s .entry)) to (span (now (s .entry)) from n) ⌝ }
 {
     if to <= from {
-        chunks_down(s, from, to, n);
+        copy_down(s, from, to, n);
+    } else if n <= to - from {
+        copy_down(s, from, to, n);
     } else {
-        chunks_up(s, from, to, n);
+        copy_up(s, from, to, n);
     }
 }
 
@@ -157,8 +143,8 @@ pub fn fill(s: &mut [u8], at: usize, n: usize, b: u8)
     }
 }
 
-// Whether the n bytes from `at` of one slice are those from `start` of another.
-pub fn same(a: &[u8], at: usize, b: &[u8], start: usize, n: usize) -> bool
+// The rest of `same`, byte by byte.
+fn same_rest(a: &[u8], at: usize, b: &[u8], start: usize, n: usize) -> bool
     requires { ⌜ (at + n ≤ length (now a)) × (start + n ≤ length (now b)) ⌝ }
     ensures { λ r. ⌜ r ≡ sameBytes (span (now (a .entry)) at n) (span (now (b .entry)) start n) ⌝ }
 {
@@ -171,4 +157,36 @@ pub fn same(a: &[u8], at: usize, b: &[u8], start: usize, n: usize) -> bool
         }
     }
     true
+}
+
+// 1,024 bytes, all of them looked at even where an early one differs, so that the compiler compares many at a time.
+fn same_block(a: &[u8], at: usize, b: &[u8], start: usize) -> bool
+    requires { ⌜ (at + 1024 ≤ length (now a)) × (start + 1024 ≤ length (now b)) ⌝ }
+    ensures { λ r. ⌜ r ≡ sameBytes (span (now (a .entry)) at 1024) (span (now (b .entry)) start 1024) ⌝ }
+{
+    let mut same = true;
+    let mut i = 0;
+    while i < 1024 {
+        if a[at + i] != b[start + i] {
+            same = false;
+        }
+        i += 1;
+    }
+    same
+}
+
+// Whether the n bytes from `at` of one slice are those from `start` of another: whole blocks, then the rest.
+pub fn same(a: &[u8], at: usize, b: &[u8], start: usize, n: usize) -> bool
+    requires { ⌜ (at + n ≤ length (now a)) × (start + n ≤ length (now b)) ⌝ }
+    ensures { λ r. ⌜ r ≡ sameBytes (span (now (a .entry)) at n) (span (now (b .entry)) start n) ⌝ }
+{
+    let mut i = 0;
+    while 1024 <= n - i {
+        if same_block(a, at + i, b, start + i) {
+            i += 1024;
+        } else {
+            return false;
+        }
+    }
+    same_rest(a, at + i, b, start + i, n - i)
 }

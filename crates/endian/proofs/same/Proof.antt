@@ -1,16 +1,12 @@
 -- `endian::same` meets its contract. The invariant of its loop: what is left of both spans decides.
 -- Assumes nothing.
-use mathlib.Core.Path.{_≡_, refl, sym}
-use Prim.Native.Nat.{ℕ, _+_, _-_, _≤_, _<_}
+use Prim.Native.Nat.{_+_, _-_, _≤_}
+use mathlib.Core.Path.{_≡_, sym, _∙_}
 use native.Mathlib.Omega.{arith}
-use lib.ListN.{length, length-set}
-use Rattle.endian.specs.Bytes.{put, span}
-use Rattle.endian.specs.Laws.{put-none}
-use mathlib.Core.Path.{_∙_}
-use borrow.Author.Tests.{eq-eqb, ne-eqb}
 use denote.Ref.{now}
-use Rattle.endian.specs.Bytes.{sameBytes}
-use Rattle.endian.proofs.Turns.{same-start, same-turn, same-end}
+use Rattle.endian.specs.Bytes.{span, sameBytes}
+use Rattle.endian.proofs.Turns.{same-start}
+use Rattle.endian.proofs.Blocks.{same-part}
 use Rattle.endian.proofs.same.Statement.{statement}
 use Rattle.endian.proofs.same.Tie as tie
 
@@ -21,19 +17,21 @@ abbrev μ-loop : tie.MeasureT-loop
 μ-loop a at b start n i₀ i = n - i
 
 loop-holds : tie.Need-loop-holds Inv-loop μ-loop
-loop-holds c = (omega arith, same-start (now (c .args .a)) (now (c .args .b)) (c .args .at) (c .args .start) (c .args .n))
+loop-holds c =
+    let a = c .before .before .args in
+    (omega arith, same-start (now (a .a)) (now (a .b)) (a .at) (a .start) (a .n))
 
-add-if1 : tie.Need-add-if1 Inv-loop μ-loop
-add-if1 c = omega arith
+sub-loop : tie.Need-sub-loop Inv-loop μ-loop
+sub-loop c = omega arith
 
-shared-slice-read-if1 : tie.Need-shared-slice-read-if1 Inv-loop μ-loop
-shared-slice-read-if1 c = omega arith
+add-same-block : tie.Need-add-same-block Inv-loop μ-loop
+add-same-block c = omega arith
 
-add-if1-2 : tie.Need-add-if1-2 Inv-loop μ-loop
-add-if1-2 c = omega arith
+add-same-block-2 : tie.Need-add-same-block-2 Inv-loop μ-loop
+add-same-block-2 c = omega arith
 
-shared-slice-read-if1-2 : tie.Need-shared-slice-read-if1-2 Inv-loop μ-loop
-shared-slice-read-if1-2 c = omega arith
+same-block-requires : tie.Need-same-block-requires Inv-loop μ-loop
+same-block-requires c κs = (omega arith, omega arith)
 
 add-i : tie.Need-add-i Inv-loop μ-loop
 add-i c = omega arith
@@ -43,18 +41,33 @@ loop-less c = omega arith
 
 loop-again : tie.Need-loop-again Inv-loop μ-loop
 loop-again c =
-    let l = c .before .before .before .before .loop in
-    let a = c .before .before .before .before .before .args in
-    (omega arith, l .inv .1 ∙ rw (eq-eqb _ _ (c .if1 .taken)) at (same-turn (now (a .a)) (now (a .b)) (a .at) (a .start) (l .i) (a .n) (omega arith) (omega arith) (omega arith)))
+    let l = c .before .before .before .loop in
+    let a = c .before .before .before .before .before .before .args in (
+      omega arith,
+      l .inv .1 ∙ rw (sym (c .before .same-block .ensures) ∙ c .if1 .taken) at (same-part (now (a .a)) (now (a .b)) (a .at) (a .start) (l .i) (a .n) (omega arith) (omega arith) 1024 (omega arith)),
+    )
 
 returns : tie.Need-returns Inv-loop μ-loop
 returns c =
-    let l = c .before .before .before .before .loop in
-    let a = c .before .before .before .before .before .args in
-    sym (l .inv .1 ∙ rw (ne-eqb _ _ (c .if1 .left)) at (same-turn (now (a .a)) (now (a .b)) (a .at) (a .start) (l .i) (a .n) (omega arith) (omega arith) (omega arith)))
+    let l = c .before .before .before .loop in
+    let a = c .before .before .before .before .before .before .args in
+    sym
+    (l .inv .1 ∙ rw (sym (c .before .same-block .ensures) ∙ c .if1 .left) at (same-part (now (a .a)) (now (a .b)) (a .at) (a .start) (l .i) (a .n) (omega arith) (omega arith) 1024 (omega arith)))
+
+add-same-rest : tie.Need-add-same-rest Inv-loop μ-loop
+add-same-rest c = omega arith
+
+add-same-rest-2 : tie.Need-add-same-rest-2 Inv-loop μ-loop
+add-same-rest-2 c = omega arith
+
+sub-same-rest : tie.Need-sub-same-rest Inv-loop μ-loop
+sub-same-rest c = omega arith
+
+same-rest-requires : tie.Need-same-rest-requires Inv-loop μ-loop
+same-rest-requires c κs = (omega arith, omega arith)
 
 returns-2 : tie.Need-returns-2 Inv-loop μ-loop
-returns-2 c = sym (c .before .loop .inv .1 ∙ same-end _ _ _ _ _ _ (c .loop-test .left))
+returns-2 c = c .same-rest .ensures ∙ sym (c .before .before .loop .inv .1)
 
 pub same-spec : {M : Type 1} → statement M
 same-spec =
@@ -63,12 +76,16 @@ same-spec =
     Inv-loop
     μ-loop
     loop-holds
-    add-if1
-    shared-slice-read-if1
-    add-if1-2
-    shared-slice-read-if1-2
+    sub-loop
+    add-same-block
+    add-same-block-2
+    same-block-requires
     add-i
     loop-less
     loop-again
     returns
+    add-same-rest
+    add-same-rest-2
+    sub-same-rest
+    same-rest-requires
     returns-2)

@@ -1,9 +1,9 @@
--- `endian::copy_chunk` meets its contract: the array holds the bytes of the span before the first is written.
+-- `endian::copy_part` meets its contract: the array holds the bytes of the span before the first is written.
 -- Assumes nothing.
-use Rattle.endian.proofs.Chunks.{by-way}
+use Rattle.endian.proofs.Parts.{by-way}
 use borrow.Author.Needs.{needs}
-use Rattle.endian.proofs.copy_chunk.Statement.{statement}
-use Rattle.endian.proofs.copy_chunk.Tie as tie
+use Rattle.endian.proofs.copy_part.Statement.{statement}
+use Rattle.endian.proofs.copy_part.Tie as tie
 
 slice-aggregate-copy : tie.Need-slice-aggregate-copy
 slice-aggregate-copy c = search needs
@@ -23,10 +23,10 @@ same-length c = search needs
 returns : tie.Need-returns
 returns c =
     let s = c .before .before .before .before .before .before .before .before .before .before in
-    by-way (s .args .s .now) _ _ _ (s .args .from) (s .args .to) 65536 (c .before .before .before .before .before .before .copy .ensures) (c .before .before .copy2 .ensures) (search needs) (s .pre .0)
+    by-way (s .args .s .now) _ _ _ (s .args .from) (s .args .to) (s .args .n) (c .before .before .before .before .before .before .copy .ensures) (c .before .before .copy2 .ensures) (search needs) (s .pre .0)
 
-pub copy-chunk-spec : {M : Type 1} → statement M
-copy-chunk-spec =
+pub copy-part-spec : {M : Type 1} → statement M
+copy-part-spec =
     tie.close
     (tie.spec
     slice-aggregate-copy

@@ -1,13 +1,14 @@
 -- A span put in parts, the lowest first or the highest first, is put whole: a part is read before it is written over. Assumes nothing.
 use Prim.Native.Nat.{ℕ, _+_, _-_, _<_, _≤_}
 use mathlib.Core.Path.{_≡_, refl, sym, ap, _∙_}
+use mathlib.Core.Logic.{_⊎_, ⊎-elim}
 use mathlib.Core.List.{List, _++_, append-assoc, append-nil}
 use native.Mathlib.Omega.{arith}
 use native.Mathlib.Nat.{add-zero, zero-add}
 use lib.ListN.{length, take, drop, length-append, drop-of-length-le}
 use lib.Seq.{length-take-le, take-at, drop-at, take-append-le, take-take, take-add, take-all, drop-drop}
 use Rattle.endian.specs.Bytes.{put, span}
-use Rattle.endian.specs.Laws.{length-put, put-before, put-after, drop-put, length-span, span-ext}
+use Rattle.endian.specs.Laws.{length-put, put-before, put-after, drop-put, span-put, length-span, span-ext}
 use Rattle.endian.proofs.Turns.{up-end}
 
 put-open : (s : List ℕ) (at : ℕ) (bs : List ℕ) → put s at bs ≡ take at s ++ (bs ++ drop (at + length bs) s)
@@ -50,7 +51,7 @@ put-prepend s at a m b e h =
     let d : drop (at + length a) (put s m b) ≡ b ++ drop (m + length b) s = rw (← e) (drop-from s m b (omega arith)) in
     put-open (put s m b) at a ∙ rw (t, d, ← append-assoc a b (drop (m + length b) s)) (sym (rw n at (put-open s at (a ++ b))))
 
-span-add : (s : List ℕ) (at n m : ℕ) → span s at (n + m) ≡ span s at n ++ span s (at + n) m
+pub span-add : (s : List ℕ) (at n m : ℕ) → span s at (n + m) ≡ span s at n ++ span s (at + n) m
 span-add s at n m = rw (← drop-drop n at s) (take-add n m (drop at s))
 
 -- a span put leaves the length
@@ -61,29 +62,29 @@ put-length s₀ s from to n e h k =
 pub put-from-length : (s₀ s : List ℕ) (from to n j : ℕ) → s ≡ put s₀ (to + j) (span s₀ (from + j) (n - j)) → j ≤ n → from ≤ to → to + n ≤ length s₀ → length s ≡ length s₀
 put-from-length s₀ s from to n j e h up fits = put-length s₀ s (from + j) (to + j) (n - j) e (omega arith) (omega arith)
 
--- as many bytes as a list has, put over all of it
-whole : (c bs : List ℕ) → length bs ≡ length c → put c 0 bs ≡ bs
-unfolding put
-whole c bs e = rw (zero-add (length bs), drop-of-length-le c {i = length bs} (omega arith)) (append-nil bs)
-
--- by way of an array of n bytes
-pub by-way : (s c c′ t : List ℕ) (from to n : ℕ) → c′ ≡ put c 0 (span s from n) → t ≡ put s to (span c′ 0 n) → length c ≡ n → from + n ≤ length s
+-- by way of an array that has room for n bytes
+pub by-way : (s c c′ t : List ℕ) (from to n : ℕ) → c′ ≡ put c 0 (span s from n) → t ≡ put s to (span c′ 0 n) → n ≤ length c → from + n ≤ length s
     → t ≡ put s to (span s from n)
 by-way s c c′ t from to n e f l h =
     let k : length (span s from n) ≡ n = length-span s from n h in
-    let a : put c 0 (span s from n) ≡ span s from n = whole c (span s from n) (k ∙ sym l) in
-    f ∙ ap (λ (x : List ℕ). put s to x) (rw (e ∙ a) (take-all n (span s from n) (omega (arith, k))))
+    let a : span (put c 0 (span s from n)) 0 n ≡ span s from n = rw k at (span-put c 0 (span s from n) (omega (arith, k))) in
+    f ∙ ap (λ (x : List ℕ). put s to x) (rw e a)
 
--- the next k bytes, down: what is read lies behind what is written
-pub down-part : (s₀ s t : List ℕ) (from to i k : ℕ) → s ≡ put s₀ to (span s₀ from i) → t ≡ put s (to + i) (span s (from + i) k) → from + (i + k) ≤ length s₀ → to ≤ from
-    → t ≡ put s₀ to (span s₀ from (i + k))
-down-part s₀ s t from to i k e f h down =
+-- the next k bytes, the lowest first: what is read lies behind what is written, or all of it before
+pub down-part : (s₀ s t : List ℕ) (from to n i k : ℕ) → s ≡ put s₀ to (span s₀ from i) → t ≡ put s (to + i) (span s (from + i) k) → i + k ≤ n → from + n ≤ length s₀ → to + n ≤ length s₀
+    → (to ≤ from) ⊎ (from + n ≤ to) → t ≡ put s₀ to (span s₀ from (i + k))
+down-part s₀ s t from to n i k e f m h g way =
     let a : List ℕ = span s₀ from i in
     let l : length a ≡ i = length-span s₀ from i (omega arith) in
     let b : length (span s₀ (from + i) k) ≡ k = length-span s₀ (from + i) k (omega arith) in
     let len : length s ≡ length s₀ = put-length s₀ s from to i e (omega arith) (omega arith) in
     let r : span s (from + i) k ≡ span s₀ (from + i) k =
-    span-ext s s₀ (from + i) k (omega arith) (omega arith) (λ j p. rw e (put-after s₀ to a (omega arith) (from + i + j) (omega arith))) in
+    span-ext s s₀ (from + i) k (omega arith) (omega arith)
+    (λ j p. rw e
+    (⊎-elim
+    (λ (down : to ≤ from). put-after s₀ to a (omega arith) (from + i + j) (omega arith))
+    (λ (apart : from + n ≤ to). put-before s₀ to a (omega arith) (from + i + j) (omega arith))
+    way)) in
     f ∙ rw (r, e) (put-append s₀ to a (to + i) (span s₀ (from + i) k) (omega arith) (omega arith)) ∙ ap (λ (x : List ℕ). put s₀ to x) (sym (span-add s₀ from i k))
 
 -- the k bytes before, up: what is read lies before what is written
@@ -101,9 +102,3 @@ up-part s₀ s t from to n left j k is e f h fits up =
     let v : from + left ≡ from + j + k = omega arith in
     let w : span s₀ (from + j) (n - j) ≡ a ++ b = rw (q, v) (span-add s₀ (from + j) k (n - left)) in
     f ∙ rw (r, e) (put-prepend s₀ (to + j) a (to + left) b (omega arith) (omega arith)) ∙ ap (λ (x : List ℕ). put s₀ (to + j) x) (sym w)
-
--- all that is left, at last
-pub up-rest : (s₀ s t : List ℕ) (from to n left : ℕ) → s ≡ put s₀ (to + left) (span s₀ (from + left) (n - left)) → t ≡ put s to (span s from left)
-    → left ≤ n → to + n ≤ length s₀ → from ≤ to → t ≡ put s₀ to (span s₀ from n)
-up-rest s₀ s t from to n left e f h fits up =
-    up-end s₀ t from to n 0 (up-part s₀ s t from to n left 0 left (sym (zero-add left)) e (rw (add-zero to, add-zero from) f) h fits up) refl
