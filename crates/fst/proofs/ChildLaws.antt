@@ -17,7 +17,7 @@ use Rattle.tree.specs.declared.Located.{Located}
 use Rattle.tree.specs.declared.Located.the-variants.{At, Refused}
 use Rattle.tree.specs.Table.{Node, file, directory, nameOf, none, encloses, parentBelow, parentOf, WellFormed}
 use Rattle.tree.specs.Lookup.{isDirectory, nextOf, childNamed, firstChild, childOf}
-use Rattle.tree.specs.Texts.{and-left}
+use Rattle.refusal.specs.Tests.{and-left, and-false}
 use Rattle.tree.specs.Nesting.{parent-here, parent-lower, parent-is, next-bounds, nests}
 use Rattle.fst.specs.Reading.{afterOf}
 use Rattle.fst.proofs.Nodes.{encloses-next, parent-whole}
@@ -100,10 +100,6 @@ module _ (nodes : List Node) (d : ℕ) (w : WellFormed nodes) where
   inner-parent k j l a b e = let n = after-next (getD nodes k none) k j a b in omega (arith, parent-from nodes j k a (omega arith))
 
 -- ---- the search
-
-and-false : (b : Bool) → (b && false) ≡ false
-and-false true = refl
-and-false false = refl
 
 skip : (nodes : List Node) (d : ℕ) (nm : List ℕ) (k m n : ℕ) → ((j : ℕ) → k ≤ j → j < k + m → childNamed nodes d nm j ≡ false) → firstChild nodes d nm k (m + n) ≡ firstChild nodes d nm (k + m) n
 unfolding firstChild

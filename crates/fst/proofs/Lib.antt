@@ -4,3 +4,6 @@ pub mod Nodes
 pub mod ChildLaws
 pub mod PathLaws
 pub mod RowLaws
+pub mod BlockLaws
+pub mod Ended
+pub mod Comparing

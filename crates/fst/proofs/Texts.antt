@@ -6,13 +6,11 @@ use mathlib.Core.List.{List, [], _∷_}
 use native.Mathlib.Omega.{arith}
 use native.Mathlib.Numerals.{add-one}
 use borrow.Author.Tests.{eq-eqb, ne-eqb, eqb-true, eqb-false}
-use native.Mathlib.Nat.{add-zero}
 use lib.ListN.{length, getD, drop, List·getD-eq-default, drop-of-length-le}
 use lib.Seq.{drop-cons, drop-drop}
-use Rattle.endian.specs.Bytes.{sameBytes}
 use lib.Dec.{eqb}
 use Rattle.tree.specs.Table.{every, dots, safe, plainByte, safeByte, upTo0}
-use Rattle.tree.specs.Texts.{and-left, and-right, and-both}
+use Rattle.refusal.specs.Tests.{and-left, and-right, and-both}
 use Rattle.fst.specs.Reading.{textAt, byteTest, cleanByte, cleanFrom}
 
 pub text-end : (tab : List ℕ) (i : ℕ) → getD tab i 0 ≡ 0 → textAt tab i ≡ []
@@ -100,38 +98,10 @@ safe-more tab at d t h e f =
     let m : textAt tab at ≡ getD tab at 0 ∷ textAt tab (at + 1) = text-more tab at h in
     rw (m, rw m at e, rw m at f)
 
--- ---- a text compared with a name
-
-module _ (tab nm : List ℕ) (at : ℕ) where
-  pub same-start : sameBytes (textAt tab at) nm ≡ sameBytes (textAt tab (at + 0)) (drop 0 nm)
-  same-start = rw (add-zero at)
-
-  pub same-turn : (i : ℕ) (t : Bool) → i < length nm → (getD tab (at + i) 0 ≡ 0 → ⊥) → eqb (getD tab (at + i) 0) (getD nm i 0) ≡ t →
-      sameBytes (textAt tab (at + i)) (drop i nm) ≡ (t && sameBytes (textAt tab (at + (i + 1))) (drop (i + 1) nm))
-  unfolding sameBytes
-  same-turn i t h n e =
-      let m : at + i + 1 ≡ at + (i + 1) = omega arith in
-      rw (text-more tab (at + i) n, drop-cons nm i 0 h, e, m, add-one i)
-
-  pub same-zero : (i : ℕ) → i < length nm → getD tab (at + i) 0 ≡ 0 → sameBytes (textAt tab (at + i)) (drop i nm) ≡ false
-  unfolding sameBytes
-  same-zero i h z = rw (text-end tab (at + i) z, drop-cons nm i 0 h)
-
-  pub same-end : (i : ℕ) → length nm ≤ i → sameBytes (textAt tab (at + i)) (drop i nm) ≡ eqb (getD tab (at + i) 0) 0
-  unfolding sameBytes
-  same-end i h = rw (drop-of-length-le nm {i = i} h) (go (eqb (getD tab (at + i) 0) 0) refl)
-    where
-      go : (t : Bool) → eqb (getD tab (at + i) 0) 0 ≡ t → sameBytes (textAt tab (at + i)) [] ≡ eqb (getD tab (at + i) 0) 0
-      go true e = rw (e, text-end tab (at + i) (eqb-true _ _ e))
-      go false e = rw (e, text-more tab (at + i) (eqb-false _ _ e))
-
 -- ---- the length of a text
 
 pub length-end : (tab : List ℕ) (i : ℕ) → getD tab i 0 ≡ 0 → length (textAt tab i) ≡ 0
 length-end tab i h = rw (text-end tab i h)
-
-pub length-past : (tab : List ℕ) (i : ℕ) → length tab ≤ i → length (textAt tab i) ≡ 0
-length-past tab i h = length-end tab i (List·getD-eq-default tab 0 h)
 
 pub length-turn : (tab : List ℕ) (i : ℕ) → (getD tab i 0 ≡ 0 → ⊥) → length (textAt tab i) ≡ suc (length (textAt tab (i + 1)))
 length-turn tab i h = ap length (text-more tab i h)

@@ -1,3 +1,5 @@
 pub mod Reading
 pub mod Steps
 pub mod Rows
+pub mod Blocks
+pub mod Zeros

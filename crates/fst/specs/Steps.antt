@@ -1,5 +1,5 @@
--- Lookup without a list of the entries left behind: `..` goes to the directory that the entry is nested in, as often as named steps were
--- taken. Assumes nothing: these are definitions.
+-- One step of a lookup, where the entries left by n named steps stand in the first n words of a trail, the last one last.
+-- Assumes nothing: these are definitions.
 use Prim.Native.Nat.{ℕ, zero, suc, _+_, _-_}
 use mathlib.Core.Bool.{Bool, true, false, cond}
 use mathlib.Core.List.{List, [], _∷_}
@@ -8,7 +8,7 @@ use lib.Dec.{ltb}
 use Rattle.refusal.specs.declared.Refusal.the-variants.{ExpectedDirectory, NotFound}
 use Rattle.tree.specs.declared.Located.{Located}
 use Rattle.tree.specs.declared.Located.the-variants as located
-use Rattle.tree.specs.Table.{Node, none, parentOf}
+use Rattle.tree.specs.Table.{Node, none}
 use Rattle.tree.specs.Lookup.{isDirectory, components, childOf, stays, goesBack}
 use Rattle.fst.specs.declared.path.Step.{Step}
 use Rattle.fst.specs.declared.path.Step.the-variants.{To, Refused}
@@ -18,9 +18,9 @@ abbrev pub componentsAfter : List ℕ → ℕ → List (List ℕ)
 componentsAfter path e = cond (ltb e (length path)) (components (drop (e + 1) path)) []
 
 -- back over the last of n named steps
-abbrev pub backOf : List Node → ℕ → ℕ → Step
-backOf nodes k zero = Refused NotFound
-backOf nodes k (suc n) = To (parentOf nodes k) n
+abbrev pub backOf : List ℕ → ℕ → Step
+backOf trail zero = Refused NotFound
+backOf trail (suc n) = To (getD trail n 0) n
 
 -- one named step more
 abbrev pub stepTo : ℕ → Located → Step
@@ -31,10 +31,10 @@ abbrev pub intoOf : List Node → ℕ → ℕ → List ℕ → Step
 intoOf nodes k n nm = stepTo n (childOf nodes k nm)
 
 -- from entry k, n named steps from the start, along the component nm
-abbrev pub stepOf : List Node → ℕ → ℕ → List ℕ → Step
-stepOf nodes k n nm =
+abbrev pub stepOf : List Node → List ℕ → ℕ → ℕ → List ℕ → Step
+stepOf nodes trail k n nm =
     cond (isDirectory (getD nodes k none))
     (cond (stays nm) (To k n)
-    (cond (goesBack nm) (backOf nodes k n)
+    (cond (goesBack nm) (backOf trail n)
     (intoOf nodes k n nm)))
     (Refused ExpectedDirectory)

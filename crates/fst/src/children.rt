@@ -1,25 +1,30 @@
 // The entries of a directory, by name.
 ghost use mathlib.Core.Path.{_≡_};
-ghost use Prim.Native.Nat.{_<_};
-ghost use lib.ListN.{getD};
+ghost use mathlib.Core.Bool.{false};
+ghost use Prim.Native.Nat.{_≤_, _<_};
+ghost use lib.ListN.{length};
 ghost use Rattle.endian.specs.Bytes.{sameBytes};
 ghost use Rattle.tree.specs.Table as table_of;
-ghost use Rattle.tree.specs.Table.{none, nodesOf, nameOf};
+ghost use Rattle.tree.specs.Table.{nodesOf};
 ghost use Rattle.tree.specs.Lookup.{childOf};
-ghost use Rattle.fst.specs.Reading.{Opens, afterOf};
+ghost use Rattle.fst.specs.Reading.{Opens, textAt, afterOf};
+ghost use Rattle.fst.specs.Zeros.{hasZero};
 use crate::entries;
-use crate::opening;
 use crate::text;
 use refusal::Refusal;
 use tree::Located;
 
-// Whether entry k, which is not the root, has that name.
-fn has_name(table: &[u8], k: usize, name: &[u8]) -> bool
-    requires { ⌜ Opens (now table) × (0 < k) × (k < table_of.count (now table)) ⌝ }
-    ensures { λ r. ⌜ r ≡ sameBytes (nameOf (getD (nodesOf (now (table .entry))) k none)) (now (name .entry)) ⌝ }
+// Whether the text at `place` has the bytes of `name`. The text at `differs` has not, unless this is 0, and is not compared again, since
+// entries can share a long text.
+fn has_name(table: &[u8], place: usize, differs: usize, name: &[u8]) -> bool
+    requires { ⌜ (0 < place) × (place ≤ length (now table)) × (hasZero (now name) ≡ false) ⌝ }
+    requires { ⌜ (0 < differs → sameBytes (textAt (now table) differs) (now name) ≡ false) ⌝ }
+    ensures { λ r. ⌜ r ≡ sameBytes (textAt (now (table .entry)) place) (now (name .entry)) ⌝ }
 {
-    let offset = endian::read_u24(table, 12 * k + 1) as usize;
-    text::text_is(table, 12 * opening::count(table) + offset, name)
+    if place == differs {
+        return false;
+    }
+    text::text_is(table, place, name)
 }
 
 // The entry after k and all that is in it.
@@ -34,18 +39,32 @@ fn after(table: &[u8], k: usize) -> usize
     }
 }
 
-// The first child of directory d with that name. A subdirectory is stepped over by its next.
+// The first child of directory d with that name, which has no zero byte. A subdirectory is stepped over by its next.
+fn child_named(table: &[u8], d: usize, name: &[u8]) -> Located
+    requires { ⌜ Opens (now table) × (d < table_of.count (now table)) × (hasZero (now name) ≡ false) ⌝ }
+    ensures { λ r. ⌜ r ≡ childOf (nodesOf (now (table .entry))) d (now (name .entry)) ⌝ }
+{
+    let stop = entries::next(table, d);
+    let mut differs = 0;
+    let mut k = d + 1;
+    while k < stop {
+        let place = entries::name_place(table, k);
+        if has_name(table, place, differs, name) {
+            return Located::At(k as u32);
+        }
+        differs = place;
+        k = after(table, k);
+    }
+    Located::Refused(Refusal::NotFound)
+}
+
+// The first child of directory d with that name.
 pub fn child(table: &[u8], d: usize, name: &[u8]) -> Located
     requires { ⌜ Opens (now table) × (d < table_of.count (now table)) ⌝ }
     ensures { λ r. ⌜ r ≡ childOf (nodesOf (now (table .entry))) d (now (name .entry)) ⌝ }
 {
-    let stop = entries::next(table, d);
-    let mut k = d + 1;
-    while k < stop {
-        if has_name(table, k, name) {
-            return Located::At(k as u32);
-        }
-        k = after(table, k);
+    if text::has_zero(name) {
+        return Located::Refused(Refusal::NotFound);
     }
-    Located::Refused(Refusal::NotFound)
+    child_named(table, d, name)
 }

@@ -1,11 +1,12 @@
 // The entries of an accepted table, by number.
 ghost use mathlib.Core.Path.{_≡_};
-ghost use Prim.Native.Nat.{_≤_, _<_};
+ghost use Prim.Native.Nat.{_≤_, _<_, _^_};
 ghost use lib.ListN.{getD};
 ghost use Rattle.tree.specs.Table as table_of;
 ghost use Rattle.tree.specs.Table.{none, nodesOf, parentOf};
 ghost use Rattle.tree.specs.Lookup.{isDirectory, nextOf, entryOf, entryFound};
 ghost use Rattle.fst.specs.Reading.{Opens};
+ghost use Rattle.fst.specs.Rows.{namePlace};
 use crate::opening;
 use refusal::Refusal;
 use tree::DirectoryEntry;
@@ -30,6 +31,14 @@ pub fn next(table: &[u8], k: usize) -> usize
         return 0;
     }
     endian::read_u32(table, 12 * k + 8) as usize
+}
+
+// Where the name of entry k, which is not the root, stands in the table.
+pub fn name_place(table: &[u8], k: usize) -> usize
+    requires { ⌜ Opens (now table) × (0 < k) × (k < table_of.count (now table)) ⌝ }
+    ensures { λ r. ⌜ (r ≡ namePlace (now (table .entry)) k) × (r < 2 ^ 25) ⌝ }
+{
+    12 * opening::count(table) + endian::read_u24(table, 12 * k + 1) as usize
 }
 
 // The directory that entry k is nested in: the last one before it whose next is past it. The stored parent is not read.

@@ -2,6 +2,7 @@
 mod children;
 mod entries;
 mod listing;
+mod marks;
 mod opening;
 mod path;
 mod text;

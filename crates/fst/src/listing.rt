@@ -7,25 +7,14 @@ ghost use Rattle.endian.specs.Bytes.{put};
 ghost use Rattle.tree.specs.Table as table_of;
 ghost use Rattle.tree.specs.Table.{none, nodesOf, nameOf, parentOf};
 ghost use Rattle.fst.specs.Reading.{Opens};
-ghost use Rattle.fst.specs.Rows.{namePlace, imagePlace, rowOf, ParentsIn, listVerdict, listed};
+ghost use Rattle.fst.specs.Rows.{imagePlace, rowOf, ParentsIn, listVerdict, listed};
 use crate::entries;
 use crate::opening;
 use crate::text;
 use refusal::Refusal;
 use refusal::Verdict;
 
-// Where the name of entry k stands in the table.
-fn name_place(table: &[u8], k: usize) -> usize
-    requires { ⌜ Opens (now table) × (k < table_of.count (now table)) ⌝ }
-    ensures { λ r. ⌜ (r ≡ namePlace (now (table .entry)) k) × (r < 2 ^ 25) ⌝ }
-{
-    if k == 0 {
-        return 0;
-    }
-    12 * opening::count(table) + endian::read_u24(table, 12 * k + 1) as usize
-}
-
-// Where it stands in an image that has the table at `base`; the root has no name.
+// Where the name of entry k stands in an image that has the table at `base`; the root has none.
 fn image_place(table: &[u8], base: u32, k: usize) -> u32
     requires { ⌜ Opens (now table) × (k < table_of.count (now table)) × (base + length (now table) < 2 ^ 32) ⌝ }
     ensures { λ r. ⌜ r ≡ imagePlace base (now (table .entry)) k ⌝ }
@@ -33,7 +22,7 @@ fn image_place(table: &[u8], base: u32, k: usize) -> u32
     if k == 0 {
         return 0;
     }
-    base + name_place(table, k) as u32
+    base + entries::name_place(table, k) as u32
 }
 
 // The length of its name; the root has none.
@@ -44,7 +33,7 @@ fn name_length(table: &[u8], k: usize) -> usize
     if k == 0 {
         return 0;
     }
-    text::text_length(table, name_place(table, k))
+    text::text_length(table, entries::name_place(table, k))
 }
 
 // The directory that entry k is nested in: the entry before it, or one of those that this one is nested in, which the list has.

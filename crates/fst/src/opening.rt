@@ -6,8 +6,10 @@ ghost use Prim.Native.Nat.{_-_, _*_, _≤_, _<_};
 ghost use lib.ListN.{length};
 ghost use Rattle.refusal.specs.declared.Verdict.the-variants.{Passed};
 ghost use Rattle.tree.specs.Table as table_of;
-ghost use Rattle.tree.specs.Table.{every, plainByte, safeByte, nameOffset, nameAt, nodeAt, nodesFrom, entryVerdict, entriesVerdict, nameVerdict, nextVerdict, top};
+ghost use Rattle.tree.specs.Table.{nameOffset, nameAt, nodeAt, nodesFrom, entryVerdict, entriesVerdict, nameVerdict, nextVerdict, top};
 ghost use Rattle.fst.specs.Reading.{Inside, openIn, nodeVerdict, textsVerdict, textAt, textVerdict, cleanFrom};
+ghost use Rattle.fst.specs.Blocks.{Fit, Marked};
+use crate::marks;
 use crate::text;
 use refusal::Refusal;
 use refusal::Verdict;
@@ -64,9 +66,9 @@ fn bytes_verdict(table: &[u8], at: usize) -> Verdict
     Verdict::Passed
 }
 
-// The same where no byte of the texts is unfit: the first bytes decide.
+// The same where the text is fit: the first bytes decide.
 fn clean_verdict(table: &[u8], at: usize) -> Verdict
-    requires { ⌜ (every plainByte (textAt (now table) at) ≡ true) × (every safeByte (textAt (now table) at) ≡ true) ⌝ }
+    requires { ⌜ Fit (now table) at ⌝ }
     ensures { λ r. ⌜ r ≡ textVerdict (textAt (now (table .entry)) at) ⌝ }
 {
     if text::byte_at(table, at) == 0 {
@@ -78,9 +80,10 @@ fn clean_verdict(table: &[u8], at: usize) -> Verdict
     Verdict::Passed
 }
 
-// The name of entry k: 11, 12, 13. Where the texts are clean, no name is looked at byte by byte.
-fn name_verdict(table: &[u8], count: usize, k: usize, clean: bool) -> Verdict
-    requires { ⌜ Inside (now table) count × (k < count) × ((clean ≡ true) → cleanFrom (now table) (12 * count) ≡ true) ⌝ }
+// The name of entry k: 11, 12, 13. Where the texts are clean, no name is looked at byte by byte. Elsewhere only a name that is refused, and so ends
+// the walk, is looked at to its end.
+fn name_verdict(table: &[u8], count: usize, marks: &[bool; 1024], k: usize, clean: bool) -> Verdict
+    requires { ⌜ Inside (now table) count × (k < count) × ((clean ≡ true) → cleanFrom (now table) (12 * count) ≡ true) × Marked (now table) (12 * count) (now marks) ⌝ }
     ensures { λ r. ⌜ r ≡ nameVerdict (now (table .entry)) count k (nameAt (now (table .entry)) count (nameOffset (now (table .entry)) k)) ⌝ }
 {
     let offset = endian::read_u24(table, 12 * k + 1) as usize;
@@ -89,6 +92,9 @@ fn name_verdict(table: &[u8], count: usize, k: usize, clean: bool) -> Verdict
     }
     let at = 12 * count + offset;
     if clean {
+        return clean_verdict(table, at);
+    }
+    if marks::is_fit(table, 12 * count, marks, at) {
         return clean_verdict(table, at);
     }
     bytes_verdict(table, at)
@@ -158,15 +164,16 @@ fn enter(table: &[u8], count: usize, nexts: &mut [u32; 65], depth: usize, k: usi
 fn node_verdict(
     table: &[u8],
     count: usize,
+    marks: &[bool; 1024],
     nexts: &[u32; 65],
     depth: usize,
     k: usize,
     clean: bool,
 ) -> Verdict
-    requires { ⌜ Inside (now table) count × (k < count) × (depth ≤ 65) × ((clean ≡ true) → cleanFrom (now table) (12 * count) ≡ true) ⌝ }
+    requires { ⌜ Inside (now table) count × (k < count) × (depth ≤ 65) × ((clean ≡ true) → cleanFrom (now table) (12 * count) ≡ true) × Marked (now table) (12 * count) (now marks) ⌝ }
     ensures { λ r. ⌜ r ≡ nodeVerdict (now (table .entry)) count (openIn (now (nexts .entry)) depth) k ⌝ }
 {
-    let name = name_verdict(table, count, k, clean);
+    let name = name_verdict(table, count, marks, k, clean);
     if name.is_refused() {
         return name;
     }
@@ -178,13 +185,14 @@ fn walk(table: &[u8], count: usize) -> Verdict
     requires { ⌜ Inside (now table) count ⌝ }
     ensures { λ r. ⌜ r ≡ table_of.walk (now (table .entry)) count (count ∷ []) 1 (nodesFrom (now (table .entry)) count 1 (count - 1)) ⌝ }
 {
-    let clean = text::clean_from(table, 12 * count);
+    let mut marks: [bool; 1024] = [false; 1024];
+    let clean = marks::survey(table, 12 * count, &mut marks);
     let mut nexts: [u32; 65] = [count as u32; 65];
     let mut depth = 1;
     let mut k = 1;
     while k < count {
         depth = shut(&nexts, depth, k);
-        let verdict = node_verdict(table, count, &nexts, depth, k, clean);
+        let verdict = node_verdict(table, count, &marks, &nexts, depth, k, clean);
         if verdict.is_refused() {
             return verdict;
         }

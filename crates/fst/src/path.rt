@@ -73,20 +73,20 @@ pub fn goes_back(name: &[u8]) -> bool
     name[1] == b'.'
 }
 
-// Back over the last named step: to the directory that k is nested in.
-fn back(table: &[u8], k: usize, steps: usize) -> Step
-    requires { ⌜ Opens (now table) × (k < table_of.count (now table)) ⌝ }
-    ensures { λ r. ⌜ r ≡ backOf (nodesOf (now (table .entry))) k steps ⌝ }
+// Back over the last named step: to the entry that it left.
+fn back(trail: &[usize; 65], steps: usize) -> Step
+    requires { ⌜ steps ≤ 65 ⌝ }
+    ensures { λ r. ⌜ r ≡ backOf (now (trail .entry)) steps ⌝ }
 {
     if steps == 0 {
         return Step::Refused(Refusal::NotFound);
     }
-    Step::To(entries::parent(table, k), steps - 1)
+    Step::To(trail[steps - 1], steps - 1)
 }
 
 // To the first child with that name.
 fn into(table: &[u8], k: usize, steps: usize, name: &[u8]) -> Step
-    requires { ⌜ Opens (now table) × (k < table_of.count (now table)) × (steps < 2 ^ 63) ⌝ }
+    requires { ⌜ Opens (now table) × (k < table_of.count (now table)) × (steps ≤ 65) ⌝ }
     ensures { λ r. ⌜ r ≡ intoOf (nodesOf (now (table .entry))) k steps (now (name .entry)) ⌝ }
 {
     match children::child(table, k, name) {
@@ -96,9 +96,9 @@ fn into(table: &[u8], k: usize, steps: usize, name: &[u8]) -> Step
 }
 
 // One component: from a file 17; empty and `.` stay, `..` goes back, any other is a child's name.
-fn take_step(table: &[u8], k: usize, steps: usize, name: &[u8]) -> Step
-    requires { ⌜ Opens (now table) × (k < table_of.count (now table)) × (steps < 2 ^ 63) ⌝ }
-    ensures { λ r. ⌜ r ≡ stepOf (nodesOf (now (table .entry))) k steps (now (name .entry)) ⌝ }
+fn take_step(table: &[u8], trail: &[usize; 65], k: usize, steps: usize, name: &[u8]) -> Step
+    requires { ⌜ Opens (now table) × (k < table_of.count (now table)) × (steps ≤ 65) ⌝ }
+    ensures { λ r. ⌜ r ≡ stepOf (nodesOf (now (table .entry))) (now (trail .entry)) k steps (now (name .entry)) ⌝ }
 {
     if !entries::is_directory(table, k) {
         return Step::Refused(Refusal::ExpectedDirectory);
@@ -107,23 +107,25 @@ fn take_step(table: &[u8], k: usize, steps: usize, name: &[u8]) -> Step
         return Step::To(k, steps);
     }
     if goes_back(name) {
-        return back(table, k, steps);
+        return back(trail, steps);
     }
     into(table, k, steps, name)
 }
 
-// Along the components of a path. No list of entries is kept: the last one left by a named step is the parent of the present one.
+// Along the components of a path. The entries left by named steps are kept for `..`: 65 at most, since no directory is deeper than 64.
 fn follow(table: &[u8], start: usize, path: &[u8]) -> Located
-    requires { ⌜ Opens (now table) × (start < table_of.count (now table)) × (length (now path) < 2 ^ 63) ⌝ }
+    requires { ⌜ Opens (now table) × (start < table_of.count (now table)) ⌝ }
     ensures { λ r. ⌜ r ≡ lookup_of.follow (nodesOf (now (table .entry))) [] start (components (now (path .entry))) ⌝ }
 {
+    let mut trail: [usize; 65] = [0; 65];
     let mut k = start;
     let mut steps = 0;
     let mut at = 0;
     loop {
         let end = component_end(path, at);
-        match take_step(table, k, steps, &path[at..end]) {
+        match take_step(table, &trail, k, steps, &path[at..end]) {
             Step::To(j, n) => {
+                trail[steps] = k;
                 k = j;
                 steps = n;
             }

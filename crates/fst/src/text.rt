@@ -1,10 +1,12 @@
 // The texts of a table: bytes up to a zero byte, or up to the table's end (string_table.rs).
 ghost use mathlib.Core.Path.{_≡_};
-ghost use Prim.Native.Nat.{_≤_};
+ghost use mathlib.Core.Bool.{false};
+ghost use Prim.Native.Nat.{_+_, _≤_, _<_};
 ghost use lib.ListN.{length, getD};
 ghost use Rattle.endian.specs.Bytes.{sameBytes};
 ghost use Rattle.tree.specs.Table.{every, plainByte, safeByte, dots, safe};
 ghost use Rattle.fst.specs.Reading.{textAt, byteTest, cleanByte, cleanFrom};
+ghost use Rattle.fst.specs.Zeros.{hasZero};
 
 // The byte at `at`; a text ends at the table's end as it does at a zero byte.
 pub fn byte_at(table: &[u8], at: usize) -> u8
@@ -37,7 +39,7 @@ fn is_safe(b: u8) -> bool
 }
 
 // A byte that no name is refused for: the end of a text, or plain and safe.
-fn is_clean(b: u8) -> bool
+pub fn is_clean(b: u8) -> bool
     ensures { λ r. ⌜ r ≡ cleanByte b ⌝ }
 {
     if b == 0 {
@@ -117,34 +119,42 @@ pub fn is_safe_name(table: &[u8], at: usize) -> bool
     every_byte(table, at, true)
 }
 
-// Whether the text at `at` has the bytes of `name`.
-pub fn text_is(table: &[u8], at: usize, name: &[u8]) -> bool
-    requires { ⌜ at ≤ length (now table) ⌝ }
-    ensures { λ r. ⌜ r ≡ sameBytes (textAt (now (table .entry)) at) (now (name .entry)) ⌝ }
+// Whether `name` has a zero byte: no text is such a name.
+pub fn has_zero(name: &[u8]) -> bool
+    ensures { λ r. ⌜ r ≡ hasZero (now (name .entry)) ⌝ }
 {
     let mut i = 0;
     while i < name.len() {
-        let b = byte_at(table, at + i);
-        if b == 0 {
-            return false;
-        }
-        if b != name[i] {
-            return false;
+        if name[i] == 0 {
+            return true;
         }
         i += 1;
     }
-    byte_at(table, at + i) == 0
+    false
 }
 
-// The length of the text at `at`, without its zero byte.
+// Whether the text at `at` has the bytes of `name`. One byte tells a text of another length apart.
+pub fn text_is(table: &[u8], at: usize, name: &[u8]) -> bool
+    requires { ⌜ (at ≤ length (now table)) × (hasZero (now name) ≡ false) ⌝ }
+    ensures { λ r. ⌜ r ≡ sameBytes (textAt (now (table .entry)) at) (now (name .entry)) ⌝ }
+{
+    let n = name.len();
+    if table.len() - at < n {
+        return false;
+    }
+    if byte_at(table, at + n) != 0 {
+        return false;
+    }
+    endian::same(table, at, name, 0, n)
+}
+
+// The length of the text at `at`, whose zero byte is in the table; the loop tests no bound, so that the compiler makes strlen of it.
 pub fn text_length(table: &[u8], at: usize) -> usize
+    requires { ⌜ at + length (textAt (now table) at) < length (now table) ⌝ }
     ensures { λ r. ⌜ r ≡ length (textAt (now (table .entry)) at) ⌝ }
 {
     let mut i = at;
-    while i < table.len() {
-        if table[i] == 0 {
-            return i - at;
-        }
+    while table[i] != 0 {
         i += 1;
     }
     i - at

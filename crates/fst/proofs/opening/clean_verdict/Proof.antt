@@ -16,7 +16,7 @@ returns : tie.Need-returns
 unfolding plain
 returns c =
     let s = c .before .before .before in
-    rw (s .pre .0, safe-none (s .args .table .now) (s .args .at) (sym (c .before .byte-at .ensures) ∙ c .if1 .taken))
+    rw (s .pre .plain, safe-none (s .args .table .now) (s .args .at) (sym (c .before .byte-at .ensures) ∙ c .if1 .taken))
 
 is-dots-requires : tie.Need-is-dots-requires
 is-dots-requires c κs = search needs
@@ -25,13 +25,13 @@ returns-2 : tie.Need-returns-2
 unfolding plain
 returns-2 c =
     let s = c .before .before .before .before .before in
-    rw (s .pre .0, safe-more (s .args .table .now) (s .args .at) true true (λ e. c .before .before .if1 .left (c .before .before .before .byte-at .ensures ∙ e)) (sym (c .before .is-dots .ensures) ∙ c .if2 .taken) (s .pre .1))
+    rw (s .pre .plain, safe-more (s .args .table .now) (s .args .at) true true (λ e. c .before .before .if1 .left (c .before .before .before .byte-at .ensures ∙ e)) (sym (c .before .is-dots .ensures) ∙ c .if2 .taken) (s .pre .safe))
 
 returns-3 : tie.Need-returns-3
 unfolding plain
 returns-3 c =
     let s = c .before .before .before .before .before in
-    rw (s .pre .0, safe-more (s .args .table .now) (s .args .at) false true (λ e. c .before .before .if1 .left (c .before .before .before .byte-at .ensures ∙ e)) (sym (c .before .is-dots .ensures) ∙ c .if2 .left) (s .pre .1))
+    rw (s .pre .plain, safe-more (s .args .table .now) (s .args .at) false true (λ e. c .before .before .if1 .left (c .before .before .before .byte-at .ensures ∙ e)) (sym (c .before .is-dots .ensures) ∙ c .if2 .left) (s .pre .safe))
 
 pub clean-verdict-spec : {M : Type 1} → statement M
 clean-verdict-spec =

@@ -8,7 +8,7 @@ use borrow.Author.Tests.{le-leb, lt-leb}
 use lib.ListN.{length}
 use Rattle.tree.specs.Table.{nameOffset, nameAt, nameVerdict}
 use Rattle.fst.specs.Reading.{textAt, textVerdict}
-use Rattle.fst.proofs.Texts.{clean-every}
+use Rattle.fst.proofs.BlockLaws.{fit-clean}
 use borrow.Author.Needs.{needs}
 use Rattle.fst.proofs.opening.name_verdict.Statement.{statement}
 use Rattle.fst.proofs.opening.name_verdict.Tie as tie
@@ -45,9 +45,8 @@ add-at c = search needs
 
 clean-verdict-requires : tie.Need-clean-verdict-requires
 clean-verdict-requires c κs =
-    let a = c .before .before .before .before .args in
-    let e = c .before .before .before .before .pre .2 (c .if2 .taken) in
-    (clean-every (a .table .now) (12 * a .count) (c .before .before .read-u24 .result) false e, clean-every (a .table .now) (12 * a .count) (c .before .before .read-u24 .result) true e)
+    let s = c .before .before .before .before in
+    fit-clean (s .args .table .now) (12 * s .args .count) (c .before .before .read-u24 .result) (s .pre .2 (c .if2 .taken))
 
 returns-2 : tie.Need-returns-2
 unfolding nameVerdict nameAt
@@ -56,14 +55,30 @@ returns-2 c =
     let o : c .before .before .before .read-u24 .result ≡ nameOffset (a .table .now) (a .k) = c .before .before .before .read-u24 .ensures .0 in
     rw (lt-leb (length (a .table .now) - 12 * a .count) (nameOffset (a .table .now) (a .k)) (omega arith)) (rw o at (c .clean-verdict .ensures))
 
-bytes-verdict-requires : tie.Need-bytes-verdict-requires
-bytes-verdict-requires c κs = search needs
+mul-is-fit : tie.Need-mul-is-fit
+mul-is-fit c = search needs
+
+is-fit-requires : tie.Need-is-fit-requires
+is-fit-requires c κs = search needs
+
+clean-verdict-requires-2 : tie.Need-clean-verdict-requires-2
+clean-verdict-requires-2 c κs = c .before .is-fit .ensures (c .if3 .taken)
 
 returns-3 : tie.Need-returns-3
 unfolding nameVerdict nameAt
 returns-3 c =
-    let a = c .before .before .before .before .before .args in
-    let o : c .before .before .before .read-u24 .result ≡ nameOffset (a .table .now) (a .k) = c .before .before .before .read-u24 .ensures .0 in
+    let a = c .before .before .before .before .before .before .before .args in
+    let o : c .before .before .before .before .before .read-u24 .result ≡ nameOffset (a .table .now) (a .k) = c .before .before .before .before .before .read-u24 .ensures .0 in
+    rw (lt-leb (length (a .table .now) - 12 * a .count) (nameOffset (a .table .now) (a .k)) (omega arith)) (rw o at (c .clean-verdict2 .ensures))
+
+bytes-verdict-requires : tie.Need-bytes-verdict-requires
+bytes-verdict-requires c κs = search needs
+
+returns-4 : tie.Need-returns-4
+unfolding nameVerdict nameAt
+returns-4 c =
+    let a = c .before .before .before .before .before .before .before .args in
+    let o : c .before .before .before .before .before .read-u24 .result ≡ nameOffset (a .table .now) (a .k) = c .before .before .before .before .before .read-u24 .ensures .0 in
     rw (lt-leb (length (a .table .now) - 12 * a .count) (nameOffset (a .table .now) (a .k)) (omega arith)) (rw o at (c .bytes-verdict .ensures))
 
 pub name-verdict-spec : {M : Type 1} → statement M
@@ -81,5 +96,9 @@ name-verdict-spec =
     add-at
     clean-verdict-requires
     returns-2
+    mul-is-fit
+    is-fit-requires
+    clean-verdict-requires-2
+    returns-3
     bytes-verdict-requires
-    returns-3)
+    returns-4)

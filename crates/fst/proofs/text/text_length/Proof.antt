@@ -1,11 +1,12 @@
--- `fst::text::text_length` meets its contract. The invariant of its loop: the bytes passed and the rest make the whole.
+-- `fst::text::text_length` meets its contract. The invariant of its loop: the bytes passed and the rest make the whole, so that the loop is at
+-- the zero byte, or before it.
 -- Assumes nothing.
 use native.Mathlib.Omega.{arith}
 use Prim.Native.Nat.{_+_, _-_, _≤_}
 use mathlib.Core.Path.{_≡_}
 use lib.ListN.{length}
 use Rattle.fst.specs.Reading.{textAt}
-use Rattle.fst.proofs.Texts.{length-end, length-past, length-turn}
+use Rattle.fst.proofs.Texts.{length-end, length-turn}
 use Rattle.fst.proofs.text.text_length.Statement.{statement}
 use Rattle.fst.proofs.text.text_length.Tie as tie
 
@@ -19,28 +20,22 @@ loop-holds : tie.Need-loop-holds Inv-loop μ-loop
 loop-holds c = (omega arith, omega arith)
 
 shared-slice-read-if1 : tie.Need-shared-slice-read-if1 Inv-loop μ-loop
-shared-slice-read-if1 c = omega arith
+shared-slice-read-if1 c = omega (arith, c .before .before .pre)
+
+add-i : tie.Need-add-i Inv-loop μ-loop
+add-i c = omega (arith, c .before .before .before .pre)
+
+loop-less : tie.Need-loop-less Inv-loop μ-loop
+loop-less c = omega (arith, c .before .before .before .pre)
+
+loop-again : tie.Need-loop-again Inv-loop μ-loop
+loop-again c = (omega arith, omega (arith, length-turn (c .before .before .before .args .table .now) (c .before .before .loop .i) (c .if1 .taken)))
 
 sub-result : tie.Need-sub-result Inv-loop μ-loop
 sub-result c = omega arith
 
 returns : tie.Need-returns Inv-loop μ-loop
-returns c = omega (arith, length-end (c .before .before .before .before .args .table .now) (c .before .before .before .loop .i) (c .if1 .taken))
-
-add-i : tie.Need-add-i Inv-loop μ-loop
-add-i c = omega arith
-
-loop-less : tie.Need-loop-less Inv-loop μ-loop
-loop-less c = omega arith
-
-loop-again : tie.Need-loop-again Inv-loop μ-loop
-loop-again c = (omega arith, omega (arith, length-turn (c .before .before .before .before .args .table .now) (c .before .before .before .loop .i) (c .if1 .left)))
-
-sub-result-2 : tie.Need-sub-result-2 Inv-loop μ-loop
-sub-result-2 c = omega arith
-
-returns-2 : tie.Need-returns-2 Inv-loop μ-loop
-returns-2 c = omega (arith, length-past (c .before .before .args .table .now) (c .before .loop .i) (c .loop-test .left))
+returns c = omega (arith, length-end (c .before .before .before .args .table .now) (c .before .before .loop .i) (c .if1 .left))
 
 pub text-length-spec : {M : Type 1} → statement M
 text-length-spec =
@@ -50,10 +45,8 @@ text-length-spec =
     μ-loop
     loop-holds
     shared-slice-read-if1
-    sub-result
-    returns
     add-i
     loop-less
     loop-again
-    sub-result-2
-    returns-2)
+    sub-result
+    returns)
