@@ -1,4 +1,5 @@
 pub mod Puts
+pub mod Stays
 pub mod Names
 pub mod Records
 pub mod Nesting
@@ -7,5 +8,8 @@ pub mod Turn
 pub mod Whole
 pub mod Measuring
 pub mod Patches
+pub mod Raises
+pub mod Passes
+pub mod Behind
 pub mod Inserted
 pub mod Written

@@ -1,25 +1,25 @@
--- The records of a table with one entry more, made one by one from the old ones, the last one first.
+-- A record of a table with one entry more, made from an old one.
 -- Assumes nothing.
-use Prim.Native.Nat.{ℕ, zero, suc, _+_, _-_, _*_, _≤_, _<_, _^_}
-use mathlib.Core.Path.{_≡_, refl, sym, ap, _∙_}
+use Prim.Native.Nat.{ℕ, zero, suc, _+_, _-_, _*_, _≤_, _<_}
+use mathlib.Core.Path.{_≡_, refl, sym, _∙_}
 use mathlib.Core.Logic.{_⊎_, inl, inr, ⊎-elim}
 use mathlib.Core.Bool.{Bool, true, false, cond}
-use mathlib.Core.List.{List, [], _∷_, _++_}
+use mathlib.Core.List.{List, []}
 use native.Mathlib.Omega.{arith}
 use native.Mathlib.Numerals.{add-one}
-use native.Mathlib.Nat.{add-zero}
-use borrow.Author.Tests.{ltb-true, ltb-false, eqb-true, eqb-false, lt-ltb, le-ltb, eq-eqb, ne-eqb}
-use lib.ListN.{length, getD, length-append}
-use lib.Dec.{ltb, eqb}
-use Rattle.endian.specs.Bytes.{put, be24, be32, be24Bytes, be32Bytes}
-use Rattle.endian.specs.Laws.{Same, be24-same, be32-same, length-put, put-before, put-none, lt-or-le}
-use Rattle.tree.specs.Table.{Node, file, directory, nameOf, kind, nameOffset, offsetOrParent, sizeOrNext, nodeWith, nodeBytes}
+use borrow.Author.Tests.{lt-ltb, le-ltb, le-leb, lt-leb, eq-eqb, ne-eqb}
+use lib.ListN.{length, getD}
+use lib.Dec.{leb, eqb}
+use Rattle.endian.specs.Bytes.{put, be32Bytes, AllBytes}
+use Rattle.endian.specs.Laws.{be24-same, be32-same, lt-or-le}
+use Rattle.tree.specs.Table.{Node, nameOf, kind, nameOffset, offsetOrParent, sizeOrNext, nodeWith, nodeBytes}
 use Rattle.tree.specs.RoundTrip.{length-nodeBytes}
-use Rattle.tree.specs.Insert.{bump, earlier, later, shifted, emptyFile, emptyDirectory}
-use Rattle.tree.specs.Records.{records, Twelve, length-records}
+use Rattle.tree.specs.Insert.{bump, earlier, later, shifted}
+use Rattle.tree.specs.Records.{Twelve}
 use Rattle.tree.specs.Patch.{stored, recordBefore, recordAfter, patchedRecord}
-use Rattle.fst_write.specs.Inserting.{fieldBytes, newNode, nextBefore, placeAfter, nextAfter, Raisable, Turnable, Patchable}
-use Rattle.fst_write.proofs.Puts.{put-prepend}
+use Rattle.fst_write.specs.Inserting.{fieldBytes, newNode, nextBefore, Raisable}
+use Rattle.fst_write.proofs.Puts.{put-fields}
+use Rattle.fst_write.proofs.Stays.{byte-stays, name-stays, word-stays}
 
 -- ---- one record
 
@@ -32,14 +32,14 @@ pub before-is : (s : List ℕ) (p k : ℕ) → kind s k ≤ 1 → fieldBytes (ki
 unfolding recordBefore
 before-is s p k h = before-with (kind s k) (nameOffset s k) (offsetOrParent s k) (sizeOrNext s k) p k h
 
-after-with : (t o a b q : ℕ) → t ≤ 1 → fieldBytes t o (placeAfter t q a) (nextAfter t b) ≡ nodeBytes (shifted q a) o (later (nodeWith t [] a b))
-after-with zero o a b q h = refl
-after-with (suc zero) o a b q h = refl
-after-with (suc (suc t)) o a b q h = absurd (omega arith)
+module _ (s : List ℕ) (q grow k : ℕ) where
+  pub after-file : kind s k ≡ 0 → fieldBytes (kind s k) (nameOffset s k + grow) (offsetOrParent s k) (sizeOrNext s k) ≡ recordAfter s q grow k
+  unfolding recordAfter
+  after-file e = rw e
 
-pub after-is : (s : List ℕ) (q grow k : ℕ) → kind s k ≤ 1 → fieldBytes (kind s k) (nameOffset s k + grow) (placeAfter (kind s k) q (offsetOrParent s k)) (nextAfter (kind s k) (sizeOrNext s k)) ≡ recordAfter s q grow k
-unfolding recordAfter
-after-is s q grow k h = after-with (kind s k) (nameOffset s k + grow) (offsetOrParent s k) (sizeOrNext s k) q h
+  pub after-directory : kind s k ≡ 1 → fieldBytes (kind s k) (nameOffset s k + grow) (shifted q (offsetOrParent s k)) (suc (sizeOrNext s k)) ≡ recordAfter s q grow k
+  unfolding recordAfter
+  after-directory e = rw e
 
 -- the new entry's record does not hold its name
 pub new-is : (d : Bool) (p q start : ℕ) (nm : List ℕ) → nodeBytes p start (newNode d [] q) ≡ nodeBytes p start (newNode d nm q)
@@ -50,13 +50,40 @@ pub new-name : (d : Bool) (nm : List ℕ) (q : ℕ) → nameOf (newNode d nm q) 
 new-name true nm q = refl
 new-name false nm q = refl
 
-before-twelve : (s : List ℕ) (p k : ℕ) → length (recordBefore s p k) ≡ 12
+pub before-twelve : (s : List ℕ) (p k : ℕ) → length (recordBefore s p k) ≡ 12
 unfolding recordBefore
 before-twelve s p k = length-nodeBytes (offsetOrParent s k) (nameOffset s k) (earlier p k (stored s k))
 
-after-twelve : (s : List ℕ) (q grow k : ℕ) → length (recordAfter s q grow k) ≡ 12
+pub after-twelve : (s : List ℕ) (q grow k : ℕ) → length (recordAfter s q grow k) ≡ 12
 unfolding recordAfter
 after-twelve s q grow k = length-nodeBytes (shifted q (offsetOrParent s k)) (nameOffset s k + grow) (later (stored s k))
+
+-- ---- the next of an entry before the new one
+
+-- either way
+both : (t : Bool) (a b x : ℕ) → a ≡ x → b ≡ x → cond t a b ≡ x
+both true a b x e f = e
+both false a b x e f = f
+
+bump-past : (p n : ℕ) → p < n → bump p n ≡ n + 1
+unfolding bump
+bump-past p n h = rw (lt-ltb p n h) (sym (add-one n))
+
+bump-ended : (p n : ℕ) → n ≤ p → bump p n ≡ n
+unfolding bump
+bump-ended p n h = rw (le-ltb p n h)
+
+next-raised : (t p k n : ℕ) → t ≡ 1 → k ≤ p → p < n → nextBefore t p k n ≡ n + 1
+next-raised t p k n e h g = rw (eq-eqb t 1 e, le-leb k p h, bump-past p n g)
+
+next-file : (t p k n : ℕ) → (t ≡ 1 → ⊥) → nextBefore t p k n ≡ n
+next-file t p k n e = rw (ne-eqb t 1 e)
+
+next-ended : (t p k n : ℕ) → n ≤ p → nextBefore t p k n ≡ n
+next-ended t p k n h = both (eqb t 1) (cond (leb k p) (bump p n) n) n n (both (leb k p) (bump p n) n n (bump-ended p n h) refl) refl
+
+next-between : (t p k n : ℕ) → p < k → nextBefore t p k n ≡ n
+next-between t p k n h = rw (lt-leb k p h) (both (eqb t 1) n n n refl refl)
 
 -- ---- which of the three it is
 
@@ -84,11 +111,15 @@ patched-twelve s p q new start k =
 
 -- ---- two lists that agree on the bytes of an entry
 
-pub record SameEntry (s t : List ℕ) (k : ℕ) : Type 0 where
-  pub kinds : kind s k ≡ kind t k
-  pub names : nameOffset s k ≡ nameOffset t k
-  pub places : offsetOrParent s k ≡ offsetOrParent t k
-  pub nexts : sizeOrNext s k ≡ sizeOrNext t k
+-- entry j of one is entry k of the other
+pub record MovedEntry (s : List ℕ) (j : ℕ) (t : List ℕ) (k : ℕ) : Type 0 where
+  pub kinds : kind s j ≡ kind t k
+  pub names : nameOffset s j ≡ nameOffset t k
+  pub places : offsetOrParent s j ≡ offsetOrParent t k
+  pub nexts : sizeOrNext s j ≡ sizeOrNext t k
+
+abbrev pub SameEntry : List ℕ → List ℕ → ℕ → Type 0
+SameEntry s t k = MovedEntry s k t k
 
 pub same-entry : (s t : List ℕ) (k : ℕ) → ((i : ℕ) → i < 12 * k + 12 → getD s i 0 ≡ getD t i 0) → SameEntry s t k
 same-entry s t k f =
@@ -99,108 +130,56 @@ same-entry s t k f =
       nexts = be32-same s t (12 * k + 8) (λ i h. f (12 * k + 8 + i) (omega arith));
     }
 
-same-before : (s t : List ℕ) (p k : ℕ) → SameEntry s t k → recordBefore s p k ≡ recordBefore t p k
+pub same-before : (s t : List ℕ) (p k : ℕ) → SameEntry s t k → recordBefore s p k ≡ recordBefore t p k
 unfolding recordBefore
 same-before s t p k e = rw (e .kinds, e .names, e .places, e .nexts)
 
-same-after : (s t : List ℕ) (q grow k : ℕ) → SameEntry s t k → recordAfter s q grow k ≡ recordAfter t q grow k
+pub moved-after : (s : List ℕ) (j : ℕ) (t : List ℕ) (k q grow : ℕ) → MovedEntry s j t k → recordAfter s q grow j ≡ recordAfter t q grow k
 unfolding recordAfter
-same-after s t q grow k e = rw (e .kinds, e .names, e .places, e .nexts)
+moved-after s j t k q grow e = rw (e .kinds, e .names, e .places, e .nexts)
 
 pub patched-same : (s t : List ℕ) (p q : ℕ) (new : Node) (start k : ℕ) → (k < q → SameEntry s t k) → (q < k → SameEntry s t (k - 1)) → patchedRecord s p q new start k ≡ patchedRecord t p q new start k
 patched-same s t p q new start k f g =
     ⊎-elim (λ h. rw (patched-before s p q new start k h, patched-before t p q new start k h) (same-before s t p k (f h)))
     (⊎-elim (λ h. rw (patched-new s p q new start k h, patched-new t p q new start k h))
-    (λ h. rw (patched-after s p q new start k h, patched-after t p q new start k h) (same-after s t q (suc (length (nameOf new))) (k - 1) (g h))))
+    (λ h. rw (patched-after s p q new start k h, patched-after t p q new start k h) (moved-after s (k - 1) t (k - 1) q (suc (length (nameOf new))) (g h))))
     (three k q)
 
-pub raisable-same : (s t : List ℕ) (k : ℕ) → SameEntry s t k → Raisable t k → Raisable s k
-raisable-same s t k e r =
+pub raisable-moved : (s : List ℕ) (j : ℕ) (t : List ℕ) (k : ℕ) → MovedEntry s j t k → Raisable t k → Raisable s j
+raisable-moved s j t k e r =
     record {
       kinds = rw (e .kinds) (r .kinds);
       place = λ h. rw (e .places) (r .place (rw (e .kinds) at h));
       next = λ h. rw (e .nexts) (r .next (rw (e .kinds) at h));
     }
 
--- ---- a turn
+pub raisable-same : (s t : List ℕ) (k : ℕ) → SameEntry s t k → Raisable t k → Raisable s k
+raisable-same s t k = raisable-moved s k t k
 
-module _ (s : List ℕ) (d : Bool) (nm : List ℕ) (p q start k : ℕ) where
-  pub turn-before : k < q → put s (12 * k) (recordBefore s p k) ≡ put s (12 * k) (patchedRecord s p q (newNode d nm q) start k)
-  turn-before h = rw (patched-before s p q (newNode d nm q) start k h)
+-- ---- an entry that stays before the new one changes in its next only, and most do not change
 
-  pub turn-new : k ≡ q → put s (12 * q) (nodeBytes p start (newNode d [] q)) ≡ put s (12 * k) (patchedRecord s p q (newNode d nm q) start k)
-  turn-new h = rw (patched-new s p q (newNode d nm q) start k h, h, new-is d p q start nm)
+module _ (s : List ℕ) (p k : ℕ) (bytes : AllBytes s) (room : 12 * k + 12 ≤ length s) (known : kind s k ≤ 1) where
+  next-put : (next : ℕ) → put s (12 * k) (fieldBytes (kind s k) (nameOffset s k) (offsetOrParent s k) next) ≡ put s (12 * k + 8) (be32Bytes next)
+  next-put next =
+      sym (put-fields s (12 * k) (kind s k) (nameOffset s k) (offsetOrParent s k) next room)
+      ∙ rw (byte-stays s (12 * k) (omega arith), name-stays s (12 * k + 1) bytes (omega arith), word-stays s (12 * k + 4) bytes (omega arith))
 
-  pub turn-after : q < k → put s (12 * (k - 1 + 1)) (recordAfter s q (length nm + 1) (k - 1)) ≡ put s (12 * k) (patchedRecord s p q (newNode d nm q) start k)
-  turn-after h =
-      let e : k - 1 + 1 ≡ k = omega arith in
-      rw (e, patched-after s p q (newNode d nm q) start k h, new-name d nm q, add-one (length nm))
+  before-put : put s (12 * k) (recordBefore s p k) ≡ put s (12 * k + 8) (be32Bytes (nextBefore (kind s k) p k (sizeOrNext s k)))
+  before-put = rw (← before-is s p k known) (next-put (nextBefore (kind s k) p k (sizeOrNext s k)))
 
--- records k and on are the new ones
-pub record Patched (s : List ℕ) (c p q : ℕ) (new : Node) (start : ℕ) (out : List ℕ) (k : ℕ) : Type 0 where
-  pub most : k ≤ c + 1
-  pub long : length out ≡ length s
-  pub done : out ≡ put s (12 * k) (records (patchedRecord s p q new start) k (c + 1 - k))
+  unchanged : nextBefore (kind s k) p k (sizeOrNext s k) ≡ sizeOrNext s k → put s (12 * k) (recordBefore s p k) ≡ s
+  unchanged e = before-put ∙ rw e (word-stays s (12 * k + 8) bytes (omega arith))
 
-records-none : (f : ℕ → List ℕ) (k : ℕ) → records f k 0 ≡ []
-unfolding records
-records-none f k = refl
+  pub raised : kind s k ≡ 1 → k ≤ p → p < sizeOrNext s k → put s (12 * k) (recordBefore s p k) ≡ put s (12 * k + 8) (be32Bytes (sizeOrNext s k + 1))
+  raised t h g =
+      let e : nextBefore (kind s k) p k (sizeOrNext s k) ≡ sizeOrNext s k + 1 = next-raised (kind s k) p k (sizeOrNext s k) t h g in
+      before-put ∙ rw e
 
-records-one : (f : ℕ → List ℕ) (k n : ℕ) → records f k (suc n) ≡ f k ++ records f (suc k) n
-unfolding records
-records-one f k n = refl
+  pub file-stays : (kind s k ≡ 1 → ⊥) → put s (12 * k) (recordBefore s p k) ≡ s
+  file-stays t = unchanged (next-file (kind s k) p k (sizeOrNext s k) t)
 
-module _ (s : List ℕ) (c p q : ℕ) (new : Node) (start : ℕ) where
-  pub patch-start : Patched s c p q new start s (c + 1)
-  patch-start =
-      let e : c + 1 - (c + 1) ≡ 0 = omega arith in
-      record { most = omega arith; long = refl; done = rw (e, records-none (patchedRecord s p q new start) (c + 1)) (sym (put-none s (12 * (c + 1)))) }
+  pub ended-stays : sizeOrNext s k ≤ p → put s (12 * k) (recordBefore s p k) ≡ s
+  ended-stays h = unchanged (next-ended (kind s k) p k (sizeOrNext s k) h)
 
-  module _ (grow : ℕ) (r : Patchable s c p q start grow) (out : List ℕ) (k : ℕ) (u : Patched s c p q new start out k) (more : 0 < k) where
-    abbrev rest : List ℕ
-    rest = records (patchedRecord s p q new start) k (c + 1 - k)
-
-    rest-length : length rest ≡ 12 * (c + 1 - k)
-    rest-length = length-records (patchedRecord s p q new start) (patched-twelve s p q new start) k (c + 1 - k)
-
-    fits : 12 * k + length rest ≤ length s
-    fits =
-        let l = rest-length in
-        let m = u .most in
-        omega (arith, r .room)
-
-    same : (j : ℕ) → j < k → SameEntry out s j
-    same j h = same-entry out s j (λ i l. rw (u .done) (put-before s (12 * k) rest fits i (omega arith)))
-
-    pub patch-turn : Turnable out (k - 1) p q start grow
-    patch-turn =
-        let m = u .most in
-        let l = u .long in
-        let w = r .within in
-        record {
-          room = omega (arith, r .room);
-          later = r .later;
-          few = omega (arith, r .few);
-          small = r .small;
-          before = λ h. raisable-same out s (k - 1) (same (k - 1) (omega arith)) (r .each (k - 1) (omega arith));
-          after = λ h. raisable-same out s (k - 1 - 1) (same (k - 1 - 1) (omega arith)) (r .each (k - 1 - 1) (omega arith));
-          names = λ h. rw (same (k - 1 - 1) (omega arith) .names) (r .names (k - 1 - 1) (omega arith));
-        }
-
-    pub patch-again : (out′ : List ℕ) → out′ ≡ put out (12 * (k - 1)) (patchedRecord out p q new start (k - 1)) → length out′ ≡ length out → Patched s c p q new start out′ (k - 1)
-    patch-again out′ e l =
-        let m = u .most in
-        let g = patchedRecord s p q new start in
-        let t : patchedRecord out p q new start (k - 1) ≡ g (k - 1) =
-        patched-same out s p q new start (k - 1) (λ h. same (k - 1) (omega arith)) (λ h. same (k - 1 - 1) (omega arith)) in
-        let tw : length (g (k - 1)) ≡ 12 = patched-twelve s p q new start (k - 1) in
-        let n : c + 1 - (k - 1) ≡ suc (c + 1 - k) = omega arith in
-        let z : suc (k - 1) ≡ k = omega arith in
-        record {
-          most = omega arith;
-          long = l ∙ u .long;
-          done = e ∙ rw (t, u .done, n, records-one g (k - 1) (c + 1 - k), z) (put-prepend s (12 * (k - 1)) (g (k - 1)) (12 * k) rest (omega arith) fits);
-        }
-
-pub past : (k q : ℕ) → q ≤ k → (k ≡ q → ⊥) → q < k
-past k q h f = ⊎-elim (λ e. e) (λ e. absurd (f (omega arith))) (lt-or-le q k)
+  pub between-stays : p < k → put s (12 * k) (recordBefore s p k) ≡ s
+  between-stays h = unchanged (next-between (kind s k) p k (sizeOrNext s k) h)

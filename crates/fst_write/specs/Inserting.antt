@@ -1,14 +1,14 @@
 -- One entry put into a written table in place: what its steps compute, and what they ask of the bytes. That the result is the table of the
 -- tree with the new entry is `insert-patched` of tree. Assumes nothing: these are definitions.
-use Prim.Native.Nat.{ℕ, suc, _+_, _-_, _*_, _≤_, _<_, _^_}
+use Prim.Native.Nat.{ℕ, _+_, _-_, _*_, _≤_, _<_, _^_}
 use mathlib.Core.Path.{_≡_}
 use mathlib.Core.Bool.{Bool, true, false, cond}
-use mathlib.Core.List.{List, [], _∷_, _++_}
+use mathlib.Core.List.{List, _∷_, _++_}
 use lib.ListN.{length}
 use lib.Dec.{eqb, leb, ltb}
-use Rattle.endian.specs.Bytes.{put, span, be24Bytes, be32Bytes}
+use Rattle.endian.specs.Bytes.{span, be24Bytes, be32Bytes}
 use Rattle.tree.specs.Table.{Node, kind, nameOffset, offsetOrParent, sizeOrNext}
-use Rattle.tree.specs.Insert.{emptyFile, emptyDirectory, bump, shifted}
+use Rattle.tree.specs.Insert.{emptyFile, emptyDirectory, bump}
 
 -- the four fields of an entry
 abbrev pub fieldBytes : ℕ → ℕ → ℕ → ℕ → List ℕ
@@ -23,28 +23,19 @@ newNode false nm q = emptyFile nm
 abbrev pub nextBefore : ℕ → ℕ → ℕ → ℕ → ℕ
 nextBefore kind p k next = cond (eqb kind 1) (cond (leb k p) (bump p next) next) next
 
--- the two last fields of an entry that moves behind the new one at q
-abbrev pub placeAfter : ℕ → ℕ → ℕ → ℕ
-placeAfter kind q place = cond (eqb kind 1) (shifted q place) place
-
-abbrev pub nextAfter : ℕ → ℕ → ℕ
-nextAfter kind next = cond (eqb kind 1) (suc next) next
-
 -- entry k can move, and its numbers can grow by 1
 pub record Raisable (s : List ℕ) (k : ℕ) : Type 0 where
   pub kinds : kind s k ≤ 1
   pub place : kind s k ≡ 1 → offsetOrParent s k + 1 < 2 ^ 32
   pub next : kind s k ≡ 1 → sizeOrNext s k + 1 < 2 ^ 32
 
--- what one turn asks: entry k before the new one stays, entry k - 1 becomes entry k behind it
-pub record Turnable (s : List ℕ) (k p q start grow : ℕ) : Type 0 where
-  pub room : 12 * k + 12 ≤ length s
-  pub later : p < q
-  pub few : q ≤ 16384
-  pub small : start < 2 ^ 24
-  pub before : k < q → Raisable s k
-  pub after : q < k → Raisable s (k - 1)
-  pub names : q < k → nameOffset s (k - 1) + grow < 2 ^ 24
+-- so can each of the first n entries
+abbrev pub EachRaisable : List ℕ → ℕ → Type 0
+EachRaisable s n = (i : ℕ) → i < n → Raisable s i
+
+-- and each of their name offsets can grow
+abbrev pub NamesGrow : List ℕ → ℕ → ℕ → Type 0
+NamesGrow s n grow = (i : ℕ) → i < n → nameOffset s i + grow < 2 ^ 24
 
 -- a new entry of a table of c entries goes to q, behind directory p; its text, with the zero byte, has `grow` bytes and starts at `start`
 pub record Patchable (s : List ℕ) (c p q start grow : ℕ) : Type 0 where

@@ -1,72 +1,54 @@
-// One entry put into a written table, in place: the texts make room for the new name, then the records move up, the last one first.
+// One entry put into a written table, in place: the texts make room for the new name, then the records behind it move up.
 ghost use mathlib.Core.Path.{_≡_};
 ghost use mathlib.Core.List.{[], _∷_, _++_};
 ghost use Prim.Native.Nat.{_+_, _-_, _*_, _≤_, _<_, _^_};
 ghost use lib.ListN.{length, take};
 ghost use Rattle.endian.specs.Bytes.{put};
 ghost use Rattle.tree.specs.Table.{nameOffset, sizeOrNext, nodeBytes};
+ghost use Rattle.tree.specs.Insert.{shifted};
 ghost use Rattle.tree.specs.Records.{records};
 ghost use Rattle.tree.specs.Patch.{recordBefore, recordAfter, patchedRecord, insertPatch};
-ghost use Rattle.fst_write.specs.Inserting.{newNode, nextBefore, placeAfter, nextAfter, Raisable, Turnable, Patchable, newTexts, startIn, Insertable};
+ghost use Rattle.fst_write.specs.Inserting.{newNode, Raisable, EachRaisable, NamesGrow, Patchable, newTexts, startIn, Insertable};
 
-// "next" of entry k, which stays before the new one: directory p and those around it end one later.
-fn next_before(kind: u8, k: usize, p: usize, next: u32) -> u32
-    requires { ⌜ (kind ≡ 1 → next + 1 < 2 ^ 32) ⌝ }
-    ensures { λ r. ⌜ r ≡ nextBefore kind p k next ⌝ }
+// The parent of a directory that moves behind the new entry at q: one more, if the parent moves too.
+fn place_after(q: usize, place: u32) -> u32
+    requires { ⌜ place + 1 < 2 ^ 32 ⌝ }
+    ensures { λ r. ⌜ r ≡ shifted q place ⌝ }
 {
-    if kind == 1 {
-        if k <= p {
-            if p < next as usize {
-                return next + 1;
-            }
-        }
+    if q <= place as usize {
+        place + 1
+    } else {
+        place
     }
-    next
 }
 
-// "offset or parent" of an entry that moves behind the new one at q: a parent that moves too has one more.
-fn place_after(kind: u8, q: usize, place: u32) -> u32
-    requires { ⌜ (kind ≡ 1 → place + 1 < 2 ^ 32) ⌝ }
-    ensures { λ r. ⌜ r ≡ placeAfter kind q place ⌝ }
-{
-    if kind == 1 {
-        if q <= place as usize {
-            return place + 1;
-        }
-    }
-    place
-}
-
-// "size or next" of an entry that moves behind the new one: a directory ends one later.
-fn next_after(kind: u8, next: u32) -> u32
-    requires { ⌜ (kind ≡ 1 → next + 1 < 2 ^ 32) ⌝ }
-    ensures { λ r. ⌜ r ≡ nextAfter kind next ⌝ }
-{
-    if kind == 1 { next + 1 } else { next }
-}
-
-// Entry k, which stays before the new one.
+// Entry k, which stays before the new one: directory p and those around it end one later, and nothing else changes.
 fn patch_before(table: &mut [u8], k: usize, p: usize)
-    requires { ⌜ (12 * k + 12 ≤ length (now table)) × Raisable (now table) k ⌝ }
+    requires { ⌜ (k ≤ p) × (12 * k + 12 ≤ length (now table)) × Raisable (now table) k ⌝ }
     ensures { λ _. ⌜ now (table .exit) ≡ put (now (table .entry)) (12 * k) (recordBefore (now (table .entry)) p k) ⌝ }
 {
-    let kind = endian::read_u8(table, 12 * k);
-    let name = endian::read_u24(table, 12 * k + 1);
-    let place = endian::read_u32(table, 12 * k + 4);
-    let next = next_before(kind, k, p, endian::read_u32(table, 12 * k + 8));
-    crate::write_fields(table, k, kind, name, place, next);
+    if endian::read_u8(table, 12 * k) == 1 {
+        let next = endian::read_u32(table, 12 * k + 8);
+        if p < next as usize {
+            endian::write_u32(table, 12 * k + 8, next + 1);
+        }
+    }
 }
 
-// Entry k, which becomes entry k + 1: the name offset grows by the new text.
-fn patch_after(table: &mut [u8], k: usize, q: usize, grow: usize)
-    requires { ⌜ (12 * (k + 1) + 12 ≤ length (now table)) × Raisable (now table) k × (nameOffset (now table) k + grow < 2 ^ 24) ⌝ }
-    ensures { λ _. ⌜ now (table .exit) ≡ put (now (table .entry)) (12 * (k + 1)) (recordAfter (now (table .entry)) q grow k) ⌝ }
+// Entry k, which has moved behind the new one at q: the name offset grows by the new text, and a directory ends one later, and its parent may
+// have moved too. Each field is read and written back as one word, and the first holds the kind above the name offset.
+fn raise(table: &mut [u8], k: usize, q: usize, grow: usize)
+    requires { ⌜ (12 * k + 12 ≤ length (now table)) × Raisable (now table) k × (nameOffset (now table) k + grow < 2 ^ 24) ⌝ }
+    ensures { λ _. ⌜ now (table .exit) ≡ put (now (table .entry)) (12 * k) (recordAfter (now (table .entry)) q grow k) ⌝ }
 {
-    let kind = endian::read_u8(table, 12 * k);
-    let name = endian::read_u24(table, 12 * k + 1) + grow as u32;
-    let place = place_after(kind, q, endian::read_u32(table, 12 * k + 4));
-    let next = next_after(kind, endian::read_u32(table, 12 * k + 8));
-    crate::write_fields(table, k + 1, kind, name, place, next);
+    let first = endian::read_u32(table, 12 * k) + grow as u32;
+    endian::write_u32(table, 12 * k, first);
+    if 0x1000000 <= first {
+        let place = endian::read_u32(table, 12 * k + 4);
+        endian::write_u32(table, 12 * k + 4, place_after(q, place));
+        let next = endian::read_u32(table, 12 * k + 8);
+        endian::write_u32(table, 12 * k + 8, next + 1);
+    }
 }
 
 // The new entry: an empty directory, or an empty file.
@@ -81,29 +63,32 @@ fn write_new(table: &mut [u8], p: usize, q: usize, is_directory: bool, start: us
     }
 }
 
-// Record k of the new table, where the records above it are in place and those below it are still the old ones.
-fn patch_record(
-    table: &mut [u8],
-    k: usize,
-    p: usize,
-    q: usize,
-    is_directory: bool,
-    start: usize,
-    name: &[u8],
-)
-    requires { ⌜ Turnable (now table) k p q start (length (now name) + 1) ⌝ }
-    ensures { λ _. ⌜ now (table .exit) ≡ put (now (table .entry)) (12 * k) (patchedRecord (now (table .entry)) p q (newNode «is_directory» (now (name .entry)) q) start k) ⌝ }
+// The entries behind the new one at q: all move at once, then each is raised where it stands.
+fn patch_behind(table: &mut [u8], count: usize, q: usize, grow: usize)
+    requires { ⌜ (12 * count + 12 ≤ length (now table)) × (q ≤ count) × EachRaisable (now table) count × NamesGrow (now table) count grow ⌝ }
+    ensures { λ _. ⌜ now (table .exit) ≡ put (now (table .entry)) (12 * (q + 1)) (records (recordAfter (now (table .entry)) q grow) q (count - q)) ⌝ }
 {
-    if k < q {
-        patch_before(table, k, p);
-    } else if k == q {
-        write_new(table, p, q, is_directory, start);
-    } else {
-        patch_after(table, k - 1, q, name.len() + 1);
+    endian::copy_within(table, 12 * q, 12 * (q + 1), 12 * (count - q));
+    let mut k = count;
+    while q < k {
+        raise(table, k, q, grow);
+        k -= 1;
     }
 }
 
-// All records of the new table, the last one first.
+// The entries up to directory p.
+fn patch_up_to(table: &mut [u8], p: usize)
+    requires { ⌜ (12 * (p + 1) ≤ length (now table)) × EachRaisable (now table) (p + 1) ⌝ }
+    ensures { λ _. ⌜ now (table .exit) ≡ put (now (table .entry)) 0 (records (recordBefore (now (table .entry)) p) 0 (p + 1)) ⌝ }
+{
+    let mut k = p + 1;
+    while 0 < k {
+        k -= 1;
+        patch_before(table, k, p);
+    }
+}
+
+// All records of the new table. Those behind the new one move before it is written over the first of them; those between p and it stay.
 fn patch_records(
     table: &mut [u8],
     count: usize,
@@ -116,11 +101,9 @@ fn patch_records(
     requires { ⌜ Patchable (now table) count p q start (length (now name) + 1) ⌝ }
     ensures { λ _. ⌜ now (table .exit) ≡ put (now (table .entry)) 0 (records (patchedRecord (now (table .entry)) p q (newNode «is_directory» (now (name .entry)) q) start) 0 (count + 1)) ⌝ }
 {
-    let mut k = count + 1;
-    while 0 < k {
-        k -= 1;
-        patch_record(table, k, p, q, is_directory, start, name);
-    }
+    patch_behind(table, count, q, name.len() + 1);
+    write_new(table, p, q, is_directory, start);
+    patch_up_to(table, p);
 }
 
 // The texts of `count` entries, from 12 bytes further on, with the new name where `start` bytes of them are passed.

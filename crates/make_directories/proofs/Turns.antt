@@ -22,7 +22,6 @@ use Rattle.tree.specs.Accepted.{length-nodesOf}
 use Rattle.tree.specs.RoundTrip.{written-accepted}
 use Rattle.tree.specs.Growing.{Bigger, bigger-insert, bigger-limits, bigger-encode}
 use Rattle.fst.specs.Steps.{componentsAfter}
-use Rattle.fst.proofs.PathLaws.{ups}
 use Rattle.edit.specs.Edits.{newNumber, Made, stopped, made, madeBack, ifFound, make}
 use Rattle.edit.specs.MakeLaws.{madeVerdict, bad-stays, AllLt, make-grows}
 use Rattle.edit.specs.declared.TableSize.{TableSize}
@@ -43,6 +42,11 @@ in-bytes s size words k st h = record {
 }
 
 -- ---- the entries left behind are the directories that the entry is nested in
+
+-- n times the parent, the nearest first
+unfoldable pub ups : List Node → ℕ → ℕ → List ℕ
+ups nodes k zero = []
+ups nodes k (suc n) = parentOf nodes k ∷ ups nodes (parentOf nodes k) n
 
 ups-inside : (M : List Node) (k n : ℕ) → k < length M → AllLt (length M) (ups M k n)
 unfolding ups
