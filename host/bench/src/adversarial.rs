@@ -33,17 +33,17 @@ fn image(count: usize, texts: &[u8], name_at: impl Fn(usize) -> usize) -> Vec<u8
     image
 }
 
-fn one_text() -> Vec<u8> {
-    let mut texts = vec![b'a'; TEXTS];
-    texts[TEXTS - 1] = 0;
-    texts
+/// As many texts of the same length as are asked for, of the byte `a` only.
+fn texts(number: usize) -> Vec<u8> {
+    let mut text = vec![b'a'; TEXTS / number];
+    text[TEXTS / number - 1] = 0;
+    text.repeat(number)
 }
 
-/// The same behind a text that no entry uses, with a byte that no name may have.
-fn unclean() -> Vec<u8> {
-    let mut texts = one_text();
-    texts[0] = b':';
-    texts[1] = 0;
+/// The same with a byte that no name may have, in a text that no entry uses: the first two bytes.
+fn unfit(number: usize) -> Vec<u8> {
+    let mut texts = texts(number);
+    texts[..2].copy_from_slice(b":\0");
     texts
 }
 
@@ -75,8 +75,9 @@ pub fn run(misses: &mut Vec<String>) {
     println!("|---|---|---|---|");
     let mut lent = Lent::new(COUNT, 12 * COUNT + TEXTS, COUNT + 1);
     for (kind, mut image) in [
-        ("each name one byte shorter", image(COUNT, &one_text(), |k| k)),
-        ("the same name each time", image(COUNT, &one_text(), |_| 0)),
+        ("each name one byte shorter", image(COUNT, &texts(1), |k| k)),
+        ("the same name each time", image(COUNT, &texts(1), |_| 0)),
+        ("two names in turn", image(COUNT, &texts(2), |k| k % 2 * TEXTS / 2)),
     ] {
         for (name, call) in calls() {
             let runs: Vec<_> = (0..3).map(|_| lent.run(&call, &mut image)).collect();
@@ -92,16 +93,24 @@ pub fn run(misses: &mut Vec<String>) {
     run_worse(misses, &mut lent);
 }
 
-/// A name of 1 MiB to insert, which differs from each child's in its last byte; and an image whose names all have to be looked at.
+/// The worst: a name as long as the texts, which differs from them in its last byte; and names that have to be looked at, since some byte
+/// of the texts is unfit.
 fn run_worse(misses: &mut Vec<String>, lent: &mut Lent) {
-    let mut name = vec![b'a'; TEXTS - 1];
-    name[TEXTS - 2] = b'b';
-    let mut one = image(COUNT, &one_text(), |_| 0);
-    let (time, answer) = lent.run(&Call::InsertFile(0, name), &mut one);
-    let number = answer.err().unwrap_or(0);
-    row(misses, "the same name each time", "insert a file, 1 MiB", number, time);
-    let mut unclean = image(COUNT, &unclean(), |_| 2);
-    let (time, answer) = lent.run(&Call::Open, &mut unclean);
-    let number = answer.err().unwrap_or(0);
-    row(misses, "an unfit byte in a text of no entry", "open", number, time);
+    let half = TEXTS / 2;
+    let kinds: [(&str, usize, &dyn Fn(usize) -> usize); 4] = [
+        ("each name one byte shorter", 1, &|k| k + 2),
+        ("each name one byte longer", 1, &|k| COUNT + 2 - k),
+        ("the same name each time", 1, &|_| 2),
+        ("two names in turn", 2, &|k| k % 2 * half + 2),
+    ];
+    for (kind, number, name_at) in kinds {
+        let mut clean = image(COUNT, &texts(number), name_at);
+        let mut name = vec![b'a'; TEXTS / number - 3];
+        *name.last_mut().unwrap() = b'b';
+        let (time, answer) = lent.run(&Call::InsertFile(0, name), &mut clean);
+        row(misses, kind, "insert a file, a name as long", answer.err().unwrap_or(0), time);
+        let mut unfit = image(COUNT, &unfit(number), name_at);
+        let (time, answer) = lent.run(&Call::Open, &mut unfit);
+        row(misses, kind, "open, an unfit byte in a text of no entry", answer.err().unwrap_or(0), time);
+    }
 }

@@ -140,8 +140,11 @@ pub fn run_long(misses: &mut Vec<String>) {
     for entries in [1024, 16384] {
         for (name, call) in [
             ("lookup, 204 steps back", long::back_and_forth()),
+            ("lookup, 204 steps back, two at a time", long::two_back_and_forth()),
             ("make-directories, 146 new, side by side", long::many_new()),
-            ("make-directories, 63 new, nested", long::deep_new()),
+            ("make-directories, 145 new, first of all", long::many_new_first()),
+            ("make-directories, 62 new, nested", long::deep_new()),
+            ("make-directories, 63 new, nested, first of all", long::deep_new_first()),
         ] {
             let new = if call.edits() { 146 } else { 0 };
             let plan = long::plan(entries - new);

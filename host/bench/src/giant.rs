@@ -7,7 +7,7 @@ use std::time::Duration;
 
 const GIGABYTE: u32 = 1 << 30;
 const N: usize = GIGABYTE as usize;
-const ROUNDS: usize = 5;
+const ROUNDS: usize = 9;
 
 /// What no move can do without: the bytes copied, and their old place zeroed.
 fn copy_and_zero(image: &mut [u8], from: usize, to: usize, n: usize) {
