@@ -111,6 +111,7 @@ fn run_worse(misses: &mut Vec<String>, lent: &mut Lent) {
         row(misses, kind, "insert a file, a name as long", answer.err().unwrap_or(0), time);
         let mut unfit = image(COUNT, &unfit(number), name_at);
         let (time, answer) = lent.run(&Call::Open, &mut unfit);
-        row(misses, kind, "open, an unfit byte in a text of no entry", answer.err().unwrap_or(0), time);
+        let number = answer.err().unwrap_or(0);
+        row(misses, kind, "open, an unfit byte in a text of no entry", number, time);
     }
 }

@@ -13,7 +13,8 @@ pub fn plan(n: usize) -> Plan {
         second,
     };
     let end = n as u32;
-    let mut nodes = vec![node("", true, 0, end), node("x", true, 0, 2), node("y", true, 0, end - 2)];
+    let mut nodes =
+        vec![node("", true, 0, end), node("x", true, 0, 2), node("y", true, 0, end - 2)];
     for k in 3..n - 2 {
         nodes.push(node(&format!("{k}"), false, 0, 0));
     }

@@ -34,8 +34,9 @@ fn main() {
     if runs("calls") {
         calls::run(&mut misses);
     }
+    let mut slower = vec![];
     if runs("long") {
-        calls::run_long(&mut misses);
+        calls::run_long(&mut slower);
     }
     if runs("growth") {
         growth::run(&mut misses);
@@ -53,6 +54,12 @@ fn main() {
     }
     for miss in &misses {
         println!("- {miss}");
+    }
+    if !slower.is_empty() {
+        println!("slower than the Rust, on paths that the bars' calls do not have:");
+    }
+    for path in &slower {
+        println!("- {path}");
     }
     std::process::exit(i32::from(!misses.is_empty()));
 }
