@@ -5,7 +5,7 @@
 use crate::guarded::{Element, Guarded};
 use crate::language::{Answer, Stop};
 pub use counter_sys::ENTRY_WORDS;
-use counter_sys::{DOL_WORDS, HEADER_SIZE, ffi};
+use counter_sys::{DOL_WORDS, HEADER_SIZE, call};
 
 /// Slots lent beyond what an answer takes.
 const SPARE: usize = 3;
@@ -109,9 +109,7 @@ impl Lender {
         self.before.clear();
         self.before.extend_from_slice(self.image.slice());
         let (image, lent) = (self.image.slice(), fields.slice_mut());
-        let cause = unsafe {
-            ffi::counter_header(image.as_ptr(), image.len(), lent.as_mut_ptr(), lent.len())
-        };
+        let cause = unsafe { call!(counter_header(in image, mut lent)) };
         hold(self.image.margins_stay() && self.image.slice() == &self.before[..], "image")?;
         hold(fields.stays_from(if cause == 0 { HEADER_SIZE } else { 0 }), "fields")?;
         if cause == 0 { Ok(slots(&fields)) } else { Err(Stop::Refused(cause)) }
@@ -120,14 +118,7 @@ impl Lender {
     /// FST offset and size, which are the header's; disc end; entries; used total.
     pub fn open(&mut self) -> Answer<[u32; 5]> {
         let opened: [u32; 5] = self.look(|image, words, answer| unsafe {
-            ffi::counter_open(
-                image.as_ptr(),
-                image.len(),
-                words.as_mut_ptr(),
-                words.len(),
-                answer.as_mut_ptr(),
-                answer.len(),
-            )
+            call!(counter_open(in image, mut words, mut answer))
         })?;
         hold(opened[..2] == [self.word(0x424), self.word(0x428)], "open: not the header's FST")?;
         Ok(opened)
@@ -139,28 +130,13 @@ impl Lender {
 
     pub fn totals(&mut self) -> Answer<[u32; 2]> {
         self.look(|image, words, answer| unsafe {
-            ffi::counter_totals(
-                image.as_ptr(),
-                image.len(),
-                words.as_mut_ptr(),
-                words.len(),
-                answer.as_mut_ptr(),
-                answer.len(),
-            )
+            call!(counter_totals(in image, mut words, mut answer))
         })
     }
 
     pub fn entry(&mut self, number: u32) -> Answer<[u32; 4]> {
         self.look(|image, words, answer| unsafe {
-            ffi::counter_entry(
-                image.as_ptr(),
-                image.len(),
-                words.as_mut_ptr(),
-                words.len(),
-                number,
-                answer.as_mut_ptr(),
-                answer.len(),
-            )
+            call!(counter_entry(in image, mut words, = number, mut answer))
         })
     }
 
@@ -169,17 +145,7 @@ impl Lender {
         let path = Guarded::of(path);
         let lent = path.slice();
         let found: [u32; 4] = self.look(|image, words, answer| unsafe {
-            ffi::counter_lookup(
-                image.as_ptr(),
-                image.len(),
-                words.as_mut_ptr(),
-                words.len(),
-                start,
-                lent.as_ptr(),
-                lent.len(),
-                answer.as_mut_ptr(),
-                answer.len(),
-            )
+            call!(counter_lookup(in image, mut words, = start, in lent, mut answer))
         })?;
         hold(path.margins_stay(), "beside path")?;
         hold(self.entry(found[0])? == found, "lookup: not as entry")?;
@@ -212,32 +178,14 @@ impl Lender {
     fn fill_entries(&mut self, len: usize) -> Answer<(Vec<u32>, [u32; 5])> {
         let used = |answer: &[u32; 5]| ENTRY_WORDS * answer[3] as usize;
         self.filled(len, used, |image, words, list, answer| unsafe {
-            ffi::counter_entries(
-                image.as_ptr(),
-                image.len(),
-                words.as_mut_ptr(),
-                words.len(),
-                list.as_mut_ptr(),
-                list.len(),
-                answer.as_mut_ptr(),
-                answer.len(),
-            )
+            call!(counter_entries(in image, mut words, mut list, mut answer))
         })
     }
 
     fn fill_free_regions(&mut self, len: usize) -> Answer<(Vec<u32>, [u32; 1])> {
         let used = |answer: &[u32; 1]| 2 * answer[0] as usize;
         self.filled(len, used, |image, words, list, answer| unsafe {
-            ffi::counter_free_regions(
-                image.as_ptr(),
-                image.len(),
-                words.as_mut_ptr(),
-                words.len(),
-                list.as_mut_ptr(),
-                list.len(),
-                answer.as_mut_ptr(),
-                answer.len(),
-            )
+            call!(counter_free_regions(in image, mut words, mut list, mut answer))
         })
     }
 
@@ -274,47 +222,21 @@ impl Lender {
 
     pub fn max_region_size(&mut self, offset: u32, size: u32) -> Answer<u32> {
         let [most] = self.look(|image, words, answer| unsafe {
-            ffi::counter_max_region_size(
-                image.as_ptr(),
-                image.len(),
-                words.as_mut_ptr(),
-                words.len(),
-                offset,
-                size,
-                answer.as_mut_ptr(),
-                answer.len(),
-            )
+            call!(counter_max_region_size(in image, mut words, = offset, = size, mut answer))
         })?;
         Ok(most)
     }
 
     pub fn max_file_size(&mut self, number: u32) -> Answer<u32> {
         let [most] = self.look(|image, words, answer| unsafe {
-            ffi::counter_max_file_size(
-                image.as_ptr(),
-                image.len(),
-                words.as_mut_ptr(),
-                words.len(),
-                number,
-                answer.as_mut_ptr(),
-                answer.len(),
-            )
+            call!(counter_max_file_size(in image, mut words, = number, mut answer))
         })?;
         Ok(most)
     }
 
     pub fn allocate(&mut self, size: u32, align: u32) -> Answer<[u32; 2]> {
         self.look(|image, words, answer| unsafe {
-            ffi::counter_allocate(
-                image.as_ptr(),
-                image.len(),
-                words.as_mut_ptr(),
-                words.len(),
-                size,
-                align,
-                answer.as_mut_ptr(),
-                answer.len(),
-            )
+            call!(counter_allocate(in image, mut words, = size, = align, mut answer))
         })
     }
 
@@ -323,17 +245,7 @@ impl Lender {
         self.call(Does::Look, &mut window, 3, |lender, window| {
             let (image, words) = (lender.image.slice(), lender.words.slice_mut());
             let window = window.slice_mut();
-            unsafe {
-                ffi::counter_open_file(
-                    image.as_ptr(),
-                    image.len(),
-                    words.as_mut_ptr(),
-                    words.len(),
-                    number,
-                    window.as_mut_ptr(),
-                    window.len(),
-                )
-            }
+            unsafe { call!(counter_open_file(in image, mut words, = number, mut window)) }
         })?;
         Ok(slots(&window))
     }
@@ -346,18 +258,7 @@ impl Lender {
         let result = self.call(Does::Look, &mut window, 3, |lender, window| {
             let (image, words) = (lender.image.slice(), lender.words.slice_mut());
             let (header, window) = (lent.slice_mut(), window.slice_mut());
-            unsafe {
-                ffi::counter_open_dol(
-                    image.as_ptr(),
-                    image.len(),
-                    words.as_mut_ptr(),
-                    words.len(),
-                    header.as_mut_ptr(),
-                    header.len(),
-                    window.as_mut_ptr(),
-                    window.len(),
-                )
-            }
+            unsafe { call!(counter_open_dol(in image, mut words, mut header, mut window)) }
         });
         hold(header.stays_from(if result.is_ok() { DOL_WORDS } else { 0 }), "DOL header")?;
         result?;
@@ -393,16 +294,7 @@ impl Lender {
         let (window_lent, buf_lent) = (lent.slice_mut(), buf.slice_mut());
         let answer_lent = answer.slice_mut();
         let cause = unsafe {
-            ffi::counter_read(
-                window_lent.as_mut_ptr(),
-                window_lent.len(),
-                image.as_ptr(),
-                image.len(),
-                buf_lent.as_mut_ptr(),
-                buf_lent.len(),
-                answer_lent.as_mut_ptr(),
-                answer_lent.len(),
-            )
+            call!(counter_read(mut window_lent, in image, mut buf_lent, mut answer_lent))
         };
         hold(lent.margins_stay(), "beside window")?;
         hold(buf.margins_stay(), "beside buffer")?;
@@ -423,19 +315,9 @@ impl Lender {
         let name = Guarded::of(name);
         let name = name.slice();
         let [number] = self.edit(|image, words, bytes, answer| unsafe {
-            ffi::counter_insert_file(
-                image.as_mut_ptr(),
-                image.len(),
-                words.as_mut_ptr(),
-                words.len(),
-                bytes.as_mut_ptr(),
-                bytes.len(),
-                parent,
-                name.as_ptr(),
-                name.len(),
-                answer.as_mut_ptr(),
-                answer.len(),
-            )
+            call!(counter_insert_file(
+                mut image, mut words, mut bytes, = parent, in name, mut answer
+            ))
         })?;
         Ok(number)
     }
@@ -444,19 +326,9 @@ impl Lender {
         let name = Guarded::of(name);
         let name = name.slice();
         let [number] = self.edit(|image, words, bytes, answer| unsafe {
-            ffi::counter_insert_directory(
-                image.as_mut_ptr(),
-                image.len(),
-                words.as_mut_ptr(),
-                words.len(),
-                bytes.as_mut_ptr(),
-                bytes.len(),
-                parent,
-                name.as_ptr(),
-                name.len(),
-                answer.as_mut_ptr(),
-                answer.len(),
-            )
+            call!(counter_insert_directory(
+                mut image, mut words, mut bytes, = parent, in name, mut answer
+            ))
         })?;
         Ok(number)
     }
@@ -465,65 +337,30 @@ impl Lender {
         let path = Guarded::of(path);
         let path = path.slice();
         let [number] = self.edit(|image, words, bytes, answer| unsafe {
-            ffi::counter_make_directories(
-                image.as_mut_ptr(),
-                image.len(),
-                words.as_mut_ptr(),
-                words.len(),
-                bytes.as_mut_ptr(),
-                bytes.len(),
-                start,
-                path.as_ptr(),
-                path.len(),
-                answer.as_mut_ptr(),
-                answer.len(),
-            )
+            call!(counter_make_directories(
+                mut image, mut words, mut bytes, = start, in path, mut answer
+            ))
         })?;
         Ok(number)
     }
 
     pub fn move_file(&mut self, number: u32, new_offset: u32) -> Answer<()> {
         let [] = self.edit(|image, words, bytes, _| unsafe {
-            ffi::counter_move_file(
-                image.as_mut_ptr(),
-                image.len(),
-                words.as_mut_ptr(),
-                words.len(),
-                bytes.as_mut_ptr(),
-                bytes.len(),
-                number,
-                new_offset,
-            )
+            call!(counter_move_file(mut image, mut words, mut bytes, = number, = new_offset))
         })?;
         Ok(())
     }
 
     pub fn resize_file(&mut self, number: u32, new_size: u32) -> Answer<()> {
         let [] = self.edit(|image, words, bytes, _| unsafe {
-            ffi::counter_resize_file(
-                image.as_mut_ptr(),
-                image.len(),
-                words.as_mut_ptr(),
-                words.len(),
-                bytes.as_mut_ptr(),
-                bytes.len(),
-                number,
-                new_size,
-            )
+            call!(counter_resize_file(mut image, mut words, mut bytes, = number, = new_size))
         })?;
         Ok(())
     }
 
     pub fn rewrite(&mut self) -> Answer<()> {
         let [] = self.edit(|image, words, bytes, _| unsafe {
-            ffi::counter_rewrite(
-                image.as_mut_ptr(),
-                image.len(),
-                words.as_mut_ptr(),
-                words.len(),
-                bytes.as_mut_ptr(),
-                bytes.len(),
-            )
+            call!(counter_rewrite(mut image, mut words, mut bytes))
         })?;
         Ok(())
     }

@@ -61,6 +61,23 @@ pub const DOL_WORDS: usize = 57;
 /// Bytes of a disc header.
 pub const HEADER_SIZE: usize = 0x440;
 
+/// A call of a C function: a slice that it reads (`in`) or is lent (`mut`) goes in as a pointer and a
+/// length, a number (`=`) as it is.
+#[macro_export]
+macro_rules! call {
+    (@ $name:ident [$($done:expr),*]) => { $crate::ffi::$name($($done),*) };
+    (@ $name:ident [$($done:expr),*] in $slice:expr $(, $($rest:tt)*)?) => {
+        $crate::call!(@ $name [$($done,)* $slice.as_ptr(), $slice.len()] $($($rest)*)?)
+    };
+    (@ $name:ident [$($done:expr),*] mut $slice:expr $(, $($rest:tt)*)?) => {
+        $crate::call!(@ $name [$($done,)* $slice.as_mut_ptr(), $slice.len()] $($($rest)*)?)
+    };
+    (@ $name:ident [$($done:expr),*] = $number:expr $(, $($rest:tt)*)?) => {
+        $crate::call!(@ $name [$($done,)* $number] $($($rest)*)?)
+    };
+    ($name:ident($($given:tt)*)) => { $crate::call!(@ $name [] $($given)*) };
+}
+
 fn told(number: u32) -> Answer<()> {
     if number == 0 { Ok(()) } else { Err(number) }
 }
@@ -87,73 +104,33 @@ fn window(answer: [u64; 3]) -> Window {
 /// The header as it is read and written back.
 pub fn header(image: &[u8]) -> Answer<[u8; HEADER_SIZE]> {
     let mut fields = [0; HEADER_SIZE];
-    told(unsafe {
-        ffi::counter_header(image.as_ptr(), image.len(), fields.as_mut_ptr(), fields.len())
-    })?;
+    told(unsafe { call!(counter_header(in image, mut fields)) })?;
     Ok(fields)
 }
 
 pub fn open(image: &[u8], memory: &mut Memory) -> Answer<Opened> {
     let mut answer = [0; 5];
-    told(unsafe {
-        ffi::counter_open(
-            image.as_ptr(),
-            image.len(),
-            memory.words.as_mut_ptr(),
-            memory.words.len(),
-            answer.as_mut_ptr(),
-            answer.len(),
-        )
-    })?;
+    told(unsafe { call!(counter_open(in image, mut memory.words, mut answer)) })?;
     Ok(opened(answer))
 }
 
 /// The disc end and the used total.
 pub fn totals(image: &[u8], memory: &mut Memory) -> Answer<(u32, u32)> {
     let mut answer = [0; 2];
-    told(unsafe {
-        ffi::counter_totals(
-            image.as_ptr(),
-            image.len(),
-            memory.words.as_mut_ptr(),
-            memory.words.len(),
-            answer.as_mut_ptr(),
-            answer.len(),
-        )
-    })?;
+    told(unsafe { call!(counter_totals(in image, mut memory.words, mut answer)) })?;
     Ok((answer[0], answer[1]))
 }
 
 pub fn entry_at(image: &[u8], memory: &mut Memory, number: u32) -> Answer<Entry> {
     let mut answer = [0; 4];
-    told(unsafe {
-        ffi::counter_entry(
-            image.as_ptr(),
-            image.len(),
-            memory.words.as_mut_ptr(),
-            memory.words.len(),
-            number,
-            answer.as_mut_ptr(),
-            answer.len(),
-        )
-    })?;
+    told(unsafe { call!(counter_entry(in image, mut memory.words, = number, mut answer)) })?;
     Ok(entry(answer))
 }
 
 pub fn lookup(image: &[u8], memory: &mut Memory, start: u32, path: &[u8]) -> Answer<Entry> {
     let mut answer = [0; 4];
     told(unsafe {
-        ffi::counter_lookup(
-            image.as_ptr(),
-            image.len(),
-            memory.words.as_mut_ptr(),
-            memory.words.len(),
-            start,
-            path.as_ptr(),
-            path.len(),
-            answer.as_mut_ptr(),
-            answer.len(),
-        )
+        call!(counter_lookup(in image, mut memory.words, = start, in path, mut answer))
     })?;
     Ok(entry(answer))
 }
@@ -162,52 +139,21 @@ pub fn lookup(image: &[u8], memory: &mut Memory, start: u32, path: &[u8]) -> Ans
 /// size or next, the place of its name in the image, the name's length.
 pub fn entries(image: &[u8], memory: &mut Memory, list: &mut [u32]) -> Answer<Opened> {
     let mut answer = [0; 5];
-    told(unsafe {
-        ffi::counter_entries(
-            image.as_ptr(),
-            image.len(),
-            memory.words.as_mut_ptr(),
-            memory.words.len(),
-            list.as_mut_ptr(),
-            list.len(),
-            answer.as_mut_ptr(),
-            answer.len(),
-        )
-    })?;
+    told(unsafe { call!(counter_entries(in image, mut memory.words, mut list, mut answer)) })?;
     Ok(opened(answer))
 }
 
 /// Offset and size of each free region in `list`; the answer is how many there are.
 pub fn free_regions(image: &[u8], memory: &mut Memory, list: &mut [u32]) -> Answer<u32> {
     let mut answer = [0; 1];
-    told(unsafe {
-        ffi::counter_free_regions(
-            image.as_ptr(),
-            image.len(),
-            memory.words.as_mut_ptr(),
-            memory.words.len(),
-            list.as_mut_ptr(),
-            list.len(),
-            answer.as_mut_ptr(),
-            answer.len(),
-        )
-    })?;
+    told(unsafe { call!(counter_free_regions(in image, mut memory.words, mut list, mut answer)) })?;
     Ok(answer[0])
 }
 
 pub fn max_region_size(image: &[u8], memory: &mut Memory, offset: u32, size: u32) -> Answer<u32> {
     let mut answer = [0; 1];
     told(unsafe {
-        ffi::counter_max_region_size(
-            image.as_ptr(),
-            image.len(),
-            memory.words.as_mut_ptr(),
-            memory.words.len(),
-            offset,
-            size,
-            answer.as_mut_ptr(),
-            answer.len(),
-        )
+        call!(counter_max_region_size(in image, mut memory.words, = offset, = size, mut answer))
     })?;
     Ok(answer[0])
 }
@@ -215,15 +161,7 @@ pub fn max_region_size(image: &[u8], memory: &mut Memory, offset: u32, size: u32
 pub fn max_file_size(image: &[u8], memory: &mut Memory, number: u32) -> Answer<u32> {
     let mut answer = [0; 1];
     told(unsafe {
-        ffi::counter_max_file_size(
-            image.as_ptr(),
-            image.len(),
-            memory.words.as_mut_ptr(),
-            memory.words.len(),
-            number,
-            answer.as_mut_ptr(),
-            answer.len(),
-        )
+        call!(counter_max_file_size(in image, mut memory.words, = number, mut answer))
     })?;
     Ok(answer[0])
 }
@@ -231,33 +169,14 @@ pub fn max_file_size(image: &[u8], memory: &mut Memory, number: u32) -> Answer<u
 pub fn allocate(image: &[u8], memory: &mut Memory, size: u32, align: u32) -> Answer<Region> {
     let mut answer = [0; 2];
     told(unsafe {
-        ffi::counter_allocate(
-            image.as_ptr(),
-            image.len(),
-            memory.words.as_mut_ptr(),
-            memory.words.len(),
-            size,
-            align,
-            answer.as_mut_ptr(),
-            answer.len(),
-        )
+        call!(counter_allocate(in image, mut memory.words, = size, = align, mut answer))
     })?;
     Ok(Region { offset: answer[0], size: answer[1] })
 }
 
 pub fn open_file(image: &[u8], memory: &mut Memory, number: u32) -> Answer<Window> {
     let mut answer = [0; 3];
-    told(unsafe {
-        ffi::counter_open_file(
-            image.as_ptr(),
-            image.len(),
-            memory.words.as_mut_ptr(),
-            memory.words.len(),
-            number,
-            answer.as_mut_ptr(),
-            answer.len(),
-        )
-    })?;
+    told(unsafe { call!(counter_open_file(in image, mut memory.words, = number, mut answer)) })?;
     Ok(window(answer))
 }
 
@@ -265,18 +184,7 @@ pub fn open_file(image: &[u8], memory: &mut Memory, number: u32) -> Answer<Windo
 pub fn open_dol(image: &[u8], memory: &mut Memory) -> Answer<([u32; DOL_WORDS], Window)> {
     let mut header = [0; DOL_WORDS];
     let mut answer = [0; 3];
-    told(unsafe {
-        ffi::counter_open_dol(
-            image.as_ptr(),
-            image.len(),
-            memory.words.as_mut_ptr(),
-            memory.words.len(),
-            header.as_mut_ptr(),
-            header.len(),
-            answer.as_mut_ptr(),
-            answer.len(),
-        )
-    })?;
+    told(unsafe { call!(counter_open_dol(in image, mut memory.words, mut header, mut answer)) })?;
     Ok((header, window(answer)))
 }
 
@@ -289,21 +197,21 @@ impl Window {
 
     pub fn seek_start(&mut self, position: u64) -> Answer<()> {
         let mut slots = self.slots();
-        told(unsafe { ffi::counter_seek_start(slots.as_mut_ptr(), slots.len(), position) })?;
+        told(unsafe { call!(counter_seek_start(mut slots, = position)) })?;
         *self = window(slots);
         Ok(())
     }
 
     pub fn seek_current(&mut self, distance: i64) -> Answer<()> {
         let mut slots = self.slots();
-        told(unsafe { ffi::counter_seek_current(slots.as_mut_ptr(), slots.len(), distance) })?;
+        told(unsafe { call!(counter_seek_current(mut slots, = distance)) })?;
         *self = window(slots);
         Ok(())
     }
 
     pub fn seek_end(&mut self, distance: i64) -> Answer<()> {
         let mut slots = self.slots();
-        told(unsafe { ffi::counter_seek_end(slots.as_mut_ptr(), slots.len(), distance) })?;
+        told(unsafe { call!(counter_seek_end(mut slots, = distance)) })?;
         *self = window(slots);
         Ok(())
     }
@@ -312,18 +220,7 @@ impl Window {
     pub fn read(&mut self, image: &[u8], buf: &mut [u8]) -> Answer<u64> {
         let mut slots = self.slots();
         let mut answer = [0; 1];
-        told(unsafe {
-            ffi::counter_read(
-                slots.as_mut_ptr(),
-                slots.len(),
-                image.as_ptr(),
-                image.len(),
-                buf.as_mut_ptr(),
-                buf.len(),
-                answer.as_mut_ptr(),
-                answer.len(),
-            )
-        })?;
+        told(unsafe { call!(counter_read(mut slots, in image, mut buf, mut answer)) })?;
         *self = window(slots);
         Ok(answer[0])
     }
@@ -335,19 +232,9 @@ impl Window {
 pub fn insert_file(image: &mut [u8], memory: &mut Memory, parent: u32, name: &[u8]) -> Answer<u32> {
     let mut answer = [0; 1];
     told(unsafe {
-        ffi::counter_insert_file(
-            image.as_mut_ptr(),
-            image.len(),
-            memory.words.as_mut_ptr(),
-            memory.words.len(),
-            memory.bytes.as_mut_ptr(),
-            memory.bytes.len(),
-            parent,
-            name.as_ptr(),
-            name.len(),
-            answer.as_mut_ptr(),
-            answer.len(),
-        )
+        call!(counter_insert_file(
+            mut image, mut memory.words, mut memory.bytes, = parent, in name, mut answer
+        ))
     })?;
     Ok(answer[0])
 }
@@ -361,19 +248,9 @@ pub fn insert_directory(
 ) -> Answer<u32> {
     let mut answer = [0; 1];
     told(unsafe {
-        ffi::counter_insert_directory(
-            image.as_mut_ptr(),
-            image.len(),
-            memory.words.as_mut_ptr(),
-            memory.words.len(),
-            memory.bytes.as_mut_ptr(),
-            memory.bytes.len(),
-            parent,
-            name.as_ptr(),
-            name.len(),
-            answer.as_mut_ptr(),
-            answer.len(),
-        )
+        call!(counter_insert_directory(
+            mut image, mut memory.words, mut memory.bytes, = parent, in name, mut answer
+        ))
     })?;
     Ok(answer[0])
 }
@@ -387,19 +264,9 @@ pub fn make_directories(
 ) -> Answer<u32> {
     let mut answer = [0; 1];
     told(unsafe {
-        ffi::counter_make_directories(
-            image.as_mut_ptr(),
-            image.len(),
-            memory.words.as_mut_ptr(),
-            memory.words.len(),
-            memory.bytes.as_mut_ptr(),
-            memory.bytes.len(),
-            start,
-            path.as_ptr(),
-            path.len(),
-            answer.as_mut_ptr(),
-            answer.len(),
-        )
+        call!(counter_make_directories(
+            mut image, mut memory.words, mut memory.bytes, = start, in path, mut answer
+        ))
     })?;
     Ok(answer[0])
 }
@@ -411,16 +278,9 @@ pub fn move_file(
     new_offset: u32,
 ) -> Answer<()> {
     told(unsafe {
-        ffi::counter_move_file(
-            image.as_mut_ptr(),
-            image.len(),
-            memory.words.as_mut_ptr(),
-            memory.words.len(),
-            memory.bytes.as_mut_ptr(),
-            memory.bytes.len(),
-            number,
-            new_offset,
-        )
+        call!(counter_move_file(
+            mut image, mut memory.words, mut memory.bytes, = number, = new_offset
+        ))
     })
 }
 
@@ -431,29 +291,13 @@ pub fn resize_file(
     new_size: u32,
 ) -> Answer<()> {
     told(unsafe {
-        ffi::counter_resize_file(
-            image.as_mut_ptr(),
-            image.len(),
-            memory.words.as_mut_ptr(),
-            memory.words.len(),
-            memory.bytes.as_mut_ptr(),
-            memory.bytes.len(),
-            number,
-            new_size,
-        )
+        call!(counter_resize_file(
+            mut image, mut memory.words, mut memory.bytes, = number, = new_size
+        ))
     })
 }
 
 /// Writes the table anew.
 pub fn rewrite(image: &mut [u8], memory: &mut Memory) -> Answer<()> {
-    told(unsafe {
-        ffi::counter_rewrite(
-            image.as_mut_ptr(),
-            image.len(),
-            memory.words.as_mut_ptr(),
-            memory.words.len(),
-            memory.bytes.as_mut_ptr(),
-            memory.bytes.len(),
-        )
-    })
+    told(unsafe { call!(counter_rewrite(mut image, mut memory.words, mut memory.bytes)) })
 }
