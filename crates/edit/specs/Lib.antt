@@ -1,4 +1,5 @@
 pub mod Change
 pub mod Edits
+pub mod Promise
 pub mod Decision
 pub mod MakeLaws
