@@ -9,15 +9,14 @@ use lib.ListN.{length}
 use Rattle.refusal.specs.declared.Refusal.the-variants.{LimitOrMemory}
 use Rattle.refusal.specs.declared.Verdict.{Verdict}
 use Rattle.refusal.specs.declared.Verdict.the-variants.{Passed, Refused}
-use Rattle.refusal.specs.Laws.{first-passed}
+use Rattle.refusal.specs.Laws.Chains.{first-passed}
 use Rattle.header.specs.Verdicts.{headerVerdict, boundsVerdict, discEnd}
-use Rattle.header.specs.Laws.{Bounded, bounds-passed}
+use Rattle.header.specs.Laws.FieldTests.{bounds-passed}
 use Rattle.space.specs.declared.DiscRegion.{DiscRegion}
-use Rattle.space.specs.declared.Listing.{Listing}
-use Rattle.space.specs.declared.Listing.the-variants as listing
+use Rattle.free_space.specs.declared.Listing.the-variants as listing
 use Rattle.space.specs.Free.{join, runs, freeRegions}
-use Rattle.space.specs.Listing.{listingOf}
-use Rattle.disc.specs.Opening.{opening, freeOf}
+use Rattle.free_space.specs.Listing.{listingOf}
+use Rattle.opening.specs.Opening.{opening, freeOf}
 use Rattle.disc.specs.Calls.{behind, freeRegionsAnswer}
 
 join-count : (i : ℕ) (rs : List DiscRegion) → length (join i rs) ≤ suc (length rs)

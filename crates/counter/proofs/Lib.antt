@@ -1,3 +1,3 @@
--- What the proofs of several functions use.
-mod Counts
-mod Puts
+-- What the proofs of the functions cite.
+pub mod Counts
+pub mod Puts

@@ -1,13 +1,13 @@
 -- Words put one part behind another are put at once, and the turn of a loop that copies words. Assumes nothing.
-use Prim.Native.Nat.{ℕ, suc, _+_, _≤_, _<_}
+use Prim.Native.Nat.{ℕ, _+_, _≤_, _<_}
 use mathlib.Core.Path.{_≡_, refl, sym, ap, _∙_}
-use mathlib.Core.List.{List, [], _∷_, _++_, append-assoc, append-nil}
+use mathlib.Core.List.{List, _++_, append-assoc, append-nil}
 use native.Mathlib.Omega.{arith}
 use native.Mathlib.Numerals.{add-one}
 use lib.ListN.{length, getD, set, take, drop, replicate, length-append, length-replicate, drop-of-length-le}
 use lib.Seq.{length-take-le, take-at, take-suc}
 use Rattle.endian.specs.Bytes.{put}
-use Rattle.endian.specs.Laws.{put-snoc, drop-put}
+use Rattle.endian.specs.Laws.Stored.{put-snoc, drop-put}
 
 take-put : (s : List ℕ) (at : ℕ) (a : List ℕ) → at + length a ≤ length s → take (at + length a) (put s at a) ≡ take at s ++ a
 unfolding put

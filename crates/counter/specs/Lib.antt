@@ -1,4 +1,3 @@
-pub mod HeaderLaws
 pub mod Headers
-pub mod Laws
 pub mod Replies
+pub mod Laws

@@ -4,9 +4,9 @@
 use Prim.Native.Nat.{ℕ}
 use mathlib.Core.Path.{_≡_}
 use mathlib.Core.Bool.{cond}
-use mathlib.Core.List.{List, [], _∷_, _++_}
+use mathlib.Core.List.{List, [], _∷_}
 use lib.Dec.{ltb}
-use lib.ListN.{length, getD}
+use lib.ListN.{getD}
 use Rattle.endian.specs.Bytes.{put}
 use Rattle.refusal.specs.declared.Refusal.{Refusal}
 use Rattle.refusal.specs.declared.Refusal.the-variants.{LimitOrMemory}
@@ -19,10 +19,10 @@ use Rattle.tree.specs.declared.Found.{Found}
 use Rattle.tree.specs.declared.Found.the-variants as found
 use Rattle.tree.specs.declared.Located.{Located}
 use Rattle.tree.specs.declared.Located.the-variants as located
-use Rattle.space.specs.declared.Allocation.{Allocation}
-use Rattle.space.specs.declared.Allocation.the-variants as allocation
-use Rattle.space.specs.declared.Listing.{Listing}
-use Rattle.space.specs.declared.Listing.the-variants as listing
+use Rattle.free_space.specs.declared.Allocation.{Allocation}
+use Rattle.free_space.specs.declared.Allocation.the-variants as allocation
+use Rattle.free_space.specs.declared.Listing.{Listing}
+use Rattle.free_space.specs.declared.Listing.the-variants as listing
 use Rattle.disc.specs.declared.Opened.{Opened}
 use Rattle.disc.specs.declared.Opened.the-variants as opened
 use Rattle.disc.specs.declared.TotalsAnswer.{TotalsAnswer}

@@ -1,8 +1,8 @@
 // The edits.
 ghost use mathlib.Core.Path.{_≡_};
 ghost use lib.ListN.{length, replicate};
-ghost use Rattle.edit.specs.Edits as edits;
-ghost use Rattle.edit.specs.Edits.{verdictOf, imageAfter};
+ghost use Rattle.edits.specs.Edits as edits;
+ghost use Rattle.edits.specs.Edits.{verdictOf, imageAfter};
 ghost use Rattle.counter.specs.Replies.{verdictNumber};
 use refusal::Verdict;
 

@@ -8,7 +8,7 @@ ghost use Rattle.refusal.specs.declared.Refusal.the-variants.{LimitOrMemory};
 ghost use Rattle.refusal.specs.Refusal.{numberOf};
 ghost use Rattle.header.specs.Header.{readOf};
 ghost use Rattle.disc.specs.Calls.{openDolAnswer};
-ghost use Rattle.counter.specs.Replies.{Gives, accepts, needing, ifShort, verdictNumber};
+ghost use Rattle.counter.specs.Replies.{Gives, needing, ifShort, verdictNumber};
 ghost use Rattle.counter.specs.Headers.{fieldsAfter, dolWords, dolReply, dolWindowReply};
 use crate::slots;
 use crate::windows;

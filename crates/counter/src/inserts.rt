@@ -2,8 +2,8 @@
 ghost use mathlib.Core.Path.{_≡_};
 ghost use Prim.Native.Nat.{_≤_};
 ghost use lib.ListN.{length, replicate};
-ghost use Rattle.edit.specs.Edits as edits;
-ghost use Rattle.edit.specs.Edits.{imageAfter};
+ghost use Rattle.edits.specs.Edits as edits;
+ghost use Rattle.edits.specs.Edits.{imageAfter};
 ghost use Rattle.counter.specs.Replies.{Gives, needing, ifShort, locatedReply};
 use crate::slots;
 use tree::Located;

@@ -2,8 +2,7 @@
 ghost use mathlib.Core.Path.{_≡_};
 ghost use Prim.Native.Nat.{_≤_};
 ghost use lib.ListN.{length, replicate};
-ghost use Rattle.disc.specs.Opening.{openedOf};
-ghost use Rattle.disc.specs.Calls.{entryAnswer, lookupAnswer, entriesAnswer, entriesList, totalsAnswer};
+ghost use Rattle.disc.specs.Calls.{openedOf, entryAnswer, lookupAnswer, entriesAnswer, entriesList, totalsAnswer};
 ghost use Rattle.counter.specs.Replies.{Gives, needing, ifShort, openedReply, foundReply, totalsReply};
 use crate::slots;
 use disc::Opened;

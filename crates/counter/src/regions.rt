@@ -2,13 +2,13 @@
 ghost use mathlib.Core.Path.{_≡_};
 ghost use Prim.Native.Nat.{ℕ, _≤_, _<_, _^_};
 ghost use lib.ListN.{length, replicate};
-ghost use Rattle.space.specs.declared.Listing.the-variants.{Listed};
+ghost use Rattle.free_space.specs.declared.Listing.the-variants.{Listed};
 ghost use Rattle.disc.specs.Calls.{freeRegionsAnswer, freeRegionsList, maxRegionSizeAnswer, maxFileSizeAnswer, allocateAnswer};
 ghost use Rattle.counter.specs.Replies.{Gives, needing, ifShort, listingReply, sizeReply, allocationReply};
 use crate::slots;
 use disc::SizeAnswer;
-use space::Allocation;
-use space::Listing;
+use free_space::Allocation;
+use free_space::Listing;
 
 // ---- an answer into the slots
 

@@ -8,7 +8,7 @@ use Rattle.window.specs.declared.Window.{Window}
 use Rattle.window.specs.Window.{newWindow}
 use Rattle.dol.specs.declared.DolHeader.{DolHeader}
 use Rattle.dol.specs.declared.DolAnswer.{DolAnswer}
-use Rattle.dol.specs.Dol.{headerOf, fileSizeOf, verdictOf, answered, answerOf}
+use Rattle.dol.specs.Dol.{headerOf, verdictOf, answered, answerOf}
 use Rattle.header.specs.Verdicts.{dolOffset}
 use Rattle.disc.specs.declared.DolFile.{DolFile}
 use Rattle.disc.specs.Calls.{dolAs}

@@ -1,4 +1,3 @@
 -- What the proofs of the functions cite.
-pub mod UsedRegions
-pub mod Tests
 pub mod Dol
+pub mod Answers

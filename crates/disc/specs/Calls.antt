@@ -1,47 +1,64 @@
 -- The answers of the calls that read (document 01; the order of refusals: "Calls go on: path over 1,024 bytes or result list short 9, then
 -- 15, 16 or 17 .. allocation 22, 21"). Assumes nothing: these are definitions.
-use Prim.Native.Nat.{ℕ, zero, suc, _+_, _*_}
-use mathlib.Core.Bool.{Bool, true, false, cond}
-use mathlib.Core.List.{List, [], _∷_, _++_, map}
-use lib.Dec.{ltb, leb}
-use lib.ListN.{length, getD, drop}
+use Prim.Native.Nat.{ℕ}
+use mathlib.Core.List.{List}
+use lib.Dec.{ltb}
+use lib.ListN.{length}
 use Rattle.refusal.specs.declared.Refusal.{Refusal}
 use Rattle.refusal.specs.declared.Refusal.the-variants.{LimitOrMemory, ExpectedFile}
 use Rattle.refusal.specs.declared.Verdict.{Verdict}
 use Rattle.refusal.specs.declared.Verdict.the-variants as verdict
 use Rattle.refusal.specs.Refusal.{refuse, first}
-use Rattle.header.specs.Verdicts.{dolOffset, fstOffset, discEnd}
+use Rattle.header.specs.Verdicts.{dolOffset, fstOffset, discEnd, fstSize}
 use Rattle.window.specs.Window.{newWindow}
 use Rattle.dol.specs.Dol.{headerOf, fileSizeOf, verdictOf, newHeader}
 use Rattle.tree.specs.Lookup.{lookup, foundAt, entryFound}
 use Rattle.tree.specs.declared.Entry.the-variants.{File, Directory}
 use Rattle.tree.specs.declared.Found.{Found}
 use Rattle.tree.specs.declared.Found.the-variants as found
-use Rattle.space.specs.declared.DiscRegion.{DiscRegion}
-use Rattle.space.specs.declared.Allocation.{Allocation}
-use Rattle.space.specs.declared.Allocation.the-variants as allocation
-use Rattle.space.specs.declared.Listing.{Listing}
-use Rattle.space.specs.declared.Listing.the-variants as listing
-use Rattle.space.specs.Listing.{listingOf, listAfter}
-use Rattle.space.specs.MaxRegionSize.{maxRegionSize}
-use Rattle.space.specs.Allocate.{allocationOf}
-use Rattle.disc.specs.declared.DiscTotals.{DiscTotals}
+use Rattle.free_space.specs.declared.Allocation.{Allocation}
+use Rattle.free_space.specs.declared.Allocation.the-variants as allocation
+use Rattle.free_space.specs.declared.Listing.{Listing}
+use Rattle.free_space.specs.declared.Listing.the-variants as listing
+use Rattle.free_space.specs.Listing.{listingOf, listAfter}
+use Rattle.free_space.specs.MaxRegionSize.{maxRegionSize}
+use Rattle.free_space.specs.Allocate.{allocationOf}
 use Rattle.disc.specs.declared.TotalsAnswer.{TotalsAnswer}
 use Rattle.disc.specs.declared.TotalsAnswer.the-variants as totaled
 use Rattle.disc.specs.declared.SizeAnswer.{SizeAnswer}
 use Rattle.disc.specs.declared.SizeAnswer.the-variants as size
 use Rattle.disc.specs.declared.WindowAnswer.{WindowAnswer}
 use Rattle.disc.specs.declared.WindowAnswer.the-variants as window
-use Rattle.fst.specs.Rows.{listVerdict, listed}
+use Rattle.fst_list.specs.Rows.{listVerdict, listed}
 use Rattle.disc.specs.declared.Opened.{Opened}
 use Rattle.disc.specs.declared.Opened.the-variants as opened
 use Rattle.disc.specs.declared.DolFile.{DolFile}
-use Rattle.disc.specs.Opening.{opening, tableOf, nodesIn, freeOf, usedOf, discOf}
+use Rattle.opening.specs.Opening.{opening, tableOf, nodesIn, freeOf, usedOf}
+use Rattle.tree.specs.Table.{count}
+use Rattle.disc.specs.declared.Disc.{Disc}
 
 -- an answer behind tests: the refusal that they give, or the answer
 abbrev pub behind : {A : Type 0} → Verdict → (Refusal → A) → A → A
 behind verdict.Passed f a = a
 behind (verdict.Refused c) f a = f c
+
+-- ---- the answer of `open`
+
+abbrev pub discOf : List ℕ → Disc
+discOf image = record {
+  «fst_offset» = fstOffset image;
+  «fst_size» = fstSize image;
+  «disc_end» = discEnd image;
+  entries = count (tableOf image);
+  used = usedOf image;
+}
+
+abbrev pub openedAs : List ℕ → Verdict → Opened
+openedAs image verdict.Passed = opened.Accepted (discOf image)
+openedAs image (verdict.Refused c) = opened.Refused c
+
+unfoldable pub openedOf : List ℕ → ℕ → Opened
+openedOf image words = openedAs image (opening image words)
 
 -- ---- entries
 

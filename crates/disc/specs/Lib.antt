@@ -1,5 +1,2 @@
-pub mod Opening
-pub mod Prepared
-pub mod OpeningLaws
 pub mod Calls
-pub mod CallLaws
+pub mod Laws

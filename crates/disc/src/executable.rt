@@ -1,13 +1,14 @@
 // The executable of an image: its header, and the window that shows it.
 ghost use mathlib.Core.Path.{_≡_};
-ghost use lib.ListN.{length, replicate};
+ghost use lib.ListN.{length};
 ghost use mathlib.Core.List.{[]};
 ghost use Rattle.disc.specs.Calls.{dolAs, openDolAnswer};
 ghost use Rattle.dol.specs.Dol.{verdictOf};
 ghost use Rattle.header.specs.Verdicts.{dolOffset};
+ghost use Rattle.opening.specs.Opening.{zeros};
 use crate::DolFile;
-use crate::Prepared;
 use dol::DolHeader;
+use opening::Prepared;
 use refusal::Refusal;
 use refusal::Verdict;
 use window::Window;
@@ -42,9 +43,9 @@ fn dol_in(image: &[u8]) -> DolFile
 }
 
 pub fn open_dol(image: &[u8], words: &mut [u32]) -> DolFile
-    ensures { λ r. ⌜ (r ≡ openDolAnswer (now (image .entry)) (length (now (words .entry)))) × (now (words .exit) ≡ replicate (length (now (words .entry))) 0) ⌝ }
+    ensures { λ r. ⌜ (r ≡ openDolAnswer (now (image .entry)) (length (now (words .entry)))) × (now (words .exit) ≡ zeros (now (words .entry))) ⌝ }
 {
-    let prepared = crate::prepare(image, words);
+    let prepared = opening::prepare(image, words);
     space::zero_words(words);
     match prepared {
         Prepared::Ready(_) => dol_in(image),

@@ -1,14 +1,14 @@
 // An image's entries: by number, by path; a file's window and the size it can grow to; the executable.
 ghost use mathlib.Core.Path.{_≡_};
-ghost use lib.ListN.{length, replicate};
+ghost use lib.ListN.{length};
 ghost use Rattle.refusal.specs.declared.Verdict.the-variants.{Passed};
-ghost use Rattle.disc.specs.Opening.{opening, tableOf};
-ghost use Rattle.disc.specs.Prepared.{Prepares};
+ghost use Rattle.opening.specs.Opening.{opening, tableOf, zeros};
+ghost use Rattle.opening.specs.Inner.Prepared.{Prepares};
 ghost use Rattle.disc.specs.Calls.{entryAnswer, lookupAnswer, windowAnswer, openFileAnswer, maxFileSizeAnswer};
-use crate::Prepared;
 use crate::SizeAnswer;
 use crate::WindowAnswer;
 use crate::regions;
+use opening::Prepared;
 use refusal::Refusal;
 use tree::Entry;
 use tree::Found;
@@ -54,9 +54,9 @@ fn lookup_in(image: &[u8], words: &[u32], prepared: Prepared, start: u32, path: 
 
 // Entry `number`.
 pub fn entry(image: &[u8], words: &mut [u32], number: u32) -> Found
-    ensures { λ r. ⌜ (r ≡ entryAnswer (now (image .entry)) (length (now (words .entry))) number) × (now (words .exit) ≡ replicate (length (now (words .entry))) 0) ⌝ }
+    ensures { λ r. ⌜ (r ≡ entryAnswer (now (image .entry)) (length (now (words .entry))) number) × (now (words .exit) ≡ zeros (now (words .entry))) ⌝ }
 {
-    let prepared = crate::prepare(image, words);
+    let prepared = opening::prepare(image, words);
     let answer = entry_in(image, words, prepared, number);
     space::zero_words(words);
     answer
@@ -64,9 +64,9 @@ pub fn entry(image: &[u8], words: &mut [u32], number: u32) -> Found
 
 // The entry that a path leads to from the entry `start`.
 pub fn lookup(image: &[u8], words: &mut [u32], start: u32, path: &[u8]) -> Found
-    ensures { λ r. ⌜ (r ≡ lookupAnswer (now (image .entry)) (length (now (words .entry))) start (now (path .entry))) × (now (words .exit) ≡ replicate (length (now (words .entry))) 0) ⌝ }
+    ensures { λ r. ⌜ (r ≡ lookupAnswer (now (image .entry)) (length (now (words .entry))) start (now (path .entry))) × (now (words .exit) ≡ zeros (now (words .entry))) ⌝ }
 {
-    let prepared = crate::prepare(image, words);
+    let prepared = opening::prepare(image, words);
     let answer = lookup_in(image, words, prepared, start, path);
     space::zero_words(words);
     answer
@@ -90,7 +90,7 @@ fn window_of(found: Found) -> WindowAnswer
 
 // The window that shows file `number`.
 pub fn open_file(image: &[u8], words: &mut [u32], number: u32) -> WindowAnswer
-    ensures { λ r. ⌜ (r ≡ openFileAnswer (now (image .entry)) (length (now (words .entry))) number) × (now (words .exit) ≡ replicate (length (now (words .entry))) 0) ⌝ }
+    ensures { λ r. ⌜ (r ≡ openFileAnswer (now (image .entry)) (length (now (words .entry))) number) × (now (words .exit) ≡ zeros (now (words .entry))) ⌝ }
 {
     let found = entry(image, words, number);
     window_of(found)
@@ -113,9 +113,9 @@ fn file_size_in(image: &[u8], words: &[u32], prepared: Prepared, number: u32) ->
 
 // The size that file `number` can grow to where it is.
 pub fn max_file_size(image: &[u8], words: &mut [u32], number: u32) -> SizeAnswer
-    ensures { λ r. ⌜ (r ≡ maxFileSizeAnswer (now (image .entry)) (length (now (words .entry))) number) × (now (words .exit) ≡ replicate (length (now (words .entry))) 0) ⌝ }
+    ensures { λ r. ⌜ (r ≡ maxFileSizeAnswer (now (image .entry)) (length (now (words .entry))) number) × (now (words .exit) ≡ zeros (now (words .entry))) ⌝ }
 {
-    let prepared = crate::prepare(image, words);
+    let prepared = opening::prepare(image, words);
     let answer = file_size_in(image, words, prepared, number);
     space::zero_words(words);
     answer

@@ -1,12 +1,13 @@
 // All entries of an image at once, so that a listing costs one opening.
 ghost use mathlib.Core.Path.{_≡_};
-ghost use lib.ListN.{length, replicate};
-ghost use Rattle.disc.specs.Prepared.{Prepares};
+ghost use lib.ListN.{length};
+ghost use Rattle.opening.specs.Inner.Prepared.{Prepares};
 ghost use Rattle.disc.specs.Calls.{entriesAnswer, entriesList};
+ghost use Rattle.opening.specs.Opening.{zeros};
 use crate::Opened;
-use crate::Prepared;
 use crate::files;
 use crate::regions;
+use opening::Prepared;
 use refusal::Verdict;
 
 // The answer, once the image is prepared.
@@ -18,7 +19,7 @@ fn entries_in(image: &[u8], words: &[u32], prepared: Prepared, list: &mut [u32])
         Prepared::Ready(count) => {
             let base = header::fst_offset(image);
             let table = files::table(image, words.len());
-            let verdict = fst::list_entries(table, base, list);
+            let verdict = fst_list::list_entries(table, base, list);
             if let Verdict::Refused(cause) = verdict {
                 return Opened::Refused(cause);
             }
@@ -31,9 +32,9 @@ fn entries_in(image: &[u8], words: &[u32], prepared: Prepared, list: &mut [u32])
 // Each entry into `list`: kind, the directory it is nested in, offset, size or next, the place of its name in the image, the name's
 // length. The answer is that of `open`.
 pub fn entries(image: &[u8], words: &mut [u32], list: &mut [u32]) -> Opened
-    ensures { λ r. ⌜ (r ≡ entriesAnswer (now (image .entry)) (length (now (words .entry))) (length (now (list .entry)))) × (now (list .exit) ≡ entriesList (now (image .entry)) (length (now (words .entry))) (now (list .entry))) × (now (words .exit) ≡ replicate (length (now (words .entry))) 0) ⌝ }
+    ensures { λ r. ⌜ (r ≡ entriesAnswer (now (image .entry)) (length (now (words .entry))) (length (now (list .entry)))) × (now (list .exit) ≡ entriesList (now (image .entry)) (length (now (words .entry))) (now (list .entry))) × (now (words .exit) ≡ zeros (now (words .entry))) ⌝ }
 {
-    let prepared = crate::prepare(image, words);
+    let prepared = opening::prepare(image, words);
     let answer = entries_in(image, words, prepared, list);
     space::zero_words(words);
     answer

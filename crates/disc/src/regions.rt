@@ -1,18 +1,18 @@
 // What an image's header and its free regions say: opening, totals, free regions, the largest size of a region, allocation.
 ghost use mathlib.Core.Path.{_≡_};
-ghost use lib.ListN.{length, replicate};
+ghost use lib.ListN.{length};
 ghost use Rattle.refusal.specs.declared.Verdict.the-variants.{Passed};
-ghost use Rattle.disc.specs.Opening.{opening, discOf, openedOf};
-ghost use Rattle.disc.specs.Prepared.{UsedWords, Prepares};
-ghost use Rattle.disc.specs.Calls.{totalsAnswer, freeRegionsAnswer, freeRegionsList, maxRegionSizeAnswer, allocateAnswer};
+ghost use Rattle.opening.specs.Opening.{opening, zeros};
+ghost use Rattle.disc.specs.Calls.{discOf, openedOf, totalsAnswer, freeRegionsAnswer, freeRegionsList, maxRegionSizeAnswer, allocateAnswer};
+ghost use Rattle.opening.specs.Inner.Prepared.{UsedWords, Prepares};
 use crate::Disc;
 use crate::DiscTotals;
 use crate::Opened;
-use crate::Prepared;
 use crate::SizeAnswer;
 use crate::TotalsAnswer;
-use space::Allocation;
-use space::Listing;
+use free_space::Allocation;
+use free_space::Listing;
+use opening::Prepared;
 
 // What opening tells of an image that it accepts.
 pub fn disc_of(image: &[u8], words: &[u32], count: usize) -> Disc
@@ -23,7 +23,7 @@ pub fn disc_of(image: &[u8], words: &[u32], count: usize) -> Disc
     let fst_size = header::fst_size(image);
     let disc_end = header::disc_end(image) as u32;
     let entries = endian::read_u32(image, fst_offset as usize + 8);
-    let used = space::used_size(words, count, disc_end);
+    let used = free_space::used_size(words, count, disc_end);
     Disc {
         fst_offset,
         fst_size,
@@ -67,7 +67,7 @@ fn listed(image: &[u8], words: &[u32], prepared: Prepared, list: &mut [u32]) -> 
     match prepared {
         Prepared::Ready(count) => {
             let disc = disc_of(image, words, count);
-            space::free_regions(words, count, disc.disc_end, list)
+            free_space::free_regions(words, count, disc.disc_end, list)
         }
         Prepared::Refused(cause) => Listing::Refused(cause),
     }
@@ -80,7 +80,13 @@ pub fn sized(image: &[u8], words: &[u32], prepared: Prepared, offset: u32, size:
     match prepared {
         Prepared::Ready(count) => {
             let disc = disc_of(image, words, count);
-            SizeAnswer::Bytes(space::max_region_size(words, count, disc.disc_end, offset, size))
+            SizeAnswer::Bytes(free_space::max_region_size(
+                words,
+                count,
+                disc.disc_end,
+                offset,
+                size,
+            ))
         }
         Prepared::Refused(cause) => SizeAnswer::Refused(cause),
     }
@@ -93,7 +99,7 @@ fn allocated(image: &[u8], words: &[u32], prepared: Prepared, size: u32, align: 
     match prepared {
         Prepared::Ready(count) => {
             let disc = disc_of(image, words, count);
-            space::allocate(words, count, disc.disc_end, size, align)
+            free_space::allocate(words, count, disc.disc_end, size, align)
         }
         Prepared::Refused(cause) => Allocation::Refused(cause),
     }
@@ -102,9 +108,9 @@ fn allocated(image: &[u8], words: &[u32], prepared: Prepared, size: u32, align: 
 // ---- the calls
 
 pub fn open(image: &[u8], words: &mut [u32]) -> Opened
-    ensures { λ r. ⌜ (r ≡ openedOf (now (image .entry)) (length (now (words .entry)))) × (now (words .exit) ≡ replicate (length (now (words .entry))) 0) ⌝ }
+    ensures { λ r. ⌜ (r ≡ openedOf (now (image .entry)) (length (now (words .entry)))) × (now (words .exit) ≡ zeros (now (words .entry))) ⌝ }
 {
-    let prepared = crate::prepare(image, words);
+    let prepared = opening::prepare(image, words);
     let answer = opened(image, words, prepared);
     space::zero_words(words);
     answer
@@ -112,9 +118,9 @@ pub fn open(image: &[u8], words: &mut [u32]) -> Opened
 
 // The disc end and the used total.
 pub fn totals(image: &[u8], words: &mut [u32]) -> TotalsAnswer
-    ensures { λ r. ⌜ (r ≡ totalsAnswer (now (image .entry)) (length (now (words .entry)))) × (now (words .exit) ≡ replicate (length (now (words .entry))) 0) ⌝ }
+    ensures { λ r. ⌜ (r ≡ totalsAnswer (now (image .entry)) (length (now (words .entry)))) × (now (words .exit) ≡ zeros (now (words .entry))) ⌝ }
 {
-    let prepared = crate::prepare(image, words);
+    let prepared = opening::prepare(image, words);
     let answer = totaled(image, words, prepared);
     space::zero_words(words);
     answer
@@ -122,9 +128,9 @@ pub fn totals(image: &[u8], words: &mut [u32]) -> TotalsAnswer
 
 // The free regions, an offset and a size each, into `list`.
 pub fn free_regions(image: &[u8], words: &mut [u32], list: &mut [u32]) -> Listing
-    ensures { λ r. ⌜ (r ≡ freeRegionsAnswer (now (image .entry)) (length (now (words .entry))) (length (now (list .entry)))) × (now (list .exit) ≡ freeRegionsList (now (image .entry)) (length (now (words .entry))) (now (list .entry))) × (now (words .exit) ≡ replicate (length (now (words .entry))) 0) ⌝ }
+    ensures { λ r. ⌜ (r ≡ freeRegionsAnswer (now (image .entry)) (length (now (words .entry))) (length (now (list .entry)))) × (now (list .exit) ≡ freeRegionsList (now (image .entry)) (length (now (words .entry))) (now (list .entry))) × (now (words .exit) ≡ zeros (now (words .entry))) ⌝ }
 {
-    let prepared = crate::prepare(image, words);
+    let prepared = opening::prepare(image, words);
     let answer = listed(image, words, prepared, list);
     space::zero_words(words);
     answer
@@ -132,9 +138,9 @@ pub fn free_regions(image: &[u8], words: &mut [u32], list: &mut [u32]) -> Listin
 
 // The size that a region can grow to without a used byte in it.
 pub fn max_region_size(image: &[u8], words: &mut [u32], offset: u32, size: u32) -> SizeAnswer
-    ensures { λ r. ⌜ (r ≡ maxRegionSizeAnswer (now (image .entry)) (length (now (words .entry))) offset size) × (now (words .exit) ≡ replicate (length (now (words .entry))) 0) ⌝ }
+    ensures { λ r. ⌜ (r ≡ maxRegionSizeAnswer (now (image .entry)) (length (now (words .entry))) offset size) × (now (words .exit) ≡ zeros (now (words .entry))) ⌝ }
 {
-    let prepared = crate::prepare(image, words);
+    let prepared = opening::prepare(image, words);
     let answer = sized(image, words, prepared, offset, size);
     space::zero_words(words);
     answer
@@ -142,9 +148,9 @@ pub fn max_region_size(image: &[u8], words: &mut [u32], offset: u32, size: u32) 
 
 // The largest free place for `size` bytes at a multiple of `align`, the last among equals.
 pub fn allocate(image: &[u8], words: &mut [u32], size: u32, align: u32) -> Allocation
-    ensures { λ r. ⌜ (r ≡ allocateAnswer (now (image .entry)) (length (now (words .entry))) size align) × (now (words .exit) ≡ replicate (length (now (words .entry))) 0) ⌝ }
+    ensures { λ r. ⌜ (r ≡ allocateAnswer (now (image .entry)) (length (now (words .entry))) size align) × (now (words .exit) ≡ zeros (now (words .entry))) ⌝ }
 {
-    let prepared = crate::prepare(image, words);
+    let prepared = opening::prepare(image, words);
     let answer = allocated(image, words, prepared, size, align);
     space::zero_words(words);
     answer

@@ -1,2 +1,2 @@
--- The turns of the loops that read words and look for the largest sum.
+-- What the proofs of the functions cite.
 pub mod Turns

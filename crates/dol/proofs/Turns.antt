@@ -8,7 +8,7 @@ use lib.ListN.{length, getD, drop, set, drop-of-length-le}
 use lib.Seq.{drop-cons, append-snoc, set-at}
 use Rattle.endian.specs.Bytes.{be32}
 use Rattle.dol.specs.Dol.{words, largestOf}
-use Rattle.dol.specs.Facts.{length-words}
+use Rattle.dol.specs.Laws.Facts.{length-words}
 
 pub words-snoc : (s : List ℕ) (at n : ℕ) → words s at (suc n) ≡ words s at n ++ (be32 s (at + 4 * n) ∷ [])
 unfolding words

@@ -1,5 +1,5 @@
 -- Spans compared in parts: the parts decide. Assumes nothing.
-use Prim.Native.Nat.{ℕ, zero, suc, _+_, _-_, _<_, _≤_}
+use Prim.Native.Nat.{ℕ, _+_, _-_, _<_, _≤_}
 use mathlib.Core.Path.{_≡_, refl, sym, ap, _∙_}
 use mathlib.Core.Bool.{Bool, true, false, _&&_}
 use mathlib.Core.List.{List, [], _∷_, _++_}
@@ -7,7 +7,7 @@ use native.Mathlib.Omega.{arith}
 use lib.ListN.{length, getD}
 use lib.Dec.{eqb}
 use Rattle.endian.specs.Bytes.{span, sameBytes}
-use Rattle.endian.specs.Laws.{length-span}
+use Rattle.endian.specs.Laws.Stored.{length-span}
 use Rattle.endian.proofs.Turns.{same-turn}
 use Rattle.endian.proofs.Parts.{span-add}
 

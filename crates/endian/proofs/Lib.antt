@@ -1,4 +1,4 @@
--- The turns of the loops that copy, fill and compare, and copies and comparisons in parts.
+-- What the proofs of the functions cite.
 pub mod Turns
 pub mod Parts
 pub mod Blocks

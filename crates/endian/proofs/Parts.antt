@@ -1,15 +1,13 @@
 -- A span put in parts, the lowest first or the highest first, is put whole: a part is read before it is written over. Assumes nothing.
-use Prim.Native.Nat.{ℕ, _+_, _-_, _<_, _≤_}
+use Prim.Native.Nat.{ℕ, _+_, _-_, _≤_}
 use mathlib.Core.Path.{_≡_, refl, sym, ap, _∙_}
 use mathlib.Core.Logic.{_⊎_, ⊎-elim}
-use mathlib.Core.List.{List, _++_, append-assoc, append-nil}
+use mathlib.Core.List.{List, _++_, append-assoc}
 use native.Mathlib.Omega.{arith}
-use native.Mathlib.Nat.{add-zero, zero-add}
-use lib.ListN.{length, take, drop, length-append, drop-of-length-le}
-use lib.Seq.{length-take-le, take-at, drop-at, take-append-le, take-take, take-add, take-all, drop-drop}
+use lib.ListN.{length, take, drop, length-append}
+use lib.Seq.{length-take-le, take-at, drop-at, take-append-le, take-take, take-add, drop-drop}
 use Rattle.endian.specs.Bytes.{put, span}
-use Rattle.endian.specs.Laws.{length-put, put-before, put-after, drop-put, span-put, length-span, span-ext}
-use Rattle.endian.proofs.Turns.{up-end}
+use Rattle.endian.specs.Laws.Stored.{length-put, put-before, put-after, drop-put, span-put, length-span, span-ext}
 
 put-open : (s : List ℕ) (at : ℕ) (bs : List ℕ) → put s at bs ≡ take at s ++ (bs ++ drop (at + length bs) s)
 unfolding put

@@ -1,14 +1,14 @@
 -- One turn of each loop: what is put so far, and one byte more. Assumes nothing.
 use Prim.Native.Nat.{ℕ, suc, _+_, _-_, _<_, _≤_}
-use mathlib.Core.Path.{_≡_, refl, sym, ap, _∙_}
-use mathlib.Core.Bool.{true, false, _&&_}
-use mathlib.Core.List.{List, [], _∷_, _++_}
+use mathlib.Core.Path.{_≡_, sym}
+use mathlib.Core.Bool.{true, _&&_}
+use mathlib.Core.List.{List, [], _∷_}
 use native.Mathlib.Omega.{arith}
 use native.Mathlib.Numerals.{add-one}
-use lib.ListN.{length, getD, set, drop, take, replicate, length-replicate, replicate-append-replicate}
+use lib.ListN.{length, getD, set, replicate, length-replicate, replicate-append-replicate}
 use lib.Dec.{eqb}
 use Rattle.endian.specs.Bytes.{put, span, sameBytes}
-use Rattle.endian.specs.Laws.{put-none, put-snoc, put-cons, put-before, put-after, put-sets, length-span, span-snoc, span-cons}
+use Rattle.endian.specs.Laws.Stored.{put-none, put-snoc, put-sets, length-span, span-snoc, span-cons}
 
 -- a copy from one list to another, the lowest byte first
 pub copy-turn : (source s₀ s : List ℕ) (from to i : ℕ) → s ≡ put s₀ to (span source from i) → from + i < length source → to + i < length s₀

@@ -2,24 +2,24 @@
 -- one before. Assumes nothing.
 use Prim.Native.Nat.{ℕ, zero, suc, _+_, _-_, _<_, _≤_}
 use mathlib.Core.Path.{_≡_, refl, sym, ap, _∙_}
-use mathlib.Core.Logic.{_⊎_, inl, inr, ⊎-elim}
-use mathlib.Core.Bool.{Bool, true, false, cond, _&&_}
-use mathlib.Core.List.{List, [], _∷_}
+use mathlib.Core.Logic.{⊎-elim}
+use mathlib.Core.Bool.{Bool, true, false, cond}
+use mathlib.Core.List.{List}
 use native.Mathlib.Omega.{arith}
 use native.Mathlib.Numerals.{add-one}
-use borrow.Author.Tests.{ltb-true, ltb-false, lt-ltb, le-ltb, eqb-true, eq-eqb, ne-eqb}
+use borrow.Author.Tests.{ltb-false, lt-ltb, le-ltb, eqb-true, eq-eqb, ne-eqb}
 use lib.ListN.{length, getD}
-use lib.Dec.{ltb, eqb}
+use lib.Dec.{eqb}
 use Rattle.endian.specs.Bytes.{sameBytes}
-use Rattle.endian.specs.Laws.{lt-or-le}
+use Rattle.endian.specs.Laws.Stored.{lt-or-le}
 use Rattle.refusal.specs.declared.Refusal.the-variants.{NotFound}
-use Rattle.tree.specs.declared.Located.{Located}
 use Rattle.tree.specs.declared.Located.the-variants.{At, Refused}
-use Rattle.tree.specs.Table.{Node, file, directory, nameOf, none, encloses, parentBelow, parentOf, WellFormed}
+use Rattle.tree.specs.Table.{Node, file, directory, nameOf, none, encloses, parentBelow, parentOf}
+use Rattle.tree.specs.Inner.WellFormed.{WellFormed}
 use Rattle.tree.specs.Lookup.{isDirectory, nextOf, childNamed, firstChild, childOf}
-use Rattle.refusal.specs.Tests.{and-left, and-false}
-use Rattle.tree.specs.Nesting.{parent-here, parent-lower, parent-is, next-bounds, nests}
-use Rattle.fst.specs.Reading.{afterOf}
+use Rattle.refusal.specs.Laws.Tests.{and-left, and-false}
+use Rattle.tree.specs.Laws.Nesting.{parent-here, parent-lower, parent-is, next-bounds, nests}
+use Rattle.fst.specs.Inner.After.{afterOf}
 use Rattle.fst.proofs.Nodes.{encloses-next, parent-whole}
 
 -- ---- entries by their nexts, which are 0 for files

@@ -1,7 +1,7 @@
 -- A text compared with a name that has no zero byte: by the byte behind as many bytes as the name has, and then by those bytes. A name with a
 -- zero byte is no text. Assumes nothing.
 use Prim.Native.Nat.{ℕ, zero, suc, _+_, _-_, _<_, _≤_}
-use mathlib.Core.Path.{_≡_, refl, sym, ap, _∙_}
+use mathlib.Core.Path.{_≡_, refl, sym, ap}
 use mathlib.Core.Logic.{⊎-elim}
 use mathlib.Core.Bool.{Bool, true, false, _&&_, _||_}
 use mathlib.Core.List.{List, [], _∷_}
@@ -12,15 +12,14 @@ use lib.ListN.{length, getD, drop, take, length-drop, List·getD-eq-default, dro
 use lib.Seq.{getD-drop, drop-cons, take-length}
 use lib.Dec.{eqb}
 use Rattle.endian.specs.Bytes.{span, sameBytes}
-use Rattle.endian.specs.Laws.{lt-or-le}
+use Rattle.endian.specs.Laws.Stored.{lt-or-le}
 use Rattle.refusal.specs.declared.Refusal.the-variants.{NotFound}
 use Rattle.tree.specs.declared.Located.the-variants.{Refused}
-use Rattle.tree.specs.Table.{Node, nameOf, none, count, nodesOf, upTo0}
+use Rattle.tree.specs.Table.{Node, nameOf, none, count, nodesOf, upTo0, namePlace}
 use Rattle.tree.specs.Lookup.{firstChild, childOf}
-use Rattle.tree.specs.Accepted.{length-nodesOf}
-use Rattle.fst.specs.Reading.{textAt}
-use Rattle.fst.specs.Rows.{namePlace}
-use Rattle.fst.specs.Zeros.{hasZero}
+use Rattle.tree.specs.Laws.Accepted.{length-nodesOf}
+use Rattle.fst_check.specs.Inner.Reading.{textAt}
+use Rattle.fst.specs.Inner.Zeros.{hasZero}
 use Rattle.fst.proofs.Nodes.{root-name}
 use Rattle.fst.proofs.Ended.{name-there}
 

@@ -1,16 +1,15 @@
 -- The names of an accepted table as texts of it: each has its zero byte in the table. Assumes nothing.
-use Prim.Native.Nat.{ℕ, _+_, _*_, _<_}
+use Prim.Native.Nat.{ℕ, _+_, _<_}
 use mathlib.Core.Path.{_≡_}
 use mathlib.Core.List.{List}
 use native.Mathlib.Omega.{arith}
 use lib.ListN.{length, getD}
-use Rattle.tree.specs.Table.{none, count, nameOf, nameAt, nodesOf}
-use Rattle.tree.specs.Accepted.{Accepted}
-use Rattle.fst.specs.Reading.{textAt}
-use Rattle.fst.specs.Rows.{namePlace}
-use Rattle.fst.proofs.Walking.{count-some}
+use Rattle.tree.specs.Table.{none, count, nameOf, nameAt, nodesOf, namePlace}
+use Rattle.tree.specs.Laws.Accepted.{Accepted}
+use Rattle.fst_check.specs.Inner.Reading.{textAt}
+use Rattle.fst_check.proofs.Walking.{count-some}
 use Rattle.fst.proofs.Nodes.{name-is}
-use Rattle.fst.proofs.RowLaws.{place-is}
+use Rattle.fst.proofs.NamePlaces.{place-is}
 
 -- the name of an entry past the root is the text at its place
 pub name-there : (tab : List ℕ) (k : ℕ) → 0 < k → k < count tab → nameOf (getD (nodesOf tab) k none) ≡ textAt tab (namePlace tab k)

@@ -1,9 +1,7 @@
-pub mod Texts
-pub mod Walking
+-- What the proofs of the functions cite.
 pub mod Nodes
 pub mod ChildLaws
 pub mod PathLaws
-pub mod RowLaws
-pub mod BlockLaws
 pub mod Ended
 pub mod Comparing
+pub mod NamePlaces

@@ -1,21 +1,21 @@
 -- What the bytes of an accepted table say of its entries, the root among them. Assumes nothing.
 use Prim.Native.Nat.{ℕ, zero, suc, _+_, _-_, _*_, _^_, _<_, _≤_}
 use mathlib.Core.Path.{_≡_, refl, sym, ap, _∙_}
-use mathlib.Core.Bool.{Bool, true, false, not, cond}
-use mathlib.Core.List.{List, [], _∷_}
+use mathlib.Core.Bool.{Bool, true, false, not}
+use mathlib.Core.List.{List, []}
 use native.Mathlib.Omega.{arith}
 use borrow.Author.Tests.{le-ltb, lt-ltb, ltb-false, eqb-true, eqb-false}
 use lib.ListN.{length, getD}
 use lib.Dec.{ltb, eqb}
 use Rattle.endian.specs.Bytes.{AllBytes}
 use Rattle.refusal.specs.declared.Refusal.the-variants.{EntryPastTable, UnrecognizedKind, RootIsNotDirectory, LimitOrMemory}
-use Rattle.refusal.specs.Laws.{refuse-passed, first-passed}
-use Rattle.tree.specs.Table.{Node, file, directory, nameOf, none, count, kind, nameOffset, offsetOrParent, sizeOrNext, nameAt, nodeAt, nodesOf, entriesVerdict, check, encloses, parentBelow, parentOf}
-use Rattle.tree.specs.Lookup.{isDirectory, nextOf, entryWith, entryOf}
-use Rattle.tree.specs.Accepted.{Accepted, accepted, length-nodesOf, getD-nodesOf}
-use Rattle.tree.specs.Nesting.{root-is, parent-here, parent-lower, parent-before}
-use Rattle.fst.specs.Reading.{Inside, Opens, textAt}
-use Rattle.fst.proofs.Walking.{node-file, node-directory, node-name, entries-inside, count-some}
+use Rattle.refusal.specs.Laws.Chains.{refuse-passed, first-passed}
+use Rattle.tree.specs.Table.{Node, file, directory, nameOf, none, count, kind, nameOffset, offsetOrParent, sizeOrNext, nameAt, nodesOf, entriesVerdict, check, encloses, parentBelow, parentOf}
+use Rattle.tree.specs.Lookup.{isDirectory, nextOf}
+use Rattle.tree.specs.Laws.Accepted.{Accepted, accepted, length-nodesOf, getD-nodesOf}
+use Rattle.tree.specs.Laws.Nesting.{root-is, parent-here, parent-lower, parent-before}
+use Rattle.fst_check.specs.Inner.Reading.{Inside, Opens, textAt}
+use Rattle.fst_check.proofs.Walking.{node-file, node-directory, node-name, entries-inside, count-some}
 
 pub opened : (tab : List ℕ) → AllBytes tab → (o : Opens tab) → Accepted tab (o .words)
 opened tab bytes o = accepted tab (o .words) bytes (o .passed)

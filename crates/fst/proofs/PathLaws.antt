@@ -3,7 +3,7 @@
 use Prim.Native.Nat.{ℕ, zero, suc, _+_, _-_, _<_, _≤_}
 use mathlib.Core.Path.{_≡_, refl, sym, ap, _∙_}
 use mathlib.Core.Logic.{⊎-elim}
-use mathlib.Core.Bool.{Bool, true, false, cond, _&&_, _||_}
+use mathlib.Core.Bool.{Bool, true, false, cond, _&&_}
 use mathlib.Core.List.{List, [], _∷_, _++_, tail, append-assoc, append-nil}
 use native.Mathlib.Omega.{arith}
 use native.Mathlib.Numerals.{add-one}
@@ -12,23 +12,24 @@ use lib.ListN.{length, getD, set, drop, drop-of-length-le, length-set}
 use lib.Seq.{drop-cons, getD-set-same, getD-set-other}
 use lib.Dec.{ltb, eqb}
 use Rattle.endian.specs.Bytes.{span}
-use Rattle.endian.specs.Laws.{lt-or-le, span-snoc}
+use Rattle.endian.specs.Laws.Stored.{lt-or-le, span-snoc}
 use Rattle.refusal.specs.declared.Refusal.{Refusal}
 use Rattle.refusal.specs.declared.Refusal.the-variants.{NoSuchEntry, NotFound, ExpectedDirectory}
 use Rattle.tree.specs.declared.Located.{Located}
 use Rattle.tree.specs.declared.Located.the-variants as located
-use Rattle.tree.specs.Table.{Node, file, directory, none, shut, enter, WellFormed, shallowEntry, shallowFrom, shallow}
+use Rattle.tree.specs.Table.{Node, file, directory, none, shut, enter, shallowEntry, shallowFrom, shallow}
+use Rattle.tree.specs.Inner.WellFormed.{WellFormed}
 use Rattle.tree.specs.Lookup.{isDirectory, separator, longer, components, childOf, stays, goesBack, andThen, stepBack, follow, lookup}
-use Rattle.tree.specs.LookupLaws.{child-is}
-use Rattle.tree.specs.Nesting.{openAt, stack-is}
-use Rattle.tree.specs.InsertLaws.{depthOf}
-use Rattle.tree.specs.Depth.{depth-root, depth-parent}
-use Rattle.refusal.specs.Tests.{and-left, and-right}
+use Rattle.tree.specs.Laws.LookupLaws.{child-is}
+use Rattle.tree.specs.Laws.Nesting.{openAt, stack-is}
+use Rattle.tree.specs.Inner.Depths.{depthOf}
+use Rattle.tree.specs.Laws.Depth.{depth-root, depth-parent}
+use Rattle.refusal.specs.Laws.Tests.{and-left, and-right}
 use Rattle.fst.specs.declared.path.Step.{Step}
 use Rattle.fst.specs.declared.path.Step.the-variants.{To, Refused}
-use Rattle.fst.specs.Reading.{openIn}
-use Rattle.fst.specs.Steps.{componentsAfter, backOf, stepTo, intoOf, stepOf}
-use Rattle.fst.proofs.Walking.{open-enter}
+use Rattle.fst_check.specs.Inner.Reading.{openIn}
+use Rattle.fst.specs.Inner.Steps.{componentsAfter, backOf, stepTo, intoOf, stepOf}
+use Rattle.fst_check.proofs.Walking.{open-enter}
 use Rattle.fst.proofs.ChildLaws.{child-found}
 
 -- ---- components

@@ -1,5 +1,1 @@
-pub mod Reading
-pub mod Steps
-pub mod Rows
-pub mod Blocks
-pub mod Zeros
+pub mod Inner

@@ -3,11 +3,9 @@ ghost use mathlib.Core.Path.{_≡_};
 ghost use Prim.Native.Nat.{_≤_, _<_, _^_};
 ghost use lib.ListN.{getD};
 ghost use Rattle.tree.specs.Table as table_of;
-ghost use Rattle.tree.specs.Table.{none, nodesOf, parentOf};
+ghost use Rattle.tree.specs.Table.{none, nodesOf, parentOf, namePlace};
 ghost use Rattle.tree.specs.Lookup.{isDirectory, nextOf, entryOf, entryFound};
-ghost use Rattle.fst.specs.Reading.{Opens};
-ghost use Rattle.fst.specs.Rows.{namePlace};
-use crate::opening;
+ghost use Rattle.fst_check.specs.Inner.Reading.{Opens};
 use refusal::Refusal;
 use tree::DirectoryEntry;
 use tree::Entry;
@@ -38,7 +36,7 @@ pub fn name_place(table: &[u8], k: usize) -> usize
     requires { ⌜ Opens (now table) × (0 < k) × (k < table_of.count (now table)) ⌝ }
     ensures { λ r. ⌜ (r ≡ namePlace (now (table .entry)) k) × (r < 2 ^ 25) ⌝ }
 {
-    12 * opening::count(table) + endian::read_u24(table, 12 * k + 1) as usize
+    12 * fst_check::count(table) + endian::read_u24(table, 12 * k + 1) as usize
 }
 
 // The directory that entry k is nested in: the last one before it whose next is past it. The stored parent is not read.
@@ -81,7 +79,7 @@ pub fn entry(table: &[u8], k: u32) -> Found
     ensures { λ r. ⌜ r ≡ entryFound (nodesOf (now (table .entry))) k ⌝ }
 {
     let place = k as usize;
-    if opening::count(table) <= place {
+    if fst_check::count(table) <= place {
         return Found::Refused(Refusal::NoSuchEntry);
     }
     Found::At(k, entry_at(table, place))

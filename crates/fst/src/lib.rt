@@ -1,23 +1,18 @@
-// The file table read (fst.rs, string_table.rs): whether it is accepted, its entries by number and by path.
+// The entries of an accepted file table, by number and by path (fst.rs).
 mod children;
 mod entries;
-mod listing;
-mod marks;
-mod opening;
 mod path;
 mod text;
 
 pub use children::child;
 pub use entries::entry;
 pub use entries::is_directory;
+pub use entries::name_place;
 pub use entries::next;
 pub use entries::parent;
-pub use listing::list_entries;
-pub use opening::check;
-pub use opening::count;
 pub use path::component_end;
 pub use path::find;
 pub use path::goes_back;
 pub use path::lookup;
 pub use path::stays;
-pub use text::fits;
+pub use text::text_length;

@@ -8,11 +8,10 @@ ghost use Rattle.tree.specs.Table as table_of;
 ghost use Rattle.tree.specs.Table.{nodesOf};
 ghost use Rattle.tree.specs.Lookup as lookup_of;
 ghost use Rattle.tree.specs.Lookup.{separator, components, goesBack, foundAt};
-ghost use Rattle.fst.specs.Reading.{Opens};
-ghost use Rattle.fst.specs.Steps.{componentsAfter, stepOf, backOf, intoOf};
+ghost use Rattle.fst_check.specs.Inner.Reading.{Opens};
+ghost use Rattle.fst.specs.Inner.Steps.{componentsAfter, stepOf, backOf, intoOf};
 use crate::children;
 use crate::entries;
-use crate::opening;
 use refusal::Refusal;
 use tree::Found;
 use tree::Located;
@@ -146,7 +145,7 @@ pub fn lookup(table: &[u8], start: u32, path: &[u8]) -> Located
     ensures { λ r. ⌜ r ≡ lookup_of.lookup (nodesOf (now (table .entry))) start (now (path .entry)) ⌝ }
 {
     let place = start as usize;
-    if opening::count(table) <= place {
+    if fst_check::count(table) <= place {
         return Located::Refused(Refusal::NoSuchEntry);
     }
     follow(table, place, path)

@@ -1,5 +1,5 @@
+-- What the proofs of the functions cite.
 pub mod Puts
-pub mod Stays
 pub mod Names
 pub mod Records
 pub mod Nesting
@@ -7,9 +7,3 @@ pub mod Split
 pub mod Turn
 pub mod Whole
 pub mod Measuring
-pub mod Patches
-pub mod Raises
-pub mod Passes
-pub mod Behind
-pub mod Inserted
-pub mod Written

@@ -1,17 +1,17 @@
 -- The sum of the texts that stops at the limit, over the turns of a directory's loop. Assumes nothing.
-use Prim.Native.Nat.{ℕ, _+_, _-_, _*_, _≤_, _<_, _^_, min}
-use mathlib.Core.Path.{_≡_, refl, sym, ap, _∙_}
+use Prim.Native.Nat.{ℕ, _+_, _-_, _*_, _≤_, _<_, _^_}
+use mathlib.Core.Path.{_≡_, refl, _∙_}
 use mathlib.Core.Bool.{Bool, true, false, cond}
 use mathlib.Core.List.{List, tail}
 use native.Mathlib.Omega.{arith}
 use borrow.Author.Tests.{eq-eqb, lt-ltb, le-ltb, ltb-false}
 use lib.ListN.{length}
 use lib.Dec.{ltb}
-use Rattle.tree.specs.Table.{kind, sizeOrNext, count, nodesFrom, nodesOf, textsOf, encode}
+use Rattle.tree.specs.Table.{kind, sizeOrNext, nodesOf, textsOf, encode}
 use Rattle.fst_write.specs.declared.Measured.the-variants.{Size, PastLimit}
-use Rattle.fst_write.specs.Valid.{Valid}
-use Rattle.fst_write.specs.Flat.{afterOf, textTo}
-use Rattle.fst_write.specs.Measure.{measureOf, capped}
+use Rattle.fst_write.specs.Inner.Valid.{Valid}
+use Rattle.fst_write.specs.Inner.Flat.{afterOf, textTo}
+use Rattle.fst_write.specs.Inner.Measure.{measureOf, capped}
 use Rattle.fst_write.proofs.Nesting.{count-is, after-later, after-within}
 use Rattle.fst_write.proofs.Split.{text-split, text-none, text-mono}
 use Rattle.fst_write.proofs.Whole.{text-end, encode-size}

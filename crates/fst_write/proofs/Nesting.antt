@@ -1,18 +1,18 @@
 -- The nesting of a valid table: which entry follows one in its directory, and which directory an entry is nested in.
 -- Assumes nothing.
-use mathlib.Core.Path.{_≡_, refl, sym, ap, _∙_}
+use mathlib.Core.Path.{_≡_, refl, ap}
 use mathlib.Core.Logic.{_⊎_, inl, inr, ⊎-elim}
 use mathlib.Core.Bool.{Bool, true, false, cond}
-use mathlib.Core.List.{List, []}
+use mathlib.Core.List.{List}
 use Prim.Native.Nat.{ℕ, zero, suc, _+_, _-_, _≤_, _<_}
 use native.Mathlib.Omega.{arith}
 use native.Mathlib.Nat.{add-zero}
 use borrow.Author.Tests.{eq-eqb, lt-ltb, eqb-true, eqb-false, ltb-true}
 use lib.ListN.{getD}
 use lib.Dec.{eqb, ltb}
-use Rattle.tree.specs.Table.{Node, file, directory, none, kind, nameOffset, offsetOrParent, sizeOrNext, count, nameAt, nodeWith, nodeAt, nodesFrom, nodesOf, encloses, parentBelow, parentOf}
-use Rattle.fst_write.specs.Valid.{Valid}
-use Rattle.fst_write.specs.Flat.{afterOf}
+use Rattle.tree.specs.Table.{none, kind, sizeOrNext, count, nodeWith, nodeAt, nodesFrom, nodesOf, encloses, parentBelow, parentOf}
+use Rattle.fst_write.specs.Inner.Valid.{Valid}
+use Rattle.fst_write.specs.Inner.Flat.{afterOf}
 
 -- a comparison of two numbers has three ends
 pub tri : (a b : ℕ) → (a < b) ⊎ ((a ≡ b) ⊎ (b < a))

@@ -2,15 +2,14 @@
 -- Assumes nothing.
 use Prim.Native.Nat.{ℕ, _+_, _-_, _≤_, _<_}
 use mathlib.Core.Path.{_≡_, refl, sym, ap, _∙_}
-use mathlib.Core.Logic.{_⊎_, inl, inr, ⊎-elim}
+use mathlib.Core.Logic.{inl, inr, ⊎-elim}
 use mathlib.Core.List.{List, [], _∷_, _++_, append-assoc}
 use native.Mathlib.Omega.{arith}
-use native.Mathlib.Nat.{add-assoc}
 use lib.ListN.{length, getD, take, drop, length-append}
 use lib.Seq.{length-take-le, take-at, ext-getD}
 use Rattle.endian.specs.Bytes.{put, be24Bytes, be32Bytes}
-use Rattle.fst_write.specs.Inserting.{fieldBytes}
-use Rattle.endian.specs.Laws.{length-put, put-before, put-in, put-after, put-outside, drop-put, lt-or-le, Outside}
+use Rattle.fst_write.specs.Inner.Flat.{fieldBytes}
+use Rattle.endian.specs.Laws.Stored.{length-put, put-before, put-in, put-after, put-outside, drop-put, lt-or-le, Outside}
 
 pub take-put : (s : List ℕ) (at : ℕ) (a : List ℕ) → at + length a ≤ length s → take (at + length a) (put s at a) ≡ take at s ++ a
 unfolding put

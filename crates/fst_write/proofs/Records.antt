@@ -1,17 +1,16 @@
 -- An entry's four fields, and its name and zero byte, stored one after another.
 -- Assumes nothing.
 use Prim.Native.Nat.{ℕ, zero, suc, _+_, _-_, _*_, _≤_}
-use mathlib.Core.Path.{_≡_, refl, sym, ap, _∙_}
+use mathlib.Core.Path.{_≡_, refl, ap}
 use mathlib.Core.Bool.{cond}
-use mathlib.Core.List.{List, [], _∷_, _++_}
+use mathlib.Core.List.{List, [], _∷_}
 use native.Mathlib.Omega.{arith}
 use lib.ListN.{length, drop}
 use lib.Dec.{eqb}
 use Rattle.endian.specs.Bytes.{put, span}
 use Rattle.tree.specs.Table.{kind, nameOffset, offsetOrParent, sizeOrNext, upTo0, nameAt, nodeWith, nodeAt, nodeBytes}
-use Rattle.fst_write.specs.Valid.{nameSize}
-use Rattle.fst_write.specs.Flat.{placeOf, recordAt, textAt}
-use Rattle.fst_write.specs.Inserting.{fieldBytes}
+use Rattle.fst_write.specs.Inner.Valid.{nameSize}
+use Rattle.fst_write.specs.Inner.Flat.{placeOf, recordAt, textAt, fieldBytes}
 use Rattle.fst_write.proofs.Names.{take-run}
 use Rattle.fst_write.proofs.Puts.{put-append}
 

@@ -6,8 +6,8 @@ use Prim.Native.Nat.{ℕ, zero, suc, _+_, _-_, _≤_}
 use native.Mathlib.Nat.{zero-add, add-zero, suc-add}
 use native.Mathlib.Omega.{arith}
 use Rattle.tree.specs.Table.{nodesOf, parentOf}
-use Rattle.fst_write.specs.Valid.{nameSize}
-use Rattle.fst_write.specs.Flat.{recordAt, textAt, textFlat, writeFlat, textTo, writeTo}
+use Rattle.fst_write.specs.Inner.Valid.{nameSize}
+use Rattle.fst_write.specs.Inner.Flat.{recordAt, textAt, textFlat, writeFlat, textTo, writeTo}
 
 module _ (tab : List ℕ) (n : ℕ) where
   text-flat : (m r k t : ℕ) → textFlat tab n (m + r) k t ≡ textFlat tab n r (k + m) (textFlat tab n m k t)

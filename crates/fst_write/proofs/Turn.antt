@@ -7,8 +7,8 @@ use native.Mathlib.Omega.{arith}
 use borrow.Author.Tests.{eq-eqb}
 use lib.ListN.{length}
 use Rattle.tree.specs.Table.{kind, sizeOrNext, nodesOf, parentOf}
-use Rattle.fst_write.specs.Valid.{Valid}
-use Rattle.fst_write.specs.Flat.{afterOf, textTo, writeTo, Room}
+use Rattle.fst_write.specs.Inner.Valid.{Valid}
+use Rattle.fst_write.specs.Inner.Flat.{afterOf, textTo, writeTo, Room}
 use Rattle.fst_write.proofs.Nesting.{Closed, closed-none, closed-more, after-later, after-within, parent-is}
 use Rattle.fst_write.proofs.Split.{text-split, write-split, text-none, write-none, text-mono, text-up}
 

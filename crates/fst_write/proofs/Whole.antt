@@ -1,6 +1,6 @@
 -- The entries written one after another, with the root before them, are `encode` of the table's entries.
 -- Assumes nothing.
-use Prim.Native.Nat.{ℕ, zero, suc, _+_, _-_, _*_, _≤_, _<_, _^_}
+use Prim.Native.Nat.{ℕ, zero, suc, _+_, _-_, _*_, _≤_, _^_}
 use mathlib.Core.Path.{_≡_, refl, sym, ap, _∙_}
 use mathlib.Core.List.{List, [], _∷_, _++_, append-assoc}
 use native.Mathlib.Omega.{arith}
@@ -8,10 +8,10 @@ use native.Mathlib.Numerals.{add-one}
 use lib.ListN.{length, length-append}
 use lib.Seq.{append-snoc}
 use Rattle.endian.specs.Bytes.{put}
-use Rattle.endian.specs.Laws.{length-put, put-none}
-use Rattle.tree.specs.Table.{Node, file, directory, nameOf, kind, nameOffset, offsetOrParent, sizeOrNext, nameAt, count, nodeWith, nodeAt, nodesFrom, nodesOf, parentOf, nodeBytes, entriesBytes, textsOf, encode}
-use Rattle.fst_write.specs.Valid.{Valid, nameSize}
-use Rattle.fst_write.specs.Flat.{recordAt, textAt, textFlat, writeFlat, textTo, writeTo, rootAt, Room}
+use Rattle.endian.specs.Laws.Stored.{length-put, put-none}
+use Rattle.tree.specs.Table.{Node, file, directory, nameOf, kind, nameOffset, sizeOrNext, nameAt, nodeWith, nodeAt, nodesFrom, nodesOf, parentOf, nodeBytes, entriesBytes, textsOf, encode}
+use Rattle.fst_write.specs.Inner.Valid.{Valid, nameSize}
+use Rattle.fst_write.specs.Inner.Flat.{recordAt, textAt, textFlat, writeFlat, textTo, writeTo, rootAt, Room}
 use Rattle.fst_write.proofs.Puts.{put-append, put-swap}
 use Rattle.fst_write.proofs.Nesting.{count-is}
 

@@ -1,5 +1,2 @@
-pub mod Valid
-pub mod Flat
-pub mod Accepted
-pub mod Measure
-pub mod Inserting
+pub mod Inner
+pub mod Laws

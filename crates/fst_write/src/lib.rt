@@ -1,18 +1,13 @@
 // The file table written anew, with no name shared: an entry that is a directory writes that directory, and a directory writes its entries.
 // The table is in preorder, so what is written is what `writeFlat` writes, entry by entry, and that is `encode` of the table's entries.
-mod patch;
-
-pub use patch::insert;
 ghost use mathlib.Core.Path.{_≡_};
-ghost use mathlib.Core.List.{[], _∷_, _++_};
 ghost use Prim.Native.Nat.{_+_, _-_, _*_, _≤_, _<_, _^_};
 ghost use lib.ListN.{length, drop};
-ghost use Rattle.endian.specs.Bytes.{put, be32Bytes};
-ghost use Rattle.tree.specs.Table.{kind, nameOffset, sizeOrNext, upTo0, count, nodesOf, parentOf, encode};
-ghost use Rattle.fst_write.specs.Valid.{Valid, nameSize};
-ghost use Rattle.fst_write.specs.Measure.{measureOf, capped};
-ghost use Rattle.fst_write.specs.Inserting.{fieldBytes};
-ghost use Rattle.fst_write.specs.Flat.{afterOf, placeOf, recordAt, textAt, textTo, writeTo, rootAt, Room};
+ghost use Rattle.endian.specs.Bytes.{put};
+ghost use Rattle.tree.specs.Table.{kind, sizeOrNext, upTo0, count, nodesOf, parentOf, encode};
+ghost use Rattle.fst_write.specs.Inner.Valid.{Valid, nameSize};
+ghost use Rattle.fst_write.specs.Inner.Measure.{measureOf, capped};
+ghost use Rattle.fst_write.specs.Inner.Flat.{fieldBytes, afterOf, placeOf, recordAt, textAt, textTo, writeTo, rootAt, Room};
 
 // More bytes of texts than this are refused (document 01: "texts over 1,048,576 bytes (9)").
 pub const TEXTS_LIMIT: usize = 1048576;
@@ -69,7 +64,7 @@ fn name_size(table: &[u8], count: usize, k: usize) -> usize
 }
 
 // Writes the four fields of entry k.
-fn write_fields(out: &mut [u8], k: usize, kind: u8, name: u32, place: u32, next: u32)
+pub fn write_fields(out: &mut [u8], k: usize, kind: u8, name: u32, place: u32, next: u32)
     requires { ⌜ (12 * k + 12 ≤ length (now out)) × (name < 2 ^ 24) ⌝ }
     ensures { λ _. ⌜ now (out .exit) ≡ put (now (out .entry)) (12 * k) (fieldBytes kind name place next) ⌝ }
 {
@@ -240,13 +235,4 @@ pub fn measure(table: &[u8]) -> Measured
     } else {
         Measured::Size(12 * count + texts)
     }
-}
-
-// Sets the offset and the size of file k of a written table.
-pub fn set_place(table: &mut [u8], k: usize, offset: u32, size: u32)
-    requires { ⌜ 12 * k + 12 ≤ length (now table) ⌝ }
-    ensures { λ _. ⌜ now (table .exit) ≡ put (now (table .entry)) (12 * k + 4) (be32Bytes offset ++ be32Bytes size) ⌝ }
-{
-    endian::write_u32(table, 12 * k + 4, offset);
-    endian::write_u32(table, 12 * k + 8, size);
 }

@@ -1,3 +1,4 @@
+-- What the proofs of the functions cite.
 pub mod Turns
 pub mod Whole
 pub mod Answers

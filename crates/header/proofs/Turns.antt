@@ -10,10 +10,10 @@ use lib.Seq.{drop-cons}
 use Rattle.refusal.specs.declared.Verdict.{Verdict}
 use Rattle.refusal.specs.declared.Verdict.the-variants.{Passed}
 use Rattle.refusal.specs.Refusal.{first, isRefused}
-use Rattle.refusal.specs.Laws.{first-stop, first-go}
+use Rattle.refusal.specs.Laws.Chains.{first-stop, first-go}
 use Rattle.header.specs.Fields.{place, fields, fieldAt}
 use Rattle.header.specs.Verdicts.{fieldVerdict, fieldsVerdict}
-use Rattle.header.specs.Tiling.{fields-count}
+use Rattle.header.specs.Laws.Tiling.{fields-count}
 
 module _ (image : List ℕ) (k : ℕ) where
   pub fields-end : 21 ≤ k → fieldsVerdict image (drop k fields) ≡ Passed

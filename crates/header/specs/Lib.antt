@@ -1,9 +1,5 @@
 pub mod Fields
 pub mod Verdicts
 pub mod Header
-pub mod Tiling
+pub mod Inner
 pub mod Laws
-pub mod Kept
-pub mod Order
-pub mod RoundTrip
-pub mod Vectors

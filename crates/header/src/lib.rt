@@ -9,7 +9,7 @@ ghost use Rattle.endian.specs.Bytes.{be32, put, span};
 ghost use Rattle.header.specs.Fields.{fieldAt};
 ghost use Rattle.header.specs.Header.{headerOf, blank, readOf, putSome, writeVerdict, written};
 ghost use Rattle.header.specs.Verdicts.{gcnMagic, fieldVerdict, headerVerdict, dolOffset, fstOffset, fstSize, discEnd, tableEnd, boundsVerdict};
-ghost use Rattle.header.specs.Laws.{Judged};
+ghost use Rattle.header.specs.Inner.Judged.{Judged};
 
 // The place of a field: its offset, and how many bytes it has.
 pub struct Field {

@@ -1,124 +1,23 @@
--- An insert as a plan: its tests, the number it gives, and what is decided once the table was built. Assumes nothing.
+-- The plan of an insert, and what its tests leave. Assumes nothing.
 use Prim.Native.Nat.{ℕ}
-use mathlib.Core.Path.{_≡_, refl, sym, ap, _∙_}
+use mathlib.Core.Path.{_≡_, refl}
 use mathlib.Core.Bool.{Bool, true, false, not}
 use mathlib.Core.List.{List}
-use native.Mathlib.Omega.{arith}
 use borrow.Author.Tests.{leb-false}
+use native.Mathlib.Omega.{arith}
 use lib.Dec.{leb}
 use lib.ListN.{length, getD}
-use Rattle.refusal.specs.declared.Refusal.{Refusal}
 use Rattle.refusal.specs.declared.Refusal.the-variants.{NoSuchEntry, UnsafeName, ExpectedDirectory, AlreadyExists, InvalidNameByte}
-use Rattle.refusal.specs.declared.Verdict.{Verdict}
-use Rattle.refusal.specs.declared.Verdict.the-variants.{Passed, Refused}
-use Rattle.refusal.specs.Refusal.{refuse, first}
-use Rattle.refusal.specs.Laws.{refuse-passed}
-use Rattle.tree.specs.Table.{Node, none, plain, safe, GoodName, WellFormed}
+use Rattle.refusal.specs.declared.Verdict.the-variants.{Passed}
+use Rattle.refusal.specs.Laws.Chains.{refuse-passed}
+use Rattle.tree.specs.Table.{Node, none, plain, safe}
+use Rattle.tree.specs.Inner.WellFormed.{GoodName}
 use Rattle.tree.specs.Lookup.{isDirectory, childOf}
-use Rattle.tree.specs.Growing.{Bigger}
-use Rattle.tree.specs.declared.Located.{Located}
-use Rattle.tree.specs.declared.Located.the-variants as located
-use Rattle.disc.specs.Opening.{nodesIn, opening}
-use Rattle.disc.specs.OpeningLaws.{OpenImage}
-use Rattle.disc.specs.declared.Prepared.{Prepared}
-use Rattle.disc.specs.declared.Prepared.the-variants as prepared
-use Rattle.disc.specs.Prepared.{Prepares}
-use Rattle.edit.specs.declared.Decision.{Decision}
-use Rattle.edit.specs.declared.TableSize.{TableSize}
-use Rattle.edit.specs.declared.TableSize.the-variants as table
-use Rattle.edit.specs.Change.{Change, Plan, change}
-use Rattle.edit.specs.Edits.{Edit, tableOnly, newNumber, isFound, insertVerdict, planned, planOf, planVerdict, planNumber, verdictOf, numberedAs, numberOf}
-use Rattle.edit.specs.Decision.{carriedVerdict, Decided}
-use Rattle.edit.proofs.Decisions.{refused-decided, behind-passed}
-use Rattle.insert.specs.declared.Grown.{Grown}
-use Rattle.insert.specs.declared.Grown.the-variants as grown
-use Rattle.insert.specs.Growth.{treeIn, Stands, IsDirectory, added, Built}
-use Rattle.insert.specs.Inserts.{insertion, tableDecision, grownDecision, grownNumber, grownAs, Numbered}
-use Rattle.insert.proofs.GrowthLaws.{built-stands, unbuilt}
-
-no-path : _≡_ {A = ℕ} 0 1 → ⊥
-no-path z = omega arith
-
--- ---- an open image's tree
-
-pub well-open : (image : List ℕ) (words : ℕ) → OpenImage image words → WellFormed (nodesIn image)
-unfolding nodesIn
-well-open image words known = known .reads .table .well
-
--- ---- a tree that was built, or not, by the code's answer
-
-pub built-is : (F : List Node) (words : ℕ) (s t : List ℕ) (r : TableSize) (n : ℕ) → WellFormed F → Built F words s t r → r ≡ table.Bytes n → Stands t n words × (treeIn t n ≡ F)
-built-is F words s t r n w b e = built-stands F words s t n w (rw e at b)
-
-pub unbuilt-decided : (M F : List Node) (words k : ℕ) (s t : List ℕ) (r : TableSize) (c : Refusal) (image after : List ℕ) → Bigger M F → Built M words s t r → r ≡ table.Refused c →
-    Decided (change k (tableOnly F)) image words (length s) after (tableDecision (table.Refused c))
-unbuilt-decided M F words k s t r c image after g b e =
-    let q : Built M words s t (table.Refused c) = rw e at b in
-    refused-decided image words (length s) after (change k (tableOnly F)) c (unbuilt M F words (length s) k image g (q .1) ∙ ap Refused (sym (q .0)))
-
-pub same-decided : (T F : List Node) (words n m : ℕ) (image s : List ℕ) (d : Decision) → T ≡ F → n ≡ m → Decided (change 0 (tableOnly T)) image words n s d → Decided (change 0 (tableOnly F)) image words m s d
-same-decided T F words n m image s d e l h = rw (e, l) at h
-
--- ---- the numbers
-
-pub number-refused : (v : Verdict) (n : ℕ) (c : Refusal) → numberedAs v n ≡ located.Refused c → v ≡ Refused c
-number-refused Passed n c e = absurd (no-path cc)
-number-refused (Refused d) n c e = cc
-
-pub number-at : (v : Verdict) (n k : ℕ) → numberedAs v n ≡ located.At k → (v ≡ Passed) × (n ≡ k)
-number-at Passed n k e = (refl, cc)
-number-at (Refused d) n k e = absurd (no-path cc)
-
-module _ (image : List ℕ) (words room : ℕ) (bytes : List ℕ) where
-  pub refused-numbered : (p : Plan) (c : Refusal) → planVerdict p image words room ≡ Refused c → Numbered p image words room bytes (grown.Refused c)
-  refused-numbered p c e = record { decided = refused-decided image words room bytes p c e; numbered = λ h. absurd (no-path cc) }
-
-  -- a change, with the number that was found for it
-  pub change-numbered : (k n : ℕ) (c : Change) (r : TableSize) → n ≡ k → Decided (change 0 c) image words room bytes (tableDecision r) → Numbered (change k c) image words room bytes (grownAs r n)
-  change-numbered k n c (table.Bytes size) e d = record { decided = record { fits = d .fits; answer = d .answer; after = d .after }; numbered = λ h. e }
-  change-numbered k n c (table.Refused cause) e d = record {
-    decided = record { fits = d .fits; answer = d .answer; after = d .after };
-    numbered = λ h. let z : Refused cause ≡ Passed = d .answer ∙ h in absurd (no-path cc);
-  }
-
-  pub behind-numbered : (v : Verdict) (p : Plan) (g : Grown) → v ≡ Passed → Numbered p image words room bytes g → Numbered (planned v p) image words room bytes g
-  behind-numbered Passed p g e h = h
-  behind-numbered (Refused c) p g e h = absurd (no-path cc)
-
-  pub behind-refused-numbered : (v : Verdict) (p : Plan) (c : Refusal) → v ≡ Refused c → Numbered (planned v p) image words room bytes (grown.Refused c)
-  behind-refused-numbered Passed p c e = absurd (no-path cc)
-  behind-refused-numbered (Refused d) p c e = refused-numbered (planned (Refused d) p) c e
-
-  -- the answer of the whole edit
-  pub number-answer : (ed : Edit) (g : Grown) → Numbered (planned (opening image words) (planOf ed image)) image words room bytes g →
-      numberedAs (carriedVerdict (grownDecision g)) (grownNumber g) ≡ numberOf ed image words room
-  unfolding numberOf verdictOf
-  number-answer ed g h = go (opening image words) h
-    where
-      ends : (v : Verdict) (n m : ℕ) → (v ≡ Passed → n ≡ m) → numberedAs v n ≡ numberedAs v m
-      ends Passed n m f = ap located.At (f refl)
-      ends (Refused c) n m f = refl
-
-      go : (v : Verdict) → Numbered (planned v (planOf ed image)) image words room bytes g →
-          numberedAs (carriedVerdict (grownDecision g)) (grownNumber g) ≡ numberedAs (first v (planVerdict (planOf ed image) image words room)) (planNumber (planOf ed image))
-      go Passed k = rw (k .decided .answer) (ends (planVerdict (planOf ed image) image words room) (grownNumber g) (planNumber (planOf ed image)) (k .numbered))
-      go (Refused c) k = rw (k .decided .answer)
-
--- ---- opening, then the plan
-
-pub open-numbered : (image w w′ : List ℕ) (r : Prepared) (m room : ℕ) (bytes : List ℕ) (p : Plan) (g : Grown) → Prepares image (length w) w′ r → r ≡ prepared.Ready m → length w′ ≡ length w →
-    Numbered p image (length w′) room bytes g → Numbered (planned (opening image (length w)) p) image (length w) room bytes g
-open-numbered image w w′ r m room bytes p g q e l h =
-    let o : Prepares image (length w) w′ (prepared.Ready m) = rw e at q in
-    behind-numbered image (length w) room bytes (opening image (length w)) p g (o .0) (rw l at h)
-
-pub unopened-numbered : (image w w′ : List ℕ) (r : Prepared) (c : Refusal) (room : ℕ) (bytes : List ℕ) (p : Plan) → Prepares image (length w) w′ r → r ≡ prepared.Refused c →
-    Numbered (planned (opening image (length w)) p) image (length w) room bytes (grown.Refused c)
-unopened-numbered image w w′ r c room bytes p q e =
-    let o : Prepares image (length w) w′ (prepared.Refused c) = rw e at q in
-    behind-refused-numbered image (length w) room bytes (opening image (length w)) p c o
-
--- ---- the plan of an insert
+use Rattle.opening.specs.Opening.{nodesIn}
+use Rattle.edits.specs.Change.{change}
+use Rattle.edits.specs.Edits.{tableOnly, newNumber, isFound, insertVerdict, planned, planOf}
+use Rattle.grow.specs.Inner.Growth.{IsDirectory, added}
+use Rattle.insert.specs.Inner.Insertion.{insertion}
 
 pub plan-insert : (d : Bool) (p : ℕ) (nm image : List ℕ) →
     planOf (insertion d p nm) image ≡ planned (insertVerdict (nodesIn image) p nm) (change (newNumber (nodesIn image) p) (tableOnly (added (nodesIn image) d p nm)))
@@ -127,7 +26,7 @@ plan-insert false p nm image = refl
 
 not-off : (t : Bool) → not t ≡ false → t ≡ true
 not-off true e = refl
-not-off false e = absurd (no-path cc)
+not-off false e = let z : _≡_ {A = ℕ} 0 1 = cc in absurd (omega arith)
 
 pub insert-allows : (nodes : List Node) (p : ℕ) (nm : List ℕ) → insertVerdict nodes p nm ≡ Passed → IsDirectory nodes p × GoodName nm
 unfolding insertVerdict

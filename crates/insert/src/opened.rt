@@ -1,8 +1,6 @@
 // What an insert decides on an open image, whose used regions stand in the working words.
-use crate::Grown;
-use crate::growing;
-use crate::names;
-use edit::TableSize;
+use commit::TableSize;
+use grow::Grown;
 use refusal::Refusal;
 use refusal::Verdict;
 use tree::Located;
@@ -10,14 +8,17 @@ ghost use mathlib.Core.Path.{_≡_};
 ghost use Prim.Native.Nat.{_<_};
 ghost use lib.ListN.{length};
 ghost use Rattle.tree.specs.Table as table_of;
-ghost use Rattle.tree.specs.Table.{nodesOf, GoodName};
-ghost use Rattle.fst.specs.Reading as reading;
-ghost use Rattle.disc.specs.Opening.{nodesIn};
-ghost use Rattle.edit.specs.Change.{change};
-ghost use Rattle.edit.specs.Edits.{tableOnly, newNumber, insertVerdict, planOf, numberedAs};
-ghost use Rattle.edit.specs.Decision.{Opens, IsOpen, Decided};
-ghost use Rattle.insert.specs.Growth.{treeIn, Stands, IsDirectory, added};
-ghost use Rattle.insert.specs.Inserts.{insertion, childVerdict, tableDecision, grownAs, Numbered};
+ghost use Rattle.tree.specs.Table.{nodesOf};
+ghost use Rattle.tree.specs.Inner.WellFormed.{GoodName};
+ghost use Rattle.fst_check.specs.Inner.Reading as reading;
+ghost use Rattle.opening.specs.Opening.{nodesIn};
+ghost use Rattle.edits.specs.Change.{change};
+ghost use Rattle.edits.specs.Edits.{tableOnly, newNumber, insertVerdict, planOf, numberedAs, childVerdict};
+ghost use Rattle.opening.specs.Inner.Prepared.{Opens, IsOpen};
+ghost use Rattle.commit.specs.Inner.Decision.{Decided};
+ghost use Rattle.grow.specs.Inner.Growth.{treeIn, Stands, IsDirectory, added};
+ghost use Rattle.insert.specs.Inner.Insertion.{insertion};
+ghost use Rattle.grow.specs.Inner.Grown.{tableDecision, Numbered};
 
 // The tests of the new name among the entries of p: 17, 19, 12.
 fn check_child(table: &[u8], p: usize, name: &[u8]) -> Verdict
@@ -30,7 +31,7 @@ fn check_child(table: &[u8], p: usize, name: &[u8]) -> Verdict
     if let Located::At(_) = fst::child(table, p, name) {
         return Verdict::Refused(Refusal::AlreadyExists);
     }
-    if !names::is_plain(name) {
+    if !grow::is_plain(name) {
         return Verdict::Refused(Refusal::InvalidNameByte);
     }
     Verdict::Passed
@@ -42,10 +43,10 @@ fn check_insert(table: &[u8], parent: u32, name: &[u8]) -> Verdict
     ensures { λ r. ⌜ r ≡ insertVerdict (nodesOf (now (table .entry))) parent (now (name .entry)) ⌝ }
 {
     let p = parent as usize;
-    if fst::count(table) <= p {
+    if fst_check::count(table) <= p {
         return Verdict::Refused(Refusal::NoSuchEntry);
     }
-    if !names::is_safe(name) {
+    if !grow::is_safe(name) {
         return Verdict::Refused(Refusal::UnsafeName);
     }
     check_child(table, p, name)
@@ -86,10 +87,10 @@ fn add_entry(
     requires { ⌜ IsOpen (now image) (now words) m × Stands (now bytes) size (length (now words)) × IsDirectory (treeIn (now bytes) size) p × GoodName (now name) ⌝ }
     ensures { λ r. ⌜ Decided (change 0 (tableOnly (added (treeIn (now (bytes .entry)) size) «is_directory» p (now (name .entry))))) (now (image .entry)) (length (now (words .entry))) (length (now (bytes .entry))) (now (bytes .exit)) (tableDecision r) ⌝ }
 {
-    let grown = growing::grow(bytes, size, words.len(), p, is_directory, name);
+    let grown = grow::grow(bytes, size, words.len(), p, is_directory, name);
     match grown {
         TableSize::Refused(cause) => TableSize::Refused(cause),
-        TableSize::Bytes(n) => growing::place_table(image, words, m, bytes, n),
+        TableSize::Bytes(n) => grow::place_table(image, words, m, bytes, n),
     }
 }
 
@@ -106,20 +107,10 @@ fn build(
     requires { ⌜ IsOpen (now image) (now words) m × IsDirectory (nodesIn (now image)) p × GoodName (now name) ⌝ }
     ensures { λ r. ⌜ Decided (change 0 (tableOnly (added (nodesIn (now (image .entry))) «is_directory» p (now (name .entry))))) (now (image .entry)) (length (now (words .entry))) (length (now (bytes .entry))) (now (bytes .exit)) (tableDecision r) ⌝ }
 {
-    let started = growing::start_table(image, words, m, bytes);
+    let started = grow::start_table(image, words, m, bytes);
     match started {
         TableSize::Refused(cause) => TableSize::Refused(cause),
         TableSize::Bytes(size) => { add_entry(image, words, m, bytes, size, p, is_directory, name) }
-    }
-}
-
-// With the number of the new entry.
-pub fn numbered(built: TableSize, number: u32) -> Grown
-    ensures { λ r. ⌜ r ≡ grownAs built number ⌝ }
-{
-    match built {
-        TableSize::Bytes(size) => Grown::Table(size, number),
-        TableSize::Refused(cause) => Grown::Refused(cause),
     }
 }
 
@@ -140,7 +131,7 @@ pub fn insert(
         Located::Refused(cause) => Grown::Refused(cause),
         Located::At(number) => {
             let built = build(image, words, m, bytes, parent as usize, is_directory, name);
-            numbered(built, number)
+            grow::numbered(built, number)
         }
     }
 }

@@ -8,8 +8,8 @@ use Rattle.endian.specs.Bytes.{span}
 use Rattle.tree.specs.Table.{Node, file, directory}
 use Rattle.tree.specs.Lookup.{components}
 use Rattle.tree.specs.Insert.{insertAt, setPlace, emptyFile, emptyDirectory}
-use Rattle.disc.specs.Opening.{nodesIn}
-use Rattle.edit.specs.Edits.{Edit, insertFile, insertDirectory, makeDirectories, moveFile, resizeFile, rewrite, newNumber, Made, stopped, made, make}
+use Rattle.opening.specs.Opening.{nodesIn}
+use Rattle.edits.specs.Edits.{Edit, insertFile, insertDirectory, makeDirectories, moveFile, resizeFile, rewrite, newNumber, Made, stopped, made, make}
 
 -- of a file: "starting place and bytes, m, and whether it was named"
 pub record History : Type 0 where

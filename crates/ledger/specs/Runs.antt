@@ -3,7 +3,7 @@ use Prim.Native.Nat.{ℕ, _^_, _<_, _≤_}
 use mathlib.Core.Bool.{not}
 use mathlib.Core.List.{List, [], _∷_}
 use Rattle.refusal.specs.Refusal.{isRefused}
-use Rattle.edit.specs.Edits.{Edit, insertFile, insertDirectory, makeDirectories, moveFile, resizeFile, rewrite, verdictOf, imageAfter}
+use Rattle.edits.specs.Edits.{Edit, insertFile, insertDirectory, makeDirectories, moveFile, resizeFile, rewrite, verdictOf, imageAfter}
 use Rattle.ledger.specs.Ledger.{Report}
 
 -- a call: an edit, and how many working words and bytes it is lent

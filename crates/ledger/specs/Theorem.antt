@@ -10,17 +10,17 @@ use Rattle.refusal.specs.declared.Verdict.the-variants.{Passed}
 use Rattle.header.specs.Verdicts.{tableEnd, discEnd}
 use Rattle.tree.specs.Table.{file, none}
 use Rattle.space.specs.Used.{inside, totalSize}
-use Rattle.space.specs.Listing.{listingOf, listAfter}
-use Rattle.disc.specs.Opening.{nodesIn, regionOf, usedIn, freeOf, opening}
+use Rattle.free_space.specs.Listing.{listingOf, listAfter}
+use Rattle.opening.specs.Opening.{nodesIn, regionOf, usedIn, freeOf, opening}
 use Rattle.disc.specs.Calls.{totalsAnswer, freeRegionsAnswer, freeRegionsList}
 use Rattle.disc.specs.declared.TotalsAnswer.the-variants.{Found}
-use Rattle.edit.specs.Edits.{noPlace}
+use Rattle.edits.specs.Edits.{noPlace}
 use Rattle.ledger.specs.Ledger.{Ledger, bare, filesBefore, historyOf, firstLedger, Report, ledgerAfter}
 use Rattle.ledger.specs.Runs.{Call, imageAfterAll, reportsOf, AllWithin}
 use Rattle.ledger.specs.Spared.{numberAfter, Spared}
-use Rattle.ledger.specs.SparedLaws.{spared, begins}
-use Rattle.ledger.specs.Kept.{Kept}
-use Rattle.ledger.specs.Sequence.{start, along, no-byte-twice, sum, used-reported, free-reported, free-listed, entry-least, entry-known, entry-first, entry-place, still-there}
+use Rattle.ledger.specs.Laws.SparedLaws.{spared, begins}
+use Rattle.ledger.specs.Laws.Kept.{Kept}
+use Rattle.ledger.specs.Laws.Sequence.{start, along, no-byte-twice, sum, used-reported, free-reported, free-listed, entry-least, entry-known, entry-first, entry-place, still-there}
 
 -- of the file with entry number k, which lies at `offset` and has `size` bytes, by "what the ledger holds for its file k"
 pub record TrueTo (image : List ℕ) (l : Ledger) (k offset size : ℕ) : Type 0 where

@@ -1,8 +1,8 @@
 // Lists the image that standard input gives: disc end and used total, the entries in table order, the free regions (document 01,
 // "A small master"). A refused image gives only the refusal's number. The file `stdout` is document 01's listing of its small master.
 use disc::Opened;
+use free_space::Listing;
 use refusal::Refusal;
-use space::Listing;
 
 // The words of an entry, as `disc::entries` lists them.
 const KIND: usize = 0;

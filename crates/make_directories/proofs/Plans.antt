@@ -12,27 +12,30 @@ use Rattle.refusal.specs.declared.Refusal.{Refusal}
 use Rattle.refusal.specs.declared.Refusal.the-variants.{LimitOrMemory, NoSuchEntry}
 use Rattle.refusal.specs.declared.Verdict.the-variants.{Passed, Refused}
 use Rattle.refusal.specs.Refusal.{refuse}
-use Rattle.refusal.specs.Laws.{refuse-passed}
-use Rattle.tree.specs.Table.{Node, WellFormed}
+use Rattle.refusal.specs.Laws.Chains.{refuse-passed}
+use Rattle.tree.specs.Table.{Node}
+use Rattle.tree.specs.Inner.WellFormed.{WellFormed}
 use Rattle.tree.specs.Lookup.{components}
-use Rattle.tree.specs.NestedInsert.{well-nested}
-use Rattle.tree.specs.Growing.{Bigger, bigger-same}
-use Rattle.tree.specs.RoundTrip.{within-limits}
-use Rattle.edit.specs.declared.TableSize.{TableSize}
-use Rattle.edit.specs.declared.TableSize.the-variants as table
-use Rattle.edit.specs.Change.{Plan, change}
-use Rattle.edit.specs.Edits.{Made, stopped, made, make, tableOnly, planned, planMade, planMakeDirectories, planVerdict}
-use Rattle.edit.specs.MakeLaws.{madeVerdict, troubleOf, make-trouble, make-grows}
-use Rattle.edit.specs.Decision.{Decided}
-use Rattle.insert.specs.declared.Grown.the-variants as grown
-use Rattle.insert.specs.Growth.{treeIn, Built}
-use Rattle.insert.specs.Inserts.{tableDecision, grownAs, Numbered}
-use Rattle.insert.proofs.GrowthLaws.{unbuilt}
-use Rattle.insert.proofs.InsertionLaws.{refused-numbered, change-numbered, same-decided}
+use Rattle.tree.specs.Laws.NestedInsert.{well-nested}
+use Rattle.tree.specs.Laws.Growing.{Bigger, bigger-same}
+use Rattle.tree.specs.Laws.RoundTrip.{within-limits}
+use Rattle.commit.specs.declared.TableSize.{TableSize}
+use Rattle.commit.specs.declared.TableSize.the-variants as table
+use Rattle.edits.specs.Change.{Plan, change}
+use Rattle.edits.specs.Edits.{Made, stopped, made, make, tableOnly, planned, planMade, planMakeDirectories, planVerdict}
+use Rattle.edits.specs.Inner.Troubles.{madeVerdict, troubleOf}
+use Rattle.edits.specs.Laws.Troubles.{make-trouble}
+use Rattle.edits.specs.Laws.MadeTree.{make-grows}
+use Rattle.commit.specs.Inner.Decision.{Decided}
+use Rattle.grow.specs.declared.Grown.the-variants as grown
+use Rattle.grow.specs.Inner.Growth.{treeIn, Built}
+use Rattle.grow.specs.Inner.Grown.{tableDecision, grownAs, Numbered}
+use Rattle.grow.proofs.GrowthLaws.{unbuilt}
+use Rattle.grow.proofs.NumberLaws.{refused-numbered, change-numbered, same-decided}
 use Rattle.make_directories.specs.declared.making.Reached.{Reached}
 use Rattle.make_directories.specs.declared.making.Reached.the-variants as reached
-use Rattle.make_directories.specs.Walk.{pathVerdict}
-use Rattle.make_directories.specs.Making.{madeTree, madeEntry, Reaches}
+use Rattle.make_walk.specs.Inner.Walk.{pathVerdict}
+use Rattle.make_directories.specs.Inner.Making.{madeTree, madeEntry, Reaches}
 use Rattle.make_directories.proofs.Turns.{all-made}
 
 module _ (nodes : List Node) (start : ℕ) (path : List ℕ) where

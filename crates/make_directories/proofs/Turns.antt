@@ -1,6 +1,6 @@
 -- Make-directories turn by turn, once no trouble stands on the path: each component leads on to what the whole makes, and what there is no
 -- room for on the way there is none for at the end. Assumes nothing.
-use Prim.Native.Nat.{ℕ, zero, suc, _+_, _-_, _<_, _≤_}
+use Prim.Native.Nat.{ℕ, zero, suc, _+_, _<_, _≤_}
 use mathlib.Core.Path.{_≡_, refl, ap, _∙_}
 use mathlib.Core.Bool.{Bool, true, false, cond, not}
 use mathlib.Core.List.{List, [], _∷_}
@@ -12,24 +12,26 @@ use Rattle.refusal.specs.declared.Refusal.the-variants.{UnsafeName, ExpectedDir
 use Rattle.refusal.specs.declared.Verdict.the-variants.{Passed}
 use Rattle.tree.specs.declared.Located.{Located}
 use Rattle.tree.specs.declared.Located.the-variants as located
-use Rattle.tree.specs.Table.{Node, directory, none, plain, safe, parentOf, encode, limits, GoodName, WellFormed}
+use Rattle.tree.specs.Table.{Node, directory, none, plain, safe, parentOf, encode, limits}
+use Rattle.tree.specs.Inner.WellFormed.{GoodName, WellFormed}
 use Rattle.tree.specs.Lookup.{isDirectory, components, childOf, stays, goesBack}
-use Rattle.tree.specs.LookupLaws.{child-is, child-inside}
-use Rattle.tree.specs.Nesting.{parent-most, next-bounds}
+use Rattle.tree.specs.Laws.LookupLaws.{child-is, child-inside}
+use Rattle.tree.specs.Laws.Nesting.{parent-most, next-bounds}
 use Rattle.tree.specs.Insert.{insertAt, emptyDirectory}
-use Rattle.tree.specs.InsertLaws.{length-insert, parent-insert-before, parent-insert-at}
-use Rattle.tree.specs.Accepted.{length-nodesOf}
-use Rattle.tree.specs.RoundTrip.{written-accepted}
-use Rattle.tree.specs.Growing.{Bigger, bigger-insert, bigger-limits, bigger-encode}
-use Rattle.fst.specs.Steps.{componentsAfter}
-use Rattle.edit.specs.Edits.{newNumber, Made, stopped, made, madeBack, ifFound, make}
-use Rattle.edit.specs.MakeLaws.{madeVerdict, bad-stays, AllLt, make-grows}
-use Rattle.edit.specs.declared.TableSize.{TableSize}
-use Rattle.edit.specs.declared.TableSize.the-variants as table
-use Rattle.insert.specs.Growth.{treeIn, Stands, IsDirectory, added, Built}
-use Rattle.insert.proofs.GrowthLaws.{is-directory, built-stands, bigger-added}
+use Rattle.tree.specs.Laws.InsertLaws.{length-insert, parent-insert-before, parent-insert-at}
+use Rattle.tree.specs.Laws.Accepted.{length-nodesOf}
+use Rattle.tree.specs.Laws.RoundTrip.{written-accepted}
+use Rattle.tree.specs.Laws.Growing.{Bigger, bigger-insert, bigger-limits, bigger-encode}
+use Rattle.fst.specs.Inner.Steps.{componentsAfter}
+use Rattle.edits.specs.Edits.{newNumber, Made, stopped, made, madeBack, ifFound, make}
+use Rattle.edits.specs.Inner.Troubles.{madeVerdict}
+use Rattle.edits.specs.Laws.MadeTree.{bad-stays, AllLt, make-grows}
+use Rattle.commit.specs.declared.TableSize.{TableSize}
+use Rattle.commit.specs.declared.TableSize.the-variants as table
+use Rattle.grow.specs.Inner.Growth.{treeIn, Stands, IsDirectory, added, Built}
+use Rattle.grow.proofs.GrowthLaws.{is-directory, built-stands, bigger-added}
 use Rattle.make_directories.specs.declared.making.Reached.the-variants.{At, Refused}
-use Rattle.make_directories.specs.Making.{madeTree, madeEntry, newIn, turnOf, CanTurn, InBytes, Reaches}
+use Rattle.make_directories.specs.Inner.Making.{madeTree, madeEntry, newIn, turnOf, CanTurn, InBytes, Reaches}
 
 -- ---- a table that stands in the bytes is an accepted one
 

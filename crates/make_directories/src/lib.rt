@@ -1,12 +1,11 @@
 // Make-directories (`make_directories_from`): the troubles along the path, then the table with the directories that are missing, and only
 // then the image is written. All of them or none.
 mod making;
-mod walk;
 
-use disc::Prepared;
-use edit::TableSize;
-use insert::Grown;
+use commit::TableSize;
+use grow::Grown;
 use making::Reached;
+use opening::Prepared;
 use refusal::Refusal;
 use refusal::Verdict;
 use tree::Located;
@@ -14,20 +13,21 @@ ghost use mathlib.Core.Path.{_≡_};
 ghost use mathlib.Core.Bool.{false};
 ghost use Prim.Native.Nat.{_<_, _^_};
 ghost use lib.Dec.{leb};
-ghost use lib.ListN.{length, replicate};
+ghost use lib.ListN.{length};
 ghost use Rattle.refusal.specs.declared.Refusal.the-variants.{NoSuchEntry};
 ghost use Rattle.refusal.specs.declared.Verdict.the-variants.{Passed};
 ghost use Rattle.refusal.specs.Refusal.{refuse};
 ghost use Rattle.tree.specs.Table.{nodesOf};
 ghost use Rattle.tree.specs.Lookup.{components};
-ghost use Rattle.fst.specs.Reading as reading;
-ghost use Rattle.disc.specs.Opening.{opening, nodesIn};
-ghost use Rattle.edit.specs.Edits.{planMakeDirectories, planned, planOf, makeDirectories, imageAfter, numberOf};
-ghost use Rattle.edit.specs.MakeLaws.{troubleOf};
-ghost use Rattle.edit.specs.Decision.{Opens, IsOpen};
-ghost use Rattle.insert.specs.Growth.{Stands, treeIn};
-ghost use Rattle.insert.specs.Inserts.{Numbered};
-ghost use Rattle.make_directories.specs.Walk.{pathVerdict};
+ghost use Rattle.fst_check.specs.Inner.Reading as reading;
+ghost use Rattle.opening.specs.Opening.{opening, nodesIn};
+ghost use Rattle.edits.specs.Edits.{planMakeDirectories, planned, planOf, makeDirectories, numberedAs};
+ghost use Rattle.edits.specs.Inner.Troubles.{troubleOf};
+ghost use Rattle.opening.specs.Inner.Prepared.{Opens, IsOpen};
+ghost use Rattle.grow.specs.Inner.Growth.{Stands, treeIn};
+ghost use Rattle.grow.specs.Inner.Grown.{Numbered};
+ghost use Rattle.make_walk.specs.Inner.Walk.{pathVerdict};
+ghost use Rattle.edits.specs.Promise.{lent, Edited};
 
 // 15, then the troubles along the path.
 fn check_start(table: &[u8], start: u32, path: &[u8]) -> Verdict
@@ -35,10 +35,10 @@ fn check_start(table: &[u8], start: u32, path: &[u8]) -> Verdict
     ensures { λ r. ⌜ r ≡ refuse (leb (length (nodesOf (now (table .entry)))) start) NoSuchEntry (troubleOf (nodesOf (now (table .entry))) start start 0 false (components (now (path .entry)))) ⌝ }
 {
     let place = start as usize;
-    if fst::count(table) <= place {
+    if fst_check::count(table) <= place {
         return Verdict::Refused(Refusal::NoSuchEntry);
     }
-    walk::trouble(table, place, path)
+    make_walk::trouble(table, place, path)
 }
 
 // The tests that need no memory: a path over 1,024 bytes 9, then those of the table.
@@ -71,8 +71,8 @@ fn make_in(
     match reached {
         Reached::Refused(cause) => Grown::Refused(cause),
         Reached::At(k, n) => {
-            let placed = insert::place_table(image, words, m, bytes, n);
-            insert::numbered(placed, k as u32)
+            let placed = grow::place_table(image, words, m, bytes, n);
+            grow::numbered(placed, k as u32)
         }
     }
 }
@@ -93,7 +93,7 @@ fn decide_open(
     if let Verdict::Refused(cause) = verdict {
         return Grown::Refused(cause);
     }
-    let found = insert::start_table(image, words, m, bytes);
+    let found = grow::start_table(image, words, m, bytes);
     match found {
         TableSize::Refused(cause) => Grown::Refused(cause),
         TableSize::Bytes(size) => make_in(image, words, m, bytes, size, start, path),
@@ -103,7 +103,7 @@ fn decide_open(
 fn decide(image: &[u8], words: &mut [u32], bytes: &mut [u8], start: u32, path: &[u8]) -> Grown
     ensures { λ r. ⌜ Numbered (planned (opening (now (image .entry)) (length (now (words .entry)))) (planOf (makeDirectories start (now (path .entry))) (now (image .entry)))) (now (image .entry)) (length (now (words .entry))) (length (now (bytes .entry))) (now (bytes .exit)) r ⌝ }
 {
-    let prepared = disc::prepare(image, words);
+    let prepared = opening::prepare(image, words);
     match prepared {
         Prepared::Refused(cause) => Grown::Refused(cause),
         Prepared::Ready(m) => decide_open(image, words, m, bytes, start, path),
@@ -119,9 +119,8 @@ pub fn make_directories(
     start: u32,
     path: &[u8],
 ) -> Located
-    ensures { λ r. ⌜ (r ≡ numberOf (makeDirectories start (now (path .entry))) (now (image .entry)) (length (now (words .entry))) (length (now (bytes .entry)))) × (now (image .exit) ≡ imageAfter (makeDirectories start (now (path .entry))) (now (image .entry)) (length (now (words .entry))) (length (now (bytes .entry)))) ⌝ }
-    ensures { λ _. ⌜ (now (words .exit) ≡ replicate (length (now (words .entry))) 0) × (now (bytes .exit) ≡ replicate (length (now (bytes .entry))) 0) ⌝ }
+    ensures { λ r. ⌜ Edited numberedAs (makeDirectories start (now (path .entry))) (lent (now (image .entry)) (now (words .entry)) (now (bytes .entry))) (lent (now (image .exit)) (now (words .exit)) (now (bytes .exit))) r ⌝ }
 {
     let grown = decide(image, words, bytes, start, path);
-    insert::finish(image, words, bytes, grown)
+    grow::finish(image, words, bytes, grown)
 }

@@ -1,9 +1,9 @@
 -- Entries by number and by path (document 01, "Lookup (`at_descendant`)"). Assumes nothing: these are definitions.
-use Prim.Native.Nat.{ℕ, zero, suc, _+_, _-_}
+use Prim.Native.Nat.{ℕ, zero, suc, _-_}
 use mathlib.Core.Bool.{Bool, true, false, cond, _&&_, _||_}
 use mathlib.Core.List.{List, [], _∷_}
 use lib.ListN.{length, getD}
-use lib.Dec.{leb, ltb, eqb}
+use lib.Dec.{ltb, eqb}
 use Rattle.endian.specs.Bytes.{sameBytes}
 use Rattle.refusal.specs.declared.Refusal.the-variants.{NoSuchEntry, ExpectedDirectory, NotFound}
 use Rattle.tree.specs.declared.Entry.{Entry}

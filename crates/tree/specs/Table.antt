@@ -1,15 +1,14 @@
 -- The file table (document 01, "The tree"): what its bytes say, when it is accepted, and how it is written.
 -- The table is in preorder and a directory's "next" says where its entries end, so the tree is the list of its entries.
 -- Assumes nothing: these are definitions.
-use Prim.Native.Nat.{ℕ, zero, suc, _+_, _-_, _*_, _^_, _<_, _≤_, max}
-use mathlib.Core.Path.{_≡_}
+use Prim.Native.Nat.{ℕ, zero, suc, _+_, _-_, _*_, max}
 use mathlib.Core.Bool.{Bool, true, false, cond, not, _&&_}
 use mathlib.Core.List.{List, [], _∷_, _++_, tail}
 use lib.ListN.{length, getD, drop}
 use lib.Dec.{leb, ltb, eqb}
 use Rattle.endian.specs.Bytes.{be24, be32, be24Bytes, be32Bytes}
 use Rattle.refusal.specs.declared.Verdict.{Verdict}
-use Rattle.refusal.specs.declared.Verdict.the-variants.{Passed, Refused}
+use Rattle.refusal.specs.declared.Verdict.the-variants.{Passed}
 use Rattle.refusal.specs.declared.Refusal.the-variants.{EntryPastTable, UnrecognizedKind, RootIsNotDirectory, MissingNullTerminator, LimitOrMemory, InvalidNextIndex, InvalidNameOffset, InvalidNameByte, UnsafeName}
 use Rattle.refusal.specs.Refusal.{refuse, first}
 
@@ -81,6 +80,11 @@ upTo0 (suc b ∷ s) = suc b ∷ upTo0 s
 -- the name at offset o of the texts, which stand after c entries
 unfoldable pub nameAt : List ℕ → ℕ → ℕ → List ℕ
 nameAt tab c o = upTo0 (drop (12 * c + o) tab)
+
+-- where the name of entry k stands in the table; 0 for the root, which has none
+abbrev pub namePlace : List ℕ → ℕ → ℕ
+namePlace tab zero = 0
+namePlace tab (suc k) = 12 * count tab + nameOffset tab (suc k)
 
 abbrev pub nodeWith : ℕ → List ℕ → ℕ → ℕ → Node
 nodeWith zero nm a b = file nm a b
@@ -203,23 +207,6 @@ encode [] = []
 encode (root ∷ xs) = nodeBytes 0 0 root ++ (entriesBytes (root ∷ xs) 1 0 xs ++ textsOf xs)
 
 -- ---- what a list of entries must be, to be a tree, and the limits of one that is written
-
-abbrev pub GoodName : List ℕ → Type 0
-GoodName nm = (plain nm ≡ true) × (safe nm ≡ true)
-
--- entry k of c, where the directories `dirs` are open
-abbrev pub GoodEntry : ℕ → List ℕ → ℕ → Node → Type 0
-GoodEntry c dirs k (file nm offset size) = (offset < 2 ^ 32) × (size < 2 ^ 32)
-GoodEntry c dirs k (directory nm next) = (k < next) × (next ≤ c) × (next ≤ top dirs)
-
--- entries k and on are xs
-abbrev pub Sound : ℕ → List ℕ → ℕ → List Node → Type 0
-Sound c dirs k [] = Unit {0}
-Sound c dirs k (x ∷ xs) = GoodName (nameOf x) × GoodEntry c (shut k dirs) k x × Sound c (enter (shut k dirs) x) (suc k) xs
-
-pub record WellFormed (nodes : List Node) : Type 0 where
-  pub root : nodes ≡ directory [] (length nodes) ∷ tail nodes
-  pub sound : Sound (length nodes) (length nodes ∷ []) 1 (tail nodes)
 
 -- no directory among entries k and on is deeper than 64
 abbrev pub shallowEntry : List ℕ → Node → Bool

@@ -1,11 +1,10 @@
 -- `edit::decide_move` meets its contract: refused by opening, or what is decided on the open image.
 -- Assumes nothing.
-use Prim.Native.Nat.{_-_}
 use denote.Ref.{now}
 use lib.ListN.{length}
-use Rattle.edit.specs.Edits as edits
-use Rattle.edit.specs.Edits.{planOf}
-use Rattle.edit.proofs.Decisions.{is-open, open-decided, unopened-decided}
+use Rattle.edits.specs.Edits as edits
+use Rattle.edits.specs.Edits.{planOf}
+use Rattle.commit.proofs.Decisions.{is-open, open-decided, unopened-decided}
 use borrow.Author.Needs.{needs}
 use Rattle.edit.proofs.decide_move.Statement.{statement}
 use Rattle.edit.proofs.decide_move.Tie as tie

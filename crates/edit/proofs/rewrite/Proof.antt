@@ -1,11 +1,11 @@
 -- `edit::rewrite` meets its contract: the decision is carried out, and the working memory zeroed.
 -- Assumes nothing.
 use mathlib.Core.Path.{ap, _∙_}
-use Prim.Native.Nat.{ℕ, _-_}
+use Prim.Native.Nat.{ℕ}
 use denote.Ref.{now}
 use lib.ListN.{length, replicate}
-use Rattle.edit.specs.Edits as edits
-use Rattle.edit.proofs.Decisions.{edit-decided}
+use Rattle.edits.specs.Edits as edits
+use Rattle.commit.proofs.Decisions.{edit-decided}
 use borrow.Author.Needs.{needs}
 use Rattle.edit.proofs.rewrite.Statement.{statement}
 use Rattle.edit.proofs.rewrite.Tie as tie
@@ -30,7 +30,7 @@ returns c = let s = c .before .before .before .before .before .before .before .b
     let d = c .before .before .before .before .before .before .before .before .before .before .before .before .before .before .decide-rewrite in
     let f = c .before .before .before .before .before .before .finish .ensures in
     let e = edit-decided (now (s .args .image)) (length (now (s .args .words))) (length (now (s .args .bytes))) _ edits.rewrite _ (d .ensures) in
-    ((f .0 .0 ∙ e .0, f .0 .1 ∙ e .1), (f .1 .0 ∙ ap (λ (n : ℕ). replicate n 0) (d .kept .1 .0), f .1 .1 ∙ ap (λ (n : ℕ). replicate n 0) (d .kept .1 .1 .0)))
+    record { answered = f .0 .0 ∙ e .0; image = f .0 .1 ∙ e .1; words = f .1 .0 ∙ ap (λ (n : ℕ). replicate n 0) (d .kept .1 .0); bytes = f .1 .1 ∙ ap (λ (n : ℕ). replicate n 0) (d .kept .1 .1 .0) }
 
 pub rewrite-spec : {M : Type 1} → statement M
 rewrite-spec =

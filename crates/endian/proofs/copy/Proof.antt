@@ -1,11 +1,11 @@
 -- `endian::copy` meets its contract. The invariant of its loop: the first i bytes of the span are put.
 -- Assumes nothing.
 use mathlib.Core.Path.{_≡_, refl, sym}
-use Prim.Native.Nat.{ℕ, _+_, _-_, _≤_, _<_}
+use Prim.Native.Nat.{_-_, _≤_}
 use native.Mathlib.Omega.{arith}
 use lib.ListN.{length, length-set}
 use Rattle.endian.specs.Bytes.{put, span}
-use Rattle.endian.specs.Laws.{put-none}
+use Rattle.endian.specs.Laws.Stored.{put-none}
 use Rattle.endian.proofs.Turns.{copy-turn}
 use Rattle.endian.proofs.copy.Statement.{statement}
 use Rattle.endian.proofs.copy.Tie as tie

@@ -1,12 +1,12 @@
 -- `endian::copy_down` meets its contract. The invariant of its loop: the first i bytes of the span are put.
 -- Assumes nothing.
 use mathlib.Core.Path.{_≡_, refl, sym}
-use Prim.Native.Nat.{_+_, _-_, _≤_, _<_}
+use Prim.Native.Nat.{_+_, _-_, _≤_}
 use native.Mathlib.Omega.{arith}
 use lib.ListN.{length}
 use borrow.Author.Needs.{needs}
 use Rattle.endian.specs.Bytes.{put, span}
-use Rattle.endian.specs.Laws.{put-none}
+use Rattle.endian.specs.Laws.Stored.{put-none}
 use Rattle.endian.proofs.Parts.{put-length, down-part}
 use Rattle.endian.proofs.copy_down.Statement.{statement}
 use Rattle.endian.proofs.copy_down.Tie as tie

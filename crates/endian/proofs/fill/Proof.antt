@@ -1,11 +1,11 @@
 -- `endian::fill` meets its contract. The invariant of its loop: i bytes are put.
 -- Assumes nothing.
 use mathlib.Core.Path.{_≡_, refl, sym}
-use Prim.Native.Nat.{ℕ, _+_, _-_, _≤_, _<_}
+use Prim.Native.Nat.{_-_, _≤_}
 use native.Mathlib.Omega.{arith}
 use lib.ListN.{length, length-set, replicate}
-use Rattle.endian.specs.Bytes.{put, span}
-use Rattle.endian.specs.Laws.{put-none}
+use Rattle.endian.specs.Bytes.{put}
+use Rattle.endian.specs.Laws.Stored.{put-none}
 use Rattle.endian.proofs.Turns.{fill-turn}
 use Rattle.endian.proofs.fill.Statement.{statement}
 use Rattle.endian.proofs.fill.Tie as tie

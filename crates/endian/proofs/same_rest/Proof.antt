@@ -1,15 +1,11 @@
 -- `endian::same_rest` meets its contract. The invariant of its loop: what is left of both spans decides.
 -- Assumes nothing.
-use mathlib.Core.Path.{_≡_, refl, sym}
-use Prim.Native.Nat.{ℕ, _+_, _-_, _≤_, _<_}
+use mathlib.Core.Path.{_≡_, sym, _∙_}
+use Prim.Native.Nat.{_+_, _-_, _≤_}
 use native.Mathlib.Omega.{arith}
-use lib.ListN.{length, length-set}
-use Rattle.endian.specs.Bytes.{put, span}
-use Rattle.endian.specs.Laws.{put-none}
-use mathlib.Core.Path.{_∙_}
+use Rattle.endian.specs.Bytes.{span, sameBytes}
 use borrow.Author.Tests.{eq-eqb, ne-eqb}
 use denote.Ref.{now}
-use Rattle.endian.specs.Bytes.{sameBytes}
 use Rattle.endian.proofs.Turns.{same-start, same-turn, same-end}
 use Rattle.endian.proofs.same_rest.Statement.{statement}
 use Rattle.endian.proofs.same_rest.Tie as tie

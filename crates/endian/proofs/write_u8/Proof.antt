@@ -2,7 +2,7 @@
 -- Assumes nothing.
 use native.Mathlib.Omega.{arith}
 use mathlib.Core.List.{[], _∷_}
-use Rattle.endian.specs.Laws.{put-sets}
+use Rattle.endian.specs.Laws.Stored.{put-sets}
 use borrow.Author.Needs.{needs}
 use Rattle.endian.proofs.write_u8.Statement.{statement}
 use Rattle.endian.proofs.write_u8.Tie as tie

@@ -2,7 +2,7 @@
 -- numbers, so with r entries left the measure is 2r + 1 for an entry and 2r for a directory. What a turn of the loop does is in `Turn`.
 -- Assumes nothing.
 use mathlib.Core.Path.{_≡_}
-use Prim.Native.Nat.{ℕ, _+_, _-_, _*_, _<_}
+use Prim.Native.Nat.{_<_, ℕ, _+_, _-_, _*_}
 use native.Mathlib.Omega.{arith}
 use borrow.Author.Needs.{needs}
 use borrow.Author.Tests.{ne-eqb}

@@ -4,8 +4,8 @@ use native.Mathlib.Omega.{arith}
 use Prim.Native.Nat.{_+_, _*_}
 use mathlib.Core.Path.{_≡_, _∙_}
 use Rattle.tree.specs.Table.{count}
-use Rattle.fst_write.specs.Flat.{textTo}
-use Rattle.fst_write.specs.Measure.{capped}
+use Rattle.fst_write.specs.Inner.Flat.{textTo}
+use Rattle.fst_write.specs.Inner.Measure.{capped}
 use Rattle.fst_write.proofs.Measuring.{measured-past, measured-size}
 use borrow.Author.Needs.{needs}
 use Rattle.fst_write.proofs.measure.Statement.{statement}

@@ -1,7 +1,7 @@
 -- `fst_write::name_size` meets its contract: the text at the name offset is ended within the table.
 -- Assumes nothing.
 use Rattle.tree.specs.Table.{nameAt}
-use Rattle.fst_write.specs.Valid.{nameSize}
+use Rattle.fst_write.specs.Inner.Valid.{nameSize}
 use borrow.Author.Needs.{needs}
 use Rattle.fst_write.proofs.name_size.Statement.{statement}
 use Rattle.fst_write.proofs.name_size.Tie as tie

@@ -7,7 +7,7 @@ use borrow.Author.Needs.{needs}
 use lib.ListN.{drop}
 use Rattle.header.specs.Fields.{fields}
 use Rattle.header.specs.Verdicts.{fieldsVerdict, headerVerdict}
-use Rattle.header.specs.Laws.{judged}
+use Rattle.header.specs.Laws.FieldTests.{judged}
 use Rattle.header.proofs.Turns.{fields-end, fields-stop, fields-go}
 use Rattle.header.proofs.check.Statement.{statement}
 use Rattle.header.proofs.check.Tie as tie

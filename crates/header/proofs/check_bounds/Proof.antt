@@ -1,8 +1,8 @@
 -- `header::check_bounds` meets its contract: a header that refuses is the answer, and one that passes hands over to the bounds.
 -- Assumes nothing.
-use mathlib.Core.Path.{_≡_, sym, _∙_}
+use mathlib.Core.Path.{sym, _∙_}
 use borrow.Author.Needs.{needs}
-use Rattle.refusal.specs.Laws.{first-stop, first-go}
+use Rattle.refusal.specs.Laws.Chains.{first-stop, first-go}
 use Rattle.header.specs.Verdicts.{boundsVerdict}
 use Rattle.header.proofs.check_bounds.Statement.{statement}
 use Rattle.header.proofs.check_bounds.Tie as tie

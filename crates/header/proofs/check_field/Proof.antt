@@ -2,7 +2,7 @@
 -- Assumes nothing.
 use mathlib.Core.Path.{sym, _∙_}
 use native.Mathlib.Omega.{arith}
-use Rattle.header.specs.Laws.{past, wii, other-word, gcn, not-gcn, no-magic}
+use Rattle.header.specs.Laws.FieldTests.{past, wii, other-word, gcn, not-gcn, no-magic}
 use borrow.Author.Needs.{needs}
 use Rattle.header.proofs.check_field.Statement.{statement}
 use Rattle.header.proofs.check_field.Tie as tie

@@ -3,7 +3,7 @@
 use mathlib.Core.Path.{_∙_}
 use lib.ListN.{length}
 use Rattle.endian.specs.Bytes.{span}
-use Rattle.endian.specs.Laws.{length-span}
+use Rattle.endian.specs.Laws.Stored.{length-span}
 use Rattle.header.proofs.Whole.{put-all}
 use borrow.Author.Needs.{needs}
 use Rattle.header.proofs.read_exact.Statement.{statement}

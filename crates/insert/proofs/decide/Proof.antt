@@ -1,12 +1,11 @@
 -- `insert::decide` meets its contract: refused by opening, or what is decided on the open image.
 -- Assumes nothing.
-use Rattle.insert.proofs.InsertionLaws.{open-numbered, unopened-numbered}
-use Rattle.insert.specs.Inserts.{insertion}
-use Rattle.edit.proofs.Decisions.{is-open}
-use Rattle.edit.specs.Edits.{planOf}
+use Rattle.grow.proofs.NumberLaws.{open-numbered, unopened-numbered}
+use Rattle.insert.specs.Inner.Insertion.{insertion}
+use Rattle.commit.proofs.Decisions.{is-open}
+use Rattle.edits.specs.Edits.{planOf}
 use lib.ListN.{length}
 use denote.Ref.{now}
-use mathlib.Core.Path.{_≡_, sym, ap, _∙_}
 use borrow.Author.Needs.{needs}
 use Rattle.insert.proofs.decide.Statement.{statement}
 use Rattle.insert.proofs.decide.Tie as tie

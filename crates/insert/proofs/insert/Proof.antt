@@ -1,12 +1,12 @@
 -- `insert::insert` meets its contract: what is decided on is carried out, and the working memory zeroed.
 -- Assumes nothing.
-use Rattle.insert.proofs.InsertionLaws.{number-answer}
-use Rattle.insert.specs.Inserts.{insertion, grownDecision}
-use Rattle.edit.proofs.Decisions.{edit-decided}
+use Rattle.grow.proofs.NumberLaws.{number-answer}
+use Rattle.insert.specs.Inner.Insertion.{insertion}
+use Rattle.commit.proofs.Decisions.{edit-decided}
 use lib.ListN.{length, replicate}
 use denote.Ref.{now}
 use Prim.Native.Nat.{ℕ}
-use mathlib.Core.Path.{_≡_, sym, ap, _∙_}
+use mathlib.Core.Path.{ap, _∙_}
 use borrow.Author.Needs.{needs}
 use Rattle.insert.proofs.insert.Statement.{statement}
 use Rattle.insert.proofs.insert.Tie as tie
@@ -33,7 +33,7 @@ returns c = let s = c .before .before .before .before .before .before .before .b
     let d = c .before .before .before .before .before .before .before .before .before .before .before .before .before .before .decide in
     let f = c .before .before .before .before .before .before .finish .ensures in
     let e = edit-decided image (length (now (s .args .words))) (length (now (s .args .bytes))) _ ed _ (d .ensures .decided) in
-    ((f .0 .0 ∙ number-answer image (length (now (s .args .words))) (length (now (s .args .bytes))) _ ed _ (d .ensures), f .0 .1 ∙ e .1), (f .1 .0 ∙ ap (λ (n : ℕ). replicate n 0) (d .kept .1 .0), f .1 .1 ∙ ap (λ (n : ℕ). replicate n 0) (d .kept .1 .1 .0)))
+    record { answered = f .0 .0 ∙ number-answer image (length (now (s .args .words))) (length (now (s .args .bytes))) _ ed _ (d .ensures); image = f .0 .1 ∙ e .1; words = f .1 .0 ∙ ap (λ (n : ℕ). replicate n 0) (d .kept .1 .0); bytes = f .1 .1 ∙ ap (λ (n : ℕ). replicate n 0) (d .kept .1 .1 .0) }
 
 pub insert-spec : {M : Type 1} → statement M
 insert-spec =

@@ -12,12 +12,12 @@ use Rattle.refusal.specs.declared.Refusal.the-variants.{NoSuchEntry}
 use Rattle.refusal.specs.Refusal.{refuse}
 use Rattle.tree.specs.Table.{nodesOf}
 use Rattle.tree.specs.Lookup.{components}
-use Rattle.disc.specs.Opening.{nodesIn}
-use Rattle.disc.specs.OpeningLaws.{opens}
-use Rattle.disc.proofs.Tests.{part-table}
-use Rattle.edit.specs.MakeLaws.{troubleOf}
-use Rattle.edit.proofs.Images.{checked}
-use Rattle.insert.proofs.InsertionLaws.{well-open}
+use Rattle.opening.specs.Opening.{nodesIn}
+use Rattle.opening.specs.Laws.OpeningLaws.{opens}
+use Rattle.opening.proofs.Tests.{part-table}
+use Rattle.edits.specs.Inner.Troubles.{troubleOf}
+use Rattle.commit.proofs.Images.{checked}
+use Rattle.grow.proofs.NumberLaws.{well-open}
 use Rattle.make_directories.proofs.Plans.{path-long, path-short}
 use borrow.Author.Needs.{needs}
 use Rattle.make_directories.proofs.check_path.Statement.{statement}

@@ -3,7 +3,7 @@
 use native.Mathlib.Omega.{arith}
 use borrow.Author.Tests.{lt-leb, le-leb}
 use Rattle.tree.specs.Table.{count}
-use Rattle.tree.specs.Accepted.{length-nodesOf}
+use Rattle.tree.specs.Laws.Accepted.{length-nodesOf}
 use Rattle.fst.proofs.Nodes.{opens-inside}
 use borrow.Author.Needs.{needs}
 use Rattle.make_directories.proofs.check_start.Statement.{statement}

@@ -2,9 +2,9 @@
 -- Assumes nothing.
 use denote.Ref.{now}
 use lib.ListN.{length}
-use Rattle.edit.specs.Edits.{makeDirectories, planOf}
-use Rattle.edit.proofs.Decisions.{is-open}
-use Rattle.insert.proofs.InsertionLaws.{open-numbered, unopened-numbered}
+use Rattle.edits.specs.Edits.{makeDirectories, planOf}
+use Rattle.commit.proofs.Decisions.{is-open}
+use Rattle.grow.proofs.NumberLaws.{open-numbered, unopened-numbered}
 use borrow.Author.Needs.{needs}
 use Rattle.make_directories.proofs.decide.Statement.{statement}
 use Rattle.make_directories.proofs.decide.Tie as tie

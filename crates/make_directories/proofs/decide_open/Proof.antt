@@ -4,9 +4,9 @@ use mathlib.Core.Path.{refl, sym, _∙_}
 use native.Mathlib.Omega.{arith}
 use denote.Ref.{now}
 use lib.ListN.{length}
-use Rattle.disc.specs.Opening.{nodesIn}
-use Rattle.disc.specs.OpeningLaws.{opens}
-use Rattle.insert.proofs.InsertionLaws.{well-open, built-is}
+use Rattle.opening.specs.Opening.{nodesIn}
+use Rattle.opening.specs.Laws.OpeningLaws.{opens}
+use Rattle.grow.proofs.NumberLaws.{well-open, built-is}
 use Rattle.make_directories.proofs.Plans.{path-refused, start-refused}
 use borrow.Author.Needs.{needs}
 use Rattle.make_directories.proofs.decide_open.Statement.{statement}

@@ -4,9 +4,9 @@ use mathlib.Core.Path.{ap, _∙_}
 use Prim.Native.Nat.{ℕ}
 use denote.Ref.{now}
 use lib.ListN.{length, replicate}
-use Rattle.edit.specs.Edits.{makeDirectories}
-use Rattle.edit.proofs.Decisions.{edit-decided}
-use Rattle.insert.proofs.InsertionLaws.{number-answer}
+use Rattle.edits.specs.Edits.{makeDirectories}
+use Rattle.commit.proofs.Decisions.{edit-decided}
+use Rattle.grow.proofs.NumberLaws.{number-answer}
 use borrow.Author.Needs.{needs}
 use Rattle.make_directories.proofs.make_directories.Statement.{statement}
 use Rattle.make_directories.proofs.make_directories.Tie as tie
@@ -33,7 +33,7 @@ returns c = let s = c .before .before .before .before .before .before .before .b
     let d = c .before .before .before .before .before .before .before .before .before .before .before .before .before .before .decide in
     let f = c .before .before .before .before .before .before .finish .ensures in
     let e = edit-decided image (length (now (s .args .words))) (length (now (s .args .bytes))) _ ed _ (d .ensures .decided) in
-    ((f .0 .0 ∙ number-answer image (length (now (s .args .words))) (length (now (s .args .bytes))) _ ed _ (d .ensures), f .0 .1 ∙ e .1), (f .1 .0 ∙ ap (λ (n : ℕ). replicate n 0) (d .kept .1 .0), f .1 .1 ∙ ap (λ (n : ℕ). replicate n 0) (d .kept .1 .1 .0)))
+    record { answered = f .0 .0 ∙ number-answer image (length (now (s .args .words))) (length (now (s .args .bytes))) _ ed _ (d .ensures); image = f .0 .1 ∙ e .1; words = f .1 .0 ∙ ap (λ (n : ℕ). replicate n 0) (d .kept .1 .0); bytes = f .1 .1 ∙ ap (λ (n : ℕ). replicate n 0) (d .kept .1 .1 .0) }
 
 pub make-directories-spec : {M : Type 1} → statement M
 make-directories-spec =

@@ -3,9 +3,9 @@
 use native.Mathlib.Omega.{arith}
 use denote.Ref.{now}
 use lib.ListN.{length}
-use Rattle.disc.specs.Opening.{nodesIn}
-use Rattle.disc.specs.OpeningLaws.{opens}
-use Rattle.insert.proofs.InsertionLaws.{well-open}
+use Rattle.opening.specs.Opening.{nodesIn}
+use Rattle.opening.specs.Laws.OpeningLaws.{opens}
+use Rattle.grow.proofs.NumberLaws.{well-open}
 use Rattle.make_directories.proofs.Plans.{starts-inside, makes-all, made-refused, made-at, made-small, made-placed}
 use borrow.Author.Needs.{needs}
 use Rattle.make_directories.proofs.make_in.Statement.{statement}

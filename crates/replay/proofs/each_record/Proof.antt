@@ -1,6 +1,5 @@
 -- `replay::each_record` is safe and ends: fewer bytes are left each turn.
 -- Assumes nothing.
-use Prim.Native.Nat.{_-_, _≤_}
 use native.Mathlib.Omega.{arith}
 use lib.ListN.{length}
 use mathlib.Core.Path.{_≡_, refl, _∙_}

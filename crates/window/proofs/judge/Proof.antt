@@ -3,7 +3,7 @@
 use mathlib.Core.Path.{sym}
 use native.Mathlib.Omega.{arith}
 use borrow.Author.Needs.{needs}
-use Rattle.window.specs.Facts.{judged-in, judged-out}
+use Rattle.window.specs.Laws.Facts.{judged-in, judged-out}
 use Rattle.window.proofs.judge.Statement.{statement}
 use Rattle.window.proofs.judge.Tie as tie
 

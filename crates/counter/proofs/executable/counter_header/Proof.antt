@@ -1,7 +1,7 @@
 -- `counter::executable::counter_header` meets its contract: with slots enough it hands through what the call below answers.
 -- Assumes nothing.
 use mathlib.Core.Path.{sym, _∙_}
-use Rattle.counter.specs.Laws.{is-short, is-enough}
+use Rattle.counter.specs.Laws.Slots.{is-short, is-enough}
 use borrow.Author.Needs.{needs}
 use Rattle.counter.proofs.executable.counter_header.Statement.{statement}
 use Rattle.counter.proofs.executable.counter_header.Tie as tie

@@ -1,6 +1,6 @@
 -- `counter::executable::give_dol` meets its contract, by the cases of the verdict.
 -- Assumes nothing.
-use Rattle.counter.specs.Laws.{gives-refused}
+use Rattle.counter.specs.Laws.Slots.{gives-refused}
 use borrow.Author.Needs.{needs}
 use Rattle.counter.proofs.executable.give_dol.Statement.{statement}
 use Rattle.counter.proofs.executable.give_dol.Tie as tie

@@ -1,12 +1,12 @@
 -- `counter::executable::put_words` meets its contract. The invariant of its loop: the first i words are put.
 -- Assumes nothing.
 use mathlib.Core.Path.{_≡_, refl, sym}
-use Prim.Native.Nat.{ℕ, _+_, _-_, _≤_, _<_}
+use Prim.Native.Nat.{_-_, _≤_}
 use native.Mathlib.Omega.{arith}
 use lib.ListN.{length, take, length-set}
 use lib.Seq.{take-length}
 use Rattle.endian.specs.Bytes.{put}
-use Rattle.endian.specs.Laws.{put-none}
+use Rattle.endian.specs.Laws.Stored.{put-none}
 use Rattle.counter.proofs.Puts.{word-turn}
 use Rattle.counter.proofs.executable.put_words.Statement.{statement}
 use Rattle.counter.proofs.executable.put_words.Tie as tie

@@ -1,7 +1,7 @@
 -- `counter::inserts::counter_make_directories` meets its contract: with a slot for the number it hands through what the edit answers.
 -- Assumes nothing.
 use mathlib.Core.Path.{sym, _∙_}
-use Rattle.counter.specs.Laws.{is-short, is-enough, short-slots, enough-slots}
+use Rattle.counter.specs.Laws.Slots.{is-short, is-enough, short-slots, enough-slots}
 use borrow.Author.Needs.{needs}
 use Rattle.counter.proofs.inserts.counter_make_directories.Statement.{statement}
 use Rattle.counter.proofs.inserts.counter_make_directories.Tie as tie

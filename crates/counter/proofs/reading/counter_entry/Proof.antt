@@ -1,6 +1,6 @@
 -- `counter::reading::counter_entry` meets its contract: with slots enough it hands through what the call below answers.
 -- Assumes nothing.
-use Rattle.counter.specs.Laws.{short-slots, enough-slots}
+use Rattle.counter.specs.Laws.Slots.{short-slots, enough-slots}
 use borrow.Author.Needs.{needs}
 use Rattle.counter.proofs.reading.counter_entry.Statement.{statement}
 use Rattle.counter.proofs.reading.counter_entry.Tie as tie

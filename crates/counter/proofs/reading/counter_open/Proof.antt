@@ -1,6 +1,6 @@
 -- `counter::reading::counter_open` meets its contract: with slots enough it hands through what the call below answers.
 -- Assumes nothing.
-use Rattle.counter.specs.Laws.{short-slots, enough-slots}
+use Rattle.counter.specs.Laws.Slots.{short-slots, enough-slots}
 use borrow.Author.Needs.{needs}
 use Rattle.counter.proofs.reading.counter_open.Statement.{statement}
 use Rattle.counter.proofs.reading.counter_open.Tie as tie

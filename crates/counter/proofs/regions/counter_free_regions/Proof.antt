@@ -1,7 +1,7 @@
 -- `counter::regions::counter_free_regions` meets its contract: with slots enough it hands through what the call below answers.
 -- Assumes nothing.
 use mathlib.Core.Path.{sym, _∙_}
-use Rattle.counter.specs.Laws.{is-short, is-enough, short-slots, enough-slots}
+use Rattle.counter.specs.Laws.Slots.{is-short, is-enough, short-slots, enough-slots}
 use native.Mathlib.Omega.{arith}
 use denote.Ref.{now}
 use lib.ListN.{length}

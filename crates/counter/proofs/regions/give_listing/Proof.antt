@@ -1,6 +1,6 @@
 -- `counter::regions::give_listing` meets its contract, by the cases of the answer.
 -- Assumes nothing.
-use Rattle.counter.specs.Laws.{gives-refused}
+use Rattle.counter.specs.Laws.Slots.{gives-refused}
 use borrow.Author.Needs.{needs}
 use Rattle.counter.proofs.regions.give_listing.Statement.{statement}
 use Rattle.counter.proofs.regions.give_listing.Tie as tie

@@ -4,7 +4,7 @@ use mathlib.Core.Path.{refl}
 use mathlib.Core.List.{[], _∷_}
 use native.Mathlib.Omega.{arith}
 use denote.Ref.{now}
-use Rattle.endian.specs.Laws.{put-sets}
+use Rattle.endian.specs.Laws.Stored.{put-sets}
 use borrow.Author.Needs.{needs}
 use Rattle.counter.proofs.slots.give_1.Statement.{statement}
 use Rattle.counter.proofs.slots.give_1.Tie as tie

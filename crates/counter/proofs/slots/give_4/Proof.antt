@@ -5,7 +5,7 @@ use mathlib.Core.List.{[], _∷_}
 use native.Mathlib.Omega.{arith}
 use lib.ListN.{length-set}
 use denote.Ref.{now}
-use Rattle.endian.specs.Laws.{put-sets}
+use Rattle.endian.specs.Laws.Stored.{put-sets}
 use borrow.Author.Needs.{needs}
 use Rattle.counter.proofs.slots.give_4.Statement.{statement}
 use Rattle.counter.proofs.slots.give_4.Tie as tie

@@ -1,7 +1,7 @@
 -- `counter::windows::counter_read` meets its contract: with slots enough it hands through what the call below answers.
 -- Assumes nothing.
 use mathlib.Core.Path.{sym, _∙_}
-use Rattle.counter.specs.Laws.{is-short, is-enough, short-slots, enough-slots}
+use Rattle.counter.specs.Laws.Slots.{is-short, is-enough, short-slots, enough-slots}
 use borrow.Author.Needs.{needs}
 use Rattle.counter.proofs.windows.counter_read.Statement.{statement}
 use Rattle.counter.proofs.windows.counter_read.Tie as tie

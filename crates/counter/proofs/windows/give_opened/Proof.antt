@@ -1,6 +1,6 @@
 -- `counter::windows::give_opened` meets its contract, by the cases of the answer.
 -- Assumes nothing.
-use Rattle.counter.specs.Laws.{gives-refused}
+use Rattle.counter.specs.Laws.Slots.{gives-refused}
 use borrow.Author.Needs.{needs}
 use Rattle.counter.proofs.windows.give_opened.Statement.{statement}
 use Rattle.counter.proofs.windows.give_opened.Tie as tie

@@ -1,6 +1,6 @@
 -- `disc::executable::dol_in` meets its contract, by the verdict on the DOL's header.
 -- Assumes nothing.
-use mathlib.Core.Path.{_≡_, sym, ap, _∙_}
+use mathlib.Core.Path.{sym, ap, _∙_}
 use denote.Ref.{now}
 use Rattle.refusal.specs.declared.Verdict.{Verdict}
 use Rattle.disc.specs.Calls.{dolAs}

@@ -1,11 +1,9 @@
 -- `disc::executable::open_dol` meets its contract, by the two cases of a prepared image.
 -- Assumes nothing.
-use mathlib.Core.Path.{_≡_, sym, ap, _∙_}
-use native.Mathlib.Omega.{arith}
 use lib.ListN.{length}
 use denote.Ref.{now}
 use Rattle.disc.specs.Calls.{dolVerdict, openDolAnswer}
-use Rattle.disc.specs.CallLaws.{was-ready, was-refused}
+use Rattle.disc.specs.Laws.CallLaws.{was-ready, was-refused}
 use borrow.Author.Needs.{needs}
 use Rattle.disc.proofs.executable.open_dol.Statement.{statement}
 use Rattle.disc.proofs.executable.open_dol.Tie as tie

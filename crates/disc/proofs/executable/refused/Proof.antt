@@ -1,9 +1,5 @@
 -- `disc::executable::refused` meets its contract: a header of zeros, and an empty window.
 -- Assumes nothing.
-use mathlib.Core.Path.{_≡_, sym, ap, _∙_}
-use native.Mathlib.Omega.{arith}
-use lib.ListN.{length}
-use denote.Ref.{now}
 use borrow.Author.Needs.{needs}
 use Rattle.disc.proofs.executable.refused.Statement.{statement}
 use Rattle.disc.proofs.executable.refused.Tie as tie

@@ -1,13 +1,10 @@
 -- `disc::files::entry_in` meets its contract, by the two cases of a prepared image.
 -- Assumes nothing.
-use mathlib.Core.Path.{_≡_, sym, ap, _∙_}
-use native.Mathlib.Omega.{arith}
 use lib.ListN.{length}
 use denote.Ref.{now}
-use Rattle.disc.specs.Opening.{opening, tableOf, nodesIn}
-use Rattle.disc.specs.OpeningLaws.{table-accepted}
-use Rattle.disc.specs.CallLaws.{was-ready, was-refused}
-use Rattle.fst.specs.Reading.{Opens}
+use Rattle.opening.specs.Opening.{nodesIn}
+use Rattle.opening.specs.Laws.OpeningLaws.{table-accepted}
+use Rattle.disc.specs.Laws.CallLaws.{was-ready, was-refused}
 use Rattle.disc.specs.Calls.{entryAnswer}
 use borrow.Author.Needs.{needs}
 use Rattle.disc.proofs.files.entry_in.Statement.{statement}

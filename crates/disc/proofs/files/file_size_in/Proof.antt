@@ -1,8 +1,6 @@
 -- `disc::files::file_size_in` meets its contract, by the cases of the entry's answer.
 -- Assumes nothing.
-use mathlib.Core.Path.{_≡_, sym, ap, _∙_}
-use lib.ListN.{length}
-use denote.Ref.{now}
+use mathlib.Core.Path.{sym, _∙_}
 use Rattle.disc.specs.Calls.{maxFileSizeAnswer}
 use borrow.Author.Needs.{needs}
 use Rattle.disc.proofs.files.file_size_in.Statement.{statement}

@@ -1,14 +1,11 @@
 -- `disc::files::lookup_in` meets its contract, by the two cases of a prepared image and the length of the path.
 -- Assumes nothing.
-use mathlib.Core.Path.{_≡_, sym, ap, _∙_}
 use native.Mathlib.Omega.{arith}
 use lib.ListN.{length}
 use denote.Ref.{now}
-use Rattle.disc.specs.Opening.{opening, tableOf, nodesIn}
-use Rattle.disc.specs.OpeningLaws.{table-accepted}
-use Rattle.disc.specs.CallLaws.{was-ready, was-refused}
-use Rattle.fst.specs.Reading.{Opens}
-use Prim.Native.Nat.{_<_, _≤_}
+use Rattle.opening.specs.Opening.{nodesIn}
+use Rattle.opening.specs.Laws.OpeningLaws.{table-accepted}
+use Rattle.disc.specs.Laws.CallLaws.{was-ready, was-refused}
 use borrow.Author.Tests.{lt-ltb, le-ltb}
 use Rattle.disc.specs.Calls.{lookupAnswer}
 use borrow.Author.Needs.{needs}

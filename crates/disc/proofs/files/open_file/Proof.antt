@@ -1,9 +1,6 @@
 -- `disc::files::open_file` meets its contract: the window of the entry's answer.
 -- Assumes nothing.
-use mathlib.Core.Path.{_≡_, sym, ap, _∙_}
-use native.Mathlib.Omega.{arith}
-use lib.ListN.{length}
-use denote.Ref.{now}
+use mathlib.Core.Path.{ap, _∙_}
 use Rattle.disc.specs.Calls.{windowAnswer, openFileAnswer}
 use borrow.Author.Needs.{needs}
 use Rattle.disc.proofs.files.open_file.Statement.{statement}

@@ -1,11 +1,9 @@
 -- `disc::files::table` meets its contract: the bounds passed, so the table lies in the image.
 -- Assumes nothing.
-use mathlib.Core.Path.{_≡_, sym, ap, _∙_}
 use native.Mathlib.Omega.{arith}
-use lib.ListN.{length}
 use denote.Ref.{now}
-use Rattle.disc.specs.OpeningLaws.{Readable, OpenImage, opens}
-use Rattle.disc.proofs.Tests.{part-table}
+use Rattle.opening.specs.Laws.OpeningLaws.{Readable, opens}
+use Rattle.opening.proofs.Tests.{part-table}
 use borrow.Author.Needs.{needs}
 use Rattle.disc.proofs.files.table.Statement.{statement}
 use Rattle.disc.proofs.files.table.Tie as tie

@@ -1,9 +1,6 @@
 -- `disc::files::window_of` meets its contract, by the cases of the answer.
 -- Assumes nothing.
-use mathlib.Core.Path.{_≡_, sym, ap, _∙_}
-use native.Mathlib.Omega.{arith}
-use lib.ListN.{length}
-use denote.Ref.{now}
+use mathlib.Core.Path.{ap}
 use Rattle.disc.specs.declared.WindowAnswer.the-variants as answer
 use borrow.Author.Needs.{needs}
 use Rattle.disc.proofs.files.window_of.Statement.{statement}

@@ -1,8 +1,5 @@
 -- `disc::listing::entries` meets its contract: the prepared image gives the answer and the list, and the words are zeroed.
 -- Assumes nothing.
-use mathlib.Core.Path.{_≡_, sym, ap, _∙_}
-use lib.ListN.{length}
-use denote.Ref.{now}
 use borrow.Author.Needs.{needs}
 use Rattle.disc.proofs.listing.entries.Statement.{statement}
 use Rattle.disc.proofs.listing.entries.Tie as tie

@@ -6,11 +6,11 @@ use lib.ListN.{length}
 use denote.Ref.{now}
 use Rattle.refusal.specs.declared.Verdict.the-variants.{Passed}
 use Rattle.disc.specs.declared.Opened.the-variants as opened
-use Rattle.disc.specs.Opening.{opening}
-use Rattle.disc.specs.OpeningLaws.{Readable, OpenImage, opens, table-accepted}
-use Rattle.disc.specs.CallLaws.{was-ready, was-refused}
+use Rattle.opening.specs.Opening.{opening}
+use Rattle.opening.specs.Laws.OpeningLaws.{Readable, opens, table-accepted}
+use Rattle.disc.specs.Laws.CallLaws.{was-ready, was-refused}
 use Rattle.disc.specs.Calls.{entriesAnswer, entriesList}
-use Rattle.disc.proofs.Tests.{table-ends}
+use Rattle.opening.proofs.Tests.{table-ends}
 use borrow.Author.Needs.{needs}
 use Rattle.disc.proofs.listing.entries_in.Statement.{statement}
 use Rattle.disc.proofs.listing.entries_in.Tie as tie

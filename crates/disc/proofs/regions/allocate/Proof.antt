@@ -1,9 +1,5 @@
 -- `disc::regions::allocate` meets its contract: the prepared image gives the answer, and the words are zeroed.
 -- Assumes nothing.
-use mathlib.Core.Path.{_≡_, sym, ap, _∙_}
-use native.Mathlib.Omega.{arith}
-use lib.ListN.{length}
-use denote.Ref.{now}
 use borrow.Author.Needs.{needs}
 use Rattle.disc.proofs.regions.allocate.Statement.{statement}
 use Rattle.disc.proofs.regions.allocate.Tie as tie

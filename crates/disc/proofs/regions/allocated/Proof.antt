@@ -1,16 +1,13 @@
 -- `disc::regions::allocated` meets its contract, by the two cases of a prepared image.
 -- Assumes nothing.
-use mathlib.Core.Path.{_≡_, sym, ap, _∙_}
-use native.Mathlib.Omega.{arith}
+use mathlib.Core.Path.{ap, _∙_}
 use lib.ListN.{length}
 use denote.Ref.{now}
-use Rattle.refusal.specs.declared.Verdict.{Verdict}
-use Rattle.disc.specs.Opening.{opening, freeOf, usedOf, discOf, openedAs, openedOf}
-use Rattle.header.specs.Verdicts.{discEnd}
-use Rattle.disc.specs.CallLaws.{behind-passed, behind-refused, was-ready, was-refused}
-use Rattle.space.specs.Allocate.{allocationOf}
-use Rattle.space.specs.declared.Allocation.the-variants as answer
+use Rattle.opening.specs.Opening.{opening, freeOf}
 use Rattle.disc.specs.Calls.{allocateAnswer}
+use Rattle.disc.specs.Laws.CallLaws.{behind-passed, behind-refused, was-ready, was-refused}
+use Rattle.free_space.specs.Allocate.{allocationOf}
+use Rattle.free_space.specs.declared.Allocation.the-variants as answer
 use borrow.Author.Needs.{needs}
 use Rattle.disc.proofs.regions.allocated.Statement.{statement}
 use Rattle.disc.proofs.regions.allocated.Tie as tie

@@ -1,15 +1,12 @@
 -- `disc::regions::disc_of` meets its contract: each number is read where the definition has it.
 -- Assumes nothing.
-use mathlib.Core.Path.{_≡_, sym, ap, _∙_}
+use mathlib.Core.Path.{_∙_}
 use native.Mathlib.Omega.{arith}
 use lib.ListN.{length}
 use denote.Ref.{now}
-use Rattle.header.specs.Verdicts.{fstOffset, fstSize, discEnd}
-use Rattle.tree.specs.Table.{count}
-use Rattle.disc.specs.declared.Disc.{Disc}
-use Rattle.disc.specs.Opening.{tableOf, usedOf, discOf}
-use Rattle.disc.specs.OpeningLaws.{Readable, OpenImage, opens}
-use Rattle.disc.proofs.Tests.{count-is, disc-is}
+use Rattle.opening.specs.Laws.OpeningLaws.{Readable, opens}
+use Rattle.opening.proofs.Tests.{count-is}
+use Rattle.disc.proofs.Answers.{disc-is}
 use borrow.Author.Needs.{needs}
 use Rattle.disc.proofs.regions.disc_of.Statement.{statement}
 use Rattle.disc.proofs.regions.disc_of.Tie as tie

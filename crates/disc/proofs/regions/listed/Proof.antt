@@ -1,20 +1,16 @@
 -- `disc::regions::listed` meets its contract, by the two cases of a prepared image.
 -- Assumes nothing.
-use mathlib.Core.Path.{_≡_, sym, ap, _∙_}
-use native.Mathlib.Omega.{arith}
+use mathlib.Core.Path.{ap, _∙_}
 use lib.ListN.{length}
 use denote.Ref.{now}
-use Rattle.refusal.specs.declared.Verdict.{Verdict}
-use Rattle.disc.specs.Opening.{opening, freeOf, usedOf, discOf, openedAs, openedOf}
-use Rattle.header.specs.Verdicts.{discEnd}
-use Rattle.disc.specs.CallLaws.{behind-passed, behind-refused, was-ready, was-refused}
-use Prim.Native.Nat.{ℕ}
+use Rattle.opening.specs.Opening.{opening, freeOf}
+use Rattle.disc.specs.Calls.{freeRegionsAnswer, freeRegionsList}
+use Rattle.disc.specs.Laws.CallLaws.{behind-passed, behind-refused, was-ready, was-refused}
 use mathlib.Core.List.{List}
 use Rattle.refusal.specs.declared.Refusal.{Refusal}
 use Rattle.space.specs.declared.DiscRegion.{DiscRegion}
-use Rattle.space.specs.Listing.{listingOf, listAfter}
-use Rattle.space.specs.declared.Listing.the-variants as answer
-use Rattle.disc.specs.Calls.{freeRegionsAnswer, freeRegionsList}
+use Rattle.free_space.specs.Listing.{listingOf, listAfter}
+use Rattle.free_space.specs.declared.Listing.the-variants as answer
 use borrow.Author.Needs.{needs}
 use Rattle.disc.proofs.regions.listed.Statement.{statement}
 use Rattle.disc.proofs.regions.listed.Tie as tie

@@ -1,13 +1,10 @@
 -- `disc::regions::opened` meets its contract, by the two cases of a prepared image.
 -- Assumes nothing.
-use mathlib.Core.Path.{_≡_, sym, ap, _∙_}
-use native.Mathlib.Omega.{arith}
+use mathlib.Core.Path.{sym, ap, _∙_}
 use lib.ListN.{length}
 use denote.Ref.{now}
-use Rattle.refusal.specs.declared.Verdict.{Verdict}
-use Rattle.disc.specs.Opening.{opening, freeOf, usedOf, discOf, openedAs, openedOf}
-use Rattle.header.specs.Verdicts.{discEnd}
-use Rattle.disc.specs.CallLaws.{behind-passed, behind-refused, was-ready, was-refused}
+use Rattle.disc.specs.Calls.{openedAs, openedOf}
+use Rattle.disc.specs.Laws.CallLaws.{was-ready, was-refused}
 use Rattle.disc.specs.declared.Opened.the-variants as opened
 use borrow.Author.Needs.{needs}
 use Rattle.disc.proofs.regions.opened.Statement.{statement}

@@ -1,17 +1,14 @@
 -- `disc::regions::totaled` meets its contract, by the two cases of a prepared image.
 -- Assumes nothing.
-use mathlib.Core.Path.{_≡_, sym, ap, _∙_}
-use native.Mathlib.Omega.{arith}
+use mathlib.Core.Path.{ap, _∙_}
 use lib.ListN.{length}
 use denote.Ref.{now}
-use Rattle.refusal.specs.declared.Verdict.{Verdict}
-use Rattle.disc.specs.Opening.{opening, freeOf, usedOf, discOf, openedAs, openedOf}
-use Rattle.header.specs.Verdicts.{discEnd}
-use Rattle.disc.specs.CallLaws.{behind-passed, behind-refused, was-ready, was-refused}
-use Rattle.disc.specs.declared.Disc.{Disc}
-use Rattle.disc.specs.declared.TotalsAnswer.{TotalsAnswer}
-use Rattle.disc.specs.declared.TotalsAnswer.the-variants as answer
+use Rattle.opening.specs.Opening.{opening, usedOf}
 use Rattle.disc.specs.Calls.{totalsAnswer}
+use Rattle.header.specs.Verdicts.{discEnd}
+use Rattle.disc.specs.Laws.CallLaws.{behind-passed, behind-refused, was-ready, was-refused}
+use Rattle.disc.specs.declared.Disc.{Disc}
+use Rattle.disc.specs.declared.TotalsAnswer.the-variants as answer
 use borrow.Author.Needs.{needs}
 use Rattle.disc.proofs.regions.totaled.Statement.{statement}
 use Rattle.disc.proofs.regions.totaled.Tie as tie

@@ -1,6 +1,6 @@
 -- `fst::children::child` meets its contract: a name with a zero byte is that of no entry.
 -- Assumes nothing.
-use mathlib.Core.Path.{_≡_, sym, _∙_}
+use mathlib.Core.Path.{sym, _∙_}
 use Rattle.fst.proofs.Comparing.{child-none}
 use borrow.Author.Needs.{needs}
 use Rattle.fst.proofs.children.child.Statement.{statement}

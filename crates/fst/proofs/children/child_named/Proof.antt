@@ -4,17 +4,17 @@
 use native.Mathlib.Omega.{arith}
 use Prim.Native.Nat.{ℕ, _-_, _<_}
 use mathlib.Core.Path.{_≡_, sym, _∙_}
-use mathlib.Core.Bool.{Bool, true, false}
+use mathlib.Core.Bool.{Bool, false}
 use mathlib.Core.List.{List}
 use lib.ListN.{getD}
 use Rattle.endian.specs.Bytes.{sameBytes}
-use Rattle.tree.specs.Table.{none, count, nameOf, nodesOf, WellFormed}
+use Rattle.tree.specs.Table.{none, count, nameOf, nodesOf, namePlace}
+use Rattle.tree.specs.Inner.WellFormed.{WellFormed}
 use Rattle.tree.specs.Lookup.{nextOf}
-use Rattle.tree.specs.Accepted.{length-nodesOf}
-use Rattle.fst.specs.Reading.{textAt}
-use Rattle.fst.specs.Rows.{namePlace}
+use Rattle.tree.specs.Laws.Accepted.{length-nodesOf}
+use Rattle.fst_check.specs.Inner.Reading.{textAt}
 use Rattle.fst.proofs.Nodes.{opened, opens-inside}
-use Rattle.fst.proofs.RowLaws.{place-inside}
+use Rattle.fst.proofs.NamePlaces.{place-inside}
 use Rattle.fst.proofs.Ended.{name-there, place-some}
 use Rattle.fst.proofs.ChildLaws.{Searching, search-start, search-found, search-turn, search-end, next-le, after-past}
 use borrow.Author.Needs.{needs}

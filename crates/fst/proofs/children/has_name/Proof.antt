@@ -1,7 +1,7 @@
 -- `fst::children::has_name` meets its contract: a place is not 0, so that where it is `differs`, that text is another.
 -- Assumes nothing.
 use native.Mathlib.Omega.{arith}
-use mathlib.Core.Path.{_≡_, sym}
+use mathlib.Core.Path.{sym}
 use borrow.Author.Needs.{needs}
 use Rattle.fst.proofs.children.has_name.Statement.{statement}
 use Rattle.fst.proofs.children.has_name.Tie as tie

@@ -1,12 +1,9 @@
 -- `fst::entries::entry` meets its contract: the count is the number of entries.
 -- Assumes nothing.
 use native.Mathlib.Omega.{arith}
-use mathlib.Core.Path.{_≡_, sym, _∙_}
-use Prim.Native.Nat.{_<_}
 use borrow.Author.Tests.{lt-ltb, le-ltb}
-use lib.ListN.{length}
-use Rattle.tree.specs.Table.{count, nodesOf}
-use Rattle.tree.specs.Accepted.{length-nodesOf}
+use Rattle.tree.specs.Table.{count}
+use Rattle.tree.specs.Laws.Accepted.{length-nodesOf}
 use Rattle.fst.proofs.Nodes.{opens-inside}
 use borrow.Author.Needs.{needs}
 use Rattle.fst.proofs.entries.entry.Statement.{statement}

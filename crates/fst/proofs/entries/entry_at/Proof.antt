@@ -1,8 +1,6 @@
 -- `fst::entries::entry_at` meets its contract: by the entry's kind.
 -- Assumes nothing.
 use native.Mathlib.Omega.{arith}
-use mathlib.Core.Path.{_≡_}
-use Rattle.tree.specs.Table.{none, nodesOf, parentOf}
 use Rattle.fst.proofs.Nodes.{opened, opens-inside, file-is, directory-is}
 use borrow.Author.Needs.{needs}
 use Rattle.fst.proofs.entries.entry_at.Statement.{statement}

@@ -1,10 +1,8 @@
 -- `fst::entries::name_place` meets its contract: the name offset behind the entries.
 -- Assumes nothing.
 use native.Mathlib.Omega.{arith}
-use Prim.Native.Nat.{_+_, _*_}
-use mathlib.Core.Path.{_≡_}
 use Rattle.fst.proofs.Nodes.{opens-inside}
-use Rattle.fst.proofs.RowLaws.{place-is}
+use Rattle.fst.proofs.NamePlaces.{place-is}
 use borrow.Author.Needs.{needs}
 use Rattle.fst.proofs.entries.name_place.Statement.{statement}
 use Rattle.fst.proofs.entries.name_place.Tie as tie

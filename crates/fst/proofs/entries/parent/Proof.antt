@@ -1,7 +1,7 @@
 -- `fst::entries::parent` meets its contract. The invariant of its loop: no directory from i on encloses the entry.
 -- Assumes nothing.
 use native.Mathlib.Omega.{arith}
-use Prim.Native.Nat.{_-_, _≤_}
+use Prim.Native.Nat.{_≤_}
 use mathlib.Core.Path.{_≡_, sym, _∙_}
 use Rattle.tree.specs.Table.{nodesOf, parentOf, parentBelow}
 use Rattle.fst.proofs.Nodes.{parent-found, parent-on, parent-whole, parent-none}

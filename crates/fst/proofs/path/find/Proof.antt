@@ -1,11 +1,10 @@
 -- `fst::path::find` meets its contract: an entry that a lookup gives is in the table.
 -- Assumes nothing.
 use native.Mathlib.Omega.{arith}
-use mathlib.Core.Path.{_≡_, sym, _∙_}
+use mathlib.Core.Path.{sym, _∙_}
 use borrow.Author.Tests.{lt-ltb}
 use lib.ListN.{length}
 use Rattle.tree.specs.Table.{nodesOf}
-use Rattle.tree.specs.Accepted.{length-nodesOf}
 use Rattle.fst.proofs.Nodes.{opened}
 use Rattle.fst.proofs.PathLaws.{lookup-inside}
 use borrow.Author.Needs.{needs}

@@ -2,10 +2,10 @@
 -- Assumes nothing.
 use native.Mathlib.Omega.{arith}
 use Prim.Native.Nat.{ℕ, _-_}
-use mathlib.Core.Path.{_≡_, sym, _∙_}
+use mathlib.Core.Path.{sym, _∙_}
 use lib.ListN.{length, length-replicate}
 use Rattle.tree.specs.Table.{nodesOf}
-use Rattle.tree.specs.Accepted.{length-nodesOf}
+use Rattle.tree.specs.Laws.Accepted.{length-nodesOf}
 use Rattle.fst.proofs.Nodes.{opened}
 use Rattle.fst.proofs.PathLaws.{Following, follow-start, follow-refused, follow-end, follow-turn, step-lands}
 use borrow.Author.Needs.{needs}

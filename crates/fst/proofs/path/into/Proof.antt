@@ -1,6 +1,5 @@
 -- `fst::path::into` meets its contract: by what the search for a child answered.
 -- Assumes nothing.
-use mathlib.Core.Path.{_≡_}
 use borrow.Author.Needs.{needs}
 use Rattle.fst.proofs.path.into.Statement.{statement}
 use Rattle.fst.proofs.path.into.Tie as tie

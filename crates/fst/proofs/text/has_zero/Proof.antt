@@ -6,7 +6,7 @@ use mathlib.Core.Path.{_≡_, refl, sym, _∙_}
 use mathlib.Core.Bool.{true, false}
 use borrow.Author.Tests.{eq-eqb, ne-eqb}
 use lib.ListN.{length, drop}
-use Rattle.fst.specs.Zeros.{hasZero}
+use Rattle.fst.specs.Inner.Zeros.{hasZero}
 use Rattle.fst.proofs.Comparing.{zero-turn, zero-past}
 use Rattle.fst.proofs.text.has_zero.Statement.{statement}
 use Rattle.fst.proofs.text.has_zero.Tie as tie

@@ -1,7 +1,7 @@
 -- `fst::text::text_is` meets its contract: a text of n bytes has its end n bytes on, so that where it is, the n bytes decide.
 -- Assumes nothing.
 use native.Mathlib.Omega.{arith}
-use mathlib.Core.Path.{_≡_, sym, _∙_}
+use mathlib.Core.Path.{sym, _∙_}
 use Rattle.fst.proofs.Comparing.{text-short, text-longer, text-exact}
 use borrow.Author.Needs.{needs}
 use Rattle.fst.proofs.text.text_is.Statement.{statement}

@@ -2,10 +2,10 @@
 -- Assumes nothing.
 use mathlib.Core.Path.{_≡_, sym, _∙_}
 use Rattle.refusal.specs.declared.Verdict.the-variants.{Passed}
-use Rattle.refusal.specs.Laws.{not-refused}
+use Rattle.refusal.specs.Laws.Chains.{not-refused}
 use Rattle.header.specs.Verdicts.{headerVerdict}
 use Rattle.header.specs.Header.{headerOf}
-use Rattle.header.specs.Laws.{header-passed}
+use Rattle.header.specs.Laws.FieldTests.{header-passed}
 use Rattle.header.proofs.Answers.{answer-refused, answer-passed}
 use borrow.Author.Needs.{needs}
 use Rattle.header.proofs.DiscHeader.read_from.Statement.{statement}

@@ -1,13 +1,11 @@
 -- `insert::opened::add_entry` meets its contract: what grew stands in the bytes; what could not cannot be written.
 -- Assumes nothing.
-use Rattle.insert.proofs.InsertionLaws.{built-is, unbuilt-decided, same-decided}
-use Rattle.insert.proofs.GrowthLaws.{bigger-added}
-use Rattle.tree.specs.Growing.{bigger-same}
-use Rattle.insert.specs.Growth.{treeIn, added}
+use Rattle.grow.proofs.NumberLaws.{built-is, unbuilt-decided, same-decided}
+use Rattle.grow.proofs.GrowthLaws.{bigger-added}
+use Rattle.tree.specs.Laws.Growing.{bigger-same}
+use Rattle.grow.specs.Inner.Growth.{treeIn, added}
 use lib.ListN.{length}
 use denote.Ref.{now}
-use mathlib.Core.Path.{_≡_, sym, _∙_}
-use native.Mathlib.Omega.{arith}
 use borrow.Author.Needs.{needs}
 use Rattle.insert.proofs.opened.add_entry.Statement.{statement}
 use Rattle.insert.proofs.opened.add_entry.Tie as tie

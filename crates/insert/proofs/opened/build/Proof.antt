@@ -1,15 +1,15 @@
 -- `insert::opened::build` meets its contract: the tree of the image stands in the bytes, or cannot, and then neither can a larger one.
 -- Assumes nothing.
-use Rattle.insert.proofs.InsertionLaws.{well-open, built-is, unbuilt-decided, same-decided}
-use Rattle.insert.proofs.GrowthLaws.{bigger-added}
-use Rattle.insert.specs.Growth.{IsDirectory, added}
-use Rattle.disc.specs.OpeningLaws.{opens}
-use Rattle.disc.specs.Opening.{nodesIn}
+use Rattle.grow.proofs.NumberLaws.{well-open, built-is, unbuilt-decided, same-decided}
+use Rattle.grow.proofs.GrowthLaws.{bigger-added}
+use Rattle.grow.specs.Inner.Growth.{added}
+use Rattle.opening.specs.Laws.OpeningLaws.{opens}
+use Rattle.opening.specs.Opening.{nodesIn}
 use Rattle.tree.specs.Table.{Node}
 use lib.ListN.{length}
 use denote.Ref.{now}
 use mathlib.Core.List.{List}
-use mathlib.Core.Path.{_≡_, sym, ap, _∙_}
+use mathlib.Core.Path.{ap}
 use native.Mathlib.Omega.{arith}
 use borrow.Author.Needs.{needs}
 use Rattle.insert.proofs.opened.build.Statement.{statement}

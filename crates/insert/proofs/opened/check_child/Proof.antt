@@ -1,7 +1,7 @@
 -- `insert::opened::check_child` meets its contract: each return by the tests that led there.
 -- Assumes nothing.
 use borrow.Author.Tests.{not-true, not-false}
-use Rattle.edit.specs.Edits.{isFound}
+use Rattle.edits.specs.Edits.{isFound}
 use Rattle.tree.specs.Lookup.{isDirectory, childOf}
 use Rattle.tree.specs.Table.{none, nodesOf, plain}
 use lib.ListN.{getD}

@@ -2,8 +2,8 @@
 -- Assumes nothing.
 use borrow.Author.Tests.{le-leb, lt-leb, not-true, not-false}
 use Rattle.fst.proofs.Nodes.{opens-inside}
-use Rattle.edit.specs.Edits.{insertVerdict}
-use Rattle.tree.specs.Accepted.{length-nodesOf}
+use Rattle.edits.specs.Edits.{insertVerdict}
+use Rattle.tree.specs.Laws.Accepted.{length-nodesOf}
 use Rattle.tree.specs.Table.{nodesOf, safe}
 use lib.ListN.{length}
 use lib.Dec.{leb}
@@ -11,7 +11,6 @@ use denote.Ref.{now}
 use mathlib.Core.Bool.{true, false}
 use mathlib.Core.Path.{_≡_, sym, _∙_}
 use native.Mathlib.Omega.{arith}
-use Prim.Native.Nat.{_≤_, _<_}
 use borrow.Author.Needs.{needs}
 use Rattle.insert.proofs.opened.check_insert.Statement.{statement}
 use Rattle.insert.proofs.opened.check_insert.Tie as tie

@@ -1,15 +1,13 @@
 -- `insert::opened::insert` meets its contract: refused by its own tests, or the tree that was built with the number that was found.
 -- Assumes nothing.
-use Rattle.insert.proofs.InsertionLaws.{number-refused, number-at, insert-allows, plan-insert, change-numbered, behind-numbered, behind-refused-numbered}
-use Rattle.insert.specs.Inserts.{Numbered, grownAs}
-use Rattle.insert.specs.Growth.{added}
-use Rattle.edit.specs.Edits.{tableOnly, newNumber, insertVerdict, planned, numberedAs}
-use Rattle.edit.specs.Change.{change}
-use Rattle.disc.specs.Opening.{nodesIn}
+use Rattle.grow.proofs.NumberLaws.{number-refused, number-at, insert-allows, plan-insert, change-numbered, behind-numbered, behind-refused-numbered}
+use Rattle.grow.specs.Inner.Growth.{added}
+use Rattle.edits.specs.Edits.{tableOnly, newNumber, insertVerdict}
+use Rattle.edits.specs.Change.{change}
+use Rattle.opening.specs.Opening.{nodesIn}
 use lib.ListN.{length}
 use denote.Ref.{now}
-use mathlib.Core.Path.{_≡_, sym, ap, _∙_}
-use native.Mathlib.Omega.{arith}
+use mathlib.Core.Path.{sym, _∙_}
 use borrow.Author.Needs.{needs}
 use Rattle.insert.proofs.opened.insert.Statement.{statement}
 use Rattle.insert.proofs.opened.insert.Tie as tie

@@ -1,18 +1,16 @@
 -- `insert::opened::new_number` meets its contract: the number is the directory's next.
 -- Assumes nothing.
-use Rattle.insert.proofs.InsertionLaws.{insert-allows}
-use Rattle.insert.proofs.GrowthLaws.{is-directory}
-use Rattle.edit.specs.Edits.{insertVerdict, newNumber, numberedAs}
-use Rattle.tree.specs.Nesting.{next-bounds}
-use Rattle.tree.specs.Accepted.{length-nodesOf, accepted}
+use Rattle.grow.proofs.NumberLaws.{insert-allows}
+use Rattle.grow.proofs.GrowthLaws.{is-directory}
+use Rattle.edits.specs.Edits.{insertVerdict}
+use Rattle.tree.specs.Laws.Nesting.{next-bounds}
+use Rattle.tree.specs.Laws.Accepted.{length-nodesOf, accepted}
 use Rattle.tree.specs.Table.{none, nodesOf}
-use Rattle.refusal.specs.declared.Verdict.{Verdict}
 use Rattle.refusal.specs.declared.Verdict.the-variants.{Passed}
-use lib.ListN.{length, getD}
+use lib.ListN.{getD}
 use denote.Ref.{now}
-use mathlib.Core.Path.{_≡_, sym, ap, _∙_}
+use mathlib.Core.Path.{_≡_, sym, _∙_}
 use native.Mathlib.Omega.{arith}
-use Prim.Native.Nat.{_<_}
 use borrow.Author.Needs.{needs}
 use Rattle.insert.proofs.opened.new_number.Statement.{statement}
 use Rattle.insert.proofs.opened.new_number.Tie as tie

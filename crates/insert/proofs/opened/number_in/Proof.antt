@@ -1,17 +1,15 @@
 -- `insert::opened::number_in` meets its contract: the slice is the table.
 -- Assumes nothing.
-use Rattle.edit.proofs.Images.{checked}
-use Rattle.edit.specs.Edits.{insertVerdict, newNumber, numberedAs}
-use Rattle.disc.proofs.Tests.{part-table}
-use Rattle.disc.specs.OpeningLaws.{OpenImage, opens}
-use Rattle.disc.specs.Opening.{nodesIn}
+use Rattle.commit.proofs.Images.{checked}
+use Rattle.edits.specs.Edits.{insertVerdict, newNumber, numberedAs}
+use Rattle.opening.proofs.Tests.{part-table}
+use Rattle.opening.specs.Laws.OpeningLaws.{OpenImage, opens}
+use Rattle.opening.specs.Opening.{nodesIn}
 use Rattle.tree.specs.Table.{nodesOf}
-use Rattle.tree.specs.declared.Located.{Located}
-use lib.ListN.{length}
 use denote.Ref.{now}
 use Prim.Native.Nat.{ℕ}
 use mathlib.Core.List.{List}
-use mathlib.Core.Path.{_≡_, sym, ap, _∙_}
+use mathlib.Core.Path.{ap, _∙_}
 use native.Mathlib.Omega.{arith}
 use borrow.Author.Needs.{needs}
 use Rattle.insert.proofs.opened.number_in.Statement.{statement}

@@ -2,7 +2,7 @@
 -- Assumes nothing.
 use mathlib.Core.Path.{sym}
 use lib.Seq.{length-take-le}
-use Rattle.insert.specs.Growth.{treeIn}
+use Rattle.grow.specs.Inner.Growth.{treeIn}
 use borrow.Author.Needs.{needs}
 use Rattle.make_directories.proofs.making.child.Statement.{statement}
 use Rattle.make_directories.proofs.making.child.Tie as tie

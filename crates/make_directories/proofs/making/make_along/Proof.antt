@@ -8,9 +8,9 @@ use mathlib.Core.List.{[]}
 use denote.Ref.{now}
 use lib.ListN.{length}
 use Rattle.tree.specs.Lookup.{components}
-use Rattle.edit.specs.Edits.{make}
-use Rattle.insert.specs.Growth.{treeIn}
-use Rattle.make_directories.specs.Making.{madeTree, madeEntry}
+use Rattle.edits.specs.Edits.{make}
+use Rattle.grow.specs.Inner.Growth.{treeIn}
+use Rattle.make_directories.specs.Inner.Making.{madeTree, madeEntry}
 use Rattle.make_directories.proofs.Turns.{Making, making-start, making-can, making-refused, making-end, making-turn}
 use borrow.Author.Needs.{needs}
 use Rattle.make_directories.proofs.making.make_along.Statement.{statement}

@@ -3,7 +3,7 @@
 use mathlib.Core.Path.{_≡_, refl, sym, _∙_}
 use mathlib.Core.Bool.{true, false}
 use Rattle.tree.specs.Lookup.{stays, goesBack}
-use Rattle.make_directories.specs.Making.{turnOf}
+use Rattle.make_directories.specs.Inner.Making.{turnOf}
 use borrow.Author.Needs.{needs}
 use Rattle.make_directories.proofs.making.take_step.Statement.{statement}
 use Rattle.make_directories.proofs.making.take_step.Tie as tie

@@ -9,7 +9,7 @@ use lib.ListN.{length}
 use denote.Ref.{now}
 use borrow.Author.Needs.{needs}
 use Rattle.endian.specs.Bytes.{put, span}
-use Rattle.endian.specs.Laws.{put-none}
+use Rattle.endian.specs.Laws.Stored.{put-none}
 use Rattle.window.specs.declared.Window.{Window}
 use Rattle.window.specs.declared.BytesRead.{BytesRead}
 use Rattle.window.specs.Window.{movedOn, countOf, readOf, bufferOf}

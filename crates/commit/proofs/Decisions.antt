@@ -1,0 +1,112 @@
+-- When a decision is what a plan comes to: behind tests that passed or refused, for a whole edit, and for a change that is written.
+-- Assumes nothing.
+use Prim.Native.Nat.{ℕ}
+use mathlib.Core.Path.{_≡_, refl, sym, ap, _∙_}
+use mathlib.Core.Bool.{cond}
+use mathlib.Core.List.{List}
+use native.Mathlib.Omega.{arith}
+use lib.ListN.{length}
+use Rattle.endian.specs.Bytes.{span}
+use Rattle.refusal.specs.declared.Refusal.{Refusal}
+use Rattle.refusal.specs.declared.Verdict.{Verdict}
+use Rattle.refusal.specs.declared.Verdict.the-variants.{Passed, Refused}
+use Rattle.refusal.specs.Refusal.{first, isRefused}
+use Rattle.tree.specs.Table.{Node, encode}
+use Rattle.tree.specs.Insert.{setPlace}
+use Rattle.tree.specs.Laws.PlaceLaws.{length-setPlace, texts-setPlace, limits-setPlace}
+use Rattle.tree.specs.Laws.RoundTrip.{length-encode}
+use Rattle.opening.specs.Opening.{opening}
+use Rattle.commit.specs.declared.Writing.{Writing}
+use Rattle.commit.specs.declared.Decision.{Decision}
+use Rattle.commit.specs.declared.Decision.the-variants as decision
+use Rattle.commit.specs.declared.TableSize.the-variants as table
+use Rattle.edits.specs.Change.{written, tableVerdict, Plan, change, placeVerdict}
+use Rattle.edits.specs.Edits.{Edit, planned, planOf, planVerdict, planImage, verdictOf, imageAfter}
+use Rattle.opening.specs.declared.Prepared.{Prepared}
+use Rattle.opening.specs.declared.Prepared.the-variants as prepared
+use Rattle.opening.specs.Inner.Prepared.{Prepares, IsOpen}
+use Rattle.commit.specs.Inner.Decision.{changeWith, placing, writtenWith, Fits, sizedAs, carriedVerdict, carriedImage, Decided}
+
+pub planned-first : (a b : Verdict) (p : Plan) → planned (first a b) p ≡ planned a (planned b p)
+planned-first Passed b p = refl
+planned-first (Refused c) b p = refl
+
+-- the size of a table that passed, and the cause of one that did not
+pub sized-passed : (v : Verdict) (n size : ℕ) → sizedAs v n ≡ table.Bytes size → (v ≡ Passed) × (size ≡ n)
+sized-passed Passed n size e = (refl, cc)
+sized-passed (Refused c) n size e = let z : _≡_ {A = ℕ} 0 1 = cc in absurd (omega arith)
+
+pub sized-refused : (v : Verdict) (n : ℕ) (c : Refusal) → sizedAs v n ≡ table.Refused c → v ≡ Refused c
+sized-refused Passed n c e = let z : _≡_ {A = ℕ} 0 1 = cc in absurd (omega arith)
+sized-refused (Refused d) n c e = cc
+
+written-same : (image : List ℕ) (nodes : List Node) (w : Writing) → writtenWith w (encode nodes) image ≡ written (changeWith nodes w) image
+unfolding writtenWith written
+written-same image nodes w = refl
+
+module _ (image : List ℕ) (words room : ℕ) (bytes : List ℕ) where
+  pub refused-decided : (p : Plan) (c : Refusal) → planVerdict p image words room ≡ Refused c → Decided p image words room bytes (decision.Refused c)
+  refused-decided p c e = record {
+    fits = tt;
+    answer = sym e;
+    after = sym (ap (λ (v : Verdict). cond (isRefused v) image (planImage p image)) e);
+  }
+
+  pub behind-passed : (v : Verdict) (p : Plan) (d : Decision) → v ≡ Passed → Decided p image words room bytes d → Decided (planned v p) image words room bytes d
+  behind-passed Passed p d e h = h
+  behind-passed (Refused c) p d e h = let z : _≡_ {A = ℕ} 0 1 = cc in absurd (omega arith)
+
+  pub behind-refused : (v : Verdict) (p : Plan) (c : Refusal) → v ≡ Refused c → Decided (planned v p) image words room bytes (decision.Refused c)
+  behind-refused Passed p c e = let z : _≡_ {A = ℕ} 0 1 = cc in absurd (omega arith)
+  behind-refused (Refused d) p c e = refused-decided (planned (Refused d) p) c e
+
+  -- opening and the plan are the whole edit
+  pub edit-decided : (ed : Edit) (d : Decision) → Decided (planned (opening image words) (planOf ed image)) image words room bytes d →
+      (carriedVerdict d ≡ verdictOf ed image words room) × (carriedImage d bytes image ≡ imageAfter ed image words room)
+  unfolding verdictOf imageAfter
+  edit-decided ed d h = go (opening image words) h
+    where
+      go : (v : Verdict) → Decided (planned v (planOf ed image)) image words room bytes d →
+          (carriedVerdict d ≡ first v (planVerdict (planOf ed image) image words room)) × (carriedImage d bytes image ≡ cond (isRefused (first v (planVerdict (planOf ed image) image words room))) image (planImage (planOf ed image) image))
+      go Passed k = (k .answer, k .after)
+      go (Refused c) k = (k .answer, k .after)
+
+  -- a change whose tests passed, with its table in the working bytes
+  pub write-decided : (k : ℕ) (nodes : List Node) (size : ℕ) (w : Writing) → Fits image room size w → tableVerdict (changeWith nodes w) image words room ≡ Passed → span bytes 0 size ≡ encode nodes →
+      Decided (change k (changeWith nodes w)) image words room bytes (decision.Write size w)
+  write-decided k nodes size w f e s = record {
+    fits = f;
+    answer = sym e;
+    after = ap (λ (t : List ℕ). writtenWith w t image) s ∙ written-same image nodes w ∙ sym (ap (λ (v : Verdict). cond (isRefused v) image (written (changeWith nodes w) image)) e);
+  }
+
+-- ---- the tests of a tree that differs in a place only
+
+pub length-encode-setPlace : (o n k : ℕ) (nodes : List Node) → length (encode (setPlace k o n nodes)) ≡ length (encode nodes)
+length-encode-setPlace o n k nodes =
+    omega (arith, length-encode (setPlace k o n nodes), length-encode nodes, length-setPlace o n k nodes, ap length (texts-setPlace o n k nodes))
+
+pub same-tests : (image : List ℕ) (words room k o n : ℕ) (nodes : List Node) (w : Writing) →
+    tableVerdict (changeWith (setPlace k o n nodes) w) image words room ≡ tableVerdict (placing nodes (w .place)) image words room
+unfolding tableVerdict placeVerdict
+same-tests image words room k o n nodes w = rw (limits-setPlace o n k nodes words, length-encode-setPlace o n k nodes)
+
+-- ---- opening, then the plan
+
+-- the image is open, with the words that `prepare` left
+pub is-open : (image w w′ : List ℕ) (r : Prepared) (m : ℕ) → Prepares image (length w) w′ r → r ≡ prepared.Ready m → length w′ ≡ length w → IsOpen image w′ m
+is-open image w w′ r m p e l =
+    let q : Prepares image (length w) w′ (prepared.Ready m) = rw e at p in
+    record { passed = rw l (q .0); used = q .1 }
+
+pub open-decided : (image w w′ : List ℕ) (r : Prepared) (m room : ℕ) (bytes : List ℕ) (p : Plan) (d : Decision) → Prepares image (length w) w′ r → r ≡ prepared.Ready m → length w′ ≡ length w →
+    Decided p image (length w′) room bytes d → Decided (planned (opening image (length w)) p) image (length w) room bytes d
+open-decided image w w′ r m room bytes p d q e l h =
+    let o : Prepares image (length w) w′ (prepared.Ready m) = rw e at q in
+    behind-passed image (length w) room bytes (opening image (length w)) p d (o .0) (rw l at h)
+
+pub unopened-decided : (image w w′ : List ℕ) (r : Prepared) (c : Refusal) (room : ℕ) (bytes : List ℕ) (p : Plan) → Prepares image (length w) w′ r → r ≡ prepared.Refused c →
+    Decided (planned (opening image (length w)) p) image (length w) room bytes (decision.Refused c)
+unopened-decided image w w′ r c room bytes p q e =
+    let o : Prepares image (length w) w′ (prepared.Refused c) = rw e at q in
+    behind-refused image (length w) room bytes (opening image (length w)) p c o

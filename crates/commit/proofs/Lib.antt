@@ -1,0 +1,4 @@
+-- What the proofs of the functions cite.
+pub mod Decisions
+pub mod Images
+pub mod Puts

@@ -1,0 +1,43 @@
+-- `commit::written::carry_out` meets its contract, by the cases of the decision.
+-- Assumes nothing.
+use mathlib.Core.Path.{refl}
+use borrow.Author.Needs.{needs}
+use Rattle.commit.proofs.written.carry_out.Statement.{statement}
+use Rattle.commit.proofs.written.carry_out.Tie as tie
+
+enum-known-decision : tie.Need-enum-known-decision
+enum-known-decision c = search needs
+
+enum-told : tie.Need-enum-told
+enum-told c = search needs
+
+enum-known-decision-2 : tie.Need-enum-known-decision-2
+enum-known-decision-2 c = search needs
+
+write-change-requires : tie.Need-write-change-requires
+write-change-requires c κs = rw (c .before .before .decision2 .given .1) at (c .before .before .before .before .before .before .pre)
+
+returns : tie.Need-returns
+returns c = rw (c .before .decision .given .1) (refl, refl)
+
+returns-2 : tie.Need-returns-2
+returns-2 c = search needs
+
+same-length : tie.Need-same-length
+same-length c = search needs
+
+returns-3 : tie.Need-returns-3
+returns-3 c = rw (c .before .before .before .before .before .decision2 .given .1) (refl, c .before .before .write-change .ensures)
+
+pub carry-out-spec : {M : Type 1} → statement M
+carry-out-spec =
+    tie.close
+    (tie.spec
+    enum-known-decision
+    enum-told
+    enum-known-decision-2
+    write-change-requires
+    returns
+    returns-2
+    same-length
+    returns-3)

@@ -1,0 +1,92 @@
+-- What an edit decides on before it writes, and what a decision does to an image. The new table stands in the working bytes by then.
+-- Assumes nothing: these are definitions.
+use Prim.Native.Nat.{ℕ, _+_, _<_, _≤_, _^_}
+use mathlib.Core.Path.{_≡_}
+use mathlib.Core.Bool.{cond}
+use mathlib.Core.List.{List}
+use lib.ListN.{length, replicate}
+use Rattle.endian.specs.Bytes.{put, span}
+use Rattle.refusal.specs.declared.Verdict.{Verdict}
+use Rattle.refusal.specs.declared.Verdict.the-variants.{Passed, Refused}
+use Rattle.refusal.specs.Refusal.{isRefused}
+use Rattle.header.specs.Verdicts.{fstOffset, fstSize}
+use Rattle.tree.specs.Table.{Node}
+use Rattle.space.specs.declared.DiscRegion.{DiscRegion}
+use Rattle.commit.specs.declared.Writing.{Writing}
+use Rattle.commit.specs.declared.Decision.{Decision}
+use Rattle.commit.specs.declared.Decision.the-variants as decision
+use Rattle.commit.specs.declared.TableSize.{TableSize}
+use Rattle.commit.specs.declared.TableSize.the-variants as table
+use Rattle.edits.specs.Change.{Change, withTable, Plan}
+use Rattle.edits.specs.Edits.{noPlace, planVerdict, planImage}
+
+-- ---- an open image
+
+-- ---- the numbers of a change
+
+abbrev pub changeWith : List Node → Writing → Change
+changeWith nodes w = record { nodes = nodes; place = w .place; source = w .source; kept = w .kept; lost = record { offset = w .lost; size = w .«lost_size» } }
+
+-- a change with a place, for the tests of its table
+abbrev pub placing : List Node → DiscRegion → Change
+placing nodes place = record { nodes = nodes; place = place; source = 0; kept = 0; lost = noPlace }
+
+-- the image with the change written, where the table's bytes are these
+unfoldable pub writtenWith : Writing → List ℕ → List ℕ → List ℕ
+writtenWith w table image =
+    put (withTable (fstOffset image) (fstSize image) table (put image (w .place .offset) (span image (w .source) (w .kept)))) (w .lost) (replicate (w .«lost_size») 0)
+
+-- ---- the table's tests after the limits of the tree
+
+abbrev pub sizedAs : Verdict → ℕ → TableSize
+sizedAs Passed size = table.Bytes size
+sizedAs (Refused c) size = table.Refused c
+
+-- ---- a file's place
+
+-- ---- what is written lies in the image; nothing is asked of a place where no byte is written
+
+pub record CopyFits (long source to n : ℕ) : Type 0 where
+  pub from : 0 < n → source + n ≤ long
+  pub into : 0 < n → to + n ≤ long
+
+pub record ZeroFits (long at n : ℕ) : Type 0 where
+  pub into : 0 < n → at + n ≤ long
+
+pub record TableFits (long room f size new : ℕ) : Type 0 where
+  pub behind-header : 0x440 ≤ f
+  pub old : f + size ≤ long
+  pub into : f + new ≤ long
+  pub held : new ≤ room
+  pub small : new < 2 ^ 32
+
+pub record InImage (long : ℕ) (w : Writing) : Type 0 where
+  pub copied : CopyFits long (w .source) (w .place .offset) (w .kept)
+  pub zeroed : ZeroFits long (w .lost) (w .«lost_size»)
+
+pub record Fits (image : List ℕ) (room size : ℕ) (w : Writing) : Type 0 where
+  pub table : TableFits (length image) room (fstOffset image) (fstSize image) size
+  pub inside : InImage (length image) w
+
+-- ---- a decision carried out
+
+abbrev pub CanCarry : List ℕ → ℕ → Decision → Type 0
+CanCarry image room (decision.Refused c) = Unit {0}
+CanCarry image room decision.Nothing = Unit {0}
+CanCarry image room (decision.Write size w) = Fits image room size w
+
+abbrev pub carriedVerdict : Decision → Verdict
+carriedVerdict (decision.Refused c) = Refused c
+carriedVerdict decision.Nothing = Passed
+carriedVerdict (decision.Write size w) = Passed
+
+abbrev pub carriedImage : Decision → List ℕ → List ℕ → List ℕ
+carriedImage (decision.Refused c) bytes image = image
+carriedImage decision.Nothing bytes image = image
+carriedImage (decision.Write size w) bytes image = writtenWith w (span bytes 0 size) image
+
+-- d, with these working bytes, is what the plan comes to
+pub record Decided (p : Plan) (image : List ℕ) (words room : ℕ) (bytes : List ℕ) (d : Decision) : Type 0 where
+  pub fits : CanCarry image room d
+  pub answer : carriedVerdict d ≡ planVerdict p image words room
+  pub after : carriedImage d bytes image ≡ cond (isRefused (planVerdict p image words room)) image (planImage p image)

@@ -1,0 +1,33 @@
+// The part that every edit ends with: the new table and its place, and what is decided on carried out.
+mod table;
+mod written;
+
+use refusal::Refusal;
+use space::DiscRegion;
+pub use table::check_place;
+pub use table::check_table;
+pub use table::write_table;
+pub use written::finish;
+
+// What a change does to the image besides the table: `kept` bytes are copied from `source` to the new place, and `lost_size` bytes from
+// `lost` on are zeroed.
+pub struct Writing {
+    pub place: DiscRegion,
+    pub source: usize,
+    pub kept: usize,
+    pub lost: usize,
+    pub lost_size: usize,
+}
+
+// What an edit decides on before it writes: refused, nothing to write, or a change, whose table of that size stands in the working bytes.
+pub enum Decision {
+    Refused(Refusal),
+    Nothing,
+    Write(usize, Writing),
+}
+
+// The size of the new table, or why it cannot be written.
+pub enum TableSize {
+    Bytes(usize),
+    Refused(Refusal),
+}

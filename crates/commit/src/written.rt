@@ -1,0 +1,97 @@
+// What a decision does: the image written, and the working memory zeroed.
+use crate::Decision;
+use crate::Writing;
+use header::Field;
+use refusal::Verdict;
+ghost use mathlib.Core.Path.{_≡_};
+ghost use Prim.Native.Nat.{_+_, _-_, _<_};
+ghost use lib.ListN.{length, replicate};
+ghost use Rattle.endian.specs.Bytes.{put, span};
+ghost use Rattle.edits.specs.Change.{withTable};
+ghost use Rattle.commit.specs.Inner.Decision.{CopyFits, ZeroFits, TableFits, Fits, CanCarry, writtenWith, carriedVerdict, carriedImage};
+
+// a - b, or 0 where b is the larger.
+fn less(a: usize, b: usize) -> usize
+    ensures { λ r. ⌜ r ≡ a - b ⌝ }
+{
+    if b < a { a - b } else { 0 }
+}
+
+// `commit_file_tree`: the table, zeros over the lost tail of the old one, and the new size in the header.
+fn commit(image: &mut [u8], bytes: &[u8], fst_offset: usize, fst_size: usize, size: usize)
+    requires { ⌜ TableFits (length (now image)) (length (now bytes)) «fst_offset» «fst_size» size ⌝ }
+    ensures { λ _. ⌜ now (image .exit) ≡ withTable «fst_offset» «fst_size» (span (now (bytes .entry)) 0 size) (now (image .entry)) ⌝ }
+{
+    endian::copy(bytes, 0, image, fst_offset, size);
+    let tail = less(fst_size, size);
+    endian::fill(image, fst_offset + size, tail, 0);
+    endian::write_u32(image, Field::FST_SIZE.at, size as u32);
+}
+
+// The bytes of a file to its new place. No byte may be asked for at a place past the image: an empty file may go anywhere.
+fn copy_kept(image: &mut [u8], source: usize, to: usize, n: usize)
+    requires { ⌜ CopyFits (length (now image)) source to n ⌝ }
+    ensures { λ _. ⌜ now (image .exit) ≡ put (now (image .entry)) to (span (now (image .entry)) source n) ⌝ }
+{
+    if n == 0 {
+        return;
+    }
+    endian::copy_within(image, source, to, n);
+}
+
+// Zeros over bytes that no file has any more.
+fn zero_lost(image: &mut [u8], at: usize, n: usize)
+    requires { ⌜ ZeroFits (length (now image)) at n ⌝ }
+    ensures { λ _. ⌜ now (image .exit) ≡ put (now (image .entry)) at (replicate n 0) ⌝ }
+{
+    if n == 0 {
+        return;
+    }
+    endian::fill(image, at, n, 0);
+}
+
+// Copy, table, zeros: in this order.
+fn write_change(image: &mut [u8], bytes: &[u8], size: usize, w: Writing)
+    requires { ⌜ Fits (now image) (length (now bytes)) size w ⌝ }
+    ensures { λ _. ⌜ now (image .exit) ≡ writtenWith w (span (now (bytes .entry)) 0 size) (now (image .entry)) ⌝ }
+{
+    let fst_offset = header::fst_offset(image) as usize;
+    let fst_size = header::fst_size(image) as usize;
+    let place = w.place;
+    copy_kept(image, w.source, place.offset as usize, w.kept);
+    commit(image, bytes, fst_offset, fst_size, size);
+    zero_lost(image, w.lost, w.lost_size);
+}
+
+fn carry_out(image: &mut [u8], bytes: &[u8], decision: Decision) -> Verdict
+    requires { ⌜ CanCarry (now image) (length (now bytes)) decision ⌝ }
+    ensures { λ r. ⌜ (r ≡ carriedVerdict decision) × (now (image .exit) ≡ carriedImage decision (now (bytes .entry)) (now (image .entry))) ⌝ }
+{
+    match decision {
+        Decision::Refused(cause) => Verdict::Refused(cause),
+        Decision::Nothing => Verdict::Passed,
+        Decision::Write(size, w) => {
+            write_change(image, bytes, size, w);
+            Verdict::Passed
+        }
+    }
+}
+
+fn zero_bytes(bytes: &mut [u8])
+    ensures { λ _. ⌜ now (bytes .exit) ≡ replicate (length (now (bytes .entry))) 0 ⌝ }
+{
+    let n = bytes.len();
+    endian::fill(bytes, 0, n, 0);
+}
+
+// Carries a decision out, and zeroes the working memory.
+pub fn finish(image: &mut [u8], words: &mut [u32], bytes: &mut [u8], decision: Decision) -> Verdict
+    requires { ⌜ CanCarry (now image) (length (now bytes)) decision ⌝ }
+    ensures { λ r. ⌜ (r ≡ carriedVerdict decision) × (now (image .exit) ≡ carriedImage decision (now (bytes .entry)) (now (image .entry))) ⌝ }
+    ensures { λ _. ⌜ (now (words .exit) ≡ replicate (length (now (words .entry))) 0) × (now (bytes .exit) ≡ replicate (length (now (bytes .entry))) 0) ⌝ }
+{
+    let verdict = carry_out(image, bytes, decision);
+    space::zero_words(words);
+    zero_bytes(bytes);
+    verdict
+}

@@ -1,0 +1,57 @@
+-- `decide::opened::resize_in_place` meets its contract: the change that keeps the place, whose lost end lies in the old one.
+-- Assumes nothing.
+use mathlib.Core.Path.{_≡_}
+use Prim.Native.Nat.{_-_}
+use native.Mathlib.Omega.{arith}
+use denote.Ref.{now}
+use lib.ListN.{length}
+use Rattle.opening.specs.Laws.OpeningLaws.{OpenImage, opens}
+use Rattle.decide.proofs.Files.{resize-inside}
+use borrow.Author.Needs.{needs}
+use Rattle.decide.proofs.opened.resize_in_place.Statement.{statement}
+use Rattle.decide.proofs.opened.resize_in_place.Tie as tie
+
+-- what holds at entry
+known : (c : tie.After-slice-known) → let s = c .before .before .before in OpenImage (now (s .args .image)) (length (now (s .args .words)))
+known c = let s = c .before .before .before in opens (now (s .args .image)) (length (now (s .args .words))) (λ i. omega (arith, c .before .before .shared-slice-known .given i)) (s .pre .0 .passed)
+
+least-requires : tie.Need-least-requires
+least-requires c κs = search needs
+
+sub-lost-size : tie.Need-sub-lost-size
+sub-lost-size c = search needs
+
+cast-t12 : tie.Need-cast-t12
+cast-t12 c = search needs
+
+add-t14 : tie.Need-add-t14
+add-t14 c = search needs
+
+cast-t15 : tie.Need-cast-t15
+cast-t15 c = search needs
+
+set-place-requires : tie.Need-set-place-requires
+set-place-requires c κs = let s = c .before .before .before .before .before .before .before in
+    let image = now (s .args .image) in
+    (s .pre .0, s .pre .1, resize-inside image (length (now (s .args .words))) (known (c .before .before .before .before)) (s .args .number) (s .args .old) (s .pre .2) (s .args .new-size) _ (omega (arith, c .before .before .before .least .ensures)))
+
+same-length : tie.Need-same-length
+same-length c = search needs
+
+returns : tie.Need-returns
+returns c = let s = c .before .before .before .before .before .before .before .before .before .before in
+    let e : s .args .old .size - c .before .before .before .before .before .before .least .result ≡ s .args .old .size - s .args .new-size = omega (arith, c .before .before .before .before .before .before .least .ensures) in
+    rw e at (c .before .before .set-place .ensures)
+
+pub resize-in-place-spec : {M : Type 1} → statement M
+resize-in-place-spec =
+    tie.close
+    (tie.spec
+    least-requires
+    sub-lost-size
+    cast-t12
+    add-t14
+    cast-t15
+    set-place-requires
+    same-length
+    returns)

@@ -1,5 +1,0 @@
--- What the proofs of the functions cite.
-pub mod Puts
-pub mod Decisions
-pub mod Images
-pub mod Files

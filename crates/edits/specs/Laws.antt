@@ -1,0 +1,4 @@
+-- What follows from the definitions.
+pub mod MadeTree
+pub mod TroubleTurns
+pub mod Troubles

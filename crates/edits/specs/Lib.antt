@@ -1,0 +1,5 @@
+pub mod Change
+pub mod Edits
+pub mod Promise
+pub mod Inner
+pub mod Laws

@@ -1,0 +1,1 @@
+// What each edit does: definitions, and theorems about them. No code.

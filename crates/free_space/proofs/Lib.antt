@@ -1,0 +1,5 @@
+-- What the proofs of the functions cite.
+pub mod Choice
+pub mod GapAt
+pub mod Listed
+pub mod Powers

@@ -1,0 +1,4 @@
+pub mod Allocate
+pub mod Listing
+pub mod MaxRegionSize
+pub mod Laws

@@ -1,0 +1,4 @@
+-- Definitions that only inner contracts need.
+pub mod After
+pub mod Steps
+pub mod Zeros

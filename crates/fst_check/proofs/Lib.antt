@@ -1,0 +1,4 @@
+-- What the proofs of the functions cite.
+pub mod BlockLaws
+pub mod Texts
+pub mod Walking

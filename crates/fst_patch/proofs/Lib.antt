@@ -1,0 +1,8 @@
+-- What the proofs of the functions cite.
+pub mod Behind
+pub mod Inserted
+pub mod Passes
+pub mod Patches
+pub mod Raises
+pub mod Stays
+pub mod Written

@@ -1,0 +1,115 @@
+-- An insert as a plan: its tests, the number it gives, and what is decided once the table was built. Assumes nothing.
+use Prim.Native.Nat.{ℕ}
+use mathlib.Core.Path.{_≡_, refl, sym, ap, _∙_}
+use mathlib.Core.List.{List}
+use native.Mathlib.Omega.{arith}
+use lib.ListN.{length}
+use Rattle.refusal.specs.declared.Refusal.{Refusal}
+use Rattle.refusal.specs.declared.Verdict.{Verdict}
+use Rattle.refusal.specs.declared.Verdict.the-variants.{Passed, Refused}
+use Rattle.refusal.specs.Refusal.{first}
+use Rattle.tree.specs.Table.{Node}
+use Rattle.tree.specs.Inner.WellFormed.{WellFormed}
+use Rattle.tree.specs.Laws.Growing.{Bigger}
+use Rattle.tree.specs.declared.Located.the-variants as located
+use Rattle.opening.specs.Opening.{nodesIn, opening}
+use Rattle.opening.specs.Laws.OpeningLaws.{OpenImage}
+use Rattle.opening.specs.declared.Prepared.{Prepared}
+use Rattle.opening.specs.declared.Prepared.the-variants as prepared
+use Rattle.opening.specs.Inner.Prepared.{Prepares}
+use Rattle.commit.specs.declared.Decision.{Decision}
+use Rattle.commit.specs.declared.TableSize.{TableSize}
+use Rattle.commit.specs.declared.TableSize.the-variants as table
+use Rattle.edits.specs.Change.{Change, Plan, change}
+use Rattle.edits.specs.Edits.{Edit, tableOnly, planned, planOf, planVerdict, planNumber, verdictOf, numberedAs}
+use Rattle.commit.specs.Inner.Decision.{carriedVerdict, Decided}
+use Rattle.commit.proofs.Decisions.{refused-decided}
+use Rattle.grow.specs.declared.Grown.{Grown}
+use Rattle.grow.specs.declared.Grown.the-variants as grown
+use Rattle.grow.specs.Inner.Growth.{treeIn, Stands, Built}
+use Rattle.grow.specs.Inner.Grown.{tableDecision, grownDecision, grownNumber, grownAs, Numbered}
+use Rattle.grow.proofs.GrowthLaws.{built-stands, unbuilt}
+
+no-path : _≡_ {A = ℕ} 0 1 → ⊥
+no-path z = omega arith
+
+-- ---- an open image's tree
+
+pub well-open : (image : List ℕ) (words : ℕ) → OpenImage image words → WellFormed (nodesIn image)
+unfolding nodesIn
+well-open image words known = known .reads .table .well
+
+-- ---- a tree that was built, or not, by the code's answer
+
+pub built-is : (F : List Node) (words : ℕ) (s t : List ℕ) (r : TableSize) (n : ℕ) → WellFormed F → Built F words s t r → r ≡ table.Bytes n → Stands t n words × (treeIn t n ≡ F)
+built-is F words s t r n w b e = built-stands F words s t n w (rw e at b)
+
+pub unbuilt-decided : (M F : List Node) (words k : ℕ) (s t : List ℕ) (r : TableSize) (c : Refusal) (image after : List ℕ) → Bigger M F → Built M words s t r → r ≡ table.Refused c →
+    Decided (change k (tableOnly F)) image words (length s) after (tableDecision (table.Refused c))
+unbuilt-decided M F words k s t r c image after g b e =
+    let q : Built M words s t (table.Refused c) = rw e at b in
+    refused-decided image words (length s) after (change k (tableOnly F)) c (unbuilt M F words (length s) k image g (q .1) ∙ ap Refused (sym (q .0)))
+
+pub same-decided : (T F : List Node) (words n m : ℕ) (image s : List ℕ) (d : Decision) → T ≡ F → n ≡ m → Decided (change 0 (tableOnly T)) image words n s d → Decided (change 0 (tableOnly F)) image words m s d
+same-decided T F words n m image s d e l h = rw (e, l) at h
+
+-- ---- the numbers
+
+pub number-refused : (v : Verdict) (n : ℕ) (c : Refusal) → numberedAs v n ≡ located.Refused c → v ≡ Refused c
+number-refused Passed n c e = absurd (no-path cc)
+number-refused (Refused d) n c e = cc
+
+pub number-at : (v : Verdict) (n k : ℕ) → numberedAs v n ≡ located.At k → (v ≡ Passed) × (n ≡ k)
+number-at Passed n k e = (refl, cc)
+number-at (Refused d) n k e = absurd (no-path cc)
+
+module _ (image : List ℕ) (words room : ℕ) (bytes : List ℕ) where
+  pub refused-numbered : (p : Plan) (c : Refusal) → planVerdict p image words room ≡ Refused c → Numbered p image words room bytes (grown.Refused c)
+  refused-numbered p c e = record { decided = refused-decided image words room bytes p c e; numbered = λ h. absurd (no-path cc) }
+
+  -- a change, with the number that was found for it
+  pub change-numbered : (k n : ℕ) (c : Change) (r : TableSize) → n ≡ k → Decided (change 0 c) image words room bytes (tableDecision r) → Numbered (change k c) image words room bytes (grownAs r n)
+  change-numbered k n c (table.Bytes size) e d = record { decided = record { fits = d .fits; answer = d .answer; after = d .after }; numbered = λ h. e }
+  change-numbered k n c (table.Refused cause) e d = record {
+    decided = record { fits = d .fits; answer = d .answer; after = d .after };
+    numbered = λ h. let z : Refused cause ≡ Passed = d .answer ∙ h in absurd (no-path cc);
+  }
+
+  pub behind-numbered : (v : Verdict) (p : Plan) (g : Grown) → v ≡ Passed → Numbered p image words room bytes g → Numbered (planned v p) image words room bytes g
+  behind-numbered Passed p g e h = h
+  behind-numbered (Refused c) p g e h = absurd (no-path cc)
+
+  pub behind-refused-numbered : (v : Verdict) (p : Plan) (c : Refusal) → v ≡ Refused c → Numbered (planned v p) image words room bytes (grown.Refused c)
+  behind-refused-numbered Passed p c e = absurd (no-path cc)
+  behind-refused-numbered (Refused d) p c e = refused-numbered (planned (Refused d) p) c e
+
+  -- the answer of the whole edit
+  pub number-answer : (ed : Edit) (g : Grown) → Numbered (planned (opening image words) (planOf ed image)) image words room bytes g →
+      numberedAs (carriedVerdict (grownDecision g)) (grownNumber g) ≡ numberedAs (verdictOf ed image words room) (planNumber (planOf ed image))
+  unfolding verdictOf
+  number-answer ed g h = go (opening image words) h
+    where
+      ends : (v : Verdict) (n m : ℕ) → (v ≡ Passed → n ≡ m) → numberedAs v n ≡ numberedAs v m
+      ends Passed n m f = ap located.At (f refl)
+      ends (Refused c) n m f = refl
+
+      go : (v : Verdict) → Numbered (planned v (planOf ed image)) image words room bytes g →
+          numberedAs (carriedVerdict (grownDecision g)) (grownNumber g) ≡ numberedAs (first v (planVerdict (planOf ed image) image words room)) (planNumber (planOf ed image))
+      go Passed k = rw (k .decided .answer) (ends (planVerdict (planOf ed image) image words room) (grownNumber g) (planNumber (planOf ed image)) (k .numbered))
+      go (Refused c) k = rw (k .decided .answer)
+
+-- ---- opening, then the plan
+
+pub open-numbered : (image w w′ : List ℕ) (r : Prepared) (m room : ℕ) (bytes : List ℕ) (p : Plan) (g : Grown) → Prepares image (length w) w′ r → r ≡ prepared.Ready m → length w′ ≡ length w →
+    Numbered p image (length w′) room bytes g → Numbered (planned (opening image (length w)) p) image (length w) room bytes g
+open-numbered image w w′ r m room bytes p g q e l h =
+    let o : Prepares image (length w) w′ (prepared.Ready m) = rw e at q in
+    behind-numbered image (length w) room bytes (opening image (length w)) p g (o .0) (rw l at h)
+
+pub unopened-numbered : (image w w′ : List ℕ) (r : Prepared) (c : Refusal) (room : ℕ) (bytes : List ℕ) (p : Plan) → Prepares image (length w) w′ r → r ≡ prepared.Refused c →
+    Numbered (planned (opening image (length w)) p) image (length w) room bytes (grown.Refused c)
+unopened-numbered image w w′ r c room bytes p q e =
+    let o : Prepares image (length w) w′ (prepared.Refused c) = rw e at q in
+    behind-refused-numbered image (length w) room bytes (opening image (length w)) p c o
+
+-- ---- the plan of an insert

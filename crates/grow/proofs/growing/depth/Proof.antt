@@ -1,0 +1,36 @@
+-- `grow::growing::depth` meets its contract. The invariant of its loop: the directories around k are those counted and those around the one where it stands.
+-- Assumes nothing.
+use Rattle.grow.proofs.GrowthLaws.{inside, Counted, depth-start, depth-up, depth-done}
+use Rattle.grow.specs.Inner.Growth.{treeIn}
+use native.Mathlib.Omega.{arith}
+use Rattle.grow.proofs.growing.depth.Statement.{statement}
+use Rattle.grow.proofs.growing.depth.Tie as tie
+
+abbrev Inv-loop : tie.InvT-loop
+Inv-loop bytes size words k at₀ n₀ at n = Counted (treeIn bytes size) k at n
+
+abbrev μ-loop : tie.MeasureT-loop
+μ-loop bytes size words k at₀ n₀ at n = at
+
+loop-holds : tie.Need-loop-holds Inv-loop μ-loop
+loop-holds c = depth-start _ _ (c .before .pre .1)
+
+parent-requires : tie.Need-parent-requires Inv-loop μ-loop
+parent-requires c κs = (c .before .before .before .pre .0, c .before .loop .inv .is)
+
+add-n : tie.Need-add-n Inv-loop μ-loop
+add-n c = omega (arith, c .before .before .loop .inv .counted, c .before .before .loop .inv .most, inside _ _ _ (c .before .before .before .before .pre .0) .few)
+
+loop-less : tie.Need-loop-less Inv-loop μ-loop
+loop-less c = depth-up _ _ _ _ _ _ _ (c .before .before .before .before .pre .0) (c .before .before .loop .inv) (c .before .loop-test .taken) (c .parent .ensures) .0
+
+loop-again : tie.Need-loop-again Inv-loop μ-loop
+loop-again c = depth-up _ _ _ _ _ _ _ (c .before .before .before .before .pre .0) (c .before .before .loop .inv) (c .before .loop-test .taken) (c .parent .ensures) .1
+
+returns : tie.Need-returns Inv-loop μ-loop
+returns c = depth-done _ _ _ _ (c .before .loop .inv) (c .loop-test .left)
+
+pub depth-spec : {M : Type 1} → statement M
+depth-spec =
+    tie.close
+    (tie.spec Inv-loop μ-loop loop-holds parent-requires add-n loop-less loop-again returns)

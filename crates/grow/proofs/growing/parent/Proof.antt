@@ -1,0 +1,26 @@
+-- `grow::growing::parent` meets its contract: a directory of a written table stores what it is nested in.
+-- Assumes nothing.
+use Rattle.grow.proofs.GrowthLaws.{entry-held, inside, stored-parent}
+use mathlib.Core.Path.{_∙_}
+use native.Mathlib.Omega.{arith}
+use borrow.Author.Needs.{needs}
+use Rattle.grow.proofs.growing.parent.Statement.{statement}
+use Rattle.grow.proofs.growing.parent.Tie as tie
+
+mul-read-u32 : tie.Need-mul-read-u32
+mul-read-u32 c = let s = c .before in omega (arith, inside _ _ _ (s .pre .0) .few, s .pre .1 .inside)
+
+add-read-u32 : tie.Need-add-read-u32
+add-read-u32 c = let s = c .before in omega (arith, inside _ _ _ (s .pre .0) .few, s .pre .1 .inside)
+
+read-u32-requires : tie.Need-read-u32-requires
+read-u32-requires c κs = let s = c .before in omega (arith, entry-held _ _ _ (s .pre .0) _ (s .pre .1 .inside))
+
+cast-result : tie.Need-cast-result
+cast-result c = search needs
+
+returns : tie.Need-returns
+returns c = let s = c .before .before in c .read-u32 .ensures ∙ stored-parent _ _ _ (s .pre .0) _ (s .pre .1)
+
+pub parent-spec : {M : Type 1} → statement M
+parent-spec = tie.close (tie.spec mul-read-u32 add-read-u32 read-u32-requires cast-result returns)

@@ -1,0 +1,20 @@
+-- `grow::numbered` meets its contract, by the cases of the size.
+-- Assumes nothing.
+use borrow.Author.Needs.{needs}
+use Rattle.grow.proofs.numbered.Statement.{statement}
+use Rattle.grow.proofs.numbered.Tie as tie
+
+enum-known-built : tie.Need-enum-known-built
+enum-known-built c = search needs
+
+enum-known-built-2 : tie.Need-enum-known-built-2
+enum-known-built-2 c = search needs
+
+returns : tie.Need-returns
+returns c = rw (c .before .built .given .1)
+
+returns-2 : tie.Need-returns-2
+returns-2 c = rw (c .before .built2 .given .1)
+
+pub numbered-spec : {M : Type 1} → statement M
+numbered-spec = tie.close (tie.spec enum-known-built enum-known-built-2 returns returns-2)

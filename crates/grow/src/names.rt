@@ -1,0 +1,56 @@
+// The tests of a name that is passed in (document 01, "Names").
+ghost use mathlib.Core.Path.{_≡_};
+ghost use Rattle.tree.specs.Table.{every, plain, safe};
+ghost use Rattle.tree.specs.Table as table_of;
+ghost use Rattle.fst_check.specs.Inner.Reading.{byteTest};
+
+// Whether each byte is safe, or each is plain.
+fn every_byte(name: &[u8], safe_only: bool) -> bool
+    ensures { λ r. ⌜ r ≡ every (byteTest «safe_only») (now (name .entry)) ⌝ }
+{
+    let mut i = 0;
+    while i < name.len() {
+        if fst_check::fits(name[i], safe_only) {
+            i += 1;
+        } else {
+            return false;
+        }
+    }
+    true
+}
+
+// `.` or `..`.
+fn is_dots(name: &[u8]) -> bool
+    ensures { λ r. ⌜ r ≡ table_of.dots (now (name .entry)) ⌝ }
+{
+    if name.len() == 1 {
+        return name[0] == b'.';
+    }
+    if name.len() != 2 {
+        return false;
+    }
+    if name[0] != b'.' {
+        return false;
+    }
+    name[1] == b'.'
+}
+
+// Each byte 0x20 to 0x7E.
+pub fn is_plain(name: &[u8]) -> bool
+    ensures { λ r. ⌜ r ≡ plain (now (name .entry)) ⌝ }
+{
+    every_byte(name, false)
+}
+
+// Not empty, not `.` or `..`, without `/`, `\` and `:`.
+pub fn is_safe(name: &[u8]) -> bool
+    ensures { λ r. ⌜ r ≡ safe (now (name .entry)) ⌝ }
+{
+    if name.len() == 0 {
+        return false;
+    }
+    if is_dots(name) {
+        return false;
+    }
+    every_byte(name, true)
+}

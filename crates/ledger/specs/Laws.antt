@@ -1,0 +1,19 @@
+-- What follows from the definitions.
+pub mod Apart
+pub mod Bare
+pub mod Files
+pub mod Histories
+pub mod Kept
+pub mod Making
+pub mod Opened
+pub mod PlaceEdits
+pub mod Placed
+pub mod Plans
+pub mod Puts
+pub mod Room
+pub mod Sequence
+pub mod SparedLaws
+pub mod Steps
+pub mod TableEdits
+pub mod Vectors
+pub mod Written

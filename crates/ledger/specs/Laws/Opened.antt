@@ -1,0 +1,97 @@
+-- What an image that opens is, what opens, and that more words open it too. Assumes nothing.
+use Prim.Native.Nat.{ℕ, _+_, _-_, _*_, _≤_}
+use mathlib.Core.Path.{_≡_}
+use mathlib.Core.Bool.{true}
+use mathlib.Core.List.{List}
+use native.Mathlib.Omega.{arith}
+use borrow.Author.Tests.{ltb-false, le-ltb}
+use lib.ListN.{length}
+use lib.Dec.{ltb, eqb}
+use Rattle.endian.specs.Bytes.{AllBytes}
+use Rattle.refusal.specs.declared.Verdict.the-variants.{Passed}
+use Rattle.refusal.specs.declared.Refusal.the-variants.{EntryPastTable, UnrecognizedKind, RootIsNotDirectory, MissingNullTerminator, LimitOrMemory}
+use Rattle.refusal.specs.Laws.Chains.{refuse-passed, first-passed}
+use Rattle.header.specs.Verdicts.{headerVerdict, boundsVerdict, discEnd, tableEnd}
+use Rattle.header.specs.Laws.FieldTests.{GoodHeader, Bounded, header-passes, bounds-pass}
+use Rattle.tree.specs.Table.{Node, kind, count, entriesVerdict, unended, check, limits}
+use Rattle.tree.specs.Inner.WellFormed.{WellFormed}
+use Rattle.tree.specs.Laws.RoundTrip.{within-limits, limits-within, written-accepted, written-reads}
+use Rattle.space.specs.Used.{usedRegions}
+use Rattle.space.specs.Layout.{disjointBelow}
+use Rattle.opening.specs.Opening.{tableOf, nodesIn, usedIn, opening}
+use Rattle.opening.specs.Laws.OpeningLaws.{opens}
+use Rattle.edits.specs.Change.{Change, written}
+use Rattle.ledger.specs.Laws.Written.{newEnd, Safe, header-written, bounds-written, table-written, fst-offset-written, fst-size-written, disc-end-written}
+use Rattle.ledger.specs.Laws.Files.{filesOf, used-files}
+use Rattle.ledger.specs.Laws.Apart.{Apart, apart-from}
+
+pub record Opened (image : List ℕ) : Type 0 where
+  pub header : GoodHeader image
+  pub bounds : Bounded image
+  pub well : WellFormed (nodesIn image)
+  pub regions : disjointBelow (discEnd image) (usedIn image) ≡ true
+  pub files : Apart (tableEnd image) (discEnd image) (filesOf (nodesIn image))
+
+-- LAW: what opening accepts
+pub opened : (image : List ℕ) (w : ℕ) → opening image w ≡ Passed → AllBytes image → Opened image
+unfolding usedIn nodesIn
+opened image w e b =
+    let o = opens image w b e in
+    record {
+      header = o .reads .header;
+      bounds = o .reads .bounds;
+      well = o .reads .table .well;
+      regions = o .layout;
+      files = apart-from (tableEnd image) (discEnd image) (filesOf (nodesIn image)) (omega (arith, o .reads .bounds .after-header)) (rw (used-files (tableEnd image) (nodesIn image)) at (o .layout));
+    }
+
+check-ok : (image : List ℕ) (w : ℕ) → opening image w ≡ Passed → check (tableOf image) w ≡ Passed
+unfolding opening
+check-ok image w e = first-passed (check (tableOf image) w) _ (first-passed (boundsVerdict image) _ (first-passed (headerVerdict image) _ e .1) .1) .0
+
+-- LAW: and what it must accept
+pub opening-passes : (image : List ℕ) (w : ℕ) → GoodHeader image → Bounded image → check (tableOf image) w ≡ Passed → disjointBelow (discEnd image) (usedIn image) ≡ true → opening image w ≡ Passed
+unfolding opening
+opening-passes image w g b c d = rw (header-passes image g, bounds-pass image b, c, d)
+
+-- ---- more words
+
+more-check : (tab : List ℕ) (w w′ : ℕ) → w ≤ w′ → check tab w ≡ Passed → check tab w′ ≡ Passed
+unfolding check
+more-check tab w w′ h e =
+    let c : ℕ = count tab in
+    let e₁ = refuse-passed (ltb (length tab) 12) EntryPastTable _ e in
+    let e₂ = refuse-passed (ltb 1 (kind tab 0)) UnrecognizedKind _ (e₁ .1) in
+    let e₃ = refuse-passed (eqb (kind tab 0) 0) RootIsNotDirectory _ (e₂ .1) in
+    let e₄ = refuse-passed (ltb 16384 c) LimitOrMemory _ (e₃ .1) in
+    let e₅ = first-passed (entriesVerdict tab 1 (c - 1)) _ (e₄ .1) in
+    let e₆ = refuse-passed (unended tab c) MissingNullTerminator _ (e₅ .1) in
+    let e₇ = refuse-passed (ltb 1048576 (length tab - 12 * c)) LimitOrMemory _ (e₆ .1) in
+    let e₈ = refuse-passed (ltb w (4 * (c + 2))) LimitOrMemory _ (e₇ .1) in
+    let r : 4 * (c + 2) ≤ w = ltb-false _ _ (e₈ .0) in
+    rw (e₁ .0, e₂ .0, e₃ .0, e₄ .0, e₅ .0, e₆ .0, e₇ .0, le-ltb w′ (4 * (c + 2)) (omega arith)) (e₈ .1)
+
+pub more-words : (image : List ℕ) (w w′ : ℕ) → w ≤ w′ → AllBytes image → opening image w ≡ Passed → opening image w′ ≡ Passed
+more-words image w w′ h b e =
+    let o = opened image w e b in
+    opening-passes image w′ (o .header) (o .bounds) (more-check (tableOf image) w w′ h (check-ok image w e)) (o .regions)
+
+more-limits : (nodes : List Node) (w w′ : ℕ) → w ≤ w′ → limits nodes w ≡ Passed → limits nodes w′ ≡ Passed
+more-limits nodes w w′ h e =
+    let i = within-limits nodes w e in
+    limits-within nodes w′ (record { few = i .few; texts = i .texts; room = omega (arith, i .room); depth = i .depth })
+
+-- ---- a change written
+
+module _ (c : Change) (image : List ℕ) (s : Safe c image) (words w : ℕ) (h : words ≤ w) (l : limits (c .nodes) words ≡ Passed) where
+  -- LAW: the image afterwards has the tree that was written
+  pub nodes-written : nodesIn (written c image) ≡ c .nodes
+  unfolding nodesIn
+  nodes-written = rw (table-written c image s) (written-reads (c .nodes) words (s .well) l)
+
+  -- LAW: and opens, if the files lie apart
+  pub opens-written : disjointBelow (discEnd image) (usedRegions (newEnd c image) (filesOf (c .nodes))) ≡ true → opening (written c image) w ≡ Passed
+  unfolding usedIn
+  opens-written d =
+      opening-passes (written c image) w (header-written c image s) (bounds-written c image s) (rw (table-written c image s) (written-accepted (c .nodes) w (s .well) (more-limits (c .nodes) words w h l)))
+      (rw (nodes-written, fst-offset-written c image s, fst-size-written c image s, disc-end-written c image s, used-files (newEnd c image) (c .nodes)) d)

@@ -1,0 +1,37 @@
+-- A worked ledger, by computing: the calls of a list entered one by one. Assumes nothing.
+use mathlib.Core.Path.{_≡_, refl}
+use mathlib.Core.Bool.{true, false}
+use mathlib.Core.List.{List, [], _∷_}
+use Rattle.endian.specs.Bytes.{sameBytes}
+use Rattle.tree.specs.Table.{file, directory, plain, safe, parentBelow, parentOf}
+use Rattle.tree.specs.Lookup.{components, firstChild, childOf}
+use Rattle.tree.specs.Insert.{bump, splice, insertAt, setPlace}
+use Rattle.edits.specs.Edits.{insertFile, insertDirectory, makeDirectories, moveFile, resizeFile, rewrite, make}
+use Rattle.ledger.specs.Ledger.{Ledger, filesBefore, putIn, Report, ledgerAfter}
+
+-- a tree with one file, `a`, which lay at 0x500 and had the bytes 7, 8, 9
+before : Ledger
+before = record {
+  nodes = directory [] 2 ∷ file (0x61 ∷ []) 0 3 ∷ [];
+  histories = record { place = 0x500; bytes = 7 ∷ 8 ∷ 9 ∷ []; m = 3; named = false } ∷ [];
+}
+
+-- directory `d`, then `d/e` in it, then file `d/b`; `a` down to 2 bytes; a refused resize; `a` up to 3 bytes; `b` moved; the table rewritten
+list : List Report
+list =
+    record { edit = insertDirectory 0 (0x64 ∷ []); accepted = true } ∷
+    record { edit = makeDirectories 0 (0x64 ∷ 0x2F ∷ 0x65 ∷ []); accepted = true } ∷
+    record { edit = insertFile 2 (0x62 ∷ []); accepted = true } ∷
+    record { edit = resizeFile 1 2; accepted = true } ∷
+    record { edit = resizeFile 1 0; accepted = false } ∷
+    record { edit = resizeFile 1 3; accepted = true } ∷
+    record { edit = moveFile 4 0x600; accepted = true } ∷
+    record { edit = rewrite; accepted = true } ∷ []
+
+-- m of `a` is 2, though its size is 3 again; `b` was named
+after : ledgerAfter list before ≡ record {
+  nodes = directory [] 5 ∷ file (0x61 ∷ []) 0 3 ∷ directory (0x64 ∷ []) 5 ∷ directory (0x65 ∷ []) 4 ∷ file (0x62 ∷ []) 0 0 ∷ [];
+  histories = record { place = 0x500; bytes = 7 ∷ 8 ∷ 9 ∷ []; m = 2; named = true } ∷ record { place = 0; bytes = []; m = 0; named = true } ∷ [];
+}
+unfolding before list ledgerAfter filesBefore putIn insertAt splice bump setPlace make components childOf firstChild parentOf parentBelow sameBytes plain safe
+after = refl

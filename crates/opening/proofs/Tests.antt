@@ -1,0 +1,82 @@
+-- The tests of opening, joined: the table's slice, what `collect` needs, and what the test of the regions leaves. Assumes nothing.
+use Prim.Native.Nat.{ℕ, _+_, _-_, _*_, _^_, _<_, _≤_}
+use mathlib.Core.Path.{_≡_, sym, ap, _∙_}
+use mathlib.Core.List.{List, _∷_, map}
+use native.Mathlib.Omega.{arith}
+use lib.ListN.{length, take, drop}
+use Rattle.endian.specs.Bytes.{be32}
+use Rattle.refusal.specs.declared.Refusal.{Refusal}
+use Rattle.refusal.specs.declared.Verdict.{Verdict}
+use Rattle.refusal.specs.declared.Verdict.the-variants.{Passed, Refused}
+use Rattle.refusal.specs.Refusal.{first}
+use Rattle.header.specs.Verdicts.{fstOffset, fstSize, discEnd, tableEnd}
+use Rattle.tree.specs.Table.{count}
+use Rattle.space.specs.Used.{AllNonempty, totalSize, usedRegions}
+use Rattle.space.specs.Laws.UsedLaws.{nonempty-all}
+use Rattle.space.specs.Laws.TotalLaws.{total-used}
+use Rattle.space.specs.Inner.Sort.{regionsIn}
+use Rattle.space.specs.Inner.Words.{Checked}
+use Rattle.space.specs.Layout.{regionsVerdict}
+use Rattle.opening.specs.Opening.{tableOf, nodesIn, regionOf, usedIn, usedOf, freeOf, opening}
+use Rattle.opening.specs.Inner.Prepared.{tableVerdict, entryRegions, UsedWords}
+use Rattle.opening.specs.Laws.OpeningLaws.{Readable, opening-split}
+use Rattle.opening.proofs.UsedRegions.{used-of-tree}
+
+-- the slice that is passed on is the table
+pub part-table : (image : List ℕ) (from to : ℕ) → from ≡ fstOffset image → to ≡ tableEnd image → take (to - from) (drop from image) ≡ tableOf image
+unfolding tableOf
+part-table image from to e f =
+    let n : to - from ≡ fstSize image = omega arith in
+    rw (n, e)
+
+-- the table ends below 2^32
+pub table-ends : (image : List ℕ) (n from : ℕ) (tab : List ℕ) → Readable image n → from ≡ fstOffset image → tab ≡ tableOf image → from + length tab < 2 ^ 32
+table-ends image n from tab k e f = rw f (omega (arith, k .size, k .bounds .table, k .bounds .small))
+
+-- the root's next, read from the image
+pub count-is : (image : List ℕ) (n from r : ℕ) → Readable image n → from ≡ fstOffset image → r ≡ be32 image (from + 8) → r ≡ count (tableOf image)
+count-is image n from r k e f = f ∙ ap (λ (a : ℕ). be32 image (a + 8)) e ∙ k .next
+
+-- what `collect` asks
+pub collect-asks : (image : List ℕ) (n from to c : ℕ) → Readable image n → from ≡ fstOffset image → to ≡ tableEnd image → c ≡ count (tableOf image)
+    → (0 < c) × (12 * c ≤ length (take (to - from) (drop from image))) × (2 * (c + 1) ≤ n) × (0 < to)
+unfolding count
+collect-asks image n from to c k e f g =
+    (omega arith, rw (part-table image from to e f) (omega (arith, k .table .fits)), omega (arith, k .table .room), omega (arith, k .bounds .after-header))
+
+-- what `collect` gives is what is used
+pub used-words : (image w : List ℕ) (m to c : ℕ) (tab : List ℕ) → tab ≡ tableOf image → to ≡ tableEnd image → c ≡ count (tableOf image)
+    → regionsIn w 0 m ≡ usedRegions to (entryRegions tab 1 (c - 1)) → regionsIn w 0 m ≡ usedIn image
+unfolding usedIn nodesIn
+used-words image w m to c tab e f g h = rw (e, f, g) at h ∙ sym (used-of-tree (tableOf image) (tableEnd image))
+
+pub used-full : (image w : List ℕ) (m : ℕ) → regionsIn w 0 m ≡ usedIn image → AllNonempty (regionsIn w 0 m)
+unfolding usedIn
+used-full image w m e = rw e (nonempty-all (_ ∷ map regionOf (nodesIn image)))
+
+used-total : (image : List ℕ) → totalSize (usedIn image) ≡ usedOf image
+unfolding usedIn usedOf
+used-total image = total-used (tableEnd image) (map regionOf (nodesIn image))
+
+-- the test of the regions, after the others passed
+module _ (image w w′ : List ℕ) (words buf m e : ℕ) (v : Verdict) (before : tableVerdict image words ≡ Passed) (used : regionsIn w 0 m ≡ usedIn image) (end : e ≡ discEnd image)
+    (k : Checked w w′ buf m e v) where
+  verdict : v ≡ regionsVerdict (discEnd image) (usedIn image)
+  verdict = rw (used, end) at (k .answer)
+
+  all : (u : Verdict) → v ≡ u → opening image words ≡ u
+  all u h = opening-split image words ∙ ap (λ (a : Verdict). first a (regionsVerdict (discEnd image) (usedIn image))) before ∙ sym verdict ∙ h
+
+  pub left-refused : (c : Refusal) → v ≡ Refused c → opening image words ≡ Refused c
+  left-refused c h = all (Refused c) h
+
+  pub left-ready : v ≡ Passed → (opening image words ≡ Passed) × UsedWords image w′ m
+  unfolding freeOf
+  left-ready h = (
+    all Passed h,
+    record {
+      sorted = rw (← end) (k .ready h);
+      free = rw (used, end) at (k .free);
+      total = k .total ∙ rw used (used-total image);
+    },
+  )

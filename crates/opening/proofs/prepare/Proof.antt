@@ -1,0 +1,47 @@
+-- `opening::prepare` meets its contract: a refusal before 14 is opening's, and otherwise `check_used` gives the answer.
+-- Assumes nothing.
+use mathlib.Core.Path.{sym, ap, _∙_}
+use denote.Ref.{now}
+use Rattle.refusal.specs.declared.Verdict.{Verdict}
+use Rattle.refusal.specs.Refusal.{first}
+use Rattle.header.specs.Verdicts.{discEnd}
+use Rattle.space.specs.Layout.{regionsVerdict}
+use Rattle.opening.specs.Opening.{usedIn}
+use Rattle.opening.specs.Laws.OpeningLaws.{opening-split}
+use borrow.Author.Needs.{needs}
+use Rattle.opening.proofs.prepare.Statement.{statement}
+use Rattle.opening.proofs.prepare.Tie as tie
+
+check-table-requires : tie.Need-check-table-requires
+check-table-requires c κs = search needs
+
+enum-known-verdict : tie.Need-enum-known-verdict
+enum-known-verdict c = search needs
+
+returns : tie.Need-returns
+returns c = let image = now (c .before .before .before .before .before .before .args .image) in
+    opening-split image _ ∙ ap (λ (a : Verdict). first a (regionsVerdict (discEnd image) (usedIn image))) (sym (c .before .before .before .check-table .ensures) ∙ c .before .verdict .given .1)
+
+enum-told : tie.Need-enum-told
+enum-told c = search needs
+
+check-used-requires : tie.Need-check-used-requires
+check-used-requires c κs = sym (c .before .before .before .check-table .ensures) ∙ c .before .enum-told .given .1
+
+same-length : tie.Need-same-length
+same-length c = search needs
+
+returns-2 : tie.Need-returns-2
+returns-2 c = search needs
+
+pub prepare-spec : {M : Type 1} → statement M
+prepare-spec =
+    tie.close
+    (tie.spec
+    check-table-requires
+    enum-known-verdict
+    returns
+    enum-told
+    check-used-requires
+    same-length
+    returns-2)

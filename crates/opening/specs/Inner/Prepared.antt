@@ -1,0 +1,57 @@
+-- What the calls work on once the image is open: its used regions, in order, in the working words. Assumes nothing: these are definitions.
+use Prim.Native.Nat.{ℕ, zero, suc, _+_, _≤_}
+use mathlib.Core.Path.{_≡_}
+use mathlib.Core.List.{List, [], _∷_, _++_}
+use lib.ListN.{length}
+use Rattle.refusal.specs.declared.Verdict.{Verdict}
+use Rattle.refusal.specs.declared.Verdict.the-variants as verdict
+use Rattle.refusal.specs.Refusal.{first}
+use Rattle.header.specs.Verdicts.{headerVerdict, boundsVerdict, discEnd}
+use Rattle.tree.specs.Table.{nodeWith, kind, offsetOrParent, sizeOrNext, check}
+use Rattle.space.specs.declared.DiscRegion.{DiscRegion}
+use Rattle.space.specs.Used.{nonempty, totalSize}
+use Rattle.space.specs.Free.{freeRegions}
+use Rattle.space.specs.Inner.Sort.{regionsIn}
+use Rattle.space.specs.Inner.Words.{SortedDisjoint}
+use Rattle.opening.specs.declared.Prepared.{Prepared}
+use Rattle.opening.specs.declared.Prepared.the-variants.{Ready, Refused}
+use Rattle.opening.specs.Opening.{tableOf, regionOf, opening, freeOf, usedOf}
+use Rattle.refusal.specs.declared.Verdict.the-variants.{Passed, Refused}
+
+-- the tests before 14
+abbrev pub tableVerdict : List ℕ → ℕ → Verdict
+tableVerdict image words = first (headerVerdict image) (first (boundsVerdict image) (check (tableOf image) words))
+
+-- the region of entry k, whatever its name
+abbrev pub entryRegion : List ℕ → ℕ → DiscRegion
+entryRegion tab k = regionOf (nodeWith (kind tab k) [] (offsetOrParent tab k) (sizeOrNext tab k))
+
+-- those of n entries from k on
+unfoldable pub entryRegions : List ℕ → ℕ → ℕ → List DiscRegion
+entryRegions tab k zero = []
+entryRegions tab k (suc n) = entryRegion tab k ∷ entryRegions tab (suc k) n
+
+-- entry k's region stands after m others, unless it is empty
+pub record AddedEntry (tab : List ℕ) (k : ℕ) (w w′ : List ℕ) (m r : ℕ) : Type 0 where
+  pub list : regionsIn w′ 0 r ≡ regionsIn w 0 m ++ nonempty (entryRegion tab k ∷ [])
+  pub bound : r ≤ m + 1
+
+-- the used regions of the image stand in the words, in order: m of them
+pub record UsedWords (image w : List ℕ) (m : ℕ) : Type 0 where
+  pub sorted : SortedDisjoint w m (discEnd image)
+  pub free : freeRegions (discEnd image) (regionsIn w 0 m) ≡ freeOf image
+  pub total : totalSize (regionsIn w 0 m) ≡ usedOf image
+
+-- by the cases of the answer: opening passed, and the words are ready; or it refused
+abbrev pub Prepares : List ℕ → ℕ → List ℕ → Prepared → Type 0
+Prepares image words w (Ready m) = (opening image words ≡ verdict.Passed) × UsedWords image w m
+Prepares image words w (Refused c) = opening image words ≡ verdict.Refused c
+
+pub record Opens (image : List ℕ) : Type 0 where
+  pub words : ℕ
+  pub passed : opening image words ≡ Passed
+
+-- opening passed with these working words, which hold the m used regions now
+pub record IsOpen (image w : List ℕ) (m : ℕ) : Type 0 where
+  pub passed : opening image (length w) ≡ Passed
+  pub used : UsedWords image w m

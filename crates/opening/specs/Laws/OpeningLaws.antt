@@ -1,0 +1,120 @@
+-- What opening tells of an image, and that the free bytes and the used total fill the disc. Assumes nothing.
+use Prim.Native.Nat.{ℕ, _+_, _≤_}
+use mathlib.Core.Path.{_≡_, refl, sym, ap, _∙_}
+use mathlib.Core.Logic.{⊎-elim}
+use mathlib.Core.Bool.{true, false, not}
+use mathlib.Core.List.{List, map}
+use native.Mathlib.Omega.{arith}
+use native.Mathlib.Nat.{add-assoc}
+use borrow.Author.Tests.{not-false}
+use lib.ListN.{length, take, drop, length-take, List·getD-eq-default}
+use Rattle.endian.specs.Bytes.{be32, span, AllBytes}
+use Rattle.endian.specs.Laws.Stored.{lt-or-le, length-span, getD-span}
+use Rattle.refusal.specs.declared.Refusal.the-variants.{OverlappingRegions}
+use Rattle.refusal.specs.declared.Verdict.{Verdict}
+use Rattle.refusal.specs.declared.Verdict.the-variants.{Passed, Refused}
+use Rattle.refusal.specs.Refusal.{first, isRefused}
+use Rattle.refusal.specs.Laws.Chains.{first-passed, first-stop, first-go, refuse-passed}
+use Rattle.header.specs.Verdicts.{headerVerdict, boundsVerdict, fstOffset, fstSize, discEnd, tableEnd}
+use Rattle.header.specs.Laws.FieldTests.{GoodHeader, header-passed, Bounded, bounds-passed}
+use Rattle.tree.specs.Table.{count, check}
+use Rattle.tree.specs.Laws.Accepted.{Accepted, accepted}
+use Rattle.space.specs.Free.{freeBytes}
+use Rattle.space.specs.Layout.{disjointBelow, regionsVerdict}
+use Rattle.space.specs.Laws.TotalLaws.{used-and-free}
+use Rattle.opening.specs.Opening.{tableOf, nodesIn, regionOf, usedIn, usedOf, opening}
+use Rattle.opening.specs.Inner.Prepared.{tableVerdict}
+
+-- ---- chains
+
+pub first-assoc : (a b c : Verdict) → first (first a b) c ≡ first a (first b c)
+first-assoc Passed b c = refl
+first-assoc (Refused x) b c = refl
+
+-- the first two groups refused, or passed
+pub stopped : (v a b c : Verdict) → v ≡ first a b → isRefused v ≡ true → v ≡ first a (first b c)
+stopped v a b c e r = sym (first-stop v c r) ∙ ap (λ (u : Verdict). first u c) e ∙ first-assoc a b c
+
+pub went-on : (v a b c : Verdict) → v ≡ first a b → isRefused v ≡ false → c ≡ first a (first b c)
+went-on v a b c e r = sym (first-go v c r) ∙ ap (λ (u : Verdict). first u c) e ∙ first-assoc a b c
+
+-- ---- parts of an image
+
+pub span-bytes : (s : List ℕ) (at n : ℕ) → AllBytes s → AllBytes (span s at n)
+span-bytes s at n h i =
+    ⊎-elim (λ l. rw (getD-span s at n i l) (h (at + i)))
+    (λ l. rw (List·getD-eq-default (take n (drop at s)) 0 {n = i} (omega (arith, length-take n (drop at s)))) (omega arith)) (lt-or-le i n)
+
+pub be32-span : (s : List ℕ) (at n i : ℕ) → i + 4 ≤ n → be32 (span s at n) i ≡ be32 s (at + i)
+unfolding be32
+be32-span s at n i h =
+    rw (
+      getD-span s at n i (omega arith),
+      getD-span s at n (i + 1) (omega arith),
+      getD-span s at n (i + 2) (omega arith),
+      getD-span s at n (i + 3) (omega arith),
+      add-assoc at i 1,
+      add-assoc at i 2,
+      add-assoc at i 3,
+    )
+
+-- ---- what the tests before 14 give
+
+pub record Readable (image : List ℕ) (words : ℕ) : Type 0 where
+  pub header : GoodHeader image
+  pub bounds : Bounded image
+  pub size : length (tableOf image) ≡ fstSize image
+  pub root : 12 ≤ fstSize image
+  pub table : Accepted (tableOf image) words
+  pub next : be32 image (fstOffset image + 8) ≡ count (tableOf image)
+
+pub readable : (image : List ℕ) (words : ℕ) → AllBytes image → tableVerdict image words ≡ Passed → Readable image words
+unfolding tableOf count
+readable image words bytes e =
+    let p = first-passed (headerVerdict image) _ e in
+    let q = first-passed (boundsVerdict image) _ (p .1) in
+    let b : Bounded image = bounds-passed image (q .0) in
+    let l : length (span image (fstOffset image) (fstSize image)) ≡ fstSize image =
+    length-span image (fstOffset image) (fstSize image) (omega (arith, b .table, b .image-holds)) in
+    let t : Accepted (tableOf image) words = accepted (tableOf image) words (span-bytes image (fstOffset image) (fstSize image) bytes) (q .1) in
+    record {
+      header = header-passed image (p .0);
+      bounds = b;
+      size = l;
+      root = omega (arith, t .fits, l);
+      table = t;
+      next = sym (be32-span image (fstOffset image) (fstSize image) 8 (omega (arith, t .fits, t .root-next, l))) ∙ t .root-next;
+    }
+
+-- ---- the whole of opening
+
+-- opening is the tests before 14, then 14
+pub opening-split : (image : List ℕ) (words : ℕ) → opening image words ≡ first (tableVerdict image words) (regionsVerdict (discEnd image) (usedIn image))
+unfolding opening
+opening-split image words = go (headerVerdict image) (boundsVerdict image) (check (tableOf image) words) (regionsVerdict (discEnd image) (usedIn image))
+  where
+    go : (a b c d : Verdict) → first a (first b (first c d)) ≡ first (first a (first b c)) d
+    go a b c d = sym (first-assoc a (first b c) d ∙ ap (first a) (first-assoc b c d))
+
+pub record OpenImage (image : List ℕ) (words : ℕ) : Type 0 where
+  pub reads : Readable image words
+  pub layout : disjointBelow (discEnd image) (usedIn image) ≡ true
+
+pub opens : (image : List ℕ) (words : ℕ) → AllBytes image → opening image words ≡ Passed → OpenImage image words
+opens image words bytes e =
+    let p = first-passed (tableVerdict image words) _ (sym (opening-split image words) ∙ e) in
+    record {
+      reads = readable image words bytes (p .0);
+      layout = not-false (disjointBelow (discEnd image) (usedIn image)) (refuse-passed (not (disjointBelow (discEnd image) (usedIn image))) OverlappingRegions Passed (p .1) .0);
+    }
+
+-- "table end + file sizes + free bytes = disc end", on every image that opens
+pub disc-filled : (image : List ℕ) (words : ℕ) → AllBytes image → opening image words ≡ Passed → usedOf image + freeBytes (discEnd image) (usedIn image) ≡ discEnd image
+unfolding usedOf usedIn
+disc-filled image words bytes e = used-and-free (tableEnd image) (discEnd image) (map regionOf (nodesIn image)) (opens image words bytes e .layout)
+
+-- the table of an image that opens is accepted
+pub table-accepted : (image : List ℕ) (words : ℕ) → opening image words ≡ Passed → check (tableOf image) words ≡ Passed
+unfolding opening
+table-accepted image words e =
+    first-passed (check (tableOf image) words) _ (first-passed (boundsVerdict image) _ (first-passed (headerVerdict image) _ e .1) .1) .0

@@ -1,0 +1,3 @@
+-- Definitions that only inner contracts need.
+pub mod Sort
+pub mod Words

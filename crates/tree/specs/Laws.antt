@@ -1,0 +1,19 @@
+-- What follows from the definitions.
+pub mod Accepted
+pub mod ChildInsert
+pub mod Depth
+pub mod Growing
+pub mod InsertLaws
+pub mod LookupLaws
+pub mod NestedInsert
+pub mod Nesting
+pub mod Order
+pub mod PatchLaws
+pub mod PlaceLaws
+pub mod Records
+pub mod RoundTrip
+pub mod Steps
+pub mod Texts
+pub mod Vectors
+pub mod Writing
+pub mod WrittenBytes

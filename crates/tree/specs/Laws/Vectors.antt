@@ -1,0 +1,98 @@
+-- The small master's table read, written and accepted; a table for each refusal; nesting, shared names, an insert; and paths: by
+-- computing. Assumes nothing.
+use Prim.Native.Nat.{ℕ}
+use mathlib.Core.Path.{_≡_, refl}
+use mathlib.Core.List.{List, [], _∷_, _++_}
+use lib.ListN.{set, take}
+use Rattle.endian.specs.Bytes.{be24, be32, put, be32Bytes, sameBytes}
+use Rattle.refusal.specs.declared.Verdict.the-variants.{Passed, Refused}
+use Rattle.refusal.specs.declared.Refusal.the-variants.{EntryPastTable, UnrecognizedKind, RootIsNotDirectory, MissingNullTerminator, LimitOrMemory, InvalidNextIndex, InvalidNameOffset, InvalidNameByte, UnsafeName, NoSuchEntry, ExpectedDirectory, NotFound}
+use Rattle.tree.specs.declared.Located.the-variants as located
+use Rattle.tree.specs.Table.{Node, file, directory, plain, safe, count, nameAt, nodeAt, nodesFrom, nodesOf, entryVerdict, entriesVerdict, unended, shut, nameVerdict, nextVerdict, walk, check, parentBelow, parentOf, entriesBytes, textsOf, encode}
+use Rattle.tree.specs.Lookup.{components, firstChild, childOf, follow, lookup}
+use Rattle.tree.specs.Insert.{emptyFile, bump, splice, insertAt, shifted}
+use Rattle.tree.specs.Inner.Patch.{records, recordBefore, recordAfter, patchedRecord, newStart, insertPatch}
+
+-- ---- "A small master": `01000000 00000000 00000002 00000000 00000500 00000100 6100`
+
+abbrev master : List ℕ
+master = 1 ∷ 0 ∷ 0 ∷ 0 ∷ 0 ∷ 0 ∷ 0 ∷ 0 ∷ 0 ∷ 0 ∷ 0 ∷ 2 ∷ 0 ∷ 0 ∷ 0 ∷ 0 ∷ 0 ∷ 0 ∷ 5 ∷ 0 ∷ 0 ∷ 0 ∷ 1 ∷ 0 ∷ 0x61 ∷ 0 ∷ []
+
+abbrev tree : List Node
+tree = directory [] 2 ∷ file (0x61 ∷ []) 0x500 0x100 ∷ []
+
+master-reads : nodesOf master ≡ tree
+unfolding nodesOf nodesFrom nodeAt nameAt count be24 be32
+master-reads = refl
+
+master-written : encode tree ≡ master
+unfolding encode entriesBytes textsOf parentOf parentBelow
+master-written = refl
+
+master-accepted : check master 16 ≡ Passed
+unfolding check nodesFrom nodeAt nameAt count entriesVerdict entryVerdict unended walk nameVerdict nextVerdict shut plain safe be24 be32
+master-accepted = refl
+
+-- ---- each refusal of a table, 5 to 13; a count of 0 is 10, of 2^24 it is 9
+
+refusals :
+    (check (take 11 master) 16 ≡ Refused EntryPastTable) ×
+    (check (take 23 master) 16 ≡ Refused EntryPastTable) ×
+    (check (set master 0 2) 16 ≡ Refused UnrecognizedKind) ×
+    (check (set master 12 2) 16 ≡ Refused UnrecognizedKind) ×
+    (check (set master 0 0) 16 ≡ Refused RootIsNotDirectory) ×
+    (check (take 25 master) 16 ≡ Refused MissingNullTerminator) ×
+    (check master 15 ≡ Refused LimitOrMemory) ×
+    (check (set master 8 1) 16 ≡ Refused LimitOrMemory) ×
+    (check (set master 11 0) 16 ≡ Refused InvalidNextIndex) ×
+    (check (set (set master 12 1) 23 1) 16 ≡ Refused InvalidNextIndex) ×
+    (check (set (set master 12 1) 22 3) 16 ≡ Refused InvalidNextIndex) ×
+    (check (set master 15 2) 16 ≡ Refused InvalidNameOffset) ×
+    (check (set master 24 0x1F) 16 ≡ Refused InvalidNameByte) ×
+    (check (take 24 master ++ (0x2F ∷ 0x7F ∷ 0 ∷ [])) 16 ≡ Refused InvalidNameByte) ×
+    (check (set master 24 0x2E) 16 ≡ Refused UnsafeName) ×
+    (check (set master 24 0x3A) 16 ≡ Refused UnsafeName) ×
+    (check (set master 15 1) 16 ≡ Refused UnsafeName)
+unfolding check nodesFrom nodeAt nameAt count entriesVerdict entryVerdict unended walk nameVerdict nextVerdict shut plain safe be24 be32
+refusals = (refl, refl, refl, refl, refl, refl, refl, refl, refl, refl, refl, refl, refl, refl, refl, refl, refl)
+
+-- ---- a directory `d` with a file `b` in it, then a file `b` beside it; both files have the one text `b`, and the stored parents are wrong
+
+abbrev shared : List ℕ
+shared =
+    (1 ∷ 0 ∷ 0 ∷ 0 ∷ be32Bytes 0 ++ be32Bytes 4) ++ ((1 ∷ 0 ∷ 0 ∷ 0 ∷ be32Bytes 7 ++ be32Bytes 3) ++ ((0 ∷ 0 ∷ 0 ∷ 2 ∷ be32Bytes 9 ++ be32Bytes 8) ++ ((0 ∷ 0 ∷ 0 ∷ 2 ∷ be32Bytes 6 ++ be32Bytes 5) ++ (0x64 ∷ 0 ∷ 0x62 ∷ 0 ∷ []))))
+
+abbrev nested : List Node
+nested = directory [] 4 ∷ directory (0x64 ∷ []) 3 ∷ file (0x62 ∷ []) 9 8 ∷ file (0x62 ∷ []) 6 5 ∷ []
+
+shared-accepted : (check shared 24 ≡ Passed) × (nodesOf shared ≡ nested)
+unfolding check nodesOf nodesFrom nodeAt nameAt count entriesVerdict entryVerdict unended walk nameVerdict nextVerdict shut plain safe be24 be32
+shared-accepted = (refl, refl)
+
+-- written, each name has a text of its own and the parent is the one it is nested in: two bytes more
+shared-written : encode nested ≡ put (put (put (take 50 shared ++ (0x62 ∷ 0 ∷ 0x62 ∷ 0 ∷ [])) 16 (be32Bytes 0)) 39 (4 ∷ [])) 50 (0x62 ∷ [])
+unfolding encode entriesBytes textsOf parentOf parentBelow put
+shared-written = refl
+
+-- an empty file `c` as the last child of `d`: entry 3, and the table of the new tree is the old one patched
+grown : insertAt 1 (emptyFile (0x63 ∷ [])) nested ≡ directory [] 5 ∷ directory (0x64 ∷ []) 4 ∷ file (0x62 ∷ []) 9 8 ∷ file (0x63 ∷ []) 0 0 ∷ file (0x62 ∷ []) 6 5 ∷ []
+unfolding insertAt splice bump
+grown = refl
+
+grown-patched : insertPatch (encode nested) 4 1 (emptyFile (0x63 ∷ [])) ≡ encode (insertAt 1 (emptyFile (0x63 ∷ [])) nested)
+unfolding insertPatch records patchedRecord recordBefore recordAfter newStart encode entriesBytes textsOf parentOf parentBelow insertAt splice bump shifted be24 be32
+grown-patched = refl
+
+-- ---- paths: ``, `d/b`, `d/../b`, `./d\b`, `..`, `b/`, `d/x`, and an entry that is none
+
+looked-up :
+    (lookup nested 0 [] ≡ located.At 0) ×
+    (lookup nested 0 (0x64 ∷ 0x2F ∷ 0x62 ∷ []) ≡ located.At 2) ×
+    (lookup nested 0 (0x64 ∷ 0x2F ∷ 0x2E ∷ 0x2E ∷ 0x2F ∷ 0x62 ∷ []) ≡ located.At 3) ×
+    (lookup nested 0 (0x2E ∷ 0x2F ∷ 0x64 ∷ 0x5C ∷ 0x62 ∷ []) ≡ located.At 2) ×
+    (lookup nested 1 (0x2E ∷ 0x2E ∷ []) ≡ located.Refused NotFound) ×
+    (lookup nested 0 (0x62 ∷ 0x2F ∷ []) ≡ located.Refused ExpectedDirectory) ×
+    (lookup nested 0 (0x64 ∷ 0x2F ∷ 0x78 ∷ []) ≡ located.Refused NotFound) ×
+    (lookup nested 4 [] ≡ located.Refused NoSuchEntry)
+unfolding lookup follow components childOf firstChild parentOf parentBelow sameBytes
+looked-up = (refl, refl, refl, refl, refl, refl, refl, refl)
