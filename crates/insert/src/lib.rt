@@ -1,11 +1,12 @@
 // The edits that add an entry: an empty file or an empty directory as last child of a directory.
 mod opened;
 
+use grow::Grown;
 use opening::Prepared;
 use tree::Located;
 ghost use lib.ListN.{length};
 ghost use Rattle.opening.specs.Opening.{opening};
-ghost use Rattle.edits.specs.Edits.{insertFile, insertDirectory, planned, planOf};
+ghost use Rattle.edits.specs.Edits.{insertFile, insertDirectory, planned, planOf, numberedAs};
 ghost use Rattle.insert.specs.Inner.Insertion.{insertion};
 ghost use Rattle.grow.specs.Inner.Grown.{Numbered};
 ghost use Rattle.edits.specs.Promise.{lent, Edited};

@@ -1,6 +1,7 @@
 -- `insert::opened::insert` meets its contract: refused by its own tests, or the tree that was built with the number that was found.
 -- Assumes nothing.
-use Rattle.grow.proofs.NumberLaws.{number-refused, number-at, insert-allows, plan-insert, change-numbered, behind-numbered, behind-refused-numbered}
+use Rattle.grow.proofs.NumberLaws.{number-refused, number-at, change-numbered, behind-numbered, behind-refused-numbered}
+use Rattle.insert.proofs.InsertionLaws.{insert-allows, plan-insert}
 use Rattle.grow.specs.Inner.Growth.{added}
 use Rattle.edits.specs.Edits.{tableOnly, newNumber, insertVerdict}
 use Rattle.edits.specs.Change.{change}

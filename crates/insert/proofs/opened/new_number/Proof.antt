@@ -1,6 +1,6 @@
 -- `insert::opened::new_number` meets its contract: the number is the directory's next.
 -- Assumes nothing.
-use Rattle.grow.proofs.NumberLaws.{insert-allows}
+use Rattle.insert.proofs.InsertionLaws.{insert-allows}
 use Rattle.grow.proofs.GrowthLaws.{is-directory}
 use Rattle.edits.specs.Edits.{insertVerdict}
 use Rattle.tree.specs.Laws.Nesting.{next-bounds}
