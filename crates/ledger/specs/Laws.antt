@@ -17,3 +17,4 @@ pub mod Steps
 pub mod TableEdits
 pub mod Vectors
 pub mod Written
+pub mod Demand3

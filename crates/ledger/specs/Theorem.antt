@@ -1,5 +1,6 @@
 -- Demand 3, "a single claim about the list and not one for each call": what holds of the image after any list of calls, by the ledger of the
--- list. Beside it, what it comes to for a file that no accepted edit named. Assumes nothing.
+-- list. Beside it, what it comes to for a file that no accepted edit named. Both are proved: `demand-3` and `unnamed-stays` of Laws/Demand3.
+-- Assumes nothing: these are definitions.
 use Prim.Native.Nat.{ℕ, _+_, _≤_}
 use mathlib.Core.Path.{_≡_}
 use mathlib.Core.Bool.{true, false}
@@ -15,12 +16,9 @@ use Rattle.opening.specs.Opening.{nodesIn, regionOf, usedIn, freeOf, opening}
 use Rattle.disc.specs.Calls.{totalsAnswer, freeRegionsAnswer, freeRegionsList}
 use Rattle.disc.specs.declared.TotalsAnswer.the-variants.{Found}
 use Rattle.edits.specs.Edits.{noPlace}
-use Rattle.ledger.specs.Ledger.{Ledger, bare, filesBefore, historyOf, firstLedger, Report, ledgerAfter}
+use Rattle.ledger.specs.Ledger.{Ledger, bare, filesBefore, historyOf, firstLedger, ledgerAfter}
 use Rattle.ledger.specs.Runs.{Call, imageAfterAll, reportsOf, AllWithin}
 use Rattle.ledger.specs.Spared.{numberAfter, Spared}
-use Rattle.ledger.specs.Laws.SparedLaws.{spared, begins}
-use Rattle.ledger.specs.Laws.Kept.{Kept}
-use Rattle.ledger.specs.Laws.Sequence.{start, along, no-byte-twice, sum, used-reported, free-reported, free-listed, entry-least, entry-known, entry-first, entry-place, still-there}
 
 -- of the file with entry number k, which lies at `offset` and has `size` bytes, by "what the ledger holds for its file k"
 pub record TrueTo (image : List ℕ) (l : Ledger) (k offset size : ℕ) : Type 0 where
@@ -50,26 +48,10 @@ pub record Demand3 (w : ℕ) (image : List ℕ) (l : Ledger) : Type 0 where
 
 -- THEOREM: an image of bytes that opening accepts with w₀ words, any list of calls, and w words, which are no fewer than w₀ and than any call of
 -- the list was lent
-pub demand-3 : (image : List ℕ) (w₀ w : ℕ) (calls : List Call) → AllBytes image → opening image w₀ ≡ Passed → w₀ ≤ w → AllWithin w calls →
+abbrev pub AnyList : Type 0
+AnyList =
+    (image : List ℕ) (w₀ w : ℕ) (calls : List Call) → AllBytes image → opening image w₀ ≡ Passed → w₀ ≤ w → AllWithin w calls →
     Demand3 w (imageAfterAll calls image) (ledgerAfter (reportsOf calls image) (firstLedger image))
-demand-3 image w₀ w calls b e h a = claim (imageAfterAll calls image) (ledgerAfter (reportsOf calls image) (firstLedger image)) (along w calls image (firstLedger image) a (start image w₀ w h b e))
-  where
-    claim : (last : List ℕ) (l : Ledger) → Kept w last l → Demand3 w last l
-    claim last l k = record {
-      opens = k .opens;
-      tree = k .shape;
-      apart = no-byte-twice w last l k;
-      sum = sum w last l k;
-      used-reported = used-reported w last l k;
-      free-reported = free-reported w last l k;
-      free-listed = free-listed w last l k;
-      files = λ n nm offset size q. record {
-        m-size = entry-least w last l k n nm offset size q;
-        m-bytes = entry-known w last l k n nm offset size q;
-        first-bytes = entry-first w last l k n nm offset size q;
-        unnamed = entry-place w last l k n nm offset size q;
-      };
-    }
 
 -- ---- after any list, a file that no accepted edit named lies where it lay, byte for byte
 
@@ -81,14 +63,9 @@ pub record StillThere (first last : List ℕ) (f : ℕ) (nm : List ℕ) (offset 
   pub lies : getD (nodesIn last) entry none ≡ file nm offset size
   pub bytes : span last offset size ≡ span first offset size
 
-pub unnamed-stays : (image : List ℕ) (w₀ w : ℕ) (calls : List Call) → AllBytes image → opening image w₀ ≡ Passed → w₀ ≤ w → AllWithin w calls →
+-- THEOREM
+abbrev pub UnnamedStays : Type 0
+UnnamedStays =
+    (image : List ℕ) (w₀ w : ℕ) (calls : List Call) → AllBytes image → opening image w₀ ≡ Passed → w₀ ≤ w → AllWithin w calls →
     (k : ℕ) (nm : List ℕ) (offset size : ℕ) → getD (nodesIn image) k none ≡ file nm offset size → Spared (reportsOf calls image) (firstLedger image) (filesBefore k (nodesIn image)) →
     StillThere image (imageAfterAll calls image) (numberAfter (reportsOf calls image) (firstLedger image) (filesBefore k (nodesIn image))) nm offset size
-unnamed-stays image w₀ w calls b e h a k nm offset size q s =
-    let reports : List Report = reportsOf calls image in
-    let last : List ℕ = imageAfterAll calls image in
-    let l : Ledger = ledgerAfter reports (firstLedger image) in
-    let f : ℕ = numberAfter reports (firstLedger image) (filesBefore k (nodesIn image)) in
-    let g = spared reports (firstLedger image) (filesBefore k (nodesIn image)) _ nm s (begins image k nm offset size q) in
-    let t = still-there w last l (along w calls image (firstLedger image) a (start image w₀ w h b e)) f (record { offset = offset; size = size }) nm (span image offset size) (g .0 .0) (g .0 .1) (g .1 .1) in
-    record { entry = t .0; number = t .1; lies = t .2; bytes = t .3 }
