@@ -14,7 +14,7 @@ use Rattle.refusal.specs.Refusal.{first, isRefused}
 use Rattle.tree.specs.Table.{Node, encode}
 use Rattle.tree.specs.Insert.{setPlace}
 use Rattle.tree.specs.Laws.PlaceLaws.{length-setPlace, texts-setPlace, limits-setPlace}
-use Rattle.tree.specs.Laws.RoundTrip.{length-encode}
+use Rattle.tree.specs.Laws.WrittenEntries.{length-encode}
 use Rattle.opening.specs.Opening.{opening}
 use Rattle.commit.specs.declared.Writing.{Writing}
 use Rattle.commit.specs.declared.Decision.{Decision}

@@ -16,7 +16,8 @@ use Rattle.refusal.specs.Laws.Chains.{refuse-passed, first-passed}
 use Rattle.header.specs.Verdicts.{headerVerdict, boundsVerdict, fstOffset, fstSize, discEnd, tableEnd}
 use Rattle.tree.specs.Table.{Node, none, count, check, textsOf, encode, limits}
 use Rattle.tree.specs.Laws.Accepted.{length-nodesOf}
-use Rattle.tree.specs.Laws.RoundTrip.{length-encode, Within, within-limits, limits-within}
+use Rattle.tree.specs.Laws.WrittenEntries.{length-encode}
+use Rattle.tree.specs.Laws.RoundTrip.{Within, within-limits, limits-within}
 use Rattle.fst_write.specs.declared.Measured.the-variants.{Size, PastLimit}
 use Rattle.fst_write.specs.Inner.Measure.{measureOf}
 use Rattle.fst_write.specs.Inner.Valid.{Valid}

@@ -6,14 +6,14 @@ use Rattle.refusal.specs.declared.Verdict.{Verdict}
 use Rattle.refusal.specs.declared.Verdict.the-variants.{Passed, Refused}
 use Rattle.header.specs.declared.DiscHeader.{DiscHeader}
 use Rattle.header.specs.declared.HeaderRead.{HeaderRead}
-use Rattle.header.specs.Header.{written}
+use Rattle.header.specs.Header.{headerWritten}
 use Rattle.dol.specs.declared.DolHeader.{DolHeader}
 use Rattle.disc.specs.declared.DolFile.{DolFile}
 use Rattle.counter.specs.Replies.{Reply, accepts, refuses, windowWords}
 
 -- a header that was read, written back
 abbrev pub fieldsAs : Verdict → DiscHeader → List ℕ → List ℕ
-fieldsAs Passed h fields = written h fields
+fieldsAs Passed h fields = headerWritten h fields
 fieldsAs (Refused c) h fields = fields
 
 abbrev pub fieldsAfter : HeaderRead → List ℕ → List ℕ

@@ -6,7 +6,7 @@ ghost use lib.ListN.{length, replicate};
 ghost use Rattle.endian.specs.Bytes.{put};
 ghost use Rattle.refusal.specs.declared.Refusal.the-variants.{LimitOrMemory};
 ghost use Rattle.refusal.specs.Refusal.{numberOf};
-ghost use Rattle.header.specs.Header.{readOf};
+ghost use Rattle.header.specs.Header.{headerRead};
 ghost use Rattle.disc.specs.Calls.{openDolAnswer};
 ghost use Rattle.counter.specs.Replies.{Gives, needing, ifShort, verdictNumber};
 ghost use Rattle.counter.specs.Headers.{fieldsAfter, dolWords, dolReply, dolWindowReply};
@@ -37,7 +37,7 @@ fn give_header(fields: &mut [u8], read: HeaderRead) -> u32
 
 #[no_mangle]
 pub extern "C" fn counter_header(image: &[u8], fields: &mut [u8]) -> u32
-    ensures { λ r. ⌜ (r ≡ ifShort (length (now (fields .entry))) 0x440 (numberOf LimitOrMemory) (verdictNumber (readOf (now (image .entry)) .verdict))) × (now (fields .exit) ≡ ifShort (length (now (fields .entry))) 0x440 (now (fields .entry)) (fieldsAfter (readOf (now (image .entry))) (now (fields .entry)))) ⌝ }
+    ensures { λ r. ⌜ (r ≡ ifShort (length (now (fields .entry))) 0x440 (numberOf LimitOrMemory) (verdictNumber (headerRead (now (image .entry)) .verdict))) × (now (fields .exit) ≡ ifShort (length (now (fields .entry))) 0x440 (now (fields .entry)) (fieldsAfter (headerRead (now (image .entry))) (now (fields .entry)))) ⌝ }
 {
     if fields.len() < 0x440 {
         return slots::too_few();

@@ -23,7 +23,7 @@ use Rattle.tree.specs.declared.Found.the-variants as found
 use Rattle.tree.specs.declared.Located.the-variants as located
 use Rattle.tree.specs.Insert.{setPlace}
 use Rattle.tree.specs.Laws.PatchLaws.{place-patched}
-use Rattle.tree.specs.Laws.RoundTrip.{length-encode}
+use Rattle.tree.specs.Laws.WrittenEntries.{length-encode}
 use Rattle.space.specs.declared.DiscRegion.{DiscRegion}
 use Rattle.free_space.specs.declared.Allocation.{Allocation}
 use Rattle.free_space.specs.declared.Allocation.the-variants as allocation

@@ -8,25 +8,25 @@ use Rattle.window.specs.declared.Window.{Window}
 use Rattle.window.specs.Window.{newWindow}
 use Rattle.dol.specs.declared.DolHeader.{DolHeader}
 use Rattle.dol.specs.declared.DolAnswer.{DolAnswer}
-use Rattle.dol.specs.Dol.{headerOf, verdictOf, answered, answerOf}
+use Rattle.dol.specs.Dol.{dolHeaderOf, dolVerdictOf, dolAnswered, dolAnswerOf}
 use Rattle.header.specs.Verdicts.{dolOffset}
 use Rattle.disc.specs.declared.DolFile.{DolFile}
 use Rattle.disc.specs.Calls.{dolAs}
 
-answered-verdict : (v : Verdict) (h : DolHeader) → answered v h .verdict ≡ v
+answered-verdict : (v : Verdict) (h : DolHeader) → dolAnswered v h .verdict ≡ v
 answered-verdict Passed h = refl
 answered-verdict (Refused c) h = refl
 
-module _ (image : List ℕ) (at : ℕ) (a : DolAnswer) (e : a ≡ answerOf image at) (o : at ≡ dolOffset image) where
+module _ (image : List ℕ) (at : ℕ) (a : DolAnswer) (e : a ≡ dolAnswerOf image at) (o : at ≡ dolOffset image) where
   -- the verdict that the header's answer has
-  pub dol-verdict : (v : Verdict) → a .verdict ≡ v → verdictOf image (dolOffset image) ≡ v
+  pub dol-verdict : (v : Verdict) → a .verdict ≡ v → dolVerdictOf image (dolOffset image) ≡ v
   dol-verdict v h =
-      ap (verdictOf image) (sym o) ∙ sym (answered-verdict (verdictOf image at) (headerOf image at)) ∙ ap (λ (x : DolAnswer). x .verdict) (sym e) ∙ h
+      ap (dolVerdictOf image) (sym o) ∙ sym (answered-verdict (dolVerdictOf image at) (dolHeaderOf image at)) ∙ ap (λ (x : DolAnswer). x .verdict) (sym e) ∙ h
 
   pub dol-is : (w : Window) → a .verdict ≡ Passed → w ≡ newWindow at (a .size)
-      → _≡_ {A = DolFile} (record { verdict = a .verdict; header = a .header; window = w }) (dolAs (verdictOf image (dolOffset image)) image)
+      → _≡_ {A = DolFile} (record { verdict = a .verdict; header = a .header; window = w }) (dolAs (dolVerdictOf image (dolOffset image)) image)
   dol-is w h k =
-      let p : verdictOf image (dolOffset image) ≡ Passed = dol-verdict Passed h in
-      let q : verdictOf image at ≡ Passed = ap (verdictOf image) o ∙ p in
-      let r : a ≡ answered Passed (headerOf image at) = e ∙ ap (λ (v : Verdict). answered v (headerOf image at)) q in
+      let p : dolVerdictOf image (dolOffset image) ≡ Passed = dol-verdict Passed h in
+      let q : dolVerdictOf image at ≡ Passed = ap (dolVerdictOf image) o ∙ p in
+      let r : a ≡ dolAnswered Passed (dolHeaderOf image at) = e ∙ ap (λ (v : Verdict). dolAnswered v (dolHeaderOf image at)) q in
       rw (k, r, p, o)

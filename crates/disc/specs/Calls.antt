@@ -11,7 +11,7 @@ use Rattle.refusal.specs.declared.Verdict.the-variants as verdict
 use Rattle.refusal.specs.Refusal.{refuse, first}
 use Rattle.header.specs.Verdicts.{dolOffset, fstOffset, discEnd, fstSize}
 use Rattle.window.specs.Window.{newWindow}
-use Rattle.dol.specs.Dol.{headerOf, fileSizeOf, verdictOf, newHeader}
+use Rattle.dol.specs.Dol.{dolHeaderOf, fileSizeOf, dolVerdictOf, newHeader}
 use Rattle.tree.specs.Lookup.{lookup, foundAt, entryFound}
 use Rattle.tree.specs.declared.Entry.the-variants.{File, Directory}
 use Rattle.tree.specs.declared.Found.{Found}
@@ -122,14 +122,14 @@ maxFileSizeAnswer image words k = fileSizeAnswer image words (entryAnswer image 
 -- ---- the executable: after opening, 24
 
 unfoldable pub dolVerdict : List ℕ → ℕ → Verdict
-dolVerdict image words = first (opening image words) (verdictOf image (dolOffset image))
+dolVerdict image words = first (opening image words) (dolVerdictOf image (dolOffset image))
 
 -- the header and the window; with a refusal zeros
 abbrev pub dolAs : Verdict → List ℕ → DolFile
 dolAs verdict.Passed image = record {
   verdict = verdict.Passed;
-  header = headerOf image (dolOffset image);
-  window = newWindow (dolOffset image) (fileSizeOf (headerOf image (dolOffset image)));
+  header = dolHeaderOf image (dolOffset image);
+  window = newWindow (dolOffset image) (fileSizeOf (dolHeaderOf image (dolOffset image)));
 }
 dolAs (verdict.Refused c) image = record { verdict = verdict.Refused c; header = newHeader; window = newWindow 0 0 }
 

@@ -3,7 +3,7 @@ ghost use mathlib.Core.Path.{_≡_};
 ghost use lib.ListN.{length};
 ghost use mathlib.Core.List.{[]};
 ghost use Rattle.disc.specs.Calls.{dolAs, openDolAnswer};
-ghost use Rattle.dol.specs.Dol.{verdictOf};
+ghost use Rattle.dol.specs.Dol.{dolVerdictOf};
 ghost use Rattle.header.specs.Verdicts.{dolOffset};
 ghost use Rattle.opening.specs.Opening.{zeros};
 use crate::DolFile;
@@ -26,7 +26,7 @@ fn refused(cause: Refusal) -> DolFile
 
 // The answer of an image that opened.
 fn dol_in(image: &[u8]) -> DolFile
-    ensures { λ r. ⌜ r ≡ dolAs (verdictOf (now (image .entry)) (dolOffset (now (image .entry)))) (now (image .entry)) ⌝ }
+    ensures { λ r. ⌜ r ≡ dolAs (dolVerdictOf (now (image .entry)) (dolOffset (now (image .entry)))) (now (image .entry)) ⌝ }
 {
     let at = header::dol_offset(image);
     let answer = dol::read(image, at as usize);

@@ -7,18 +7,18 @@ use native.Mathlib.Numerals.{add-one}
 use lib.ListN.{length, getD, drop, set, drop-of-length-le}
 use lib.Seq.{drop-cons, append-snoc, set-at}
 use Rattle.endian.specs.Bytes.{be32}
-use Rattle.dol.specs.Dol.{words, largestOf}
+use Rattle.dol.specs.Dol.{wordsAt, largestOf}
 use Rattle.dol.specs.Laws.Facts.{length-words}
 
-pub words-snoc : (s : List ℕ) (at n : ℕ) → words s at (suc n) ≡ words s at n ++ (be32 s (at + 4 * n) ∷ [])
-unfolding words
+pub words-snoc : (s : List ℕ) (at n : ℕ) → wordsAt s at (suc n) ≡ wordsAt s at n ++ (be32 s (at + 4 * n) ∷ [])
+unfolding wordsAt
 words-snoc s at zero = let e : at + 4 * zero ≡ at = omega arith in rw e
 words-snoc s at (suc n) = let e : at + 4 + 4 * n ≡ at + 4 * suc n = omega arith in ap (λ (l : List ℕ). be32 s at ∷ l) (rw e at (words-snoc s (at + 4) n))
 
 -- one turn of a loop that fills a list with words
-pub words-turn : (s out₀ out : List ℕ) (at i : ℕ) → out ≡ words s at i ++ drop i out₀ → i < length out₀ → set out i (be32 s (at + 4 * i)) ≡ words s at (i + 1) ++ drop (i + 1) out₀
+pub words-turn : (s out₀ out : List ℕ) (at i : ℕ) → out ≡ wordsAt s at i ++ drop i out₀ → i < length out₀ → set out i (be32 s (at + 4 * i)) ≡ wordsAt s at (i + 1) ++ drop (i + 1) out₀
 words-turn s out₀ out at i e h =
-    rw (e, add-one i, drop-cons out₀ i 0, words-snoc) (set-at (words s at i) _ _ _ i (length-words s at i) ∙ sym (append-snoc (words s at i) _ _))
+    rw (e, add-one i, drop-cons out₀ i 0, words-snoc) (set-at (wordsAt s at i) _ _ _ i (length-words s at i) ∙ sym (append-snoc (wordsAt s at i) _ _))
 
 -- one turn of a loop that looks for the largest sum, and the loop's end
 pub largest-turn : (os ss : List ℕ) (i top : ℕ) → largestOf os ss ≡ max top (largestOf (drop i os) (drop i ss)) → i < length os → length os ≡ length ss

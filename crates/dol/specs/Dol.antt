@@ -14,19 +14,19 @@ use Rattle.dol.specs.declared.DolHeader.{DolHeader}
 use Rattle.dol.specs.declared.DolAnswer.{DolAnswer}
 
 -- the n fields of 4 bytes from `at` on
-unfoldable pub words : List ℕ → ℕ → ℕ → List ℕ
-words s at zero = []
-words s at (suc n) = be32 s at ∷ words s (at + 4) n
+unfoldable pub wordsAt : List ℕ → ℕ → ℕ → List ℕ
+wordsAt s at zero = []
+wordsAt s at (suc n) = be32 s at ∷ wordsAt s (at + 4) n
 
 -- the header at `at`
-abbrev pub headerOf : List ℕ → ℕ → DolHeader
-headerOf s at = record {
-  «text_offsets» = words s at 7;
-  «data_offsets» = words s (at + 0x1C) 11;
-  «text_addresses» = words s (at + 0x48) 7;
-  «data_addresses» = words s (at + 0x64) 11;
-  «text_sizes» = words s (at + 0x90) 7;
-  «data_sizes» = words s (at + 0xAC) 11;
+abbrev pub dolHeaderOf : List ℕ → ℕ → DolHeader
+dolHeaderOf s at = record {
+  «text_offsets» = wordsAt s at 7;
+  «data_offsets» = wordsAt s (at + 0x1C) 11;
+  «text_addresses» = wordsAt s (at + 0x48) 7;
+  «data_addresses» = wordsAt s (at + 0x64) 11;
+  «text_sizes» = wordsAt s (at + 0x90) 7;
+  «data_sizes» = wordsAt s (at + 0xAC) 11;
   «bss_address» = be32 s (at + 0xD8);
   «bss_size» = be32 s (at + 0xDC);
   «entry_point» = be32 s (at + 0xE0);
@@ -43,8 +43,8 @@ abbrev pub fileSizeOf : DolHeader → ℕ
 fileSizeOf h = max (largestOf (h .«text_offsets») (h .«text_sizes»)) (largestOf (h .«data_offsets») (h .«data_sizes»))
 
 -- "DOL header past the image, or a sum above 2^32 - 1", which is the largest sum above it
-abbrev pub verdictOf : List ℕ → ℕ → Verdict
-verdictOf s at = refuse (ltb (length s) (at + 0xE4)) InvalidDol (refuse (ltb (2 ^ 32 - 1) (fileSizeOf (headerOf s at))) InvalidDol Passed)
+abbrev pub dolVerdictOf : List ℕ → ℕ → Verdict
+dolVerdictOf s at = refuse (ltb (length s) (at + 0xE4)) InvalidDol (refuse (ltb (2 ^ 32 - 1) (fileSizeOf (dolHeaderOf s at))) InvalidDol Passed)
 
 -- a header of zeros
 abbrev pub newHeader : DolHeader
@@ -61,12 +61,12 @@ newHeader = record {
 }
 
 -- the answer by its verdict: the header and its file size, or with a refusal zeros
-abbrev pub answered : Verdict → DolHeader → DolAnswer
-answered Passed h = record { verdict = Passed; header = h; size = fileSizeOf h }
-answered (Refused c) h = record { verdict = Refused c; header = newHeader; size = 0 }
+abbrev pub dolAnswered : Verdict → DolHeader → DolAnswer
+dolAnswered Passed h = record { verdict = Passed; header = h; size = fileSizeOf h }
+dolAnswered (Refused c) h = record { verdict = Refused c; header = newHeader; size = 0 }
 
-abbrev pub answerOf : List ℕ → ℕ → DolAnswer
-answerOf s at = answered (verdictOf s at) (headerOf s at)
+abbrev pub dolAnswerOf : List ℕ → ℕ → DolAnswer
+dolAnswerOf s at = dolAnswered (dolVerdictOf s at) (dolHeaderOf s at)
 
 -- number 24
 abbrev pub refusedAnswer : DolAnswer

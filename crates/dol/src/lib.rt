@@ -7,7 +7,7 @@ ghost use mathlib.Core.Path.{_≡_};
 ghost use Prim.Native.Nat.{_+_, _*_, _≤_, _<_, _^_, max};
 ghost use lib.ListN.{length};
 ghost use Rattle.window.specs.Window.{newWindow};
-ghost use Rattle.dol.specs.Dol.{words, largestOf, newHeader, headerOf, fileSizeOf, answerOf, refusedAnswer};
+ghost use Rattle.dol.specs.Dol.{wordsAt, largestOf, newHeader, dolHeaderOf, fileSizeOf, dolAnswerOf, refusedAnswer};
 
 pub struct DolHeader {
     pub text_offsets: [u32; 7],
@@ -43,7 +43,7 @@ fn larger(a: u64, b: u64) -> u64
 // As many words as `out` has, from `at` on.
 fn read_words(s: &[u8], at: usize, out: &mut [u32])
     requires { ⌜ at + 4 * length (now out) ≤ length (now s) ⌝ }
-    ensures { λ _. ⌜ now (out .exit) ≡ words (now (s .entry)) at (length (now (out .entry))) ⌝ }
+    ensures { λ _. ⌜ now (out .exit) ≡ wordsAt (now (s .entry)) at (length (now (out .entry))) ⌝ }
 {
     let mut i = 0;
     while i < out.len() {
@@ -55,7 +55,7 @@ fn read_words(s: &[u8], at: usize, out: &mut [u32])
 // A word for each text section.
 fn text_words(s: &[u8], at: usize) -> [u32; 7]
     requires { ⌜ at + 28 ≤ length (now s) ⌝ }
-    ensures { λ r. ⌜ r ≡ words (now (s .entry)) at 7 ⌝ }
+    ensures { λ r. ⌜ r ≡ wordsAt (now (s .entry)) at 7 ⌝ }
 {
     let mut a = [0u32; 7];
     read_words(s, at, &mut a);
@@ -65,7 +65,7 @@ fn text_words(s: &[u8], at: usize) -> [u32; 7]
 // A word for each data section.
 fn data_words(s: &[u8], at: usize) -> [u32; 11]
     requires { ⌜ at + 44 ≤ length (now s) ⌝ }
-    ensures { λ r. ⌜ r ≡ words (now (s .entry)) at 11 ⌝ }
+    ensures { λ r. ⌜ r ≡ wordsAt (now (s .entry)) at 11 ⌝ }
 {
     let mut a = [0u32; 11];
     read_words(s, at, &mut a);
@@ -88,7 +88,7 @@ fn largest(offsets: &[u32], sizes: &[u32]) -> u64
 
 fn header_at(s: &[u8], at: usize) -> DolHeader
     requires { ⌜ at + 0xE4 ≤ length (now s) ⌝ }
-    ensures { λ r. ⌜ r ≡ headerOf (now (s .entry)) at ⌝ }
+    ensures { λ r. ⌜ r ≡ dolHeaderOf (now (s .entry)) at ⌝ }
 {
     let text_offsets = text_words(s, at);
     let data_offsets = data_words(s, at + 0x1C);
@@ -159,7 +159,7 @@ fn refused() -> DolAnswer
 }
 
 pub fn read(image: &[u8], at: usize) -> DolAnswer
-    ensures { λ r. ⌜ r ≡ answerOf (now (image .entry)) at ⌝ }
+    ensures { λ r. ⌜ r ≡ dolAnswerOf (now (image .entry)) at ⌝ }
 {
     if image.len() < 0xE4 {
         return refused();

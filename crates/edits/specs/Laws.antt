@@ -2,3 +2,4 @@
 pub mod MadeTree
 pub mod TroubleTurns
 pub mod Troubles
+pub mod Making

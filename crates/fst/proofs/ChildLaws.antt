@@ -11,14 +11,14 @@ use borrow.Author.Tests.{ltb-false, lt-ltb, le-ltb, eqb-true, eq-eqb, ne-eqb}
 use lib.ListN.{length, getD}
 use lib.Dec.{eqb}
 use Rattle.endian.specs.Bytes.{sameBytes}
-use Rattle.endian.specs.Laws.Stored.{lt-or-le}
+use Rattle.refusal.specs.Laws.Tests.{lt-or-le, and-left, and-false}
 use Rattle.refusal.specs.declared.Refusal.the-variants.{NotFound}
 use Rattle.tree.specs.declared.Located.the-variants.{At, Refused}
 use Rattle.tree.specs.Table.{Node, file, directory, nameOf, none, encloses, parentBelow, parentOf}
 use Rattle.tree.specs.Inner.WellFormed.{WellFormed}
 use Rattle.tree.specs.Lookup.{isDirectory, nextOf, childNamed, firstChild, childOf}
-use Rattle.refusal.specs.Laws.Tests.{and-left, and-false}
-use Rattle.tree.specs.Laws.Nesting.{parent-here, parent-lower, parent-is, next-bounds, nests}
+use Rattle.tree.specs.Laws.Nesting.{parent-here, parent-lower, parent-is}
+use Rattle.tree.specs.Laws.WellNested.{next-bounds, nests}
 use Rattle.fst.specs.Inner.After.{afterOf}
 use Rattle.fst.proofs.Nodes.{encloses-next, parent-whole}
 

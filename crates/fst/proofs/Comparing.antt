@@ -12,7 +12,7 @@ use lib.ListN.{length, getD, drop, take, length-drop, List·getD-eq-default, dro
 use lib.Seq.{getD-drop, drop-cons, take-length}
 use lib.Dec.{eqb}
 use Rattle.endian.specs.Bytes.{span, sameBytes}
-use Rattle.endian.specs.Laws.Stored.{lt-or-le}
+use Rattle.refusal.specs.Laws.Tests.{lt-or-le}
 use Rattle.refusal.specs.declared.Refusal.the-variants.{NotFound}
 use Rattle.tree.specs.declared.Located.the-variants.{Refused}
 use Rattle.tree.specs.Table.{Node, nameOf, none, count, nodesOf, upTo0, namePlace}

@@ -13,7 +13,8 @@ use Rattle.refusal.specs.Laws.Chains.{refuse-passed, first-passed}
 use Rattle.tree.specs.Table.{Node, file, directory, nameOf, none, count, kind, nameOffset, offsetOrParent, sizeOrNext, nameAt, nodesOf, entriesVerdict, check, encloses, parentBelow, parentOf}
 use Rattle.tree.specs.Lookup.{isDirectory, nextOf}
 use Rattle.tree.specs.Laws.Accepted.{Accepted, accepted, length-nodesOf, getD-nodesOf}
-use Rattle.tree.specs.Laws.Nesting.{root-is, parent-here, parent-lower, parent-before}
+use Rattle.tree.specs.Laws.WellNested.{root-is}
+use Rattle.tree.specs.Laws.Nesting.{parent-here, parent-lower, parent-before}
 use Rattle.fst_check.specs.Inner.Reading.{Inside, Opens, textAt}
 use Rattle.fst_check.proofs.Walking.{node-file, node-directory, node-name, entries-inside, count-some}
 

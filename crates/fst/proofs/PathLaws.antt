@@ -12,7 +12,8 @@ use lib.ListN.{length, getD, set, drop, drop-of-length-le, length-set}
 use lib.Seq.{drop-cons, getD-set-same, getD-set-other}
 use lib.Dec.{ltb, eqb}
 use Rattle.endian.specs.Bytes.{span}
-use Rattle.endian.specs.Laws.Stored.{lt-or-le, span-snoc}
+use Rattle.endian.specs.Laws.Stored.{span-snoc}
+use Rattle.refusal.specs.Laws.Tests.{lt-or-le, and-left, and-right}
 use Rattle.refusal.specs.declared.Refusal.{Refusal}
 use Rattle.refusal.specs.declared.Refusal.the-variants.{NoSuchEntry, NotFound, ExpectedDirectory}
 use Rattle.tree.specs.declared.Located.{Located}
@@ -20,11 +21,10 @@ use Rattle.tree.specs.declared.Located.the-variants as located
 use Rattle.tree.specs.Table.{Node, file, directory, none, shut, enter, shallowEntry, shallowFrom, shallow}
 use Rattle.tree.specs.Inner.WellFormed.{WellFormed}
 use Rattle.tree.specs.Lookup.{isDirectory, separator, longer, components, childOf, stays, goesBack, andThen, stepBack, follow, lookup}
-use Rattle.tree.specs.Laws.LookupLaws.{child-is}
-use Rattle.tree.specs.Laws.Nesting.{openAt, stack-is}
+use Rattle.tree.specs.Laws.Children.{child-is}
+use Rattle.tree.specs.Laws.OpenDirectories.{openAt, stack-is}
 use Rattle.tree.specs.Inner.Depths.{depthOf}
 use Rattle.tree.specs.Laws.Depth.{depth-root, depth-parent}
-use Rattle.refusal.specs.Laws.Tests.{and-left, and-right}
 use Rattle.fst.specs.declared.path.Step.{Step}
 use Rattle.fst.specs.declared.path.Step.the-variants.{To, Refused}
 use Rattle.fst_check.specs.Inner.Reading.{openIn}

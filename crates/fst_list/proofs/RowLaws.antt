@@ -10,7 +10,8 @@ use borrow.Author.Tests.{lt-ltb, le-ltb}
 use lib.ListN.{length, getD, drop, set, length-append, List·getD-append}
 use lib.Seq.{getD-append-add, take-append-seam, drop-append-add, drop-drop}
 use Rattle.endian.specs.Bytes.{put}
-use Rattle.endian.specs.Laws.Stored.{lt-or-le, length-put, put-sets, put-in, put-none}
+use Rattle.endian.specs.Laws.Stored.{length-put, put-sets, put-in, put-none}
+use Rattle.refusal.specs.Laws.Tests.{lt-or-le}
 use Rattle.tree.specs.Table.{Node, file, directory, nameOf, none, count, kind, offsetOrParent, sizeOrNext, nodesOf, encloses, parentBelow, parentOf, namePlace}
 use Rattle.tree.specs.Lookup.{nextOf}
 use Rattle.tree.specs.Laws.Accepted.{Accepted}

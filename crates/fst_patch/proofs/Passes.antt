@@ -12,7 +12,7 @@ use lib.ListN.{length}
 use Rattle.endian.specs.Bytes.{put, AllBytes}
 use Rattle.endian.specs.Laws.Stored.{length-put, put-before, put-none}
 use Rattle.tree.specs.Table.{Node, nodeBytes}
-use Rattle.tree.specs.Laws.RoundTrip.{length-nodeBytes}
+use Rattle.tree.specs.Laws.WrittenEntries.{length-nodeBytes}
 use Rattle.tree.specs.Inner.Patch.{records, recordBefore, recordAfter, patchedRecord}
 use Rattle.tree.specs.Laws.Records.{Twelve, length-records, records-ext, records-split}
 use Rattle.fst_patch.specs.Inner.Inserting.{newNode, Raisable, EachRaisable, Patchable}

@@ -11,34 +11,35 @@ use borrow.Author.Tests.{lt-ltb, le-ltb, le-leb, lt-leb, eq-eqb, ne-eqb}
 use lib.ListN.{length, getD}
 use lib.Dec.{leb, eqb}
 use Rattle.endian.specs.Bytes.{put, be32Bytes, AllBytes}
-use Rattle.endian.specs.Laws.Stored.{be24-same, be32-same, lt-or-le}
+use Rattle.endian.specs.Laws.Stored.{be24-same, be32-same}
+use Rattle.refusal.specs.Laws.Tests.{lt-or-le}
 use Rattle.tree.specs.Table.{Node, nameOf, kind, nameOffset, offsetOrParent, sizeOrNext, nodeWith, nodeBytes}
-use Rattle.tree.specs.Laws.RoundTrip.{length-nodeBytes}
+use Rattle.tree.specs.Laws.WrittenEntries.{length-nodeBytes}
 use Rattle.tree.specs.Insert.{bump, earlier, later, shifted}
 use Rattle.tree.specs.Laws.Records.{Twelve}
 use Rattle.tree.specs.Inner.Patch.{stored, recordBefore, recordAfter, patchedRecord}
-use Rattle.fst_write.specs.Inner.Flat.{fieldBytes}
+use Rattle.fst_write.specs.Inner.Flat.{recordBytes}
 use Rattle.fst_patch.specs.Inner.Inserting.{newNode, nextBefore, Raisable}
 use Rattle.fst_write.proofs.Puts.{put-fields}
 use Rattle.fst_patch.proofs.Stays.{byte-stays, name-stays, word-stays}
 
 -- ---- one record
 
-before-with : (t o a b p k : ℕ) → t ≤ 1 → fieldBytes t o a (nextBefore t p k b) ≡ nodeBytes a o (earlier p k (nodeWith t [] a b))
+before-with : (t o a b p k : ℕ) → t ≤ 1 → recordBytes t o a (nextBefore t p k b) ≡ nodeBytes a o (earlier p k (nodeWith t [] a b))
 before-with zero o a b p k h = refl
 before-with (suc zero) o a b p k h = refl
 before-with (suc (suc t)) o a b p k h = absurd (omega arith)
 
-pub before-is : (s : List ℕ) (p k : ℕ) → kind s k ≤ 1 → fieldBytes (kind s k) (nameOffset s k) (offsetOrParent s k) (nextBefore (kind s k) p k (sizeOrNext s k)) ≡ recordBefore s p k
+pub before-is : (s : List ℕ) (p k : ℕ) → kind s k ≤ 1 → recordBytes (kind s k) (nameOffset s k) (offsetOrParent s k) (nextBefore (kind s k) p k (sizeOrNext s k)) ≡ recordBefore s p k
 unfolding recordBefore
 before-is s p k h = before-with (kind s k) (nameOffset s k) (offsetOrParent s k) (sizeOrNext s k) p k h
 
 module _ (s : List ℕ) (q grow k : ℕ) where
-  pub after-file : kind s k ≡ 0 → fieldBytes (kind s k) (nameOffset s k + grow) (offsetOrParent s k) (sizeOrNext s k) ≡ recordAfter s q grow k
+  pub after-file : kind s k ≡ 0 → recordBytes (kind s k) (nameOffset s k + grow) (offsetOrParent s k) (sizeOrNext s k) ≡ recordAfter s q grow k
   unfolding recordAfter
   after-file e = rw e
 
-  pub after-directory : kind s k ≡ 1 → fieldBytes (kind s k) (nameOffset s k + grow) (shifted q (offsetOrParent s k)) (suc (sizeOrNext s k)) ≡ recordAfter s q grow k
+  pub after-directory : kind s k ≡ 1 → recordBytes (kind s k) (nameOffset s k + grow) (shifted q (offsetOrParent s k)) (suc (sizeOrNext s k)) ≡ recordAfter s q grow k
   unfolding recordAfter
   after-directory e = rw e
 
@@ -160,7 +161,7 @@ raisable-same s t k = raisable-moved s k t k
 -- ---- an entry that stays before the new one changes in its next only, and most do not change
 
 module _ (s : List ℕ) (p k : ℕ) (bytes : AllBytes s) (room : 12 * k + 12 ≤ length s) (known : kind s k ≤ 1) where
-  next-put : (next : ℕ) → put s (12 * k) (fieldBytes (kind s k) (nameOffset s k) (offsetOrParent s k) next) ≡ put s (12 * k + 8) (be32Bytes next)
+  next-put : (next : ℕ) → put s (12 * k) (recordBytes (kind s k) (nameOffset s k) (offsetOrParent s k) next) ≡ put s (12 * k + 8) (be32Bytes next)
   next-put next =
       sym (put-fields s (12 * k) (kind s k) (nameOffset s k) (offsetOrParent s k) next room)
       ∙ rw (byte-stays s (12 * k) (omega arith), name-stays s (12 * k + 1) bytes (omega arith), word-stays s (12 * k + 4) bytes (omega arith))

@@ -12,8 +12,9 @@ use Rattle.endian.specs.Bytes.{put, be32Bytes}
 use Rattle.endian.specs.Laws.Stored.{length-put, put-in, drop-put}
 use Rattle.tree.specs.Table.{Node, file, directory, nameOf, none, nameOffset, sizeOrNext, parentBelow, parentOf, textsOf, encode}
 use Rattle.tree.specs.Inner.WellFormed.{WellFormed}
-use Rattle.tree.specs.Laws.RoundTrip.{length-encode}
-use Rattle.tree.specs.Laws.Nesting.{parent-before, root-is, next-bounds}
+use Rattle.tree.specs.Laws.WrittenEntries.{length-encode}
+use Rattle.tree.specs.Laws.Nesting.{parent-before}
+use Rattle.tree.specs.Laws.WellNested.{root-is, next-bounds}
 use Rattle.tree.specs.Insert.{insertAt, setPlace}
 use Rattle.tree.specs.Laws.InsertLaws.{Fresh, length-insert}
 use Rattle.tree.specs.Laws.Writing.{textStart, start-most, Fields, written-fields}

@@ -8,8 +8,9 @@ use native.Mathlib.Omega.{arith}
 use lib.ListN.{length, getD, take, drop, length-append}
 use lib.Seq.{length-take-le, take-at, ext-getD}
 use Rattle.endian.specs.Bytes.{put, be24Bytes, be32Bytes}
-use Rattle.fst_write.specs.Inner.Flat.{fieldBytes}
-use Rattle.endian.specs.Laws.Stored.{length-put, put-before, put-in, put-after, put-outside, drop-put, lt-or-le, Outside}
+use Rattle.fst_write.specs.Inner.Flat.{recordBytes}
+use Rattle.endian.specs.Laws.Stored.{length-put, put-before, put-in, put-after, put-outside, drop-put, Outside}
+use Rattle.refusal.specs.Laws.Tests.{lt-or-le}
 
 pub take-put : (s : List ℕ) (at : ℕ) (a : List ℕ) → at + length a ≤ length s → take (at + length a) (put s at a) ≡ take at s ++ a
 unfolding put
@@ -90,7 +91,7 @@ put-prepend s at a m b e h = sym (put-swap s at a m b (omega arith) h) ∙ put-a
 
 -- an entry's four fields
 pub put-fields : (s : List ℕ) (at kind o a b : ℕ) → at + 12 ≤ length s →
-    put (put (put (put s at (kind ∷ [])) (at + 1) (be24Bytes o)) (at + 4) (be32Bytes a)) (at + 8) (be32Bytes b) ≡ put s at (fieldBytes kind o a b)
+    put (put (put (put s at (kind ∷ [])) (at + 1) (be24Bytes o)) (at + 4) (be32Bytes a)) (at + 8) (be32Bytes b) ≡ put s at (recordBytes kind o a b)
 put-fields s at kind o a b h =
     rw (
       put-append s at (kind ∷ []) (at + 1) (be24Bytes o) refl (omega arith),

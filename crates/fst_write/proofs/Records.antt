@@ -10,17 +10,17 @@ use lib.Dec.{eqb}
 use Rattle.endian.specs.Bytes.{put, span}
 use Rattle.tree.specs.Table.{kind, nameOffset, offsetOrParent, sizeOrNext, upTo0, nameAt, nodeWith, nodeAt, nodeBytes}
 use Rattle.fst_write.specs.Inner.Valid.{nameSize}
-use Rattle.fst_write.specs.Inner.Flat.{placeOf, recordAt, textAt, fieldBytes}
+use Rattle.fst_write.specs.Inner.Flat.{placeOf, recordAt, textAt, recordBytes}
 use Rattle.fst_write.proofs.Names.{take-run}
 use Rattle.fst_write.proofs.Puts.{put-append}
 
-fields-of : (t : ℕ) (nm : List ℕ) (a b p o : ℕ) → t ≤ 1 → fieldBytes t o (cond (eqb t 0) a p) b ≡ nodeBytes p o (nodeWith t nm a b)
+fields-of : (t : ℕ) (nm : List ℕ) (a b p o : ℕ) → t ≤ 1 → recordBytes t o (cond (eqb t 0) a p) b ≡ nodeBytes p o (nodeWith t nm a b)
 fields-of zero nm a b p o h = refl
 fields-of (suc zero) nm a b p o h = refl
 fields-of (suc (suc t)) nm a b p o h = absurd (omega arith)
 
 pub record-is : (tab : List ℕ) (n parent k text : ℕ) (out : List ℕ) → kind tab k ≤ 1 →
-    put out (12 * k) (fieldBytes (kind tab k) (text - 12 * n) (placeOf tab parent k) (sizeOrNext tab k)) ≡ recordAt tab n parent k text out
+    put out (12 * k) (recordBytes (kind tab k) (text - 12 * n) (placeOf tab parent k) (sizeOrNext tab k)) ≡ recordAt tab n parent k text out
 unfolding recordAt nodeAt
 record-is tab n parent k text out t =
     ap (λ (l : List ℕ). put out (12 * k) l) (fields-of (kind tab k) (nameAt tab n (nameOffset tab k)) (offsetOrParent tab k) (sizeOrNext tab k) parent (text - 12 * n) t)

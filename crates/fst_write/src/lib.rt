@@ -7,7 +7,7 @@ ghost use Rattle.endian.specs.Bytes.{put};
 ghost use Rattle.tree.specs.Table.{kind, sizeOrNext, upTo0, count, nodesOf, parentOf, encode};
 ghost use Rattle.fst_write.specs.Inner.Valid.{Valid, nameSize};
 ghost use Rattle.fst_write.specs.Inner.Measure.{measureOf, capped};
-ghost use Rattle.fst_write.specs.Inner.Flat.{fieldBytes, afterOf, placeOf, recordAt, textAt, textTo, writeTo, rootAt, Room};
+ghost use Rattle.fst_write.specs.Inner.Flat.{recordBytes, afterOf, placeOf, recordAt, textAt, textTo, writeTo, rootAt, Room};
 
 // More bytes of texts than this are refused (document 01: "texts over 1,048,576 bytes (9)").
 pub const TEXTS_LIMIT: usize = 1048576;
@@ -66,7 +66,7 @@ fn name_size(table: &[u8], count: usize, k: usize) -> usize
 // Writes the four fields of entry k.
 pub fn write_fields(out: &mut [u8], k: usize, kind: u8, name: u32, place: u32, next: u32)
     requires { ⌜ (12 * k + 12 ≤ length (now out)) × (name < 2 ^ 24) ⌝ }
-    ensures { λ _. ⌜ now (out .exit) ≡ put (now (out .entry)) (12 * k) (fieldBytes kind name place next) ⌝ }
+    ensures { λ _. ⌜ now (out .exit) ≡ put (now (out .entry)) (12 * k) (recordBytes kind name place next) ⌝ }
 {
     let at = 12 * k;
     endian::write_u8(out, at, kind);

@@ -20,13 +20,16 @@ use Rattle.refusal.specs.Refusal.{refuse, first}
 use Rattle.tree.specs.Table.{Node, file, directory, nameOf, none, sizeOrNext, offsetOrParent, nodesOf, encloses, parentOf, textsOf, encode, limits}
 use Rattle.tree.specs.Inner.WellFormed.{GoodName, WellFormed}
 use Rattle.tree.specs.Lookup.{isDirectory, nextOf}
-use Rattle.tree.specs.Laws.Nesting.{root-is, not-empty, parent-before, parent-inside}
-use Rattle.tree.specs.Laws.InsertLaws.{Fresh, depthOk, length-insert}
+use Rattle.tree.specs.Laws.WellNested.{root-is, not-empty, parent-inside}
+use Rattle.tree.specs.Laws.Nesting.{parent-before}
+use Rattle.tree.specs.Laws.InsertLaws.{Fresh, length-insert}
+use Rattle.tree.specs.Laws.InsertWalk.{depthOk}
 use Rattle.tree.specs.Inner.Depths.{depthOf}
 use Rattle.tree.specs.Inner.Patch.{insertPatch}
 use Rattle.tree.specs.Laws.Depth.{depth-root, depth-parent, limits-insert}
 use Rattle.tree.specs.Laws.Growing.{Bigger, texts-grow, bigger-insert, bigger-limits, bigger-encode, limits-either}
-use Rattle.tree.specs.Laws.RoundTrip.{Within, within-limits, length-encode, written-reads}
+use Rattle.tree.specs.Laws.RoundTrip.{Within, within-limits, written-reads}
+use Rattle.tree.specs.Laws.WrittenEntries.{length-encode}
 use Rattle.tree.specs.Laws.Writing.{Fields, textStart, written-fields}
 use Rattle.fst_patch.specs.Inner.Inserting.{newNode, Insertable}
 use Rattle.fst_patch.proofs.Patches.{SameEntry, same-entry}

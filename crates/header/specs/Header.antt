@@ -1,4 +1,4 @@
--- The header as it is read, made and written, from document 01, "The header". Assumes nothing: these are definitions.
+-- The header as it is read, made and headerWritten, from document 01, "The header". Assumes nothing: these are definitions.
 use Prim.Native.Nat.{ℕ}
 use mathlib.Core.List.{List, [], _∷_}
 use lib.Dec.{ltb}
@@ -74,14 +74,14 @@ blank magic = record {
 }
 
 -- a refusal carries no header: every field is 0
-abbrev pub answerOf : Verdict → DiscHeader → HeaderRead
-answerOf Passed h = record { verdict = Passed; header = h }
-answerOf (Refused c) h = record { verdict = Refused c; header = blank 0 }
+abbrev pub headerAnswer : Verdict → DiscHeader → HeaderRead
+headerAnswer Passed h = record { verdict = Passed; header = h }
+headerAnswer (Refused c) h = record { verdict = Refused c; header = blank 0 }
 
-abbrev pub readOf : List ℕ → HeaderRead
-readOf image = answerOf (headerVerdict image) (headerOf image)
+abbrev pub headerRead : List ℕ → HeaderRead
+headerRead image = headerAnswer (headerVerdict image) (headerOf image)
 
--- ---- written
+-- ---- headerWritten
 
 -- what a header puts in each field, in the order of the table; the game name, the word at 0x18 and the unused runs "as read"
 unfoldable pub fieldBytes : DiscHeader → List (List ℕ)
@@ -131,5 +131,5 @@ abbrev pub writtenBy : Verdict → DiscHeader → List ℕ → List ℕ
 writtenBy Passed h image = putHeader h image
 writtenBy (Refused c) h image = image
 
-abbrev pub written : DiscHeader → List ℕ → List ℕ
-written h image = writtenBy (writeVerdict image) h image
+abbrev pub headerWritten : DiscHeader → List ℕ → List ℕ
+headerWritten h image = writtenBy (writeVerdict image) h image

@@ -7,7 +7,7 @@ ghost use lib.ListN.{length, getD};
 ghost use Rattle.refusal.specs.Refusal.{first};
 ghost use Rattle.endian.specs.Bytes.{be32, put, span};
 ghost use Rattle.header.specs.Fields.{fieldAt};
-ghost use Rattle.header.specs.Header.{headerOf, blank, readOf, putSome, writeVerdict, written};
+ghost use Rattle.header.specs.Header.{headerOf, blank, headerRead, putSome, writeVerdict, headerWritten};
 ghost use Rattle.header.specs.Verdicts.{gcnMagic, fieldVerdict, headerVerdict, dolOffset, fstOffset, fstSize, discEnd, tableEnd, boundsVerdict};
 ghost use Rattle.header.specs.Inner.Judged.{Judged};
 
@@ -130,7 +130,7 @@ impl DiscHeader {
 
     // The game name, the word at 0x18 and the unused runs are kept as they are.
     pub fn read_from(image: &[u8]) -> HeaderRead
-        ensures { λ r. ⌜ r ≡ readOf (now (image .entry)) ⌝ }
+        ensures { λ r. ⌜ r ≡ headerRead (now (image .entry)) ⌝ }
     {
         let verdict = check(image);
         if verdict.is_refused() {
@@ -442,7 +442,7 @@ impl DiscHeader {
 
     // Every field at its place. An image too short for the header is left as it was.
     pub fn write_to(self, image: &mut [u8]) -> Verdict
-        ensures { λ r. ⌜ (r ≡ writeVerdict (now (image .entry))) × (now (image .exit) ≡ written self (now (image .entry))) ⌝ }
+        ensures { λ r. ⌜ (r ≡ writeVerdict (now (image .entry))) × (now (image .exit) ≡ headerWritten self (now (image .entry))) ⌝ }
     {
         if image.len() < 0x440 {
             return Verdict::Refused(Refusal::HeaderPastImage);

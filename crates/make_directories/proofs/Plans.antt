@@ -16,7 +16,7 @@ use Rattle.refusal.specs.Laws.Chains.{refuse-passed}
 use Rattle.tree.specs.Table.{Node}
 use Rattle.tree.specs.Inner.WellFormed.{WellFormed}
 use Rattle.tree.specs.Lookup.{components}
-use Rattle.tree.specs.Laws.NestedInsert.{well-nested}
+use Rattle.tree.specs.Laws.InsertedList.{well-nested}
 use Rattle.tree.specs.Laws.Growing.{Bigger, bigger-same}
 use Rattle.tree.specs.Laws.RoundTrip.{within-limits}
 use Rattle.commit.specs.declared.TableSize.{TableSize}

@@ -15,8 +15,10 @@ use Rattle.tree.specs.declared.Located.the-variants as located
 use Rattle.tree.specs.Table.{Node, directory, none, plain, safe, parentOf, encode, limits}
 use Rattle.tree.specs.Inner.WellFormed.{GoodName, WellFormed}
 use Rattle.tree.specs.Lookup.{isDirectory, components, childOf, stays, goesBack}
-use Rattle.tree.specs.Laws.LookupLaws.{child-is, child-inside}
-use Rattle.tree.specs.Laws.Nesting.{parent-most, next-bounds}
+use Rattle.tree.specs.Laws.Children.{child-is}
+use Rattle.tree.specs.Laws.LookupLaws.{child-inside}
+use Rattle.tree.specs.Laws.Nesting.{parent-most}
+use Rattle.tree.specs.Laws.WellNested.{next-bounds}
 use Rattle.tree.specs.Insert.{insertAt, emptyDirectory}
 use Rattle.tree.specs.Laws.InsertLaws.{length-insert, parent-insert-before, parent-insert-at}
 use Rattle.tree.specs.Laws.Accepted.{length-nodesOf}

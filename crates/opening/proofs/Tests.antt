@@ -18,7 +18,7 @@ use Rattle.space.specs.Inner.Sort.{regionsIn}
 use Rattle.space.specs.Inner.Words.{Checked}
 use Rattle.space.specs.Layout.{regionsVerdict}
 use Rattle.opening.specs.Opening.{tableOf, nodesIn, regionOf, usedIn, usedOf, freeOf, opening}
-use Rattle.opening.specs.Inner.Prepared.{tableVerdict, entryRegions, UsedWords}
+use Rattle.opening.specs.Inner.Prepared.{verdictBefore14, entryRegions, UsedWords}
 use Rattle.opening.specs.Laws.OpeningLaws.{Readable, opening-split}
 use Rattle.opening.proofs.UsedRegions.{used-of-tree}
 
@@ -59,7 +59,7 @@ unfolding usedIn usedOf
 used-total image = total-used (tableEnd image) (map regionOf (nodesIn image))
 
 -- the test of the regions, after the others passed
-module _ (image w w′ : List ℕ) (words buf m e : ℕ) (v : Verdict) (before : tableVerdict image words ≡ Passed) (used : regionsIn w 0 m ≡ usedIn image) (end : e ≡ discEnd image)
+module _ (image w w′ : List ℕ) (words buf m e : ℕ) (v : Verdict) (before : verdictBefore14 image words ≡ Passed) (used : regionsIn w 0 m ≡ usedIn image) (end : e ≡ discEnd image)
     (k : Checked w w′ buf m e v) where
   verdict : v ≡ regionsVerdict (discEnd image) (usedIn image)
   verdict = rw (used, end) at (k .answer)

@@ -7,7 +7,7 @@ ghost use lib.ListN.{length};
 ghost use Rattle.space.specs.Inner.Sort.{regionsIn};
 ghost use Rattle.space.specs.Used.{usedRegions};
 ghost use Rattle.refusal.specs.declared.Verdict.the-variants.{Passed};
-ghost use Rattle.opening.specs.Inner.Prepared.{tableVerdict, AddedEntry, entryRegions, Prepares};
+ghost use Rattle.opening.specs.Inner.Prepared.{verdictBefore14, AddedEntry, entryRegions, Prepares};
 
 // The used regions of an image that opened stand in the working words: how many there are.
 pub enum Prepared {
@@ -44,7 +44,7 @@ fn collect(table: &[u8], words: &mut [u32], count: usize, table_end: u32) -> usi
 
 // The tests 1 to 13.
 fn check_table(image: &[u8], words: usize) -> Verdict
-    ensures { λ r. ⌜ r ≡ tableVerdict (now (image .entry)) words ⌝ }
+    ensures { λ r. ⌜ r ≡ verdictBefore14 (now (image .entry)) words ⌝ }
 {
     let verdict = header::check_bounds(image);
     if verdict.is_refused() {
@@ -57,7 +57,7 @@ fn check_table(image: &[u8], words: usize) -> Verdict
 
 // Test 14, which leaves the used regions in order.
 fn check_used(image: &[u8], words: &mut [u32]) -> Prepared
-    requires { ⌜ tableVerdict (now image) (length (now words)) ≡ Passed ⌝ }
+    requires { ⌜ verdictBefore14 (now image) (length (now words)) ≡ Passed ⌝ }
     ensures { λ r. ⌜ Prepares (now (image .entry)) (length (now (words .entry))) (now (words .exit)) r ⌝ }
 {
     let from = header::fst_offset(image) as usize;

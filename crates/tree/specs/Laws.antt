@@ -17,3 +17,11 @@ pub mod Texts
 pub mod Vectors
 pub mod Writing
 pub mod WrittenBytes
+pub mod Children
+pub mod InsertWalk
+pub mod InsertedList
+pub mod InsertedParents
+pub mod OpenDirectories
+pub mod PathParts
+pub mod WellNested
+pub mod WrittenEntries

@@ -11,7 +11,7 @@ use Rattle.endian.specs.Laws.Stored.{length-span, getD-span}
 use Rattle.refusal.specs.declared.Verdict.the-variants.{Passed}
 use Rattle.header.specs.declared.Field.{Field}
 use Rattle.header.specs.Fields.{fields, nth, fieldAt, gameCodeField, makerCodeField, unused00aField, gameNameField, unused408Field}
-use Rattle.header.specs.Header.{bytesOf, headerOf, readOf, fieldBytes, putHeader}
+use Rattle.header.specs.Header.{bytesOf, headerOf, headerRead, fieldBytes, putHeader}
 use Rattle.header.specs.Verdicts.{headerVerdict}
 use Rattle.header.specs.Laws.FieldTests.{header-passed}
 use Rattle.header.specs.Laws.Tiling.{fields-tile, fields-count, one-field}
@@ -29,7 +29,7 @@ module _ (image slots : List ℕ) (good : headerVerdict image ≡ Passed) (bytes
   unfolding fields fieldBytes headerOf
   fills = (long gameCodeField (omega arith), (long makerCodeField (omega arith), (refl, (refl, (refl, (refl, (long unused00aField (omega arith), (refl, (refl, (long gameNameField (omega arith), (refl, (refl, (long unused408Field (omega arith), (refl, (refl, (refl, (refl, (refl, (refl, (refl, (refl, tt)))))))))))))))))))))
 
-  is-written : fieldsAfter (readOf image) slots ≡ putHeader (headerOf image) slots
+  is-written : fieldsAfter (headerRead image) slots ≡ putHeader (headerOf image) slots
   is-written = rw (good, le-ltb (length slots) 0x440 room)
 
   field : (k : ℕ) → k < 21 → bytesOf (nth fields k) (putHeader (headerOf image) slots) ≡ bytesOf (nth fields k) image
@@ -44,7 +44,7 @@ module _ (image slots : List ℕ) (good : headerVerdict image ≡ Passed) (bytes
       let e : f .at + (i - f .at) ≡ i = omega arith in
       sym (rw e at (getD-span s (f .at) (f .len) (i - f .at) (omega arith)))
 
-  pub header-bytes : (i : ℕ) → i < 0x440 → getD (fieldsAfter (readOf image) slots) i 0 ≡ getD image i 0
+  pub header-bytes : (i : ℕ) → i < 0x440 → getD (fieldsAfter (headerRead image) slots) i 0 ≡ getD image i 0
   header-bytes i h =
       let o = one-field i h in
       let f : Field = fieldAt (o .0) in
@@ -53,5 +53,5 @@ module _ (image slots : List ℕ) (good : headerVerdict image ≡ Passed) (bytes
       ∙ ap (λ (l : List ℕ). getD l (i - f .at) 0) (field (o .0) (o .1 .0))
       ∙ sym (byte-in image f i (o .1 .1 .0) (o .1 .1 .1)))
 
-  pub bytes-behind : (i : ℕ) → 0x440 ≤ i → getD (fieldsAfter (readOf image) slots) i 0 ≡ getD slots i 0
+  pub bytes-behind : (i : ℕ) → 0x440 ≤ i → getD (fieldsAfter (headerRead image) slots) i 0 ≡ getD slots i 0
   bytes-behind i h = rw is-written (putFields-after 0 0x440 fields (fieldBytes (headerOf image)) slots fields-tile fills room i h)

@@ -11,26 +11,26 @@ use borrow.Author.Needs.{needs}
 use Rattle.refusal.specs.declared.Verdict.the-variants.{Passed}
 use Rattle.dol.specs.declared.DolHeader.{DolHeader}
 use Rattle.dol.specs.declared.DolAnswer.{DolAnswer}
-use Rattle.dol.specs.Dol.{headerOf, fileSizeOf, refusedAnswer, answered, answerOf}
+use Rattle.dol.specs.Dol.{dolHeaderOf, fileSizeOf, refusedAnswer, dolAnswered, dolAnswerOf}
 use Rattle.dol.proofs.read.Statement.{statement}
 use Rattle.dol.proofs.read.Tie as tie
 
 module _ (s : List ℕ) (at : ℕ) where
-  past : length s < at + 0xE4 → refusedAnswer ≡ answerOf s at
+  past : length s < at + 0xE4 → refusedAnswer ≡ dolAnswerOf s at
   past h = rw (lt-ltb (length s) (at + 0xE4))
 
-  module _ (fit : at + 0xE4 ≤ length s) (h : DolHeader) (n : ℕ) (e₁ : h ≡ headerOf s at) (e₂ : n ≡ fileSizeOf h) where
-    sized : n ≡ fileSizeOf (headerOf s at)
+  module _ (fit : at + 0xE4 ≤ length s) (h : DolHeader) (n : ℕ) (e₁ : h ≡ dolHeaderOf s at) (e₂ : n ≡ fileSizeOf h) where
+    sized : n ≡ fileSizeOf (dolHeaderOf s at)
     sized = e₂ ∙ ap fileSizeOf e₁
 
-    large : 2 ^ 32 - 1 < n → refusedAnswer ≡ answerOf s at
-    large k = let l : 2 ^ 32 - 1 < fileSizeOf (headerOf s at) = rw sized at k in rw (le-ltb (length s) (at + 0xE4), lt-ltb (2 ^ 32 - 1) (fileSizeOf (headerOf s at)))
+    large : 2 ^ 32 - 1 < n → refusedAnswer ≡ dolAnswerOf s at
+    large k = let l : 2 ^ 32 - 1 < fileSizeOf (dolHeaderOf s at) = rw sized at k in rw (le-ltb (length s) (at + 0xE4), lt-ltb (2 ^ 32 - 1) (fileSizeOf (dolHeaderOf s at)))
 
-    taken : fileSizeOf (headerOf s at) ≤ 2 ^ 32 - 1 → answered Passed (headerOf s at) ≡ answerOf s at
-    taken l = rw (le-ltb (length s) (at + 0xE4), le-ltb (2 ^ 32 - 1) (fileSizeOf (headerOf s at)))
+    taken : fileSizeOf (dolHeaderOf s at) ≤ 2 ^ 32 - 1 → dolAnswered Passed (dolHeaderOf s at) ≡ dolAnswerOf s at
+    taken l = rw (le-ltb (length s) (at + 0xE4), le-ltb (2 ^ 32 - 1) (fileSizeOf (dolHeaderOf s at)))
 
-    accepted : n ≤ 2 ^ 32 - 1 → _≡_ {A = DolAnswer} (record { verdict = Passed; header = h; size = n }) (answerOf s at)
-    accepted k = ap (λ (m : ℕ). record { verdict = Passed; header = h; size = m }) e₂ ∙ ap (answered Passed) e₁ ∙ taken (rw sized at k)
+    accepted : n ≤ 2 ^ 32 - 1 → _≡_ {A = DolAnswer} (record { verdict = Passed; header = h; size = n }) (dolAnswerOf s at)
+    accepted k = ap (λ (m : ℕ). record { verdict = Passed; header = h; size = m }) e₂ ∙ ap (dolAnswered Passed) e₁ ∙ taken (rw sized at k)
 
 refused-requires : tie.Need-refused-requires
 refused-requires c κs = search needs

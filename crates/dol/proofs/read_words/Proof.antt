@@ -6,19 +6,19 @@ use Prim.Native.Nat.{ℕ, _-_, _≤_}
 use native.Mathlib.Omega.{arith}
 use lib.ListN.{length, drop, set, length-set, drop-of-length-le}
 use denote.Ref.{now}
-use Rattle.dol.specs.Dol.{words}
+use Rattle.dol.specs.Dol.{wordsAt}
 use Rattle.dol.proofs.Turns.{words-turn}
 use Rattle.dol.proofs.read_words.Statement.{statement}
 use Rattle.dol.proofs.read_words.Tie as tie
 
 abbrev Inv-loop : tie.InvT-loop
-Inv-loop s at out₀ i₀ out i = (i ≤ length out₀) × (length out ≡ length out₀) × (out ≡ words s at i ++ drop i out₀)
+Inv-loop s at out₀ i₀ out i = (i ≤ length out₀) × (length out ≡ length out₀) × (out ≡ wordsAt s at i ++ drop i out₀)
 
 abbrev μ-loop : tie.MeasureT-loop
 μ-loop s at out₀ i₀ out i = length out₀ - i
 
 loop-holds : tie.Need-loop-holds Inv-loop μ-loop
-unfolding words
+unfolding wordsAt
 loop-holds c = (omega arith, refl, refl)
 
 mul-read-u32 : tie.Need-mul-read-u32 Inv-loop μ-loop

@@ -9,16 +9,16 @@ use lib.ListN.{length, getD}
 use Rattle.dol.specs.declared.DolHeader.{DolHeader}
 use Rattle.endian.specs.Bytes.{be32}
 use Rattle.window.specs.Window.{newWindow, countOf}
-use Rattle.dol.specs.Dol.{words, headerOf, largestOf, fileSizeOf}
+use Rattle.dol.specs.Dol.{wordsAt, dolHeaderOf, largestOf, fileSizeOf}
 
-pub length-words : (s : List ℕ) (at n : ℕ) → length (words s at n) ≡ n
-unfolding words
+pub length-words : (s : List ℕ) (at n : ℕ) → length (wordsAt s at n) ≡ n
+unfolding wordsAt
 length-words s at zero = refl
 length-words s at (suc n) = ap suc (length-words s (at + 4) n)
 
 -- word i stands at at + 4 * i
-pub getD-words : (s : List ℕ) (at n i : ℕ) → i < n → getD (words s at n) i 0 ≡ be32 s (at + 4 * i)
-unfolding words
+pub getD-words : (s : List ℕ) (at n i : ℕ) → i < n → getD (wordsAt s at n) i 0 ≡ be32 s (at + 4 * i)
+unfolding wordsAt
 getD-words s at zero i h = absurd (omega arith)
 getD-words s at (suc n) zero h = let e : at + 4 * zero ≡ at = omega arith in rw e
 getD-words s at (suc n) (suc i) h = let e : at + 4 + 4 * i ≡ at + 4 * suc i = omega arith in rw e at (getD-words s (at + 4) n i (omega arith))
@@ -40,7 +40,7 @@ largest-le (o ∷ os) (s ∷ ss) n f = omega (arith, f zero (omega arith) (omega
 -- so the file size is below 2^32 exactly if each of the 18 sums is
 module _ (s : List ℕ) (at : ℕ) where
   abbrev h : DolHeader
-  h = headerOf s at
+  h = dolHeaderOf s at
 
   pub size-fits : ((i : ℕ) → i < 7 → getD (h .«text_offsets») i 0 + getD (h .«text_sizes») i 0 < 2 ^ 32) → ((i : ℕ) → i < 11 → getD (h .«data_offsets») i 0 + getD (h .«data_sizes») i 0 < 2 ^ 32) → fileSizeOf h < 2 ^ 32
   size-fits f g =

@@ -13,11 +13,12 @@ use Rattle.tree.specs.Inner.WellFormed.{WellFormed}
 use Rattle.tree.specs.Lookup.{isDirectory, stays, goesBack, childOf}
 use Rattle.tree.specs.Insert.{insertAt, emptyDirectory}
 use Rattle.tree.specs.Laws.LookupLaws.{child-inside}
-use Rattle.tree.specs.Laws.Nesting.{next-bounds}
+use Rattle.tree.specs.Laws.WellNested.{next-bounds}
 use Rattle.tree.specs.Laws.InsertLaws.{length-insert}
 use Rattle.tree.specs.Laws.Growing.{Bigger, bigger-same, bigger-trans, bigger-insert}
 use Rattle.edits.specs.Edits.{newNumber, stopped, made, madeBack, ifFound, make}
-use Rattle.edits.specs.Laws.Troubles.{directory-is, or-not}
+use Rattle.edits.specs.Laws.Troubles.{directory-is}
+use Rattle.edits.specs.Laws.Making.{or-not}
 
 -- ---- the tree that is made is one that the tree grew into
 

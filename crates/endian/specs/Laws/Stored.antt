@@ -2,16 +2,17 @@
 -- Assumes nothing.
 use Prim.Native.Nat.{ℕ, suc, _+_, _-_, _*_, _/_, _%_, _^_, _<_, _≤_}
 use mathlib.Core.Path.{_≡_, refl, sym, ap, _∙_}
-use mathlib.Core.Logic.{_⊎_, inl, inr, ⊎-elim}
+use mathlib.Core.Logic.{_⊎_, ⊎-elim}
 use mathlib.Core.Bool.{Bool, true, false, _&&_}
 use mathlib.Core.List.{List, [], _∷_, _++_, append-assoc}
 use native.Mathlib.Omega.{arith}
 use native.Mathlib.Nat.{div-div-eq-div-mul, add-assoc, add-zero}
 use lib.ListN.{length, getD, take, drop, set, length-append, length-drop, take-append-drop, List·getD-append}
 use lib.Seq.{sets, sets-eq, getD-drop, getD-take, getD-append-add, length-take-le, drop-at, take-append-seam, drop-drop, take-suc, drop-cons, set-at, append-snoc, ext-getD}
-use lib.Dec.{ltb, eqb}
-use borrow.Author.Tests.{ltb-true, ltb-false, eqb-true, eq-eqb}
+use lib.Dec.{eqb}
+use borrow.Author.Tests.{eqb-true, eq-eqb}
 use Rattle.endian.specs.Bytes.{be24, be32, be24Bytes, be32Bytes, put, span, sameBytes, AllBytes}
+use Rattle.refusal.specs.Laws.Tests.{lt-or-le}
 
 -- ---- numbers: their bytes give the number back
 
@@ -114,13 +115,6 @@ be24-same l m at f = rw (rw (add-zero at) at (f 0 (omega arith)), f 1 (omega ari
 pub be32-same : (l m : List ℕ) (at : ℕ) → Same l m at 4 → be32 l at ≡ be32 m at
 unfolding be32
 be32-same l m at f = rw (rw (add-zero at) at (f 0 (omega arith)), f 1 (omega arith), f 2 (omega arith), f 3 (omega arith))
-
-pub lt-or-le : (a b : ℕ) → (a < b) ⊎ (b ≤ a)
-lt-or-le a b = go (ltb a b) refl
-  where
-    go : (t : Bool) → ltb a b ≡ t → (a < b) ⊎ (b ≤ a)
-    go true e = inl (ltb-true a b e)
-    go false e = inr (ltb-false a b e)
 
 -- a place outside the n bytes at `at`
 abbrev pub Outside : ℕ → ℕ → ℕ → Type 0

@@ -10,7 +10,7 @@ use borrow.Author.Tests.{leb-true, ltb-false, eqb-true, le-leb, eq-eqb}
 use lib.ListN.{getD, set}
 use lib.Dec.{leb, ltb, eqb}
 use Rattle.space.specs.declared.DiscRegion.{DiscRegion}
-use Rattle.space.specs.Used.{endOf, inside, usedIn, used, usedRegions}
+use Rattle.space.specs.Used.{endOf, inside, usesByte, used, usedRegions}
 use Rattle.space.specs.Layout.{disjoint, disjointFromAll, pairwiseDisjoint, disjointBelow}
 use Rattle.space.specs.Free.{freeIn, freeRegions}
 use Rattle.free_space.specs.MaxRegionSize.{maxRegionSize}
@@ -58,25 +58,25 @@ lies-again t e x h =
 
 -- ---- the table has another end
 
-table-within-again : (t t′ e : ℕ) (fs : List DiscRegion) → filesWithin t e fs ≡ true → ((i : ℕ) → t ≤ i → i < t′ → usedIn fs i ≡ false) → filesWithin t′ e fs ≡ true
-unfolding filesWithin usedIn
+table-within-again : (t t′ e : ℕ) (fs : List DiscRegion) → filesWithin t e fs ≡ true → ((i : ℕ) → t ≤ i → i < t′ → usesByte fs i ≡ false) → filesWithin t′ e fs ≡ true
+unfolding filesWithin usesByte
 table-within-again t t′ e [] w h = refl
 table-within-again t t′ e (x ∷ fs) w h =
     and-both (liesWithin t′ e x) (filesWithin t′ e fs) (lies-again t′ e x behind)
-    (table-within-again t t′ e fs (and-right (liesWithin t e x) (filesWithin t e fs) w) (λ i u v. or-false (inside x i) (usedIn fs i) (h i u v) .1))
+    (table-within-again t t′ e fs (and-right (liesWithin t e x) (filesWithin t e fs) w) (λ i u v. or-false (inside x i) (usesByte fs i) (h i u v) .1))
   where
     behind : 0 < x .size → (t′ ≤ x .offset) × (endOf x ≤ e)
     behind z =
         let l = lies t e x (and-left (liesWithin t e x) (filesWithin t e fs) w) z in
-        (⊎-elim (λ k. absurd (never-both (inside x (x .offset)) (inside-in x (x .offset) (omega arith) (omega arith)) (or-false (inside x (x .offset)) (usedIn fs (x .offset)) (h (x .offset) (l .0) k) .0))) (λ k. k) (lt-or-le (x .offset) t′), l .1)
+        (⊎-elim (λ k. absurd (never-both (inside x (x .offset)) (inside-in x (x .offset) (omega arith) (omega arith)) (or-false (inside x (x .offset)) (usesByte fs (x .offset)) (h (x .offset) (l .0) k) .0))) (λ k. k) (lt-or-le (x .offset) t′), l .1)
 
 -- LAW: the table may end anywhere on the disc where it takes no byte of a file
-pub table-resized : (t t′ e : ℕ) (fs : List DiscRegion) → Passes t e fs → t′ ≤ e → ((i : ℕ) → t ≤ i → i < t′ → usedIn fs i ≡ false) → Passes t′ e fs
+pub table-resized : (t t′ e : ℕ) (fs : List DiscRegion) → Passes t e fs → t′ ≤ e → ((i : ℕ) → t ≤ i → i < t′ → usesByte fs i ≡ false) → Passes t′ e fs
 table-resized t t′ e fs p b h = record { table = b; within = table-within-again t t′ e fs (p .within) h; pairwise = p .pairwise }
 
 -- a byte of a free region is not used
 pub free-not-used : (t : ℕ) (fs : List DiscRegion) (i : ℕ) → freeIn (usedRegions t fs) i ≡ true → used t fs i ≡ false
-free-not-used t fs i h = sym (used-is t fs i) ∙ go (usedIn (usedRegions t fs) i) h
+free-not-used t fs i h = sym (used-is t fs i) ∙ go (usesByte (usedRegions t fs) i) h
   where
     go : (a : Bool) → not a ≡ true → a ≡ false
     go true w = absurd (false≢true w)
@@ -90,11 +90,11 @@ Replaces t fs k f = (i : ℕ) → inside f i ≡ true → (used t fs i ≡ false
 
 -- the same of the files alone
 abbrev Replaced : List DiscRegion → ℕ → DiscRegion → Type 0
-Replaced fs k f = (i : ℕ) → inside f i ≡ true → (usedIn fs i ≡ false) ⊎ (inside (getD fs k noRegion) i ≡ true)
+Replaced fs k f = (i : ℕ) → inside f i ≡ true → (usesByte fs i ≡ false) ⊎ (inside (getD fs k noRegion) i ≡ true)
 
 replaced-next : (x f : DiscRegion) (fs : List DiscRegion) (k : ℕ) → Replaced (x ∷ fs) (suc k) f → Replaced fs k f
-unfolding usedIn
-replaced-next x f fs k h i u = ⊎-elim (λ q. inl (or-false (inside x i) (usedIn fs i) q .1)) (λ q. inr q) (h i u)
+unfolding usesByte
+replaced-next x f fs k h i u = ⊎-elim (λ q. inl (or-false (inside x i) (usesByte fs i) q .1)) (λ q. inr q) (h i u)
 
 within-set : (t e : ℕ) (fs : List DiscRegion) (k : ℕ) (f : DiscRegion) → filesWithin t e fs ≡ true → liesWithin t e f ≡ true → filesWithin t e (set fs k f) ≡ true
 unfolding filesWithin
@@ -111,18 +111,18 @@ from-all-set x (y ∷ fs) (suc k) f d l =
     and-both (disjoint x y) (disjointFromAll x (set fs k f)) (and-left (disjoint x y) (disjointFromAll x fs) d) (from-all-set x fs k f (and-right (disjoint x y) (disjointFromAll x fs) d) l)
 
 -- a byte of the file with number k is used
-own-used : (fs : List DiscRegion) (k i : ℕ) → inside (getD fs k noRegion) i ≡ true → usedIn fs i ≡ true
-unfolding usedIn
+own-used : (fs : List DiscRegion) (k i : ℕ) → inside (getD fs k noRegion) i ≡ true → usesByte fs i ≡ true
+unfolding usesByte
 own-used [] k i h = absurd (omega (arith, inside-from noRegion i h, inside-to noRegion i h))
-own-used (x ∷ fs) zero i h = or-left (inside x i) (usedIn fs i) h
-own-used (x ∷ fs) (suc k) i h = or-right (inside x i) (usedIn fs i) (own-used fs k i h)
+own-used (x ∷ fs) zero i h = or-left (inside x i) (usesByte fs i) h
+own-used (x ∷ fs) (suc k) i h = or-right (inside x i) (usesByte fs i) (own-used fs k i h)
 
 pairwise-set : (fs : List DiscRegion) (k : ℕ) (f : DiscRegion) → pairwiseDisjoint fs ≡ true → Replaced fs k f → pairwiseDisjoint (set fs k f) ≡ true
-unfolding pairwiseDisjoint usedIn
+unfolding pairwiseDisjoint usesByte
 pairwise-set [] k f p h = p
 pairwise-set (x ∷ fs) zero f p h =
     and-both (disjointFromAll f fs) (pairwiseDisjoint fs)
-    (free-from-all f fs (λ i u. ⊎-elim (λ q. or-false (inside x i) (usedIn fs i) q .1) (λ q. from-all-free x fs i (and-left (disjointFromAll x fs) (pairwiseDisjoint fs) p) q) (h i u)))
+    (free-from-all f fs (λ i u. ⊎-elim (λ q. or-false (inside x i) (usesByte fs i) q .1) (λ q. from-all-free x fs i (and-left (disjointFromAll x fs) (pairwiseDisjoint fs) p) q) (h i u)))
     (and-right (disjointFromAll x fs) (pairwiseDisjoint fs) p)
 pairwise-set (x ∷ fs) (suc k) f p h =
     and-both (disjointFromAll x (set fs k f)) (pairwiseDisjoint (set fs k f)) (from-all-set x fs k f (and-left (disjointFromAll x fs) (pairwiseDisjoint fs) p) (inside-disjoint x f both))
@@ -130,8 +130,8 @@ pairwise-set (x ∷ fs) (suc k) f p h =
   where
     both : (i : ℕ) → inside x i ≡ true → inside f i ≡ true → ⊥
     both i u v =
-        ⊎-elim (λ q. never-both (inside x i) u (or-false (inside x i) (usedIn fs i) q .0))
-        (λ q. never-both (usedIn fs i) (own-used fs k i q) (from-all-free x fs i (and-left (disjointFromAll x fs) (pairwiseDisjoint fs) p) u)) (h i v)
+        ⊎-elim (λ q. never-both (inside x i) u (or-false (inside x i) (usesByte fs i) q .0))
+        (λ q. never-both (usesByte fs i) (own-used fs k i q) (from-all-free x fs i (and-left (disjointFromAll x fs) (pairwiseDisjoint fs) p) u)) (h i v)
 
 -- a byte of a file is none of the table's
 behind-table : (t e : ℕ) (fs : List DiscRegion) (k i : ℕ) → filesWithin t e fs ≡ true → inside (getD fs k noRegion) i ≡ true → t ≤ i
@@ -152,19 +152,19 @@ pub file-replaced : (t e : ℕ) (fs : List DiscRegion) (k : ℕ) (f : DiscRegion
 file-replaced t e fs k f p b h = record {
   table = p .table;
   within = within-set t e fs k f (p .within) (lies-again t e f (λ z. (behind z, b z)));
-  pairwise = pairwise-set fs k f (p .pairwise) (λ i u. ⊎-elim (λ q. inl (or-false (ltb i t) (usedIn fs i) q .1)) (λ q. inr q) (h i u));
+  pairwise = pairwise-set fs k f (p .pairwise) (λ i u. ⊎-elim (λ q. inl (or-false (ltb i t) (usesByte fs i) q .1)) (λ q. inr q) (h i u));
 }
   where
     behind : 0 < f .size → t ≤ f .offset
     behind z =
-        ⊎-elim (λ q. ltb-false (f .offset) t (or-false (ltb (f .offset) t) (usedIn fs (f .offset)) q .0)) (λ q. behind-table t e fs k (f .offset) (p .within) q)
+        ⊎-elim (λ q. ltb-false (f .offset) t (or-false (ltb (f .offset) t) (usesByte fs (f .offset)) q .0)) (λ q. behind-table t e fs k (f .offset) (p .within) q)
         (h (f .offset) (inside-in f (f .offset) (omega arith) (omega arith)))
 
-used-set : (fs : List DiscRegion) (k : ℕ) (f : DiscRegion) (i : ℕ) → usedIn fs i ≡ false → inside f i ≡ false → usedIn (set fs k f) i ≡ false
-unfolding usedIn
+used-set : (fs : List DiscRegion) (k : ℕ) (f : DiscRegion) (i : ℕ) → usesByte fs i ≡ false → inside f i ≡ false → usesByte (set fs k f) i ≡ false
+unfolding usesByte
 used-set [] k f i u v = u
-used-set (x ∷ fs) zero f i u v = rw (v, or-false (inside x i) (usedIn fs i) u .1)
-used-set (x ∷ fs) (suc k) f i u v = rw (or-false (inside x i) (usedIn fs i) u .0) (used-set fs k f i (or-false (inside x i) (usedIn fs i) u .1) v)
+used-set (x ∷ fs) zero f i u v = rw (v, or-false (inside x i) (usesByte fs i) u .1)
+used-set (x ∷ fs) (suc k) f i u v = rw (or-false (inside x i) (usesByte fs i) u .0) (used-set fs k f i (or-false (inside x i) (usesByte fs i) u .1) v)
 
 -- LAW: the places that an edit gives a file: one that is free, one that has no bytes, and the present start with any size up to its largest
 pub replaces-free : (t : ℕ) (fs : List DiscRegion) (k : ℕ) (f : DiscRegion) → ((j : ℕ) → j < f .size → freeIn (usedRegions t fs) (f .offset + j) ≡ true) → Replaces t fs k f
@@ -183,7 +183,7 @@ module _ (t e : ℕ) (fs : List DiscRegion) (k : ℕ) (f : DiscRegion) (p : Pass
   own = getD fs k noRegion
 
   largest-own : LargestSize (freeIn (usedRegions t fs)) e (own .offset) (own .size) (maxRegionSize (own .offset) (own .size) (freeRegions e (usedRegions t fs)))
-  largest-own = max-size-largest e (usedRegions t fs) (own .offset) (own .size) (λ j u v. used-is t fs j ∙ or-right (ltb j t) (usedIn fs j) (own-used fs k j (inside-in own j u v)))
+  largest-own = max-size-largest e (usedRegions t fs) (own .offset) (own .size) (λ j u v. used-is t fs j ∙ or-right (ltb j t) (usesByte fs j) (own-used fs k j (inside-in own j u v)))
 
   pub replaces-resized : Replaces t fs k f
   replaces-resized i u =
@@ -204,8 +204,8 @@ edited-passes e t t′ o n fs k f z q p b h l c =
     g : LargestSize (freeIn (usedRegions t fs)) e o n (maxRegionSize o n (freeRegions e (usedRegions t fs)))
     g = table-largest e t fs o n q
 
-    free : (i : ℕ) → t ≤ i → i < t′ → usedIn fs i ≡ false
-    free i u v = or-false (ltb i t) (usedIn fs i) (free-not-used t fs i (g .pass i (omega arith) (omega arith))) .1
+    free : (i : ℕ) → t ≤ i → i < t′ → usesByte fs i ≡ false
+    free i u v = or-false (ltb i t) (usesByte fs i) (free-not-used t fs i (g .pass i (omega arith) (omega arith))) .1
 
     outside : (i : ℕ) → i < t′ → inside f i ≡ true → ⊥
     outside i v w = omega (arith, inside-from f i w, inside-to f i w, c (omega (arith, inside-from f i w, inside-to f i w)))

@@ -9,7 +9,7 @@ use native.Mathlib.Omega.{arith}
 use borrow.Author.Tests.{ltb-true, eqb-true, lt-ltb, le-ltb, eq-eqb, ne-eqb}
 use lib.Dec.{ltb, eqb}
 use Rattle.space.specs.declared.DiscRegion.{DiscRegion}
-use Rattle.space.specs.Used.{endOf, inside, usedIn, usedRegions, AllNonempty}
+use Rattle.space.specs.Used.{endOf, inside, usesByte, usedRegions, AllNonempty}
 use Rattle.space.specs.Free.{freeIn, freeRegions}
 use Rattle.free_space.specs.MaxRegionSize.{insideFree, besideFree, maxSizeFrom, maxRegionSize}
 use Rattle.refusal.specs.Laws.Tests.{lt-or-le, or-left, or-right, never-both}
@@ -190,7 +190,7 @@ pub growth-free : (e : ℕ) (xs : List DiscRegion) (o n : ℕ) → AllBetween (f
 growth-free e xs o n = growth-over (freeIn xs) o n 0 (freeRegions e xs) (λ j u v. absurd (omega arith)) (free-sound e xs)
 
 -- LAW: `max_region_size` of a place all of whose bytes are used, or that has none, is its largest size
-pub max-size-largest : (e : ℕ) (xs : List DiscRegion) (o n : ℕ) → ((j : ℕ) → o ≤ j → j < o + n → usedIn xs j ≡ true) → LargestSize (freeIn xs) e o n (maxRegionSize o n (freeRegions e xs))
+pub max-size-largest : (e : ℕ) (xs : List DiscRegion) (o n : ℕ) → ((j : ℕ) → o ≤ j → j < o + n → usesByte xs j ≡ true) → LargestSize (freeIn xs) e o n (maxRegionSize o n (freeRegions e xs))
 max-size-largest e xs o n used = record {
   least = least;
   pass = growth-free e xs o n;
@@ -219,18 +219,18 @@ max-size-largest e xs o n used = record {
 
 -- LAW: the table of n bytes at o, which ends at t, grows up to the first used byte behind it, or to the disc end
 pub table-largest : (e t : ℕ) (fs : List DiscRegion) (o n : ℕ) → o + n ≡ t → LargestSize (freeIn (usedRegions t fs)) e o n (maxRegionSize o n (freeRegions e (usedRegions t fs)))
-table-largest e t fs o n q = max-size-largest e (usedRegions t fs) o n (λ j u v. used-is t fs j ∙ or-left (ltb j t) (usedIn fs j) (lt-ltb j t (omega arith)))
+table-largest e t fs o n q = max-size-largest e (usedRegions t fs) o n (λ j u v. used-is t fs j ∙ or-left (ltb j t) (usesByte fs j) (lt-ltb j t (omega arith)))
 
 -- the bytes of a region of the list are used
-pub file-used : (f : DiscRegion) (fs : List DiscRegion) → In f fs → (j : ℕ) → f .offset ≤ j → j < endOf f → usedIn fs j ≡ true
-unfolding usedIn
+pub file-used : (f : DiscRegion) (fs : List DiscRegion) → In f fs → (j : ℕ) → f .offset ≤ j → j < endOf f → usesByte fs j ≡ true
+unfolding usesByte
 file-used f [] i j u v = absurd i
 file-used f (x ∷ fs) i j u v =
-    ⊎-elim (λ q. or-left (inside x j) (usedIn fs j) (rw (← q) (inside-in f j u v))) (λ k. or-right (inside x j) (usedIn fs j) (file-used f fs k j u v)) i
+    ⊎-elim (λ q. or-left (inside x j) (usesByte fs j) (rw (← q) (inside-in f j u v))) (λ k. or-right (inside x j) (usesByte fs j) (file-used f fs k j u v)) i
 
 -- LAW: a file, an empty one too, grows to the largest size that the free bytes behind it allow (`max_file_size`)
 pub file-largest : (e t : ℕ) (fs : List DiscRegion) (f : DiscRegion) → In f fs → LargestSize (freeIn (usedRegions t fs)) e (f .offset) (f .size) (maxRegionSize (f .offset) (f .size) (freeRegions e (usedRegions t fs)))
-file-largest e t fs f i = max-size-largest e (usedRegions t fs) (f .offset) (f .size) (λ j u v. used-is t fs j ∙ or-right (ltb j t) (usedIn fs j) (file-used f fs i j u v))
+file-largest e t fs f i = max-size-largest e (usedRegions t fs) (f .offset) (f .size) (λ j u v. used-is t fs j ∙ or-right (ltb j t) (usesByte fs j) (file-used f fs i j u v))
 
 -- LAW: a new place of at least one byte is free, exactly if `max_region_size` of its start, with size 0, reaches its size
 pub place-free : (e : ℕ) (xs : List DiscRegion) (o n : ℕ) → 0 < n → n ≤ maxRegionSize o 0 (freeRegions e xs) → (o + n ≤ e) × ((j : ℕ) → j < n → freeIn xs (o + j) ≡ true)

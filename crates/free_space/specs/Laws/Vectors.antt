@@ -7,7 +7,7 @@ use Rattle.space.specs.declared.DiscRegion.{DiscRegion}
 use Rattle.refusal.specs.declared.Refusal.the-variants.{OverlappingRegions, NotEnoughSpace, InvalidAlignment}
 use Rattle.refusal.specs.declared.Verdict.the-variants.{Passed, Refused as RefusedVerdict}
 use Rattle.free_space.specs.declared.Allocation.the-variants.{Found, Refused}
-use Rattle.space.specs.Used.{usedIn, nonempty, usedRegions, totalSize, usedTotal}
+use Rattle.space.specs.Used.{usesByte, nonempty, usedRegions, totalSize, usedTotal}
 use Rattle.space.specs.Layout.{disjoint, disjointFromAll, pairwiseDisjoint, endBy, disjointBelow, regionsVerdict}
 use Rattle.space.specs.Free.{runs, freeRegions}
 use Rattle.free_space.specs.MaxRegionSize.{besideFree, maxSizeFrom, maxRegionSize}
@@ -33,7 +33,7 @@ unfolding totalSize
 total = refl
 
 free : freeRegions 0x2000 master ≡ at 1114 166 ∷ at 1536 6656 ∷ []
-unfolding freeRegions runs usedIn nonempty
+unfolding freeRegions runs usesByte nonempty
 free = refl
 
 listed : listAfter (freeRegions 0x2000 master) (1 ∷ 2 ∷ 3 ∷ 4 ∷ 5 ∷ []) ≡ 1114 ∷ 166 ∷ 1536 ∷ 6656 ∷ 5 ∷ []
@@ -104,7 +104,7 @@ zero-alignment = refl
 
 -- P5: `a` moved to 0x600
 moved : freeRegions 0x2000 (usedRegions 0x45A (at 0 0 ∷ at 0x600 0x100 ∷ [])) ≡ at 0x45A 0x1A6 ∷ at 0x700 0x1900 ∷ []
-unfolding freeRegions runs usedIn nonempty
+unfolding freeRegions runs usesByte nonempty
 moved = refl
 
 -- not between neighbours of the table's order only: the first and the third share a byte

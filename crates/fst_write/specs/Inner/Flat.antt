@@ -52,5 +52,5 @@ pub record Room (n text end room : ℕ) : Type 0 where
   pub small : end ≤ 2 ^ 24
 
 -- the four fields of an entry
-abbrev pub fieldBytes : ℕ → ℕ → ℕ → ℕ → List ℕ
-fieldBytes kind o a b = kind ∷ (be24Bytes o ++ (be32Bytes a ++ be32Bytes b))
+abbrev pub recordBytes : ℕ → ℕ → ℕ → ℕ → List ℕ
+recordBytes kind o a b = kind ∷ (be24Bytes o ++ (be32Bytes a ++ be32Bytes b))

@@ -9,7 +9,7 @@ use borrow.Author.Tests.{lt-ltb, ltb-false, leb-true, leb-false, eqb-true, eqb-f
 use lib.ListN.{length, getD, drop}
 use lib.Seq.{getD-drop}
 use lib.Dec.{leb, ltb, eqb}
-use Rattle.endian.specs.Laws.Stored.{lt-or-le}
+use Rattle.refusal.specs.Laws.Tests.{lt-or-le}
 use Rattle.refusal.specs.declared.Verdict.the-variants.{Passed}
 use Rattle.refusal.specs.declared.Refusal.the-variants.{EntryPastTable, UnrecognizedKind, RootIsNotDirectory, MissingNullTerminator, LimitOrMemory, InvalidNextIndex, InvalidNameOffset}
 use Rattle.refusal.specs.Refusal.{refuse}

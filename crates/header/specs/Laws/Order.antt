@@ -18,7 +18,7 @@ use Rattle.header.specs.declared.Field.{Field}
 use Rattle.header.specs.Fields.{fields, tile, wiiMagicField, gcnMagicField, gameNameField}
 use Rattle.header.specs.Verdicts.{gcnMagic, wiiMagic, fieldVerdict, fieldsVerdict, headerVerdict}
 use Rattle.refusal.specs.Laws.Tests.{and-left, and-right}
-use Rattle.header.specs.Laws.Tiling.{every, tile-start, tile-rest}
+use Rattle.header.specs.Laws.Tiling.{everyField, tile-start, tile-rest}
 
 first-refuse : (t : Bool) (c : Refusal) (r v : Verdict) → first (refuse t c r) v ≡ refuse t c (first r v)
 first-refuse true c r v = refl
@@ -48,15 +48,15 @@ module _ (image : List ℕ) where
       rw (a, b)
 
   -- a run of fields that are no magics: whether the image reaches its end
-  run : (fs gs : List Field) (a b : ℕ) → tile a b fs ≡ true → every plain fs ≡ true → short a (fieldsVerdict image (fs ++ gs)) ≡ short b (fieldsVerdict image gs)
+  run : (fs gs : List Field) (a b : ℕ) → tile a b fs ≡ true → everyField plain fs ≡ true → short a (fieldsVerdict image (fs ++ gs)) ≡ short b (fieldsVerdict image gs)
   unfolding fieldsVerdict
   run [] gs a b t p = rw (eqb-true a b t)
   run (f ∷ fs) gs a b t p =
       let o : f .at ≡ a = tile-start a b f fs t in
       let r : tile (a + f .len) b fs ≡ true = tile-rest a b f fs t in
       let l : a ≤ a + f .len = omega arith in
-      rw (plain-field f (and-left (plain f) (every plain fs) p), o, first-refuse (ltb (length image) (a + f .len)) HeaderPastImage Passed (fieldsVerdict image (fs ++ gs)), merge (length image) a (a + f .len) HeaderPastImage (fieldsVerdict image (fs ++ gs)) l)
-      (run fs gs (a + f .len) b r (and-right (plain f) (every plain fs) p))
+      rw (plain-field f (and-left (plain f) (everyField plain fs) p), o, first-refuse (ltb (length image) (a + f .len)) HeaderPastImage Passed (fieldsVerdict image (fs ++ gs)), merge (length image) a (a + f .len) HeaderPastImage (fieldsVerdict image (fs ++ gs)) l)
+      (run fs gs (a + f .len) b r (and-right (plain f) (everyField plain fs) p))
 
   step : (f : Field) (fs : List Field) → fieldsVerdict image (f ∷ fs) ≡ first (fieldVerdict image f) (fieldsVerdict image fs)
   unfolding fieldsVerdict

@@ -15,7 +15,7 @@ use Rattle.header.specs.declared.Field.{Field}
 use Rattle.header.specs.declared.DiscHeader.{DiscHeader}
 use Rattle.header.specs.Fields.{fields, nth, tile, gameCodeField, makerCodeField, discIdField, versionField, audioStreamingField, streamBufferSizeField, unused00aField, wiiMagicField, gcnMagicField, gameNameField, debugMonitorOffsetField, debugMonitorAddrField, unused408Field, dolOffsetField, fstOffsetField, fstSizeField, fstMaxSizeField, userPositionField, userSizeField, discSizeField, unused43cField}
 use Rattle.header.specs.Verdicts.{gcnMagic, wiiMagic, wordOf, headerVerdict}
-use Rattle.header.specs.Header.{bytesOf, byteOf, headerOf, readOf, fieldBytes, putFields, putHeader, written}
+use Rattle.header.specs.Header.{bytesOf, byteOf, headerOf, headerRead, fieldBytes, putFields, putHeader, headerWritten}
 use Rattle.header.specs.Laws.FieldTests.{GoodHeader, header-passed, header-passes}
 use Rattle.header.specs.Laws.Tiling.{fields-tile, tile-start, tile-rest, tile-le}
 
@@ -153,7 +153,7 @@ module _ (image : List ℕ) (whole : 0x440 ≤ length image) (bytes : AllBytes i
   write-read = rw spans (put-spans 0 0x440 fields image fields-tile whole)
 
 -- a header that was read as good is written back as it was: the game name, the word at 0x18 and the unused runs too
-pub write-after-read : (image : List ℕ) → headerVerdict image ≡ Passed → AllBytes image → written (readOf image .header) image ≡ image
+pub write-after-read : (image : List ℕ) → headerVerdict image ≡ Passed → AllBytes image → headerWritten (headerRead image .header) image ≡ image
 write-after-read image e bytes =
     let w : 0x440 ≤ length image = header-passed image e .whole in
     rw (e, le-ltb (length image) 0x440 w) (write-read image w bytes)
@@ -233,5 +233,5 @@ module _ (h : DiscHeader) (s : Sized h) (image : List ℕ) (whole : 0x440 ≤ le
     }
 
     -- a header whose magics are good is read as it was written
-    pub read-after-write : readOf (written h image) ≡ record { verdict = Passed; header = h }
+    pub read-after-write : headerRead (headerWritten h image) ≡ record { verdict = Passed; header = h }
     read-after-write = rw (le-ltb (length image) 0x440 whole, header-passes (putHeader h image) good, read-write)

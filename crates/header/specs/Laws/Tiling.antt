@@ -1,4 +1,4 @@
--- The table tiles 0x440 bytes: each byte of the header lies in one field, and in no two. Then a test that every field of a list passes. Assumes nothing.
+-- The table tiles 0x440 bytes: each byte of the header lies in one field, and in no two. Then a test that everyField field of a list passes. Assumes nothing.
 use Prim.Native.Nat.{ℕ, zero, suc, _+_, _<_, _≤_}
 use mathlib.Core.Path.{_≡_, refl}
 use mathlib.Core.Bool.{Bool, true, _&&_}
@@ -8,8 +8,7 @@ use native.Mathlib.Omega.{arith}
 use lib.Dec.{eqb}
 use lib.ListN.{length}
 use borrow.Author.Tests.{eqb-true}
-use Rattle.endian.specs.Laws.Stored.{lt-or-le}
-use Rattle.refusal.specs.Laws.Tests.{and-left, and-right}
+use Rattle.refusal.specs.Laws.Tests.{lt-or-le, and-left, and-right}
 use Rattle.header.specs.declared.Field.{Field}
 use Rattle.header.specs.Fields.{fields, nth, fieldAt, tile}
 
@@ -24,14 +23,14 @@ fields-count = refl
 
 -- ---- a test that all fields of a list pass, computed once, and passed by each of them
 
-abbrev pub every : (Field → Bool) → List Field → Bool
-every t [] = true
-every t (f ∷ fs) = t f && every t fs
+abbrev pub everyField : (Field → Bool) → List Field → Bool
+everyField t [] = true
+everyField t (f ∷ fs) = t f && everyField t fs
 
-pub every-at : (t : Field → Bool) (fs : List Field) → every t fs ≡ true → (k : ℕ) → k < length fs → t (nth fs k) ≡ true
+pub every-at : (t : Field → Bool) (fs : List Field) → everyField t fs ≡ true → (k : ℕ) → k < length fs → t (nth fs k) ≡ true
 every-at t [] e k h = absurd (omega arith)
-every-at t (f ∷ fs) e zero h = and-left (t f) (every t fs) e
-every-at t (f ∷ fs) e (suc k) h = every-at t fs (and-right (t f) (every t fs) e) k (omega arith)
+every-at t (f ∷ fs) e zero h = and-left (t f) (everyField t fs) e
+every-at t (f ∷ fs) e (suc k) h = every-at t fs (and-right (t f) (everyField t fs) e) k (omega arith)
 
 -- ---- fields that tile
 

@@ -11,7 +11,7 @@ use lib.ListN.{length, getD, set}
 use lib.Seq.{getD-set-same, getD-set-other}
 use lib.Dec.{leb, ltb, eqb}
 use Rattle.space.specs.declared.DiscRegion.{DiscRegion}
-use Rattle.space.specs.Used.{endOf, inside, usedIn, used, usedRegions}
+use Rattle.space.specs.Used.{endOf, inside, usesByte, used, usedRegions}
 use Rattle.space.specs.Layout.{disjointFromAll, pairwiseDisjoint, disjointBelow}
 use Rattle.space.specs.Free.{freeIn}
 use Rattle.refusal.specs.Laws.Tests.{lt-or-le, and-left, and-right, and-both, or-cases, or-left, or-right, or-false, is-false, never-both}
@@ -35,24 +35,24 @@ pub record Apart (t e : ℕ) (fs : List DiscRegion) : Type 0 where
 
 -- ---- a byte of some region
 
-pub some-used : (fs : List DiscRegion) (k i : ℕ) → Has (region fs k) i → usedIn fs i ≡ true
-unfolding usedIn
+pub some-used : (fs : List DiscRegion) (k i : ℕ) → Has (region fs k) i → usesByte fs i ≡ true
+unfolding usesByte
 some-used [] k i h = absurd (omega arith)
-some-used (x ∷ fs) zero i h = or-left (inside x i) (usedIn fs i) (inside-in x i (h .0) (h .1))
-some-used (x ∷ fs) (suc k) i h = or-right (inside x i) (usedIn fs i) (some-used fs k i h)
+some-used (x ∷ fs) zero i h = or-left (inside x i) (usesByte fs i) (inside-in x i (h .0) (h .1))
+some-used (x ∷ fs) (suc k) i h = or-right (inside x i) (usesByte fs i) (some-used fs k i h)
 
-used-some : (fs : List DiscRegion) (i : ℕ) → usedIn fs i ≡ true → (k : ℕ) × Has (region fs k) i
-unfolding usedIn
+used-some : (fs : List DiscRegion) (i : ℕ) → usesByte fs i ≡ true → (k : ℕ) × Has (region fs k) i
+unfolding usesByte
 used-some [] i u = absurd (false≢true u)
 used-some (x ∷ fs) i u =
-    ⊎-elim (λ h. (0, (inside-from x i h, inside-to x i h))) (λ h. let s = used-some fs i h in (suc (s .0), s .1)) (or-cases (inside x i) (usedIn fs i) u)
+    ⊎-elim (λ h. (0, (inside-from x i h, inside-to x i h))) (λ h. let s = used-some fs i h in (suc (s .0), s .1)) (or-cases (inside x i) (usesByte fs i) u)
 
 -- a free byte is behind the table and in no file
 pub free-clear : (t : ℕ) (fs : List DiscRegion) (i : ℕ) → freeIn (usedRegions t fs) i ≡ true → (t ≤ i) × ((k : ℕ) → Has (region fs k) i → ⊥)
 free-clear t fs i f =
-    let u : used t fs i ≡ false = sym (used-is t fs i) ∙ go (usedIn (usedRegions t fs) i) f in
-    let o = or-false (ltb i t) (usedIn fs i) u in
-    (ltb-false i t (o .0), λ k h. never-both (usedIn fs i) (some-used fs k i h) (o .1))
+    let u : used t fs i ≡ false = sym (used-is t fs i) ∙ go (usesByte (usedRegions t fs) i) f in
+    let o = or-false (ltb i t) (usesByte fs i) u in
+    (ltb-false i t (o .0), λ k h. never-both (usesByte fs i) (some-used fs k i h) (o .1))
   where
     go : (a : Bool) → not a ≡ true → a ≡ false
     go true e = absurd (false≢true e)
@@ -74,9 +74,9 @@ unfolding pairwiseDisjoint
 apart-of [] p j k i g h = absurd (omega arith)
 apart-of (x ∷ fs) p zero zero i g h = refl
 apart-of (x ∷ fs) p zero (suc k) i g h =
-    absurd (never-both (usedIn fs i) (some-used fs k i h) (from-all-free x fs i (and-left (disjointFromAll x fs) (pairwiseDisjoint fs) p) (inside-in x i (g .0) (g .1))))
+    absurd (never-both (usesByte fs i) (some-used fs k i h) (from-all-free x fs i (and-left (disjointFromAll x fs) (pairwiseDisjoint fs) p) (inside-in x i (g .0) (g .1))))
 apart-of (x ∷ fs) p (suc j) zero i g h =
-    absurd (never-both (usedIn fs i) (some-used fs j i g) (from-all-free x fs i (and-left (disjointFromAll x fs) (pairwiseDisjoint fs) p) (inside-in x i (h .0) (h .1))))
+    absurd (never-both (usesByte fs i) (some-used fs j i g) (from-all-free x fs i (and-left (disjointFromAll x fs) (pairwiseDisjoint fs) p) (inside-in x i (h .0) (h .1))))
 apart-of (x ∷ fs) p (suc j) (suc k) i g h = ap suc (apart-of fs (and-right (disjointFromAll x fs) (pairwiseDisjoint fs) p) j k i g h)
 
 pub apart-from : (t e : ℕ) (fs : List DiscRegion) → 0 < t → disjointBelow e (usedRegions t fs) ≡ true → Apart t e fs
@@ -106,10 +106,10 @@ of-apart : (fs : List DiscRegion) → ((j k i : ℕ) → Has (region fs j) i →
 unfolding pairwiseDisjoint
 of-apart [] a = refl
 of-apart (x ∷ fs) a =
-    and-both (disjointFromAll x fs) (pairwiseDisjoint fs) (free-from-all x fs (λ i u. is-false (usedIn fs i) (clash i u)))
+    and-both (disjointFromAll x fs) (pairwiseDisjoint fs) (free-from-all x fs (λ i u. is-false (usesByte fs i) (clash i u)))
     (of-apart fs (λ j k i g h. let e : suc j ≡ suc k = a (suc j) (suc k) i g h in omega arith))
   where
-    clash : (i : ℕ) → inside x i ≡ true → usedIn fs i ≡ true → ⊥
+    clash : (i : ℕ) → inside x i ≡ true → usesByte fs i ≡ true → ⊥
     clash i u v = let s = used-some fs i v in omega (arith, a 0 (suc (s .0)) i (inside-from x i u, inside-to x i u) (s .1))
 
 pub apart-test : (t e : ℕ) (fs : List DiscRegion) → 0 < t → Apart t e fs → disjointBelow e (usedRegions t fs) ≡ true

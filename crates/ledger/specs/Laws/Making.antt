@@ -13,7 +13,7 @@ use Rattle.tree.specs.Lookup.{isDirectory, nextOf, stays, goesBack, childNamed,
 use Rattle.tree.specs.declared.Located.{Located}
 use Rattle.tree.specs.declared.Located.the-variants as located
 use Rattle.tree.specs.Insert.{insertAt, emptyDirectory}
-use Rattle.tree.specs.Laws.Nesting.{next-bounds}
+use Rattle.tree.specs.Laws.WellNested.{next-bounds}
 use Rattle.tree.specs.Laws.InsertLaws.{length-insert, insert-sound}
 use Rattle.edits.specs.Edits.{newNumber, Made, stopped, made, madeBack, ifFound, make}
 use Rattle.ledger.specs.Ledger.{madeNodes}

@@ -19,8 +19,8 @@ use Rattle.opening.specs.Opening.{tableOf, regionOf, opening, freeOf, us
 use Rattle.refusal.specs.declared.Verdict.the-variants.{Passed, Refused}
 
 -- the tests before 14
-abbrev pub tableVerdict : List ℕ → ℕ → Verdict
-tableVerdict image words = first (headerVerdict image) (first (boundsVerdict image) (check (tableOf image) words))
+abbrev pub verdictBefore14 : List ℕ → ℕ → Verdict
+verdictBefore14 image words = first (headerVerdict image) (first (boundsVerdict image) (check (tableOf image) words))
 
 -- the region of entry k, whatever its name
 abbrev pub entryRegion : List ℕ → ℕ → DiscRegion

@@ -9,7 +9,8 @@ use native.Mathlib.Nat.{add-assoc}
 use borrow.Author.Tests.{not-false}
 use lib.ListN.{length, take, drop, length-take, List·getD-eq-default}
 use Rattle.endian.specs.Bytes.{be32, span, AllBytes}
-use Rattle.endian.specs.Laws.Stored.{lt-or-le, length-span, getD-span}
+use Rattle.endian.specs.Laws.Stored.{length-span, getD-span}
+use Rattle.refusal.specs.Laws.Tests.{lt-or-le}
 use Rattle.refusal.specs.declared.Refusal.the-variants.{OverlappingRegions}
 use Rattle.refusal.specs.declared.Verdict.{Verdict}
 use Rattle.refusal.specs.declared.Verdict.the-variants.{Passed, Refused}
@@ -23,7 +24,7 @@ use Rattle.space.specs.Free.{freeBytes}
 use Rattle.space.specs.Layout.{disjointBelow, regionsVerdict}
 use Rattle.space.specs.Laws.TotalLaws.{used-and-free}
 use Rattle.opening.specs.Opening.{tableOf, nodesIn, regionOf, usedIn, usedOf, opening}
-use Rattle.opening.specs.Inner.Prepared.{tableVerdict}
+use Rattle.opening.specs.Inner.Prepared.{verdictBefore14}
 
 -- ---- chains
 
@@ -68,7 +69,7 @@ pub record Readable (image : List ℕ) (words : ℕ) : Type 0 where
   pub table : Accepted (tableOf image) words
   pub next : be32 image (fstOffset image + 8) ≡ count (tableOf image)
 
-pub readable : (image : List ℕ) (words : ℕ) → AllBytes image → tableVerdict image words ≡ Passed → Readable image words
+pub readable : (image : List ℕ) (words : ℕ) → AllBytes image → verdictBefore14 image words ≡ Passed → Readable image words
 unfolding tableOf count
 readable image words bytes e =
     let p = first-passed (headerVerdict image) _ e in
@@ -89,7 +90,7 @@ readable image words bytes e =
 -- ---- the whole of opening
 
 -- opening is the tests before 14, then 14
-pub opening-split : (image : List ℕ) (words : ℕ) → opening image words ≡ first (tableVerdict image words) (regionsVerdict (discEnd image) (usedIn image))
+pub opening-split : (image : List ℕ) (words : ℕ) → opening image words ≡ first (verdictBefore14 image words) (regionsVerdict (discEnd image) (usedIn image))
 unfolding opening
 opening-split image words = go (headerVerdict image) (boundsVerdict image) (check (tableOf image) words) (regionsVerdict (discEnd image) (usedIn image))
   where
@@ -102,7 +103,7 @@ pub record OpenImage (image : List ℕ) (words : ℕ) : Type 0 where
 
 pub opens : (image : List ℕ) (words : ℕ) → AllBytes image → opening image words ≡ Passed → OpenImage image words
 opens image words bytes e =
-    let p = first-passed (tableVerdict image words) _ (sym (opening-split image words) ∙ e) in
+    let p = first-passed (verdictBefore14 image words) _ (sym (opening-split image words) ∙ e) in
     record {
       reads = readable image words bytes (p .0);
       layout = not-false (disjointBelow (discEnd image) (usedIn image)) (refuse-passed (not (disjointBelow (discEnd image) (usedIn image))) OverlappingRegions Passed (p .1) .0);

@@ -22,7 +22,7 @@ use Rattle.tree.specs.Insert.{setPlace}
 use Rattle.space.specs.declared.DiscRegion.{DiscRegion}
 use Rattle.free_space.specs.declared.Allocation.the-variants as allocation
 use Rattle.free_space.specs.declared.Listing.the-variants as listing
-use Rattle.space.specs.Used.{usedIn as usedByte, nonempty, totalSize}
+use Rattle.space.specs.Used.{usesByte as usedByte, nonempty, totalSize}
 use Rattle.space.specs.Layout.{disjoint, disjointFromAll, pairwiseDisjoint, endBy, disjointBelow}
 use Rattle.space.specs.Free.{runs, freeRegions}
 use Rattle.free_space.specs.MaxRegionSize.{besideFree, maxSizeFrom}
@@ -31,16 +31,16 @@ use Rattle.free_space.specs.Listing.{regionWords}
 use Rattle.disc.specs.declared.TotalsAnswer.the-variants as totals
 use Rattle.disc.specs.declared.SizeAnswer.the-variants as size
 use Rattle.disc.specs.declared.WindowAnswer.the-variants as window
-use Rattle.opening.specs.Opening.{tableOf, nodesIn, usedIn, opening, freeOf, usedOf}
+use Rattle.opening.specs.Opening.{tableOf, nodesIn, opening, freeOf, usedOf}
 use Rattle.disc.specs.Calls.{entryAnswer, lookupAnswer, totalsAnswer, freeRegionsAnswer, freeRegionsList, maxRegionSizeAnswer, allocateAnswer, maxFileSizeAnswer, openFileAnswer}
 use Rattle.edits.specs.Change.{withTable, written, tableVerdict, placeVerdict}
 use Rattle.edits.specs.Edits.{moveFile, resizeFile, planMove, planResize, verdictOf, imageAfter}
-use Rattle.small_master.specs.Image.{master, words, bytes}
+use Rattle.small_master.specs.Image.{master, masterWords, masterBytes}
 
 -- ---- the image opens, and what it reads as
 
-opens : opening master words ≡ verdict.Passed
-unfolding master put opening headerVerdict fieldsVerdict fieldVerdict fields boundsVerdict tableOf check nodesIn nodesOf nodesFrom nodeAt nameAt count entriesVerdict entryVerdict unended walk nameVerdict nextVerdict shut plain safe be24 be32 usedIn nonempty disjointBelow pairwiseDisjoint disjointFromAll disjoint endBy
+opens : opening master masterWords ≡ verdict.Passed
+unfolding master put opening headerVerdict fieldsVerdict fieldVerdict fields boundsVerdict tableOf check nodesIn nodesOf nodesFrom nodeAt nameAt count entriesVerdict entryVerdict unended walk nameVerdict nextVerdict shut plain safe be24 be32 usesByte nonempty disjointBelow pairwiseDisjoint disjointFromAll disjoint endBy
 opens = refl
 
 nodes : nodesIn master ≡ directory [] 2 ∷ file (0x61 ∷ []) 0x500 0x100 ∷ []
@@ -56,7 +56,7 @@ abbrev at : ℕ → ℕ → DiscRegion
 at o n = record { offset = o; size = n }
 
 free : freeOf master ≡ at 1114 166 ∷ at 1536 6656 ∷ []
-unfolding master put tableOf nodesIn nodesOf nodesFrom nodeAt nameAt count be24 be32 freeOf usedIn freeRegions runs usedByte nonempty
+unfolding master put tableOf nodesIn nodesOf nodesFrom nodeAt nameAt count be24 be32 freeOf usesByte freeRegions runs usedByte nonempty
 free = refl
 
 -- the paths `a/` and `..`
@@ -72,43 +72,43 @@ windowOfA = newWindow 0x500 0x100
 
 -- the small master after a move of `a`
 abbrev movedTo : ℕ → List ℕ
-movedTo to = imageAfter (moveFile 1 to) master words bytes
+movedTo to = imageAfter (moveFile 1 to) master masterWords masterBytes
 
 -- four words for two regions
 abbrev four : List ℕ
 four = 0 ∷ 0 ∷ 0 ∷ 0 ∷ []
 
-moved : freeRegionsList (movedTo 0x600) words four ≡ 0x45A ∷ 0x1A6 ∷ 0x700 ∷ 0x1900 ∷ []
-unfolding master put opening headerVerdict fieldsVerdict fieldVerdict fields boundsVerdict tableOf check nodesIn nodesOf nodesFrom nodeAt nameAt count entriesVerdict entryVerdict unended walk nameVerdict nextVerdict shut plain safe be24 be32 usedIn nonempty disjointBelow pairwiseDisjoint disjointFromAll disjoint endBy freeOf freeRegions runs usedByte freeRegionsList regionWords imageAfter verdictOf planMove tableVerdict placeVerdict limits shallow shallowFrom textsOf encode entriesBytes parentOf parentBelow setPlace written withTable maxSizeFrom besideFree
+moved : freeRegionsList (movedTo 0x600) masterWords four ≡ 0x45A ∷ 0x1A6 ∷ 0x700 ∷ 0x1900 ∷ []
+unfolding master put opening headerVerdict fieldsVerdict fieldVerdict fields boundsVerdict tableOf check nodesIn nodesOf nodesFrom nodeAt nameAt count entriesVerdict entryVerdict unended walk nameVerdict nextVerdict shut plain safe be24 be32 usesByte nonempty disjointBelow pairwiseDisjoint disjointFromAll disjoint endBy freeOf freeRegions runs usedByte freeRegionsList regionWords imageAfter verdictOf planMove tableVerdict placeVerdict limits shallow shallowFrom textsOf encode entriesBytes parentOf parentBelow setPlace written withTable maxSizeFrom besideFree
 moved = refl
 
 -- ---- the table, in the paper's order; `a` is entry 1. A refusal stands with its number
 
 pub record Marked : Type 0 where
   -- "(P1) largest size of `a` 0x1B00"
-  pub P1 : maxFileSizeAnswer master words 1 ≡ size.Bytes 0x1B00
+  pub P1 : maxFileSizeAnswer master masterWords 1 ≡ size.Bytes 0x1B00
   -- "(P2) allocate 0x100 at 0x100 gives 0x600, 0x1A00"
-  pub P2 : allocateAnswer master words 0x100 0x100 ≡ allocation.Found (at 0x600 0x1A00)
+  pub P2 : allocateAnswer master masterWords 0x100 0x100 ≡ allocation.Found (at 0x600 0x1A00)
   -- "(P3) 0x1A01 at 1 gives 21"
-  pub P3 : (allocateAnswer master words 0x1A01 1 ≡ allocation.Refused NotEnoughSpace) × (numberOf NotEnoughSpace ≡ 21)
+  pub P3 : (allocateAnswer master masterWords 0x1A01 1 ≡ allocation.Refused NotEnoughSpace) × (numberOf NotEnoughSpace ≡ 21)
   -- "(P4) `a` to 0x580: 20"
-  pub P4 : (verdictOf (moveFile 1 0x580) master words bytes ≡ verdict.Refused OverlappingMove) × (numberOf OverlappingMove ≡ 20)
+  pub P4 : (verdictOf (moveFile 1 0x580) master masterWords masterBytes ≡ verdict.Refused OverlappingMove) × (numberOf OverlappingMove ≡ 20)
   -- "(P5) to 0x600: free 0x45A, 0x1A6 and 0x700, 0x1900"
-  pub P5 : (verdictOf (moveFile 1 0x600) master words bytes ≡ verdict.Passed) × (freeRegionsList (movedTo 0x600) words four ≡ 0x45A ∷ 0x1A6 ∷ 0x700 ∷ 0x1900 ∷ [])
+  pub P5 : (verdictOf (moveFile 1 0x600) master masterWords masterBytes ≡ verdict.Passed) × (freeRegionsList (movedTo 0x600) masterWords four ≡ 0x45A ∷ 0x1A6 ∷ 0x700 ∷ 0x1900 ∷ [])
   -- "(P6) to 0x400: 21"
-  pub P6 : (verdictOf (moveFile 1 0x400) master words bytes ≡ verdict.Refused NotEnoughSpace) × (numberOf NotEnoughSpace ≡ 21)
+  pub P6 : (verdictOf (moveFile 1 0x400) master masterWords masterBytes ≡ verdict.Refused NotEnoughSpace) × (numberOf NotEnoughSpace ≡ 21)
   -- "(P7) resize 0x1B00 accepted"
-  pub P7 : verdictOf (resizeFile 1 0x1B00) master words bytes ≡ verdict.Passed
+  pub P7 : verdictOf (resizeFile 1 0x1B00) master masterWords masterBytes ≡ verdict.Passed
   -- "(P8) 0x1B01: 21"
-  pub P8 : (verdictOf (resizeFile 1 0x1B01) master words bytes ≡ verdict.Refused NotEnoughSpace) × (numberOf NotEnoughSpace ≡ 21)
+  pub P8 : (verdictOf (resizeFile 1 0x1B01) master masterWords masterBytes ≡ verdict.Refused NotEnoughSpace) × (numberOf NotEnoughSpace ≡ 21)
   -- "(P9) path `` gives 0"
-  pub P9 : lookupAnswer master words 0 [] ≡ found.At 0 (Directory (record { parent = 0; next = 2 }))
+  pub P9 : lookupAnswer master masterWords 0 [] ≡ found.At 0 (Directory (record { parent = 0; next = 2 }))
   -- "(P10) `a/` 17"
-  pub P10 : (lookupAnswer master words 0 a/ ≡ found.Refused ExpectedDirectory) × (numberOf ExpectedDirectory ≡ 17)
+  pub P10 : (lookupAnswer master masterWords 0 a/ ≡ found.Refused ExpectedDirectory) × (numberOf ExpectedDirectory ≡ 17)
   -- "(P11) `..` 18"
-  pub P11 : (lookupAnswer master words 0 up ≡ found.Refused NotFound) × (numberOf NotFound ≡ 18)
+  pub P11 : (lookupAnswer master masterWords 0 up ≡ found.Refused NotFound) × (numberOf NotFound ≡ 18)
   -- "(P12) window of `a`, current -1 from 0: 23"; `negsuc 0` is the distance -1
-  pub P12 : (openFileAnswer master words 1 ≡ window.Opened windowOfA) × (seekOf windowOfA (Current (negsuc 0)) ≡ sought.Refused InvalidSeek) × (numberOf InvalidSeek ≡ 23)
+  pub P12 : (openFileAnswer master masterWords 1 ≡ window.Opened windowOfA) × (seekOf windowOfA (Current (negsuc 0)) ≡ sought.Refused InvalidSeek) × (numberOf InvalidSeek ≡ 23)
 
 pub marked : Marked
 unfolding maxFileSizeAnswer maxRegionSizeAnswer allocateAnswer lookupAnswer entryAnswer openFileAnswer maxSizeFrom besideFree allocationOf powers largest betterOf alignUp verdictOf planMove planResize tableVerdict placeVerdict limits shallow shallowFrom shut textsOf encode entriesBytes parentOf parentBelow lookup follow components childOf firstChild sameBytes setPlace
@@ -130,15 +130,15 @@ marked = record {
 -- ---- the listing: "total 8192 used 1370", "d 0 0 2 /", "f 1 1280 256 /a", "r 1114 166", "r 1536 6656"
 
 pub record Listed : Type 0 where
-  pub totals : totalsAnswer master words ≡ totals.Found (record { «disc_end» = 8192; used = 1370 })
-  pub root : entryAnswer master words 0 ≡ found.At 0 (Directory (record { parent = 0; next = 2 }))
-  pub a : entryAnswer master words 1 ≡ found.At 1 (File (record { offset = 1280; size = 256 }))
-  pub regions : freeRegionsAnswer master words 4 ≡ listing.Listed 2
-  pub list : freeRegionsList master words four ≡ 1114 ∷ 166 ∷ 1536 ∷ 6656 ∷ []
+  pub totals : totalsAnswer master masterWords ≡ totals.Found (record { «disc_end» = 8192; used = 1370 })
+  pub root : entryAnswer master masterWords 0 ≡ found.At 0 (Directory (record { parent = 0; next = 2 }))
+  pub a : entryAnswer master masterWords 1 ≡ found.At 1 (File (record { offset = 1280; size = 256 }))
+  pub regions : freeRegionsAnswer master masterWords 4 ≡ listing.Listed 2
+  pub list : freeRegionsList master masterWords four ≡ 1114 ∷ 166 ∷ 1536 ∷ 6656 ∷ []
 
-pub listed : Listed
+pub small-listing : Listed
 unfolding totalsAnswer entryAnswer freeRegionsAnswer freeRegionsList regionWords parentOf parentBelow usedOf totalSize
-listed = record {
+small-listing = record {
   totals = rw (opens, nodes, header .0, header .1, header .2);
   root = rw (opens, nodes);
   a = rw (opens, nodes);

@@ -9,7 +9,7 @@ use native.Mathlib.Omega.{arith}
 use borrow.Author.Tests.{ltb-true, ltb-false, leb-true, lt-ltb, le-leb}
 use lib.Dec.{leb, ltb, eqb}
 use Rattle.space.specs.declared.DiscRegion.{DiscRegion}
-use Rattle.space.specs.Used.{endOf, inside, usedIn, nonempty, usedRegions, totalSize, usedTotal}
+use Rattle.space.specs.Used.{endOf, inside, usesByte, nonempty, usedRegions, totalSize, usedTotal}
 use Rattle.space.specs.Layout.{disjointFromAll, pairwiseDisjoint, endBy, disjointBelow}
 use Rattle.space.specs.Free.{freeIn, join, runs, freeRegions, freeBytes}
 use Rattle.refusal.specs.Laws.Tests.{lt-or-le, and-left, and-right, never-both}
@@ -84,13 +84,13 @@ count-inside r e h =
       count-or (λ i. ltb i (r .offset)) (inside r) e (λ i u v. omega (arith, ltb-true i (r .offset) u, inside-from r i v)),
     )
 
-count-used : (e : ℕ) (xs : List DiscRegion) → pairwiseDisjoint xs ≡ true → endBy e xs ≡ true → countBytes (usedIn xs) e ≡ totalSize xs
-unfolding pairwiseDisjoint endBy usedIn totalSize
+count-used : (e : ℕ) (xs : List DiscRegion) → pairwiseDisjoint xs ≡ true → endBy e xs ≡ true → countBytes (usesByte xs) e ≡ totalSize xs
+unfolding pairwiseDisjoint endBy usesByte totalSize
 count-used e [] p l = count-none e
 count-used e (x ∷ xs) p l =
     omega (
       arith,
-      count-or (inside x) (usedIn xs) e (λ i u v. never-both (usedIn xs i) v (from-all-free x xs i (and-left (disjointFromAll x xs) (pairwiseDisjoint xs) p) u)),
+      count-or (inside x) (usesByte xs) e (λ i u v. never-both (usesByte xs i) v (from-all-free x xs i (and-left (disjointFromAll x xs) (pairwiseDisjoint xs) p) u)),
       count-inside x e (leb-true (endOf x) e (and-left (leb (endOf x) e) (endBy e xs) l)),
       count-used e xs (and-right (disjointFromAll x xs) (pairwiseDisjoint xs) p) (and-right (leb (endOf x) e) (endBy e xs) l),
     )
@@ -128,7 +128,7 @@ total-free e xs d =
     let k : countBytes (freeIn xs) 0 ≡ 0 = unfold countBytes in refl in
     omega (
       arith,
-      count-not (usedIn xs) e,
+      count-not (usesByte xs) e,
       count-used e xs (and-left (pairwiseDisjoint xs) (endBy e xs) d) (and-right (pairwiseDisjoint xs) (endBy e xs) d),
     )
 

@@ -9,7 +9,7 @@ use native.Mathlib.Omega.{arith}
 use borrow.Author.Tests.{le-leb, lt-leb, lt-ltb, le-ltb, eq-eqb, ne-eqb}
 use lib.Dec.{leb, eqb}
 use Rattle.space.specs.declared.DiscRegion.{DiscRegion}
-use Rattle.space.specs.Used.{endOf, inside, usedIn, used, nonempty, usedRegions, AllNonempty}
+use Rattle.space.specs.Used.{endOf, inside, usesByte, used, nonempty, usedRegions, AllNonempty}
 use Rattle.space.specs.Layout.{disjoint, disjointFromAll, pairwiseDisjoint, endBy, disjointBelow}
 use Rattle.refusal.specs.Laws.Tests.{lt-or-le, or-right, mix-and}
 
@@ -124,8 +124,8 @@ disjoint-below-used t e fs h =
 
 -- ---- used bytes
 
-pub used-nonempty : (fs : List DiscRegion) (i : ℕ) → usedIn (nonempty fs) i ≡ usedIn fs i
-unfolding usedIn
+pub used-nonempty : (fs : List DiscRegion) (i : ℕ) → usesByte (nonempty fs) i ≡ usesByte fs i
+unfolding usesByte
 used-nonempty [] i = unfold nonempty in refl
 used-nonempty (x ∷ fs) i =
     ⊎-elim (λ h. rw (nonempty-cons x fs h, used-nonempty fs i))
@@ -135,8 +135,8 @@ used-nonempty (x ∷ fs) i =
     empty h = ⊎-elim (λ k. rw (lt-leb (x .offset) i k)) (λ k. inside-high x i (omega arith)) (lt-or-le i (x .offset))
 
 -- LAW: the bytes of the list are the bytes used
-pub used-is : (t : ℕ) (fs : List DiscRegion) (i : ℕ) → usedIn (usedRegions t fs) i ≡ used t fs i
-unfolding usedIn
+pub used-is : (t : ℕ) (fs : List DiscRegion) (i : ℕ) → usesByte (usedRegions t fs) i ≡ used t fs i
+unfolding usesByte
 used-is t fs i =
     let z : 0 + t ≡ t = omega arith in
     used-nonempty (record { offset = 0; size = t } ∷ fs) i ∙ rw (z, le-leb 0 i (omega arith))

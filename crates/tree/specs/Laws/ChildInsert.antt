@@ -9,7 +9,8 @@ use borrow.Author.Tests.{eqb-true, eqb-false, eq-eqb, ne-eqb}
 use lib.ListN.{length, getD}
 use lib.Dec.{eqb}
 use Rattle.endian.specs.Bytes.{sameBytes}
-use Rattle.endian.specs.Laws.Stored.{lt-or-le, same-refl}
+use Rattle.endian.specs.Laws.Stored.{same-refl}
+use Rattle.refusal.specs.Laws.Tests.{lt-or-le, and-false}
 use Rattle.refusal.specs.declared.Refusal.{Refusal}
 use Rattle.refusal.specs.declared.Refusal.the-variants.{NotFound}
 use Rattle.tree.specs.declared.Located.{Located}
@@ -19,9 +20,10 @@ use Rattle.tree.specs.Lookup.{isDirectory, nextOf, childNamed, childOf}
 use Rattle.tree.specs.Insert.{earlier, later, insertAt, shifted}
 use Rattle.tree.specs.Laws.Nesting.{parent-most}
 use Rattle.tree.specs.Laws.NestedInsert
-use Rattle.refusal.specs.Laws.Tests.{and-false}
-use Rattle.tree.specs.Laws.NestedInsert.{Nested, Fresh, name-earlier, name-later, shifted-min, place, Place, before, after, earlier-up, earlier-same, is-earlier, is-later, new-most, around, between, q≤n, p<q, inserted-before, inserted-at, inserted-after, parent-inserted-before, parent-inserted-at, parent-inserted-after}
-use Rattle.tree.specs.Laws.LookupLaws.{Child, child-is, child-at, child-none, child-missing, child-named}
+use Rattle.tree.specs.Laws.InsertedList.{Nested, Fresh, name-earlier, name-later, shifted-min, q≤n, p<q, inserted-before, inserted-at, inserted-after}
+use Rattle.tree.specs.Laws.NestedInsert.{place, Place, before, after, earlier-up, earlier-same, is-earlier, is-later, new-most}
+use Rattle.tree.specs.Laws.InsertedParents.{around, between, parent-inserted-before, parent-inserted-at, parent-inserted-after}
+use Rattle.tree.specs.Laws.Children.{Child, child-is, child-at, child-none, child-missing, child-named}
 
 -- an answer with the new numbers
 abbrev pub moved : ℕ → Located → Located

@@ -13,10 +13,12 @@ use Rattle.refusal.specs.Refusal.{refuse}
 use Rattle.tree.specs.Table.{Node, file, directory, nameOf, none, encloses, parentBelow, parentOf, textsOf, shallow, limits}
 use Rattle.tree.specs.Inner.WellFormed.{GoodName, WellFormed}
 use Rattle.tree.specs.Lookup.{nextOf}
-use Rattle.tree.specs.Laws.Nesting.{Inside, parent-inside, nests, root-is}
+use Rattle.tree.specs.Laws.Nesting.{Inside}
+use Rattle.tree.specs.Laws.WellNested.{parent-inside, nests, root-is}
 use Rattle.tree.specs.Inner.Depths.{openDirs, depthOf}
 use Rattle.tree.specs.Insert.{insertAt}
-use Rattle.tree.specs.Laws.InsertLaws.{Fresh, depthOk, length-insert, insert-shallow}
+use Rattle.tree.specs.Laws.InsertLaws.{Fresh, length-insert, insert-shallow}
+use Rattle.tree.specs.Laws.InsertWalk.{depthOk}
 use Rattle.tree.specs.Laws.Writing.{textStart}
 use Rattle.tree.specs.Laws.PatchLaws.{texts-insert}
 

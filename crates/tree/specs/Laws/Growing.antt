@@ -12,12 +12,14 @@ use Rattle.refusal.specs.declared.Refusal.the-variants.{LimitOrMemory}
 use Rattle.refusal.specs.Refusal.{refuse}
 use Rattle.tree.specs.Table.{Node, directory, nameOf, none, textsOf, encode, shallow, limits}
 use Rattle.tree.specs.Inner.WellFormed.{GoodName, WellFormed}
-use Rattle.tree.specs.Laws.Nesting.{next-bounds}
+use Rattle.tree.specs.Laws.WellNested.{next-bounds}
 use Rattle.tree.specs.Insert.{splice, insertAt}
-use Rattle.tree.specs.Laws.InsertLaws.{Fresh, depthOk, length-insert, insert-sound, insert-shallow}
+use Rattle.tree.specs.Laws.InsertLaws.{Fresh, length-insert, insert-sound, insert-shallow}
+use Rattle.tree.specs.Laws.InsertWalk.{depthOk}
 use Rattle.tree.specs.Inner.Depths.{depthOf}
 use Rattle.refusal.specs.Laws.Tests.{and-right}
-use Rattle.tree.specs.Laws.RoundTrip.{Within, within-limits, limits-within, length-encode}
+use Rattle.tree.specs.Laws.RoundTrip.{Within, within-limits, limits-within}
+use Rattle.tree.specs.Laws.WrittenEntries.{length-encode}
 use Rattle.tree.specs.Laws.Writing.{texts-append}
 use Rattle.tree.specs.Laws.PatchLaws.{texts-splice, tail-splice, length-tail}
 

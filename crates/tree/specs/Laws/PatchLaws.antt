@@ -10,15 +10,15 @@ use lib.ListN.{length, getD, set, take, drop, length-append, take-append-drop}
 use lib.Seq.{take-at, drop-at}
 use lib.Dec.{ltb, eqb}
 use Rattle.endian.specs.Bytes.{be32Bytes, put}
-use Rattle.endian.specs.Laws.Stored.{lt-or-le}
+use Rattle.refusal.specs.Laws.Tests.{lt-or-le}
 use Rattle.tree.specs.Table.{Node, file, directory, nameOf, none, nameOffset, sizeOrNext, nodeBytes, parentOf, textsOf, encode}
 use Rattle.tree.specs.Inner.WellFormed.{WellFormed}
 use Rattle.tree.specs.Lookup.{nextOf}
-use Rattle.tree.specs.Laws.Nesting.{next-bounds}
+use Rattle.tree.specs.Laws.WellNested.{next-bounds}
 use Rattle.tree.specs.Insert.{earlier, later, splice, insertAt, shifted, placed, setPlace}
 use Rattle.tree.specs.Laws.InsertLaws.{Fresh, name-later, name-earlier, length-insert, insert-before, insert-at, insert-after, parent-insert-before, parent-insert-at, parent-insert-after}
 use Rattle.tree.specs.Laws.PlaceLaws.{name-placed, length-setPlace, setPlace-at, setPlace-other, parent-setPlace, texts-setPlace}
-use Rattle.tree.specs.Laws.RoundTrip.{length-encode}
+use Rattle.tree.specs.Laws.WrittenEntries.{length-encode}
 use Rattle.tree.specs.Inner.Patch.{records, placePatch, recordBefore, recordAfter, patchedRecord, newStart, insertPatch}
 use Rattle.tree.specs.Laws.Records.{records-ext, records-at, length-records, put-middle}
 use Rattle.tree.specs.Laws.Writing.{texts-append, textStart, start-end, entryBytes, entry-twelve, encode-records, written-texts, Fields, written-fields}

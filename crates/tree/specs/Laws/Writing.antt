@@ -12,8 +12,9 @@ use Rattle.endian.specs.Bytes.{be24, be32}
 use Rattle.endian.specs.Laws.Stored.{be24-value, be32-value}
 use Rattle.tree.specs.Table.{Node, file, directory, nameOf, none, kind, nameOffset, offsetOrParent, sizeOrNext, nodesOf, nodeBytes, parentBelow, parentOf, entriesBytes, textsOf, encode}
 use Rattle.tree.specs.Inner.WellFormed.{GoodEntry, WellFormed}
-use Rattle.tree.specs.Laws.RoundTrip.{length-nodeBytes, kind-is, nameOffset-is, word-is, drop-past}
-use Rattle.tree.specs.Laws.Nesting.{parent-most, root-is, entry-at}
+use Rattle.tree.specs.Laws.WrittenEntries.{length-nodeBytes, kind-is, nameOffset-is, word-is, drop-past}
+use Rattle.tree.specs.Laws.Nesting.{parent-most}
+use Rattle.tree.specs.Laws.WellNested.{root-is, entry-at}
 use Rattle.tree.specs.Inner.Patch.{records}
 use Rattle.tree.specs.Laws.Records.{Twelve, drop-record, drop-records}
 

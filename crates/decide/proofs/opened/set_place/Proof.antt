@@ -8,7 +8,7 @@ use Rattle.opening.specs.Laws.OpeningLaws.{OpenImage, opens}
 use Rattle.refusal.specs.declared.Verdict.{Verdict}
 use Rattle.tree.specs.Table.{encode}
 use Rattle.tree.specs.Insert.{setPlace}
-use Rattle.tree.specs.Laws.RoundTrip.{length-encode}
+use Rattle.tree.specs.Laws.WrittenEntries.{length-encode}
 use Rattle.opening.specs.Opening.{nodesIn}
 use Rattle.edits.specs.Change.{tableVerdict, change}
 use Rattle.commit.specs.Inner.Decision.{placing, changeWith}

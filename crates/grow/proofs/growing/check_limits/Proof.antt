@@ -5,8 +5,8 @@ use Rattle.grow.specs.Inner.Growth.{treeIn}
 use Rattle.refusal.specs.declared.Verdict.the-variants.{Passed}
 use Rattle.refusal.specs.declared.Refusal.the-variants.{LimitOrMemory}
 use Rattle.refusal.specs.Refusal.{refuse}
-use Rattle.tree.specs.Laws.Nesting.{not-empty}
-use Rattle.tree.specs.Laws.RoundTrip.{length-encode}
+use Rattle.tree.specs.Laws.WellNested.{not-empty}
+use Rattle.tree.specs.Laws.WrittenEntries.{length-encode}
 use denote.Ref.{now}
 use mathlib.Core.Bool.{Bool, not}
 use mathlib.Core.Path.{sym, ap, _∙_}

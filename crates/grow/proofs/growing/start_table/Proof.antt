@@ -4,7 +4,8 @@ use Rattle.grow.proofs.GrowthLaws.{past-built}
 use Rattle.commit.proofs.Images.{table-valid, measured-past, measured-size}
 use Rattle.fst_write.specs.Inner.Measure.{measureOf}
 use Rattle.opening.specs.Opening.{nodesIn}
-use Rattle.tree.specs.Laws.RoundTrip.{length-encode, within-limits}
+use Rattle.tree.specs.Laws.WrittenEntries.{length-encode}
+use Rattle.tree.specs.Laws.RoundTrip.{within-limits}
 use Rattle.refusal.specs.declared.Verdict.the-variants.{Passed}
 use Rattle.tree.specs.Table.{encode, limits}
 use Rattle.opening.proofs.Tests.{part-table}

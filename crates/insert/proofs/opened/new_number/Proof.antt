@@ -3,7 +3,7 @@
 use Rattle.insert.proofs.InsertionLaws.{insert-allows}
 use Rattle.grow.proofs.GrowthLaws.{is-directory}
 use Rattle.edits.specs.Edits.{insertVerdict}
-use Rattle.tree.specs.Laws.Nesting.{next-bounds}
+use Rattle.tree.specs.Laws.WellNested.{next-bounds}
 use Rattle.tree.specs.Laws.Accepted.{length-nodesOf, accepted}
 use Rattle.tree.specs.Table.{none, nodesOf}
 use Rattle.refusal.specs.declared.Verdict.the-variants.{Passed}
