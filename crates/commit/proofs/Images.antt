@@ -18,10 +18,10 @@ use Rattle.tree.specs.Table.{Node, none, count, check, textsOf, encode, limits}
 use Rattle.tree.specs.Laws.Accepted.{length-nodesOf}
 use Rattle.tree.specs.Laws.WrittenEntries.{length-encode}
 use Rattle.tree.specs.Laws.RoundTrip.{Within, within-limits, limits-within}
-use Rattle.fst_write.specs.declared.Measured.the-variants.{Size, PastLimit}
-use Rattle.fst_write.specs.Inner.Measure.{measureOf}
-use Rattle.fst_write.specs.Inner.Valid.{Valid}
-use Rattle.fst_write.specs.Laws.Accepted.{accepted-valid}
+use Rattle.fst_measure.specs.declared.Measured.the-variants.{Size, PastLimit}
+use Rattle.fst_measure.specs.Inner.Measure.{measureOf}
+use Rattle.fst_measure.specs.Inner.Valid.{Valid}
+use Rattle.fst_measure.specs.Laws.Accepted.{accepted-valid}
 use Rattle.space.specs.declared.DiscRegion.{DiscRegion}
 use Rattle.space.specs.Used.{endOf, usedRegions}
 use Rattle.space.specs.Laws.UsedLaws.{liesWithin, filesWithin}

@@ -8,7 +8,7 @@ use Rattle.endian.specs.Bytes.{put, span, be32Bytes}
 use Rattle.endian.specs.Laws.Stored.{length-put, length-span, span-put}
 use Rattle.header.specs.Fields.{fstSizeField}
 use Rattle.tree.specs.Laws.Records.{put-middle}
-use Rattle.fst_write.proofs.Puts.{put-append}
+use Rattle.fst_measure.proofs.Puts.{put-append}
 use Rattle.edits.specs.Change.{withTable}
 
 pub put-start : (s t : List ℕ) → put s 0 t ≡ t ++ drop (length t) s

@@ -1,6 +1,6 @@
 // The new table: whether it can be written, and the tree of an open image written anew into the working bytes.
 use crate::TableSize;
-use fst_write::Measured;
+use fst_measure::Measured;
 use refusal::Refusal;
 use refusal::Verdict;
 use space::DiscRegion;
@@ -76,7 +76,7 @@ pub fn check_table(
 {
     let from = header::fst_offset(image) as usize;
     let to = header::table_end(image) as usize;
-    let measured = fst_write::measure(&image[from..to]);
+    let measured = fst_measure::measure(&image[from..to]);
     match measured {
         Measured::PastLimit => TableSize::Refused(Refusal::LimitOrMemory),
         Measured::Size(size) => sized(check_place(image, words, m, room, size, place), size),

@@ -17,7 +17,8 @@ use Rattle.free_space.specs.declared.Listing.the-variants as listing
 use Rattle.space.specs.Free.{join, runs, freeRegions}
 use Rattle.free_space.specs.Listing.{listingOf}
 use Rattle.opening.specs.Opening.{opening, freeOf}
-use Rattle.disc.specs.Calls.{behind, freeRegionsAnswer}
+use Rattle.answers.specs.Answers.{behind}
+use Rattle.disc.specs.Calls.{freeRegionsAnswer}
 
 join-count : (i : ℕ) (rs : List DiscRegion) → length (join i rs) ≤ suc (length rs)
 join-count i [] = omega arith

@@ -4,11 +4,11 @@ use Prim.Native.Nat.{ℕ}
 use mathlib.Core.List.{List, [], _∷_, _++_}
 use Rattle.refusal.specs.declared.Verdict.{Verdict}
 use Rattle.refusal.specs.declared.Verdict.the-variants.{Passed, Refused}
-use Rattle.header.specs.declared.DiscHeader.{DiscHeader}
-use Rattle.header.specs.declared.HeaderRead.{HeaderRead}
-use Rattle.header.specs.Header.{headerWritten}
+use Rattle.disc_header.specs.declared.DiscHeader.{DiscHeader}
+use Rattle.disc_header.specs.declared.HeaderRead.{HeaderRead}
+use Rattle.disc_header.specs.Header.{headerWritten}
 use Rattle.dol.specs.declared.DolHeader.{DolHeader}
-use Rattle.disc.specs.declared.DolFile.{DolFile}
+use Rattle.files.specs.declared.DolFile.{DolFile}
 use Rattle.counter.specs.Replies.{Reply, accepts, refuses, windowWords}
 
 -- a header that was read, written back

@@ -23,14 +23,14 @@ use Rattle.free_space.specs.declared.Allocation.{Allocation}
 use Rattle.free_space.specs.declared.Allocation.the-variants as allocation
 use Rattle.free_space.specs.declared.Listing.{Listing}
 use Rattle.free_space.specs.declared.Listing.the-variants as listing
-use Rattle.disc.specs.declared.Opened.{Opened}
-use Rattle.disc.specs.declared.Opened.the-variants as opened
+use Rattle.answers.specs.declared.Opened.{Opened}
+use Rattle.answers.specs.declared.Opened.the-variants as opened
 use Rattle.disc.specs.declared.TotalsAnswer.{TotalsAnswer}
 use Rattle.disc.specs.declared.TotalsAnswer.the-variants as totaled
-use Rattle.disc.specs.declared.SizeAnswer.{SizeAnswer}
-use Rattle.disc.specs.declared.SizeAnswer.the-variants as size
-use Rattle.disc.specs.declared.WindowAnswer.{WindowAnswer}
-use Rattle.disc.specs.declared.WindowAnswer.the-variants as windowed
+use Rattle.answers.specs.declared.SizeAnswer.{SizeAnswer}
+use Rattle.answers.specs.declared.SizeAnswer.the-variants as size
+use Rattle.files.specs.declared.WindowAnswer.{WindowAnswer}
+use Rattle.files.specs.declared.WindowAnswer.the-variants as windowed
 use Rattle.window.specs.declared.Window.{Window}
 use Rattle.window.specs.declared.Sought.{Sought}
 use Rattle.window.specs.declared.Sought.the-variants as sought

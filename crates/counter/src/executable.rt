@@ -6,16 +6,16 @@ ghost use lib.ListN.{length, replicate};
 ghost use Rattle.endian.specs.Bytes.{put};
 ghost use Rattle.refusal.specs.declared.Refusal.the-variants.{LimitOrMemory};
 ghost use Rattle.refusal.specs.Refusal.{numberOf};
-ghost use Rattle.header.specs.Header.{headerRead};
-ghost use Rattle.disc.specs.Calls.{openDolAnswer};
+ghost use Rattle.disc_header.specs.Header.{headerRead};
+ghost use Rattle.files.specs.Files.{openDolAnswer};
 ghost use Rattle.counter.specs.Replies.{Gives, needing, ifShort, verdictNumber};
 ghost use Rattle.counter.specs.Headers.{fieldsAfter, dolWords, dolReply, dolWindowReply};
 use crate::slots;
 use crate::windows;
-use disc::DolFile;
+use disc_header::DiscHeader;
+use disc_header::HeaderRead;
 use dol::DolHeader;
-use header::DiscHeader;
-use header::HeaderRead;
+use files::DolFile;
 use refusal::Verdict;
 
 // ---- the disc header
@@ -128,6 +128,6 @@ pub extern "C" fn counter_open_dol(
     if window.len() < 3 {
         return slots::short_answer(words);
     }
-    let file = disc::open_dol(image, words);
+    let file = files::open_dol(image, words);
     give_dol(header, window, file)
 }

@@ -2,10 +2,11 @@
 ghost use mathlib.Core.Path.{_≡_};
 ghost use Prim.Native.Nat.{_≤_};
 ghost use lib.ListN.{length, replicate};
-ghost use Rattle.disc.specs.Calls.{openedOf, entryAnswer, lookupAnswer, entriesAnswer, entriesList, totalsAnswer};
+ghost use Rattle.disc.specs.Calls.{openedOf, totalsAnswer};
+ghost use Rattle.files.specs.Files.{entryAnswer, lookupAnswer, entriesAnswer, entriesList};
 ghost use Rattle.counter.specs.Replies.{Gives, needing, ifShort, openedReply, foundReply, totalsReply};
 use crate::slots;
-use disc::Opened;
+use answers::Opened;
 use disc::TotalsAnswer;
 use tree::Entry;
 use tree::Found;
@@ -90,7 +91,7 @@ pub extern "C" fn counter_entry(
     if answer.len() < 4 {
         return slots::short_answer(words);
     }
-    let found = disc::entry(image, words, number);
+    let found = files::entry(image, words, number);
     give_found(answer, found)
 }
 
@@ -107,7 +108,7 @@ pub extern "C" fn counter_lookup(
     if answer.len() < 4 {
         return slots::short_answer(words);
     }
-    let found = disc::lookup(image, words, start, path);
+    let found = files::lookup(image, words, start, path);
     give_found(answer, found)
 }
 
@@ -123,6 +124,6 @@ pub extern "C" fn counter_entries(
     if answer.len() < 5 {
         return slots::short_answer(words);
     }
-    let opened = disc::entries(image, words, list);
+    let opened = files::entries(image, words, list);
     give_opened(answer, opened)
 }

@@ -3,10 +3,12 @@ ghost use mathlib.Core.Path.{_≡_};
 ghost use Prim.Native.Nat.{ℕ, _≤_, _<_, _^_};
 ghost use lib.ListN.{length, replicate};
 ghost use Rattle.free_space.specs.declared.Listing.the-variants.{Listed};
-ghost use Rattle.disc.specs.Calls.{freeRegionsAnswer, freeRegionsList, maxRegionSizeAnswer, maxFileSizeAnswer, allocateAnswer};
+ghost use Rattle.disc.specs.Calls.{freeRegionsAnswer, freeRegionsList, allocateAnswer};
+ghost use Rattle.answers.specs.Answers.{maxRegionSizeAnswer};
+ghost use Rattle.files.specs.Files.{maxFileSizeAnswer};
 ghost use Rattle.counter.specs.Replies.{Gives, needing, ifShort, listingReply, sizeReply, allocationReply};
 use crate::slots;
-use disc::SizeAnswer;
+use answers::SizeAnswer;
 use free_space::Allocation;
 use free_space::Listing;
 
@@ -89,7 +91,7 @@ pub extern "C" fn counter_max_file_size(
     if answer.len() < 1 {
         return slots::short_answer(words);
     }
-    let most = disc::max_file_size(image, words, number);
+    let most = files::max_file_size(image, words, number);
     give_size(answer, most)
 }
 

@@ -5,10 +5,10 @@ ghost use Prim.Native.Nat.{_≤_};
 ghost use lib.ListN.{length, replicate};
 ghost use Rattle.window.specs.Window.{seekOf, countOf, movedOn, bufferOf};
 ghost use Rattle.window.specs.declared.SeekFrom.the-variants.{Start, Current, End};
-ghost use Rattle.disc.specs.Calls.{openFileAnswer};
+ghost use Rattle.files.specs.Files.{openFileAnswer};
 ghost use Rattle.counter.specs.Replies.{Gives, accepts, needing, ifShort, windowIn, windowWords, windowReply, soughtReply};
 use crate::slots;
-use disc::WindowAnswer;
+use files::WindowAnswer;
 use window::SeekFrom;
 use window::Sought;
 use window::Window;
@@ -70,7 +70,7 @@ pub extern "C" fn counter_open_file(
     if window.len() < 3 {
         return slots::short_answer(words);
     }
-    let opened = disc::open_file(image, words, number);
+    let opened = files::open_file(image, words, number);
     give_opened(window, opened)
 }
 

@@ -1,37 +1,17 @@
 // What an image's header and its free regions say: opening, totals, free regions, the largest size of a region, allocation.
 ghost use mathlib.Core.Path.{_≡_};
 ghost use lib.ListN.{length};
-ghost use Rattle.refusal.specs.declared.Verdict.the-variants.{Passed};
-ghost use Rattle.opening.specs.Opening.{opening, zeros};
-ghost use Rattle.disc.specs.Calls.{discOf, openedOf, totalsAnswer, freeRegionsAnswer, freeRegionsList, maxRegionSizeAnswer, allocateAnswer};
-ghost use Rattle.opening.specs.Inner.Prepared.{UsedWords, Prepares};
-use crate::Disc;
+ghost use Rattle.opening.specs.Opening.{zeros};
+ghost use Rattle.answers.specs.Answers.{maxRegionSizeAnswer};
+ghost use Rattle.disc.specs.Calls.{openedOf, totalsAnswer, freeRegionsAnswer, freeRegionsList, allocateAnswer};
+ghost use Rattle.opening.specs.Inner.Prepared.{Prepares};
 use crate::DiscTotals;
-use crate::Opened;
-use crate::SizeAnswer;
 use crate::TotalsAnswer;
+use answers::Opened;
+use answers::SizeAnswer;
 use free_space::Allocation;
 use free_space::Listing;
 use opening::Prepared;
-
-// What opening tells of an image that it accepts.
-pub fn disc_of(image: &[u8], words: &[u32], count: usize) -> Disc
-    requires { ⌜ (opening (now image) (length (now words)) ≡ Passed) × UsedWords (now image) (now words) count ⌝ }
-    ensures { λ r. ⌜ r ≡ discOf (now (image .entry)) ⌝ }
-{
-    let fst_offset = header::fst_offset(image);
-    let fst_size = header::fst_size(image);
-    let disc_end = header::disc_end(image) as u32;
-    let entries = endian::read_u32(image, fst_offset as usize + 8);
-    let used = free_space::used_size(words, count, disc_end);
-    Disc {
-        fst_offset,
-        fst_size,
-        disc_end,
-        entries,
-        used,
-    }
-}
 
 // The answers, once the image is prepared.
 fn opened(image: &[u8], words: &[u32], prepared: Prepared) -> Opened
@@ -39,7 +19,7 @@ fn opened(image: &[u8], words: &[u32], prepared: Prepared) -> Opened
     ensures { λ r. ⌜ r ≡ openedOf (now (image .entry)) (length (now (words .entry))) ⌝ }
 {
     match prepared {
-        Prepared::Ready(count) => Opened::Accepted(disc_of(image, words, count)),
+        Prepared::Ready(count) => Opened::Accepted(answers::disc_of(image, words, count)),
         Prepared::Refused(cause) => Opened::Refused(cause),
     }
 }
@@ -50,7 +30,7 @@ fn totaled(image: &[u8], words: &[u32], prepared: Prepared) -> TotalsAnswer
 {
     match prepared {
         Prepared::Ready(count) => {
-            let disc = disc_of(image, words, count);
+            let disc = answers::disc_of(image, words, count);
             TotalsAnswer::Found(DiscTotals {
                 disc_end: disc.disc_end,
                 used: disc.used,
@@ -66,29 +46,10 @@ fn listed(image: &[u8], words: &[u32], prepared: Prepared, list: &mut [u32]) -> 
 {
     match prepared {
         Prepared::Ready(count) => {
-            let disc = disc_of(image, words, count);
+            let disc = answers::disc_of(image, words, count);
             free_space::free_regions(words, count, disc.disc_end, list)
         }
         Prepared::Refused(cause) => Listing::Refused(cause),
-    }
-}
-
-pub fn sized(image: &[u8], words: &[u32], prepared: Prepared, offset: u32, size: u32) -> SizeAnswer
-    requires { ⌜ Prepares (now image) (length (now words)) (now words) prepared ⌝ }
-    ensures { λ r. ⌜ r ≡ maxRegionSizeAnswer (now (image .entry)) (length (now (words .entry))) offset size ⌝ }
-{
-    match prepared {
-        Prepared::Ready(count) => {
-            let disc = disc_of(image, words, count);
-            SizeAnswer::Bytes(free_space::max_region_size(
-                words,
-                count,
-                disc.disc_end,
-                offset,
-                size,
-            ))
-        }
-        Prepared::Refused(cause) => SizeAnswer::Refused(cause),
     }
 }
 
@@ -98,7 +59,7 @@ fn allocated(image: &[u8], words: &[u32], prepared: Prepared, size: u32, align: 
 {
     match prepared {
         Prepared::Ready(count) => {
-            let disc = disc_of(image, words, count);
+            let disc = answers::disc_of(image, words, count);
             free_space::allocate(words, count, disc.disc_end, size, align)
         }
         Prepared::Refused(cause) => Allocation::Refused(cause),
@@ -141,7 +102,7 @@ pub fn max_region_size(image: &[u8], words: &mut [u32], offset: u32, size: u32) 
     ensures { λ r. ⌜ (r ≡ maxRegionSizeAnswer (now (image .entry)) (length (now (words .entry))) offset size) × (now (words .exit) ≡ zeros (now (words .entry))) ⌝ }
 {
     let prepared = opening::prepare(image, words);
-    let answer = sized(image, words, prepared, offset, size);
+    let answer = answers::sized(image, words, prepared, offset, size);
     space::zero_words(words);
     answer
 }

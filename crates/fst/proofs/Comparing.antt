@@ -18,7 +18,7 @@ use Rattle.tree.specs.declared.Located.the-variants.{Refused}
 use Rattle.tree.specs.Table.{Node, nameOf, none, count, nodesOf, upTo0, namePlace}
 use Rattle.tree.specs.Lookup.{firstChild, childOf}
 use Rattle.tree.specs.Laws.Accepted.{length-nodesOf}
-use Rattle.fst_check.specs.Inner.Reading.{textAt}
+use Rattle.fst_text.specs.Inner.Texts.{textAt}
 use Rattle.fst.specs.Inner.Zeros.{hasZero}
 use Rattle.fst.proofs.Nodes.{root-name}
 use Rattle.fst.proofs.Ended.{name-there}

@@ -6,7 +6,7 @@ use native.Mathlib.Omega.{arith}
 use lib.ListN.{length, getD}
 use Rattle.tree.specs.Table.{none, count, nameOf, nameAt, nodesOf, namePlace}
 use Rattle.tree.specs.Laws.Accepted.{Accepted}
-use Rattle.fst_check.specs.Inner.Reading.{textAt}
+use Rattle.fst_text.specs.Inner.Texts.{textAt}
 use Rattle.fst_check.proofs.Walking.{count-some}
 use Rattle.fst.proofs.Nodes.{name-is}
 use Rattle.fst.proofs.NamePlaces.{place-is}

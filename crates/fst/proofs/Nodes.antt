@@ -15,7 +15,8 @@ use Rattle.tree.specs.Lookup.{isDirectory, nextOf}
 use Rattle.tree.specs.Laws.Accepted.{Accepted, accepted, length-nodesOf, getD-nodesOf}
 use Rattle.tree.specs.Laws.WellNested.{root-is}
 use Rattle.tree.specs.Laws.Nesting.{parent-here, parent-lower, parent-before}
-use Rattle.fst_check.specs.Inner.Reading.{Inside, Opens, textAt}
+use Rattle.fst_check.specs.Inner.Reading.{Inside, Opens}
+use Rattle.fst_text.specs.Inner.Texts.{textAt}
 use Rattle.fst_check.proofs.Walking.{node-file, node-directory, node-name, entries-inside, count-some}
 
 pub opened : (tab : List ℕ) → AllBytes tab → (o : Opens tab) → Accepted tab (o .words)

@@ -4,7 +4,7 @@ ghost use mathlib.Core.Bool.{false};
 ghost use Prim.Native.Nat.{_+_, _≤_, _<_};
 ghost use lib.ListN.{length};
 ghost use Rattle.endian.specs.Bytes.{sameBytes};
-ghost use Rattle.fst_check.specs.Inner.Reading.{textAt};
+ghost use Rattle.fst_text.specs.Inner.Texts.{textAt};
 ghost use Rattle.fst.specs.Inner.Zeros.{hasZero};
 
 // Whether `name` has a zero byte: no text is such a name.
@@ -30,7 +30,7 @@ pub fn text_is(table: &[u8], at: usize, name: &[u8]) -> bool
     if table.len() - at < n {
         return false;
     }
-    if fst_check::byte_at(table, at + n) != 0 {
+    if fst_text::byte_at(table, at + n) != 0 {
         return false;
     }
     endian::same(table, at, name, 0, n)

@@ -1,4 +1,2 @@
 -- What the proofs of the functions cite.
-pub mod BlockLaws
-pub mod Texts
 pub mod Walking

@@ -1,3 +1,2 @@
 -- Definitions that only inner contracts need.
-pub mod Blocks
 pub mod Reading

@@ -7,10 +7,9 @@ ghost use lib.ListN.{length};
 ghost use Rattle.refusal.specs.declared.Verdict.the-variants.{Passed};
 ghost use Rattle.tree.specs.Table as table_of;
 ghost use Rattle.tree.specs.Table.{nameOffset, nameAt, nodeAt, nodesFrom, entryVerdict, entriesVerdict, nameVerdict, nextVerdict, top};
-ghost use Rattle.fst_check.specs.Inner.Reading.{Inside, openIn, nodeVerdict, textsVerdict, textAt, textVerdict, cleanFrom};
-ghost use Rattle.fst_check.specs.Inner.Blocks.{Fit, Marked};
-use crate::marks;
-use crate::text;
+ghost use Rattle.fst_check.specs.Inner.Reading.{Inside, openIn, nodeVerdict, textsVerdict, textVerdict};
+ghost use Rattle.fst_text.specs.Inner.Texts.{textAt, cleanFrom};
+ghost use Rattle.fst_text.specs.Inner.Blocks.{Fit, Marked};
 use refusal::Refusal;
 use refusal::Verdict;
 
@@ -57,10 +56,10 @@ fn entries_verdict(table: &[u8], count: usize) -> Verdict
 fn bytes_verdict(table: &[u8], at: usize) -> Verdict
     ensures { λ r. ⌜ r ≡ textVerdict (textAt (now (table .entry)) at) ⌝ }
 {
-    if !text::every_byte(table, at, false) {
+    if !fst_text::every_byte(table, at, false) {
         return Verdict::Refused(Refusal::InvalidNameByte);
     }
-    if !text::is_safe_name(table, at) {
+    if !fst_text::is_safe_name(table, at) {
         return Verdict::Refused(Refusal::UnsafeName);
     }
     Verdict::Passed
@@ -71,10 +70,10 @@ fn clean_verdict(table: &[u8], at: usize) -> Verdict
     requires { ⌜ Fit (now table) at ⌝ }
     ensures { λ r. ⌜ r ≡ textVerdict (textAt (now (table .entry)) at) ⌝ }
 {
-    if text::byte_at(table, at) == 0 {
+    if fst_text::byte_at(table, at) == 0 {
         return Verdict::Refused(Refusal::UnsafeName);
     }
-    if text::is_dots(table, at) {
+    if fst_text::is_dots(table, at) {
         return Verdict::Refused(Refusal::UnsafeName);
     }
     Verdict::Passed
@@ -94,7 +93,7 @@ fn name_verdict(table: &[u8], count: usize, marks: &[bool; 1024], k: usize, clea
     if clean {
         return clean_verdict(table, at);
     }
-    if marks::is_fit(table, 12 * count, marks, at) {
+    if fst_text::is_fit(table, 12 * count, marks, at) {
         return clean_verdict(table, at);
     }
     bytes_verdict(table, at)
@@ -186,7 +185,7 @@ fn walk(table: &[u8], count: usize) -> Verdict
     ensures { λ r. ⌜ r ≡ table_of.walk (now (table .entry)) count (count ∷ []) 1 (nodesFrom (now (table .entry)) count 1 (count - 1)) ⌝ }
 {
     let mut marks: [bool; 1024] = [false; 1024];
-    let clean = marks::survey(table, 12 * count, &mut marks);
+    let clean = fst_text::survey(table, 12 * count, &mut marks);
     let mut nexts: [u32; 65] = [count as u32; 65];
     let mut depth = 1;
     let mut k = 1;

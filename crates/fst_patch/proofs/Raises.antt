@@ -11,7 +11,7 @@ use Rattle.endian.specs.Laws.Stored.{length-put, put-after, be32-same}
 use Rattle.tree.specs.Table.{kind, nameOffset, offsetOrParent, sizeOrNext}
 use Rattle.tree.specs.Insert.{shifted}
 use Rattle.tree.specs.Inner.Patch.{recordAfter}
-use Rattle.fst_write.proofs.Puts.{put-append, put-prepend}
+use Rattle.fst_measure.proofs.Puts.{put-append, put-prepend}
 use Rattle.fst_patch.proofs.Stays.{word-stays}
 use Rattle.fst_patch.proofs.Patches.{after-file, after-directory}
 

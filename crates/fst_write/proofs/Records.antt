@@ -9,10 +9,10 @@ use lib.ListN.{length, drop}
 use lib.Dec.{eqb}
 use Rattle.endian.specs.Bytes.{put, span}
 use Rattle.tree.specs.Table.{kind, nameOffset, offsetOrParent, sizeOrNext, upTo0, nameAt, nodeWith, nodeAt, nodeBytes}
-use Rattle.fst_write.specs.Inner.Valid.{nameSize}
-use Rattle.fst_write.specs.Inner.Flat.{placeOf, recordAt, textAt, recordBytes}
-use Rattle.fst_write.proofs.Names.{take-run}
-use Rattle.fst_write.proofs.Puts.{put-append}
+use Rattle.fst_measure.specs.Inner.Valid.{nameSize}
+use Rattle.fst_measure.specs.Inner.Flat.{placeOf, recordAt, textAt, recordBytes}
+use Rattle.fst_measure.proofs.Names.{take-run}
+use Rattle.fst_measure.proofs.Puts.{put-append}
 
 fields-of : (t : ℕ) (nm : List ℕ) (a b p o : ℕ) → t ≤ 1 → recordBytes t o (cond (eqb t 0) a p) b ≡ nodeBytes p o (nodeWith t nm a b)
 fields-of zero nm a b p o h = refl

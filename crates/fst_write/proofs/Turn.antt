@@ -7,10 +7,10 @@ use native.Mathlib.Omega.{arith}
 use borrow.Author.Tests.{eq-eqb}
 use lib.ListN.{length}
 use Rattle.tree.specs.Table.{kind, sizeOrNext, nodesOf, parentOf}
-use Rattle.fst_write.specs.Inner.Valid.{Valid}
-use Rattle.fst_write.specs.Inner.Flat.{afterOf, textTo, writeTo, Room}
-use Rattle.fst_write.proofs.Nesting.{Closed, closed-none, closed-more, after-later, after-within, parent-is}
-use Rattle.fst_write.proofs.Split.{text-split, write-split, text-none, write-none, text-mono, text-up}
+use Rattle.fst_measure.specs.Inner.Valid.{Valid}
+use Rattle.fst_measure.specs.Inner.Flat.{afterOf, textTo, writeTo, Room}
+use Rattle.fst_measure.proofs.Nesting.{Closed, closed-none, closed-more, after-later, after-within, parent-is}
+use Rattle.fst_measure.proofs.Split.{text-split, write-split, text-none, write-none, text-mono, text-up}
 
 -- the entries of directory k up to c are written
 pub record Upto (tab out₀ : List ℕ) (n k text : ℕ) (out : List ℕ) (at c : ℕ) : Type 0 where

@@ -2,33 +2,11 @@
 // The table is in preorder, so what is written is what `writeFlat` writes, entry by entry, and that is `encode` of the table's entries.
 ghost use mathlib.Core.Path.{_≡_};
 ghost use Prim.Native.Nat.{_+_, _-_, _*_, _≤_, _<_, _^_};
-ghost use lib.ListN.{length, drop};
+ghost use lib.ListN.{length};
 ghost use Rattle.endian.specs.Bytes.{put};
-ghost use Rattle.tree.specs.Table.{kind, sizeOrNext, upTo0, count, nodesOf, parentOf, encode};
-ghost use Rattle.fst_write.specs.Inner.Valid.{Valid, nameSize};
-ghost use Rattle.fst_write.specs.Inner.Measure.{measureOf, capped};
-ghost use Rattle.fst_write.specs.Inner.Flat.{recordBytes, afterOf, placeOf, recordAt, textAt, textTo, writeTo, rootAt, Room};
-
-// More bytes of texts than this are refused (document 01: "texts over 1,048,576 bytes (9)").
-pub const TEXTS_LIMIT: usize = 1048576;
-
-// The size of the table written anew, or that its texts pass the limit.
-pub enum Measured {
-    Size(usize),
-    PastLimit,
-}
-
-// The length of the text at `at`, without its zero byte.
-fn name_len(table: &[u8], at: usize) -> usize
-    requires { ⌜ at + length (upTo0 (drop at (now table))) < length (now table) ⌝ }
-    ensures { λ r. ⌜ r ≡ length (upTo0 (drop at (now (table .entry)))) ⌝ }
-{
-    let mut i = 0;
-    while table[at + i] != 0 {
-        i += 1;
-    }
-    i
-}
+ghost use Rattle.tree.specs.Table.{kind, sizeOrNext, count, nodesOf, parentOf, encode};
+ghost use Rattle.fst_measure.specs.Inner.Valid.{Valid, nameSize};
+ghost use Rattle.fst_measure.specs.Inner.Flat.{recordBytes, afterOf, placeOf, recordAt, textAt, textTo, writeTo, rootAt, Room};
 
 // What stands in the third field: a file's offset, or the parent that a directory is nested in.
 fn place_of(table: &[u8], k: usize, parent: u32) -> u32
@@ -40,27 +18,6 @@ fn place_of(table: &[u8], k: usize, parent: u32) -> u32
     } else {
         parent
     }
-}
-
-// The entry after k in its directory.
-fn after(table: &[u8], k: usize) -> usize
-    requires { ⌜ 12 * k + 12 ≤ length (now table) ⌝ }
-    ensures { λ r. ⌜ r ≡ afterOf (now (table .entry)) k ⌝ }
-{
-    if table[12 * k] == 1 {
-        endian::read_u32(table, 12 * k + 8) as usize
-    } else {
-        k + 1
-    }
-}
-
-// The length of the name of entry k.
-fn name_size(table: &[u8], count: usize, k: usize) -> usize
-    requires { ⌜ Valid (now table) count × (0 < k) × (k < count) ⌝ }
-    ensures { λ r. ⌜ r ≡ nameSize (now (table .entry)) count k ⌝ }
-{
-    let from = 12 * count + endian::read_u24(table, 12 * k + 1) as usize;
-    name_len(table, from)
 }
 
 // Writes the four fields of entry k.
@@ -96,7 +53,7 @@ fn write_name(table: &[u8], out: &mut [u8], count: usize, k: usize, text: usize)
     ensures { λ _. ⌜ now (out .exit) ≡ textAt (now (table .entry)) count k text (now (out .entry)) ⌝ }
 {
     let from = 12 * count + endian::read_u24(table, 12 * k + 1) as usize;
-    let n = name_len(table, from);
+    let n = fst_measure::name_len(table, from);
     endian::copy(table, from, out, text, n);
     endian::write_u8(out, text + n, 0);
     text + n + 1
@@ -154,7 +111,7 @@ fn write_directory(table: &[u8], out: &mut [u8], count: usize, k: usize, text: u
     let mut c = k + 1;
     while c < stop {
         at = write_entry(table, out, count, c, k as u32, at);
-        c = after(table, c);
+        c = fst_measure::after(table, c);
     }
     at
 }
@@ -177,62 +134,4 @@ pub fn write_table(table: &[u8], out: &mut [u8]) -> usize
     let count = endian::read_u32(table, 8) as usize;
     write_root(out, count);
     write_directory(table, out, count, 0, 12 * count)
-}
-
-// The texts so far and the name of entry k with its zero byte.
-fn measure_name(table: &[u8], count: usize, k: usize, texts: usize) -> usize
-    requires { ⌜ Valid (now table) count × (0 < k) × (k < count) × (texts ≤ 1048576) ⌝ }
-    ensures { λ r. ⌜ r ≡ capped (textTo (now (table .entry)) count k (k + 1) texts) ⌝ }
-{
-    let n = name_size(table, count, k);
-    if TEXTS_LIMIT - texts <= n {
-        TEXTS_LIMIT + 1
-    } else {
-        texts + n + 1
-    }
-}
-
-// The texts so far and those of entry k, and if it is a directory of all that is in it.
-fn measure_entry(table: &[u8], count: usize, k: usize, texts: usize) -> usize
-    requires { ⌜ Valid (now table) count × (0 < k) × (k < count) × (texts ≤ 1048576) ⌝ }
-    ensures { λ r. ⌜ r ≡ capped (textTo (now (table .entry)) count k (afterOf (now (table .entry)) k) texts) ⌝ }
-{
-    let next_texts = measure_name(table, count, k, texts);
-    if table[12 * k] == 1 {
-        measure_directory(table, count, k, next_texts)
-    } else {
-        next_texts
-    }
-}
-
-// The texts so far and those of all that is in directory k. Stops once the limit is passed.
-fn measure_directory(table: &[u8], count: usize, k: usize, texts: usize) -> usize
-    requires { ⌜ Valid (now table) count × (k < count) × (kind (now table) k ≡ 1) × (texts ≤ 1048577) ⌝ }
-    ensures { λ r. ⌜ r ≡ capped (textTo (now (table .entry)) count (k + 1) (sizeOrNext (now (table .entry)) k) texts) ⌝ }
-{
-    let stop = endian::read_u32(table, 12 * k + 8) as usize;
-    let mut sum = texts;
-    let mut c = k + 1;
-    while c < stop {
-        if TEXTS_LIMIT < sum {
-            return sum;
-        }
-        sum = measure_entry(table, count, c, sum);
-        c = after(table, c);
-    }
-    sum
-}
-
-// The size of what `write_table` writes, or that its texts pass the limit.
-pub fn measure(table: &[u8]) -> Measured
-    requires { ⌜ Valid (now table) (count (now table)) ⌝ }
-    ensures { λ r. ⌜ r ≡ measureOf (now (table .entry)) ⌝ }
-{
-    let count = endian::read_u32(table, 8) as usize;
-    let texts = measure_directory(table, count, 0, 0);
-    if TEXTS_LIMIT < texts {
-        Measured::PastLimit
-    } else {
-        Measured::Size(12 * count + texts)
-    }
 }

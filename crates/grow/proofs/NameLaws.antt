@@ -9,7 +9,7 @@ use lib.Dec.{eqb}
 use lib.ListN.{length, getD, drop, drop-of-length-le}
 use lib.Seq.{drop-cons}
 use Rattle.tree.specs.Table.{every, dots, safe, plain}
-use Rattle.fst_check.specs.Inner.Reading.{byteTest}
+use Rattle.fst_text.specs.Inner.Texts.{byteTest}
 
 pub every-turn : (p : ℕ → Bool) (nm : List ℕ) (i : ℕ) (t : Bool) → i < length nm → p (getD nm i 0) ≡ t → every p (drop i nm) ≡ (t && every p (drop (i + 1) nm))
 every-turn p nm i t h e = rw (drop-cons nm i 0 h, e, add-one i)

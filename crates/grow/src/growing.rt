@@ -1,6 +1,6 @@
 // The table in the working bytes: the tree as it is written there, then one entry more at a time, and at last its place in the image.
 use commit::TableSize;
-use fst_write::Measured;
+use fst_measure::Measured;
 use refusal::Refusal;
 use refusal::Verdict;
 use space::DiscRegion;
@@ -25,7 +25,7 @@ pub fn start_table(image: &[u8], words: &[u32], m: usize, bytes: &mut [u8]) -> T
 {
     let from = header::fst_offset(image) as usize;
     let to = header::table_end(image) as usize;
-    let measured = fst_write::measure(&image[from..to]);
+    let measured = fst_measure::measure(&image[from..to]);
     match measured {
         Measured::PastLimit => TableSize::Refused(Refusal::LimitOrMemory),
         Measured::Size(size) => {
@@ -88,7 +88,7 @@ fn check_limits(
         return Verdict::Refused(Refusal::LimitOrMemory);
     }
     let texts = size - 12 * count;
-    if fst_write::TEXTS_LIMIT - texts <= name.len() {
+    if fst_measure::TEXTS_LIMIT - texts <= name.len() {
         return Verdict::Refused(Refusal::LimitOrMemory);
     }
     if words < 4 * (count + 3) {

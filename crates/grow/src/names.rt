@@ -2,7 +2,7 @@
 ghost use mathlib.Core.Path.{_≡_};
 ghost use Rattle.tree.specs.Table.{every, plain, safe};
 ghost use Rattle.tree.specs.Table as table_of;
-ghost use Rattle.fst_check.specs.Inner.Reading.{byteTest};
+ghost use Rattle.fst_text.specs.Inner.Texts.{byteTest};
 
 // Whether each byte is safe, or each is plain.
 fn every_byte(name: &[u8], safe_only: bool) -> bool
@@ -10,7 +10,7 @@ fn every_byte(name: &[u8], safe_only: bool) -> bool
 {
     let mut i = 0;
     while i < name.len() {
-        if fst_check::fits(name[i], safe_only) {
+        if fst_text::fits(name[i], safe_only) {
             i += 1;
         } else {
             return false;

@@ -1,5 +1,4 @@
 pub mod Fields
 pub mod Verdicts
-pub mod Header
 pub mod Inner
 pub mod Laws

@@ -1,10 +1,10 @@
 // Lists the image that standard input gives: disc end and used total, the entries in table order, the free regions (document 01,
 // "A small master"). A refused image gives only the refusal's number. The file `stdout` is document 01's listing of its small master.
-use disc::Opened;
+use answers::Opened;
 use free_space::Listing;
 use refusal::Refusal;
 
-// The words of an entry, as `disc::entries` lists them.
+// The words of an entry, as `files::entries` lists them.
 const KIND: usize = 0;
 
 const PARENT: usize = 1;
@@ -147,7 +147,7 @@ fn list_regions(image: &[u8], words: &mut [u32; 16384], list: &mut [u32; 24576])
 fn list_image(image: &[u8]) {
     let mut words = [0u32; 16384];
     let mut list = [0u32; 24576];
-    let opened = disc::entries(image, &mut words, &mut list);
+    let opened = files::entries(image, &mut words, &mut list);
     match opened {
         Opened::Accepted(disc) => {
             io::write_all(1, b"total");

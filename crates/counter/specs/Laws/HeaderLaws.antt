@@ -11,11 +11,11 @@ use Rattle.endian.specs.Laws.Stored.{length-span, getD-span}
 use Rattle.refusal.specs.declared.Verdict.the-variants.{Passed}
 use Rattle.header.specs.declared.Field.{Field}
 use Rattle.header.specs.Fields.{fields, nth, fieldAt, gameCodeField, makerCodeField, unused00aField, gameNameField, unused408Field}
-use Rattle.header.specs.Header.{bytesOf, headerOf, headerRead, fieldBytes, putHeader}
+use Rattle.disc_header.specs.Header.{bytesOf, headerOf, headerRead, fieldBytes, putHeader}
 use Rattle.header.specs.Verdicts.{headerVerdict}
 use Rattle.header.specs.Laws.FieldTests.{header-passed}
 use Rattle.header.specs.Laws.Tiling.{fields-tile, fields-count, one-field}
-use Rattle.header.specs.Laws.RoundTrip.{Fills, putFields-in, putFields-after, write-read}
+use Rattle.disc_header.specs.Laws.RoundTrip.{Fills, putFields-in, putFields-after, write-read}
 use Rattle.counter.specs.Headers.{fieldsAfter}
 
 module _ (image slots : List ℕ) (good : headerVerdict image ≡ Passed) (bytes : AllBytes image) (room : 0x440 ≤ length slots) where

@@ -1,24 +1,15 @@
 -- What the functions that read a table compute on the way to the definitions of the file table. Assumes nothing: these are definitions.
 use Prim.Native.Nat.{ℕ, zero, suc, _+_, _-_, _*_, _<_, _≤_}
 use mathlib.Core.Path.{_≡_}
-use mathlib.Core.Bool.{Bool, true, false, not, _&&_, _||_}
+use mathlib.Core.Bool.{not}
 use mathlib.Core.List.{List, [], _∷_}
-use lib.ListN.{length, getD, drop}
-use lib.Dec.{leb, ltb, eqb}
+use lib.ListN.{length, getD}
+use lib.Dec.{leb, ltb}
 use Rattle.refusal.specs.declared.Verdict.{Verdict}
 use Rattle.refusal.specs.declared.Verdict.the-variants.{Passed}
 use Rattle.refusal.specs.declared.Refusal.the-variants.{MissingNullTerminator, LimitOrMemory, InvalidNextIndex, InvalidNameByte, UnsafeName}
 use Rattle.refusal.specs.Refusal.{refuse, first}
-use Rattle.tree.specs.Table.{every, plain, safe, plainByte, safeByte, upTo0, nameOffset, sizeOrNext, nameAt, nodeAt, nodesFrom, unended, nameVerdict, nextVerdict, walk, check}
-
--- the text that starts at byte `at` of a table
-abbrev pub textAt : List ℕ → ℕ → List ℕ
-textAt tab at = upTo0 (drop at tab)
-
--- a byte without `/`, `\`, `:`, or a byte 0x20 to 0x7E
-abbrev pub byteTest : Bool → ℕ → Bool
-byteTest true b = safeByte b
-byteTest false b = plainByte b
+use Rattle.tree.specs.Table.{plain, safe, nameOffset, sizeOrNext, nameAt, nodeAt, nodesFrom, unended, nameVerdict, nextVerdict, walk, check}
 
 -- the table is accepted, where some number of working words is lent
 pub record Opens (tab : List ℕ) : Type 0 where
@@ -48,13 +39,6 @@ textsVerdict tab c words =
 -- the walk's tests of entry k, where the directories `dirs` are open
 abbrev pub nodeVerdict : List ℕ → ℕ → List ℕ → ℕ → Verdict
 nodeVerdict tab c dirs k = first (nameVerdict tab c k (nameAt tab c (nameOffset tab k))) (nextVerdict c dirs k (nodeAt tab c k))
-
--- a byte that no name is refused for: the end of a text, or plain and safe
-abbrev pub cleanByte : ℕ → Bool
-cleanByte b = eqb b 0 || (plainByte b && safeByte b)
-
-unfoldable pub cleanFrom : List ℕ → ℕ → Bool
-cleanFrom tab from = every cleanByte (drop from tab)
 
 -- the tests 12 and 13 of a name
 abbrev pub textVerdict : List ℕ → Verdict

@@ -4,7 +4,7 @@ use native.Mathlib.Omega.{arith}
 use mathlib.Core.Path.{_≡_, sym, ap}
 use lib.ListN.{length, getD}
 use Rattle.tree.specs.Table.{none, nodesOf, nameOf, namePlace}
-use Rattle.fst_check.specs.Inner.Reading.{textAt}
+use Rattle.fst_text.specs.Inner.Texts.{textAt}
 use Rattle.fst.proofs.Nodes.{opened, name-short, root-name}
 use Rattle.fst.proofs.Ended.{name-there, name-ended}
 use borrow.Author.Needs.{needs}

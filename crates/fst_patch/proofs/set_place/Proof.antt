@@ -3,7 +3,7 @@
 use Prim.Native.Nat.{_+_, _*_}
 use native.Mathlib.Omega.{arith}
 use Rattle.endian.specs.Bytes.{be32Bytes}
-use Rattle.fst_write.proofs.Puts.{put-append}
+use Rattle.fst_measure.proofs.Puts.{put-append}
 use borrow.Author.Needs.{needs}
 use Rattle.fst_patch.proofs.set_place.Statement.{statement}
 use Rattle.fst_patch.proofs.set_place.Tie as tie

@@ -18,7 +18,7 @@ use Rattle.fst_write.proofs.write_entry.Reads as write-entry
 use Rattle.fst_write.proofs.write_entry.Kinds as write-entry-kinds
 use Rattle.fst_write.proofs.+write_directory+write_entry.Lts-write_entry as e
 use Rattle.endian.proofs.read_u32.Reads as read-u32-reads
-use Rattle.fst_write.proofs.after.Reads as after-reads
+use Rattle.fst_measure.proofs.after.Reads as after-reads
 use Rattle.fst_write.proofs.write_one.Reads as write-one-reads
 use Rattle.fst_write.proofs.+write_directory+write_entry.{statement}
 use Rattle.fst_write.proofs.+write_directory+write_entry.Tie.{close}

@@ -3,7 +3,7 @@
 use native.Mathlib.Omega.{arith}
 use mathlib.Core.Path.{_≡_}
 use Rattle.tree.specs.Table.{nameAt}
-use Rattle.fst_write.specs.Inner.Valid.{nameSize}
+use Rattle.fst_measure.specs.Inner.Valid.{nameSize}
 use Rattle.fst_write.proofs.Records.{text-is}
 use borrow.Author.Needs.{needs}
 use Rattle.fst_write.proofs.write_name.Statement.{statement}

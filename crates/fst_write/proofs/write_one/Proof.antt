@@ -1,7 +1,7 @@
 -- `fst_write::write_one` meets its contract: a record and then a name are what one step of `writeFlat` writes.
 -- Assumes nothing.
 use native.Mathlib.Omega.{arith}
-use Rattle.fst_write.proofs.Split.{text-one, write-one}
+use Rattle.fst_measure.proofs.Split.{text-one, write-one}
 use borrow.Author.Needs.{needs}
 use Rattle.fst_write.proofs.write_one.Statement.{statement}
 use Rattle.fst_write.proofs.write_one.Tie as tie

@@ -1,6 +1,6 @@
 -- `fst_write::write_root` meets its contract: its four fields are the root's bytes.
 -- Assumes nothing.
-use Rattle.fst_write.specs.Inner.Flat.{rootAt}
+use Rattle.fst_measure.specs.Inner.Flat.{rootAt}
 use borrow.Author.Needs.{needs}
 use Rattle.fst_write.proofs.write_root.Statement.{statement}
 use Rattle.fst_write.proofs.write_root.Tie as tie

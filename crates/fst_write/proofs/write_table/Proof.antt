@@ -3,7 +3,7 @@
 use native.Mathlib.Omega.{arith}
 use mathlib.Core.Path.{_≡_, _∙_}
 use Rattle.tree.specs.Table.{count}
-use Rattle.fst_write.proofs.Whole.{encode-size, whole-size, whole, whole-room}
+use Rattle.fst_measure.proofs.Whole.{encode-size, whole-size, whole, whole-room}
 use borrow.Author.Needs.{needs}
 use Rattle.fst_write.proofs.write_table.Statement.{statement}
 use Rattle.fst_write.proofs.write_table.Tie as tie

@@ -29,10 +29,12 @@ use Rattle.free_space.specs.MaxRegionSize.{besideFree, maxSizeFrom}
 use Rattle.free_space.specs.Allocate.{alignUp, betterOf, largest, powers, allocationOf}
 use Rattle.free_space.specs.Listing.{regionWords}
 use Rattle.disc.specs.declared.TotalsAnswer.the-variants as totals
-use Rattle.disc.specs.declared.SizeAnswer.the-variants as size
-use Rattle.disc.specs.declared.WindowAnswer.the-variants as window
+use Rattle.answers.specs.declared.SizeAnswer.the-variants as size
+use Rattle.files.specs.declared.WindowAnswer.the-variants as window
 use Rattle.opening.specs.Opening.{tableOf, nodesIn, opening, freeOf, usedOf}
-use Rattle.disc.specs.Calls.{entryAnswer, lookupAnswer, totalsAnswer, freeRegionsAnswer, freeRegionsList, maxRegionSizeAnswer, allocateAnswer, maxFileSizeAnswer, openFileAnswer}
+use Rattle.files.specs.Files.{entryAnswer, lookupAnswer, maxFileSizeAnswer, openFileAnswer}
+use Rattle.disc.specs.Calls.{totalsAnswer, freeRegionsAnswer, freeRegionsList, allocateAnswer}
+use Rattle.answers.specs.Answers.{maxRegionSizeAnswer}
 use Rattle.edits.specs.Change.{withTable, written, tableVerdict, placeVerdict}
 use Rattle.edits.specs.Edits.{moveFile, resizeFile, planMove, planResize, verdictOf, imageAfter}
 use Rattle.small_master.specs.Image.{master, masterWords, masterBytes}

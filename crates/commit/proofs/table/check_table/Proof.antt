@@ -7,7 +7,7 @@ use lib.ListN.{length}
 use Rattle.opening.specs.Laws.OpeningLaws.{OpenImage, opens}
 use Rattle.opening.proofs.Tests.{part-table}
 use Rattle.opening.specs.Opening.{nodesIn}
-use Rattle.fst_write.specs.Inner.Measure.{measureOf}
+use Rattle.fst_measure.specs.Inner.Measure.{measureOf}
 use Rattle.commit.proofs.Images.{table-valid, measured-past, measured-size, table-past, table-sized}
 use borrow.Author.Needs.{needs}
 use Rattle.commit.proofs.table.check_table.Statement.{statement}

@@ -5,7 +5,7 @@ use lib.ListN.{length}
 use denote.Ref.{now}
 use Rattle.opening.specs.Opening.{opening, freeOf}
 use Rattle.disc.specs.Calls.{allocateAnswer}
-use Rattle.disc.specs.Laws.CallLaws.{behind-passed, behind-refused, was-ready, was-refused}
+use Rattle.answers.specs.Laws.AnswerLaws.{behind-passed, behind-refused, was-ready, was-refused}
 use Rattle.free_space.specs.Allocate.{allocationOf}
 use Rattle.free_space.specs.declared.Allocation.the-variants as answer
 use borrow.Author.Needs.{needs}

@@ -5,7 +5,7 @@ use lib.ListN.{length}
 use denote.Ref.{now}
 use Rattle.opening.specs.Opening.{opening, freeOf}
 use Rattle.disc.specs.Calls.{freeRegionsAnswer, freeRegionsList}
-use Rattle.disc.specs.Laws.CallLaws.{behind-passed, behind-refused, was-ready, was-refused}
+use Rattle.answers.specs.Laws.AnswerLaws.{behind-passed, behind-refused, was-ready, was-refused}
 use mathlib.Core.List.{List}
 use Rattle.refusal.specs.declared.Refusal.{Refusal}
 use Rattle.space.specs.declared.DiscRegion.{DiscRegion}

@@ -4,8 +4,8 @@ use mathlib.Core.Path.{sym, ap, _∙_}
 use lib.ListN.{length}
 use denote.Ref.{now}
 use Rattle.disc.specs.Calls.{openedAs, openedOf}
-use Rattle.disc.specs.Laws.CallLaws.{was-ready, was-refused}
-use Rattle.disc.specs.declared.Opened.the-variants as opened
+use Rattle.answers.specs.Laws.AnswerLaws.{was-ready, was-refused}
+use Rattle.answers.specs.declared.Opened.the-variants as opened
 use borrow.Author.Needs.{needs}
 use Rattle.disc.proofs.regions.opened.Statement.{statement}
 use Rattle.disc.proofs.regions.opened.Tie as tie

@@ -6,8 +6,8 @@ use denote.Ref.{now}
 use Rattle.opening.specs.Opening.{opening, usedOf}
 use Rattle.disc.specs.Calls.{totalsAnswer}
 use Rattle.header.specs.Verdicts.{discEnd}
-use Rattle.disc.specs.Laws.CallLaws.{behind-passed, behind-refused, was-ready, was-refused}
-use Rattle.disc.specs.declared.Disc.{Disc}
+use Rattle.answers.specs.Laws.AnswerLaws.{behind-passed, behind-refused, was-ready, was-refused}
+use Rattle.answers.specs.declared.Disc.{Disc}
 use Rattle.disc.specs.declared.TotalsAnswer.the-variants as answer
 use borrow.Author.Needs.{needs}
 use Rattle.disc.proofs.regions.totaled.Statement.{statement}

@@ -12,7 +12,7 @@ use Rattle.tree.specs.Table.{none, count, nameOf, nodesOf, namePlace}
 use Rattle.tree.specs.Inner.WellFormed.{WellFormed}
 use Rattle.tree.specs.Lookup.{nextOf}
 use Rattle.tree.specs.Laws.Accepted.{length-nodesOf}
-use Rattle.fst_check.specs.Inner.Reading.{textAt}
+use Rattle.fst_text.specs.Inner.Texts.{textAt}
 use Rattle.fst.proofs.Nodes.{opened, opens-inside}
 use Rattle.fst.proofs.NamePlaces.{place-inside}
 use Rattle.fst.proofs.Ended.{name-there, place-some}

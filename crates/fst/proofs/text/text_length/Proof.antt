@@ -5,8 +5,8 @@ use native.Mathlib.Omega.{arith}
 use Prim.Native.Nat.{_+_, _-_, _≤_}
 use mathlib.Core.Path.{_≡_}
 use lib.ListN.{length}
-use Rattle.fst_check.specs.Inner.Reading.{textAt}
-use Rattle.fst_check.proofs.Texts.{length-end, length-turn}
+use Rattle.fst_text.specs.Inner.Texts.{textAt}
+use Rattle.fst_text.proofs.Texts.{length-end, length-turn}
 use Rattle.fst.proofs.text.text_length.Statement.{statement}
 use Rattle.fst.proofs.text.text_length.Tie as tie
 

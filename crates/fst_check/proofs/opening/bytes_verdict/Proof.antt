@@ -4,7 +4,7 @@ use mathlib.Core.Path.{_≡_, sym, _∙_}
 use mathlib.Core.Bool.{true, false}
 use borrow.Author.Tests.{not-true, not-false}
 use Rattle.tree.specs.Table.{plain, safe}
-use Rattle.fst_check.specs.Inner.Reading.{textAt}
+use Rattle.fst_text.specs.Inner.Texts.{textAt}
 use borrow.Author.Needs.{needs}
 use Rattle.fst_check.proofs.opening.bytes_verdict.Statement.{statement}
 use Rattle.fst_check.proofs.opening.bytes_verdict.Tie as tie

@@ -3,7 +3,7 @@
 use mathlib.Core.Path.{sym, _∙_}
 use mathlib.Core.Bool.{true, false}
 use Rattle.tree.specs.Table.{plain, safe}
-use Rattle.fst_check.proofs.Texts.{safe-none, safe-more}
+use Rattle.fst_text.proofs.Texts.{safe-none, safe-more}
 use borrow.Author.Needs.{needs}
 use Rattle.fst_check.proofs.opening.clean_verdict.Statement.{statement}
 use Rattle.fst_check.proofs.opening.clean_verdict.Tie as tie

@@ -6,7 +6,7 @@ use Prim.Native.Nat.{_-_, _*_}
 use borrow.Author.Tests.{le-leb, lt-leb}
 use lib.ListN.{length}
 use Rattle.tree.specs.Table.{nameOffset, nameAt, nameVerdict}
-use Rattle.fst_check.proofs.BlockLaws.{fit-clean}
+use Rattle.fst_text.proofs.BlockLaws.{fit-clean}
 use borrow.Author.Needs.{needs}
 use Rattle.fst_check.proofs.opening.name_verdict.Statement.{statement}
 use Rattle.fst_check.proofs.opening.name_verdict.Tie as tie

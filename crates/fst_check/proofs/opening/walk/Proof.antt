@@ -6,7 +6,7 @@ use mathlib.Core.Path.{_≡_, sym, _∙_}
 use mathlib.Core.Bool.{true, false}
 use Rattle.refusal.specs.Refusal.{isRefused}
 use Rattle.fst_check.proofs.Walking.{Walked, walked-start, walked-stop, walked-passed, walked-turn, walked-end}
-use Rattle.fst_check.proofs.BlockLaws.{marked-none}
+use Rattle.fst_text.proofs.BlockLaws.{marked-none}
 use borrow.Author.Needs.{needs}
 use Rattle.fst_check.proofs.opening.walk.Statement.{statement}
 use Rattle.fst_check.proofs.opening.walk.Tie as tie

@@ -2,7 +2,7 @@
 -- Assumes nothing.
 use Rattle.grow.proofs.GrowthLaws.{past-built}
 use Rattle.commit.proofs.Images.{table-valid, measured-past, measured-size}
-use Rattle.fst_write.specs.Inner.Measure.{measureOf}
+use Rattle.fst_measure.specs.Inner.Measure.{measureOf}
 use Rattle.opening.specs.Opening.{nodesIn}
 use Rattle.tree.specs.Laws.WrittenEntries.{length-encode}
 use Rattle.tree.specs.Laws.RoundTrip.{within-limits}

@@ -2,7 +2,7 @@
 -- Assumes nothing.
 use Rattle.grow.proofs.NameLaws.{every-turn, every-past}
 use borrow.Author.Needs.{needs}
-use Rattle.fst_check.specs.Inner.Reading.{byteTest}
+use Rattle.fst_text.specs.Inner.Texts.{byteTest}
 use Rattle.tree.specs.Table.{every}
 use lib.ListN.{length, drop}
 use mathlib.Core.Bool.{true, false}

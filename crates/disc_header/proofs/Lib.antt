@@ -1,0 +1,4 @@
+-- What the proofs of the functions cite.
+pub mod Answers
+pub mod Parts
+pub mod Whole
