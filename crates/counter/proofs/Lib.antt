@@ -1,3 +1,4 @@
--- What the proofs of the functions cite.
-pub mod Counts
-pub mod Puts
+-- What the proofs of several functions use.
+mod Counts
+mod HeaderBytes
+mod Puts

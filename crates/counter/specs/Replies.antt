@@ -1,15 +1,11 @@
 -- What the calls give back in C: for each answer of the crates below its number (document 01: "Causes and their numbers"; 0 where the call
--- is accepted), and the words that go into the slots that the caller lends. "Result words past an answer stay", and with a refusal all of
--- them do. Assumes nothing: these are definitions.
+-- is accepted), and the slots that the caller lends, as many as the answer has words. With a refusal they are "left as it was".
+-- Assumes nothing: these are definitions.
 use Prim.Native.Nat.{ℕ}
 use mathlib.Core.Path.{_≡_}
-use mathlib.Core.Bool.{cond}
-use mathlib.Core.List.{List, [], _∷_}
-use lib.Dec.{ltb}
+use mathlib.Core.List.{List, [], _∷_, _++_}
 use lib.ListN.{getD}
-use Rattle.endian.specs.Bytes.{put}
 use Rattle.refusal.specs.declared.Refusal.{Refusal}
-use Rattle.refusal.specs.declared.Refusal.the-variants.{LimitOrMemory}
 use Rattle.refusal.specs.declared.Verdict.{Verdict}
 use Rattle.refusal.specs.declared.Verdict.the-variants as verdict
 use Rattle.refusal.specs.Refusal.{numberOf}
@@ -23,6 +19,8 @@ use Rattle.free_space.specs.declared.Allocation.{Allocation}
 use Rattle.free_space.specs.declared.Allocation.the-variants as allocation
 use Rattle.free_space.specs.declared.Listing.{Listing}
 use Rattle.free_space.specs.declared.Listing.the-variants as listing
+use Rattle.dol.specs.declared.DolHeader.{DolHeader}
+use Rattle.files.specs.declared.DolFile.{DolFile}
 use Rattle.answers.specs.declared.Opened.{Opened}
 use Rattle.answers.specs.declared.Opened.the-variants as opened
 use Rattle.disc.specs.declared.TotalsAnswer.{TotalsAnswer}
@@ -31,72 +29,85 @@ use Rattle.answers.specs.declared.SizeAnswer.{SizeAnswer}
 use Rattle.answers.specs.declared.SizeAnswer.the-variants as size
 use Rattle.files.specs.declared.WindowAnswer.{WindowAnswer}
 use Rattle.files.specs.declared.WindowAnswer.the-variants as windowed
+use Rattle.listing.specs.declared.Listed.{Listed}
+use Rattle.listing.specs.declared.Listed.the-variants as listed
 use Rattle.window.specs.declared.Window.{Window}
 use Rattle.window.specs.declared.Sought.{Sought}
 use Rattle.window.specs.declared.Sought.the-variants as sought
+use Rattle.edits.specs.Edits.{numberedAs}
+use Rattle.opening.specs.Opening.{zeros}
 
--- the number that a call returns, and the words of its answer
+-- the number that a call returns, and its slots afterwards
 pub record Reply : Type 0 where
   pub number : ℕ
   pub slots : List ℕ
 
+abbrev pub reply : ℕ → List ℕ → Reply
+reply n slots = record { number = n; slots = slots }
+
 abbrev pub accepts : List ℕ → Reply
-accepts ws = record { number = 0; slots = ws }
+accepts ws = reply 0 ws
 
-abbrev pub refuses : Refusal → Reply
-refuses c = record { number = numberOf c; slots = [] }
+-- the slots stay as they were
+abbrev pub refuses : List ℕ → Refusal → Reply
+refuses before c = reply (numberOf c) before
 
--- a call returned r, and the slots that it was lent are what the reply says: its words in front, all others as they were
-pub record Gives (reply : Reply) (r : ℕ) (before after : List ℕ) : Type 0 where
-  pub number : r ≡ reply .number
-  pub slots : after ≡ put before 0 (reply .slots)
+-- a call that opens the image and reads it: what it gives back, and the working words, which are zero
+pub record Read (wanted given : Reply) (before after : List ℕ) : Type 0 where
+  pub answered : given ≡ wanted
+  pub words : after ≡ zeros before
 
--- "result list short 9", before anything else is looked at: what holds with fewer than n slots lent, and what else
-abbrev pub ifShort : {A : Type 0} → ℕ → ℕ → A → A → A
-ifShort lent n short a = cond (ltb lent n) short a
+-- ---- the answers, case by case, over the slots as they were
 
-abbrev pub needing : ℕ → ℕ → Reply → Reply
-needing n lent reply = ifShort lent n (refuses LimitOrMemory) reply
+unfoldable pub openedReply : List ℕ → Opened → Reply
+openedReply before (opened.Accepted d) = accepts (d .«fst_offset» ∷ d .«fst_size» ∷ d .«disc_end» ∷ d .entries ∷ d .used ∷ [])
+openedReply before (opened.Refused c) = refuses before c
 
--- ---- the answers, case by case
-
-abbrev pub openedReply : Opened → Reply
-openedReply (opened.Accepted d) = accepts (d .«fst_offset» ∷ d .«fst_size» ∷ d .«disc_end» ∷ d .entries ∷ d .used ∷ [])
-openedReply (opened.Refused c) = refuses c
-
-abbrev pub totalsReply : TotalsAnswer → Reply
-totalsReply (totaled.Found t) = accepts (t .«disc_end» ∷ t .used ∷ [])
-totalsReply (totaled.Refused c) = refuses c
+unfoldable pub totalsReply : List ℕ → TotalsAnswer → Reply
+totalsReply before (totaled.Found t) = accepts (t .«disc_end» ∷ t .used ∷ [])
+totalsReply before (totaled.Refused c) = refuses before c
 
 -- kind 0 with offset and size, kind 1 with parent and next
 abbrev pub entryWords : ℕ → Entry → List ℕ
 entryWords k (File f) = k ∷ 0 ∷ f .offset ∷ f .size ∷ []
 entryWords k (Directory d) = k ∷ 1 ∷ d .parent ∷ d .next ∷ []
 
-abbrev pub foundReply : Found → Reply
-foundReply (found.At k e) = accepts (entryWords k e)
-foundReply (found.Refused c) = refuses c
+unfoldable pub foundReply : List ℕ → Found → Reply
+foundReply before (found.At k e) = accepts (entryWords k e)
+foundReply before (found.Refused c) = refuses before c
 
-abbrev pub listingReply : Listing → Reply
-listingReply (listing.Listed n) = accepts (n ∷ [])
-listingReply (listing.Refused c) = refuses c
+unfoldable pub listingReply : List ℕ → Listing → Reply
+listingReply before (listing.Listed n) = accepts (n ∷ [])
+listingReply before (listing.Refused c) = refuses before c
 
-abbrev pub sizeReply : SizeAnswer → Reply
-sizeReply (size.Bytes n) = accepts (n ∷ [])
-sizeReply (size.Refused c) = refuses c
+unfoldable pub sizeReply : List ℕ → SizeAnswer → Reply
+sizeReply before (size.Bytes n) = accepts (n ∷ [])
+sizeReply before (size.Refused c) = refuses before c
 
-abbrev pub allocationReply : Allocation → Reply
-allocationReply (allocation.Found r) = accepts (r .offset ∷ r .size ∷ [])
-allocationReply (allocation.Refused c) = refuses c
+unfoldable pub allocationReply : List ℕ → Allocation → Reply
+allocationReply before (allocation.Found r) = accepts (r .offset ∷ r .size ∷ [])
+allocationReply before (allocation.Refused c) = refuses before c
 
-abbrev pub locatedReply : Located → Reply
-locatedReply (located.At k) = accepts (k ∷ [])
-locatedReply (located.Refused c) = refuses c
+-- the length of the text
+unfoldable pub listedReply : List ℕ → Listed → Reply
+listedReply before (listed.Text n) = accepts (n ∷ [])
+listedReply before (listed.Refused c) = refuses before c
 
--- an edit that gives only that it is done
-abbrev pub verdictNumber : Verdict → ℕ
+unfoldable pub locatedReply : List ℕ → Located → Reply
+locatedReply before (located.At k) = accepts (k ∷ [])
+locatedReply before (located.Refused c) = refuses before c
+
+-- ---- the edits, for `Edited`: one that gives only that it is done, and one that gives an entry's number
+
+unfoldable pub verdictNumber : Verdict → ℕ
 verdictNumber verdict.Passed = 0
 verdictNumber (verdict.Refused c) = numberOf c
+
+abbrev pub done : Verdict → ℕ → ℕ
+done v k = verdictNumber v
+
+abbrev pub numbered : List ℕ → Verdict → ℕ → Reply
+numbered before v k = locatedReply before (numberedAs v k)
 
 -- ---- windows: start, length, position
 
@@ -106,10 +117,30 @@ windowIn slots = record { start = getD slots 0 0; len = getD slots 1 0; position
 abbrev pub windowWords : Window → List ℕ
 windowWords w = w .start ∷ w .len ∷ w .position ∷ []
 
-abbrev pub windowReply : WindowAnswer → Reply
-windowReply (windowed.Opened w) = accepts (windowWords w)
-windowReply (windowed.Refused c) = refuses c
+unfoldable pub windowReply : List ℕ → WindowAnswer → Reply
+windowReply before (windowed.Opened w) = accepts (windowWords w)
+windowReply before (windowed.Refused c) = refuses before c
 
-abbrev pub soughtReply : Sought → Reply
-soughtReply (sought.At w) = accepts (windowWords w)
-soughtReply (sought.Refused c) = refuses c
+unfoldable pub soughtReply : List ℕ → Sought → Reply
+soughtReply before (sought.At w) = accepts (windowWords w)
+soughtReply before (sought.Refused c) = refuses before c
+
+-- ---- headers
+
+-- slots after a verdict: with these words, or as they were
+unfoldable pub judged : List ℕ → Verdict → List ℕ → Reply
+judged before verdict.Passed ws = accepts ws
+judged before (verdict.Refused c) ws = refuses before c
+
+-- "7 text and 11 data offsets, then addresses, then sizes in that order, BSS address, BSS size, entry point"
+unfoldable pub dolWords : DolHeader → List ℕ
+dolWords h =
+    (h .«text_offsets» ++ h .«data_offsets»)
+    ++ ((h .«text_addresses» ++ h .«data_addresses») ++ ((h .«text_sizes» ++ h .«data_sizes») ++ (h .«bss_address» ∷ h .«bss_size» ∷ h .«entry_point» ∷ [])))
+
+-- the header's slots, and the window's
+abbrev pub dolReply : List ℕ → DolFile → Reply
+dolReply before f = judged before (f .verdict) (dolWords (f .header))
+
+abbrev pub dolWindowReply : List ℕ → DolFile → Reply
+dolWindowReply before f = judged before (f .verdict) (windowWords (f .window))

@@ -1,21 +1,20 @@
-// The C face of Counter (host/include/counter.h): every public call as a function on numbers and slices. Each returns 0 where it is
-// accepted, and else document 01's number of the refusal; an answer goes into slots that the caller lends.
+// The C face of Counter (host/include/counter.h): every public call as a function on numbers, slices and slots of fixed length. Each returns
+// 0 where it is accepted, and else document 01's number of the refusal; an answer goes into the slots.
 mod edits;
-mod executable;
-mod inserts;
+mod headers;
 mod reading;
 mod regions;
-mod slots;
+mod text;
 mod windows;
 
+pub use edits::counter_insert_directory;
+pub use edits::counter_insert_file;
+pub use edits::counter_make_directories;
 pub use edits::counter_move_file;
 pub use edits::counter_resize_file;
 pub use edits::counter_rewrite;
-pub use executable::counter_header;
-pub use executable::counter_open_dol;
-pub use inserts::counter_insert_directory;
-pub use inserts::counter_insert_file;
-pub use inserts::counter_make_directories;
+pub use headers::counter_header;
+pub use headers::counter_open_dol;
 pub use reading::counter_entries;
 pub use reading::counter_entry;
 pub use reading::counter_lookup;
@@ -25,6 +24,8 @@ pub use regions::counter_allocate;
 pub use regions::counter_free_regions;
 pub use regions::counter_max_file_size;
 pub use regions::counter_max_region_size;
+pub use text::counter_list;
+pub use text::counter_report;
 pub use windows::counter_open_file;
 pub use windows::counter_read;
 pub use windows::counter_seek_current;

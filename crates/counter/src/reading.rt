@@ -1,56 +1,39 @@
 // The calls that read an image.
 ghost use mathlib.Core.Path.{_≡_};
-ghost use Prim.Native.Nat.{_≤_};
-ghost use lib.ListN.{length, replicate};
+ghost use lib.ListN.{length};
 ghost use Rattle.disc.specs.Calls.{openedOf, totalsAnswer};
 ghost use Rattle.files.specs.Files.{entryAnswer, lookupAnswer, entriesAnswer, entriesList};
-ghost use Rattle.counter.specs.Replies.{Gives, needing, ifShort, openedReply, foundReply, totalsReply};
-use crate::slots;
+ghost use Rattle.counter.specs.Replies.{Read, reply, openedReply, foundReply, totalsReply};
 use answers::Opened;
 use disc::TotalsAnswer;
 use tree::Entry;
 use tree::Found;
 
-// ---- an answer into the slots
+// ---- answers that several calls give
 
-fn give_opened(answer: &mut [u32], opened: Opened) -> u32
-    requires { ⌜ 5 ≤ length (now answer) ⌝ }
-    ensures { λ r. ⌜ Gives (openedReply opened) r (now (answer .entry)) (now (answer .exit)) ⌝ }
+fn give_opened(answer: &mut [u32; 5], opened: Opened) -> u32
+    ensures { λ r. ⌜ reply r (now (answer .exit)) ≡ openedReply (now (answer .entry)) opened ⌝ }
 {
     match opened {
-        Opened::Accepted(d) => slots::give_5(
-            answer,
-            d.fst_offset,
-            d.fst_size,
-            d.disc_end,
-            d.entries,
-            d.used,
-        ),
+        Opened::Accepted(d) => {
+            *answer = [d.fst_offset, d.fst_size, d.disc_end, d.entries, d.used];
+            0
+        }
         Opened::Refused(cause) => cause.number(),
     }
 }
 
-fn give_totals(answer: &mut [u32], totals: TotalsAnswer) -> u32
-    requires { ⌜ 2 ≤ length (now answer) ⌝ }
-    ensures { λ r. ⌜ Gives (totalsReply totals) r (now (answer .entry)) (now (answer .exit)) ⌝ }
-{
-    match totals {
-        TotalsAnswer::Found(t) => slots::give_2(answer, t.disc_end, t.used),
-        TotalsAnswer::Refused(cause) => cause.number(),
-    }
-}
-
-fn give_found(answer: &mut [u32], found: Found) -> u32
-    requires { ⌜ 4 ≤ length (now answer) ⌝ }
-    ensures { λ r. ⌜ Gives (foundReply found) r (now (answer .entry)) (now (answer .exit)) ⌝ }
+fn give_found(answer: &mut [u32; 4], found: Found) -> u32
+    ensures { λ r. ⌜ reply r (now (answer .exit)) ≡ foundReply (now (answer .entry)) found ⌝ }
 {
     match found {
-        Found::At(number, entry) => match entry {
-            Entry::File(file) => slots::give_4(answer, number, 0, file.offset, file.size),
-            Entry::Directory(directory) => {
-                slots::give_4(answer, number, 1, directory.parent, directory.next)
+        Found::At(number, entry) => {
+            match entry {
+                Entry::File(f) => *answer = [number, 0, f.offset, f.size],
+                Entry::Directory(d) => *answer = [number, 1, d.parent, d.next],
             }
-        },
+            0
+        }
         Found::Refused(cause) => cause.number(),
     }
 }
@@ -58,25 +41,25 @@ fn give_found(answer: &mut [u32], found: Found) -> u32
 // ---- the calls
 
 #[no_mangle]
-pub extern "C" fn counter_open(image: &[u8], words: &mut [u32], answer: &mut [u32]) -> u32
-    ensures { λ r. ⌜ Gives (needing 5 (length (now (answer .entry))) (openedReply (openedOf (now (image .entry)) (length (now (words .entry)))))) r (now (answer .entry)) (now (answer .exit)) × (now (words .exit) ≡ replicate (length (now (words .entry))) 0) ⌝ }
+pub extern "C" fn counter_open(image: &[u8], words: &mut [u32], answer: &mut [u32; 5]) -> u32
+    ensures { λ r. ⌜ Read (openedReply (now (answer .entry)) (openedOf (now (image .entry)) (length (now (words .entry))))) (reply r (now (answer .exit))) (now (words .entry)) (now (words .exit)) ⌝ }
 {
-    if answer.len() < 5 {
-        return slots::short_answer(words);
-    }
     let opened = disc::open(image, words);
     give_opened(answer, opened)
 }
 
 #[no_mangle]
-pub extern "C" fn counter_totals(image: &[u8], words: &mut [u32], answer: &mut [u32]) -> u32
-    ensures { λ r. ⌜ Gives (needing 2 (length (now (answer .entry))) (totalsReply (totalsAnswer (now (image .entry)) (length (now (words .entry)))))) r (now (answer .entry)) (now (answer .exit)) × (now (words .exit) ≡ replicate (length (now (words .entry))) 0) ⌝ }
+pub extern "C" fn counter_totals(image: &[u8], words: &mut [u32], answer: &mut [u32; 2]) -> u32
+    ensures { λ r. ⌜ Read (totalsReply (now (answer .entry)) (totalsAnswer (now (image .entry)) (length (now (words .entry))))) (reply r (now (answer .exit))) (now (words .entry)) (now (words .exit)) ⌝ }
 {
-    if answer.len() < 2 {
-        return slots::short_answer(words);
-    }
     let totals = disc::totals(image, words);
-    give_totals(answer, totals)
+    match totals {
+        TotalsAnswer::Found(t) => {
+            *answer = [t.disc_end, t.used];
+            0
+        }
+        TotalsAnswer::Refused(cause) => cause.number(),
+    }
 }
 
 #[no_mangle]
@@ -84,13 +67,10 @@ pub extern "C" fn counter_entry(
     image: &[u8],
     words: &mut [u32],
     number: u32,
-    answer: &mut [u32],
+    answer: &mut [u32; 4],
 ) -> u32
-    ensures { λ r. ⌜ Gives (needing 4 (length (now (answer .entry))) (foundReply (entryAnswer (now (image .entry)) (length (now (words .entry))) number))) r (now (answer .entry)) (now (answer .exit)) × (now (words .exit) ≡ replicate (length (now (words .entry))) 0) ⌝ }
+    ensures { λ r. ⌜ Read (foundReply (now (answer .entry)) (entryAnswer (now (image .entry)) (length (now (words .entry))) number)) (reply r (now (answer .exit))) (now (words .entry)) (now (words .exit)) ⌝ }
 {
-    if answer.len() < 4 {
-        return slots::short_answer(words);
-    }
     let found = files::entry(image, words, number);
     give_found(answer, found)
 }
@@ -101,13 +81,10 @@ pub extern "C" fn counter_lookup(
     words: &mut [u32],
     start: u32,
     path: &[u8],
-    answer: &mut [u32],
+    answer: &mut [u32; 4],
 ) -> u32
-    ensures { λ r. ⌜ Gives (needing 4 (length (now (answer .entry))) (foundReply (lookupAnswer (now (image .entry)) (length (now (words .entry))) start (now (path .entry))))) r (now (answer .entry)) (now (answer .exit)) × (now (words .exit) ≡ replicate (length (now (words .entry))) 0) ⌝ }
+    ensures { λ r. ⌜ Read (foundReply (now (answer .entry)) (lookupAnswer (now (image .entry)) (length (now (words .entry))) start (now (path .entry)))) (reply r (now (answer .exit))) (now (words .entry)) (now (words .exit)) ⌝ }
 {
-    if answer.len() < 4 {
-        return slots::short_answer(words);
-    }
     let found = files::lookup(image, words, start, path);
     give_found(answer, found)
 }
@@ -117,13 +94,10 @@ pub extern "C" fn counter_entries(
     image: &[u8],
     words: &mut [u32],
     list: &mut [u32],
-    answer: &mut [u32],
+    answer: &mut [u32; 5],
 ) -> u32
-    ensures { λ r. ⌜ Gives (needing 5 (length (now (answer .entry))) (openedReply (entriesAnswer (now (image .entry)) (length (now (words .entry))) (length (now (list .entry)))))) r (now (answer .entry)) (now (answer .exit)) × (now (list .exit) ≡ ifShort (length (now (answer .entry))) 5 (now (list .entry)) (entriesList (now (image .entry)) (length (now (words .entry))) (now (list .entry)))) × (now (words .exit) ≡ replicate (length (now (words .entry))) 0) ⌝ }
+    ensures { λ r. ⌜ Read (openedReply (now (answer .entry)) (entriesAnswer (now (image .entry)) (length (now (words .entry))) (length (now (list .entry))))) (reply r (now (answer .exit))) (now (words .entry)) (now (words .exit)) × (now (list .exit) ≡ entriesList (now (image .entry)) (length (now (words .entry))) (now (list .entry))) ⌝ }
 {
-    if answer.len() < 5 {
-        return slots::short_answer(words);
-    }
     let opened = files::entries(image, words, list);
     give_opened(answer, opened)
 }

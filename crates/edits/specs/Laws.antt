@@ -3,3 +3,5 @@ pub mod MadeTree
 pub mod TroubleTurns
 pub mod Troubles
 pub mod Making
+pub mod InsertNumber
+pub mod MakeNumber

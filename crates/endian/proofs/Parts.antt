@@ -21,7 +21,7 @@ take-put s at a h =
     rw (← append-assoc (take at s) a (drop (at + length a) s)) (take-at (take at s ++ a) _ (at + length a) l)
 
 -- one part right behind another
-put-append : (s : List ℕ) (at : ℕ) (a : List ℕ) (m : ℕ) (b : List ℕ) → m ≡ at + length a → m + length b ≤ length s → put (put s at a) m b ≡ put s at (a ++ b)
+pub put-append : (s : List ℕ) (at : ℕ) (a : List ℕ) (m : ℕ) (b : List ℕ) → m ≡ at + length a → m + length b ≤ length s → put (put s at a) m b ≡ put s at (a ++ b)
 put-append s at a m b e h =
     let f : at + length a ≤ length s = omega arith in
     let d : drop (at + length a + length b) (put s at a) ≡ drop (at + length a + length b) s = drop-put s at a f (at + length a + length b) (omega arith) in

@@ -49,7 +49,7 @@ fn start_at(words: &[u32], count: usize, disc_end: u32, i: usize) -> u32
 }
 
 // The gap before region i, the one after the last where i is `count`. A gap may be empty; those that are not are the free regions.
-fn gap_at(words: &[u32], count: usize, disc_end: u32, i: usize) -> DiscRegion
+pub fn gap_at(words: &[u32], count: usize, disc_end: u32, i: usize) -> DiscRegion
     requires { ⌜ SortedDisjoint (now words) count «disc_end» × (i ≤ count) ⌝ }
     ensures { λ r. ⌜ r ≡ getD (gaps 0 «disc_end» (regionsIn (now (words .entry)) 0 count)) i noRegion ⌝ }
     ensures { λ r. ⌜ r .offset + r .size ≤ «disc_end» ⌝ }

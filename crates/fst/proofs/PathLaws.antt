@@ -116,7 +116,7 @@ unfolding shallow
 entry-shallow [] i s h = absurd (omega arith)
 entry-shallow (r ∷ xs) i s h = shallow-at 1 (suc (length xs) ∷ []) xs i s (omega arith)
 
-directory-depth : (nodes : List Node) (k : ℕ) → WellFormed nodes → shallow nodes ≡ true → k < length nodes → isDirectory (getD nodes k none) ≡ true → depthOf nodes k ≤ 64
+pub directory-depth : (nodes : List Node) (k : ℕ) → WellFormed nodes → shallow nodes ≡ true → k < length nodes → isDirectory (getD nodes k none) ≡ true → depthOf nodes k ≤ 64
 directory-depth nodes zero w s h d = omega (arith, depth-root nodes)
 directory-depth nodes (suc i) w s h d = go (getD nodes (suc i) none) (entry-shallow nodes i s h) d
   where

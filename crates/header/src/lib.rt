@@ -64,7 +64,7 @@ impl Field {
     pub const UNUSED_43C: Field = Field { at: 0x43C, len: 4 };
 }
 
-// The table: the 21 fields in order, which tile 0x440 bytes (specs/Tiling).
+// The table: the 21 fields in order, which tile 0x440 bytes (specs/Laws/Tiling).
 const FIELDS: [Field; 21] = [
     Field::GAME_CODE,
     Field::MAKER_CODE,

@@ -18,3 +18,11 @@ pub mod TableEdits
 pub mod Vectors
 pub mod Written
 pub mod Demand3
+pub mod CallsTold
+pub mod FilesTold
+pub mod InsertedTold
+pub mod NumbersAfter
+pub mod PlacesAfter
+pub mod ToldLaws
+pub mod TreeAfter
+pub mod WorkedLedger

@@ -1,2 +1,4 @@
 -- What follows from the definitions.
 pub mod Marked
+pub mod MasterListing
+pub mod Worked

@@ -25,3 +25,5 @@ pub mod OpenDirectories
 pub mod PathParts
 pub mod WellNested
 pub mod WrittenEntries
+pub mod Paths
+pub mod Renumbered

@@ -1,13 +1,13 @@
 //! The calls, each with everything it is lent between margins, and what it promises of them held
-//! to afterwards: working memory zero; the image as it was, unless an edit was accepted; result
-//! slots past the answer, and on a refusal all of them, as they were.
+//! to afterwards: working memory zero; the image as it was, unless an edit was accepted; list words
+//! past the answer, and on a refusal all slots and lists, as they were.
 
 use crate::guarded::{Element, Guarded};
 use crate::language::{Answer, Stop};
 pub use counter_sys::ENTRY_WORDS;
 use counter_sys::{DOL_WORDS, HEADER_SIZE, call};
 
-/// Slots lent beyond what an answer takes.
+/// Words of a list lent beyond what an answer takes.
 const SPARE: usize = 3;
 
 pub struct Lender {
@@ -28,9 +28,10 @@ fn hold(fact: bool, what: &'static str) -> Answer<()> {
     if fact { Ok(()) } else { Err(Stop::Dirty(what)) }
 }
 
-/// The first `N` slots of an accepted answer.
-fn slots<T: Element, const N: usize>(lent: &Guarded<T>) -> [T; N] {
-    lent.slice()[..N].try_into().unwrap()
+/// The slots of an accepted answer; a refused one leaves them as they were.
+fn answered<T: Element, const N: usize>(cause: u32, slots: &mut Guarded<T>) -> Answer<[T; N]> {
+    hold(slots.stays_from(if cause == 0 { N } else { 0 }), "answer")?;
+    if cause == 0 { Ok(*slots.slots()) } else { Err(Stop::Refused(cause)) }
 }
 
 impl Lender {
@@ -48,21 +49,20 @@ impl Lender {
         self.bytes = Guarded::new(bytes);
     }
 
-    /// One call on the image with `results` lent; `used` of them are the answer.
-    fn call<T: Element>(
+    /// One call on the image with `N` slots for its answer.
+    fn call<T: Element, const N: usize>(
         &mut self,
         does: Does,
-        results: &mut Guarded<T>,
-        used: usize,
-        run: impl FnOnce(&mut Self, &mut Guarded<T>) -> u32,
-    ) -> Answer<()> {
+        run: impl FnOnce(&mut Self, &mut [T; N]) -> u32,
+    ) -> Answer<[T; N]> {
+        let mut answer = Guarded::new(N);
         self.words.mark();
         if does == Does::Edit {
             self.bytes.mark();
         }
         self.before.clear();
         self.before.extend_from_slice(self.image.slice());
-        let cause = run(self, results);
+        let cause = run(self, answer.slots());
         hold(self.words.is_zero(), "words")?;
         hold(self.words.margins_stay(), "beside words")?;
         if does == Does::Edit {
@@ -73,52 +73,46 @@ impl Lender {
         if does == Does::Look || cause != 0 {
             hold(self.image.slice() == &self.before[..], "image")?;
         }
-        hold(results.stays_from(if cause == 0 { used } else { 0 }), "answer")?;
-        if cause == 0 { Ok(()) } else { Err(Stop::Refused(cause)) }
+        answered(cause, &mut answer)
     }
 
     /// A reading call with `N` slots for its answer.
     fn look<const N: usize>(
         &mut self,
-        run: impl FnOnce(&[u8], &mut [u32], &mut [u32]) -> u32,
+        run: impl FnOnce(&[u8], &mut [u32], &mut [u32; N]) -> u32,
     ) -> Answer<[u32; N]> {
-        let mut answer = Guarded::new(N + SPARE);
-        self.call(Does::Look, &mut answer, N, |lender, answer| {
-            run(lender.image.slice(), lender.words.slice_mut(), answer.slice_mut())
-        })?;
-        Ok(slots(&answer))
+        self.call(Does::Look, |lender, answer| {
+            run(lender.image.slice(), lender.words.slice_mut(), answer)
+        })
     }
 
     /// An edit with `N` slots for its answer.
     fn edit<const N: usize>(
         &mut self,
-        run: impl FnOnce(&mut [u8], &mut [u32], &mut [u8], &mut [u32]) -> u32,
+        run: impl FnOnce(&mut [u8], &mut [u32], &mut [u8], &mut [u32; N]) -> u32,
     ) -> Answer<[u32; N]> {
-        let mut answer = Guarded::new(N + SPARE);
-        self.call(Does::Edit, &mut answer, N, |lender, answer| {
+        self.call(Does::Edit, |lender, answer| {
             let (words, bytes) = (lender.words.slice_mut(), lender.bytes.slice_mut());
-            run(lender.image.slice_mut(), words, bytes, answer.slice_mut())
-        })?;
-        Ok(slots(&answer))
+            run(lender.image.slice_mut(), words, bytes, answer)
+        })
     }
 
     // Reading -------------------------------------------------------------------------------
 
     pub fn header(&mut self) -> Answer<[u8; HEADER_SIZE]> {
-        let mut fields = Guarded::<u8>::new(HEADER_SIZE + SPARE);
+        let mut fields = Guarded::new(HEADER_SIZE);
         self.before.clear();
         self.before.extend_from_slice(self.image.slice());
-        let (image, lent) = (self.image.slice(), fields.slice_mut());
-        let cause = unsafe { call!(counter_header(in image, mut lent)) };
+        let image = self.image.slice();
+        let cause = unsafe { call!(counter_header(in image, = fields.slots())) };
         hold(self.image.margins_stay() && self.image.slice() == &self.before[..], "image")?;
-        hold(fields.stays_from(if cause == 0 { HEADER_SIZE } else { 0 }), "fields")?;
-        if cause == 0 { Ok(slots(&fields)) } else { Err(Stop::Refused(cause)) }
+        answered(cause, &mut fields)
     }
 
     /// FST offset and size, which are the header's; disc end; entries; used total.
     pub fn open(&mut self) -> Answer<[u32; 5]> {
         let opened: [u32; 5] = self.look(|image, words, answer| unsafe {
-            call!(counter_open(in image, mut words, mut answer))
+            call!(counter_open(in image, mut words, = answer))
         })?;
         hold(opened[..2] == [self.word(0x424), self.word(0x428)], "open: not the header's FST")?;
         Ok(opened)
@@ -130,13 +124,13 @@ impl Lender {
 
     pub fn totals(&mut self) -> Answer<[u32; 2]> {
         self.look(|image, words, answer| unsafe {
-            call!(counter_totals(in image, mut words, mut answer))
+            call!(counter_totals(in image, mut words, = answer))
         })
     }
 
     pub fn entry(&mut self, number: u32) -> Answer<[u32; 4]> {
         self.look(|image, words, answer| unsafe {
-            call!(counter_entry(in image, mut words, = number, mut answer))
+            call!(counter_entry(in image, mut words, = number, = answer))
         })
     }
 
@@ -145,7 +139,7 @@ impl Lender {
         let path = Guarded::of(path);
         let lent = path.slice();
         let found: [u32; 4] = self.look(|image, words, answer| unsafe {
-            call!(counter_lookup(in image, mut words, = start, in lent, mut answer))
+            call!(counter_lookup(in image, mut words, = start, in lent, = answer))
         })?;
         hold(path.margins_stay(), "beside path")?;
         hold(self.entry(found[0])? == found, "lookup: not as entry")?;
@@ -157,7 +151,7 @@ impl Lender {
         &mut self,
         len: usize,
         used: impl FnOnce(&[u32; N]) -> usize,
-        run: impl FnOnce(&[u8], &mut [u32], &mut [u32], &mut [u32]) -> u32,
+        run: impl FnOnce(&[u8], &mut [u32], &mut [u32], &mut [u32; N]) -> u32,
     ) -> Answer<(Vec<u32>, [u32; N])> {
         let mut list = Guarded::new(len);
         let lent = &mut list;
@@ -178,14 +172,14 @@ impl Lender {
     fn fill_entries(&mut self, len: usize) -> Answer<(Vec<u32>, [u32; 5])> {
         let used = |answer: &[u32; 5]| ENTRY_WORDS * answer[3] as usize;
         self.filled(len, used, |image, words, list, answer| unsafe {
-            call!(counter_entries(in image, mut words, mut list, mut answer))
+            call!(counter_entries(in image, mut words, mut list, = answer))
         })
     }
 
     fn fill_free_regions(&mut self, len: usize) -> Answer<(Vec<u32>, [u32; 1])> {
         let used = |answer: &[u32; 1]| 2 * answer[0] as usize;
         self.filled(len, used, |image, words, list, answer| unsafe {
-            call!(counter_free_regions(in image, mut words, mut list, mut answer))
+            call!(counter_free_regions(in image, mut words, mut list, = answer))
         })
     }
 
@@ -220,50 +214,67 @@ impl Lender {
         Ok(list)
     }
 
+    fn fill_text(&mut self, len: usize) -> Answer<Vec<u8>> {
+        let mut text = Guarded::<u8>::new(len);
+        let lent = &mut text;
+        let result = self.call(Does::Look, |lender, answer: &mut [u64; 1]| {
+            let (image, words) = (lender.image.slice(), lender.words.slice_mut());
+            let text = lent.slice_mut();
+            unsafe { call!(counter_list(in image, mut words, mut text, = answer)) }
+        });
+        let used = result.as_ref().map_or(0, |[used]| *used as usize);
+        hold(used <= len && text.stays_from(used), "text")?;
+        result?;
+        Ok(text.slice()[..used].to_vec())
+    }
+
+    /// The text in a longer buffer than it needs, `len` of it at least; and it fits one of its length
+    /// and no shorter one.
+    pub fn text(&mut self, len: usize) -> Answer<Vec<u8>> {
+        let text = self.fill_text(len + SPARE)?;
+        hold(self.fill_text(text.len())? == text, "text: exact buffer")?;
+        let short = self.fill_text(text.len() - 1);
+        hold(matches!(short, Err(Stop::Refused(9))), "text: short buffer")?;
+        Ok(text)
+    }
+
     pub fn max_region_size(&mut self, offset: u32, size: u32) -> Answer<u32> {
         let [most] = self.look(|image, words, answer| unsafe {
-            call!(counter_max_region_size(in image, mut words, = offset, = size, mut answer))
+            call!(counter_max_region_size(in image, mut words, = offset, = size, = answer))
         })?;
         Ok(most)
     }
 
     pub fn max_file_size(&mut self, number: u32) -> Answer<u32> {
         let [most] = self.look(|image, words, answer| unsafe {
-            call!(counter_max_file_size(in image, mut words, = number, mut answer))
+            call!(counter_max_file_size(in image, mut words, = number, = answer))
         })?;
         Ok(most)
     }
 
     pub fn allocate(&mut self, size: u32, align: u32) -> Answer<[u32; 2]> {
         self.look(|image, words, answer| unsafe {
-            call!(counter_allocate(in image, mut words, = size, = align, mut answer))
+            call!(counter_allocate(in image, mut words, = size, = align, = answer))
         })
     }
 
     pub fn open_file(&mut self, number: u32) -> Answer<[u64; 3]> {
-        let mut window = Guarded::new(3 + SPARE);
-        self.call(Does::Look, &mut window, 3, |lender, window| {
+        self.call(Does::Look, |lender, window| {
             let (image, words) = (lender.image.slice(), lender.words.slice_mut());
-            let window = window.slice_mut();
-            unsafe { call!(counter_open_file(in image, mut words, = number, mut window)) }
-        })?;
-        Ok(slots(&window))
+            unsafe { call!(counter_open_file(in image, mut words, = number, = window)) }
+        })
     }
 
     /// The header's words, which are those of the image at the DOL offset, and the window.
     pub fn open_dol(&mut self) -> Answer<([u32; DOL_WORDS], [u64; 3])> {
-        let mut header = Guarded::new(DOL_WORDS + SPARE);
-        let mut window = Guarded::new(3 + SPARE);
+        let mut header = Guarded::<u32>::new(DOL_WORDS);
         let lent = &mut header;
-        let result = self.call(Does::Look, &mut window, 3, |lender, window| {
+        let result = self.call(Does::Look, |lender, window: &mut [u64; 3]| {
             let (image, words) = (lender.image.slice(), lender.words.slice_mut());
-            let (header, window) = (lent.slice_mut(), window.slice_mut());
-            unsafe { call!(counter_open_dol(in image, mut words, mut header, mut window)) }
+            unsafe { call!(counter_open_dol(in image, mut words, = lent.slots(), = window)) }
         });
         hold(header.stays_from(if result.is_ok() { DOL_WORDS } else { 0 }), "DOL header")?;
-        result?;
-        let header: [u32; DOL_WORDS] = slots(&header);
-        let window: [u64; 3] = slots(&window);
+        let (header, window) = (*header.slots(), result?);
         let at = self.word(0x420) as usize;
         let same = (0..DOL_WORDS).all(|i| header[i] == self.word(at + 4 * i));
         hold(same, "DOL header: not the image's")?;
@@ -274,12 +285,11 @@ impl Lender {
     // Windows -------------------------------------------------------------------------------
 
     /// A seek of `window`: 0 or the cause; a refused one leaves the window as it was.
-    pub fn seek(window: &mut [u64; 3], run: impl FnOnce(*mut u64, usize) -> u32) -> Answer<u32> {
+    pub fn seek(window: &mut [u64; 3], run: impl FnOnce(&mut [u64; 3]) -> u32) -> Answer<u32> {
         let mut lent = Guarded::of(window);
-        let slice = lent.slice_mut();
-        let cause = run(slice.as_mut_ptr(), slice.len());
+        let cause = run(lent.slots());
         hold(lent.margins_stay(), "beside window")?;
-        let moved: [u64; 3] = slots(&lent);
+        let moved: [u64; 3] = *lent.slots();
         hold(moved[..2] == window[..2] && (cause == 0 || moved == *window), "window")?;
         *window = moved;
         Ok(cause)
@@ -289,21 +299,14 @@ impl Lender {
     pub fn read(&mut self, window: &mut [u64; 3], len: usize) -> Answer<(u64, Vec<u8>)> {
         let mut lent = Guarded::of(window);
         let mut buf = Guarded::of(&vec![0xaa; len]);
-        let mut answer = Guarded::<u64>::new(1 + SPARE);
-        let image = self.image.slice();
-        let (window_lent, buf_lent) = (lent.slice_mut(), buf.slice_mut());
-        let answer_lent = answer.slice_mut();
-        let cause = unsafe {
-            call!(counter_read(mut window_lent, in image, mut buf_lent, mut answer_lent))
-        };
+        let mut answer = Guarded::new(1);
+        let (image, bytes) = (self.image.slice(), buf.slice_mut());
+        let cause =
+            unsafe { call!(counter_read(= lent.slots(), in image, mut bytes, = answer.slots())) };
         hold(lent.margins_stay(), "beside window")?;
         hold(buf.margins_stay(), "beside buffer")?;
-        hold(answer.stays_from(if cause == 0 { 1 } else { 0 }), "answer")?;
-        if cause != 0 {
-            return Err(Stop::Refused(cause));
-        }
-        let moved: [u64; 3] = slots(&lent);
-        let [count] = slots(&answer);
+        let [count] = answered(cause, &mut answer)?;
+        let moved: [u64; 3] = *lent.slots();
         hold(moved == [window[0], window[1], window[2].wrapping_add(count)], "window")?;
         *window = moved;
         Ok((count, buf.slice().to_vec()))
@@ -316,7 +319,7 @@ impl Lender {
         let name = name.slice();
         let [number] = self.edit(|image, words, bytes, answer| unsafe {
             call!(counter_insert_file(
-                mut image, mut words, mut bytes, = parent, in name, mut answer
+                mut image, mut words, mut bytes, = parent, in name, = answer
             ))
         })?;
         Ok(number)
@@ -327,7 +330,7 @@ impl Lender {
         let name = name.slice();
         let [number] = self.edit(|image, words, bytes, answer| unsafe {
             call!(counter_insert_directory(
-                mut image, mut words, mut bytes, = parent, in name, mut answer
+                mut image, mut words, mut bytes, = parent, in name, = answer
             ))
         })?;
         Ok(number)
@@ -338,7 +341,7 @@ impl Lender {
         let path = path.slice();
         let [number] = self.edit(|image, words, bytes, answer| unsafe {
             call!(counter_make_directories(
-                mut image, mut words, mut bytes, = start, in path, mut answer
+                mut image, mut words, mut bytes, = start, in path, = answer
             ))
         })?;
         Ok(number)

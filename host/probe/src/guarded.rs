@@ -53,6 +53,11 @@ impl<T: Element> Guarded<T> {
         &mut self.all[MARGIN..end]
     }
 
+    /// All of it, as slots of fixed length.
+    pub fn slots<const N: usize>(&mut self) -> &mut [T; N] {
+        self.slice_mut().try_into().unwrap()
+    }
+
     pub fn mark(&mut self) {
         self.slice_mut().fill(T::MARK);
     }

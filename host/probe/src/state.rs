@@ -242,7 +242,7 @@ impl State {
         Ok(out)
     }
 
-    /// Document 01's listing.
+    /// Document 01's listing, built of what the other calls say; `counter_list` says the same.
     fn listing(&mut self) -> Answer<String> {
         let [_, _, total, _, used] = self.lender.open()?;
         let mut out = format!("total {total} used {used}\n").into_bytes();
@@ -258,6 +258,9 @@ impl State {
         }
         for region in self.lender.free_regions()?.chunks(2) {
             out.extend(format!("r {} {}\n", region[0], region[1]).bytes());
+        }
+        if self.lender.text(out.len())? != out {
+            return Err(Stop::Dirty("listing: not as the other calls"));
         }
         Ok(format!("ok {}", hex(&out)))
     }
@@ -292,15 +295,15 @@ impl State {
             let moved = match kind {
                 "s" => {
                     let position = number(value)?;
-                    Lender::seek(&mut window, |at, len| unsafe {
-                        ffi::counter_seek_start(at, len, position)
+                    Lender::seek(&mut window, |slots| unsafe {
+                        ffi::counter_seek_start(slots, position)
                     })?
                 }
                 "c" | "e" => {
                     let distance = signed(value)?;
                     let seek =
                         if kind == "c" { ffi::counter_seek_current } else { ffi::counter_seek_end };
-                    Lender::seek(&mut window, |at, len| unsafe { seek(at, len, distance) })?
+                    Lender::seek(&mut window, |slots| unsafe { seek(slots, distance) })?
                 }
                 "r" => {
                     let len = number(value)?;

@@ -62,7 +62,7 @@ pub const DOL_WORDS: usize = 57;
 pub const HEADER_SIZE: usize = 0x440;
 
 /// A call of a C function: a slice that it reads (`in`) or is lent (`mut`) goes in as a pointer and a
-/// length, a number (`=`) as it is.
+/// length, a number or slots of fixed length (`=`) as they are.
 #[macro_export]
 macro_rules! call {
     (@ $name:ident [$($done:expr),*]) => { $crate::ffi::$name($($done),*) };
@@ -72,8 +72,8 @@ macro_rules! call {
     (@ $name:ident [$($done:expr),*] mut $slice:expr $(, $($rest:tt)*)?) => {
         $crate::call!(@ $name [$($done,)* $slice.as_mut_ptr(), $slice.len()] $($($rest)*)?)
     };
-    (@ $name:ident [$($done:expr),*] = $number:expr $(, $($rest:tt)*)?) => {
-        $crate::call!(@ $name [$($done,)* $number] $($($rest)*)?)
+    (@ $name:ident [$($done:expr),*] = $given:expr $(, $($rest:tt)*)?) => {
+        $crate::call!(@ $name [$($done,)* $given] $($($rest)*)?)
     };
     ($name:ident($($given:tt)*)) => { $crate::call!(@ $name [] $($given)*) };
 }
@@ -104,33 +104,33 @@ fn window(answer: [u64; 3]) -> Window {
 /// The header as it is read and written back.
 pub fn header(image: &[u8]) -> Answer<[u8; HEADER_SIZE]> {
     let mut fields = [0; HEADER_SIZE];
-    told(unsafe { call!(counter_header(in image, mut fields)) })?;
+    told(unsafe { call!(counter_header(in image, = &mut fields)) })?;
     Ok(fields)
 }
 
 pub fn open(image: &[u8], memory: &mut Memory) -> Answer<Opened> {
     let mut answer = [0; 5];
-    told(unsafe { call!(counter_open(in image, mut memory.words, mut answer)) })?;
+    told(unsafe { call!(counter_open(in image, mut memory.words, = &mut answer)) })?;
     Ok(opened(answer))
 }
 
 /// The disc end and the used total.
 pub fn totals(image: &[u8], memory: &mut Memory) -> Answer<(u32, u32)> {
     let mut answer = [0; 2];
-    told(unsafe { call!(counter_totals(in image, mut memory.words, mut answer)) })?;
+    told(unsafe { call!(counter_totals(in image, mut memory.words, = &mut answer)) })?;
     Ok((answer[0], answer[1]))
 }
 
 pub fn entry_at(image: &[u8], memory: &mut Memory, number: u32) -> Answer<Entry> {
     let mut answer = [0; 4];
-    told(unsafe { call!(counter_entry(in image, mut memory.words, = number, mut answer)) })?;
+    told(unsafe { call!(counter_entry(in image, mut memory.words, = number, = &mut answer)) })?;
     Ok(entry(answer))
 }
 
 pub fn lookup(image: &[u8], memory: &mut Memory, start: u32, path: &[u8]) -> Answer<Entry> {
     let mut answer = [0; 4];
     told(unsafe {
-        call!(counter_lookup(in image, mut memory.words, = start, in path, mut answer))
+        call!(counter_lookup(in image, mut memory.words, = start, in path, = &mut answer))
     })?;
     Ok(entry(answer))
 }
@@ -139,21 +139,37 @@ pub fn lookup(image: &[u8], memory: &mut Memory, start: u32, path: &[u8]) -> Ans
 /// size or next, the place of its name in the image, the name's length.
 pub fn entries(image: &[u8], memory: &mut Memory, list: &mut [u32]) -> Answer<Opened> {
     let mut answer = [0; 5];
-    told(unsafe { call!(counter_entries(in image, mut memory.words, mut list, mut answer)) })?;
+    told(unsafe { call!(counter_entries(in image, mut memory.words, mut list, = &mut answer)) })?;
     Ok(opened(answer))
+}
+
+/// The listing in front of `text`; the answer is its length.
+pub fn list(image: &[u8], memory: &mut Memory, text: &mut [u8]) -> Answer<u64> {
+    let mut answer = [0; 1];
+    told(unsafe { call!(counter_list(in image, mut memory.words, mut text, = &mut answer)) })?;
+    Ok(answer[0])
+}
+
+/// What the listing program writes, in front of `text`; the answer is its length.
+pub fn report(image: &[u8], memory: &mut Memory, text: &mut [u8]) -> Answer<u64> {
+    let mut answer = [0; 1];
+    told(unsafe { call!(counter_report(in image, mut memory.words, mut text, = &mut answer)) })?;
+    Ok(answer[0])
 }
 
 /// Offset and size of each free region in `list`; the answer is how many there are.
 pub fn free_regions(image: &[u8], memory: &mut Memory, list: &mut [u32]) -> Answer<u32> {
     let mut answer = [0; 1];
-    told(unsafe { call!(counter_free_regions(in image, mut memory.words, mut list, mut answer)) })?;
+    told(unsafe {
+        call!(counter_free_regions(in image, mut memory.words, mut list, = &mut answer))
+    })?;
     Ok(answer[0])
 }
 
 pub fn max_region_size(image: &[u8], memory: &mut Memory, offset: u32, size: u32) -> Answer<u32> {
     let mut answer = [0; 1];
     told(unsafe {
-        call!(counter_max_region_size(in image, mut memory.words, = offset, = size, mut answer))
+        call!(counter_max_region_size(in image, mut memory.words, = offset, = size, = &mut answer))
     })?;
     Ok(answer[0])
 }
@@ -161,7 +177,7 @@ pub fn max_region_size(image: &[u8], memory: &mut Memory, offset: u32, size: u32
 pub fn max_file_size(image: &[u8], memory: &mut Memory, number: u32) -> Answer<u32> {
     let mut answer = [0; 1];
     told(unsafe {
-        call!(counter_max_file_size(in image, mut memory.words, = number, mut answer))
+        call!(counter_max_file_size(in image, mut memory.words, = number, = &mut answer))
     })?;
     Ok(answer[0])
 }
@@ -169,14 +185,14 @@ pub fn max_file_size(image: &[u8], memory: &mut Memory, number: u32) -> Answer<u
 pub fn allocate(image: &[u8], memory: &mut Memory, size: u32, align: u32) -> Answer<Region> {
     let mut answer = [0; 2];
     told(unsafe {
-        call!(counter_allocate(in image, mut memory.words, = size, = align, mut answer))
+        call!(counter_allocate(in image, mut memory.words, = size, = align, = &mut answer))
     })?;
     Ok(Region { offset: answer[0], size: answer[1] })
 }
 
 pub fn open_file(image: &[u8], memory: &mut Memory, number: u32) -> Answer<Window> {
     let mut answer = [0; 3];
-    told(unsafe { call!(counter_open_file(in image, mut memory.words, = number, mut answer)) })?;
+    told(unsafe { call!(counter_open_file(in image, mut memory.words, = number, = &mut answer)) })?;
     Ok(window(answer))
 }
 
@@ -184,7 +200,9 @@ pub fn open_file(image: &[u8], memory: &mut Memory, number: u32) -> Answer<Windo
 pub fn open_dol(image: &[u8], memory: &mut Memory) -> Answer<([u32; DOL_WORDS], Window)> {
     let mut header = [0; DOL_WORDS];
     let mut answer = [0; 3];
-    told(unsafe { call!(counter_open_dol(in image, mut memory.words, mut header, mut answer)) })?;
+    told(unsafe {
+        call!(counter_open_dol(in image, mut memory.words, = &mut header, = &mut answer))
+    })?;
     Ok((header, window(answer)))
 }
 
@@ -197,21 +215,21 @@ impl Window {
 
     pub fn seek_start(&mut self, position: u64) -> Answer<()> {
         let mut slots = self.slots();
-        told(unsafe { call!(counter_seek_start(mut slots, = position)) })?;
+        told(unsafe { call!(counter_seek_start(= &mut slots, = position)) })?;
         *self = window(slots);
         Ok(())
     }
 
     pub fn seek_current(&mut self, distance: i64) -> Answer<()> {
         let mut slots = self.slots();
-        told(unsafe { call!(counter_seek_current(mut slots, = distance)) })?;
+        told(unsafe { call!(counter_seek_current(= &mut slots, = distance)) })?;
         *self = window(slots);
         Ok(())
     }
 
     pub fn seek_end(&mut self, distance: i64) -> Answer<()> {
         let mut slots = self.slots();
-        told(unsafe { call!(counter_seek_end(mut slots, = distance)) })?;
+        told(unsafe { call!(counter_seek_end(= &mut slots, = distance)) })?;
         *self = window(slots);
         Ok(())
     }
@@ -220,7 +238,7 @@ impl Window {
     pub fn read(&mut self, image: &[u8], buf: &mut [u8]) -> Answer<u64> {
         let mut slots = self.slots();
         let mut answer = [0; 1];
-        told(unsafe { call!(counter_read(mut slots, in image, mut buf, mut answer)) })?;
+        told(unsafe { call!(counter_read(= &mut slots, in image, mut buf, = &mut answer)) })?;
         *self = window(slots);
         Ok(answer[0])
     }
@@ -233,7 +251,7 @@ pub fn insert_file(image: &mut [u8], memory: &mut Memory, parent: u32, name: &[u
     let mut answer = [0; 1];
     told(unsafe {
         call!(counter_insert_file(
-            mut image, mut memory.words, mut memory.bytes, = parent, in name, mut answer
+            mut image, mut memory.words, mut memory.bytes, = parent, in name, = &mut answer
         ))
     })?;
     Ok(answer[0])
@@ -249,7 +267,7 @@ pub fn insert_directory(
     let mut answer = [0; 1];
     told(unsafe {
         call!(counter_insert_directory(
-            mut image, mut memory.words, mut memory.bytes, = parent, in name, mut answer
+            mut image, mut memory.words, mut memory.bytes, = parent, in name, = &mut answer
         ))
     })?;
     Ok(answer[0])
@@ -265,7 +283,7 @@ pub fn make_directories(
     let mut answer = [0; 1];
     told(unsafe {
         call!(counter_make_directories(
-            mut image, mut memory.words, mut memory.bytes, = start, in path, mut answer
+            mut image, mut memory.words, mut memory.bytes, = start, in path, = &mut answer
         ))
     })?;
     Ok(answer[0])

@@ -1,7 +1,7 @@
-//! What the probe's language does not reach: windows that no call gives, and result lists that are
-//! too short.
+//! What the probe's language does not reach: windows that no call gives; each call on slices; an
+//! image with nothing in it.
 
-use counter_sys::{Entry, Memory, Opened, Region, Window, ffi};
+use counter_sys::{Entry, Memory, Opened, Region, Window};
 
 /// The scope paper's small master.
 fn small_master() -> Vec<u8> {
@@ -14,6 +14,10 @@ fn small_master() -> Vec<u8> {
     put(0x44c, &[0, 0, 0, 0, 0, 0, 5, 0, 0, 0, 1, 0, b'a', 0]);
     image
 }
+
+/// Its listing, in the scope paper's words.
+const LISTING: &[u8] =
+    b"total 8192 used 1370\nd 0 0 2 /\nf 1 1280 256 /a\nr 1114 166\nr 1536 6656\n";
 
 #[test]
 fn a_window_past_the_last_place() {
@@ -58,6 +62,14 @@ fn the_calls_on_slices() {
     let mut list = [5; 5];
     assert_eq!(counter_sys::free_regions(&image, &mut memory, &mut list), Ok(2));
     assert_eq!(list, [0x45a, 0xa6, 0x600, 0x1a00, 5]);
+    let mut text = [5; LISTING.len() + 1];
+    assert_eq!(counter_sys::list(&image, &mut memory, &mut text), Ok(LISTING.len() as u64));
+    assert_eq!((&text[..LISTING.len()], text[LISTING.len()]), (LISTING, 5));
+    let mut text = [5; LISTING.len() - 1];
+    assert_eq!(counter_sys::list(&image, &mut memory, &mut text), Err(9));
+    assert_eq!(text, [5; LISTING.len() - 1]);
+    assert_eq!(counter_sys::report(&image, &mut memory, &mut text), Ok(10));
+    assert_eq!((&text[..10], text[10]), (&b"refused 9\n"[..], 5));
     assert_eq!(counter_sys::max_region_size(&image, &mut memory, 0x600, 1), Ok(0x1a00));
     assert_eq!(counter_sys::max_file_size(&image, &mut memory, 1), Ok(0x1b00));
     let place = Region { offset: 0x600, size: 0x1a00 };
@@ -76,77 +88,31 @@ fn the_calls_on_slices() {
     assert!(words == [0; 28] && bytes == [0; 68]);
 }
 
-/// One slot too few is 9 before anything else, and nothing is written.
+/// "header field past the image" comes before every other cause, whatever is lent.
 #[test]
-fn short_answers() {
-    let image = small_master();
-    let (at, len) = (image.as_ptr(), image.len());
-    let (mut words, mut answer, mut window) = ([9u32; 16], [7u32; 57], [7u64; 3]);
-    let mut short = |name: &str, call: &mut dyn FnMut(*mut u32, *mut u32, *mut u64) -> u32| {
-        words.fill(9);
-        assert_eq!(call(words.as_mut_ptr(), answer.as_mut_ptr(), window.as_mut_ptr()), 9, "{name}");
-        assert_eq!((words, answer, window), ([0; 16], [7; 57], [7; 3]), "{name}");
-    };
-    unsafe {
-        short("open", &mut |w, a, _| ffi::counter_open(at, len, w, 16, a, 4));
-        short("totals", &mut |w, a, _| ffi::counter_totals(at, len, w, 16, a, 1));
-        short("entry", &mut |w, a, _| ffi::counter_entry(at, len, w, 16, 9, a, 3));
-        short("lookup", &mut |w, a, _| ffi::counter_lookup(at, len, w, 16, 9, at, 1, a, 3));
-        short("entries", &mut |w, a, _| ffi::counter_entries(at, len, w, 16, a.add(5), 12, a, 4));
-        short("free", &mut |w, a, _| ffi::counter_free_regions(at, len, w, 16, a.add(5), 12, a, 0));
-        short("maxregion", &mut |w, a, _| ffi::counter_max_region_size(at, len, w, 16, 0, 0, a, 0));
-        short("maxfile", &mut |w, a, _| ffi::counter_max_file_size(at, len, w, 16, 9, a, 0));
-        short("alloc", &mut |w, a, _| ffi::counter_allocate(at, len, w, 16, 1, 0, a, 1));
-        short("open_file", &mut |w, _, n| ffi::counter_open_file(at, len, w, 16, 9, n, 2));
-        short("dol header", &mut |w, a, n| ffi::counter_open_dol(at, len, w, 16, a, 56, n, 3));
-        short("dol window", &mut |w, a, n| ffi::counter_open_dol(at, len, w, 16, a, 57, n, 2));
-    }
-    let mut slots = [0, 5, 0];
-    assert_eq!(unsafe { ffi::counter_seek_start(slots.as_mut_ptr(), 2, 1) }, 9);
-    let mut count = [7];
-    let mut buf = [7; 4];
-    let read = unsafe {
-        ffi::counter_read(
-            slots.as_mut_ptr(),
-            3,
-            at,
-            len,
-            buf.as_mut_ptr(),
-            4,
-            count.as_mut_ptr(),
-            0,
-        )
-    };
-    assert_eq!((read, slots, buf, count), (9, [0, 5, 0], [7; 4], [7]));
-}
-
-/// Edits with no room for the answer.
-#[test]
-fn short_answers_of_edits() {
-    let master = small_master();
-    let mut image = master.clone();
-    let (mut words, mut bytes, mut answer) = ([9u32; 64], [9u8; 64], [7u32]);
-    for edit in
-        [ffi::counter_insert_file, ffi::counter_insert_directory, ffi::counter_make_directories]
-    {
-        words.fill(9);
-        bytes.fill(9);
-        let number = unsafe {
-            edit(
-                image.as_mut_ptr(),
-                image.len(),
-                words.as_mut_ptr(),
-                words.len(),
-                bytes.as_mut_ptr(),
-                bytes.len(),
-                0,
-                b"b".as_ptr(),
-                1,
-                answer.as_mut_ptr(),
-                0,
-            )
-        };
-        assert_eq!((number, words, bytes, answer), (9, [0; 64], [0; 64], [7]));
-        assert!(image == master);
-    }
+fn an_empty_image() {
+    let mut image = [];
+    let (mut words, mut bytes) = ([9; 2], [9; 2]);
+    let mut memory = Memory { words: &mut words, bytes: &mut bytes };
+    let m = &mut memory;
+    assert_eq!(counter_sys::header(&image), Err(1));
+    assert_eq!(counter_sys::open(&image, m), Err(1));
+    assert_eq!(counter_sys::totals(&image, m), Err(1));
+    assert_eq!(counter_sys::entry_at(&image, m, 9), Err(1));
+    assert_eq!(counter_sys::lookup(&image, m, 9, &[0; 1025]), Err(1));
+    assert_eq!(counter_sys::entries(&image, m, &mut []), Err(1));
+    assert_eq!(counter_sys::free_regions(&image, m, &mut []), Err(1));
+    assert_eq!(counter_sys::list(&image, m, &mut []), Err(1));
+    assert_eq!(counter_sys::max_region_size(&image, m, 0, 0), Err(1));
+    assert_eq!(counter_sys::max_file_size(&image, m, 9), Err(1));
+    assert_eq!(counter_sys::allocate(&image, m, 1, 0), Err(1));
+    assert_eq!(counter_sys::open_file(&image, m, 9), Err(1));
+    assert_eq!(counter_sys::open_dol(&image, m), Err(1));
+    assert_eq!(counter_sys::insert_file(&mut image, m, 9, b""), Err(1));
+    assert_eq!(counter_sys::insert_directory(&mut image, m, 9, b""), Err(1));
+    assert_eq!(counter_sys::make_directories(&mut image, m, 9, &[0; 1025]), Err(1));
+    assert_eq!(counter_sys::move_file(&mut image, m, 9, 0), Err(1));
+    assert_eq!(counter_sys::resize_file(&mut image, m, 9, 0), Err(1));
+    assert_eq!(counter_sys::rewrite(&mut image, m), Err(1));
+    assert_eq!((words, bytes), ([0; 2], [0; 2]));
 }

@@ -43,7 +43,7 @@ module _ (w : ℕ) (image : List ℕ) (l : Ledger) (K : Kept w image l) where
   opened-kept = opened image w (K .opens) (K .bytes)
 
   module _ (words : ℕ) (lent : words ≤ w) (nodes : List Node) (well : WellFormed nodes) (r : Room (tableOnly nodes) image words) where
-    table-safe : Safe (tableOnly nodes) image
+    pub table-safe : Safe (tableOnly nodes) image
     table-safe = record {
       bytes = K .bytes;
       header = opened-kept .header;

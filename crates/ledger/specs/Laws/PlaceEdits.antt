@@ -37,7 +37,7 @@ use Rattle.ledger.specs.Laws.Plans.{Good, good-planned, good-refused, go
 
 -- ---- a file's tests
 
-is-file : (nodes : List Node) (k : ℕ) → fileVerdict nodes k ≡ Passed → isDirectory (getD nodes k none) ≡ false
+pub is-file : (nodes : List Node) (k : ℕ) → fileVerdict nodes k ≡ Passed → isDirectory (getD nodes k none) ≡ false
 is-file nodes k v =
     refuse-passed (isDirectory (getD nodes k none)) ExpectedFile Passed (refuse-passed (leb (length nodes) k) NoSuchEntry _ v .1) .0
 
@@ -95,10 +95,10 @@ module _ (w : ℕ) (image : List ℕ) (l : Ledger) (K : Kept w image l) (words b
         }
 
     -- elsewhere
-    free-else : (new : DiscRegion) → relocateVerdict (freeOf image) (placeIn image k) new ≡ Passed → Placeable image (numberIn image k) new
+    pub free-else : (new : DiscRegion) → relocateVerdict (freeOf image) (placeIn image k) new ≡ Passed → Placeable image (numberIn image k) new
     free-else new v i h = let f = elsewhere image o (placeIn image k) new v i h in (f .0, f .1, λ j d. f .2 j)
 
-    put-else : (new : DiscRegion) (v : relocateVerdict (freeOf image) (placeIn image k) new ≡ Passed) → new .offset < 2 ^ 32 → new .size < 2 ^ 32 →
+    pub put-else : (new : DiscRegion) (v : relocateVerdict (freeOf image) (placeIn image k) new ≡ Passed) → new .offset < 2 ^ 32 → new .size < 2 ^ 32 →
         tableVerdict (relocated (nodesIn image) k (placeIn image k) new) image words bytes ≡ Passed →
         Placed w image l K words lent k isFile new (free-else new v) (relocated (nodesIn image) k (placeIn image k) new)
     put-else new v ho hn u =
@@ -107,7 +107,7 @@ module _ (w : ℕ) (image : List ℕ) (l : Ledger) (K : Kept w image l) (words b
         (room (relocated (nodesIn image) k (placeIn image k) new) image words bytes o u)
 
     -- the file's size, and where it is resized in place its offset, have 32 bits
-    small-size : placeIn image k .size < 2 ^ 32
+    pub small-size : placeIn image k .size < 2 ^ 32
     small-size =
         ⊎-elim (λ z. omega (arith, o .bounds .small, o .files .lie (numberIn image k) (placeIn image k .offset + placeIn image k .size - 1) (rw (files-at k (nodesIn image) isFile) (omega arith, omega arith)) .1))
         (λ z. omega arith) (lt-or-le 0 (placeIn image k .size))
@@ -129,13 +129,13 @@ module _ (w : ℕ) (image : List ℕ) (l : Ledger) (K : Kept w image l) (words b
         }
 
     -- in place
-    free-here : (n : ℕ) → (leb n (placeIn image k .size) || leb n (maxRegionSize (placeIn image k .offset) (placeIn image k .size) (freeOf image))) ≡ true →
+    pub free-here : (n : ℕ) → (leb n (placeIn image k .size) || leb n (maxRegionSize (placeIn image k .offset) (placeIn image k .size) (freeOf image))) ≡ true →
         Placeable image (numberIn image k) (record { offset = placeIn image k .offset; size = n })
     free-here n v =
         let f = files-at k (nodesIn image) isFile in
         rw f at (in-place image o (numberIn image k) n (files-count k (nodesIn image) isFile) (rw f v))
 
-    small-offset : (n : ℕ) → Placeable image (numberIn image k) (record { offset = placeIn image k .offset; size = n }) →
+    pub small-offset : (n : ℕ) → Placeable image (numberIn image k) (record { offset = placeIn image k .offset; size = n }) →
         (n ≡ placeIn image k .size → ⊥) → placeIn image k .offset < 2 ^ 32
     small-offset n free d =
         ⊎-elim (λ z. omega (arith, o .bounds .small, free (placeIn image k .offset) (omega arith, omega arith) .1))

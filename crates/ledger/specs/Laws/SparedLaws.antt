@@ -30,10 +30,10 @@ shifted-first : (q : ℕ) → shifted (suc q) 0 ≡ 0
 shifted-first q = omega (arith, shifted-min (suc q) 0)
 
 -- element f of a list is y
-abbrev Holds : {A : Type 0} → A → List A → ℕ → A → Type 0
+abbrev pub Holds : {A : Type 0} → A → List A → ℕ → A → Type 0
 Holds d xs f y = (f < length xs) × (getD xs f d ≡ y)
 
-put-in-holds : {A : Type 0} (d : A) (j : ℕ) (x : A) (xs : List A) (f : ℕ) (y : A) → Holds d xs f y → Holds d (putIn j x xs) (shifted j f) y
+pub put-in-holds : {A : Type 0} (d : A) (j : ℕ) (x : A) (xs : List A) (f : ℕ) (y : A) → Holds d xs f y → Holds d (putIn j x xs) (shifted j f) y
 unfolding putIn
 put-in-holds d zero x xs f y h = rw (shifted-zero f) (omega (arith, h .0), h .1)
 put-in-holds d (suc j) x [] f y h = absurd (omega (arith, h .0))

@@ -33,13 +33,13 @@ use Rattle.ledger.specs.Laws.Plans.{Good, good-planned, good-refused}
 
 -- ---- an insert's tests
 
-record Insertable (nodes : List Node) (p : ℕ) (nm : List ℕ) : Type 0 where
-  number : p < length nodes
-  good : safe nm ≡ true
-  parent : isDirectory (getD nodes p none) ≡ true
-  bytes : plain nm ≡ true
+pub record Insertable (nodes : List Node) (p : ℕ) (nm : List ℕ) : Type 0 where
+  pub number : p < length nodes
+  pub good : safe nm ≡ true
+  pub parent : isDirectory (getD nodes p none) ≡ true
+  pub bytes : plain nm ≡ true
 
-insertable : (nodes : List Node) (p : ℕ) (nm : List ℕ) → insertVerdict nodes p nm ≡ Passed → Insertable nodes p nm
+pub insertable : (nodes : List Node) (p : ℕ) (nm : List ℕ) → insertVerdict nodes p nm ≡ Passed → Insertable nodes p nm
 unfolding insertVerdict
 insertable nodes p nm v =
     let v₁ = refuse-passed (leb (length nodes) p) NoSuchEntry _ v in
@@ -54,7 +54,7 @@ insertable nodes p nm v =
       bytes = not-false (plain nm) (v₅ .0);
     }
 
-inserted-well : (nodes : List Node) (p : ℕ) (nm : List ℕ) → WellFormed nodes → Insertable nodes p nm → (new : Node) → Fresh (newNumber nodes p) new → nameOf new ≡ nm → WellFormed (insertAt p new nodes)
+pub inserted-well : (nodes : List Node) (p : ℕ) (nm : List ℕ) → WellFormed nodes → Insertable nodes p nm → (new : Node) → Fresh (newNumber nodes p) new → nameOf new ≡ nm → WellFormed (insertAt p new nodes)
 inserted-well nodes p nm w i new f e =
     let x = directory-of (getD nodes p none) (i .parent) in
     insert-sound nodes p (newNumber nodes p) (x .0) new w (x .1) (i .number) (rw e (i .bytes, i .good)) f

@@ -41,23 +41,23 @@ use Rattle.small_master.specs.Image.{master, masterWords, masterBytes}
 
 -- ---- the image opens, and what it reads as
 
-opens : opening master masterWords ≡ verdict.Passed
+pub opens : opening master masterWords ≡ verdict.Passed
 unfolding master put opening headerVerdict fieldsVerdict fieldVerdict fields boundsVerdict tableOf check nodesIn nodesOf nodesFrom nodeAt nameAt count entriesVerdict entryVerdict unended walk nameVerdict nextVerdict shut plain safe be24 be32 usesByte nonempty disjointBelow pairwiseDisjoint disjointFromAll disjoint endBy
 opens = refl
 
-nodes : nodesIn master ≡ directory [] 2 ∷ file (0x61 ∷ []) 0x500 0x100 ∷ []
+pub nodes : nodesIn master ≡ directory [] 2 ∷ file (0x61 ∷ []) 0x500 0x100 ∷ []
 unfolding master put tableOf nodesIn nodesOf nodesFrom nodeAt nameAt count be24 be32
 nodes = refl
 
 -- the table's own place, and the disc end
-header : (fstOffset master ≡ 0x440) × (fstSize master ≡ 0x1A) × (discEnd master ≡ 0x2000)
+pub header : (fstOffset master ≡ 0x440) × (fstSize master ≡ 0x1A) × (discEnd master ≡ 0x2000)
 unfolding master put be32
 header = (refl, refl, refl)
 
 abbrev at : ℕ → ℕ → DiscRegion
 at o n = record { offset = o; size = n }
 
-free : freeOf master ≡ at 1114 166 ∷ at 1536 6656 ∷ []
+pub free : freeOf master ≡ at 1114 166 ∷ at 1536 6656 ∷ []
 unfolding master put tableOf nodesIn nodesOf nodesFrom nodeAt nameAt count be24 be32 freeOf usesByte freeRegions runs usedByte nonempty
 free = refl
 

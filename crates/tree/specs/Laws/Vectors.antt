@@ -83,6 +83,30 @@ grown-patched : insertPatch (encode nested) 4 1 (emptyFile (0x63 ∷ [])) ≡ en
 unfolding insertPatch records patchedRecord recordBefore recordAfter newStart encode entriesBytes textsOf parentOf parentBelow insertAt splice bump shifted be24 be32
 grown-patched = refl
 
+-- ---- directories inside directories, `d/x`, `d/e/g/y` and `f`: the stored parent is 0 for `d` and `f`, 1 for `e`, 3 for `g`
+
+abbrev deep : List Node
+deep = directory [] 7 ∷ directory (0x64 ∷ []) 6 ∷ file (0x78 ∷ []) 0x500 0x10 ∷ directory (0x65 ∷ []) 6 ∷ directory (0x67 ∷ []) 6 ∷ file (0x79 ∷ []) 0x600 0x20 ∷ directory (0x66 ∷ []) 7 ∷ []
+
+abbrev deepBytes : List ℕ
+deepBytes =
+    1 ∷ 0 ∷ 0 ∷ 0 ∷ 0 ∷ 0 ∷ 0 ∷ 0 ∷ 0 ∷ 0 ∷ 0 ∷ 7 ∷
+    1 ∷ 0 ∷ 0 ∷ 0 ∷ 0 ∷ 0 ∷ 0 ∷ 0 ∷ 0 ∷ 0 ∷ 0 ∷ 6 ∷
+    0 ∷ 0 ∷ 0 ∷ 2 ∷ 0 ∷ 0 ∷ 5 ∷ 0 ∷ 0 ∷ 0 ∷ 0 ∷ 0x10 ∷
+    1 ∷ 0 ∷ 0 ∷ 4 ∷ 0 ∷ 0 ∷ 0 ∷ 1 ∷ 0 ∷ 0 ∷ 0 ∷ 6 ∷
+    1 ∷ 0 ∷ 0 ∷ 6 ∷ 0 ∷ 0 ∷ 0 ∷ 3 ∷ 0 ∷ 0 ∷ 0 ∷ 6 ∷
+    0 ∷ 0 ∷ 0 ∷ 8 ∷ 0 ∷ 0 ∷ 6 ∷ 0 ∷ 0 ∷ 0 ∷ 0 ∷ 0x20 ∷
+    1 ∷ 0 ∷ 0 ∷ 10 ∷ 0 ∷ 0 ∷ 0 ∷ 0 ∷ 0 ∷ 0 ∷ 0 ∷ 7 ∷
+    0x64 ∷ 0 ∷ 0x78 ∷ 0 ∷ 0x65 ∷ 0 ∷ 0x67 ∷ 0 ∷ 0x79 ∷ 0 ∷ 0x66 ∷ 0 ∷ []
+
+deep-written : encode deep ≡ deepBytes
+unfolding encode entriesBytes textsOf parentOf parentBelow
+deep-written = refl
+
+deep-accepted : (check deepBytes 36 ≡ Passed) × (nodesOf deepBytes ≡ deep)
+unfolding check nodesOf nodesFrom nodeAt nameAt count entriesVerdict entryVerdict unended walk nameVerdict nextVerdict shut plain safe be24 be32
+deep-accepted = (refl, refl)
+
 -- ---- paths: ``, `d/b`, `d/../b`, `./d\b`, `..`, `b/`, `d/x`, and an entry that is none
 
 looked-up :

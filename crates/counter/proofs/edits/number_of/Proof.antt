@@ -1,5 +1,6 @@
 -- `counter::edits::number_of` meets its contract, by the cases of the verdict.
 -- Assumes nothing.
+use Rattle.counter.specs.Replies.{verdictNumber}
 use borrow.Author.Needs.{needs}
 use Rattle.counter.proofs.edits.number_of.Statement.{statement}
 use Rattle.counter.proofs.edits.number_of.Tie as tie
@@ -14,9 +15,11 @@ number-requires : tie.Need-number-requires
 number-requires c κs = search needs
 
 returns : tie.Need-returns
-returns c = search needs
+unfolding verdictNumber
+returns c = rw (c .enum-told .given .1)
 
 returns-2 : tie.Need-returns-2
+unfolding verdictNumber
 returns-2 c = rw (c .before .before .verdict .given .1) (c .number .ensures)
 
 pub number-of-spec : {M : Type 1} → statement M

@@ -1,32 +1,36 @@
--- `counter::regions::counter_free_regions` meets its contract: with slots enough it hands through what the call below answers.
+-- `counter::regions::counter_free_regions` meets its contract, by the cases of the answer. There are few enough regions for a slot.
 -- Assumes nothing.
 use mathlib.Core.Path.{sym, _∙_}
-use Rattle.counter.specs.Laws.Slots.{is-short, is-enough, short-slots, enough-slots}
-use native.Mathlib.Omega.{arith}
-use denote.Ref.{now}
-use lib.ListN.{length}
+use Rattle.counter.specs.Replies.{listingReply}
 use Rattle.counter.proofs.Counts.{listed-small}
 use borrow.Author.Needs.{needs}
 use Rattle.counter.proofs.regions.counter_free_regions.Statement.{statement}
 use Rattle.counter.proofs.regions.counter_free_regions.Tie as tie
 
-short-answer-requires : tie.Need-short-answer-requires
-short-answer-requires c κs = search needs
+free-regions-requires : tie.Need-free-regions-requires
+free-regions-requires c κs = search needs
+
+enum-known-listing : tie.Need-enum-known-listing
+enum-known-listing c = search needs
+
+cast-t13 : tie.Need-cast-t13
+cast-t13 c = record { fits = listed-small _ _ _ _ (sym (c .before .before .before .before .before .before .before .free-regions .ensures .0) ∙ c .before .listing .given .1) }
+
+enum-known-listing-2 : tie.Need-enum-known-listing-2
+enum-known-listing-2 c = search needs
+
+number-requires : tie.Need-number-requires
+number-requires c κs = search needs
 
 same-length : tie.Need-same-length
 same-length c = search needs
 
-returns : tie.Need-returns
-returns c = (short-slots 1 _ _ _ _ (c .before .before .before .before .if1 .taken) (c .before .before .short-answer .ensures .0), sym (is-short _ 1 _ _ (c .before .before .before .before .if1 .taken)), c .before .before .short-answer .ensures .1)
-
-free-regions-requires : tie.Need-free-regions-requires
-free-regions-requires c κs = search needs
-
-give-listing-requires : tie.Need-give-listing-requires
-give-listing-requires c κs = (omega (arith, c .before .before .before .before .before .before .before .before .if1 .left), λ n e. listed-small (now (c .before .before .before .before .before .before .before .before .before .before .before .before .before .args .image)) (length (now (c .before .before .before .before .before .before .before .before .before .before .before .before .before .args .words))) (length (now (c .before .before .before .before .before .before .before .before .before .before .before .before .before .args .list))) n (sym (c .before .before .before .before .before .free-regions .ensures .0) ∙ e))
-
 same-length-2 : tie.Need-same-length-2
 same-length-2 c = search needs
+
+returns : tie.Need-returns
+unfolding listingReply
+returns c = (record { answered = rw (← c .before .before .before .before .before .before .before .before .free-regions .ensures .0, c .before .before .listing .given .1); words = c .before .before .before .before .before .before .before .before .free-regions .ensures .2 }, c .before .before .before .before .before .before .before .before .free-regions .ensures .1)
 
 same-length-3 : tie.Need-same-length-3
 same-length-3 c = search needs
@@ -35,18 +39,21 @@ same-length-4 : tie.Need-same-length-4
 same-length-4 c = search needs
 
 returns-2 : tie.Need-returns-2
-returns-2 c = (enough-slots 1 _ _ _ _ _ (c .before .before .before .before .before .before .before .before .before .before .before .if1 .left) (rw (c .before .before .before .before .before .before .before .before .free-regions .ensures .0) at (c .before .before .give-listing .ensures)), c .before .before .before .before .before .before .before .before .free-regions .ensures .1 ∙ sym (is-enough _ 1 _ _ (c .before .before .before .before .before .before .before .before .before .before .before .if1 .left)), c .before .before .before .before .before .before .before .before .free-regions .ensures .2)
+unfolding listingReply
+returns-2 c = (record { answered = rw (← c .before .before .before .before .before .before .before .before .free-regions .ensures .0, c .before .before .listing2 .given .1, c .number .ensures); words = c .before .before .before .before .before .before .before .before .free-regions .ensures .2 }, c .before .before .before .before .before .before .before .before .free-regions .ensures .1)
 
 pub counter-free-regions-spec : {M : Type 1} → statement M
 counter-free-regions-spec =
     tie.close
     (tie.spec
-    short-answer-requires
-    same-length
-    returns
     free-regions-requires
-    give-listing-requires
+    enum-known-listing
+    cast-t13
+    enum-known-listing-2
+    number-requires
+    same-length
     same-length-2
+    returns
     same-length-3
     same-length-4
     returns-2)

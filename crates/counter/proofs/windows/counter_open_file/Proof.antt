@@ -1,43 +1,45 @@
--- `counter::windows::counter_open_file` meets its contract: with slots enough it hands through what the call below answers.
+-- `counter::windows::counter_open_file` meets its contract, by the cases of the answer.
 -- Assumes nothing.
-use Rattle.counter.specs.Laws.Slots.{short-slots, enough-slots}
+use Rattle.counter.specs.Replies.{windowReply}
 use borrow.Author.Needs.{needs}
 use Rattle.counter.proofs.windows.counter_open_file.Statement.{statement}
 use Rattle.counter.proofs.windows.counter_open_file.Tie as tie
 
-short-answer-requires : tie.Need-short-answer-requires
-short-answer-requires c κs = search needs
+open-file-requires : tie.Need-open-file-requires
+open-file-requires c κs = search needs
+
+enum-known-opened : tie.Need-enum-known-opened
+enum-known-opened c = search needs
+
+enum-known-opened-2 : tie.Need-enum-known-opened-2
+enum-known-opened-2 c = search needs
+
+number-requires : tie.Need-number-requires
+number-requires c κs = search needs
 
 same-length : tie.Need-same-length
 same-length c = search needs
 
 returns : tie.Need-returns
-returns c = (short-slots 3 _ _ _ _ (c .before .before .before .before .if1 .taken) (c .before .before .short-answer .ensures .0), c .before .before .short-answer .ensures .1)
-
-open-file-requires : tie.Need-open-file-requires
-open-file-requires c κs = search needs
-
-give-opened-requires : tie.Need-give-opened-requires
-give-opened-requires c κs = search needs
+unfolding windowReply
+returns c = record { answered = rw (← c .before .before .before .before .before .before .open-file .ensures .0, c .before .before .opened .given .1); words = c .before .before .before .before .before .before .open-file .ensures .1 }
 
 same-length-2 : tie.Need-same-length-2
 same-length-2 c = search needs
 
-same-length-3 : tie.Need-same-length-3
-same-length-3 c = search needs
-
 returns-2 : tie.Need-returns-2
-returns-2 c = (enough-slots 3 _ _ _ _ _ (c .before .before .before .before .before .before .before .before .if1 .left) (rw (c .before .before .before .before .before .before .open-file .ensures .0) at (c .before .before .give-opened .ensures)), c .before .before .before .before .before .before .open-file .ensures .1)
+unfolding windowReply
+returns-2 c = record { answered = rw (← c .before .before .before .before .before .before .open-file .ensures .0, c .before .before .opened2 .given .1, c .number .ensures); words = c .before .before .before .before .before .before .open-file .ensures .1 }
 
 pub counter-open-file-spec : {M : Type 1} → statement M
 counter-open-file-spec =
     tie.close
     (tie.spec
-    short-answer-requires
+    open-file-requires
+    enum-known-opened
+    enum-known-opened-2
+    number-requires
     same-length
     returns
-    open-file-requires
-    give-opened-requires
     same-length-2
-    same-length-3
     returns-2)

@@ -1,15 +1,9 @@
--- `counter::windows::seek` meets its contract: with slots enough it hands through what the call below answers.
+-- `counter::windows::seek` meets its contract, by the cases of the answer.
 -- Assumes nothing.
-use Rattle.counter.specs.Laws.Slots.{short-slots, enough-slots}
+use Rattle.counter.specs.Replies.{soughtReply}
 use borrow.Author.Needs.{needs}
 use Rattle.counter.proofs.windows.seek.Statement.{statement}
 use Rattle.counter.proofs.windows.seek.Tie as tie
-
-too-few-requires : tie.Need-too-few-requires
-too-few-requires c κs = search needs
-
-returns : tie.Need-returns
-returns c = short-slots 3 _ _ _ _ (c .before .if1 .taken) (c .too-few .ensures)
 
 window-in-requires : tie.Need-window-in-requires
 window-in-requires c κs = search needs
@@ -17,23 +11,31 @@ window-in-requires c κs = search needs
 seek-requires : tie.Need-seek-requires
 seek-requires c κs = search needs
 
-give-sought-requires : tie.Need-give-sought-requires
-give-sought-requires c κs = search needs
+enum-known-sought : tie.Need-enum-known-sought
+enum-known-sought c = search needs
 
-same-length : tie.Need-same-length
-same-length c = search needs
+enum-known-sought-2 : tie.Need-enum-known-sought-2
+enum-known-sought-2 c = search needs
+
+number-requires : tie.Need-number-requires
+number-requires c κs = search needs
+
+returns : tie.Need-returns
+unfolding soughtReply
+returns c = let e = rw (c .before .before .before .before .before .window-in .ensures) at (c .before .before .before .before .seek .ensures) in rw (← e, c .before .before .sought .given .1)
 
 returns-2 : tie.Need-returns-2
-returns-2 c = enough-slots 3 _ _ _ _ _ (c .before .before .before .before .before .before .before .if1 .left) (rw (c .before .before .before .before .seek .ensures, c .before .before .before .before .before .window-in .ensures) at (c .before .before .give-sought .ensures))
+unfolding soughtReply
+returns-2 c = let e = rw (c .before .before .before .before .before .window-in .ensures) at (c .before .before .before .before .seek .ensures) in rw (← e, c .before .before .sought2 .given .1, c .number .ensures)
 
 pub seek-spec : {M : Type 1} → statement M
 seek-spec =
     tie.close
     (tie.spec
-    too-few-requires
-    returns
     window-in-requires
     seek-requires
-    give-sought-requires
-    same-length
+    enum-known-sought
+    enum-known-sought-2
+    number-requires
+    returns
     returns-2)

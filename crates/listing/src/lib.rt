@@ -1,0 +1,127 @@
+// The listing of an image as text (document 01, "A small master"), and what the listing program writes.
+mod entries;
+mod lines;
+mod regions;
+mod text;
+
+use opening::Prepared;
+use refusal::Refusal;
+ghost use mathlib.Core.Path.{_≡_};
+ghost use mathlib.Core.Bool.{cond};
+ghost use mathlib.Core.List.{_++_};
+ghost use lib.Dec.{ltb};
+ghost use lib.ListN.{length, replicate};
+ghost use Rattle.refusal.specs.declared.Verdict.the-variants.{Passed};
+ghost use Rattle.tree.specs.Table as table_of;
+ghost use Rattle.tree.specs.Table.{nodesOf};
+ghost use Rattle.fst_check.specs.Inner.Reading.{Opens};
+ghost use Rattle.space.specs.Free.{freeRegions};
+ghost use Rattle.space.specs.Inner.Sort.{regionsIn};
+ghost use Rattle.space.specs.Used.{totalSize};
+ghost use Rattle.space.specs.Inner.Words.{SortedDisjoint};
+ghost use Rattle.opening.specs.Opening.{opening};
+ghost use Rattle.opening.specs.Inner.Prepared.{UsedWords, Prepares};
+ghost use Rattle.answers.specs.Answers.{behind};
+ghost use Rattle.endian.specs.Bytes.{put};
+ghost use Rattle.listing.specs.declared.Listed.the-variants as listed;
+ghost use Rattle.listing.specs.Listing.{totalsLine, entryLines, regionLines, listingText, listAnswer, listBuffer, refusedText, reportVerdict, reportAnswer, reportBuffer};
+ghost use Rattle.listing.specs.Inner.Writing.{Wrote};
+
+// The length of the text, or why there is none.
+pub enum Listed {
+    Text(usize),
+    Refused(Refusal),
+}
+
+// The lines of a table and of the used regions in the words.
+fn put_listing(table: &[u8], words: &[u32], count: usize, disc_end: u32, text: &mut [u8]) -> usize
+    requires { ⌜ Opens (now table) × SortedDisjoint (now words) count «disc_end» ⌝ }
+    ensures { λ r. ⌜ Wrote (now (text .entry)) (now (text .exit)) 0 (totalsLine «disc_end» (totalSize (regionsIn (now (words .entry)) 0 count)) ++ (entryLines (nodesOf (now (table .entry))) (table_of.count (now (table .entry))) ++ regionLines (freeRegions «disc_end» (regionsIn (now (words .entry)) 0 count)))) r ⌝ }
+{
+    let used = free_space::used_size(words, count, disc_end);
+    let a = lines::put_totals(text, 0, disc_end, used);
+    let b = entries::put_entries(table, text, a);
+    regions::put_regions(words, count, disc_end, text, b)
+}
+
+// The text of an image that opened: measured first, so that a short buffer stays as it is.
+fn list_opened(image: &[u8], words: &[u32], count: usize, text: &mut [u8]) -> Listed
+    requires { ⌜ (opening (now image) (length (now words)) ≡ Passed) × UsedWords (now image) (now words) count ⌝ }
+    ensures { λ r. ⌜ (r ≡ listAnswer (now (image .entry)) (length (now (words .entry))) (length (now (text .entry)))) × (now (text .exit) ≡ listBuffer (now (image .entry)) (length (now (words .entry))) (now (text .entry))) ⌝ }
+{
+    let from = header::fst_offset(image) as usize;
+    let to = header::table_end(image) as usize;
+    let end = header::disc_end(image) as u32;
+    let mut nothing: [u8; 1] = [0; 1];
+    let size = put_listing(&image[from..to], words, count, end, &mut nothing);
+    if text.len() < size {
+        return Listed::Refused(Refusal::LimitOrMemory);
+    }
+    put_listing(&image[from..to], words, count, end, text);
+    Listed::Text(size)
+}
+
+fn list_in(image: &[u8], words: &[u32], prepared: Prepared, text: &mut [u8]) -> Listed
+    requires { ⌜ Prepares (now image) (length (now words)) (now words) prepared ⌝ }
+    ensures { λ r. ⌜ (r ≡ listAnswer (now (image .entry)) (length (now (words .entry))) (length (now (text .entry)))) × (now (text .exit) ≡ listBuffer (now (image .entry)) (length (now (words .entry))) (now (text .entry))) ⌝ }
+{
+    match prepared {
+        Prepared::Ready(count) => list_opened(image, words, count, text),
+        Prepared::Refused(cause) => Listed::Refused(cause),
+    }
+}
+
+// The listing of an image, in front of `text`: its length; or why there is none, with the buffer as it was.
+pub fn list(image: &[u8], words: &mut [u32], text: &mut [u8]) -> Listed
+    ensures { λ r. ⌜ (r ≡ listAnswer (now (image .entry)) (length (now (words .entry))) (length (now (text .entry)))) × (now (text .exit) ≡ listBuffer (now (image .entry)) (length (now (words .entry))) (now (text .entry))) × (now (words .exit) ≡ replicate (length (now (words .entry))) 0) ⌝ }
+{
+    let prepared = opening::prepare(image, words);
+    let answer = list_in(image, words, prepared, text);
+    space::zero_words(words);
+    answer
+}
+
+// ---- the listing program
+
+// "the fixed text `refused `, the number and a line feed"
+fn put_refused(text: &mut [u8], cause: Refusal) -> usize
+    ensures { λ r. ⌜ Wrote (now (text .entry)) (now (text .exit)) 0 (refusedText cause) r ⌝ }
+{
+    let a = text::put_text(text, 0, b"refused ", 0);
+    let b = text::put_decimal(text, a, cause.number());
+    text::put_byte(text, b, b'\n')
+}
+
+// The same for a buffer that has room for it; otherwise nothing.
+fn write_refused(text: &mut [u8], cause: Refusal) -> usize
+    ensures { λ r. ⌜ (r ≡ cond (ltb (length (now (text .entry))) (length (refusedText cause))) 0 (length (refusedText cause))) × (now (text .exit) ≡ cond (ltb (length (now (text .entry))) (length (refusedText cause))) (now (text .entry)) (put (now (text .entry)) 0 (refusedText cause))) ⌝ }
+{
+    let mut nothing: [u8; 1] = [0; 1];
+    let size = put_refused(&mut nothing, cause);
+    if text.len() < size {
+        return 0;
+    }
+    put_refused(text, cause)
+}
+
+// The listing of an image of at most 65,536 bytes.
+fn list_small(image: &[u8], words: &mut [u32], text: &mut [u8]) -> Listed
+    ensures { λ r. ⌜ (r ≡ behind (reportVerdict (now (image .entry)) (length (now (words .entry))) (length (now (text .entry)))) listed.Refused (listed.Text (length (listingText (now (image .entry)))))) × (now (text .exit) ≡ behind (reportVerdict (now (image .entry)) (length (now (words .entry))) (length (now (text .entry)))) (λ c. now (text .entry)) (put (now (text .entry)) 0 (listingText (now (image .entry))))) × (now (words .exit) ≡ replicate (length (now (words .entry))) 0) ⌝ }
+{
+    if 65536 < image.len() {
+        space::zero_words(words);
+        return Listed::Refused(Refusal::LimitOrMemory);
+    }
+    list(image, words, text)
+}
+
+// What the program writes for its input, in front of `text`: the listing, or `refused ` and the number. Returns its length.
+pub fn report(image: &[u8], words: &mut [u32], text: &mut [u8]) -> usize
+    ensures { λ r. ⌜ (r ≡ reportAnswer (now (image .entry)) (length (now (words .entry))) (length (now (text .entry)))) × (now (text .exit) ≡ reportBuffer (now (image .entry)) (length (now (words .entry))) (now (text .entry))) × (now (words .exit) ≡ replicate (length (now (words .entry))) 0) ⌝ }
+{
+    let listed = list_small(image, words, text);
+    match listed {
+        Listed::Text(size) => size,
+        Listed::Refused(cause) => write_refused(text, cause),
+    }
+}
