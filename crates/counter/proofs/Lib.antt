@@ -1,4 +1,4 @@
--- What the proofs of several functions use.
-mod Counts
-mod HeaderBytes
-mod Puts
+-- What the proofs of the functions cite.
+pub mod Counts
+pub mod HeaderBytes
+pub mod Puts

@@ -1,18 +1,18 @@
 // The C face of Counter (host/include/counter.h): every public call as a function on numbers, slices and slots of fixed length. Each returns
 // 0 where it is accepted, and else document 01's number of the refusal; an answer goes into the slots.
-mod edits;
+mod editing;
 mod headers;
 mod reading;
 mod regions;
 mod text;
 mod windows;
 
-pub use edits::counter_insert_directory;
-pub use edits::counter_insert_file;
-pub use edits::counter_make_directories;
-pub use edits::counter_move_file;
-pub use edits::counter_resize_file;
-pub use edits::counter_rewrite;
+pub use editing::counter_insert_directory;
+pub use editing::counter_insert_file;
+pub use editing::counter_make_directories;
+pub use editing::counter_move_file;
+pub use editing::counter_resize_file;
+pub use editing::counter_rewrite;
 pub use headers::counter_header;
 pub use headers::counter_open_dol;
 pub use reading::counter_entries;

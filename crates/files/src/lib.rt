@@ -1,15 +1,15 @@
 // The calls on an image's entries: by number, by path, all at once; a file's window and the size it can grow to; the executable.
-mod entries;
 mod executable;
 mod listing;
+mod lookups;
 
 use dol::DolHeader;
-pub use entries::entry;
-pub use entries::lookup;
-pub use entries::max_file_size;
-pub use entries::open_file;
 pub use executable::open_dol;
 pub use listing::entries;
+pub use lookups::entry;
+pub use lookups::lookup;
+pub use lookups::max_file_size;
+pub use lookups::open_file;
 use refusal::Refusal;
 use refusal::Verdict;
 use window::Window;

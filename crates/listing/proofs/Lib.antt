@@ -1,7 +1,2 @@
 -- What the proofs of the functions cite.
-pub mod Joining
-pub mod Paths
-pub mod Chains
-pub mod LineParts
-pub mod Gaps
 pub mod Answers

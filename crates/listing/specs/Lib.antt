@@ -1,3 +1,1 @@
 pub mod Listing
-pub mod Inner
-pub mod Laws

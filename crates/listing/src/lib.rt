@@ -1,47 +1,23 @@
 // The listing of an image as text (document 01, "A small master"), and what the listing program writes.
-mod entries;
-mod lines;
-mod regions;
-mod text;
-
 use opening::Prepared;
 use refusal::Refusal;
 ghost use mathlib.Core.Path.{_≡_};
 ghost use mathlib.Core.Bool.{cond};
-ghost use mathlib.Core.List.{_++_};
 ghost use lib.Dec.{ltb};
 ghost use lib.ListN.{length, replicate};
+ghost use Rattle.endian.specs.Bytes.{put};
 ghost use Rattle.refusal.specs.declared.Verdict.the-variants.{Passed};
-ghost use Rattle.tree.specs.Table as table_of;
-ghost use Rattle.tree.specs.Table.{nodesOf};
-ghost use Rattle.fst_check.specs.Inner.Reading.{Opens};
-ghost use Rattle.space.specs.Free.{freeRegions};
-ghost use Rattle.space.specs.Inner.Sort.{regionsIn};
-ghost use Rattle.space.specs.Used.{totalSize};
-ghost use Rattle.space.specs.Inner.Words.{SortedDisjoint};
 ghost use Rattle.opening.specs.Opening.{opening};
 ghost use Rattle.opening.specs.Inner.Prepared.{UsedWords, Prepares};
 ghost use Rattle.answers.specs.Answers.{behind};
-ghost use Rattle.endian.specs.Bytes.{put};
+ghost use Rattle.listing_text.specs.Inner.Writing.{Wrote};
 ghost use Rattle.listing.specs.declared.Listed.the-variants as listed;
-ghost use Rattle.listing.specs.Listing.{totalsLine, entryLines, regionLines, listingText, listAnswer, listBuffer, refusedText, reportVerdict, reportAnswer, reportBuffer};
-ghost use Rattle.listing.specs.Inner.Writing.{Wrote};
+ghost use Rattle.listing.specs.Listing.{listingText, listAnswer, listBuffer, refusedText, reportVerdict, reportAnswer, reportBuffer};
 
 // The length of the text, or why there is none.
 pub enum Listed {
     Text(usize),
     Refused(Refusal),
-}
-
-// The lines of a table and of the used regions in the words.
-fn put_listing(table: &[u8], words: &[u32], count: usize, disc_end: u32, text: &mut [u8]) -> usize
-    requires { ⌜ Opens (now table) × SortedDisjoint (now words) count «disc_end» ⌝ }
-    ensures { λ r. ⌜ Wrote (now (text .entry)) (now (text .exit)) 0 (totalsLine «disc_end» (totalSize (regionsIn (now (words .entry)) 0 count)) ++ (entryLines (nodesOf (now (table .entry))) (table_of.count (now (table .entry))) ++ regionLines (freeRegions «disc_end» (regionsIn (now (words .entry)) 0 count)))) r ⌝ }
-{
-    let used = free_space::used_size(words, count, disc_end);
-    let a = lines::put_totals(text, 0, disc_end, used);
-    let b = entries::put_entries(table, text, a);
-    regions::put_regions(words, count, disc_end, text, b)
 }
 
 // The text of an image that opened: measured first, so that a short buffer stays as it is.
@@ -53,11 +29,11 @@ fn list_opened(image: &[u8], words: &[u32], count: usize, text: &mut [u8]) -> Li
     let to = header::table_end(image) as usize;
     let end = header::disc_end(image) as u32;
     let mut nothing: [u8; 1] = [0; 1];
-    let size = put_listing(&image[from..to], words, count, end, &mut nothing);
+    let size = listing_text::put_listing(&image[from..to], words, count, end, &mut nothing);
     if text.len() < size {
         return Listed::Refused(Refusal::LimitOrMemory);
     }
-    put_listing(&image[from..to], words, count, end, text);
+    listing_text::put_listing(&image[from..to], words, count, end, text);
     Listed::Text(size)
 }
 
@@ -87,9 +63,9 @@ pub fn list(image: &[u8], words: &mut [u32], text: &mut [u8]) -> Listed
 fn put_refused(text: &mut [u8], cause: Refusal) -> usize
     ensures { λ r. ⌜ Wrote (now (text .entry)) (now (text .exit)) 0 (refusedText cause) r ⌝ }
 {
-    let a = text::put_text(text, 0, b"refused ", 0);
-    let b = text::put_decimal(text, a, cause.number());
-    text::put_byte(text, b, b'\n')
+    let a = listing_text::put_text(text, 0, b"refused ", 0);
+    let b = listing_text::put_decimal(text, a, cause.number());
+    listing_text::put_byte(text, b, b'\n')
 }
 
 // The same for a buffer that has room for it; otherwise nothing.

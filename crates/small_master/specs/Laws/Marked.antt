@@ -22,7 +22,7 @@ use Rattle.tree.specs.Insert.{setPlace}
 use Rattle.space.specs.declared.DiscRegion.{DiscRegion}
 use Rattle.free_space.specs.declared.Allocation.the-variants as allocation
 use Rattle.free_space.specs.declared.Listing.the-variants as listing
-use Rattle.space.specs.Used.{usesByte as usedByte, nonempty, totalSize}
+use Rattle.space.specs.Used.{usesByte, nonempty, totalSize}
 use Rattle.space.specs.Layout.{disjoint, disjointFromAll, pairwiseDisjoint, endBy, disjointBelow}
 use Rattle.space.specs.Free.{runs, freeRegions}
 use Rattle.free_space.specs.MaxRegionSize.{besideFree, maxSizeFrom}
@@ -31,7 +31,7 @@ use Rattle.free_space.specs.Listing.{regionWords}
 use Rattle.disc.specs.declared.TotalsAnswer.the-variants as totals
 use Rattle.answers.specs.declared.SizeAnswer.the-variants as size
 use Rattle.files.specs.declared.WindowAnswer.the-variants as window
-use Rattle.opening.specs.Opening.{tableOf, nodesIn, opening, freeOf, usedOf}
+use Rattle.opening.specs.Opening.{tableOf, nodesIn, opening, freeOf, usedOf, usedIn}
 use Rattle.files.specs.Files.{entryAnswer, lookupAnswer, maxFileSizeAnswer, openFileAnswer}
 use Rattle.disc.specs.Calls.{totalsAnswer, freeRegionsAnswer, freeRegionsList, allocateAnswer}
 use Rattle.answers.specs.Answers.{maxRegionSizeAnswer}
@@ -42,7 +42,7 @@ use Rattle.small_master.specs.Image.{master, masterWords, masterBytes}
 -- ---- the image opens, and what it reads as
 
 pub opens : opening master masterWords ≡ verdict.Passed
-unfolding master put opening headerVerdict fieldsVerdict fieldVerdict fields boundsVerdict tableOf check nodesIn nodesOf nodesFrom nodeAt nameAt count entriesVerdict entryVerdict unended walk nameVerdict nextVerdict shut plain safe be24 be32 usesByte nonempty disjointBelow pairwiseDisjoint disjointFromAll disjoint endBy
+unfolding master put opening headerVerdict fieldsVerdict fieldVerdict fields boundsVerdict tableOf check nodesIn nodesOf nodesFrom nodeAt nameAt count entriesVerdict entryVerdict unended walk nameVerdict nextVerdict shut plain safe be24 be32 usedIn nonempty disjointBelow pairwiseDisjoint disjointFromAll disjoint endBy
 opens = refl
 
 pub nodes : nodesIn master ≡ directory [] 2 ∷ file (0x61 ∷ []) 0x500 0x100 ∷ []
@@ -58,7 +58,7 @@ abbrev at : ℕ → ℕ → DiscRegion
 at o n = record { offset = o; size = n }
 
 pub free : freeOf master ≡ at 1114 166 ∷ at 1536 6656 ∷ []
-unfolding master put tableOf nodesIn nodesOf nodesFrom nodeAt nameAt count be24 be32 freeOf usesByte freeRegions runs usedByte nonempty
+unfolding master put tableOf nodesIn nodesOf nodesFrom nodeAt nameAt count be24 be32 freeOf usedIn freeRegions runs usesByte nonempty
 free = refl
 
 -- the paths `a/` and `..`
@@ -81,7 +81,7 @@ abbrev four : List ℕ
 four = 0 ∷ 0 ∷ 0 ∷ 0 ∷ []
 
 moved : freeRegionsList (movedTo 0x600) masterWords four ≡ 0x45A ∷ 0x1A6 ∷ 0x700 ∷ 0x1900 ∷ []
-unfolding master put opening headerVerdict fieldsVerdict fieldVerdict fields boundsVerdict tableOf check nodesIn nodesOf nodesFrom nodeAt nameAt count entriesVerdict entryVerdict unended walk nameVerdict nextVerdict shut plain safe be24 be32 usesByte nonempty disjointBelow pairwiseDisjoint disjointFromAll disjoint endBy freeOf freeRegions runs usedByte freeRegionsList regionWords imageAfter verdictOf planMove tableVerdict placeVerdict limits shallow shallowFrom textsOf encode entriesBytes parentOf parentBelow setPlace written withTable maxSizeFrom besideFree
+unfolding master put opening headerVerdict fieldsVerdict fieldVerdict fields boundsVerdict tableOf check nodesIn nodesOf nodesFrom nodeAt nameAt count entriesVerdict entryVerdict unended walk nameVerdict nextVerdict shut plain safe be24 be32 usedIn nonempty disjointBelow pairwiseDisjoint disjointFromAll disjoint endBy freeOf freeRegions runs usesByte freeRegionsList regionWords imageAfter verdictOf planMove tableVerdict placeVerdict limits shallow shallowFrom textsOf encode entriesBytes parentOf parentBelow setPlace written withTable maxSizeFrom besideFree
 moved = refl
 
 -- ---- the table, in the paper's order; `a` is entry 1. A refusal stands with its number

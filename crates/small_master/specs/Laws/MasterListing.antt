@@ -1,13 +1,16 @@
 -- Document 01's listing of the small master, its five lines byte for byte: by computing. Assumes nothing.
 use Prim.Native.Nat.{ℕ}
-use mathlib.Core.Path.{_≡_, refl}
+use mathlib.Core.Path.{_≡_, refl, _∙_}
 use mathlib.Core.List.{List, [], _∷_, _++_}
+use lib.ListN.{length}
 use Rattle.endian.specs.Bytes.{be24, be32, put}
-use Rattle.tree.specs.Table.{count, nameAt, nodeAt, nodesFrom, nodesOf, parentBelow, parentOf}
+use Rattle.tree.specs.Table.{Node, file, directory, count, nameAt, nodeAt, nodesFrom, nodesOf, parentBelow, parentOf}
+use Rattle.space.specs.declared.DiscRegion.{DiscRegion}
 use Rattle.space.specs.Used.{totalSize}
 use Rattle.opening.specs.Opening.{tableOf, nodesIn, usedOf}
 use Rattle.listing.specs.declared.Listed.the-variants.{Text}
-use Rattle.listing.specs.Listing.{digits, pathWithin, entryLine, entryLines, regionLines, listingText, listingVerdict, listAnswer, reportVerdict, reportText, reportAnswer}
+use Rattle.listing_text.specs.Lines.{digits, totalsLine, pathWithin, entryLine, entryLines, regionLines}
+use Rattle.listing.specs.Listing.{listingText, listingVerdict, listAnswer, reportVerdict, reportText, reportAnswer}
 use Rattle.small_master.specs.Image.{master, masterWords}
 use Rattle.small_master.specs.Laws.Marked.{opens, nodes, header, free}
 
@@ -38,9 +41,27 @@ used : usedOf master ≡ 1370
 unfolding master put tableOf nodesIn nodesOf nodesFrom nodeAt nameAt count be24 be32 usedOf totalSize
 used = refl
 
+-- the entries and the free regions
+abbrev tree : List Node
+tree = directory [] 2 ∷ file (0x61 ∷ []) 0x500 0x100 ∷ []
+
+abbrev regions : List DiscRegion
+regions = record { offset = 1114; size = 166 } ∷ record { offset = 1536; size = 6656 } ∷ []
+
+parts : listingText master ≡ totalsLine 8192 1370 ++ (entryLines tree 2 ++ regionLines regions)
+unfolding listingText
+parts = rw (header .2, used, nodes, free)
+
+line-by-line : totalsLine 8192 1370 ++ (entryLines tree 2 ++ regionLines regions) ≡ listing
+unfolding digits pathWithin parentOf parentBelow entryLine entryLines regionLines
+line-by-line = refl
+
 text : listingText master ≡ listing
-unfolding listingText digits pathWithin parentOf parentBelow entryLine entryLines regionLines
-text = rw (header .2, used, nodes, free)
+text = parts ∙ line-by-line
+
+size : length master ≡ 0x2000
+unfolding master put
+size = refl
 
 -- the text, its length, and what the program writes, in a buffer that it just fits
 pub record Listing : Type 0 where
@@ -50,4 +71,4 @@ pub record Listing : Type 0 where
 
 pub listed : Listing
 unfolding listAnswer listingVerdict reportAnswer reportText reportVerdict
-listed = record { lines = text; answer = rw (opens, text); report = (rw (opens, text), rw (opens, text)) }
+listed = record { lines = text; answer = rw (opens, text); report = (rw (size, opens, text), rw (size, opens, text)) }

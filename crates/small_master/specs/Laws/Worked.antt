@@ -15,13 +15,13 @@ use Rattle.tree.specs.Table.{file, directory, plain, safe, count, nameAt, nodeA
 use Rattle.tree.specs.Lookup.{firstChild, childOf}
 use Rattle.tree.specs.Insert.{setPlace}
 use Rattle.space.specs.declared.DiscRegion.{DiscRegion}
-use Rattle.space.specs.Used.{usesByte as usedByte, nonempty}
+use Rattle.space.specs.Used.{usesByte, nonempty}
 use Rattle.space.specs.Layout.{disjoint, disjointFromAll, pairwiseDisjoint, endBy, disjointBelow}
 use Rattle.space.specs.Free.{runs, freeRegions}
 use Rattle.free_space.specs.MaxRegionSize.{besideFree, maxSizeFrom}
 use Rattle.free_space.specs.Allocate.{alignUp, betterOf, largest, powers, allocationOf}
-use Rattle.opening.specs.Opening.{tableOf, nodesIn, opening, freeOf}
-use Rattle.edits.specs.Change.{withTable, written, tableVerdict}
+use Rattle.opening.specs.Opening.{tableOf, nodesIn, opening, freeOf, usedIn}
+use Rattle.edits.specs.Change.{withTable, written, tableVerdict, placeVerdict}
 use Rattle.edits.specs.Edits.{Edit, insertFile, insertDirectory, moveFile, resizeFile, rewrite, insertVerdict, planMove, planResize, verdictOf, imageAfter}
 
 -- ---- an image that ends at e: file `a` of 8 bytes at 0x500, `b` of 4 bytes right behind it; the table's last text, `zz`, is no entry's
@@ -69,7 +69,7 @@ pub record Worked : Type 0 where
   pub exists : (verdictOn (insertFile 0 (0x62 ∷ [])) small ≡ verdict.Refused AlreadyExists) × (verdictOn (insertDirectory 0 (0x62 ∷ [])) small ≡ verdict.Refused AlreadyExists) × (numberOf AlreadyExists ≡ 19)
 
 pub worked : Worked
-unfolding small planMove planResize insertVerdict childOf firstChild sameBytes put opening headerVerdict fieldsVerdict fieldVerdict fields boundsVerdict tableOf check nodesIn nodesOf nodesFrom nodeAt nameAt count entriesVerdict entryVerdict unended walk nameVerdict nextVerdict shut plain safe be24 be32 usesByte nonempty disjointBelow pairwiseDisjoint disjointFromAll disjoint endBy freeOf freeRegions runs usedByte imageAfter verdictOf tableVerdict limits shallow shallowFrom textsOf encode entriesBytes parentOf parentBelow setPlace written withTable maxSizeFrom besideFree
+unfolding small planMove planResize insertVerdict childOf firstChild sameBytes put opening headerVerdict fieldsVerdict fieldVerdict fields boundsVerdict tableOf check nodesIn nodesOf nodesFrom nodeAt nameAt count entriesVerdict entryVerdict unended walk nameVerdict nextVerdict shut plain safe be24 be32 usedIn nonempty disjointBelow pairwiseDisjoint disjointFromAll disjoint endBy freeOf freeRegions runs usesByte imageAfter verdictOf tableVerdict placeVerdict limits shallow shallowFrom textsOf encode entriesBytes parentOf parentBelow setPlace written withTable maxSizeFrom besideFree
 worked = record {
   moved = (refl, refl, refl);
   rewritten = (refl, refl, refl, refl);
@@ -86,7 +86,7 @@ abbrev at : ℕ → ℕ → DiscRegion
 at o n = record { offset = o; size = n }
 
 large-opens : opening large 20 ≡ verdict.Passed
-unfolding large put opening headerVerdict fieldsVerdict fieldVerdict fields boundsVerdict tableOf check nodesIn nodesOf nodesFrom nodeAt nameAt count entriesVerdict entryVerdict unended walk nameVerdict nextVerdict shut plain safe be24 be32 usesByte nonempty disjointBelow pairwiseDisjoint disjointFromAll disjoint endBy
+unfolding large put opening headerVerdict fieldsVerdict fieldVerdict fields boundsVerdict tableOf check nodesIn nodesOf nodesFrom nodeAt nameAt count entriesVerdict entryVerdict unended walk nameVerdict nextVerdict shut plain safe be24 be32 usedIn nonempty disjointBelow pairwiseDisjoint disjointFromAll disjoint endBy
 large-opens = refl
 
 large-nodes : nodesIn large ≡ directory [] 3 ∷ file (0x61 ∷ []) 0x500 8 ∷ file (0x62 ∷ []) 0x508 4 ∷ []
@@ -94,7 +94,7 @@ unfolding large put tableOf nodesIn nodesOf nodesFrom nodeAt nameAt count be24 b
 large-nodes = refl
 
 large-free : freeOf large ≡ at 0x46B 0x95 ∷ at 0x50C 0x7B34 ∷ []
-unfolding large put tableOf nodesIn nodesOf nodesFrom nodeAt nameAt count be24 be32 freeOf usesByte freeRegions runs usedByte nonempty
+unfolding large put tableOf nodesIn nodesOf nodesFrom nodeAt nameAt count be24 be32 freeOf usedIn freeRegions runs usesByte nonempty
 large-free = refl
 
 large-header : (fstOffset large ≡ 0x440) × (fstSize large ≡ 43)
@@ -102,7 +102,7 @@ unfolding large put be32
 large-header = (refl, refl)
 
 grows : verdictOn (resizeFile 1 12) large ≡ verdict.Passed
-unfolding verdictOf planResize maxSizeFrom besideFree allocationOf powers largest betterOf alignUp tableVerdict limits shallow shallowFrom shut textsOf encode entriesBytes parentOf parentBelow setPlace
+unfolding verdictOf planResize maxSizeFrom besideFree allocationOf powers largest betterOf alignUp tableVerdict placeVerdict limits shallow shallowFrom shut textsOf encode entriesBytes parentOf parentBelow setPlace
 grows = rw (large-opens, large-nodes, large-free, large-header .0, large-header .1, large-free)
 
 -- what is written then

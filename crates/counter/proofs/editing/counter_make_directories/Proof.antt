@@ -1,0 +1,34 @@
+-- `counter::editing::counter_make_directories` meets its contract: it hands through what the edit answers.
+-- Assumes nothing.
+use borrow.Author.Needs.{needs}
+use Rattle.counter.proofs.editing.counter_make_directories.Statement.{statement}
+use Rattle.counter.proofs.editing.counter_make_directories.Tie as tie
+
+make-directories-requires : tie.Need-make-directories-requires
+make-directories-requires c κs = search needs
+
+give-located-requires : tie.Need-give-located-requires
+give-located-requires c κs = search needs
+
+same-length : tie.Need-same-length
+same-length c = search needs
+
+same-length-2 : tie.Need-same-length-2
+same-length-2 c = search needs
+
+same-length-3 : tie.Need-same-length-3
+same-length-3 c = search needs
+
+returns : tie.Need-returns
+returns c = record { answered = cc; image = search needs; words = search needs; bytes = search needs }
+
+pub counter-make-directories-spec : {M : Type 1} → statement M
+counter-make-directories-spec =
+    tie.close
+    (tie.spec
+    make-directories-requires
+    give-located-requires
+    same-length
+    same-length-2
+    same-length-3
+    returns)
