@@ -74,8 +74,10 @@ fn no_image_makes_the_program_fall_over() {
         let out = temp.at(&format!("out{turn}"));
         let svg = temp.at(&format!("map{turn}.svg"));
         let (out, svg) = (out.to_str().unwrap(), svg.to_str().unwrap());
-        let itself = image.to_str().unwrap();
-        let reading: [&[&str]; 8] = [
+        let copy = temp.write("copy.iso", &bytes);
+        let html = temp.at(&format!("report{turn}.html"));
+        let (itself, html) = (copy.to_str().unwrap(), html.to_str().unwrap());
+        let reading: [&[&str]; 11] = [
             &["info"],
             &["tree", "--json"],
             &["free"],
@@ -84,6 +86,9 @@ fn no_image_makes_the_program_fall_over() {
             &["map", svg],
             &["extract", "--all", out],
             &["compare", itself],
+            &["report", itself, html],
+            &["hash"],
+            &["place", "0x10", "4"],
         ];
         for args in reading {
             let run = on(args[0], &image, &args[1..]);
