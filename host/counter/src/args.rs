@@ -286,7 +286,7 @@ pub const FORMS: &[Form] = &[
         &[&IMAGE, &PATH, &PLACE],
         "moves the file at PATH to OFFSET, which must be free, or to a place that is found",
         &[
-            "counter move disc.iso /opening.bnr 0x190000 --dry-run",
+            "counter move disc.iso /opening.bnr 0x1a0000 --dry-run",
             "counter move disc.iso /opening.bnr auto",
         ],
     ),

@@ -102,6 +102,11 @@ fn paragraphs(text: &str) -> String {
     text.lines().map(|line| wrapped(line, 2, 2) + "\n").collect()
 }
 
+/// Those of all commands, for the man page.
+pub fn all_arguments() -> String {
+    arguments(FORMS).trim_start().to_string()
+}
+
 /// The operands and options of these commands, each once.
 fn arguments(forms: &[Form]) -> String {
     let mut told: Vec<(String, &str)> = Vec::new();

@@ -163,10 +163,11 @@ impl Folders {
 }
 
 /// The i-th of any number of colours: hues from green over blue to pink, each far from the last few,
-/// in three tones. Red and orange are left to the table and the program.
+/// in five tones. Red and orange are left to the table and the program.
 fn colour(i: usize) -> String {
     const GOLDEN: f64 = 0.618_033_988_749_895;
-    const TONES: [(f64, f64); 3] = [(0.62, 0.42), (0.48, 0.62), (0.75, 0.28)];
+    const TONES: [(f64, f64); 5] =
+        [(0.62, 0.40), (0.50, 0.66), (0.75, 0.24), (0.40, 0.54), (0.35, 0.33)];
     let hue = 85.0 + 245.0 * ((i as f64 * GOLDEN + 0.5) % 1.0);
     let (saturation, lightness) = TONES[i % TONES.len()];
     let reach = saturation * f64::min(lightness, 1.0 - lightness);
@@ -182,7 +183,7 @@ fn colour(i: usize) -> String {
 fn ink(colour: &str) -> &'static str {
     let part = |at: usize| f64::from(u8::from_str_radix(&colour[at..at + 2], 16).unwrap_or(0));
     let light = 0.299 * part(1) + 0.587 * part(3) + 0.114 * part(5);
-    if light > 150.0 { "#212529" } else { "#ffffff" }
+    if light > 140.0 { "#212529" } else { "#ffffff" }
 }
 
 /// All pieces that have bytes. None but a program in a file covers another.
@@ -252,7 +253,7 @@ const MARGIN: f64 = 80.0;
 const LEAST: f64 = 2.0;
 /// So many pieces at most have a rectangle of their own, with a title; the smaller rest is drawn as
 /// one path a colour, since thousands of titles would make the picture large.
-const TITLED: usize = 2500;
+const TITLED: usize = 1500;
 
 /// About the width of a text of 12 points in the sans-serif fonts of browsers, the wider ones.
 fn width(words: &str) -> f64 {
@@ -285,6 +286,8 @@ struct Picture<'a> {
     layout: &'a Layout,
     pieces: &'a [Piece],
     folders: &'a Folders,
+    /// In which order they are drawn: a small file over a larger one, table and program over all.
+    order: Vec<usize>,
     /// Those that are drawn with a title.
     titled: HashSet<usize>,
     left: f64,
@@ -317,8 +320,15 @@ impl<'a> Picture<'a> {
     ) -> Self {
         let mut order: Vec<usize> = (0..pieces.len()).collect();
         order.sort_by_key(|&i| (!pieces[i].marked, u64::MAX - pieces[i].size));
-        let titled = order.into_iter().take(TITLED).collect();
-        Picture { layout, pieces, folders, titled, left, span, out: String::new(), y: 0.0 }
+        let titled = order.iter().copied().take(TITLED).collect();
+        let layer = |piece: &Piece| match piece.what {
+            What::Free => 0,
+            What::System => 1,
+            What::File => 2,
+            What::Program | What::Table => 3,
+        };
+        order.sort_by_key(|&i| (layer(&pieces[i]), u64::MAX - pieces[i].size));
+        Picture { layout, pieces, folders, order, titled, left, span, out: String::new(), y: 0.0 }
     }
 
     /// Everything, on a page of its own.
@@ -353,7 +363,7 @@ impl<'a> Picture<'a> {
         text(&mut self.out, x + 80.0, 32.0, "fill=\"#495057\"", &title);
         let about = self.about();
         text(&mut self.out, x, 52.0, "fill=\"#495057\"", &about);
-        self.y = 68.0;
+        self.y = 76.0;
         let each = self.each();
         self.heading(&format!("The start of the disc, enlarged, then rows of {}", human(each)));
         let until = self.start_end();
@@ -498,8 +508,10 @@ impl<'a> Picture<'a> {
         let left = self.left + MARGIN;
         let style = format!("text-anchor=\"end\" {MONO} fill=\"#495057\"");
         text(&mut self.out, left - 8.0, y + high / 2.0 + 4.0, &style, &format!("{from:#010x}"));
+        rect(&mut self.out, (left, y), (self.span, high), FREE, "free");
         let (mut labels, mut small) = (String::new(), BTreeMap::<&str, String>::new());
-        for (i, piece) in self.pieces.iter().enumerate() {
+        for &i in &self.order {
+            let piece = &self.pieces[i];
             if piece.end() <= from || until <= piece.start {
                 continue;
             }
@@ -516,7 +528,7 @@ impl<'a> Picture<'a> {
                 marked(&mut labels, (x, y), (wide, high), &piece.colour, &piece.about());
             } else if self.titled.contains(&i) && exact >= 1.0 || self.pieces.len() <= TITLED {
                 rect(&mut self.out, (x, y), (wide, high), &piece.colour, &piece.about());
-            } else {
+            } else if piece.what != What::Free {
                 let path = small.entry(&piece.colour).or_default();
                 let _ = write!(path, "M{x:.1} {:.0}h{wide:.1}", y + high / 2.0);
             }
@@ -585,7 +597,7 @@ fn label(out: &mut String, piece: &Piece, x: f64, y: f64, wide: f64) {
     let long = format!("{} {}", piece.short(), human(piece.size));
     let fits = |words: &str| width(words) + 8.0 <= wide;
     let words = if fits(&long) { &long } else { piece.short() };
-    if fits(words) {
+    if fits(words) && (piece.what != What::Free || fits(&long)) {
         let fill = if piece.what == What::Free { "#868e96" } else { ink(&piece.colour) };
         text(out, x + 4.0, y, &format!("fill=\"{fill}\""), words);
     }

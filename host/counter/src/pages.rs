@@ -28,13 +28,21 @@ fn roff(text: &str) -> String {
     text.lines().map(quoted).collect::<Vec<_>>().join("\n")
 }
 
-/// A part of `help` as it stands.
-fn as_it_stands(out: &mut String, heading: &str, text: &str) {
-    let _ = writeln!(out, ".SH {heading}\n.nf");
+/// A part of `help`: points, and names with what is said about them, as paragraphs that are filled.
+fn section(out: &mut String, heading: &str, text: &str) {
+    let _ = writeln!(out, ".SH {heading}");
     for line in text.lines().skip(1) {
-        let _ = writeln!(out, "{}", roff(line.strip_prefix("  ").unwrap_or(line)));
+        let words = line.trim_start();
+        let deeper = line.len() - words.len() >= 4;
+        let _ = match (words.strip_prefix("- "), words.split_once("  ")) {
+            _ if deeper => writeln!(out, "{}", roff(words)),
+            (Some(point), _) => writeln!(out, ".IP \\(bu 2\n{}", roff(point)),
+            (None, Some((name, about))) => {
+                writeln!(out, ".TP\n.B {}\n{}", roff(name), roff(about.trim_start()))
+            }
+            _ => writeln!(out, ".PP\n{}", roff(words)),
+        };
     }
-    out.push_str(".fi\n");
 }
 
 fn man() -> String {
@@ -52,17 +60,16 @@ fn man() -> String {
             for line in form.more.lines() {
                 let _ = writeln!(out, ".IP\n{}", roff(line));
             }
-            for example in form.examples {
-                let _ = writeln!(out, ".IP\n.EX\n{}\n.EE", roff(example));
-            }
+            let _ = writeln!(out, ".IP\n.EX\n{}\n.EE", roff(&form.examples.join("\n")));
         }
     }
+    section(&mut out, "ARGUMENTS", &help::all_arguments());
     for (subject, _) in help::SUBJECTS {
         let heading = match subject {
             "exit" => "EXIT STATUS".to_string(),
             other => other.to_uppercase(),
         };
-        as_it_stands(&mut out, &heading, &help::about(subject).unwrap_or_default());
+        section(&mut out, &heading, &help::about(subject).unwrap_or_default());
     }
     out.push_str(".SH SEE ALSO\n.BR sha256sum (1)\n");
     out

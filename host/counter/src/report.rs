@@ -88,10 +88,10 @@ fn page(found: &Comparison) -> String {
     let _ = writeln!(out, "<h1>{}</h1></header>", escape(game));
     verdict(&mut out, found, passed);
     images(&mut out, found, &sums);
-    areas(&mut out, found);
     listed(&mut out, found);
     files(&mut out, &rows, &sums);
     folders(&mut out, found);
+    areas(&mut out, found);
     let before = found.pair.before.layout();
     let maps = map::side_by_side(before, &found.pair.after, &found.marks());
     let _ = writeln!(
@@ -115,6 +115,18 @@ fn verdict(out: &mut String, found: &Comparison, passed: bool) {
         escape(&capital(words)),
         escape(&found.totals())
     );
+    let broken: Vec<&Row> = found.rows.iter().filter(|row| row.breaks()).collect();
+    let areas = found.areas.iter().filter(|area| area.changed).map(|area| escape(area.name));
+    let told = broken.iter().take(8).map(|row| {
+        format!("<code>{}</code> ({})", escape(&row.path), row.status().replace('+', ", "))
+    });
+    let mut told: Vec<String> = areas.chain(told).collect();
+    if broken.len() > 8 {
+        told.push(format!("and {} more", grouped(broken.len() as u64 - 8)));
+    }
+    if !told.is_empty() {
+        let _ = writeln!(out, "<p>Without leave: {}.</p>", told.join(", "));
+    }
     if found.given.covers_all() {
         out.push_str(
             "<p class=\"loud\">The list has the line <code>/</code>: it covers every file and folder, so \
@@ -154,7 +166,9 @@ fn images(out: &mut String, found: &Comparison, sums: &Sums) {
 }
 
 fn areas(out: &mut String, found: &Comparison) {
-    out.push_str("<section><h2>What is no file</h2>\n<table class=\"areas\">\n");
+    out.push_str(
+        "<section><h2>Header, program and the rest of the disc</h2>\n<table class=\"areas\">\n",
+    );
     for (i, (word, name)) in found.others().into_iter().enumerate() {
         let fails = found.areas.get(i).is_some_and(|area| area.changed);
         let (class, mark) = match (word, fails) {
@@ -202,45 +216,43 @@ fn files(out: &mut String, rows: &[&Row], sums: &Sums) {
         out.push_str("<p>None.</p></section>\n");
         return;
     }
-    out.push_str(
-        "<table class=\"files\">\n<thead><tr><th></th><th class=\"right\">Place</th>\
-         <th class=\"right\">Bytes</th><th>SHA-256</th></tr></thead>\n",
-    );
     for (row, sums) in rows.iter().zip(&sums.rows) {
         let (class, leave) = match (row.before.is_none(), row.given) {
-            (true, _) => ("told", "new file"),
+            (true, _) => ("told", ""),
             (false, true) => ("good", "on the list"),
             (false, false) => ("bad", "NOT ON THE LIST"),
         };
         let _ = writeln!(
             out,
-            "<tbody><tr class=\"path\"><td colspan=\"4\"><code>{}</code> <span class=\"tag\">{}</span> \
-             <span class=\"tag {class}\">{leave}</span></td></tr>",
+            "<article><h3><code>{}</code> <span class=\"tag\">{}</span> \
+             <span class=\"tag {class}\">{leave}</span></h3>\n<table>\n<thead><tr><th></th>\
+             <th class=\"right\">Place</th><th class=\"right\">Bytes</th><th>SHA-256</th></tr></thead>",
             escape(&row.path),
             row.status().replace('+', ", ")
         );
-        let mut side = |name: &str, place: Option<(u32, u32)>, sum: Option<Sum>| {
-            let _ = match place.zip(sum) {
-                None => writeln!(
-                    out,
-                    "<tr><th scope=\"row\">{name}</th><td colspan=\"3\">not there</td></tr>"
-                ),
-                Some(((offset, size), sum)) => writeln!(
-                    out,
-                    "<tr><th scope=\"row\">{name}</th><td class=\"right\">{offset:#x}</td>\
-                     <td class=\"right\">{}<br><span class=\"note\">{}</span></td>\
-                     <td class=\"sum\">{}</td></tr>",
-                    grouped(size.into()),
-                    human(size.into()),
-                    hex(&sum)
-                ),
-            };
-        };
-        side("before", row.before, sums.0);
-        side("after", row.after, sums.1);
-        out.push_str("</tbody>\n");
+        file(out, "before", row.before.zip(sums.0));
+        file(out, "after", row.after.zip(sums.1));
+        out.push_str("</table></article>\n");
     }
-    out.push_str("</table></section>\n");
+    out.push_str("</section>\n");
+}
+
+/// Place, size and sum of a file, in one of the images.
+fn file(out: &mut String, side: &str, told: Option<((u32, u32), Sum)>) {
+    let _ = match told {
+        None => writeln!(
+            out,
+            "<tr><th scope=\"row\">{side}</th><td class=\"right\">not there</td><td></td><td></td></tr>"
+        ),
+        Some(((offset, size), sum)) => writeln!(
+            out,
+            "<tr><th scope=\"row\">{side}</th><td class=\"right\">{offset:#x}</td>\
+             <td class=\"right\" title=\"{}\">{}</td><td class=\"sum\">{}</td></tr>",
+            human(size.into()),
+            grouped(size.into()),
+            hex(&sum)
+        ),
+    };
 }
 
 fn folders(out: &mut String, found: &Comparison) {
@@ -314,10 +326,15 @@ code, .sum { font-family: ui-monospace, \"DejaVu Sans Mono\", monospace; font-si
 .note { color: var(--told); font-size: 12px; }
 .mark { width: 24px; font-weight: 700; }
 .mark.good { color: var(--good); } .mark.bad { color: var(--bad); } .mark.told { color: var(--told); }
-.files tbody { break-inside: avoid; }
-.files tr.path td { background: #f8f9fa; padding: 7px 8px; border-top: 8px solid #fff; }
-.files tr.path code { font-size: 13px; font-weight: 600; }
-.files tbody tr:not(.path) th { padding-left: 8px; }
+article { margin: 0 0 16px; border: 1px solid var(--line); border-radius: 4px; overflow: hidden; }
+article h3 { margin: 0; padding: 6px 10px; background: #f8f9fa; font-weight: 400; }
+article code { font-size: 13px; font-weight: 600; }
+article thead th { padding-top: 3px; padding-bottom: 1px; border-bottom: 0; }
+article th:first-child { padding-left: 10px; width: 76px; }
+article .right { width: 108px; }
+article td.sum { padding-left: 14px; line-height: 20px; }
+article th:last-child { padding-left: 14px; }
+article tr:last-child > * { border-bottom: 0; }
 .tag { display: inline-block; font-size: 12px; padding: 0 7px; border: 1px solid var(--line); border-radius: 9px;
   margin-left: 4px; white-space: nowrap; }
 .tag.good { color: var(--good); border-color: var(--good); }
@@ -332,8 +349,10 @@ footer { margin-top: 30px; padding-top: 10px; border-top: 2px solid var(--line);
 @media print {
   body { font-size: 10.5pt; padding: 0; max-width: none; }
   h2 { break-after: avoid; }
-  .verdict, .maps, tr, footer { break-inside: avoid; }
-  thead { display: table-header-group; }
+  .verdict, .maps, article, tr, footer { break-inside: avoid; }
+  .maps h2, .maps p { break-after: avoid; }
+  .sum { font-size: 6.9pt; }
+  article .right { width: 26mm; }
   * { print-color-adjust: exact; -webkit-print-color-adjust: exact; }
 }
 ";

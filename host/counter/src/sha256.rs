@@ -42,14 +42,12 @@ impl Sha256 {
             if self.rest.len() < 64 {
                 return;
             }
-            block(&mut self.state, &self.rest);
+            blocks(&mut self.state, &self.rest);
             self.rest.clear();
         }
-        let mut blocks = bytes.chunks_exact(64);
-        for each in &mut blocks {
-            block(&mut self.state, each);
-        }
-        self.rest.extend(blocks.remainder());
+        let (whole, rest) = bytes.split_at(bytes.len() / 64 * 64);
+        blocks(&mut self.state, whole);
+        self.rest.extend(rest);
     }
 
     /// The message ends here: a bit 1, zeros, and the length in bits.
@@ -66,6 +64,20 @@ impl Sha256 {
         }
         sum
     }
+}
+
+/// Whole blocks, by the processor's own instructions where it has them.
+fn blocks(state: &mut [u32; 8], bytes: &[u8]) {
+    #[cfg(target_arch = "x86_64")]
+    if intel::there() {
+        // SAFETY: the processor has just been asked.
+        return unsafe { intel::blocks(state, bytes) };
+    }
+    plain(state, bytes);
+}
+
+fn plain(state: &mut [u32; 8], bytes: &[u8]) {
+    bytes.chunks_exact(64).for_each(|bytes| block(state, bytes));
 }
 
 fn block(state: &mut [u32; 8], bytes: &[u8]) {
@@ -91,6 +103,61 @@ fn block(state: &mut [u32; 8], bytes: &[u8]) {
     }
     for (word, add) in state.iter_mut().zip([a, b, c, d, e, f, g, h]) {
         *word = word.wrapping_add(add);
+    }
+}
+
+/// The same by the SHA extensions of x86.
+#[cfg(target_arch = "x86_64")]
+mod intel {
+    use super::K;
+    use std::arch::x86_64::*;
+
+    pub fn there() -> bool {
+        is_x86_feature_detected!("sha")
+            && is_x86_feature_detected!("ssse3")
+            && is_x86_feature_detected!("sse4.1")
+    }
+
+    /// The instructions want the words a, b, e, f in one register and c, d, g, h in another.
+    #[target_feature(enable = "sha,ssse3,sse4.1")]
+    pub fn blocks(state: &mut [u32; 8], bytes: &[u8]) {
+        let swap = _mm_set_epi64x(0x0c0d_0e0f_0809_0a0b, 0x0405_0607_0001_0203);
+        // SAFETY: each load and store is of 16 bytes of `state`, of a block of 64, or of `K`.
+        unsafe {
+            let words = state.as_mut_ptr().cast::<__m128i>();
+            let first = _mm_shuffle_epi32(_mm_loadu_si128(words), 0xB1);
+            let second = _mm_shuffle_epi32(_mm_loadu_si128(words.add(1)), 0x1B);
+            let mut abef = _mm_alignr_epi8(first, second, 8);
+            let mut cdgh = _mm_blend_epi16(second, first, 0xF0);
+            for block in bytes.chunks_exact(64) {
+                let (old_abef, old_cdgh) = (abef, cdgh);
+                let block = block.as_ptr().cast::<__m128i>();
+                let mut w = [_mm_setzero_si128(); 4];
+                for i in 0..16 {
+                    w[i % 4] = match i {
+                        0..4 => _mm_shuffle_epi8(_mm_loadu_si128(block.add(i)), swap),
+                        _ => {
+                            let (w1, w2, w3) = (w[(i + 1) % 4], w[(i + 2) % 4], w[(i + 3) % 4]);
+                            let sum = _mm_add_epi32(
+                                _mm_sha256msg1_epu32(w[i % 4], w1),
+                                _mm_alignr_epi8(w3, w2, 4),
+                            );
+                            _mm_sha256msg2_epu32(sum, w3)
+                        }
+                    };
+                    let k = _mm_loadu_si128(K.as_ptr().add(4 * i).cast());
+                    let k = _mm_add_epi32(w[i % 4], k);
+                    cdgh = _mm_sha256rnds2_epu32(cdgh, abef, k);
+                    abef = _mm_sha256rnds2_epu32(abef, cdgh, _mm_shuffle_epi32(k, 0x0E));
+                }
+                abef = _mm_add_epi32(abef, old_abef);
+                cdgh = _mm_add_epi32(cdgh, old_cdgh);
+            }
+            let first = _mm_shuffle_epi32(abef, 0x1B);
+            let second = _mm_shuffle_epi32(cdgh, 0xB1);
+            _mm_storeu_si128(words, _mm_blend_epi16(first, second, 0xF0));
+            _mm_storeu_si128(words.add(1), _mm_alignr_epi8(second, first, 8));
+        }
     }
 }
 
@@ -139,6 +206,28 @@ mod tests {
             sum(&[&million]),
             "cdc76e5c9914fb9281a1c7e284d73e67f1809a48a497200e046d39ccc7112cd0"
         );
+    }
+
+    /// The vectors above go through one of the two ways; the other one agrees with it.
+    #[test]
+    fn the_two_ways_agree() {
+        let bytes: Vec<u8> = (0..64 * 40u32).map(|i| (i * i / 7) as u8).collect();
+        for count in 0..40 {
+            let (mut one, mut other) = (START, START);
+            blocks(&mut one, &bytes[..64 * count]);
+            plain(&mut other, &bytes[..64 * count]);
+            assert_eq!(one, other);
+        }
+        // Both have the message "abc", in one block.
+        let mut block = [0; 64];
+        block[..4].copy_from_slice(&[b'a', b'b', b'c', 0x80]);
+        block[63] = 24;
+        for way in [blocks, plain] {
+            let mut state = START;
+            way(&mut state, &block);
+            assert_eq!(state[0], 0xba78_16bf);
+            assert_eq!(state[7], 0xf200_15ad);
+        }
     }
 
     #[test]
