@@ -309,8 +309,8 @@ const COMPARE: &str = "\
 LIST is a text file, one path a line; a line that ends in / stands for that folder and all in it. / \
 alone stands for everything, and that is said aloud. A line that leads to the root in another way, or \
 above it, is an error (65).
-Exit status 1 if a file or folder that is not on LIST differs in place, size or bytes, or is gone; \
-also if the bytes before the table (but for the table's size), the program, the disc end or what lies \
+Exit status 1 if a file or folder that is not on LIST differs in place, size or bytes, is gone, or is \
+hidden by another entry of its name that stands before it now; also if the bytes before the table (but for the table's size), the program, the disc end or what lies \
 behind it differ. New files and folders, another order of the entries and other bytes in the free \
 space are told and do not fail the check.
 Files are matched by path, equal names in one folder by their order; a path on LIST means the first.

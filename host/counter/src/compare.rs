@@ -11,7 +11,7 @@ use crate::manifest::{Manifest, PROGRAM, Part, TAIL, is_manifest, sums};
 use crate::map::{self, Marks};
 use crate::out::say;
 use crate::progress::Progress;
-use crate::save::save;
+use crate::save::{save, vacant};
 use crate::sha256::Sum;
 use crate::text::{counted, grouped};
 use std::collections::{HashMap, HashSet};
@@ -22,6 +22,7 @@ use std::path::Path;
 const STEP: usize = 4 << 20;
 
 pub fn compare(args: &Args) -> Outcome<u8> {
+    args.map.as_deref().map_or(Ok(()), vacant)?;
     let pair = Pair::read(args)?;
     let found = pair.compare(Given::read(&args.given)?);
     if let Some(out) = &args.map {
@@ -152,6 +153,8 @@ pub struct Row {
     pub sum: Option<Sum>,
     /// Whether the bytes that both have differ; None where that cannot be told.
     changed: Option<bool>,
+    /// Lookup found it, and finds another entry of that name now.
+    hidden: bool,
     pub given: bool,
 }
 
@@ -174,8 +177,12 @@ impl Row {
             (_, None) => return "gone".into(),
             _ => {}
         }
-        let parts =
-            [(self.moved(), "moved"), (self.resized(), "resized"), (self.changed(), "changed")];
+        let parts = [
+            (self.moved(), "moved"),
+            (self.resized(), "resized"),
+            (self.changed(), "changed"),
+            (self.hidden, "hidden"),
+        ];
         let told: Vec<&str> = parts.iter().filter(|(is, _)| *is).map(|(_, word)| *word).collect();
         if told.is_empty() { "unchanged".into() } else { told.join("+") }
     }
@@ -203,8 +210,10 @@ fn matched(old: &[Item], new: &[Item]) -> Vec<Row> {
     let known: HashSet<&str> = old.iter().map(|item| item.key.as_str()).collect();
     let mut rows = Vec::new();
     for item in old {
-        let now = found.get(item.key.as_str()).map(|item| item.record);
-        rows.push(row(item, Some(item.record), now));
+        let now = found.get(item.key.as_str());
+        let mut row = row(item, Some(item.record), now.map(|item| item.record));
+        row.hidden = item.first && now.is_some_and(|now| !now.first);
+        rows.push(row);
     }
     for item in new.iter().filter(|item| !known.contains(item.key.as_str())) {
         rows.push(row(item, None, Some(item.record)));
@@ -223,6 +232,7 @@ fn row(item: &Item, before: Option<&Record>, after: Option<&Record>) -> Row {
         after: after.map(|record| record.place),
         sum: item.record.sum,
         changed: None,
+        hidden: false,
         given: false,
     }
 }
@@ -362,6 +372,7 @@ impl Pair {
         let total = rows.iter().map(Row::common).sum::<u64>()
             + u64::from(old.fst.0)
             + shared.iter().map(|(start, end)| end - start).sum::<u64>()
+            + old.program.filter(|_| old.program_behind).map_or(0, |(_, size)| size.into())
             + tail.1;
         let progress = Progress::start("comparing", total);
         let bytes = Bytes { a: image.bytes(), b: self.image.bytes(), progress: &progress };
@@ -613,6 +624,9 @@ fn difference(row: &Row) -> String {
             let _ =
                 write!(out, "  size {} -> {}", grouped(before.1.into()), grouped(after.1.into()));
         }
+        if row.hidden {
+            out.push_str("  (another entry of its name stands before it)");
+        }
         if row.changed.is_none() && !row.folder {
             out.push_str("  (shorter than its sum's bytes, which were not compared)");
         }
@@ -633,6 +647,7 @@ fn row_json(row: &Row) -> Json {
         ("moved", row.moved().into()),
         ("resized", row.resized().into()),
         ("changed", row.changed.into()),
+        ("hidden", row.hidden.into()),
         ("given", row.given.into()),
         ("before", place(row.before).unwrap_or(Json::Null)),
         ("after", place(row.after).unwrap_or(Json::Null)),

@@ -23,7 +23,8 @@ pub fn general() -> String {
         "counter: {PURPOSE}\n\n\
          \x20 counter COMMAND IMAGE ...\n\
          \x20 counter help COMMAND      (or counter COMMAND --help)\n\n\
-         The bare commands list, tree and info, and map --demo, show a built-in small master.\n"
+         The bare commands list, tree and info, and map --demo, show a built-in small master.\n\
+         `counter help man`, bash, zsh and fish write the man page and completions (host/install).\n"
     );
     for (group, name) in GROUPS {
         let _ = writeln!(out, "\n{name}");
@@ -166,7 +167,7 @@ const FIELDS: &[(&str, &str)] = &[
 
 const COMPARED: &str = "before after manifest passed covers_all order_changed free_space \
     counts{unchanged moved resized changed new gone} areas[name changed] folders[path status given] \
-    unknown[path] files[path first status moved resized changed given before{offset size} \
+    unknown[path] files[path first status moved resized changed hidden given before{offset size} \
     after{offset size}]; changed: null where it cannot be told; free_space: unchanged, changed or \
     unknown; files and folders: only those that differ, with --only-differences";
 

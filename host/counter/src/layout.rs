@@ -6,7 +6,7 @@ use crate::failure::Outcome;
 use crate::header::Header;
 use crate::image::{Desk, Image};
 use crate::sha256::Sum;
-use crate::text::shown;
+use crate::text::{one_line, shown};
 use counter_sys::Region;
 
 /// An entry of the table.
@@ -60,7 +60,7 @@ impl Layout {
         });
         let game = format!("{} {}", shown(header.game()), shown(header.game_name()));
         Ok(Layout {
-            name: image.name.rsplit('/').next().unwrap_or("").to_string(),
+            name: one_line(image.name.rsplit('/').next().unwrap_or("")),
             game: game.trim().to_string(),
             bytes: image.bytes().len() as u64,
             disc_end: disc.opened.disc_end,

@@ -9,7 +9,7 @@ use crate::manifest::sums;
 use crate::map;
 use crate::out::say;
 use crate::progress::Progress;
-use crate::save::save;
+use crate::save::{save, vacant};
 use crate::sha256::{Sum, hex};
 use crate::text::{counted, date, escape, grouped, human};
 use crate::version::{LIBRARY, VERSION};
@@ -18,9 +18,10 @@ use std::fmt::Write;
 use std::time::{SystemTime, UNIX_EPOCH};
 
 pub fn report(args: &Args) -> Outcome<u8> {
+    let out = args.path(1);
+    vacant(&out)?;
     let pair = Pair::read(args)?;
     let found = pair.compare(Given::read(&args.given)?);
-    let out = args.path(1);
     save(&out, page(&found).as_bytes())?;
     let text = match args.json {
         true => found.json(false).document(),

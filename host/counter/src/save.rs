@@ -6,7 +6,7 @@ use crate::os;
 use crate::progress::Progress;
 use counter_sys::Window;
 use std::fs::{self, File, OpenOptions};
-use std::io::Write;
+use std::io::{self, Write};
 use std::path::Path;
 
 const CHUNK: usize = 1 << 20;
@@ -38,6 +38,14 @@ pub fn save_window(image: &Image, window: Window, path: &Path, progress: &Progre
         file.write_all(part).map_err(|e| Failure::file(INPUT_OUTPUT, path, &e))
     });
     finished(path, done)
+}
+
+/// That nothing is there, before work is done that would be in vain.
+pub fn vacant(path: &Path) -> Outcome<()> {
+    match fs::symlink_metadata(path) {
+        Ok(_) => Err(Failure::file(CANNOT_CREATE, path, &io::ErrorKind::AlreadyExists.into())),
+        Err(_) => Ok(()),
+    }
 }
 
 /// Writes bytes to a new file.

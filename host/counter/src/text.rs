@@ -96,6 +96,11 @@ pub fn shown(path: &[u8]) -> String {
     out
 }
 
+/// Text without line feeds and the like.
+pub fn one_line(text: &str) -> String {
+    text.chars().map(|c| if c.is_control() { '?' } else { c }).collect()
+}
+
 /// Text as XML and HTML take it.
 pub fn escape(text: &str) -> String {
     let mut out = String::new();

@@ -424,6 +424,27 @@ fn an_empty_folder_that_is_gone_fails() {
 }
 
 #[test]
+fn an_entry_that_hides_another_fails() {
+    // A folder of the same name in front: the path leads to it now, and the file is where it was.
+    for (at, name, hidden) in [(0, "opening.bnr", "/opening.bnr"), (1, "audio", "/audio/theme.adp")]
+    {
+        let pair = pair();
+        let manifest = pair.manifest();
+        let mut entries = usual(0x10_0000, 0x4_5678);
+        let other = if at == 0 { folder(name, vec![]) } else { file(name, 0, 0) };
+        entries.insert(at, other);
+        with_table(&pair.after, &entries);
+        for run in [pair.compare(&[]), pair.against(&manifest, &[])] {
+            assert_eq!(run.status, 1, "{}", run.out);
+            let line =
+                format!("hidden           {hidden}  (another entry of its name stands before it)");
+            assert!(run.out.contains(&line), "{}", run.out);
+        }
+        assert_eq!(status(&pair.json(), hidden), "hidden");
+    }
+}
+
+#[test]
 fn another_order_and_other_free_bytes_are_told() {
     let pair = pair();
     let run = pair.compare(&[]);
@@ -540,6 +561,11 @@ fn a_manifest_is_one_of_sha256sum_too() {
 #[test]
 fn a_manifest_that_was_cut_or_changed_is_none() {
     let pair = pair();
+    // A name that would make two lines.
+    let odd = pair.temp.at("a\nb.iso");
+    fs::copy(&pair.before, &odd).unwrap();
+    let manifest = pair.temp.write("odd.sums", done("hash", &odd, &[]).as_bytes());
+    assert_eq!(pair.against(&manifest, &[]).status, 0);
     let text = done("hash", &pair.before, &[]);
     assert!(text.is_ascii() && text.starts_with("# counter manifest 1\n"));
     let lines: Vec<&str> = text.lines().collect();

@@ -119,7 +119,8 @@ fn the_man_page_is_one() {
     groff.stdin.take().unwrap().write_all(page.out.as_bytes()).unwrap();
     let shown: Run = groff.wait_with_output().unwrap().into();
     assert_eq!((shown.status, shown.err.as_str()), (0, ""));
-    assert!(shown.out.contains("moves the file at PATH"), "{}", shown.out);
+    let words: Vec<&str> = shown.out.split_whitespace().collect();
+    assert!(words.join(" ").contains("moves the file at PATH to OFFSET"), "{}", shown.out);
 }
 
 /// What bash offers after these words, the last one unfinished.
