@@ -106,8 +106,12 @@ fn page(found: &Comparison) -> String {
 }
 
 fn verdict(out: &mut String, found: &Comparison, passed: bool) {
-    let (class, mark, word) =
-        if passed { ("good", "&#10003;", "Passed") } else { ("bad", "&#10007;", "Failed") };
+    // A list that covers everything makes passing easy; that is no green.
+    let (class, mark, word) = match (passed, found.given.covers_all()) {
+        (true, false) => ("good", "&#10003;", "Passed"),
+        (true, true) => ("warn", "&#10003;", "Passed, by a list that covers everything"),
+        (false, _) => ("bad", "&#10007;", "Failed"),
+    };
     let verdict = found.verdict();
     let words = verdict.split_once(": ").map_or(verdict.as_str(), |(_, words)| words);
     let _ = writeln!(
@@ -310,6 +314,7 @@ p { margin: 6px 0; }
 .kind { margin: 0; color: var(--told); text-transform: uppercase; letter-spacing: .06em; font-size: 12px; }
 .verdict { border: 2px solid; border-left-width: 12px; border-radius: 4px; padding: 12px 18px; }
 .verdict.good { border-color: var(--good); background: #ebfbee; }
+.verdict.warn { border-color: #e67700; background: #fff9db; }
 .verdict.bad { border-color: var(--bad); background: #fff5f5; }
 .verdict .word { font-size: 24px; font-weight: 700; margin: 0; }
 .verdict.good .word { color: var(--good); }

@@ -131,6 +131,8 @@ fn a_list_that_covers_all_is_told_on_the_page() {
     assert_eq!(on("report", &before, &args).status, 0);
     let html = fs::read_to_string(&page).unwrap();
     assert!(html.contains("it covers every file and folder"));
+    assert!(html.contains("Passed, by a list that covers everything"));
+    assert!(!html.contains("class=\"verdict good\""));
 }
 
 #[test]
