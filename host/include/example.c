@@ -45,7 +45,7 @@ static void list_entries(const uint8_t *image, size_t len)
 {
     uint32_t opened[COUNTER_OPEN_SLOTS];
     uint32_t i;
-    want("entries", counter_entries(image, len, words, COUNTER_MOST_WORDS, list, sizeof list / sizeof list[0], opened, COUNTER_OPEN_SLOTS));
+    want("entries", counter_entries(image, len, words, COUNTER_MOST_WORDS, list, sizeof list / sizeof list[0], opened));
     printf("%u bytes, %u of them used, %u entries\n", (unsigned)opened[2], (unsigned)opened[4], (unsigned)opened[3]);
     for (i = 0; i < opened[3]; i++) {
         const uint32_t *entry = list + COUNTER_ENTRY_WORDS * i;
@@ -63,7 +63,7 @@ static void list_free(const uint8_t *image, size_t len)
     uint32_t count[1];
     uint32_t i;
     want("free regions",
-        counter_free_regions(image, len, words, COUNTER_MOST_WORDS, list, COUNTER_REGION_WORDS * COUNTER_MOST_REGIONS, count, 1));
+        counter_free_regions(image, len, words, COUNTER_MOST_WORDS, list, COUNTER_REGION_WORDS * COUNTER_MOST_REGIONS, count));
     for (i = 0; i < count[0]; i++)
         printf("free: %u bytes at %u\n", (unsigned)list[2 * i + 1], (unsigned)list[2 * i]);
 }
@@ -72,12 +72,12 @@ static void move_away(uint8_t *image, size_t len, const char *path)
 {
     uint32_t entry[COUNTER_ENTRY_SLOTS];
     uint32_t place[COUNTER_ALLOCATE_SLOTS];
-    want(path, counter_lookup(image, len, words, COUNTER_MOST_WORDS, 0, (const uint8_t *)path, strlen(path), entry, COUNTER_ENTRY_SLOTS));
+    want(path, counter_lookup(image, len, words, COUNTER_MOST_WORDS, 0, (const uint8_t *)path, strlen(path), entry));
     if (entry[1] != 0) {
         fprintf(stderr, "%s: a directory\n", path);
         exit(1);
     }
-    want("a place", counter_allocate(image, len, words, COUNTER_MOST_WORDS, entry[3], 4, place, COUNTER_ALLOCATE_SLOTS));
+    want("a place", counter_allocate(image, len, words, COUNTER_MOST_WORDS, entry[3], 4, place));
     want("move", counter_move_file(image, len, words, COUNTER_MOST_WORDS, bytes, COUNTER_MOST_TABLE, entry[0], place[0]));
     printf("moved %s from %u to %u\n", path, (unsigned)entry[2], (unsigned)place[0]);
 }
@@ -91,10 +91,10 @@ static void sum_up(const uint8_t *image, size_t len, const char *path)
     uint8_t part[100];
     unsigned long sum = 0;
     uint64_t i;
-    want(path, counter_lookup(image, len, words, COUNTER_MOST_WORDS, 0, (const uint8_t *)path, strlen(path), entry, COUNTER_ENTRY_SLOTS));
-    want(path, counter_open_file(image, len, words, COUNTER_MOST_WORDS, entry[0], window, COUNTER_WINDOW_SLOTS));
+    want(path, counter_lookup(image, len, words, COUNTER_MOST_WORDS, 0, (const uint8_t *)path, strlen(path), entry));
+    want(path, counter_open_file(image, len, words, COUNTER_MOST_WORDS, entry[0], window));
     do {
-        want("read", counter_read(window, COUNTER_WINDOW_SLOTS, image, len, part, sizeof part, count, 1));
+        want("read", counter_read(window, image, len, part, sizeof part, count));
         for (i = 0; i < count[0]; i++)
             sum += part[i];
     } while (count[0] != 0);
