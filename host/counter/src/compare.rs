@@ -13,7 +13,7 @@ use crate::out::say;
 use crate::progress::Progress;
 use crate::save::{save, vacant};
 use crate::sha256::Sum;
-use crate::text::{counted, grouped};
+use crate::text::{counted, grouped, one_line};
 use std::collections::{HashMap, HashSet};
 use std::fmt::Write;
 use std::os::unix::fs::MetadataExt;
@@ -358,6 +358,7 @@ impl Pair {
         };
         let unknown = given.unknown(rows.iter().map(|row| row.path.as_str()));
         for path in &unknown {
+            let path = one_line(path);
             eprintln!("counter: the list has {path}, which neither image has (a folder ends in /)");
         }
         let reordered = reordered(&old, &new);

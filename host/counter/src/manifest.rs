@@ -36,6 +36,9 @@ pub struct Manifest {
     pub free: Vec<Part>,
 }
 
+/// No file system holds a longer file; sums of sizes stay below 2^64.
+const MOST_BYTES: u64 = 1 << 60;
+
 pub const PROGRAM: &str = "program";
 pub const TAIL: &str = "behind the disc end";
 const FREE: &str = "free";
@@ -274,7 +277,7 @@ impl Reader {
         match word(&mut rest)? {
             "image" => {
                 self.manifest.image = sum(&mut rest)?;
-                layout.bytes = number(&mut rest)?;
+                layout.bytes = number(&mut rest).filter(|bytes| *bytes <= MOST_BYTES)?;
                 layout.name = rest.to_string();
             }
             "game" => layout.game = rest.to_string(),
@@ -327,7 +330,8 @@ impl Reader {
         while records[*self.open.last()? as usize].path != above {
             self.open.pop();
         }
-        if name.is_empty() {
+        // As in an image that opens: paths go to terminals, too.
+        if name.is_empty() || !name.bytes().all(|b| (b' '..=b'~').contains(&b)) {
             return None;
         }
         let (number, parent) = (records.len() as u32, *self.open.last()?);

@@ -612,3 +612,86 @@ fn equal_names_have_each_their_sum() {
         assert_eq!(image.out, sums.out);
     }
 }
+
+/// SHA-256 by another program, where there is one.
+fn sha256(bytes: &[u8]) -> Option<String> {
+    use std::io::Write;
+    let piped = std::process::Stdio::piped;
+    let mut child =
+        std::process::Command::new("sha256sum").stdin(piped()).stdout(piped()).spawn().ok()?;
+    child.stdin.take().unwrap().write_all(bytes).unwrap();
+    let out = child.wait_with_output().unwrap().stdout;
+    Some(String::from_utf8_lossy(&out)[..64].to_string())
+}
+
+#[test]
+fn no_manifest_makes_the_program_fall_over() {
+    let pair = pair();
+    let text = done("hash", &pair.before, &[]);
+    let (lines, _) = text.trim_end().rsplit_once('\n').unwrap();
+    let mut state = 0x2545_F491u32;
+    let mut random = move |n: usize| {
+        state ^= state << 13;
+        state ^= state >> 17;
+        state ^= state << 5;
+        state as usize % n
+    };
+    let odd =
+        ["0", "0x0", "0xffffffff", "4294967295", "18446744073709551615", "-1", "/", "", " ", "#"];
+    let mut statuses = [0; 3];
+    for turn in 0..120 {
+        let mut lines: Vec<String> = lines.lines().map(String::from).collect();
+        for _ in 0..=random(3) {
+            let at = 1 + random(lines.len() - 1);
+            match random(6) {
+                0 => drop(lines.remove(at)),
+                1 => {
+                    let other = 1 + random(lines.len() - 1);
+                    lines.swap(at, other);
+                }
+                kind => {
+                    let mut words: Vec<&str> = lines[at].split(' ').collect();
+                    let is_number = |word: &str| word.starts_with(char::is_numeric);
+                    let numbers: Vec<usize> = (0..words.len())
+                        .filter(|&i| is_number(words[i]) && words[i].len() < 20)
+                        .collect();
+                    match (kind, numbers.is_empty()) {
+                        (2, _) | (_, true) => {
+                            let word = random(words.len());
+                            words[word] = odd[random(odd.len())];
+                        }
+                        _ => words[numbers[random(numbers.len())]] = odd[random(5)],
+                    }
+                    lines[at] = words.join(" ");
+                }
+            }
+        }
+        let spoiled = lines.join("\n") + "\n";
+        let Some(sum) = sha256(spoiled.as_bytes()) else {
+            println!("not tried: there is no sha256sum");
+            return;
+        };
+        let spoiled = format!("{spoiled}# sum of the lines above {sum}\n");
+        let manifest = pair.temp.write("spoiled.sums", spoiled.as_bytes());
+        let page = pair.temp.at(&format!("page{turn}.html"));
+        let svg = pair.temp.at(&format!("map{turn}.svg"));
+        let run = pair.against(&manifest, &["--map", svg.to_str().unwrap()]);
+        let again =
+            on("report", &manifest, &[pair.after.to_str().unwrap(), page.to_str().unwrap()]);
+        for run in [&run, &again] {
+            assert!([0, 1, 65].contains(&run.status), "turn {turn}: {} {}", run.status, run.err);
+            assert!(!run.err.contains("panicked"), "turn {turn}: {}", run.err);
+        }
+        assert_eq!(run.status, again.status);
+        statuses[[0, 1, 65].iter().position(|s| *s == run.status).unwrap()] += 1;
+    }
+    println!("passed {}, failed {}, no manifest {}", statuses[0], statuses[1], statuses[2]);
+    assert!(statuses[1] > 10 && statuses[2] > 10, "{statuses:?}");
+    // The picture of a manifest is that of its image.
+    let manifest = pair.manifest();
+    pair.edit(&["move", "audio/theme.adp", "0x190000"]);
+    let (one, other) = (pair.temp.at("one.svg"), pair.temp.at("other.svg"));
+    pair.compare(&["--map", one.to_str().unwrap()]);
+    pair.against(&manifest, &["--map", other.to_str().unwrap()]);
+    assert!(fs::read(one).unwrap() == fs::read(other).unwrap());
+}

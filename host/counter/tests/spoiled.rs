@@ -90,7 +90,9 @@ fn no_image_makes_the_program_fall_over() {
             &["hash"],
             &["place", "0x10", "4"],
         ];
-        for args in reading {
+        // The last three read what the others read, and take longer.
+        let count = if turn % 5 == 0 { reading.len() } else { 8 };
+        for args in &reading[..count] {
             let run = on(args[0], &image, &args[1..]);
             assert!(run.status <= 24 || run.status == 65, "turn {turn} {args:?}: {}", run.err);
             assert!(
