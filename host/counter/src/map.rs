@@ -162,12 +162,23 @@ impl Folders {
     }
 }
 
-/// The i-th of any number of colours: hues from green over blue to pink, each far from the last few,
-/// in five tones. Red and orange are left to the table and the program.
+/// The first folders' colours, each far from the others. Red and orange are left to the table and the
+/// program, grey to the system area.
+const COLOURS: [&str; 24] = [
+    "#1c7ed6", "#2f9e44", "#9c36b5", "#12b5cb", "#f06595", "#0b3d91", "#94d82d", "#5c3d99",
+    "#20c997", "#a3683c", "#74c0fc", "#1b5e20", "#e599f7", "#6b7a00", "#800060", "#ffd43b",
+    "#00695c", "#845ef7", "#b2f2bb", "#66320a", "#c08497", "#003f5c", "#99e9f2", "#d6336c",
+];
+
+/// The i-th of any number of colours. Behind the first ones hues from green over blue to pink, each far
+/// from the last few, in five tones.
 fn colour(i: usize) -> String {
     const GOLDEN: f64 = 0.618_033_988_749_895;
     const TONES: [(f64, f64); 5] =
         [(0.62, 0.40), (0.50, 0.66), (0.75, 0.24), (0.40, 0.54), (0.35, 0.33)];
+    if let Some(colour) = COLOURS.get(i) {
+        return colour.to_string();
+    }
     let hue = 85.0 + 245.0 * ((i as f64 * GOLDEN + 0.5) % 1.0);
     let (saturation, lightness) = TONES[i % TONES.len()];
     let reach = saturation * f64::min(lightness, 1.0 - lightness);

@@ -181,3 +181,47 @@ fn zsh_and_fish_read_their_completions() {
         }
     }
 }
+
+#[test]
+fn install_puts_everything_under_a_prefix() {
+    let host = Path::new(env!("CARGO_MANIFEST_DIR")).join("..");
+    if !host.join("target/release/counter").exists() {
+        println!("not tried: the program is not where host/build puts it");
+        return;
+    }
+    // The program is built already, so that cargo has nothing to do.
+    let temp = Temp::new();
+    let cargo = temp.write("cargo", b"#!/bin/sh\n");
+    fs::set_permissions(&cargo, std::os::unix::fs::PermissionsExt::from_mode(0o755)).unwrap();
+    let path = format!("{}:{}", temp.at("").display(), std::env::var("PATH").unwrap());
+    let install = |prefix: &str| -> Run {
+        Command::new(host.join("install"))
+            .arg(prefix)
+            .current_dir(temp.at(""))
+            .env("PATH", &path)
+            .env("COUNTER_LIB", temp.at(""))
+            .output()
+            .unwrap()
+            .into()
+    };
+    for _ in 0..2 {
+        let run = install("pre fix");
+        assert_eq!(run.status, 0, "{}", run.err);
+        assert!(run.out.contains("/pre fix/bin is not on the PATH"), "{}", run.out);
+    }
+    let prefix = temp.at("pre fix");
+    let version = Command::new(prefix.join("bin/counter")).arg("--version").output().unwrap();
+    assert!(version.status.success());
+    for (page, place) in [
+        ("man", "share/man/man1/counter.1"),
+        ("bash", "share/bash-completion/completions/counter"),
+        ("zsh", "share/zsh/site-functions/_counter"),
+        ("fish", "share/fish/vendor_completions.d/counter.fish"),
+    ] {
+        let wanted =
+            Command::new(prefix.join("bin/counter")).args(["help", page]).output().unwrap();
+        assert!(fs::read(prefix.join(place)).unwrap() == wanted.stdout, "{page}");
+    }
+    assert_eq!(install("").status, 64);
+    assert_eq!(install("--prefix=/usr").status, 64);
+}
