@@ -224,8 +224,9 @@ fn statuses() -> String {
     }
     out.push_str(
         "  64  wrong usage\n\
-         \x20 65  compare: an image too short for a header; an edit: a program would be written over;\n\
-         \x20     tree, extract, map, compare, list --json: paths of more than 64 MiB in all\n\
+         \x20 65  compare, report: an image too short for a header, a LIST or a manifest that is wrong;\n\
+         \x20     an edit: a program would be written over; a command that shows every path: more than\n\
+         \x20     64 MiB of them\n\
          \x20 66  no such image, or a folder or special file in its place\n\
          \x20 70  the library answered what it never should\n\
          \x20 73  an output cannot be created, or is there already\n\
