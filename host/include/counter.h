@@ -1,36 +1,37 @@
 /* Counter: GameCube disc images, read and edited.
  *
- * The functions of libcounter.a (`rt staticlib counter`). Each is proved to do what its comment says, on every image, every number and
- * every amount of lent memory. "01" is the scope paper.
+ * The functions of libcounter.a. Each is proved to do what its comment says, on every image, every number and every amount of lent memory.
+ * example.c beside this file is a whole program that lists an image and moves a file; link it with -lcounter.
  *
  * A slice is a pointer and a length, counted in elements. What a caller owes is valid memory: each pointer points to that many elements of
  * its type, properly aligned (with length 0 it is not used); a slice that is not const overlaps no other slice of the same call; nobody
  * else reads or writes them meanwhile. No function keeps a pointer, allocates, prints or stops the program.
  *
- * Every function returns 0 where it is accepted, and else the number of the first test that failed:
- *
- *      1  header field past the image              13  unsafe or empty name
- *      2  Wii magic                                14  used regions overlap or pass the disc end
- *      3  not GameCube magic                       15  no such entry
- *      4  FST offset below 0x440, disc end above   16  file wanted
- *         2^32 - 1, table end past the disc end,   17  directory wanted
- *         or image shorter than the disc end       18  not found
- *      5  entry past the table                     19  name exists
- *      6  kind above 1                             20  move overlaps itself
- *      7  root a file                              21  no space
- *      8  last text unended                        22  alignment no power of two
- *      9  limit or memory                          23  seek
- *     10  next out of order                        24  DOL header past the image, or a
- *     11  name offset past the texts                   sum above 2^32 - 1
- *     12  name byte
+ * Every function returns 0 where it is accepted, and else the number of the first test that failed; counter_cause tells it in words.
  *
  * An answer goes into slots that the caller lends, as many as the prototype says, in the order given below; with a number other than 0 they
  * stay as they were. Slots have no length: `uint32_t answer[4]` is a pointer to four words.
  *
- * words (and bytes, for edits) are working memory. Whatever they held, they are zero afterwards, on refusals too. An image with n entries
- * wants 4 * (n + 2) words; an edit that writes a table wants as many bytes as the new table has. With less the call returns 9.
+ * An answer goes into slots that the caller lends, as many as the prototype says, in the order given below; with a number other than 0 they
+ * stay as they were. Slots have no length: `uint32_t answer[4]` is a pointer to four words.
+ * An entry is a file or a directory, with its number in the table; the root is entry 0. FST is the file table, DOL the program.
  *
- * Every call that takes words opens the image first, with the tests 1 to 14 in 01's order, and refuses what they refuse.
+ * words, and for edits bytes, are working memory. Whatever they held, they are zero afterwards, on refusals too. With too little the call
+ * returns 9:
+ *
+ *     words   4 * (n + 2) for an image with n entries (of the new table, if that has more). COUNTER_MOST_WORDS are enough for every image.
+ *     bytes   as many as the new table has. No name is shared in it, so it may be larger than the table that is there: 12 for each entry,
+ *             and for each but the root its name's length and 1. COUNTER_MOST_TABLE are enough for every edit that is not refused.
+ *
+ * Lists are sized by the number of entries n, which counter_open tells:
+ *
+ *     counter_entries        COUNTER_ENTRY_WORDS * n words
+ *     counter_free_regions   COUNTER_REGION_WORDS * n words: there is at most one free region behind the table and one behind each file
+ *
+ * Every call that takes words opens the image first, and refuses what opening refuses. Its tests, in this order: the header's fields (1),
+ * Wii magic (2), GameCube magic (3); 4; the root (5, 6, 7); more entries than COUNTER_MOST_ENTRIES (9); each further entry in turn (5, 6);
+ * 8; more bytes of names than COUNTER_MOST_TEXT (9); too few words (9); then each entry: 11, 12, 13 (not the root's), 10, a directory
+ * deeper than COUNTER_MOST_LEVELS (9); then 14. The calls' own tests follow, in the order in which their comments give them.
  */
 #ifndef COUNTER_H
 #define COUNTER_H
@@ -42,6 +43,8 @@
 extern "C" {
 #endif
 
+/* ---- sizes of answers */
+
 #define COUNTER_HEADER_BYTES 0x440
 #define COUNTER_OPEN_SLOTS 5
 #define COUNTER_TOTALS_SLOTS 2
@@ -51,6 +54,51 @@ extern "C" {
 #define COUNTER_ALLOCATE_SLOTS 2
 #define COUNTER_DOL_SLOTS 57
 #define COUNTER_WINDOW_SLOTS 3
+
+/* ---- limits: an image with more does not open, and no edit makes one */
+
+#define COUNTER_MOST_ENTRIES 16384 /* with the root */
+#define COUNTER_MOST_TEXT 1048576  /* bytes of names, each with a zero byte behind it */
+#define COUNTER_MOST_LEVELS 64     /* directories below the root, one in another */
+#define COUNTER_MOST_PATH 1024     /* bytes of a path that is passed in */
+#define COUNTER_MOST_REGIONS COUNTER_MOST_ENTRIES
+#define COUNTER_MOST_WORDS (4 * (COUNTER_MOST_ENTRIES + 2))
+#define COUNTER_MOST_TABLE (12 * COUNTER_MOST_ENTRIES + COUNTER_MOST_TEXT)
+
+/* ---- numbers */
+
+/* What a number means; NULL if no call returns it. */
+static inline const char *counter_cause(uint32_t number)
+{
+    static const char *const causes[] = {
+        "accepted",
+        "header field past the image",
+        "Wii magic",
+        "not GameCube magic",
+        "FST offset below 0x440, disc end above 2^32 - 1, table end past it, or image shorter than it",
+        "entry past the table",
+        "kind above 1",
+        "root a file",
+        "last text unended",
+        "limit or memory",
+        "next at or before its entry, past the count or past its parent's next",
+        "name offset at or past the texts' end",
+        "name byte",
+        "unsafe or empty name",
+        "used regions overlap or pass the disc end",
+        "no such entry",
+        "file wanted",
+        "directory wanted",
+        "not found",
+        "name exists",
+        "move overlaps itself",
+        "no space",
+        "alignment no power of two",
+        "seek",
+        "DOL header past the image, or a sum above 2^32 - 1",
+    };
+    return number < sizeof causes / sizeof causes[0] ? causes[number] : NULL;
+}
 
 /* ---- the header, the image, its entries */
 
@@ -97,7 +145,9 @@ uint32_t counter_report(const uint8_t *image, size_t image_len, uint32_t *words,
 uint32_t counter_free_regions(const uint8_t *image, size_t image_len, uint32_t *words, size_t words_len, uint32_t *list, size_t list_len,
     uint32_t answer[1]);
 
-/* answer[1]: the size that a region at `offset` with `size` bytes can have, as the Rust's max_region_size with sums that never wrap. */
+/* answer[1]: the size that a region at `offset` with `size` bytes can have. If a free region starts at offset, that region's size; else, if
+ * it ends before the end of a free region that starts before it, the bytes from offset to that end; else, if a free region starts at its
+ * end, both sizes together; else `size`. */
 uint32_t counter_max_region_size(const uint8_t *image, size_t image_len, uint32_t *words, size_t words_len, uint32_t offset, uint32_t size,
     uint32_t answer[1]);
 

@@ -1,71 +1,369 @@
-//! The command line.
+//! The command line: one table of commands, from which arguments are read and `help`, the man page
+//! and the completions are made.
 
 use crate::failure::{Failure, Outcome};
-use std::ffi::OsString;
+use std::ffi::{OsStr, OsString};
 use std::os::unix::ffi::OsStringExt;
 use std::path::PathBuf;
 
-/// What a command takes: its name, whether it edits, its operands after IMAGE, and its options.
+// The table -------------------------------------------------------------------------------
+
+/// What an operand or an option's value is.
+#[derive(Clone, Copy, PartialEq, Eq, Debug)]
+pub enum Value {
+    /// A file that is there.
+    File,
+    /// A file or folder that is made.
+    New,
+    /// A path in the image.
+    Entry,
+    Number,
+}
+
+pub struct Operand {
+    pub name: &'static str,
+    pub value: Value,
+    pub needed: bool,
+    pub words: &'static str,
+}
+
+pub struct Flag {
+    pub name: &'static str,
+    pub value: Option<(&'static str, Value)>,
+    pub words: &'static str,
+}
+
+#[derive(Clone, Copy, PartialEq, Eq)]
+pub enum Group {
+    Look,
+    Check,
+    Edit,
+}
+
+pub const GROUPS: [(Group, &str); 3] =
+    [(Group::Look, "Look"), (Group::Check, "Check"), (Group::Edit, "Edit")];
+
+/// A command: its operands, the image first, its options, and what is said about it.
 pub struct Form {
     pub name: &'static str,
-    pub edits: bool,
-    pub operands: &'static [&'static str],
-    pub options: &'static [&'static str],
+    pub group: Group,
+    pub operands: &'static [&'static Operand],
+    pub flags: &'static [&'static Flag],
+    pub words: &'static str,
+    pub more: &'static str,
+    /// Each is tried by the tests.
+    pub examples: &'static [&'static str],
 }
 
-const fn look(name: &'static str, operands: &'static [&'static str]) -> Form {
-    Form { name, edits: false, operands, options: &["--json"] }
+const fn needed(name: &'static str, value: Value, words: &'static str) -> Operand {
+    Operand { name, value, needed: true, words }
 }
 
-const fn edit(name: &'static str, operands: &'static [&'static str]) -> Form {
-    Form { name, edits: true, operands, options: &["--dry-run", "--over-program"] }
+const IMAGE: Operand = needed("IMAGE", Value::File, "the disc image, a file of the system");
+const BARE: Operand = Operand {
+    name: "IMAGE",
+    value: Value::File,
+    needed: false,
+    words: "the disc image; the bare command shows a built-in small master",
+};
+const BEFORE: Operand =
+    needed("BEFORE", Value::File, "the image as it was, or a manifest of it (`counter hash`)");
+const AFTER: Operand = needed("AFTER", Value::File, "the image as it is");
+const PATH: Operand = needed(
+    "PATH",
+    Value::Entry,
+    "a path in the image, from the root on; cut at / and \\; `.` stays, `..` goes back; at most 1,024 bytes",
+);
+const DEST: Operand = needed("DEST", Value::New, "a new file or folder, or an empty folder");
+const SVG: Operand = needed("OUT.svg", Value::New, "the picture, a new file");
+const HTML: Operand = needed("OUT.html", Value::New, "the page, a new file");
+const PLACE: Operand = needed(
+    "OFFSET|auto",
+    Value::Number,
+    "a number as SIZE is written, or `auto`: the largest free place on a multiple of 0x8000",
+);
+const SIZE: Operand = needed(
+    "SIZE",
+    Value::Number,
+    "base ten or with 0x, with K, M or G for 2^10, 2^20, 2^30; below 2^32",
+);
+const ALIGN: Operand = Operand {
+    name: "ALIGN",
+    value: Value::Number,
+    needed: false,
+    words: "a power of two; without it 0x8000",
+};
+
+const JSON: Flag =
+    Flag { name: "--json", value: None, words: "the answer as JSON, a refusal or an error too" };
+const WAIT: Flag = Flag {
+    name: "--wait",
+    value: None,
+    words: "waits while another program uses the image, instead of ending with 75",
+};
+const DRY: Flag = Flag {
+    name: "--dry-run",
+    value: None,
+    words: "works on a private copy in memory, tells what would happen, touches nothing",
+};
+const OVER: Flag = Flag {
+    name: "--over-program",
+    value: None,
+    words: "lets an edit write where a program lies behind the table",
+};
+const ALL: Flag = Flag { name: "--all", value: None, words: "everything, in the place of PATH" };
+const DEMO: Flag =
+    Flag { name: "--demo", value: None, words: "the built-in small master, in the place of IMAGE" };
+const OUT: Flag = Flag {
+    name: "--out",
+    value: Some(("FILE", Value::New)),
+    words: "writes the program to a new file",
+};
+const GIVEN: Flag = Flag {
+    name: "--given",
+    value: Some(("LIST", Value::File)),
+    words: "what may differ, one path a line; a second --given adds to the first",
+};
+const ONLY: Flag = Flag {
+    name: "--only-differences",
+    value: None,
+    words: "leaves out the lines of what is unchanged",
+};
+const MAP: Flag = Flag {
+    name: "--map",
+    value: Some(("OUT.svg", Value::New)),
+    words: "draws both discs side by side, into a new file",
+};
+
+const LOOK: &[&Flag] = &[&JSON, &WAIT];
+const EDIT: &[&Flag] = &[&DRY, &OVER, &JSON, &WAIT];
+
+const fn look(
+    name: &'static str,
+    operands: &'static [&'static Operand],
+    words: &'static str,
+    examples: &'static [&'static str],
+) -> Form {
+    Form { name, group: Group::Look, operands, flags: LOOK, words, more: "", examples }
 }
 
-pub const FORMS: [Form; 16] = [
-    look("info", &[]),
-    look("list", &[]),
-    look("tree", &[]),
-    look("free", &[]),
-    look("find", &["PATH"]),
-    look("check", &[]),
+const fn edit(
+    name: &'static str,
+    operands: &'static [&'static Operand],
+    words: &'static str,
+    examples: &'static [&'static str],
+) -> Form {
+    Form { name, group: Group::Edit, operands, flags: EDIT, words, more: "", examples }
+}
+
+pub const FORMS: &[Form] = &[
+    look(
+        "info",
+        &[&BARE],
+        "the header's fields and the totals",
+        &["counter info disc.iso", "counter info"],
+    ),
+    look(
+        "list",
+        &[&BARE],
+        "totals, entries and free regions, one line each, for programs",
+        &["counter list disc.iso", "counter list disc.iso --json"],
+    ),
+    look(
+        "tree",
+        &[&BARE],
+        "folders and files as a tree, with offsets and sizes",
+        &["counter tree disc.iso"],
+    ),
+    look("free", &[&IMAGE], "the free regions", &["counter free disc.iso"]),
+    look(
+        "find",
+        &[&IMAGE, &PATH],
+        "the entry at PATH: place, size, and how far it can grow where it lies",
+        &["counter find disc.iso /audio/theme.adp"],
+    ),
+    look(
+        "place",
+        &[&IMAGE, &SIZE, &ALIGN],
+        "the largest free place for SIZE bytes on a multiple of ALIGN",
+        &["counter place disc.iso 64K", "counter place disc.iso 0x1000 4"],
+    ),
+    look(
+        "cat",
+        &[&IMAGE, &PATH],
+        "writes the file's bytes to standard output",
+        &["counter cat disc.iso /opening.bnr > opening.bnr"],
+    ),
     Form {
-        name: "extract",
-        edits: false,
-        operands: &["PATH", "DEST"],
-        options: &["--json", "--all"],
+        flags: &[&ALL, &JSON, &WAIT],
+        more: "Nothing that is there is overwritten. The second of two equal names gets its entry's number \
+               behind it.",
+        ..look(
+            "extract",
+            &[&IMAGE, &PATH, &DEST],
+            "writes the file or folder at PATH, or everything, to DEST",
+            &["counter extract disc.iso /audio audio", "counter extract disc.iso --all files"],
+        )
     },
-    look("cat", &["PATH"]),
-    Form { name: "dol", edits: false, operands: &[], options: &["--json", "--out"] },
-    look("map", &["OUT.svg"]),
-    Form { name: "compare", edits: false, operands: &["AFTER"], options: &["--json", "--given"] },
-    edit("mkdir", &["PATH"]),
-    edit("add", &["PATH"]),
-    edit("move", &["PATH", "OFFSET"]),
-    edit("resize", &["PATH", "SIZE"]),
-    edit("rewrite", &[]),
+    Form {
+        flags: &[&OUT, &JSON, &WAIT],
+        ..look(
+            "dol",
+            &[&IMAGE],
+            "the program's header; with --out the program itself",
+            &["counter dol disc.iso", "counter dol disc.iso --out main.dol"],
+        )
+    },
+    Form {
+        flags: &[&DEMO, &JSON, &WAIT],
+        ..look(
+            "map",
+            &[&IMAGE, &SVG],
+            "draws table, program, files and free space as an SVG picture",
+            &["counter map disc.iso disc.svg", "counter map --demo demo.svg"],
+        )
+    },
+    Form {
+        group: Group::Check,
+        ..look(
+            "check",
+            &[&IMAGE],
+            "opens the image, or says which refusal it meets and why",
+            &["counter check disc.iso"],
+        )
+    },
+    Form {
+        group: Group::Check,
+        flags: &[&GIVEN, &ONLY, &MAP, &JSON, &WAIT],
+        more: COMPARE,
+        ..look(
+            "compare",
+            &[&BEFORE, &AFTER],
+            "each file: unchanged, moved, resized, changed, new or gone; with --given the licence check",
+            &[
+                "counter compare before.iso disc.iso --given given.txt",
+                "counter compare before.sums disc.iso --given given.txt --only-differences",
+                "counter compare before.iso disc.iso --given given.txt --map both.svg",
+            ],
+        )
+    },
+    Form {
+        group: Group::Check,
+        flags: &[&WAIT],
+        more: MANIFEST,
+        ..look(
+            "hash",
+            &[&IMAGE],
+            "a manifest: the SHA-256 of the header's parts, the program and each file",
+            &["counter hash disc.iso > disc.sums", "counter compare disc.sums disc.iso"],
+        )
+    },
+    Form {
+        group: Group::Check,
+        flags: &[&GIVEN, &JSON, &WAIT],
+        more: REPORT,
+        ..look(
+            "report",
+            &[&BEFORE, &AFTER, &HTML],
+            "what compare finds, as one page for the publisher, to be read and printed",
+            &["counter report before.iso disc.iso --given given.txt report.html"],
+        )
+    },
+    edit(
+        "mkdir",
+        &[&IMAGE, &PATH],
+        "makes the folder PATH, and the folders on the way to it",
+        &["counter mkdir disc.iso /text/de"],
+    ),
+    edit(
+        "add",
+        &[&IMAGE, &PATH],
+        "adds an empty file as the last one of its folder",
+        &["counter add disc.iso /text/fr/new.bin"],
+    ),
+    edit(
+        "move",
+        &[&IMAGE, &PATH, &PLACE],
+        "moves the file at PATH to OFFSET, which must be free, or to a place that is found",
+        &[
+            "counter move disc.iso /opening.bnr 0x1a0000 --dry-run",
+            "counter move disc.iso /opening.bnr auto",
+        ],
+    ),
+    edit(
+        "resize",
+        &[&IMAGE, &PATH, &SIZE],
+        "gives the file at PATH the size SIZE; what cannot grow where it lies goes to the largest free \
+         place on a multiple of 0x8000; new bytes are what the free space held",
+        &["counter resize disc.iso /text/en/msg.bin 8K"],
+    ),
+    edit(
+        "rewrite",
+        &[&IMAGE],
+        "writes the table anew, each name by itself",
+        &["counter rewrite disc.iso --dry-run", "counter rewrite disc.iso --json"],
+    ),
 ];
+
+const COMPARE: &str = "\
+LIST is a text file, one path a line; a line that ends in / stands for that folder and all in it. / \
+alone stands for everything, and that is said aloud. A line that leads to the root in another way, or \
+above it, is an error (65).
+Exit status 1 if a file or folder that is not on LIST differs in place, size or bytes, is gone, or is \
+hidden by another entry of its name that stands before it now; also if the bytes before the table (but for the table's size), the program, the disc end or what lies \
+behind it differ. New files and folders, another order of the entries and other bytes in the free \
+space are told and do not fail the check.
+Files are matched by path, equal names in one folder by their order; a path on LIST means the first.
+With a manifest in the place of BEFORE the sums are compared. A file that became shorter has no sum to \
+be held against; its bytes are then not compared, which is told.
+An image too short for a header ends compare with 65, since 1 says that something differs; every other \
+refusal ends it with its own number.";
+
+const MANIFEST: &str = "\
+A line for each file, as sha256sum writes it: the sum, two spaces, the path. Everything else is on \
+lines that begin with #: before each file its place and size, the folders, the header's parts, the \
+program, the table, the free regions and what lies behind the disc end. After `counter extract IMAGE \
+--all DIR`, `sha256sum -c` holds the files in DIR to the manifest. The last line is the sum of all \
+lines above it, so that a manifest that was cut is recognised.";
+
+const REPORT: &str = "\
+The page holds all it shows: verdict, LIST, each file that differs with place, size and SHA-256 before \
+and after, both maps, the sums of both images, this program's version and its library's sum. The exit \
+status is that of compare; the page is written in either case.";
+
+// The arguments ---------------------------------------------------------------------------
 
 pub struct Args {
     pub form: &'static Form,
     /// None: the built-in small master.
     pub image: Option<PathBuf>,
+    /// Those after the image.
     operands: Vec<OsString>,
     pub json: bool,
+    pub wait: bool,
     pub dry: bool,
     pub over_program: bool,
+    pub only_differences: bool,
     pub all: bool,
-    pub given: Option<PathBuf>,
+    demo: bool,
+    pub given: Vec<PathBuf>,
     pub out: Option<PathBuf>,
+    pub map: Option<PathBuf>,
 }
 
 impl Args {
-    /// The operand after IMAGE with this number, as bytes.
+    /// The operand after the image with this number, as bytes.
     pub fn bytes(&self, n: usize) -> Vec<u8> {
         self.operands[n].clone().into_vec()
     }
 
     pub fn path(&self, n: usize) -> PathBuf {
         PathBuf::from(&self.operands[n])
+    }
+
+    /// One that may be left out.
+    pub fn optional(&self, n: usize) -> Option<Vec<u8>> {
+        self.operands.get(n).map(|operand| operand.clone().into_vec())
     }
 
     /// Reads what follows the command's name.
@@ -75,12 +373,17 @@ impl Args {
             image: None,
             operands: Vec::new(),
             json: false,
+            wait: false,
             dry: false,
             over_program: false,
+            only_differences: false,
             all: false,
-            given: None,
+            demo: false,
+            given: Vec::new(),
             out: None,
+            map: None,
         };
+        let bare = rest.is_empty();
         let mut rest = rest.into_iter();
         let mut options = true;
         while let Some(arg) = rest.next() {
@@ -92,7 +395,7 @@ impl Args {
                 _ => args.operands.push(arg),
             }
         }
-        args.place_image()?;
+        args.place_operands(bare)?;
         Ok(args)
     }
 
@@ -101,37 +404,44 @@ impl Args {
             Some((name, value)) => (name, Some(OsString::from(value))),
             None => (text, None),
         };
-        if !self.form.options.contains(&name) {
+        let Some(flag) = self.form.flags.iter().find(|flag| flag.name == name) else {
             return Err(Failure::usage(format!("{} has no option {name}", self.form.name)));
-        }
-        let valued = matches!(name, "--given" | "--out");
-        if !valued && value.is_some() {
+        };
+        if flag.value.is_none() && value.is_some() {
             return Err(Failure::usage(format!("{name} takes no value")));
         }
         let mut file = || match value.clone().or_else(|| rest.next()) {
-            Some(file) => Ok(Some(PathBuf::from(file))),
+            Some(file) => Ok(PathBuf::from(file)),
             None => Err(Failure::usage(format!("{name} wants the name of a file"))),
         };
         match name {
             "--json" => self.json = true,
+            "--wait" => self.wait = true,
             "--dry-run" => self.dry = true,
             "--over-program" => self.over_program = true,
+            "--only-differences" => self.only_differences = true,
             "--all" => self.all = true,
-            "--given" => self.given = file()?,
-            _ => self.out = file()?,
+            "--demo" => self.demo = true,
+            "--given" => self.given.push(file()?),
+            "--map" => self.map = Some(file()?),
+            _ => self.out = Some(file()?),
         }
         Ok(())
     }
 
-    /// Takes IMAGE from the operands. A command that only reads may go without it.
-    fn place_image(&mut self) -> Outcome<()> {
-        let wanted = self.form.operands.len() - usize::from(self.all);
+    /// Takes the image from the operands, and holds their number to the command's.
+    fn place_operands(&mut self, bare: bool) -> Outcome<()> {
+        let left_out = usize::from(self.all) + usize::from(self.demo);
+        let most = self.form.operands.len() - left_out;
+        let least = self.form.operands.iter().filter(|operand| operand.needed).count() - left_out;
         let got = self.operands.len();
-        let needed = self.form.edits || self.form.name == "compare";
-        if got == wanted + 1 {
-            self.image = Some(PathBuf::from(self.operands.remove(0)));
-        } else if got != wanted || needed {
+        // Without an image only the bare command shows the small master: elsewhere it is likely that
+        // a name is missing.
+        if got < least || got > most || (got == 0 && !bare) {
             return Err(Failure::usage(format!("usage: {}", self.form.usage())));
+        }
+        if !self.demo && got > 0 {
+            self.image = Some(PathBuf::from(self.operands.remove(0)));
         }
         if self.all {
             self.operands.insert(0, OsString::from("/"));
@@ -145,28 +455,34 @@ impl Form {
         FORMS.iter().find(|form| form.name == name)
     }
 
+    pub fn has(&self, flag: &str) -> bool {
+        self.flags.iter().any(|known| known.name == flag)
+    }
+
+    /// Help is wanted, and nothing else.
+    pub fn asks_help(rest: &[OsString]) -> bool {
+        let options = rest.iter().take_while(|arg| *arg != OsStr::new("--"));
+        options.into_iter().any(|arg| arg == "--help" || arg == "-h")
+    }
+
     /// The command with its operands and options, on one line.
     pub fn usage(&self) -> String {
-        let image = match (self.name, self.edits) {
-            ("compare", _) => "BEFORE",
-            (_, true) => "IMAGE",
-            (_, false) => "[IMAGE]",
-        };
-        let mut out = format!("counter {} {image}", self.name);
+        let mut out = format!("counter {}", self.name);
         for operand in self.operands {
-            out.push(' ');
-            out.push_str(match (self.name, *operand) {
+            let instead = match (self.name, operand.name) {
                 ("extract", "PATH") => "PATH|--all",
-                (_, operand) => operand,
+                ("map", "IMAGE") => "IMAGE|--demo",
+                (_, name) => name,
+            };
+            out.push_str(&match operand.needed {
+                true => format!(" {instead}"),
+                false => format!(" [{instead}]"),
             });
         }
-        for option in self.options {
-            out.push_str(match *option {
-                "--all" | "--over-program" => "",
-                "--given" => " [--given LIST]",
-                "--out" => " [--out FILE]",
-                "--json" => " [--json]",
-                _ => " [--dry-run]",
+        for flag in self.flags.iter().filter(|flag| !["--all", "--demo"].contains(&flag.name)) {
+            out.push_str(&match flag.value {
+                Some((value, _)) => format!(" [{} {value}]", flag.name),
+                None => format!(" [{}]", flag.name),
             });
         }
         out

@@ -1,9 +1,11 @@
 //! What the library tells of an image, with names and paths: the ground of every command.
 
 use crate::failure::{DATA, Failure, INTERNAL, Outcome};
-use crate::image::{Desk, Image, shown};
+use crate::image::{Desk, Image};
+use crate::text::shown;
 use crate::trouble;
-use counter_sys::{self as counter, ENTRY_WORDS, HEADER_SIZE, Opened, Region};
+use counter_sys::{self as counter, ENTRY_WORDS, Opened, Region};
+use std::path::Path;
 
 /// Most entries of a table that opens.
 const MOST_ENTRIES: usize = 16_384;
@@ -34,6 +36,22 @@ impl Node {
     pub fn is_directory(&self) -> bool {
         matches!(self.kind, Kind::Directory { .. })
     }
+}
+
+/// Opens the image at `path`, or without one the built-in small master, and reads it.
+pub fn opened(path: Option<&Path>) -> Outcome<(Image, Desk, Disc)> {
+    let image = Image::read(path)?;
+    let mut desk = Desk::new();
+    let disc = Disc::read(&image, &mut desk)?;
+    Ok((image, desk, disc))
+}
+
+/// The same without names.
+pub fn space(path: Option<&Path>) -> Outcome<(Image, Desk, Space)> {
+    let image = Image::read(path)?;
+    let mut desk = Desk::new();
+    let space = Space::read(&image, &mut desk)?;
+    Ok((image, desk, space))
 }
 
 /// What opening tells, and the free regions: no name is looked at.
@@ -151,17 +169,6 @@ impl Disc {
         format!("/{}{end}", shown(&parts.join(&b'/')))
     }
 
-    pub fn files(&self) -> impl Iterator<Item = (&Node, u32, u32)> {
-        self.nodes.iter().filter_map(|node| match node.kind {
-            Kind::File { offset, size } => Some((node, offset, size)),
-            Kind::Directory { .. } => None,
-        })
-    }
-
-    pub fn free_bytes(&self) -> u64 {
-        self.free.iter().map(|region| u64::from(region.size)).sum()
-    }
-
     /// The table's size as an edit writes it: each name by itself.
     pub fn written_size(&self) -> u64 {
         self.nodes.iter().skip(1).map(|node| 13 + u64::from(node.place.1)).sum::<u64>() + 12
@@ -213,33 +220,5 @@ pub fn not_opened(image: &Image, number: u32) -> Failure {
     match trouble::words(image.bytes(), number) {
         Some(more) => failure.because(more),
         None => failure,
-    }
-}
-
-/// The disc header's 0x440 bytes.
-pub struct Header([u8; HEADER_SIZE]);
-
-impl Header {
-    pub fn read(bytes: &[u8]) -> Result<Header, u32> {
-        counter::header(bytes).map(Header)
-    }
-
-    pub fn bytes(&self, at: usize, len: usize) -> &[u8] {
-        &self.0[at..at + len]
-    }
-
-    pub fn word(&self, at: usize) -> u32 {
-        u32::from_be_bytes(self.0[at..at + 4].try_into().expect("four bytes"))
-    }
-
-    pub fn disc_end(&self) -> u64 {
-        u64::from(self.word(0x434)) + u64::from(self.word(0x438))
-    }
-
-    /// The game name up to its first zero byte.
-    pub fn game_name(&self) -> &[u8] {
-        let field = self.bytes(0x20, 0x3E0);
-        let end = field.iter().position(|&b| b == 0).unwrap_or(field.len());
-        &field[..end]
     }
 }

@@ -5,8 +5,9 @@ use crate::disc::{not_opened, table_end};
 use crate::failure::{Failure, Outcome};
 use crate::image::{Desk, Image};
 use crate::json::Json;
-use crate::say;
-use crate::take;
+use crate::out::say;
+use crate::progress::Progress;
+use crate::save::save_window;
 use crate::text::{both, hex, human, line, size};
 use counter_sys::{self as counter, DOL_WORDS, Opened};
 use std::fmt::Write;
@@ -58,7 +59,8 @@ pub fn dol(args: &Args) -> Outcome<()> {
         _ => not_opened(&image, number),
     })?;
     if let Some(out) = &args.out {
-        take::write_new(&image, dol.window, out)?;
+        let progress = Progress::start("dol", dol.window.length);
+        save_window(&image, dol.window, out, &progress)?;
     }
     match args.json {
         true => say(dol_json(&dol).document().as_bytes()),

@@ -3,11 +3,13 @@
 use crate::args::Args;
 use crate::disc::{Disc, Kind, Node, no_path};
 use crate::dol::program_behind;
+use crate::edited;
 use crate::failure::{DATA, Failure, INPUT_OUTPUT, Outcome};
 use crate::image::{Desk, Image, shown};
+use crate::os;
+use crate::out::say;
 use crate::progress::Progress;
 use crate::text::{grouped, human, number};
-use crate::{os, say};
 use counter_sys::{self as counter, Memory};
 use std::collections::HashSet;
 use std::fmt::Write;
@@ -20,6 +22,8 @@ enum Wish {
     MakeFolders(Vec<u8>),
     Add(Vec<u8>),
     Move(Vec<u8>, u32),
+    /// To a place that is found.
+    MoveAway(Vec<u8>),
     Resize(Vec<u8>, u32),
     Rewrite,
 }
@@ -30,6 +34,7 @@ impl Wish {
         Ok(match args.form.name {
             "mkdir" => Wish::MakeFolders(args.bytes(0)),
             "add" => Wish::Add(args.bytes(0)),
+            "move" if args.bytes(1) == b"auto" => Wish::MoveAway(args.bytes(0)),
             "move" => Wish::Move(args.bytes(0), wanted()?),
             "resize" => Wish::Resize(args.bytes(0), wanted()?),
             _ => Wish::Rewrite,
@@ -42,6 +47,7 @@ impl Wish {
             Wish::MakeFolders(path) => format!("mkdir {}", shown(path)),
             Wish::Add(path) => format!("add {}", shown(path)),
             Wish::Move(path, to) => format!("move {} to {to:#x}", shown(path)),
+            Wish::MoveAway(path) => format!("move {} to a place of its size", shown(path)),
             Wish::Resize(path, to) => {
                 format!("resize {} to {} bytes", shown(path), grouped((*to).into()))
             }
@@ -74,6 +80,12 @@ impl<'a> Call<'a> {
                 Call::Insert(find(folder)?, &path[cut.map_or(0, |at| at + 1)..])
             }
             Wish::Move(path, to) => Call::Move(find(path)?, *to),
+            Wish::MoveAway(path) => {
+                let at = find(path)?;
+                let place =
+                    place_for(at, image, desk).map_err(|refused| self::refused(wish, refused))?;
+                Call::Move(at, place)
+            }
             Wish::Resize(path, to) => Call::Resize(find(path)?, *to),
             Wish::Rewrite => Call::Rewrite,
         })
@@ -95,6 +107,12 @@ impl<'a> Call<'a> {
     }
 }
 
+/// The largest free place for file `at`, as a file that has to move in order to grow finds it.
+fn place_for(at: u32, image: &Image, desk: &mut Desk) -> Result<u32, u32> {
+    let size = counter::open_file(image.bytes(), &mut desk.lend(), at)?.length as u32;
+    counter::allocate(image.bytes(), &mut desk.lend(), size, CLUSTER).map(|place| place.offset)
+}
+
 pub fn edit(args: &Args) -> Outcome<()> {
     let wish = Wish::read(args)?;
     let path = args.image.as_deref().expect("an edit has an image");
@@ -112,17 +130,28 @@ pub fn edit(args: &Args) -> Outcome<()> {
     let found = carry_out(&wish, &call, &mut image, &mut desk, args.dry)?;
     let after = Disc::read(&image, &mut desk)?;
     let text = report(&wish, &call, &before, &after, found);
+    let written = !args.dry && !nothing_to_write(&call, &before);
+    if args.json {
+        return finish(&edited::json(args, &before, &after, &text, written).document());
+    }
     if args.dry {
         let lines: String = text.lines().map(|line| format!("dry run: {line}\n")).collect();
         let last = "dry run: all this would be done; nothing was written\n";
         return say((lines + last).as_bytes());
     }
-    finish(&text)
+    let done = if written { "written and synced" } else { "there was nothing to write" };
+    finish(&format!("{text}done: {done}\n"))
 }
 
-/// Says that it is done; then a signal that came meanwhile has its turn.
+/// A file that has the size already is left alone, with the table.
+fn nothing_to_write(call: &Call, before: &Disc) -> bool {
+    let Call::Resize(at, to) = *call else { return false };
+    matches!(before.nodes[at as usize].kind, Kind::File { size, .. } if size == to)
+}
+
+/// Says what was done; then a signal that came meanwhile has its turn.
 fn finish(text: &str) -> Outcome<()> {
-    let said = say(format!("{text}done: written and synced\n").as_bytes());
+    let said = say(text.as_bytes());
     if said.is_err() {
         eprintln!("counter: the edit is done and synced");
     }
@@ -159,6 +188,10 @@ fn refused(wish: &Wish, number: u32) -> Failure {
         (20, Wish::Move(..)) => failure.because("the new place overlaps the old one"),
         (21, Wish::Move(..)) => failure
             .because("the new place is not free, or the table has no room; see `counter free`"),
+        (21, Wish::MoveAway(_)) => failure.because(
+            "no free place on a multiple of 0x8000 is that long, or the table has no room; see \
+             `counter free`",
+        ),
         (21, Wish::Resize(..)) => failure.because(
             "it cannot grow where it lies, and no free place on a multiple of 0x8000 is that long, \
              or the table has no room; see `counter free`",
@@ -330,7 +363,7 @@ fn placed(out: &mut String, wish: &Wish, before: &Node, after: &Node) {
     if let Wish::Resize(..) = wish {
         let (old, new) = (grouped(size.into()), grouped(now.into()));
         let _ = match size == now {
-            true => writeln!(out, "{path} has {new} bytes already; nothing is to be written"),
+            true => writeln!(out, "{path} has {new} bytes already"),
             false => writeln!(out, "resized {path}: {old} -> {new} bytes"),
         };
     }

@@ -1,100 +1,194 @@
-//! `counter help`.
+//! `counter help`, from the table of commands.
 
-use crate::args::FORMS;
+use crate::args::{FORMS, Form, GROUPS, Group};
 use crate::failure::CAUSES;
+use std::fmt::Write;
 
-/// What each command does, in the order of `FORMS`.
-const WORDS: [(&str, &str); 16] = [
-    ("info", "the header's fields and the totals"),
-    ("list", "totals, entries and free regions, one line each, for programs"),
-    ("tree", "folders and files as a tree, with offsets and sizes"),
-    ("free", "the free regions"),
-    ("find", "the entry at PATH: place, size, and how far it can grow where it lies"),
-    ("check", "opens the image, or says which refusal it meets and why"),
-    ("extract", "writes the file or folder at PATH, or everything, to DEST"),
-    ("cat", "writes the file's bytes to standard output"),
-    ("dol", "the program's header; with --out the program itself"),
-    ("map", "draws table, program, files and free space as an SVG picture"),
-    ("compare", "each file: unchanged, moved, resized, changed, new or gone"),
-    ("mkdir", "makes the folder PATH, and the folders on the way to it"),
-    ("add", "adds an empty file as the last one of its folder"),
-    ("move", "moves the file at PATH to OFFSET, which must be free"),
-    (
-        "resize",
-        "gives the file at PATH the size SIZE; what cannot grow where it lies goes to the largest\n      free place on a multiple of 0x8000; new bytes are what the free space held",
-    ),
-    ("rewrite", "writes the table anew, each name by itself"),
+pub const USAGE: &str = "usage: counter COMMAND IMAGE ...   (`counter help` has the commands)\n";
+
+/// What the command is for, in one line.
+pub const PURPOSE: &str = "GameCube disc images, looked at, edited and compared";
+
+/// What `help` knows besides the commands.
+pub const SUBJECTS: [(&str, &str); 3] = [
+    ("safety", "what is promised of an edit, and when it is cut"),
+    ("exit", "every exit status"),
+    ("json", "the fields of every answer"),
 ];
 
-pub const USAGE: &str = "usage: counter COMMAND [IMAGE] ...   (`counter help` has the commands)\n";
+const WIDTH: usize = 100;
 
 pub fn general() -> String {
-    let mut out = String::from(
-        "counter: GameCube disc images, looked at, edited and compared\n\n\
-         \x20 counter COMMAND IMAGE ...\n\n\
-         Without IMAGE a command that only reads works on a built-in small master.\n",
+    let mut out = format!(
+        "counter: {PURPOSE}\n\n\
+         \x20 counter COMMAND IMAGE ...\n\
+         \x20 counter help COMMAND      (or counter COMMAND --help)\n\n\
+         The bare commands list, tree and info, and map --demo, show a built-in small master.\n\
+         `counter help man`, bash, zsh and fish write the man page and completions (host/install).\n"
     );
-    out.push_str("\nLook\n");
-    commands(&mut out, 0..10);
-    out.push_str("\nProve\n");
-    commands(&mut out, 10..11);
-    out.push_str("\nEdit\n");
-    commands(&mut out, 11..16);
-    out.push_str(ARGUMENTS);
-    out.push_str(COMPARE);
+    for (group, name) in GROUPS {
+        let _ = writeln!(out, "\n{name}");
+        for form in FORMS.iter().filter(|form| form.group == group) {
+            command(&mut out, form);
+        }
+    }
+    out.push_str(&arguments(FORMS));
+    let compare = Form::find("compare").expect("a command");
+    out.push_str("\nThe licence check: counter compare BEFORE AFTER --given LIST\n");
+    out.push_str(&paragraphs(compare.more));
     out.push_str(SAFETY);
-    out.push_str(JSON);
+    out.push_str(&json(FORMS));
     out.push_str(&statuses());
     out
 }
 
-fn commands(out: &mut String, which: std::ops::Range<usize>) {
-    for form in &FORMS[which] {
-        out.push_str(&format!("  {}\n", form.usage()));
-        if let Some((_, words)) = WORDS.iter().find(|(name, _)| *name == form.name) {
-            out.push_str(&format!("      {words}\n"));
-        }
-    }
-}
-
-/// Help on one subject: a command, `safety`, `exit`, or None.
+/// Help on one subject: a command, `safety`, `exit`, `json`, or None.
 pub fn about(subject: &str) -> Option<String> {
     match subject {
         "safety" => return Some(SAFETY.trim_start().to_string()),
         "exit" => return Some(statuses().trim_start().to_string()),
-        "json" => return Some(JSON.trim_start().to_string()),
+        "json" => return Some(json(FORMS).trim_start().to_string()),
         _ => {}
     }
-    let at = FORMS.iter().position(|form| form.name == subject)?;
+    let form = Form::find(subject)?;
     let mut out = String::new();
-    commands(&mut out, at..at + 1);
-    out.push_str(if FORMS[at].edits { SAFETY } else { "" });
-    out.push_str(if subject == "compare" { COMPARE } else { "" });
-    out.push_str(ARGUMENTS);
+    command(&mut out, form);
+    if !form.more.is_empty() {
+        let _ = writeln!(out, "\n{}", paragraphs(form.more).trim_end());
+    }
+    let form = std::slice::from_ref(form);
+    out.push_str(&arguments(form));
+    out.push_str("\nExamples\n");
+    for example in form[0].examples {
+        let _ = writeln!(out, "  {example}");
+    }
+    if form[0].has("--json") {
+        out.push_str(&json(form));
+    }
+    if form[0].group == Group::Edit {
+        out.push_str(SAFETY);
+    }
+    out.push_str("\n`counter help exit` has every exit status.\n");
     Some(out)
 }
 
-const ARGUMENTS: &str = "
-Arguments
-  PATH      starts at the root; cut at / and \\; `.` stays, `..` goes back; at most 1,024 bytes
-  OFFSET, SIZE   base ten or with 0x, with K, M or G for 2^10, 2^20, 2^30; below 2^32
-  --json    the answer as JSON on standard output, a refusal or an error too
-  --dry-run   works on a private copy in memory, tells what would happen, touches nothing
-  --over-program   lets an edit write where a program lies behind the table
-  --        what follows is no option
-  Nothing that is there is ever overwritten by extract, dol --out or map.
-";
+fn command(out: &mut String, form: &Form) {
+    let _ = writeln!(out, "{}", wrapped(&form.usage(), 2, 6));
+    let _ = writeln!(out, "{}", wrapped(form.words, 6, 6));
+}
 
-const COMPARE: &str = "
-The licence check: counter compare BEFORE AFTER --given LIST
-  LIST is a text file, one path a line; a line that ends in / stands for all files in that folder.
-  Exit status 1 if a file that is not on LIST differs in place, size or bytes, or is gone; also if
-  the bytes before the table (but for the table's size), the program or the disc end differ.
-  New files and folders are told and do not fail the check by themselves.
-  Files are matched by path, equal names in one folder by their order; a path on LIST means the first.
-  An image too short for a header ends compare with 65, since 1 says that something differs;
-  every other refusal ends it with its own number.
-";
+/// Text in lines of at most `WIDTH` letters, the first one `first` letters in, the others `rest`.
+fn wrapped(text: &str, first: usize, rest: usize) -> String {
+    let mut out = " ".repeat(first);
+    let mut column = first;
+    let mut begun = false;
+    for word in text.split(' ') {
+        let long = word.chars().count();
+        if begun && column + 1 + long > WIDTH {
+            let _ = write!(out, "\n{}", " ".repeat(rest));
+            column = rest;
+        } else if begun {
+            out.push(' ');
+            column += 1;
+        }
+        out.push_str(word);
+        column += long;
+        begun = true;
+    }
+    out
+}
+
+/// Each line of `text` as a paragraph.
+fn paragraphs(text: &str) -> String {
+    text.lines().map(|line| wrapped(line, 2, 2) + "\n").collect()
+}
+
+/// Those of all commands, for the man page.
+pub fn all_arguments() -> String {
+    arguments(FORMS).trim_start().to_string()
+}
+
+/// The operands and options of these commands, each once.
+fn arguments(forms: &[Form]) -> String {
+    let mut told: Vec<(String, &str)> = Vec::new();
+    let mut add = |name: String, words| {
+        if !told.iter().any(|(known, _)| *known == name) {
+            told.push((name, words));
+        }
+    };
+    // Where some commands need an operand and others do not, the former say what it is.
+    for needed in [true, false] {
+        let operands = forms.iter().flat_map(|form| form.operands);
+        for operand in operands.filter(|operand| operand.needed == needed) {
+            add(operand.name.into(), operand.words);
+        }
+    }
+    for flag in forms.iter().flat_map(|form| form.flags) {
+        let value = flag.value.map_or(String::new(), |(value, _)| format!(" {value}"));
+        add(format!("{}{value}", flag.name), flag.words);
+    }
+    add("--".into(), "what follows is no option");
+    let mut out = String::from("\nArguments\n");
+    let wide = told.iter().map(|(name, _)| name.len()).max().unwrap_or(0);
+    for (name, words) in told {
+        let line = wrapped(words, wide + 4, wide + 4);
+        let _ = writeln!(out, "  {name:<wide$}  {}", line.trim_start());
+    }
+    out
+}
+
+/// What the JSON of each command holds. ENTRY and PLACED are told behind them.
+const FIELDS: &[(&str, &str)] = &[
+    (
+        "info",
+        "image image_bytes game_code maker game_name disc version audio_streaming stream_buffer wii_magic \
+         gamecube_magic debug_offset debug_address dol_offset fst_offset fst_size fst_maximum \
+         user_position user_size disc_size unused_43c disc_end table_end entries files directories used \
+         free free_regions largest_free program_behind_table",
+    ),
+    ("list", "total used entries[ENTRY] free[offset size]"),
+    ("tree", "ENTRY with name for path; a directory's also with bytes files children[...]"),
+    ("free", "disc_end free regions[offset size]"),
+    ("find", "ENTRY with largest_size (null for a directory)"),
+    ("place", "size align offset room; room: the free bytes from offset on"),
+    ("cat", "path offset size hex"),
+    ("extract", "bytes files[path file size]"),
+    ("dol", "offset size entry_point bss_address bss_size sections[name offset address size]"),
+    ("map", "out disc_end pieces[kind name offset size]; kind: system program table file free"),
+    ("check", "status opens entries files disc_end used free"),
+    ("compare", COMPARED),
+    ("report", COMPARED),
+    ("mkdir", EDITED),
+    ("add", EDITED),
+    ("move", EDITED),
+    ("resize", EDITED),
+    ("rewrite", EDITED),
+];
+
+const COMPARED: &str = "before after manifest passed covers_all order_changed free_space \
+    counts{unchanged moved resized changed new gone} areas[name changed] folders[path status given] \
+    unknown[path] files[path first status moved resized changed hidden given before{offset size} \
+    after{offset size}]; changed: null where it cannot be told; free_space: unchanged, changed or \
+    unknown; files and folders: only those that differ, with --only-differences";
+
+const EDITED: &str = "status edit path dry_run written table{before after} \
+    entries[number path kind before{offset size} after{offset size}] notes[...]; entries: those that \
+    are new or differ";
+
+fn json(forms: &[Form]) -> String {
+    let mut out = String::from(
+        "\nJSON (--json)\n  A number is in base ten, offsets and sizes in bytes. In a text, character n below 256 is byte n.\n",
+    );
+    for (name, fields) in FIELDS.iter().filter(|(name, _)| forms.iter().any(|f| f.name == *name)) {
+        let line = wrapped(fields, 11, 11);
+        let _ = writeln!(out, "  {name:<8} {}", line.trim_start());
+    }
+    if forms.iter().any(|form| ["list", "tree", "find"].contains(&form.name)) {
+        out.push_str("  ENTRY    number kind parent path, and offset size (kind file) or next (kind directory)\n");
+    }
+    out.push_str("  A refusal: status refused cause about detail. Another error: status error.\n");
+    out
+}
 
 const SAFETY: &str = "
 Safety
@@ -121,28 +215,6 @@ Safety
     cp --reflink=auto), try with --dry-run, and let `counter compare` tell what changed.
 ";
 
-const JSON: &str = "
-JSON (--json)
-  A number is in base ten, offsets and sizes in bytes. In a text, character n below 256 is byte n.
-  info     image image_bytes game_code maker game_name disc version audio_streaming stream_buffer
-           wii_magic gamecube_magic debug_offset debug_address dol_offset fst_offset fst_size
-           fst_maximum user_position user_size disc_size unused_43c disc_end table_end entries files
-           directories used free free_regions largest_free program_behind_table
-  list     total used entries[ENTRY] free[offset size]
-  tree     ENTRY with name for path; a directory's also with bytes files children[...]
-  find     ENTRY with largest_size (null for a directory)
-  ENTRY    number kind parent path, and offset size (kind file) or next (kind directory)
-  free     disc_end free regions[offset size]
-  check    status opens entries files disc_end used free
-  extract  bytes files[path file size]        cat   path offset size hex
-  dol      offset size entry_point bss_address bss_size sections[name offset address size]
-  map      out disc_end pieces[kind name offset size]; kind: system program table file free
-  compare  before after passed counts{unchanged moved resized changed new gone} areas[name changed]
-           folders[path status] unknown[path]
-           files[path first status moved resized changed given before{offset size} after{offset size}]
-  A refusal: status refused cause about detail. Another error: status error.
-";
-
 fn statuses() -> String {
     let mut out = String::from(
         "\nExit status\n   0  done\n   1  compare: a file that is not on the list differs; else as below\n",
@@ -152,8 +224,9 @@ fn statuses() -> String {
     }
     out.push_str(
         "  64  wrong usage\n\
-         \x20 65  compare: an image too short for a header; an edit: a program would be written over;\n\
-         \x20     tree, extract, map, compare, list --json: paths of more than 64 MiB in all\n\
+         \x20 65  compare, report: an image too short for a header, a LIST or a manifest that is wrong;\n\
+         \x20     an edit: a program would be written over; a command that shows every path: more than\n\
+         \x20     64 MiB of them\n\
          \x20 66  no such image, or a folder or special file in its place\n\
          \x20 70  the library answered what it never should\n\
          \x20 73  an output cannot be created, or is there already\n\

@@ -2,11 +2,13 @@
 
 use crate::failure::{BUSY, Failure, INPUT_OUTPUT, NO_INPUT, NOT_ALLOWED, Outcome};
 use crate::os::{self, Access, Mapping};
+pub use crate::text::shown;
 use counter_sys::Memory;
 use std::fs::{self, File, Metadata, OpenOptions, TryLockError};
 use std::io;
 use std::os::unix::fs::{OpenOptionsExt, PermissionsExt};
 use std::path::Path;
+use std::sync::atomic::{AtomicBool, Ordering};
 
 /// How an image without a file is called in what the program says.
 pub const BUILT_IN: &str = "built-in small master";
@@ -126,12 +128,24 @@ fn regular(path: &Path, told: io::Result<Metadata>) -> Outcome<Metadata> {
     Err(Failure::error(NO_INPUT, format!("{}: {kind}, not an image", path.display())))
 }
 
+static WAIT: AtomicBool = AtomicBool::new(false);
+
+/// From here on an image that another program uses is waited for.
+pub fn wait_for_others() {
+    WAIT.store(true, Ordering::Relaxed);
+}
+
 /// Readers share an image; an editor has it alone.
 fn lock(path: &Path, file: &File, access: Access) -> Outcome<()> {
-    let got = match access {
+    let mut got = match access {
         Access::Shared => file.try_lock(),
         _ => file.try_lock_shared(),
     };
+    if matches!(got, Err(TryLockError::WouldBlock)) && WAIT.load(Ordering::Relaxed) {
+        eprintln!("counter: {}: another program is using it; waiting", path.display());
+        let waited = if access == Access::Shared { file.lock() } else { file.lock_shared() };
+        got = waited.map_err(TryLockError::Error);
+    }
     match got {
         Ok(()) => Ok(()),
         Err(TryLockError::WouldBlock) => {
@@ -173,16 +187,4 @@ impl Desk {
     pub fn lend(&mut self) -> Memory<'_> {
         Memory { words: &mut self.words, bytes: &mut self.bytes }
     }
-}
-
-/// Bytes of a path or a name, for what is said about them.
-pub fn shown(path: &[u8]) -> String {
-    let mut out = String::new();
-    for &b in path {
-        match b {
-            b' '..=b'~' => out.push(b as char),
-            _ => out.push_str(&format!("\\x{b:02x}")),
-        }
-    }
-    out
 }

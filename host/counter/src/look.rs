@@ -1,32 +1,17 @@
 //! The commands that look at an image.
 
 use crate::args::Args;
-use crate::disc::{Disc, Header, Kind, Space, not_opened, table_end};
+use crate::disc::{Kind, Space, not_opened, opened, space, table_end};
 use crate::dol::program_behind;
 use crate::failure::{Failure, Outcome};
-use crate::image::{Desk, Image, shown};
+use crate::header::Header;
+use crate::image::Image;
 use crate::json::{Json, latin};
-use crate::say;
-use crate::text::{both, counted, grouped, hex, human, line, size};
+use crate::out::say;
+use crate::text::{both, counted, grouped, hex, human, line, number, shown, size};
 use crate::tree::{free_json, node_json, weights};
 use counter_sys as counter;
 use std::fmt::Write;
-
-/// Opens the image of the command line and reads it.
-pub fn opened(args: &Args) -> Outcome<(Image, Desk, Disc)> {
-    let image = Image::read(args.image.as_deref())?;
-    let mut desk = Desk::new();
-    let disc = Disc::read(&image, &mut desk)?;
-    Ok((image, desk, disc))
-}
-
-/// The same without names.
-fn space(args: &Args) -> Outcome<(Image, Desk, Space)> {
-    let image = Image::read(args.image.as_deref())?;
-    let mut desk = Desk::new();
-    let space = Space::read(&image, &mut desk)?;
-    Ok((image, desk, space))
-}
 
 // info ------------------------------------------------------------------------------------
 
@@ -55,7 +40,7 @@ const SMALL: [(&str, &str, usize); 4] = [
 ];
 
 pub fn info(args: &Args) -> Outcome<()> {
-    let (image, mut desk, disc) = space(args)?;
+    let (image, mut desk, disc) = space(args.image.as_deref())?;
     let header = Header::read(image.bytes()).map_err(|n| not_opened(&image, n))?;
     let behind = program_behind(&image, &mut desk, &disc.opened);
     match args.json {
@@ -102,18 +87,11 @@ fn info_fields(image: &Image, header: &Header, disc: &Space) -> Vec<(&'static st
     fields
 }
 
-/// The game's six letters, without zero bytes at the end.
-fn game(header: &Header) -> String {
-    let code = header.bytes(0, 6);
-    let end = code.iter().rposition(|&b| b != 0).map_or(0, |at| at + 1);
-    shown(&code[..end])
-}
-
 fn info_text(image: &Image, header: &Header, disc: &Space) -> String {
     let mut out = String::new();
     line(&mut out, "image", &image.name);
     line(&mut out, "file size", size(image.bytes().len() as u64));
-    line(&mut out, "game", game(header));
+    line(&mut out, "game", shown(header.game()));
     line(&mut out, "name", shown(header.game_name()));
     for (_, name, at) in SMALL {
         line(&mut out, name, header.bytes(at, 1)[0]);
@@ -135,7 +113,7 @@ fn info_text(image: &Image, header: &Header, disc: &Space) -> String {
 // free, find, check -----------------------------------------------------------------------
 
 pub fn free(args: &Args) -> Outcome<()> {
-    let (_, _, disc) = space(args)?;
+    let (_, _, disc) = space(args.image.as_deref())?;
     if args.json {
         let json = Json::Object(vec![
             ("disc_end", disc.opened.disc_end.into()),
@@ -168,7 +146,7 @@ pub fn free(args: &Args) -> Outcome<()> {
 }
 
 pub fn find(args: &Args) -> Outcome<()> {
-    let (image, mut desk, disc) = opened(args)?;
+    let (image, mut desk, disc) = opened(args.image.as_deref())?;
     let path = args.bytes(0);
     let node = disc.find(&image, &mut desk, &path)?;
     let grow = match node.kind {
@@ -205,8 +183,44 @@ pub fn find(args: &Args) -> Outcome<()> {
     say(out.as_bytes())
 }
 
+/// Where a place is looked for if nothing else is said: where games' files begin.
+const CLUSTER: u32 = 0x8000;
+
+pub fn place(args: &Args) -> Outcome<()> {
+    let wish = number(&args.bytes(0)).map_err(Failure::usage)?;
+    let align = args.optional(1).map(|text| number(&text)).transpose().map_err(Failure::usage)?;
+    let align = align.unwrap_or(CLUSTER);
+    let (image, mut desk, disc) = space(args.image.as_deref())?;
+    let found =
+        counter::allocate(image.bytes(), &mut desk.lend(), wish, align).map_err(|number| {
+            let what = format!("{} bytes on a multiple of {align:#x}", grouped(wish.into()));
+            let failure = Failure::refused(number, format!("a place for {what}"));
+            if number == 21 { failure.because("see `counter free`") } else { failure }
+        })?;
+    if args.json {
+        let json = Json::Object(vec![
+            ("size", wish.into()),
+            ("align", align.into()),
+            ("offset", found.offset.into()),
+            ("room", found.size.into()),
+        ]);
+        return say(json.document().as_bytes());
+    }
+    let mut out = String::new();
+    line(&mut out, "offset", both(found.offset));
+    line(&mut out, "room", size(found.size.into()));
+    let end = u64::from(found.offset) + u64::from(wish);
+    if let Some((start, bytes)) = program_behind(&image, &mut desk, &disc.opened)
+        && u64::from(start) < end
+        && u64::from(found.offset) < u64::from(start) + u64::from(bytes)
+    {
+        line(&mut out, "note", "the program lies there, behind the table; an edit stops before it");
+    }
+    say(out.as_bytes())
+}
+
 pub fn check(args: &Args) -> Outcome<()> {
-    let (image, _, disc) = space(args)?;
+    let (image, _, disc) = space(args.image.as_deref())?;
     if args.json {
         let json = Json::Object(vec![
             ("status", 0u32.into()),

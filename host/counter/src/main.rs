@@ -1,30 +1,47 @@
 //! `counter`: looks at GameCube disc images, edits them and compares them, over libcounter.a.
+//!
+//! No module knows one that knows it, not even in a round (tests/layers.rs).
+
+// Before all others: its macros are theirs too.
+#[macro_use]
+mod out;
 
 mod args;
 mod compare;
 mod disc;
 mod dol;
 mod edit;
+mod edited;
 mod failure;
+mod given;
+mod header;
 mod help;
 mod image;
 mod json;
+mod layout;
 mod look;
+mod manifest;
 mod map;
 mod os;
+mod pages;
 mod progress;
+mod report;
+mod save;
+mod sha256;
 mod take;
 mod text;
 mod tree;
 mod trouble;
+mod version;
 
 use args::{Args, Form};
-use failure::{Failure, INPUT_OUTPUT, Outcome, cause};
+use failure::{Failure, Outcome, cause};
 use json::Json;
+use out::say;
 use std::env;
 use std::ffi::OsString;
-use std::io::{self, Write};
 use std::process;
+use version::{LIBRARY, VERSION};
 
 fn main() {
     os::catch_signals();
@@ -37,14 +54,18 @@ fn main() {
         }
         Some("help" | "--help" | "-h") => finish(helped(rest.next()), false),
         Some("--version" | "-V" | "version") => {
-            let text = format!("counter {}\n", env!("CARGO_PKG_VERSION"));
+            let text = format!("counter {VERSION}\nlibcounter.a SHA-256 {LIBRARY}\n");
             finish(say(text.as_bytes()).map(|()| 0), false)
         }
         name => match name.and_then(Form::find) {
             Some(form) => {
                 let rest: Vec<OsString> = rest.collect();
-                let json = form.options.contains(&"--json") && rest.iter().any(|a| a == "--json");
-                finish(Args::read(form, rest).and_then(run), json)
+                if Form::asks_help(&rest) {
+                    finish(helped(Some(form.name.into())), false)
+                } else {
+                    let json = form.has("--json") && rest.iter().any(|a| a == "--json");
+                    finish(Args::read(form, rest).and_then(run), json)
+                }
             }
             None => {
                 let shown = command.unwrap_or_default();
@@ -61,7 +82,7 @@ fn helped(subject: Option<OsString>) -> Outcome<u8> {
         None => help::general(),
         Some(subject) => subject
             .to_str()
-            .and_then(help::about)
+            .and_then(|subject| help::about(subject).or_else(|| pages::page(subject)))
             .ok_or_else(|| Failure::usage(format!("no help on {}", subject.display())))?,
     };
     say(text.as_bytes())?;
@@ -73,18 +94,24 @@ fn run(args: Args) -> Outcome<u8> {
     if args.image.is_none() {
         eprintln!("counter: no IMAGE given: this is the {}", image::BUILT_IN);
     }
+    if args.wait {
+        image::wait_for_others();
+    }
     match args.form.name {
         "info" => look::info(&args)?,
         "list" => tree::list(&args)?,
         "tree" => tree::tree(&args)?,
         "free" => look::free(&args)?,
         "find" => look::find(&args)?,
+        "place" => look::place(&args)?,
         "check" => look::check(&args)?,
         "extract" => take::extract(&args)?,
         "cat" => take::cat(&args)?,
         "dol" => dol::dol(&args)?,
         "map" => map::map(&args)?,
+        "hash" => manifest::hash(&args)?,
         "compare" => return compare::compare(&args),
+        "report" => return report::report(&args),
         _ => edit::edit(&args)?,
     }
     Ok(0)
@@ -122,16 +149,4 @@ fn told(failure: &Failure) -> Json {
         other => fields.push(("error", other.to_string().into())),
     }
     Json::Object(fields)
-}
-
-/// Writes to standard output.
-pub fn say(bytes: &[u8]) -> Outcome<()> {
-    let mut out = io::stdout().lock();
-    out.write_all(bytes).and_then(|()| out.flush()).map_err(|e| match e.kind() {
-        io::ErrorKind::BrokenPipe => Failure::Pipe,
-        io::ErrorKind::StorageFull => {
-            Failure::error(INPUT_OUTPUT, "standard output: the disk is full")
-        }
-        _ => Failure::error(INPUT_OUTPUT, format!("standard output: {e}")),
-    })
 }

@@ -1,42 +1,20 @@
 //! Files out of an image: `cat` and `extract`.
 
 use crate::args::Args;
-use crate::disc::{Disc, Kind, Node};
-use crate::failure::{CANNOT_CREATE, Failure, INPUT_OUTPUT, Outcome};
-use crate::image::{Desk, Image, shown};
+use crate::disc::{Disc, Kind, Node, opened};
+use crate::failure::{CANNOT_CREATE, Failure, Outcome};
+use crate::image::{Desk, Image};
 use crate::json::Json;
-use crate::look::opened;
+use crate::out::say;
 use crate::progress::Progress;
-use crate::text::{counted, human};
-use crate::{os, say};
+use crate::save::{pump, save_window};
+use crate::text::{counted, human, shown};
 use counter_sys::{self as counter, Window};
 use std::collections::HashSet;
-use std::fmt::Write as _;
-use std::fs::{self, File, OpenOptions};
-use std::io::{self, Write};
+use std::fmt::Write;
+use std::fs;
+use std::io;
 use std::path::{Path, PathBuf};
-
-const CHUNK: usize = 1 << 20;
-
-/// Hands the window's bytes on, a part at a time.
-fn pump(
-    image: &Image,
-    mut window: Window,
-    progress: &Progress,
-    mut to: impl FnMut(&[u8]) -> Outcome<()>,
-) -> Outcome<()> {
-    let mut part = vec![0; CHUNK];
-    loop {
-        let count = window
-            .read(image.bytes(), &mut part)
-            .map_err(|number| Failure::refused(number, image.name.as_str()))?;
-        if count == 0 {
-            return Ok(());
-        }
-        to(&part[..count as usize])?;
-        progress.advance(count);
-    }
-}
 
 fn window_of(image: &Image, desk: &mut Desk, number: u32, path: &str) -> Outcome<Window> {
     counter::open_file(image.bytes(), &mut desk.lend(), number)
@@ -46,7 +24,7 @@ fn window_of(image: &Image, desk: &mut Desk, number: u32, path: &str) -> Outcome
 // cat -------------------------------------------------------------------------------------
 
 pub fn cat(args: &Args) -> Outcome<()> {
-    let (image, mut desk, disc) = opened(args)?;
+    let (image, mut desk, disc) = opened(args.image.as_deref())?;
     let path = args.bytes(0);
     let node = disc.find(&image, &mut desk, &path)?;
     let window = window_of(&image, &mut desk, node.number, &shown(&path))?;
@@ -75,53 +53,6 @@ pub fn cat(args: &Args) -> Outcome<()> {
 
 // extract ---------------------------------------------------------------------------------
 
-/// Writes a window to a new file; what cannot be finished is taken away again.
-pub fn write_new(image: &Image, window: Window, path: &Path) -> Outcome<()> {
-    let mut file = create(path)?;
-    let progress = Progress::start("extract", window.length);
-    written(image, window, &mut file, path, &progress)
-}
-
-/// A new file, which a signal takes away until it is finished.
-fn create(path: &Path) -> Outcome<File> {
-    let file = os::holding(|| {
-        let file = OpenOptions::new().write(true).create_new(true).open(path);
-        if file.is_ok() {
-            os::unfinished(Some(path));
-        }
-        file
-    });
-    file.map_err(|e| Failure::file(CANNOT_CREATE, path, &e))
-}
-
-fn written(
-    image: &Image,
-    window: Window,
-    file: &mut File,
-    path: &Path,
-    progress: &Progress,
-) -> Outcome<()> {
-    let done = pump(image, window, progress, |part| {
-        file.write_all(part).map_err(|e| Failure::file(INPUT_OUTPUT, path, &e))
-    });
-    finished(path, done)
-}
-
-/// Writes bytes to a new file.
-pub fn save(path: &Path, bytes: &[u8]) -> Outcome<()> {
-    let done = create(path)?.write_all(bytes);
-    finished(path, done.map_err(|e| Failure::file(INPUT_OUTPUT, path, &e)))
-}
-
-/// Keeps the file, or takes it away.
-fn finished(path: &Path, done: Outcome<()>) -> Outcome<()> {
-    if done.is_err() {
-        let _ = fs::remove_file(path);
-    }
-    os::unfinished(None);
-    done
-}
-
 /// Where each entry goes: its number and its place on the disk, folders before what is in them.
 struct Plan {
     folders: Vec<PathBuf>,
@@ -130,7 +61,7 @@ struct Plan {
 }
 
 pub fn extract(args: &Args) -> Outcome<()> {
-    let (image, mut desk, disc) = opened(args)?;
+    let (image, mut desk, disc) = opened(args.image.as_deref())?;
     let disc = disc.with_paths()?;
     let node = disc.find(&image, &mut desk, &args.bytes(0))?;
     let mut to = args.path(1);
@@ -149,8 +80,7 @@ pub fn extract(args: &Args) -> Outcome<()> {
     for (number, path) in &plan.files {
         let from = &disc.nodes[*number as usize];
         let window = window_of(&image, &mut desk, *number, &from.path)?;
-        let mut file = create(path)?;
-        written(&image, window, &mut file, path, &progress)?;
+        save_window(&image, window, path, &progress)?;
         out.push((from, path, window.length));
     }
     drop(progress);

@@ -62,7 +62,7 @@ pub fn counted(number: usize, one: &str, many: &str) -> String {
 
 /// A number as the command line takes it: base ten or 0x, then K, M or G for 2^10, 2^20, 2^30.
 pub fn number(text: &[u8]) -> Result<u32, String> {
-    let shown = crate::image::shown(text);
+    let shown = shown(text);
     let wrong = || format!("{shown}: a number is wanted, in base ten or with 0x, with K, M or G");
     let text = std::str::from_utf8(text).map_err(|_| wrong())?;
     let (digits, shift) = match text.as_bytes().last() {
@@ -82,4 +82,72 @@ pub fn number(text: &[u8]) -> Result<u32, String> {
     let value = u64::from_str_radix(digits, base).map_err(|_| large())?;
     let value = value.checked_mul(1 << shift).ok_or_else(large)?;
     u32::try_from(value).map_err(|_| large())
+}
+
+/// Bytes of a path or a name, for what is said about them.
+pub fn shown(path: &[u8]) -> String {
+    let mut out = String::new();
+    for &b in path {
+        match b {
+            b' '..=b'~' => out.push(b as char),
+            _ => out.push_str(&format!("\\x{b:02x}")),
+        }
+    }
+    out
+}
+
+/// Text without line feeds and the like.
+pub fn one_line(text: &str) -> String {
+    text.chars().map(|c| if c.is_control() { '?' } else { c }).collect()
+}
+
+/// Text as XML and HTML take it.
+pub fn escape(text: &str) -> String {
+    let mut out = String::new();
+    for c in text.chars() {
+        match c {
+            '&' => out.push_str("&amp;"),
+            '<' => out.push_str("&lt;"),
+            '>' => out.push_str("&gt;"),
+            '"' => out.push_str("&quot;"),
+            '\0'..='\x1f' | '\x7f'..='\u{9f}' => out.push('?'),
+            c => out.push(c),
+        }
+    }
+    out
+}
+
+/// Seconds since 1970 as a date and a time of day.
+pub fn date(seconds: u64) -> String {
+    let (days, rest) = (seconds / 86_400, seconds % 86_400);
+    // Years of 365.2425 days that begin in March, so that a leap day is the last of its year.
+    let days = days + 719_468;
+    let (era, day) = (days / 146_097, days % 146_097);
+    let year = (day - day / 1_460 + day / 36_524 - day / 146_096) / 365;
+    let day = day - (365 * year + year / 4 - year / 100);
+    let month = (5 * day + 2) / 153;
+    let (day, month) =
+        (day - (153 * month + 2) / 5 + 1, if month < 10 { month + 3 } else { month - 9 });
+    let year = year + era * 400 + u64::from(month <= 2);
+    format!("{year}-{month:02}-{day:02} {:02}:{:02} UTC", rest / 3_600, rest / 60 % 60)
+}
+
+#[cfg(test)]
+mod tests {
+    use super::date;
+
+    /// As `date -u` writes them.
+    #[test]
+    fn dates() {
+        for (seconds, wanted) in [
+            (0, "1970-01-01 00:00 UTC"),
+            (951_782_399, "2000-02-28 23:59 UTC"),
+            (951_782_400, "2000-02-29 00:00 UTC"),
+            (1_709_251_199, "2024-02-29 23:59 UTC"),
+            (1_794_787_200, "2026-11-16 00:00 UTC"),
+            (4_107_542_400, "2100-03-01 00:00 UTC"),
+        ] {
+            assert_eq!(date(seconds), wanted);
+        }
+    }
 }

@@ -1,12 +1,11 @@
 //! `list` and `tree`: every entry, for programs and for people.
 
 use crate::args::Args;
-use crate::disc::{Disc, Kind, Node};
+use crate::disc::{Disc, Kind, Node, opened};
 use crate::failure::{Failure, Outcome};
 use crate::image::Image;
 use crate::json::Json;
-use crate::look::opened;
-use crate::say;
+use crate::out::say;
 use crate::text::{counted, human};
 use counter_sys::Region;
 use std::fmt::Write;
@@ -15,7 +14,7 @@ use std::fmt::Write;
 
 /// The scope paper's listing, for an image of any size.
 pub fn list(args: &Args) -> Outcome<()> {
-    let (image, disc) = match opened(args) {
+    let (image, disc) = match opened(args.image.as_deref()) {
         Ok((image, _, disc)) => (image, disc),
         Err(Failure::Refused { number, what, detail }) => {
             if !args.json {
@@ -110,7 +109,7 @@ pub fn weights(disc: &Disc) -> Vec<(u64, usize)> {
 }
 
 pub fn tree(args: &Args) -> Outcome<()> {
-    let (_, _, disc) = opened(args)?;
+    let (_, _, disc) = opened(args.image.as_deref())?;
     let disc = disc.with_paths()?;
     let weights = weights(&disc);
     match args.json {

@@ -1,8 +1,8 @@
 //! More words for a refusal of opening: which entry it is, and with what. The library says the
 //! number; this looks at the table once more, and is silent where it finds no such trouble.
 
-use crate::disc::Header;
-use crate::image::shown;
+use crate::header::Header;
+use crate::text::shown;
 use counter_sys::HEADER_SIZE;
 
 /// What is wrong, if the refusal `number` can be told in more words.
@@ -68,16 +68,26 @@ impl<'a> Table<'a> {
         u32::from_be_bytes(self.bytes[at..at + 4].try_into().expect("four bytes"))
     }
 
-    /// Name, as bytes; None where its offset is past the texts.
-    fn name(&self, k: usize) -> Option<&'a [u8]> {
-        let texts = self.bytes.get(12 * self.count..)?;
-        let at = (self.word(k, 0) & 0xFF_FFFF) as usize;
-        texts.get(at..).filter(|rest| !rest.is_empty())?.split(|&b| b == 0).next()
+    fn kind(&self, k: usize) -> u8 {
+        self.bytes[12 * k]
+    }
+
+    fn name_offset(&self, k: usize) -> usize {
+        (self.word(k, 0) & 0xFF_FFFF) as usize
+    }
+
+    fn texts(&self) -> &'a [u8] {
+        self.bytes.get(12 * self.count..).unwrap_or_default()
+    }
+
+    /// The start of an entry's name, for what is said about it.
+    fn called(&self, k: usize) -> String {
+        let rest = self.texts().get(self.name_offset(k)..).unwrap_or_default();
+        short(rest.split(|&b| b == 0).next().unwrap_or_default())
     }
 
     fn words(&self, number: u32) -> Option<String> {
         let whole = self.bytes.len() / 12;
-        let kind = |k: usize| self.bytes[12 * k];
         match number {
             5 => Some(format!(
                 "the table has {} bytes, and {} entries take {}",
@@ -86,47 +96,66 @@ impl<'a> Table<'a> {
                 12 * self.count
             )),
             6 => {
-                let k = (0..whole.min(self.count)).find(|&k| kind(k) > 1)?;
-                Some(format!("entry {k} has kind {}", kind(k)))
+                let k = (0..whole.min(self.count)).find(|&k| self.kind(k) > 1)?;
+                Some(format!("entry {k} has kind {}", self.kind(k)))
             }
             _ if whole < self.count => None,
-            10..=13 => (0..self.count).find_map(|k| self.entry(k, number)),
+            10 => self.nesting(),
+            11 => {
+                let k = (1..self.count).find(|&k| self.name_offset(k) >= self.texts().len())?;
+                Some(format!("entry {k} has name offset {}", self.name_offset(k)))
+            }
+            12 | 13 => {
+                let k = self.name(number)?;
+                Some(format!("entry {k} is called \"{}\"", self.called(k)))
+            }
             14 => self.overlap(),
             _ => None,
         }
     }
 
-    /// What entry k has to do with the refusal.
-    fn entry(&self, k: usize, number: u32) -> Option<String> {
-        if number == 10 {
-            let next = self.word(k, 2) as usize;
-            let folder = self.bytes[12 * k] == 1;
-            let wrong = folder && (next <= k || next > self.limit(k));
-            return wrong.then(|| format!("entry {k} has next {next}"));
+    /// The first directory whose next is at or before it, or past that of the one that holds it.
+    fn nesting(&self) -> Option<String> {
+        let mut open: Vec<usize> = Vec::new();
+        for k in 0..self.count {
+            while open.last().is_some_and(|&next| next <= k) {
+                open.pop();
+            }
+            if self.kind(k) == 1 {
+                let next = self.word(k, 2) as usize;
+                if next <= k || next > open.last().copied().unwrap_or(self.count) {
+                    return Some(format!("entry {k} has next {next}"));
+                }
+                open.push(next);
+            }
         }
-        if k == 0 {
-            return None;
-        }
-        let Some(name) = self.name(k) else {
-            let offset = self.word(k, 0) & 0xFF_FFFF;
-            return (number == 11).then(|| format!("entry {k} has name offset {offset}"));
-        };
-        let plain = |b: &u8| (b' '..=b'~').contains(b);
-        let unsafe_name = name.is_empty() || name == b"." || name == b".." || {
-            name.iter().any(|b| b"/\\:".contains(b))
-        };
-        let wrong = match number {
-            12 => !name.iter().all(plain),
-            13 => unsafe_name,
-            _ => false,
-        };
-        wrong.then(|| format!("entry {k} is called \"{}\"", short(name)))
+        None
     }
 
-    /// The next of the directory that entry k is nested in.
-    fn limit(&self, k: usize) -> usize {
-        let holds = |d: &usize| self.bytes[12 * d] == 1 && self.word(*d, 2) as usize > k;
-        (0..k).rev().find(holds).map_or(self.count, |d| self.word(d, 2) as usize)
+    /// The first entry whose name is none. Many names may share one long text, so each byte of the
+    /// texts is looked at once, from the last to the first, and not once a name.
+    fn name(&self, number: u32) -> Option<usize> {
+        let texts = self.texts();
+        let mut wrong = vec![false; texts.len() + 1];
+        let mut ended = vec![false; texts.len() + 1];
+        for i in (0..texts.len()).rev() {
+            let byte = texts[i];
+            let meant = match number {
+                12 => !(b' '..=b'~').contains(&byte),
+                _ => b"/\\:".contains(&byte),
+            };
+            ended[i] = byte == 0;
+            wrong[i] = byte != 0 && (meant || wrong[i + 1]);
+        }
+        // `.`, `..` and no name at all are unsafe, with number 13.
+        let dots = |at: usize| {
+            let dots = texts[at..].iter().take(2).take_while(|&&b| b == b'.').count();
+            number == 13 && ended[at + dots]
+        };
+        (1..self.count).find(|&k| {
+            let at = self.name_offset(k);
+            at < texts.len() && (wrong[at] || dots(at))
+        })
     }
 
     /// The first two used regions that overlap, or the one that passes the disc end.
@@ -134,15 +163,14 @@ impl<'a> Table<'a> {
         let mut used = vec![(0, self.table_end, 0)];
         for k in 1..self.count {
             let (start, size) = (u64::from(self.word(k, 1)), u64::from(self.word(k, 2)));
-            if self.bytes[12 * k] == 0 && size > 0 {
+            if self.kind(k) == 0 && size > 0 {
                 used.push((start, start + size, k));
             }
         }
         used.sort();
-        let told = |&(start, end, k): &(u64, u64, usize)| {
-            let name =
-                self.name(k).filter(|_| k > 0).map(|name| format!("entry {k} \"{}\"", short(name)));
-            format!("{} {start:#x} to {end:#x}", name.as_deref().unwrap_or("the table"))
+        let told = |&(start, end, k): &(u64, u64, usize)| match k {
+            0 => format!("the table {start:#x} to {end:#x}"),
+            _ => format!("entry {k} \"{}\" {start:#x} to {end:#x}", self.called(k)),
         };
         if let Some(pair) = used.windows(2).find(|pair| pair[1].0 < pair[0].1) {
             return Some(format!("{} and {}", told(&pair[0]), told(&pair[1])));

@@ -128,7 +128,10 @@ fn every_kind_of_difference_is_told_and_held_against_the_list() {
     }
     // A line that ends in / stands for the files below it, and for no more.
     assert_eq!(pair.given("audio/\ntext/en/\nmovie/\n").status, 0);
-    assert_eq!(pair.given("/\n").status, 0);
+    let run = pair.given("/\n");
+    assert_eq!(run.status, 0);
+    assert!(run.err.contains("covers every file and folder"), "{}", run.err);
+    assert!(run.out.contains("the list has the line /: it covers every"), "{}", run.out);
     assert_eq!(pair.given("audio/\ntext/e/\nmovie/\n").status, 1);
     let run = pair.given(&format!("{all}\nno/such/file\naudio\n"));
     assert_eq!(run.status, 0);
@@ -288,4 +291,407 @@ fn empty_files_may_lie_anywhere() {
     assert_eq!(status(&told, "/audio/silence.adp"), "moved");
     assert_eq!(pair.compare(&[]).status, 1);
     assert_eq!(pair.given("audio/silence.adp").status, 0);
+}
+
+#[test]
+fn a_file_is_not_compared_with_itself() {
+    let pair = pair();
+    let link = pair.temp.at("link.iso");
+    std::os::unix::fs::symlink(&pair.before, &link).unwrap();
+    let hard = pair.temp.at("hard.iso");
+    fs::hard_link(&pair.before, &hard).unwrap();
+    for other in [&pair.before, &link, &hard] {
+        for command in ["compare", "report"] {
+            let page = pair.temp.at("page.html");
+            let mut args = vec![other.to_str().unwrap()];
+            if command == "report" {
+                args.push(page.to_str().unwrap());
+            }
+            let run = on(command, &pair.before, &args);
+            assert_eq!(run.status, 64, "{}", run.out);
+            assert!(run.err.contains("one and the same file"), "{}", run.err);
+            assert!(!page.exists() && run.out.is_empty());
+        }
+    }
+}
+
+#[test]
+fn a_list_gives_leave_for_no_more_than_it_names() {
+    let pair = pair();
+    pair.edit(&["move", "audio/theme.adp", "0x190000"]);
+    let lines = [
+        "../",
+        "./",
+        "\\",
+        "nosuch/../",
+        "..",
+        ".",
+        "//",
+        "/.",
+        "/./",
+        "audio/..",
+        "audio/../..",
+        "../audio/theme.adp",
+        "audio/../../audio/theme.adp",
+        "/../",
+        "\\..\\",
+    ];
+    for line in lines {
+        for list in [line.to_string(), format!("/audio/theme.adp\r\n{line}\r\n")] {
+            let run = pair.given(&list);
+            assert_eq!(run.status, 65, "{list:?}: {}{}", run.out, run.err);
+            let words = if run.err.contains("above") { "above the root" } else { "to the root" };
+            assert!(run.err.contains(words) && run.err.contains(", line "), "{}", run.err);
+            assert!(run.out.is_empty(), "{}", run.out);
+        }
+    }
+    // What only passes by the root is a path like another.
+    assert_eq!(pair.given("text/../audio/theme.adp").status, 0);
+    assert_eq!(pair.given("").status, 1);
+    // As an editor of text may leave it.
+    assert_eq!(pair.given("\u{FEFF}/audio/theme.adp\r\n").status, 0);
+    let wide: Vec<u8> =
+        [0xFF, 0xFE].into_iter().chain("/\n".encode_utf16().flat_map(u16::to_le_bytes)).collect();
+    let path = pair.temp.write("wide.txt", &wide);
+    let run = pair.compare(&["--given", path.to_str().unwrap()]);
+    assert_eq!(run.status, 65, "{}", run.out);
+    assert!(run.err.contains("UTF-16"), "{}", run.err);
+}
+
+#[test]
+fn lists_add_up() {
+    let pair = pair();
+    pair.edit(&["move", "audio/theme.adp", "0x190000"]);
+    pair.edit(&["resize", "text/en/msg.bin", "0x1000"]);
+    let one = pair.temp.write("one.txt", b"audio/theme.adp");
+    let two = pair.temp.write("two.txt", b"text/en/msg.bin");
+    let (one, two) = (one.to_str().unwrap(), two.to_str().unwrap());
+    assert_eq!(pair.compare(&["--given", one]).status, 1);
+    assert_eq!(pair.compare(&["--given", two]).status, 1);
+    assert_eq!(pair.compare(&["--given", one, "--given", two]).status, 0);
+    assert_eq!(pair.compare(&[&format!("--given={two}"), "--given", one]).status, 0);
+}
+
+#[test]
+fn only_differences_are_shown_where_that_is_wished() {
+    let pair = pair();
+    pair.edit(&["move", "audio/theme.adp", "0x190000"]);
+    let run = pair.compare(&["--only-differences"]);
+    assert_eq!(run.status, 1);
+    let wanted = "moved            /audio/theme.adp  offset 0x80000 -> 0x190000  [NOT GIVEN]\n\
+                  8 files: 7 unchanged, 1 moved, 0 resized, 0 changed, 0 new, 0 gone\n\
+                  FAILED: 1 difference not given (there is no list)\n";
+    assert_eq!(run.out, wanted);
+    let told = Json::read(&pair.compare(&["--only-differences", "--json"]).out);
+    assert_eq!(told.at("files").list().len(), 1);
+    assert_eq!(told.at("folders").list().len(), 0);
+    assert_eq!(told.at("counts").at("unchanged").number(), 7);
+}
+
+/// The image with another table, in the same place.
+fn with_table(path: &Path, entries: &[Wish]) {
+    let mut bytes = fs::read(path).unwrap();
+    let table = table(entries);
+    let old = (Table::of(path).table_end - FST as u64) as usize;
+    bytes[FST..FST + old].fill(0);
+    bytes[FST..FST + table.len()].copy_from_slice(&table);
+    put(&mut bytes, 0x428, table.len() as u32);
+    fs::write(path, bytes).unwrap();
+}
+
+#[test]
+fn an_empty_folder_that_is_gone_fails() {
+    let pair = pair();
+    let mut entries = usual(0x10_0000, 0x4_5678);
+    entries.remove(3);
+    with_table(&pair.after, &entries);
+    let run = pair.compare(&[]);
+    assert_eq!(run.status, 1, "{}", run.out);
+    assert!(run.out.contains("gone             /empty/  [NOT GIVEN]\n"), "{}", run.out);
+    assert!(run.out.contains("FAILED: 1 difference"), "{}", run.out);
+    assert_eq!(pair.given("audio/\n").status, 1);
+    assert_eq!(pair.given("empty\n").status, 1);
+    assert_eq!(pair.given("empty/\n").status, 0);
+    let told = pair.json();
+    let gone: Vec<&str> = told
+        .at("folders")
+        .list()
+        .iter()
+        .filter(|folder| folder.at("status").text() == "gone")
+        .map(|folder| folder.at("path").text())
+        .collect();
+    assert_eq!(gone, ["/empty/"]);
+}
+
+#[test]
+fn an_entry_that_hides_another_fails() {
+    // A folder of the same name in front: the path leads to it now, and the file is where it was.
+    for (at, name, hidden) in [(0, "opening.bnr", "/opening.bnr"), (1, "audio", "/audio/theme.adp")]
+    {
+        let pair = pair();
+        let manifest = pair.manifest();
+        let mut entries = usual(0x10_0000, 0x4_5678);
+        let other = if at == 0 { folder(name, vec![]) } else { file(name, 0, 0) };
+        entries.insert(at, other);
+        with_table(&pair.after, &entries);
+        for run in [pair.compare(&[]), pair.against(&manifest, &[])] {
+            assert_eq!(run.status, 1, "{}", run.out);
+            let line =
+                format!("hidden           {hidden}  (another entry of its name stands before it)");
+            assert!(run.out.contains(&line), "{}", run.out);
+        }
+        assert_eq!(status(&pair.json(), hidden), "hidden");
+    }
+}
+
+#[test]
+fn another_order_and_other_free_bytes_are_told() {
+    let pair = pair();
+    let run = pair.compare(&[]);
+    assert!(run.out.contains("\nunchanged        (order of the entries)\n"), "{}", run.out);
+    assert!(run.out.contains("\nunchanged        (free space)\n"), "{}", run.out);
+    let mut entries = usual(0x10_0000, 0x4_5678);
+    entries.swap(1, 2);
+    with_table(&pair.after, &entries);
+    let run = pair.compare(&[]);
+    assert_eq!(run.status, 0, "{}", run.out);
+    assert!(run.out.contains("\nchanged          (order of the entries)\n"), "{}", run.out);
+    assert!(pair.json().at("order_changed").flag());
+
+    fs::copy(&pair.before, &pair.after).unwrap();
+    // What edits leave behind is no change: the old place is free only after the move.
+    pair.edit(&["move", "audio/theme.adp", "0x190000"]);
+    pair.edit(&["resize", "text/en/msg.bin", "0x100"]);
+    pair.edit(&["mkdir", "extra"]);
+    let run = pair.compare(&[]);
+    assert!(run.out.contains("\nunchanged        (free space)\n"), "{}", run.out);
+    assert!(run.out.contains("\nunchanged        (order of the entries)\n"), "{}", run.out);
+    pair.spoil(0x1F_FFFF);
+    pair.spoil(0x1F_0000);
+    let run = pair.compare(&[]);
+    let line = "\nchanged          (free space: 2 bytes differ, the first at 0x1f0000)\n";
+    assert!(run.out.contains(line), "{}", run.out);
+    assert!(run.out.contains("FAILED: 2 differences"), "{}", run.out);
+    assert_eq!(pair.json().at("free_space").text(), "changed");
+}
+
+// Manifests -------------------------------------------------------------------------------
+
+impl Pair {
+    /// The manifest of the first image, in the place of it.
+    fn manifest(&self) -> PathBuf {
+        self.temp.write("before.sums", done("hash", &self.before, &[]).as_bytes())
+    }
+
+    fn against(&self, manifest: &Path, rest: &[&str]) -> Run {
+        let mut args = vec![self.after.to_str().unwrap()];
+        args.extend(rest);
+        on("compare", manifest, &args)
+    }
+}
+
+#[test]
+fn a_manifest_stands_for_the_image() {
+    let pair = pair();
+    let manifest = pair.manifest();
+    let run = pair.against(&manifest, &[]);
+    assert_eq!(run.status, 0, "{}{}", run.out, run.err);
+    assert_eq!(run.out, pair.compare(&[]).out);
+    pair.edit(&["move", "audio/theme.adp", "0x190000"]);
+    pair.edit(&["resize", "audio/se/se000.dsp", "0x800"]);
+    pair.edit(&["add", "text/en/new.bin"]);
+    pair.spoil(0x10_0000 + 0x2345);
+    // The same lines, but for the free space: a region that holds something now has no sum.
+    let (image, sums) = (pair.compare(&[]), pair.against(&manifest, &[]));
+    assert_eq!((image.status, sums.status), (1, 1));
+    let rows = |run: &Run| -> Vec<String> {
+        run.out.lines().filter(|l| !l.contains("(free space")).map(String::from).collect()
+    };
+    assert_eq!(rows(&image), rows(&sums));
+    assert!(sums.out.contains("unknown          (free space: "), "{}", sums.out);
+    let list = pair.temp.write("l", b"audio/\nmovie/intro.thp\n");
+    assert_eq!(pair.against(&manifest, &["--given", list.to_str().unwrap()]).status, 0);
+    // What is shorter has no sum of its bytes.
+    pair.edit(&["resize", "text/en/msg.bin", "0x1000"]);
+    let run = pair.against(&manifest, &[]);
+    let line = "resized          /text/en/msg.bin  size 4,660 -> 4,096  (shorter than";
+    assert!(run.out.contains(line), "{}", run.out);
+    // Header, what lies behind the disc end, free space.
+    for at in [0x21, APPLOADER as u64 + 0x30, DOL as u64 + 0x1000] {
+        fs::copy(&pair.before, &pair.after).unwrap();
+        pair.spoil(at);
+        assert_eq!(pair.against(&manifest, &[]).status, 1, "{at:#x}");
+    }
+    fs::copy(&pair.before, &pair.after).unwrap();
+    pair.spoil(0x1F_0000);
+    let run = pair.against(&manifest, &[]);
+    assert_eq!(run.status, 0);
+    assert!(run.out.contains("changed          (free space: the region at"), "{}", run.out);
+    let mut bytes = fs::read(&pair.before).unwrap();
+    bytes.push(0);
+    fs::write(&pair.after, bytes).unwrap();
+    assert_eq!(pair.against(&manifest, &[]).status, 1);
+}
+
+#[test]
+fn a_manifest_is_one_of_sha256sum_too() {
+    let pair = pair();
+    let manifest = pair.manifest();
+    let files = pair.temp.at("files");
+    done("extract", &pair.before, &["--all", files.to_str().unwrap()]);
+    let sha256sum = |args: &[&str]| {
+        std::process::Command::new("sha256sum").args(args).current_dir(&files).output()
+    };
+    let Ok(held) = sha256sum(&["--check", "--strict", manifest.to_str().unwrap()]) else {
+        println!("not tried: there is no sha256sum");
+        return;
+    };
+    let held: Run = held.into();
+    assert_eq!(held.status, 0, "{}{}", held.out, held.err);
+    assert_eq!(held.out.lines().filter(|line| line.ends_with(": OK")).count(), 8);
+    let whole: Run = sha256sum(&[pair.before.to_str().unwrap()]).unwrap().into();
+    let text = fs::read_to_string(&manifest).unwrap();
+    assert!(text.contains(&format!("# image {} ", &whole.out[..64])), "{text}");
+    // One byte of an extracted file.
+    fs::write(files.join("opening.bnr"), b"x").unwrap();
+    let held: Run = sha256sum(&["--check", manifest.to_str().unwrap()]).unwrap().into();
+    assert_eq!(held.status, 1);
+}
+
+#[test]
+fn a_manifest_that_was_cut_or_changed_is_none() {
+    let pair = pair();
+    // A name that would make two lines.
+    let odd = pair.temp.at("a\nb.iso");
+    fs::copy(&pair.before, &odd).unwrap();
+    let manifest = pair.temp.write("odd.sums", done("hash", &odd, &[]).as_bytes());
+    assert_eq!(pair.against(&manifest, &[]).status, 0);
+    let text = done("hash", &pair.before, &[]);
+    assert!(text.is_ascii() && text.starts_with("# counter manifest 1\n"));
+    let lines: Vec<&str> = text.lines().collect();
+    for cut in 1..lines.len() {
+        let manifest = pair.temp.write("cut.sums", lines[..cut].join("\n").as_bytes());
+        let run = pair.against(&manifest, &[]);
+        assert_eq!(run.status, 65, "{cut}: {}", run.out);
+    }
+    let changed = text.replace("# disc-end 0x200000", "# disc-end 0x200001");
+    let manifest = pair.temp.write("changed.sums", changed.as_bytes());
+    let run = pair.against(&manifest, &[]);
+    assert_eq!(run.status, 65);
+    assert!(run.err.contains("cut or changed"), "{}", run.err);
+    // Line ends as Windows has them, and a byte order mark.
+    let windows = format!("\u{FEFF}{}", text.replace('\n', "\r\n"));
+    let manifest = pair.temp.write("windows.sums", windows.as_bytes());
+    let run = pair.against(&manifest, &[]);
+    assert_eq!(run.status, 0, "{}", run.err);
+    let newer = pair.temp.write("newer.sums", text.replace("manifest 1", "manifest 2").as_bytes());
+    assert_eq!(pair.against(&newer, &[]).status, 65);
+    // AFTER is an image.
+    assert_eq!(on("compare", &pair.before, &[manifest.to_str().unwrap()]).status, 64);
+}
+
+#[test]
+fn equal_names_have_each_their_sum() {
+    let entries = [
+        file("x", 0x6_0000, 0x10),
+        file("x", 0x6_1000, 0x20),
+        folder("x", vec![file("x", 0x6_2000, 0x30)]),
+        folder("x", vec![file("x", 0x6_3000, 0x30), folder("x", vec![])]),
+        file(" # x  ", 0x6_4000, 0x30),
+    ];
+    let pair = pair_of(&entries);
+    let manifest = pair.manifest();
+    let run = pair.against(&manifest, &[]);
+    assert_eq!(run.status, 0, "{}{}", run.out, run.err);
+    assert_eq!(run.out, pair.compare(&[]).out);
+    for at in [0x6_0000, 0x6_1000, 0x6_2000, 0x6_3000, 0x6_4000] {
+        fs::copy(&pair.before, &pair.after).unwrap();
+        pair.spoil(at);
+        let (image, sums) = (pair.compare(&[]), pair.against(&manifest, &[]));
+        assert_eq!((image.status, sums.status), (1, 1), "{at:#x}");
+        assert_eq!(image.out, sums.out);
+    }
+}
+
+/// SHA-256 by another program, where there is one.
+fn sha256(bytes: &[u8]) -> Option<String> {
+    use std::io::Write;
+    let piped = std::process::Stdio::piped;
+    let mut child =
+        std::process::Command::new("sha256sum").stdin(piped()).stdout(piped()).spawn().ok()?;
+    child.stdin.take().unwrap().write_all(bytes).unwrap();
+    let out = child.wait_with_output().unwrap().stdout;
+    Some(String::from_utf8_lossy(&out)[..64].to_string())
+}
+
+#[test]
+fn no_manifest_makes_the_program_fall_over() {
+    let pair = pair();
+    let text = done("hash", &pair.before, &[]);
+    let (lines, _) = text.trim_end().rsplit_once('\n').unwrap();
+    let mut state = 0x2545_F491u32;
+    let mut random = move |n: usize| {
+        state ^= state << 13;
+        state ^= state >> 17;
+        state ^= state << 5;
+        state as usize % n
+    };
+    let odd =
+        ["0", "0x0", "0xffffffff", "4294967295", "18446744073709551615", "-1", "/", "", " ", "#"];
+    let mut statuses = [0; 3];
+    for turn in 0..60 {
+        let mut lines: Vec<String> = lines.lines().map(String::from).collect();
+        for _ in 0..=random(3) {
+            let at = 1 + random(lines.len() - 1);
+            match random(6) {
+                0 => drop(lines.remove(at)),
+                1 => {
+                    let other = 1 + random(lines.len() - 1);
+                    lines.swap(at, other);
+                }
+                kind => {
+                    let mut words: Vec<&str> = lines[at].split(' ').collect();
+                    let is_number = |word: &str| word.starts_with(char::is_numeric);
+                    let numbers: Vec<usize> = (0..words.len())
+                        .filter(|&i| is_number(words[i]) && words[i].len() < 20)
+                        .collect();
+                    match (kind, numbers.is_empty()) {
+                        (2, _) | (_, true) => {
+                            let word = random(words.len());
+                            words[word] = odd[random(odd.len())];
+                        }
+                        _ => words[numbers[random(numbers.len())]] = odd[random(5)],
+                    }
+                    lines[at] = words.join(" ");
+                }
+            }
+        }
+        let spoiled = lines.join("\n") + "\n";
+        let Some(sum) = sha256(spoiled.as_bytes()) else {
+            println!("not tried: there is no sha256sum");
+            return;
+        };
+        let spoiled = format!("{spoiled}# sum of the lines above {sum}\n");
+        let manifest = pair.temp.write("spoiled.sums", spoiled.as_bytes());
+        let page = pair.temp.at(&format!("page{turn}.html"));
+        let svg = pair.temp.at(&format!("map{turn}.svg"));
+        let run = pair.against(&manifest, &["--map", svg.to_str().unwrap()]);
+        let again =
+            on("report", &manifest, &[pair.after.to_str().unwrap(), page.to_str().unwrap()]);
+        for run in [&run, &again] {
+            assert!([0, 1, 65].contains(&run.status), "turn {turn}: {} {}", run.status, run.err);
+            assert!(!run.err.contains("panicked"), "turn {turn}: {}", run.err);
+        }
+        assert_eq!(run.status, again.status);
+        statuses[[0, 1, 65].iter().position(|s| *s == run.status).unwrap()] += 1;
+    }
+    println!("passed {}, failed {}, no manifest {}", statuses[0], statuses[1], statuses[2]);
+    assert!(statuses[1] > 3 && statuses[2] > 10, "{statuses:?}");
+    // The picture of a manifest is that of its image.
+    let manifest = pair.manifest();
+    pair.edit(&["move", "audio/theme.adp", "0x190000"]);
+    let (one, other) = (pair.temp.at("one.svg"), pair.temp.at("other.svg"));
+    pair.compare(&["--map", one.to_str().unwrap()]);
+    pair.against(&manifest, &["--map", other.to_str().unwrap()]);
+    assert!(fs::read(one).unwrap() == fs::read(other).unwrap());
 }

@@ -30,29 +30,43 @@ fn built_in_small_master_is_listed_as_the_paper_has_it() {
 }
 
 #[test]
-fn every_reading_command_works_without_an_image() {
+fn only_bare_commands_show_the_small_master() {
     let temp = Temp::new();
-    let out = |name: &str| temp.at(name).display().to_string();
-    let (folder, one, svg) = (out("all"), out("one"), out("map.svg"));
-    let commands: [&[&str]; 10] = [
-        &["info"],
-        &["list"],
-        &["tree"],
-        &["free"],
-        &["find", "/a"],
-        &["check"],
-        &["extract", "--all", &folder],
-        &["extract", "a", &one],
-        &["cat", "a"],
-        &["map", &svg],
-    ];
-    for args in commands {
-        let plain = run(args);
-        assert_eq!(plain.status, 0, "{args:?}: {}", plain.err);
+    let svg = temp.at("map.svg").display().to_string();
+    let shown: [&[&str]; 4] = [&["info"], &["list"], &["tree"], &["map", "--demo", &svg]];
+    for args in shown {
+        let run = run(args);
+        assert_eq!(run.status, 0, "{args:?}: {}", run.err);
+        assert!(run.err.contains("built-in small master"), "{args:?}: {}", run.err);
     }
-    assert_eq!(fs::read(temp.at("one")).unwrap(), vec![0; 0x100]);
-    assert_eq!(fs::read(temp.at("all").join("a")).unwrap(), vec![0; 0x100]);
-    assert_eq!(run(&["dol"]).status, 0);
+    // What a script says where its variable is empty.
+    let other = temp.at("other.svg").display().to_string();
+    let folder = temp.at("all").display().to_string();
+    let missing: [&[&str]; 16] = [
+        &["check"],
+        &["free"],
+        &["dol"],
+        &["hash"],
+        &["list", "--json"],
+        &["tree", "--json"],
+        &["info", "--wait"],
+        &["list", "--"],
+        &["find", "/a"],
+        &["place", "0x100"],
+        &["cat", "/a"],
+        &["extract", "/a", &folder],
+        &["extract", "--all", &folder],
+        &["map", &other],
+        &["compare", "x"],
+        &["move", "/a", "0x600"],
+    ];
+    for args in missing {
+        let run = run(args);
+        assert_eq!(run.status, 64, "{args:?}: {}", run.err);
+        assert!(run.err.contains(&format!("usage: counter {} ", args[0])), "{}", run.err);
+    }
+    assert!(!temp.at("other.svg").exists() && !temp.at("all").exists());
+    assert_eq!(run(&["list", ""]).status, 66);
 }
 
 #[test]
@@ -310,7 +324,15 @@ fn nothing_is_overwritten() {
     assert_eq!(on("map", &image, &[there.to_str().unwrap()]).status, 73);
     assert_eq!(on("map", &image, &[image.to_str().unwrap()]).status, 73);
     // IMAGE forgotten: what was meant as the image is not written over.
-    assert_eq!(run(&["map", image.to_str().unwrap()]).status, 73);
+    assert_eq!(run(&["map", "--demo", image.to_str().unwrap()]).status, 73);
+    for option in ["--map", "--given"] {
+        let copy = temp.write("copy.iso", &small_master());
+        let args = [copy.to_str().unwrap(), option, image.to_str().unwrap()];
+        assert_ne!(on("compare", &image, &args).status, 0, "{option}");
+    }
+    let copy = temp.at("copy.iso");
+    let args = [copy.to_str().unwrap(), there.to_str().unwrap()];
+    assert_eq!(on("report", &image, &args).status, 73);
     assert_eq!(on("dol", &image, &["--out", there.to_str().unwrap()]).status, 73);
     let folder = temp.at("full");
     fs::create_dir(&folder).unwrap();
@@ -436,6 +458,178 @@ fn names_with_odd_signs_are_kept_apart_from_markup() {
 }
 
 #[test]
+fn place_answers_as_the_paper_marks_it() {
+    let temp = Temp::new();
+    let image = temp.write("small.iso", &small_master());
+    // P2, P3, and a number that is no power of two.
+    let told = json("place", &image, &["0x100", "0x100"]);
+    assert_eq!((told.at("offset").number(), told.at("room").number()), (0x600, 0x1A00));
+    assert_eq!(on("place", &image, &["0x1A01", "1"]).status, 21);
+    let told = json("place", &image, &["0x1A00", "1"]);
+    assert_eq!((told.at("offset").number(), told.at("room").number()), (0x600, 0x1A00));
+    assert_eq!(on("place", &image, &["1", "3"]).status, 22);
+    assert_eq!(on("place", &image, &["1", "0"]).status, 22);
+    assert_eq!(on("place", &image, &["x"]).status, 64);
+    assert_eq!(on("place", &image, &["1"]).status, 21);
+    let usual = usual_master(&temp);
+    let told = json("place", &usual, &["64K"]);
+    assert_eq!(told.at("align").number(), 0x8000);
+    let (at, room) = (told.at("offset").number(), told.at("room").number());
+    let holds = |&(start, size): &(u64, u64)| start <= at && at + room == start + size;
+    assert!(at % 0x8000 == 0 && Table::of(&usual).free().iter().any(holds), "{at:#x} {room:#x}");
+    let text = done("place", &usual, &["64K"]);
+    assert!(text.contains(&format!("offset            {at:#x} (")), "{text}");
+}
+
+#[test]
+fn an_unwritable_standard_error_ends_nothing() {
+    let temp = Temp::new();
+    let image = temp.write("small.iso", &small_master());
+    let full = || File::options().write(true).open("/dev/full").unwrap();
+    let runs: [(&[&str], i32); 6] = [
+        (&["list"], 0),
+        (&["frobnicate"], 64),
+        (&[], 64),
+        (&["check", "/no/such/file"], 66),
+        (&["check", "/no/such/file", "--json"], 66),
+        (&["find", image.to_str().unwrap(), "nothing"], 18),
+    ];
+    for (args, status) in runs {
+        let run: Run = program().args(args).stderr(full()).output().unwrap().into();
+        assert_eq!(run.status, status, "{args:?}");
+        let (reader, writer) = std::io::pipe().unwrap();
+        drop(reader);
+        let run: Run = program().args(args).stderr(writer).output().unwrap().into();
+        assert_eq!(run.status, status, "{args:?}");
+    }
+    // Neither stream can be written.
+    let run: Run = program()
+        .args(["move", image.to_str().unwrap(), "a", "0x600"])
+        .stdout(full())
+        .stderr(full())
+        .output()
+        .unwrap()
+        .into();
+    assert!(run.status > 64 && run.status != 101, "{}", run.status);
+    assert_eq!(Table::of(&image).entry("/a").offset, 0x600);
+}
+
+#[test]
+fn waiting_for_the_lock() {
+    let temp = Temp::new();
+    let image = temp.write("small.iso", &small_master());
+    for args in [&["list"][..], &["move", "a", "0x600"]] {
+        let other = OpenOptions::new().read(true).write(true).open(&image).unwrap();
+        other.lock().unwrap();
+        let mut rest = args[1..].to_vec();
+        assert_eq!(on(args[0], &image, &rest).status, 75);
+        rest.push("--wait");
+        let child = program()
+            .arg(args[0])
+            .arg(&image)
+            .args(&rest)
+            .stdout(Stdio::piped())
+            .stderr(Stdio::piped())
+            .spawn()
+            .unwrap();
+        std::thread::sleep(std::time::Duration::from_millis(300));
+        other.unlock().unwrap();
+        let run: Run = child.wait_with_output().unwrap().into();
+        assert_eq!(run.status, 0, "{}", run.err);
+        assert!(run.err.contains("waiting"), "{}", run.err);
+    }
+    assert_eq!(Table::of(&image).entry("/a").offset, 0x600);
+}
+
+/// What wait4 tells of a child: its time in the program and in the system, seconds and microseconds,
+/// and more that is not looked at.
+#[repr(C)]
+#[derive(Default)]
+struct Usage {
+    times: [i64; 4],
+    rest: [i64; 14],
+}
+
+unsafe extern "C" {
+    fn wait4(process: i32, status: *mut i32, options: i32, usage: *mut Usage) -> i32;
+}
+
+/// Runs, and tells how long the processor worked at it: other programs do not count.
+fn worked(command: &str, image: &std::path::Path) -> (std::time::Duration, Run) {
+    let mut child = program()
+        .arg(command)
+        .arg(image)
+        .stdout(Stdio::null())
+        .stderr(Stdio::piped())
+        .spawn()
+        .unwrap();
+    let mut err = String::new();
+    child.stderr.take().unwrap().read_to_string(&mut err).unwrap();
+    let (mut status, mut usage) = (0, Usage::default());
+    // SAFETY: both are there, and the child is nobody else's.
+    let waited = unsafe { wait4(child.id() as i32, &mut status, 0, &mut usage) };
+    assert_eq!(waited, child.id() as i32);
+    let [seconds, micros, in_system, micros_in_system] = usage.times.map(|time| time as u64);
+    let time = std::time::Duration::from_secs(seconds + in_system)
+        + std::time::Duration::from_micros(micros + micros_in_system);
+    let status = status >> 8 & 0xFF;
+    (time, Run { status, signal: None, bytes: Vec::new(), out: String::new(), err })
+}
+
+#[test]
+fn a_refusal_is_looked_into_in_no_time() {
+    let temp = Temp::new();
+    // 16,384 names in one text of 1 MiB; the last entry is the one that is wrong.
+    let sound = fs::read(long_names(&temp, 16_384)).unwrap();
+    let last = 0x440 + 12 * 16_383;
+    let texts = 0x440 + 12 * 16_384;
+    type Case = (u32, &'static str, fn(&mut [u8], usize, usize));
+    let cases: [Case; 7] = [
+        (10, "entry 16383 has next 16383", |b, at, _| {
+            put(b, at, 0x0100_0000);
+            put(b, at + 8, 16_383);
+        }),
+        (11, "entry 16383 has name offset 1048576", |b, at, _| put(b, at, 0x10_0000)),
+        (12, "entry 16383 is called \"\\x7f\"", |b, at, texts| {
+            // A text of its own: the end of the long one.
+            b[texts + 0xF_FFFD] = 0;
+            b[texts + 0xF_FFFE] = 0x7F;
+            put(b, at, 0xF_FFFE);
+        }),
+        (13, "entry 16383 is called \":\"", |b, at, texts| {
+            b[texts + 0xF_FFFD] = 0;
+            b[texts + 0xF_FFFE] = b':';
+            put(b, at, 0xF_FFFE);
+        }),
+        (13, "entry 16383 is called \"\"", |b, at, _| put(b, at, 0xF_FFFF)),
+        (13, "entry 16383 is called \"..\"", |b, at, texts| {
+            b[texts + 0xF_FFFC] = 0;
+            b[texts + 0xF_FFFD] = b'.';
+            b[texts + 0xF_FFFE] = b'.';
+            put(b, at, 0xF_FFFD);
+        }),
+        (14, "entry 16383 \"nnn", |b, at, _| {
+            put(b, at + 4, 0x40_0000);
+            put(b, at + 8, 1);
+        }),
+    ];
+    let best = |path: &std::path::Path| {
+        (0..5).map(|_| worked("check", path)).min_by_key(|(time, _)| *time).unwrap()
+    };
+    let (alone, _) = best(&temp.at("deep.iso"));
+    for (number, words, spoil) in cases {
+        let mut bytes = sound.clone();
+        spoil(&mut bytes, last, texts);
+        let image = temp.write("spoiled.iso", &bytes);
+        let (time, run) = best(&image);
+        assert_eq!(run.status, number as i32, "{}", run.err);
+        assert!(run.err.contains(words), "{words}: {:.300}", run.err);
+        println!("{number}: {time:?}; the same image where it opens: {alone:?}");
+        assert!(time < std::time::Duration::from_millis(200), "{number}: {time:?}");
+    }
+}
+
+#[test]
 fn wrong_files_give_clear_errors() {
     let temp = Temp::new();
     let missing = on("list", &temp.at("nothing.iso"), &[]);
@@ -490,7 +684,7 @@ fn an_image_that_is_being_edited_is_not_read() {
 
 #[test]
 fn wrong_usage_is_64() {
-    let cases: [&[&str]; 15] = [
+    let cases: [&[&str]; 19] = [
         &[],
         &["frobnicate"],
         &["list", "a", "b"],
@@ -503,7 +697,11 @@ fn wrong_usage_is_64() {
         &["rewrite"],
         &["move", "x", "y"],
         &["mkdir", "image"],
-        &["rewrite", "image", "--json"],
+        &["rewrite", "image", "--over"],
+        &["hash", "image", "--json"],
+        &["place", "image"],
+        &["place", "image", "1", "2", "3"],
+        &["report", "x", "y"],
         &["info", "--json=1"],
         &["help", "nothing"],
     ];
@@ -519,8 +717,8 @@ fn help_documents_commands_statuses_and_safety() {
     let run_help = run(&["help"]);
     assert_eq!(run_help.status, 0);
     let commands = [
-        "info", "list", "tree", "free", "find", "check", "extract", "cat", "dol", "map", "compare",
-        "mkdir", "add", "move", "resize", "rewrite",
+        "info", "list", "tree", "free", "find", "place", "check", "extract", "cat", "dol", "map",
+        "compare", "hash", "report", "mkdir", "add", "move", "resize", "rewrite",
     ];
     for command in commands {
         assert!(run_help.out.contains(&format!("counter {command} ")), "{command}");
@@ -562,7 +760,15 @@ fn help_documents_commands_statuses_and_safety() {
     assert!(run(&["help", "safety"]).out.contains("SIGKILL"));
     assert!(run(&["help", "exit"]).out.contains("128 + n"));
     assert_eq!(run(&["--help"]).out, run_help.out);
-    assert_eq!(run(&["--version"]).status, 0);
+    let version = run(&["--version"]);
+    assert_eq!(version.status, 0);
+    let sum = version.out.lines().nth(1).unwrap().strip_prefix("libcounter.a SHA-256 ").unwrap();
+    assert!(sum.len() == 64 && sum.chars().all(|c| c.is_ascii_hexdigit()), "{sum}");
+    // A test, and no proof.
+    let check = run_help.out.find("\nCheck\n").unwrap();
+    let compare = run_help.out.find("\n  counter compare ").unwrap();
+    let edit = run_help.out.find("\nEdit\n").unwrap();
+    assert!(check < compare && compare < edit);
 }
 
 #[test]
@@ -571,8 +777,11 @@ fn help_names_every_field_of_the_json() {
     let image = usual_master(&temp);
     let help = run(&["help", "json"]).out;
     let words: Vec<&str> = help.split(|c: char| !c.is_ascii_alphanumeric() && c != '_').collect();
-    let (out, svg) = (temp.at("out"), temp.at("map.svg"));
-    let commands: [(&str, &[&str]); 11] = [
+    let (out, svg, page) = (temp.at("out"), temp.at("map.svg"), temp.at("page.html"));
+    let copy = temp.at("copy.iso");
+    fs::copy(&image, &copy).unwrap();
+    let copy = copy.to_str().unwrap();
+    let commands: [(&str, &[&str]); 18] = [
         ("info", &[]),
         ("list", &[]),
         ("tree", &[]),
@@ -583,10 +792,19 @@ fn help_names_every_field_of_the_json() {
         ("cat", &["audio/se/se000.dsp"]),
         ("dol", &[]),
         ("map", &[svg.to_str().unwrap()]),
-        ("compare", &[image.to_str().unwrap()]),
+        ("place", &["64K"]),
+        ("compare", &[copy]),
+        ("report", &[copy, page.to_str().unwrap()]),
+        ("mkdir", &["new"]),
+        ("add", &["new/file"]),
+        ("move", &["opening.bnr", "0x190002"]),
+        ("resize", &["opening.bnr", "0"]),
+        ("rewrite", &[]),
     ];
     for (command, rest) in commands {
-        assert!(words.contains(&command), "{command}");
+        let help = run(&["help", command]).out;
+        let words: Vec<&str> =
+            help.split(|c: char| !c.is_ascii_alphanumeric() && c != '_').collect();
         for name in fields(&json(command, &image, rest)) {
             assert!(words.contains(&name.as_str()), "{command}: {name}");
         }
@@ -637,7 +855,13 @@ fn reading_leaves_the_file_as_it_was() {
         json(command, &image, &[]);
     }
     done("find", &image, &["audio"]);
-    done("compare", &image, &[image.to_str().unwrap()]);
+    let copy = temp.at("copy.iso");
+    fs::copy(&image, &copy).unwrap();
+    done("compare", &image, &[copy.to_str().unwrap()]);
+    done("hash", &image, &[]);
+    done("place", &image, &["64K"]);
+    let page = temp.at("page.html");
+    done("report", &image, &[copy.to_str().unwrap(), page.to_str().unwrap()]);
     assert_eq!(State::of(&image), before);
     fs::set_permissions(&image, fs::Permissions::from_mode(0o444)).unwrap();
     done("list", &image, &[]);

@@ -74,8 +74,10 @@ fn no_image_makes_the_program_fall_over() {
         let out = temp.at(&format!("out{turn}"));
         let svg = temp.at(&format!("map{turn}.svg"));
         let (out, svg) = (out.to_str().unwrap(), svg.to_str().unwrap());
-        let itself = image.to_str().unwrap();
-        let reading: [&[&str]; 8] = [
+        let copy = temp.write("copy.iso", &bytes);
+        let html = temp.at(&format!("report{turn}.html"));
+        let (itself, html) = (copy.to_str().unwrap(), html.to_str().unwrap());
+        let reading: [&[&str]; 11] = [
             &["info"],
             &["tree", "--json"],
             &["free"],
@@ -84,8 +86,13 @@ fn no_image_makes_the_program_fall_over() {
             &["map", svg],
             &["extract", "--all", out],
             &["compare", itself],
+            &["report", itself, html],
+            &["hash"],
+            &["place", "0x10", "4"],
         ];
-        for args in reading {
+        // The last three read what the others read, and take longer.
+        let count = if turn % 5 == 0 { reading.len() } else { 8 };
+        for args in &reading[..count] {
             let run = on(args[0], &image, &args[1..]);
             assert!(run.status <= 24 || run.status == 65, "turn {turn} {args:?}: {}", run.err);
             assert!(

@@ -1,0 +1,118 @@
+//! How a disc is laid out, from an image or from a manifest: what is compared, and what maps show.
+
+use crate::disc::{Disc, Kind, not_opened, table_end};
+use crate::dol::{Dol, program_behind};
+use crate::failure::Outcome;
+use crate::header::Header;
+use crate::image::{Desk, Image};
+use crate::sha256::Sum;
+use crate::text::{one_line, shown};
+use counter_sys::Region;
+
+/// An entry of the table.
+pub struct Record {
+    pub number: u32,
+    pub parent: u32,
+    pub folder: bool,
+    /// From the root on, a folder's with `/` at the end.
+    pub path: String,
+    /// Offset and size; a folder has neither.
+    pub place: (u32, u32),
+    /// A manifest has it for files.
+    pub sum: Option<Sum>,
+}
+
+impl Record {
+    pub fn name(&self) -> &str {
+        self.path.trim_end_matches('/').rsplit('/').next().unwrap_or("")
+    }
+}
+
+pub struct Layout {
+    /// The file's name without its folders.
+    pub name: String,
+    /// Game code and game name.
+    pub game: String,
+    pub bytes: u64,
+    pub disc_end: u32,
+    pub fst: (u32, u32),
+    /// The program, as far as it lies on the disc, and whether it lies behind the table.
+    pub program: Option<(u32, u32)>,
+    pub program_behind: bool,
+    pub free: Vec<Region>,
+    pub records: Vec<Record>,
+}
+
+impl Layout {
+    pub fn of(image: &Image, desk: &mut Desk, disc: &Disc) -> Outcome<Layout> {
+        let header = Header::read(image.bytes()).map_err(|n| not_opened(image, n))?;
+        let behind = program_behind(image, desk, &disc.opened);
+        let records = disc.nodes.iter().map(|node| Record {
+            number: node.number,
+            parent: node.parent,
+            folder: node.is_directory(),
+            path: node.path.clone(),
+            place: match node.kind {
+                Kind::File { offset, size } => (offset, size),
+                Kind::Directory { .. } => (0, 0),
+            },
+            sum: None,
+        });
+        let game = format!("{} {}", shown(header.game()), shown(header.game_name()));
+        Ok(Layout {
+            name: one_line(image.name.rsplit('/').next().unwrap_or("")),
+            game: game.trim().to_string(),
+            bytes: image.bytes().len() as u64,
+            disc_end: disc.opened.disc_end,
+            fst: (disc.opened.fst_offset, disc.opened.fst_size),
+            program: behind.or_else(|| program_in_front(image, desk, disc, &header)),
+            program_behind: behind.is_some(),
+            free: disc.free.clone(),
+            records: records.collect(),
+        })
+    }
+
+    pub fn table_end(&self) -> u64 {
+        u64::from(self.fst.0) + u64::from(self.fst.1)
+    }
+
+    pub fn files(&self) -> impl Iterator<Item = &Record> {
+        self.records.iter().filter(|record| !record.folder)
+    }
+
+    pub fn free_bytes(&self) -> u64 {
+        self.free.iter().map(|region| u64::from(region.size)).sum()
+    }
+
+    /// Header, system area and program in one: all before the table but for the table's size, which
+    /// edits write.
+    pub fn system(&self) -> [(&'static str, u32, u32); 3] {
+        let fst = self.fst.0;
+        [
+            ("header up to the table's size", 0, 0x428),
+            ("header behind the table's size", 0x42C, 0x440 - 0x42C),
+            ("system area", 0x440, fst - 0x440),
+        ]
+    }
+
+    /// What lies behind the disc end.
+    pub fn tail(&self) -> (u64, u64) {
+        let end = u64::from(self.disc_end);
+        (end, self.bytes.saturating_sub(end))
+    }
+}
+
+/// A program before the table: as far as it can be read, and up to the table.
+fn program_in_front(
+    image: &Image,
+    desk: &mut Desk,
+    disc: &Disc,
+    header: &Header,
+) -> Option<(u32, u32)> {
+    if header.word(0x420) == 0 {
+        return None;
+    }
+    let dol = Dol::read(image, desk).ok()?;
+    let left = table_end(&disc.opened).saturating_sub(dol.start.into());
+    Some((dol.start, dol.size.min(left) as u32))
+}

@@ -1,0 +1,352 @@
+//! `hash`: a manifest of an image, in the form of sha256sum, and such a manifest read again.
+
+use crate::args::Args;
+use crate::disc::opened;
+use crate::failure::{DATA, Failure, INPUT_OUTPUT, Outcome};
+use crate::image::Image;
+use crate::layout::{Layout, Record};
+use crate::out::say;
+use crate::progress::Progress;
+use crate::sha256::{Sha256, Sum, hex};
+use counter_sys::Region;
+use std::fmt::Write;
+use std::fs::{self, File};
+use std::io::Read;
+use std::path::Path;
+use std::sync::atomic::{AtomicUsize, Ordering};
+use std::thread;
+
+const FIRST: &str = "# counter manifest 1";
+const LAST: &str = "# sum of the lines above ";
+
+/// A part of the image that is no file, with its sum.
+pub struct Part {
+    pub name: String,
+    pub offset: u64,
+    pub size: u64,
+    pub sum: Sum,
+}
+
+/// An image's layout and sums.
+pub struct Manifest {
+    pub layout: Layout,
+    pub image: Sum,
+    /// Header and system area, program, what lies behind the disc end.
+    pub parts: Vec<Part>,
+    pub free: Vec<Part>,
+}
+
+/// No file system holds a longer file; sums of sizes stay below 2^64.
+const MOST_BYTES: u64 = 1 << 60;
+
+pub const PROGRAM: &str = "program";
+pub const TAIL: &str = "behind the disc end";
+const FREE: &str = "free";
+
+pub fn hash(args: &Args) -> Outcome<()> {
+    let (image, mut desk, disc) = opened(args.image.as_deref())?;
+    let disc = disc.with_paths()?;
+    let layout = Layout::of(&image, &mut desk, &disc)?;
+    say(Manifest::of(&image, layout).text().as_bytes())
+}
+
+// Sums ------------------------------------------------------------------------------------
+
+const STEP: usize = 1 << 20;
+
+/// The sum of each span, offset and size, by as many threads as there are processors.
+pub fn sums(bytes: &[u8], spans: &[(u64, u64)], progress: &Progress) -> Vec<Sum> {
+    let mut order: Vec<usize> = (0..spans.len()).collect();
+    order.sort_by_key(|&i| u64::MAX - spans[i].1);
+    let next = AtomicUsize::new(0);
+    let work = || {
+        let mut found = Vec::new();
+        while let Some(&i) = order.get(next.fetch_add(1, Ordering::Relaxed)) {
+            found.push((i, sum_of(bytes, spans[i], progress)));
+        }
+        found
+    };
+    let threads = thread::available_parallelism().map_or(1, |n| n.get()).min(16);
+    let mut sums = vec![[0; 32]; spans.len()];
+    thread::scope(|scope| {
+        let workers: Vec<_> = (1..threads).map(|_| scope.spawn(work)).collect();
+        let own = work();
+        let others = workers.into_iter().map(|worker| worker.join().expect("a sum"));
+        for (i, sum) in others.flatten().chain(own) {
+            sums[i] = sum;
+        }
+    });
+    sums
+}
+
+fn sum_of(bytes: &[u8], (offset, size): (u64, u64), progress: &Progress) -> Sum {
+    let mut sha = Sha256::new();
+    // An empty file's place may be anything.
+    if size > 0 {
+        for part in bytes[offset as usize..][..size as usize].chunks(STEP) {
+            sha.update(part);
+            progress.advance(part.len() as u64);
+        }
+    }
+    sha.finish()
+}
+
+// Written ---------------------------------------------------------------------------------
+
+impl Manifest {
+    pub fn of(image: &Image, mut layout: Layout) -> Manifest {
+        let wide = |(offset, size): (u32, u32)| (u64::from(offset), u64::from(size));
+        let mut named: Vec<(String, (u64, u64))> = Vec::new();
+        named.push(("image".into(), (0, layout.bytes)));
+        for (name, offset, size) in layout.system() {
+            named.push((name.into(), wide((offset, size))));
+        }
+        if let Some(place) = layout.program {
+            named.push((PROGRAM.into(), wide(place)));
+        }
+        named.push((TAIL.into(), layout.tail()));
+        let parts = named.len();
+        for region in &layout.free {
+            named.push((FREE.into(), wide((region.offset, region.size))));
+        }
+        let free = named.len();
+        let mut spans: Vec<(u64, u64)> = named.iter().map(|(_, span)| *span).collect();
+        spans.extend(layout.files().map(|file| wide(file.place)));
+        let progress = Progress::start("hashing", spans.iter().map(|span| span.1).sum());
+        let mut sums = sums(image.bytes(), &spans, &progress);
+        let of_files = sums.split_off(free);
+        let files = layout.records.iter_mut().filter(|record| !record.folder);
+        for (file, sum) in files.zip(of_files) {
+            file.sum = Some(sum);
+        }
+        let mut all: Vec<Part> = named
+            .into_iter()
+            .zip(sums)
+            .map(|((name, (offset, size)), sum)| Part { name, offset, size, sum })
+            .collect();
+        let free = all.split_off(parts);
+        let image = all.remove(0).sum;
+        Manifest { layout, image, parts: all, free }
+    }
+
+    pub fn text(&self) -> String {
+        let layout = &self.layout;
+        let mut out = format!("{FIRST}\n");
+        let _ = writeln!(out, "# image {} {} {}", hex(&self.image), layout.bytes, layout.name);
+        let _ = writeln!(out, "# game {}", layout.game);
+        let _ = writeln!(out, "# disc-end {:#x}", layout.disc_end);
+        let _ = writeln!(out, "# table {:#x} {}", layout.fst.0, layout.fst.1);
+        for part in self.parts.iter().chain(&self.free) {
+            let (sum, at, size) = (hex(&part.sum), part.offset, part.size);
+            let _ = writeln!(out, "# part {sum} {at:#x} {size} {}", part.name);
+        }
+        for record in &layout.records[1..] {
+            let path = &record.path[1..];
+            let _ = match record.sum {
+                None => writeln!(out, "# folder {path}"),
+                Some(sum) => {
+                    let (offset, size) = record.place;
+                    writeln!(out, "# file {offset:#x} {size}\n{}  {path}", hex(&sum))
+                }
+            };
+        }
+        let _ = writeln!(out, "{LAST}{}", hex(&of_lines(&out)));
+        out
+    }
+}
+
+fn of_lines(text: &str) -> Sum {
+    let mut sha = Sha256::new();
+    sha.update(text.as_bytes());
+    sha.finish()
+}
+
+// Read ------------------------------------------------------------------------------------
+
+/// Whether the file begins as a manifest does.
+pub fn is_manifest(path: &Path) -> bool {
+    let is_file = fs::metadata(path).is_ok_and(|told| told.is_file());
+    let mut start = [0; 21];
+    is_file
+        && File::open(path).is_ok_and(|mut file| {
+            let count = file.read(&mut start).unwrap_or(0);
+            let start = &start[..count];
+            let start = start.strip_prefix(b"\xEF\xBB\xBF").unwrap_or(start);
+            start.starts_with(&FIRST.as_bytes()[..18])
+        })
+}
+
+/// Takes the next word off a line.
+fn word<'a>(line: &mut &'a str) -> Option<&'a str> {
+    let (word, rest) = line.split_once(' ').unwrap_or((line, ""));
+    *line = rest;
+    (!word.is_empty()).then_some(word)
+}
+
+fn number(line: &mut &str) -> Option<u64> {
+    let word = word(line)?;
+    match word.strip_prefix("0x") {
+        Some(digits) => u64::from_str_radix(digits, 16).ok(),
+        None => word.parse().ok(),
+    }
+}
+
+fn small(line: &mut &str) -> Option<u32> {
+    number(line).and_then(|number| u32::try_from(number).ok())
+}
+
+fn sum(line: &mut &str) -> Option<Sum> {
+    let word = word(line)?;
+    let mut sum = [0; 32];
+    if word.len() != 64 || !word.is_ascii() {
+        return None;
+    }
+    for (byte, i) in sum.iter_mut().zip((0..).step_by(2)) {
+        *byte = u8::from_str_radix(&word[i..i + 2], 16).ok()?;
+    }
+    Some(sum)
+}
+
+impl Manifest {
+    pub fn read(path: &Path) -> Outcome<Manifest> {
+        let bytes = fs::read(path).map_err(|e| Failure::file(INPUT_OUTPUT, path, &e))?;
+        let wrong = |why: &str| Failure::error(DATA, format!("{}: {why}", path.display()));
+        let bytes = bytes.strip_prefix(b"\xEF\xBB\xBF").unwrap_or(&bytes);
+        let text = std::str::from_utf8(bytes).map_err(|_| wrong("no manifest: not UTF-8"))?;
+        let text = text.replace("\r\n", "\n");
+        if !text.starts_with(&format!("{FIRST}\n")) {
+            return Err(wrong("a manifest of another version of this program"));
+        }
+        let cut = "the manifest was cut or changed: its last line is not the sum of the others";
+        let last = text.trim_end_matches('\n').rfind('\n').map_or(0, |at| at + 1);
+        let (lines, last) = text.split_at(last);
+        if last.trim_end_matches('\n') != format!("{LAST}{}", hex(&of_lines(lines))) {
+            return Err(wrong(cut));
+        }
+        let mut reader = Reader::new();
+        for (i, line) in lines.lines().enumerate().skip(1) {
+            let told = reader.line(line);
+            told.ok_or_else(|| wrong(&format!("line {} is none of a manifest", i + 1)))?;
+        }
+        reader.done().ok_or_else(|| wrong("the manifest lacks a line"))
+    }
+}
+
+/// A manifest as far as it is read.
+struct Reader {
+    manifest: Manifest,
+    /// Offset and size of the file whose line comes next.
+    place: Option<(u32, u32)>,
+    /// The folders that hold the next entry, innermost last.
+    open: Vec<u32>,
+}
+
+impl Reader {
+    fn new() -> Reader {
+        let root = Record {
+            number: 0,
+            parent: 0,
+            folder: true,
+            path: "/".into(),
+            place: (0, 0),
+            sum: None,
+        };
+        let layout = Layout {
+            name: String::new(),
+            game: String::new(),
+            bytes: 0,
+            disc_end: 0,
+            fst: (0, 0),
+            program: None,
+            program_behind: false,
+            free: Vec::new(),
+            records: vec![root],
+        };
+        let manifest = Manifest { layout, image: [0; 32], parts: Vec::new(), free: Vec::new() };
+        Reader { manifest, place: None, open: vec![0] }
+    }
+
+    /// None where the line is none of a manifest.
+    fn line(&mut self, line: &str) -> Option<()> {
+        let Some(mut rest) = line.strip_prefix("# ") else {
+            let (sum_text, path) = line.split_once("  ")?;
+            let place = self.place.take()?;
+            return self.record(path, false, place, Some(sum(&mut &*sum_text)?));
+        };
+        let layout = &mut self.manifest.layout;
+        match word(&mut rest)? {
+            "image" => {
+                self.manifest.image = sum(&mut rest)?;
+                layout.bytes = number(&mut rest).filter(|bytes| *bytes <= MOST_BYTES)?;
+                layout.name = rest.to_string();
+            }
+            "game" => layout.game = rest.to_string(),
+            "disc-end" => layout.disc_end = small(&mut rest)?,
+            "table" => layout.fst = (small(&mut rest)?, small(&mut rest)?),
+            "part" => return self.part(rest),
+            "folder" => {
+                let path = rest.strip_suffix('/')?;
+                return self.record(path, true, (0, 0), None);
+            }
+            "file" => self.place = Some((small(&mut rest)?, small(&mut rest)?)),
+            _ => return None,
+        }
+        Some(())
+    }
+
+    fn part(&mut self, mut rest: &str) -> Option<()> {
+        let sum = sum(&mut rest)?;
+        let (offset, size) = (number(&mut rest)?, number(&mut rest)?);
+        let part = Part { name: rest.to_string(), offset, size, sum };
+        let layout = &mut self.manifest.layout;
+        let place = || Some((u32::try_from(offset).ok()?, u32::try_from(size).ok()?));
+        match rest {
+            FREE => {
+                let (offset, size) = place()?;
+                layout.free.push(Region { offset, size });
+                self.manifest.free.push(part);
+            }
+            PROGRAM => {
+                layout.program = Some(place()?);
+                layout.program_behind = offset >= layout.table_end();
+                self.manifest.parts.push(part);
+            }
+            _ => self.manifest.parts.push(part),
+        }
+        Some(())
+    }
+
+    /// An entry, in table order, so that its folder is the innermost open one with that path.
+    fn record(
+        &mut self,
+        path: &str,
+        folder: bool,
+        place: (u32, u32),
+        sum: Option<Sum>,
+    ) -> Option<()> {
+        let records = &mut self.manifest.layout.records;
+        let path = format!("/{path}");
+        let (above, name) = path.split_at(path.rfind('/')? + 1);
+        while records[*self.open.last()? as usize].path != above {
+            self.open.pop();
+        }
+        // As in an image that opens: paths go to terminals, too.
+        if name.is_empty() || !name.bytes().all(|b| (b' '..=b'~').contains(&b)) {
+            return None;
+        }
+        let (number, parent) = (records.len() as u32, *self.open.last()?);
+        let path = if folder { format!("{path}/") } else { path };
+        records.push(Record { number, parent, folder, path, place, sum });
+        if folder {
+            self.open.push(number);
+        }
+        Some(())
+    }
+
+    /// The whole, if nothing is missing that is used later.
+    fn done(self) -> Option<Manifest> {
+        let layout = &self.manifest.layout;
+        let whole = layout.fst.0 >= 0x440 && self.place.is_none() && self.manifest.parts.len() >= 4;
+        whole.then_some(self.manifest)
+    }
+}

@@ -1,0 +1,137 @@
+//! counter.h from C: the worked example is compiled and run, and the header's numbers hold.
+
+mod support;
+
+use std::fs;
+use std::path::{Path, PathBuf};
+use std::process::Command;
+use support::*;
+
+fn include() -> PathBuf {
+    Path::new(env!("CARGO_MANIFEST_DIR")).join("../include")
+}
+
+/// Where libcounter.a is, as host/sys looks for it.
+fn library() -> PathBuf {
+    let sys = Path::new(env!("CARGO_MANIFEST_DIR")).join("../sys");
+    match std::env::var_os("COUNTER_LIB") {
+        Some(folder) => sys.join(folder),
+        None => sys.join("../../target/staticlib"),
+    }
+}
+
+/// Runs a compiler with every warning an error; None if there is none.
+fn compile(compiler: &str, args: &[&str]) -> Option<()> {
+    let run = Command::new(compiler)
+        .args(["-Wall", "-Wextra", "-Werror", "-pedantic", "-I"])
+        .arg(include())
+        .args(args)
+        .output();
+    let Ok(run) = run else {
+        println!("not tried: there is no {compiler}");
+        return None;
+    };
+    assert!(run.status.success(), "{}", String::from_utf8_lossy(&run.stderr));
+    Some(())
+}
+
+#[test]
+fn the_worked_example_does_what_the_program_does() {
+    let temp = Temp::new();
+    let example = temp.at("example");
+    let source = include().join("example.c");
+    let folder = library();
+    let args = [
+        "-std=c99",
+        source.to_str().unwrap(),
+        "-L",
+        folder.to_str().unwrap(),
+        "-lcounter",
+        "-o",
+        example.to_str().unwrap(),
+    ];
+    if compile("cc", &args).is_none() {
+        return;
+    }
+    let image = temp.write("disc.iso", &filled_master());
+    let moved = temp.at("moved.iso");
+    let run: Run = Command::new(&example)
+        .args([image.as_path(), Path::new("/a"), moved.as_path()])
+        .output()
+        .unwrap()
+        .into();
+    // The scope paper's listing; P2 has the place, P5 the free regions after the move.
+    let sum: u32 = (0..0x100u32).map(|i| i ^ 0x5A).sum();
+    let wanted = format!(
+        "8192 bytes, 1370 of them used, 2 entries\n\
+         directory 0 \"\" in 0\n\
+         file 1 \"a\" in 0: 256 bytes at 1280\n\
+         free: 166 bytes at 1114\n\
+         free: 6656 bytes at 1536\n\
+         the bytes of /a add up to {sum}\n\
+         moved /a from 1280 to 1536\n\
+         free: 422 bytes at 1114\n\
+         free: 6400 bytes at 1792\n\
+         the bytes of /a add up to {sum}\n"
+    );
+    assert_eq!((run.status, run.out), (0, wanted), "{}", run.err);
+    done("move", &image, &["/a", "0x600"]);
+    assert!(fs::read(&image).unwrap() == fs::read(&moved).unwrap());
+    // A refusal is told by its number and in words.
+    let bad = temp.write("bad.iso", &[0; 0x440]);
+    let run: Run = Command::new(&example)
+        .args([bad.as_path(), Path::new("/a"), moved.as_path()])
+        .output()
+        .unwrap()
+        .into();
+    assert_eq!((run.status, run.err.as_str()), (1, "entries: refused 3: not GameCube magic\n"));
+}
+
+#[test]
+fn the_header_compiles_alone_as_c_and_as_c_plus_plus() {
+    let temp = Temp::new();
+    let text = "#include \"counter.h\"\n#include \"counter.h\"\n\
+                int main(void) { return counter_cause(25) != 0 || counter_cause(0) == 0; }\n";
+    for (compiler, name, standard) in [
+        ("cc", "alone.c", "-std=c99"),
+        ("cc", "alone.c", "-std=c17"),
+        ("c++", "alone.cc", "-std=c++11"),
+    ] {
+        let source = temp.write(name, text.as_bytes());
+        let out = temp.at("alone");
+        let args = [standard, source.to_str().unwrap(), "-o", out.to_str().unwrap()];
+        if compile(compiler, &args).is_some() {
+            assert!(Command::new(&out).status().unwrap().success(), "{standard}");
+        }
+    }
+}
+
+#[test]
+fn causes_and_limits_are_those_of_the_paper() {
+    let header = fs::read_to_string(include().join("counter.h")).unwrap();
+    let table = header.split("causes[] = {\n").nth(1).unwrap().split("};").next().unwrap();
+    let causes: Vec<&str> = table
+        .lines()
+        .filter_map(|line| line.trim().strip_prefix('"')?.strip_suffix("\","))
+        .collect();
+    assert_eq!(causes.len(), 25);
+    let exit = run(&["help", "exit"]).out;
+    for (number, cause) in causes.iter().enumerate().skip(1) {
+        assert!(exit.contains(&format!("{number:2}  refused: {cause}\n")), "{number} {cause}");
+    }
+    // "count over 16,384 (9)", "texts over 1,048,576 bytes (9)", "working words under 4 x (entries + 2)
+    // (9)", "directory deeper than 64", "path over 1,024 bytes".
+    for line in [
+        "#define COUNTER_MOST_ENTRIES 16384 ",
+        "#define COUNTER_MOST_TEXT 1048576 ",
+        "#define COUNTER_MOST_LEVELS 64 ",
+        "#define COUNTER_MOST_PATH 1024 ",
+        "#define COUNTER_MOST_WORDS (4 * (COUNTER_MOST_ENTRIES + 2))\n",
+        "#define COUNTER_MOST_TABLE (12 * COUNTER_MOST_ENTRIES + COUNTER_MOST_TEXT)\n",
+    ] {
+        assert!(header.contains(line), "{line}");
+    }
+    for paper in ["01", "scope paper", "Rust", "unplug"] {
+        assert!(!header.contains(paper), "{paper}");
+    }
+}
