@@ -12,8 +12,6 @@
  * An answer goes into slots that the caller lends, as many as the prototype says, in the order given below; with a number other than 0 they
  * stay as they were. Slots have no length: `uint32_t answer[4]` is a pointer to four words.
  *
- * An answer goes into slots that the caller lends, as many as the prototype says, in the order given below; with a number other than 0 they
- * stay as they were. Slots have no length: `uint32_t answer[4]` is a pointer to four words.
  * An entry is a file or a directory, with its number in the table; the root is entry 0. FST is the file table, DOL the program.
  *
  * words, and for edits bytes, are working memory. Whatever they held, they are zero afterwards, on refusals too. With too little the call
