@@ -29,7 +29,7 @@ use Rattle.refusal.specs.Laws.Tests.{and-left, and-right, or-cases}
 use Rattle.free_space.specs.MaxRegionSize.{maxRegionSize}
 use Rattle.space.specs.Free.{freeRegions}
 use Rattle.free_space.specs.Laws.GrowthLaws.{table-largest, place-free}
-use Rattle.free_space.specs.Laws.EditLaws.{passes}
+use Rattle.free_space.specs.Laws.PassedLayout.{passes}
 use Rattle.opening.specs.Opening.{tableOf, nodesIn, regionOf, usedIn, freeOf, opening}
 use Rattle.opening.specs.Laws.OpeningLaws.{OpenImage}
 use Rattle.edits.specs.Change.{tableVerdict, placeVerdict}

@@ -97,7 +97,7 @@ pub fn free_regions(image: &[u8], words: &mut [u32], list: &mut [u32]) -> Listin
     answer
 }
 
-// The size that a region can grow to without a used byte in it.
+// What the Rust answers for a region; for a file's own place, the largest size that it can grow to.
 pub fn max_region_size(image: &[u8], words: &mut [u32], offset: u32, size: u32) -> SizeAnswer
     ensures { λ r. ⌜ (r ≡ maxRegionSizeAnswer (now (image .entry)) (length (now (words .entry))) offset size) × (now (words .exit) ≡ zeros (now (words .entry))) ⌝ }
 {

@@ -1,6 +1,5 @@
 -- What follows from the definitions.
 pub mod MadeTree
-pub mod TroubleTurns
 pub mod Troubles
 pub mod Making
 pub mod InsertNumber

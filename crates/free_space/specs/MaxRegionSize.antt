@@ -1,4 +1,5 @@
--- `max_region_size` of disc.rs: what a region of n bytes at o can grow to without a used byte in it, by the free regions, with sums that never wrap.
+-- `max_region_size` of disc.rs: what the Rust answers for n bytes at o, by the free regions, with sums that never wrap. For a file's own place, and
+-- for a place of no bytes, it is the largest size that it can grow to in free bytes (Laws/GrowthLaws).
 -- Assumes nothing: these are definitions.
 use Prim.Native.Nat.{ℕ, _+_, _-_}
 use mathlib.Core.Bool.{cond}

@@ -156,7 +156,7 @@ fn beside_free(prev_end: u64, next: DiscRegion, offset: u32, size: u32) -> u32
     inside_free(prev_end, offset, size, size)
 }
 
-// What a region can grow to without a used byte in it.
+// What the Rust answers for a region; for a file's own place, the largest size that it can grow to.
 pub fn max_region_size(words: &[u32], count: usize, disc_end: u32, offset: u32, size: u32) -> u32
     requires { ⌜ SortedDisjoint (now words) count «disc_end» ⌝ }
     ensures { λ r. ⌜ r ≡ maxRegionSize offset size (freeRegions «disc_end» (regionsIn (now (words .entry)) 0 count)) ⌝ }

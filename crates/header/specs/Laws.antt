@@ -1,6 +1,5 @@
 -- What follows from the definitions.
 pub mod FieldTests
-pub mod Kept
 pub mod Order
 pub mod Tiling
 pub mod Vectors

@@ -4,4 +4,3 @@ pub mod LayoutLaws
 pub mod RunLaws
 pub mod TotalLaws
 pub mod UsedLaws
-pub mod WordLaws

@@ -22,7 +22,6 @@ pub mod InsertWalk
 pub mod InsertedList
 pub mod InsertedParents
 pub mod OpenDirectories
-pub mod PathParts
 pub mod WellNested
 pub mod WrittenEntries
 pub mod Paths
