@@ -5,3 +5,4 @@ pub mod PathLaws
 pub mod Ended
 pub mod Comparing
 pub mod NamePlaces
+pub mod Components

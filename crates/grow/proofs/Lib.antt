@@ -2,3 +2,4 @@
 pub mod GrowthLaws
 pub mod NameLaws
 pub mod NumberLaws
+pub mod StandingTable

@@ -28,7 +28,7 @@ use Rattle.grow.specs.declared.Grown.{Grown}
 use Rattle.grow.specs.declared.Grown.the-variants as grown
 use Rattle.grow.specs.Inner.Growth.{treeIn, Stands, Built}
 use Rattle.grow.specs.Inner.Grown.{tableDecision, grownDecision, grownNumber, grownAs, Numbered}
-use Rattle.grow.proofs.GrowthLaws.{built-stands, unbuilt}
+use Rattle.grow.proofs.StandingTable.{built-stands, unbuilt}
 
 no-path : _≡_ {A = ℕ} 0 1 → ⊥
 no-path z = omega arith

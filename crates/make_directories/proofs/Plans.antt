@@ -30,7 +30,7 @@ use Rattle.commit.specs.Inner.Decision.{Decided}
 use Rattle.grow.specs.declared.Grown.the-variants as grown
 use Rattle.grow.specs.Inner.Growth.{treeIn, Built}
 use Rattle.grow.specs.Inner.Grown.{tableDecision, grownAs, Numbered}
-use Rattle.grow.proofs.GrowthLaws.{unbuilt}
+use Rattle.grow.proofs.StandingTable.{unbuilt}
 use Rattle.grow.proofs.NumberLaws.{refused-numbered, change-numbered, same-decided}
 use Rattle.make_directories.specs.declared.making.Reached.{Reached}
 use Rattle.make_directories.specs.declared.making.Reached.the-variants as reached

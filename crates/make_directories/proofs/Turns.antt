@@ -31,7 +31,8 @@ use Rattle.edits.specs.Laws.MadeTree.{bad-stays, AllLt, make-grows}
 use Rattle.commit.specs.declared.TableSize.{TableSize}
 use Rattle.commit.specs.declared.TableSize.the-variants as table
 use Rattle.grow.specs.Inner.Growth.{treeIn, Stands, IsDirectory, added, Built}
-use Rattle.grow.proofs.GrowthLaws.{is-directory, built-stands, bigger-added}
+use Rattle.grow.proofs.StandingTable.{is-directory, built-stands}
+use Rattle.grow.proofs.GrowthLaws.{bigger-added}
 use Rattle.make_directories.specs.declared.making.Reached.the-variants.{At, Refused}
 use Rattle.make_directories.specs.Inner.Making.{madeTree, madeEntry, newIn, turnOf, CanTurn, InBytes, Reaches}
 

@@ -6,7 +6,7 @@ use mathlib.Core.Path.{_≡_, sym, _∙_}
 use lib.ListN.{length, drop}
 use Rattle.endian.specs.Bytes.{span}
 use Rattle.tree.specs.Lookup.{components}
-use Rattle.fst.proofs.PathLaws.{prepend, cut-start, cut-turn, cut-here, cut-end}
+use Rattle.fst.proofs.Components.{prepend, cut-start, cut-turn, cut-here, cut-end}
 use borrow.Author.Needs.{needs}
 use Rattle.fst.proofs.path.component_end.Statement.{statement}
 use Rattle.fst.proofs.path.component_end.Tie as tie

@@ -2,7 +2,7 @@
 -- Assumes nothing.
 use mathlib.Core.Path.{sym}
 use borrow.Author.Tests.{eq-eqb, ne-eqb}
-use Rattle.fst.proofs.PathLaws.{back-two, back-other}
+use Rattle.fst.proofs.Components.{back-two, back-other}
 use borrow.Author.Needs.{needs}
 use Rattle.fst.proofs.path.goes_back.Statement.{statement}
 use Rattle.fst.proofs.path.goes_back.Tie as tie

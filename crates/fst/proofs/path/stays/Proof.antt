@@ -1,7 +1,7 @@
 -- `fst::path::stays` meets its contract: by the length.
 -- Assumes nothing.
 use mathlib.Core.Path.{sym}
-use Rattle.fst.proofs.PathLaws.{stays-none, stays-one, stays-more}
+use Rattle.fst.proofs.Components.{stays-none, stays-one, stays-more}
 use borrow.Author.Needs.{needs}
 use Rattle.fst.proofs.path.stays.Statement.{statement}
 use Rattle.fst.proofs.path.stays.Tie as tie

@@ -1,6 +1,7 @@
 -- `grow::growing::check_limits` meets its contract: the tests of the tree with one entry more, one by one.
 -- Assumes nothing.
-use Rattle.grow.proofs.GrowthLaws.{inside, entry-held, size-is, count-is, texts-are, too-many, too-long, too-few, depth-decides}
+use Rattle.grow.proofs.StandingTable.{inside, entry-held, size-is, count-is, texts-are}
+use Rattle.grow.proofs.GrowthLaws.{too-many, too-long, too-few, depth-decides}
 use Rattle.grow.specs.Inner.Growth.{treeIn}
 use Rattle.refusal.specs.declared.Verdict.the-variants.{Passed}
 use Rattle.refusal.specs.declared.Refusal.the-variants.{LimitOrMemory}

@@ -1,6 +1,6 @@
 -- `grow::growing::depth` meets its contract. The invariant of its loop: the directories around k are those counted and those around the one where it stands.
 -- Assumes nothing.
-use Rattle.grow.proofs.GrowthLaws.{inside, Counted, depth-start, depth-up, depth-done}
+use Rattle.grow.proofs.StandingTable.{inside, Counted, depth-start, depth-up, depth-done}
 use Rattle.grow.specs.Inner.Growth.{treeIn}
 use native.Mathlib.Omega.{arith}
 use Rattle.grow.proofs.growing.depth.Statement.{statement}

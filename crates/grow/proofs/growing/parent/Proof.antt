@@ -1,6 +1,6 @@
 -- `grow::growing::parent` meets its contract: a directory of a written table stores what it is nested in.
 -- Assumes nothing.
-use Rattle.grow.proofs.GrowthLaws.{entry-held, inside, stored-parent}
+use Rattle.grow.proofs.StandingTable.{entry-held, inside, stored-parent}
 use mathlib.Core.Path.{_∙_}
 use native.Mathlib.Omega.{arith}
 use borrow.Author.Needs.{needs}

@@ -1,7 +1,7 @@
 -- `insert::opened::new_number` meets its contract: the number is the directory's next.
 -- Assumes nothing.
 use Rattle.insert.proofs.InsertionLaws.{insert-allows}
-use Rattle.grow.proofs.GrowthLaws.{is-directory}
+use Rattle.grow.proofs.StandingTable.{is-directory}
 use Rattle.edits.specs.Edits.{insertVerdict}
 use Rattle.tree.specs.Laws.WellNested.{next-bounds}
 use Rattle.tree.specs.Laws.Accepted.{length-nodesOf, accepted}
