@@ -1,295 +1,171 @@
-// Replays answers of the Rust, which standard input holds (format: record.rt): every call is carried out through the C face on an image that
-// the input sets up, and its number, answer and image are compared with what the Rust said; working memory has to be zero behind it. Prints
-// how many calls there were and how many differ, and before it the first that does.
-// The input was made by the comparison in oracle/ from the unchanged Rust, and from document 01 where oracle/ says that they differ:
-//     compare --oracle oracle/target/release/oracle --seed 7 --images 330 --sample crates/replay/stdin
+// Scripts of calls, carried out through the C face. Standard input has them as records (SOURCES.md; oracle/scripts.py has the form). A record
+// makes a part of the image, or is a call; then it has the sum of all that the call has to give. Prints how many calls there were and how many
+// differ, and before it the line of the first that does.
 mod carried;
-mod hash;
-mod record;
+mod fold;
 
-use record::Call;
-ghost use Prim.Native.Nat.{_≤_};
+use fold::least;
 
-// Where the replay stands: in the input, how much of each buffer is lent, and what was counted.
-struct Replay {
-    at: usize,
-    image: usize,
-    words: usize,
-    bytes: usize,
-    list: usize,
-    calls: u32,
-    differ: u32,
+fn joined(high: u32, low: u32) -> u64 {
+    high as u64 * 4294967296 + low as u64
 }
 
-fn number(n: u32) {
-    io::write_all(1, b" ");
-    io::print_decimal(1, n as u64);
-}
+// ---- records that make the image
 
-// ---- records that set up
-
-fn least(a: usize, b: usize) -> usize
-    ensures { λ r. ⌜ r ≤ b ⌝ }
-{
-    if a < b { a } else { b }
-}
-
-fn zero(image: &mut [u8]) {
-    let n = image.len();
-    endian::fill(image, 0, n, 0);
-}
-
-// An image of zeros, with all memory lent.
-fn new_image(input: &[u8], image: &mut [u8], r: Replay) -> Replay {
-    zero(image);
-    let len = record::word(input, record::ahead(r.at, 1));
-    Replay {
-        at: record::ahead(r.at, 5),
-        image: least(len as usize, image.len()),
-        words: 16384,
-        bytes: 65536,
-        list: 16384,
-        calls: r.calls,
-        differ: r.differ,
+fn copy_byte(image: &mut [u8], from: u32, to: u32) {
+    let i = from as usize;
+    let j = to as usize;
+    if i < image.len() {
+        if j < image.len() {
+            image[j] = image[i];
+        }
     }
 }
 
-fn set_byte(image: &mut [u8], at: usize, b: u8) {
-    if at < image.len() {
-        image[at] = b;
-    }
+fn ahead(at: u32) -> u32 {
+    std::num::wrapping_add_u32(at, 1)
 }
 
-// A file's bytes: each one more than the one before.
-fn count_up(image: &mut [u8], at: usize, n: usize, first: u8) {
-    let mut b = first;
-    let mut i = at;
+// The bytes from `from` on once more, from `to` on.
+fn repeat(image: &mut [u8], from: u32, to: u32, n: u32) {
     let mut left = n;
-    while left > 0 {
-        set_byte(image, i, b);
-        i = record::ahead(i, 1);
-        b = std::num::wrapping_add_u8(b, 1);
+    let mut i = from;
+    let mut j = to;
+    while 0 < left {
+        copy_byte(image, i, j);
+        i = ahead(i);
+        j = ahead(j);
         left -= 1;
     }
 }
 
-fn put(image: &mut [u8], at: usize, text: &[u8]) {
-    if at <= image.len() {
-        if text.len() <= image.len() - at {
-            endian::copy(text, 0, image, at, text.len());
+fn put(image: &mut [u8], at: u32, n: u32) {
+    let start = least(at, image.len());
+    let end = start + least(n, image.len() - start);
+    io::read_full(0, &mut image[start..end]);
+}
+
+fn set_up(n: &[u32; 20], image: &mut [u8]) {
+    if n[0] == 1 {
+        put(image, n[1], n[2]);
+    } else {
+        repeat(image, n[1], n[3], n[2]);
+    }
+}
+
+// ---- records that are calls
+
+// A call on the window that the record has.
+fn on_window(n: &[u32; 20], image: &[u8], text: &mut [u8]) -> u64 {
+    let kind = n[0];
+    if kind == 0x34 {
+        return carried::header(image);
+    }
+    let mut window = [
+        joined(n[12], n[13]),
+        joined(n[14], n[15]),
+        joined(n[16], n[17]),
+    ];
+    if kind < 0x33 {
+        return carried::seek(kind, joined(n[3], n[1]), &mut window);
+    }
+    carried::read(&mut window, image, text)
+}
+
+fn call(n: &[u32; 20], text: &mut [u8], image: &mut [u8]) -> u64 {
+    io::read_full(0, text);
+    let kind = n[0];
+    if kind < 0x19 {
+        return carried::look(n, text, image);
+    }
+    if kind < 0x1B {
+        return carried::open(n, image);
+    }
+    if kind < 0x20 {
+        return carried::list(n, image, text);
+    }
+    if kind < 0x30 {
+        return carried::edit(n, text, image);
+    }
+    on_window(n, image, text)
+}
+
+fn more(n: u64) -> u64 {
+    std::num::wrapping_add_u64(n, 1)
+}
+
+fn say(n: u32, label: &[u8]) {
+    io::print_decimal(1, n as u64);
+    io::write_all(1, label);
+}
+
+// A call more, and how many differ.
+fn count(n: &[u32; 20], sum: u64, counts: &mut [u64; 2]) {
+    counts[0] = more(counts[0]);
+    if sum != joined(n[10], n[11]) {
+        if counts[1] == 0 {
+            say(n[18], b" is the line that differs first\n");
+        }
+        counts[1] = more(counts[1]);
+    }
+}
+
+// On as much of the image as the record says.
+fn record(n: &[u32; 20], image: &mut [u8], counts: &mut [u64; 2]) {
+    if n[0] < 0x10 {
+        return set_up(n, image);
+    }
+    let mut text = [0u8; 4096];
+    let start = 0;
+    let t = least(n[8], 4096);
+    let i = least(n[4], image.len());
+    let sum = call(n, &mut text[start..t], &mut image[start..i]);
+    count(n, sum, counts);
+}
+
+// ---- all of them
+
+fn read_numbers(head: &[u8; 80], n: &mut [u32; 20]) {
+    let mut k = 0;
+    while k < 20 {
+        n[k] = endian::read_u32(head, 4 * k);
+        k += 1;
+    }
+}
+
+// Whether there was one more.
+fn next(image: &mut [u8], counts: &mut [u64; 2]) -> bool {
+    let mut head = [0u8; 80];
+    let mut n = [0u32; 20];
+    if io::read_full(0, &mut head) < 80 {
+        return false;
+    }
+    read_numbers(&head, &mut n);
+    record(&n, image, counts);
+    true
+}
+
+fn each(image: &mut [u8], counts: &mut [u64; 2]) {
+    let mut left = 1000000u32;
+    while 0 < left {
+        if next(image, counts) {
+            left -= 1;
+        } else {
+            return;
         }
     }
 }
 
-fn set_bytes(input: &[u8], image: &mut [u8], r: Replay) -> Replay {
-    let to = record::word(input, record::ahead(r.at, 1));
-    let n = record::half(input, record::ahead(r.at, 5));
-    put(
-        image,
-        to as usize,
-        record::text(input, record::ahead(r.at, 7), n),
-    );
-    moved_on(r, record::ahead(7, n))
-}
-
-fn set_run(input: &[u8], image: &mut [u8], r: Replay) -> Replay {
-    let to = record::word(input, record::ahead(r.at, 1));
-    let n = record::word(input, record::ahead(r.at, 5));
-    let first = record::byte(input, record::ahead(r.at, 9));
-    count_up(image, to as usize, n as usize, first);
-    moved_on(r, 10)
-}
-
-fn lend(input: &[u8], r: Replay) -> Replay {
-    let words = record::word(input, record::ahead(r.at, 1));
-    let bytes = record::word(input, record::ahead(r.at, 5));
-    let list = record::word(input, record::ahead(r.at, 9));
-    Replay {
-        at: record::ahead(r.at, 13),
-        image: r.image,
-        words: words as usize,
-        bytes: bytes as usize,
-        list: list as usize,
-        calls: r.calls,
-        differ: r.differ,
-    }
-}
-
-fn moved_on(r: Replay, n: usize) -> Replay {
-    Replay {
-        at: record::ahead(r.at, n),
-        image: r.image,
-        words: r.words,
-        bytes: r.bytes,
-        list: r.list,
-        calls: r.calls,
-        differ: r.differ,
-    }
-}
-
-fn set_up(input: &[u8], image: &mut [u8], kind: u8, r: Replay) -> Replay {
-    match kind {
-        1 => new_image(input, image, r),
-        2 => set_bytes(input, image, r),
-        3 => set_run(input, image, r),
-        4 => lend(input, r),
-        _ => r,
-    }
-}
-
-// ---- calls
-
-fn say_difference(calls: u32, call: Call, got: u32) {
-    io::write_all(1, b"call");
-    number(calls);
-    io::write_all(1, b": kind");
-    number(call.kind as u32);
-    io::write_all(1, b" gives");
-    number(got);
-    io::write_all(1, b" and not");
-    number(call.number);
-    io::write_all(1, b", or differs behind it\n");
-}
-
-fn counted(r: Replay, call: Call, got: u32, same: bool) -> Replay {
-    let calls = std::num::wrapping_add_u32(r.calls, 1);
-    let mut differ = r.differ;
-    if !same {
-        if differ == 0 {
-            say_difference(calls, call, got);
-        }
-        differ = std::num::wrapping_add_u32(differ, 1);
-    }
-    Replay {
-        at: call.next,
-        image: r.image,
-        words: r.words,
-        bytes: r.bytes,
-        list: r.list,
-        calls,
-        differ,
-    }
-}
-
-// The same number, the same answer, and working memory that is zero again.
-fn agrees(
-    input: &[u8],
-    call: Call,
-    got: u32,
-    answer: &[u32; 64],
-    words: &[u32],
-    bytes: &[u8],
-) -> bool {
-    if got != call.number {
-        return false;
-    }
-    if !record::same_words(input, call.expected, answer, call.slots) {
-        return false;
-    }
-    if !hash::zero_words(words) {
-        return false;
-    }
-    hash::zero_bytes(bytes)
-}
-
-// One call, on as much memory as is lent.
-fn call_lent(
-    input: &[u8],
-    image: &mut [u8],
-    words: &mut [u32],
-    bytes: &mut [u8],
-    list: &mut [u32],
-    window: &mut [u64; 3],
-    r: Replay,
-) -> Replay {
-    let call = record::call_at(input, r.at);
-    let text = record::text(input, call.text, call.text_len);
-    let mut answer = [0u32; 64];
-    let got = carried::carry_out(call, text, image, words, bytes, list, window, &mut answer);
-    let same = agrees(input, call, got, &answer, words, bytes);
-    counted(r, call, got, same)
-}
-
-fn step(
-    input: &[u8],
-    image: &mut [u8],
-    words: &mut [u32],
-    bytes: &mut [u8],
-    list: &mut [u32],
-    window: &mut [u64; 3],
-    r: Replay,
-) -> Replay {
-    let kind = record::byte(input, r.at);
-    if kind < 0x10 {
-        return set_up(input, image, kind, r);
-    }
-    let i = least(r.image, image.len());
-    let w = least(r.words, words.len());
-    let b = least(r.bytes, bytes.len());
-    let l = least(r.list, list.len());
-    let front = 0;
-    call_lent(
-        input,
-        &mut image[front..i],
-        &mut words[front..w],
-        &mut bytes[front..b],
-        &mut list[front..l],
-        window,
-        r,
-    )
-}
-
-// A record has at least one byte, so that there are no more steps than bytes.
-fn each_record(
-    input: &[u8],
-    image: &mut [u8],
-    words: &mut [u32],
-    bytes: &mut [u8],
-    list: &mut [u32],
-    window: &mut [u64; 3],
-) -> Replay {
-    let mut r = Replay {
-        at: 0,
-        image: 0,
-        words: 0,
-        bytes: 0,
-        list: 0,
-        calls: 0,
-        differ: 0,
-    };
-    let mut left = input.len();
-    while left > 0 {
-        if input.len() <= r.at {
-            return r;
-        }
-        r = step(input, image, words, bytes, list, window, r);
-        left -= 1;
-    }
-    r
-}
-
-fn replay_all(input: &[u8]) {
-    let mut image = [0u8; 131072];
-    let mut words = [0u32; 16384];
-    let mut bytes = [0u8; 65536];
-    let mut list = [0u32; 16384];
-    let mut window = [0u64; 3];
-    let r = each_record(
-        input,
-        &mut image,
-        &mut words,
-        &mut bytes,
-        &mut list,
-        &mut window,
-    );
-    io::print_decimal(1, r.calls as u64);
-    io::write_all(1, b" calls,");
-    number(r.differ);
+fn say_counts(counts: &[u64; 2]) {
+    io::print_decimal(1, counts[0]);
+    io::write_all(1, b" calls, ");
+    io::print_decimal(1, counts[1]);
     io::write_all(1, b" differ\n");
 }
 
 fn main() {
-    let mut input = [0u8; 262144];
-    let n = io::read_full(0, &mut input);
-    replay_all(&input[..n]);
+    let mut image = [0u8; 262144];
+    let mut counts = [0u64; 2];
+    each(&mut image, &mut counts);
+    say_counts(&counts);
 }

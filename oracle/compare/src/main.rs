@@ -118,14 +118,14 @@ fn report(counts: &Counts) {
 
 /// Writes a sample of the original's answers for crates/replay.
 fn write_sample(options: &Options, path: &str) -> std::io::Result<()> {
-    let (bytes, sample) =
+    let (script, sample) =
         Sample::new(&options.oracle, options.inserts)?.make(options.seed, options.images);
-    std::fs::write(path, &bytes)?;
+    std::fs::write(path, &script)?;
     let numbers: Vec<String> =
         sample.numbers.iter().map(|(number, count)| format!("{number}: {count}")).collect();
     println!(
         "{path}: {} bytes, {} calls over {} images",
-        bytes.len(),
+        script.len(),
         sample.calls,
         options.images
     );

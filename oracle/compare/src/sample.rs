@@ -1,6 +1,6 @@
-//! A fixed sample of the original's answers, in the form that crates/replay reads: images of many
-//! shapes, calls that look at them and lists of edits. Each expected answer is the original's, or,
-//! where the two differ by an entry of docs/DIFFERENCES.md, 01's number.
+//! A fixed sample of the original's answers, as a script of crates/replay: images of many shapes,
+//! calls that look at them and lists of edits. Each expected answer is the original's, or, where the
+//! two differ by an entry of docs/DIFFERENCES.md, 01's number.
 
 use crate::calls::{self, Call, hex, unhex};
 use crate::child::Side;
@@ -12,12 +12,12 @@ use std::collections::BTreeMap;
 
 const WORDS: usize = 16_384;
 const BYTES: usize = 65_536;
-const LIST: usize = 16_384;
+const LIST: usize = 1_024;
 const IMAGE: usize = 131_072;
 
 pub struct Sample {
     oracle: Side,
-    out: Vec<u8>,
+    out: String,
     image: Vec<u8>,
     opened: Result<Tree, Refusal>,
     lent: (usize, usize, usize),
@@ -27,12 +27,24 @@ pub struct Sample {
     inserts: bool,
 }
 
-fn fnv(bytes: impl IntoIterator<Item = u8>) -> u32 {
-    bytes.into_iter().fold(0x811c_9dc5, |h, b| (h ^ u32::from(b)).wrapping_mul(0x0100_0193))
+/// FNV-1a of 64 bits.
+fn fnv(bytes: &[u8]) -> u64 {
+    let fold = |h: u64, b: &u8| (h ^ u64::from(*b)).wrapping_mul(0x100_0000_01b3);
+    bytes.iter().fold(0xcbf2_9ce4_8422_2325, fold)
 }
 
-fn fnv_words(words: &[u32]) -> u32 {
-    fnv(words.iter().flat_map(|word| word.to_be_bytes()))
+/// Numbers from 10 on are in base 16.
+fn shown(number: u64) -> String {
+    if number < 10 { number.to_string() } else { format!("{number:#x}") }
+}
+
+/// A text as it is, or in base 16.
+fn quoted(text: &[u8]) -> String {
+    if text.iter().all(|b| (0x20..0x7f).contains(b) && *b != b'"') {
+        format!("\"{}\"", String::from_utf8_lossy(text))
+    } else {
+        format!(":{}", hex(text))
+    }
 }
 
 /// The numbers of an answer, whatever stands between them.
@@ -44,7 +56,7 @@ impl Sample {
     pub fn new(oracle: &str, inserts: bool) -> std::io::Result<Self> {
         Ok(Self {
             oracle: Side::start(oracle)?,
-            out: vec![],
+            out: String::new(),
             image: vec![],
             opened: Err(Refusal { number: 1, entry: 0, past_parent: false }),
             lent: (WORDS, BYTES, LIST),
@@ -56,7 +68,7 @@ impl Sample {
     }
 
     /// A sample over `images` images.
-    pub fn make(mut self, seed: u64, images: u64) -> (Vec<u8>, Self) {
+    pub fn make(mut self, seed: u64, images: u64) -> (String, Self) {
         for i in 0..images {
             let mut r = Random::new(seed.wrapping_mul(0x9e37_79b9).wrapping_add(i));
             let damaged = r.chance(30);
@@ -83,23 +95,19 @@ impl Sample {
                 }
             }
         }
-        self.out.push(0);
         (std::mem::take(&mut self.out), self)
     }
 
-    fn word(&mut self, word: u32) {
-        self.out.extend(word.to_be_bytes());
+    fn line(&mut self, line: &str) {
+        self.out.push_str(line);
+        self.out.push('\n');
     }
 
-    fn text(&mut self, text: &[u8]) {
-        self.out.extend((text.len() as u16).to_be_bytes());
-        self.out.extend(text);
-    }
-
-    fn put(&mut self, at: usize, bytes: &[u8]) {
-        self.out.push(2);
-        self.word(at as u32);
-        self.text(bytes);
+    /// A call with its number and the words of its answer, none with a refusal.
+    fn call(&mut self, line: &str, expected: &str, answer: &[u64]) {
+        let words: Vec<String> = answer.iter().map(|word| format!(" {}", shown(*word))).collect();
+        let number = self.number(expected);
+        self.line(&format!("{line} = {number}{}", words.concat()));
     }
 
     fn ask(&mut self, line: String) -> String {
@@ -128,21 +136,19 @@ impl Sample {
         for (i, byte) in image[from..].iter_mut().enumerate() {
             *byte = first.wrapping_add(i as u8);
         }
-        self.out.push(1);
-        self.word(image.len() as u32);
+        self.line("size 0");
+        self.line(&format!("size {:#x}", image.len()));
         if from < image.len() {
-            self.out.push(3);
-            self.word(from as u32);
-            self.word((image.len() - from) as u32);
-            self.out.push(first);
+            self.line(&format!("fill {from:#x} {:#x} 1 :{first:02x}", image.len() - from));
         }
         for (at, end) in kept {
             let end = end.min(old.len());
             if at < end {
                 image[at..end].copy_from_slice(&old[at..end]);
-                self.put(at, &old[at..end]);
+                self.line(&format!("patch {at:#x} :{}", hex(&old[at..end])));
             }
         }
+        self.line(&format!("lend {WORDS:#x} {BYTES:#x} {LIST:#x}"));
         self.lent = (WORDS, BYTES, LIST);
         self.ask("size 0".into());
         self.ask(format!("size {}", image.len()));
@@ -155,10 +161,7 @@ impl Sample {
         let lent = (words.min(WORDS), bytes.min(BYTES), list.min(LIST));
         if self.lent != lent {
             self.lent = lent;
-            self.out.push(4);
-            self.word(lent.0 as u32);
-            self.word(lent.1 as u32);
-            self.word(lent.2 as u32);
+            self.line(&format!("lend {:#x} {:#x} {:#x}", lent.0, lent.1, lent.2));
         }
     }
 
@@ -199,13 +202,12 @@ impl Sample {
         Some(verdict.expected)
     }
 
-    /// A number that is not 0 ends a call's record.
-    fn refused(&mut self, expected: &str) -> bool {
+    /// The number of an answer, 0 if it is accepted.
+    fn number(&mut self, expected: &str) -> u32 {
         self.calls += 1;
         let number = expected.strip_prefix("err ").map_or(0, |number| number.parse().unwrap());
         *self.numbers.entry(number).or_default() += 1;
-        self.out.push(number as u8);
-        number != 0
+        number
     }
 
     fn too_long(&mut self, call: &Call) -> bool {
@@ -238,127 +240,97 @@ impl Sample {
         self.record_look(r, &call, &expected);
     }
 
-    fn record_look(&mut self, r: &mut Random, call: &Call, expected: &str) {
+    /// The words of an answer that is accepted.
+    fn answer(&mut self, call: &Call, expected: &str) -> Vec<u64> {
         match call {
-            Call::Open | Call::List => {
-                self.out.push(if *call == Call::Open { 0x10 } else { 0x14 });
-                if self.refused(expected) {
-                    return;
-                }
-                let opened = self.opened_words();
-                opened.into_iter().for_each(|word| self.word(word));
-                if *call == Call::List {
-                    let hash = fnv_words(&self.entry_words());
-                    self.word(hash);
-                }
-            }
+            Call::Open => self.opened_words().to_vec(),
+            Call::List => [self.opened_words().to_vec(), self.entry_words()].concat(),
             Call::Used | Call::Total => {
-                self.out.push(0x11);
-                if !self.refused(expected) {
-                    let opened = self.opened_words();
-                    self.word(opened[2]);
-                    self.word(opened[4]);
-                }
+                let opened = self.opened_words();
+                vec![opened[2], opened[4]]
             }
-            Call::Entry(number) => {
-                self.out.push(0x12);
-                self.word(*number);
-                if !self.refused(expected) {
-                    self.entry(*number);
-                }
-            }
-            Call::Lookup(start, path) => {
-                self.out.push(0x13);
-                self.word(*start);
-                self.text(path);
-                if !self.refused(expected) {
-                    self.entry(numbers(expected)[0]);
-                }
-            }
+            Call::Entry(number) => self.entry(*number),
+            Call::Lookup(..) => self.entry(numbers(expected)[0]),
             Call::Free => {
-                self.out.push(0x15);
-                if !self.refused(expected) {
-                    let words = numbers(expected);
-                    self.word(words.len() as u32 / 2);
-                    self.word(fnv_words(&words));
-                }
-            }
-            Call::MaxRegion(a, b) | Call::Alloc(a, b) => {
-                self.out.push(if matches!(call, Call::Alloc(..)) { 0x18 } else { 0x16 });
-                self.word(*a);
-                self.word(*b);
-                if !self.refused(expected) {
-                    numbers(expected).into_iter().for_each(|word| self.word(word));
-                }
-            }
-            Call::MaxFile(number) => {
-                self.out.push(0x17);
-                self.word(*number);
-                if !self.refused(expected) {
-                    self.word(numbers(expected)[0]);
-                }
+                let words = numbers(expected);
+                let count = words.len() as u64 / 2;
+                [count].into_iter().chain(words.into_iter().map(u64::from)).collect()
             }
             Call::FileWindow(number, _) => {
-                self.out.push(0x19);
-                self.word(*number);
-                if !self.refused(expected) {
-                    let told = numbers(&self.ask(format!("entry {number}")));
-                    let (offset, size) = (told[1], told[2]);
-                    [offset, size, 0].into_iter().for_each(|word| self.word(word));
-                    self.window(r, &format!("filewindow {number}"), size);
-                }
+                let told = numbers(&self.ask(format!("entry {number}")));
+                vec![told[1].into(), told[2].into(), 0]
             }
-            _ => {
-                self.out.push(0x1a);
-                if !self.refused(expected) {
-                    let at = word(&self.image, 0x420);
-                    let words: Vec<u32> =
-                        (0..57).map(|i| word(&self.image, at as usize + 4 * i)).collect();
-                    self.word(fnv_words(&words));
-                    let length = numbers(expected)[1];
-                    [at, length, 0].into_iter().for_each(|word| self.word(word));
-                    self.window(r, "dolwindow", length);
-                }
+            Call::Dol => {
+                let at = word(&self.image, 0x420);
+                let header = (0..57).map(|i| word(&self.image, at as usize + 4 * i).into());
+                let window = [at.into(), numbers(expected)[1].into(), 0];
+                window.into_iter().chain(header).collect()
             }
+            _ => numbers(expected).into_iter().map(u64::from).collect(),
+        }
+    }
+
+    fn record_look(&mut self, r: &mut Random, call: &Call, expected: &str) {
+        let line = match call {
+            Call::Open => "open".into(),
+            Call::List => "entries".into(),
+            Call::Used | Call::Total => "totals".into(),
+            Call::Entry(number) => format!("entry {}", shown((*number).into())),
+            Call::Lookup(a, path) => format!("lookup {} {}", shown((*a).into()), quoted(path)),
+            Call::Free => "free_regions".into(),
+            Call::MaxRegion(a, b) => format!("max_region_size {a:#x} {b:#x}"),
+            Call::Alloc(a, b) => format!("allocate {a:#x} {b:#x}"),
+            Call::MaxFile(number) => format!("max_file_size {}", shown((*number).into())),
+            Call::FileWindow(number, _) => format!("open_file {}", shown((*number).into())),
+            _ => "open_dol".into(),
+        };
+        let accepted = expected.starts_with("ok");
+        let answer = if accepted { self.answer(call, expected) } else { vec![] };
+        self.call(&line, expected, &answer);
+        match call {
+            Call::FileWindow(number, _) if accepted => {
+                self.window(r, &format!("filewindow {number}"), answer[1])
+            }
+            Call::Dol if accepted => self.window(r, "dolwindow", answer[1]),
+            _ => (),
         }
     }
 
     /// A seek and a read of the window just opened.
-    fn window(&mut self, r: &mut Random, opener: &str, length: u32) {
+    fn window(&mut self, r: &mut Random, opener: &str, length: u64) {
         let position = r.below(length.min(0x1000) as usize + 2);
         let asked = r.below(64);
-        let answer = self.ask(format!("{opener} s:{position} r:{asked}"));
-        let (seek, read) = answer["ok ".len()..].split_once(' ').unwrap();
-        let (count, bytes) = read["r=".len()..].split_once(':').unwrap();
+        let answer = self.ask(format!("{opener} s:{position} r:{asked} c:0"));
+        let words: Vec<&str> = answer["ok ".len()..].split(' ').collect();
+        let (count, bytes) = words[1]["r=".len()..].split_once(':').unwrap();
         let count: usize = count.parse().unwrap();
-        self.out.push(0x1b);
-        self.word(position as u32);
-        self.refused("ok");
-        self.word(seek["s=".len()..].parse::<u64>().unwrap() as u32);
-        self.out.push(0x1c);
-        self.word(asked as u32);
-        self.refused("ok");
-        self.word(count as u32);
-        self.word(fnv(unhex(bytes)[..count].iter().copied()));
+        let mut buffer = unhex(bytes);
+        buffer[count..].fill(b'.');
+        let at = |word: &str| word["s=".len()..].parse::<u64>().unwrap();
+        self.call(&format!("seek_start {position:#x}"), "ok", &[at(words[0])]);
+        self.number("ok");
+        let end = at(words[2]);
+        self.line(&format!("read {asked:#x} = 0 {count:#x} {end:#x} {}", quoted(&buffer)));
     }
 
-    fn entry(&mut self, number: u32) {
+    /// Number, kind, offset or parent, size or next.
+    fn entry(&mut self, number: u32) -> Vec<u64> {
         let answer = self.ask(format!("entry {number}"));
         let told = numbers(&answer);
         let kind = u32::from(answer.starts_with("ok d"));
-        [told[0], kind, told[1], told[2]].into_iter().for_each(|word| self.word(word));
+        [told[0], kind, told[1], told[2]].into_iter().map(u64::from).collect()
     }
 
     /// FST offset and size, disc end, entries, used total.
-    fn opened_words(&mut self) -> [u32; 5] {
+    fn opened_words(&mut self) -> [u64; 5] {
         let total = numbers(&self.ask("total".into()))[0];
         let used = numbers(&self.ask("used".into()))[0];
         let entries = self.ask("list".into()).split(' ').count() as u32 - 1;
-        [word(&self.image, 0x424), word(&self.image, 0x428), total, entries, used]
+        [word(&self.image, 0x424), word(&self.image, 0x428), total, entries, used].map(u64::from)
     }
 
     /// Six words an entry: kind, nested in, offset, size or next, place of the name, its length.
-    fn entry_words(&mut self) -> Vec<u32> {
+    fn entry_words(&mut self) -> Vec<u64> {
         let list = self.ask("list".into());
         let at = word(&self.image, 0x424);
         let count = list.split(' ').count() as u32 - 1;
@@ -386,7 +358,7 @@ impl Sample {
                 words.extend([0, parent, number(2), number(3), place, length]);
             }
         }
-        words
+        words.into_iter().map(u64::from).collect()
     }
 
     fn edit(&mut self, r: &mut Random) {
@@ -405,39 +377,25 @@ impl Sample {
             self.lend_for(r, &call);
         }
         let Some(expected) = self.expected(&call) else { return };
-        self.out.push(match call {
-            Call::InsertFile(..) => 0x20,
-            Call::InsertDirectory(..) => 0x21,
-            Call::MakeDirectories(..) => 0x22,
-            Call::Move(..) => 0x23,
-            Call::Resize(..) => 0x24,
-            _ => 0x25,
-        });
-        match &call {
-            Call::Move(a, b) | Call::Resize(a, b) => {
-                self.word(*a);
-                self.word(*b);
-            }
-            Call::InsertFile(a, text)
-            | Call::InsertDirectory(a, text)
-            | Call::MakeDirectories(a, text) => {
-                self.word(*a);
-                self.text(text);
-            }
-            _ => (),
-        }
-        let refused = self.refused(&expected);
-        if refused {
-            self.oracle.ask(&["load before".into()]);
-        } else {
+        let line = match &call {
+            Call::InsertFile(a, name) => format!("insert_file {a:#x} {}", quoted(name)),
+            Call::InsertDirectory(a, name) => format!("insert_directory {a:#x} {}", quoted(name)),
+            Call::MakeDirectories(a, path) => format!("make_directories {a:#x} {}", quoted(path)),
+            Call::Move(a, b) => format!("move_file {a:#x} {b:#x}"),
+            Call::Resize(a, b) => format!("resize_file {a:#x} {b:#x}"),
+            _ => "rewrite".into(),
+        };
+        let mut answer = vec![];
+        if expected.starts_with("ok") {
             let peek = self.ask(format!("peek 0 {}", self.image.len()));
             self.image = unhex(peek.strip_prefix("ok ").unwrap());
             self.opened = paper::open(&self.image, WORDS);
+            answer.extend(numbers(&expected).first().map(|number| u64::from(*number)));
+        } else {
+            self.oracle.ask(&["load before".into()]);
         }
-        self.word(fnv(self.image.iter().copied()));
-        if !refused && let Some(number) = numbers(&expected).first() {
-            self.word(*number);
-        }
+        answer.insert(0, fnv(&self.image));
+        self.call(&line, &expected, &answer);
     }
 
     pub fn finish(self) {

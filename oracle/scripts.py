@@ -1,18 +1,23 @@
 #!/usr/bin/env python3
-"""Makes what the program `edits` reads and must write: crates/edits/stdin and crates/edits/stdout.
+"""Makes the scripts of the program `replay` (crates/replay/scripts, format: crates/replay/SOURCES.md) and the records that it reads
+(crates/replay/stdin) from them.
 
-    oracle/edits.py [ORACLE]     ORACLE: the program that oracle/build makes (default: oracle/target/release/oracle)
+    oracle/scripts.py                  the records, from the scripts
+    oracle/scripts.py --check          whether the records are those of the scripts
+    oracle/scripts.py --make ORACLE    the scripts too, but for sampled.txt; ORACLE: the program that oracle/build makes
 
-The list of edits stands below. An answer comes from the unchanged Rust, which carries out the same list, with the checksum of its image.
+The calls of --make stand below. An answer comes from the unchanged Rust, which carries out the same call, with the checksum of its image.
 Where document 01 says something else than the Rust, or has a limit that the Rust has not, the answer is written here by hand, with the
-reason; the script then insists that the Rust says something else. Each edit in `stdin` ends with a comment that says which of the two it is.
-Nothing here comes from the program `edits` or from the crates that it tests."""
+reason; the script then insists that the Rust says something else. Each call ends with a comment that says which of the two it is.
+Nothing here comes from the program `replay` or from the crates that it tests."""
 import os
+import re
 import subprocess
 import sys
 
 HERE = os.path.dirname(os.path.abspath(__file__))
-CRATE = os.path.join(HERE, "..", "crates", "edits")
+CRATE = os.path.join(HERE, "..", "crates", "replay")
+SCRIPTS = ["edits", "reading", "windows", "tables", "listing", "sampled"]
 
 NUMBERS = {
     "Io:UnexpectedEof": 1, "Text:Other:Io:UnexpectedEof": 1, "WiiNotSupported": 2, "InvalidMagic": 3, "Fst:Io:UnexpectedEof": 5,
@@ -21,8 +26,6 @@ NUMBERS = {
     "Fst:ExpectedDirectory": 17, "Fst:NotFound": 18, "Fst:AlreadyExists": 19, "OverlappingMove": 20, "NotEnoughSpace": 21,
 }
 
-
-COMMANDS = {"insert_directory": "insert_dir", "make_directories": "mkdirs"}
 
 
 class Oracle:
@@ -44,62 +47,71 @@ class Oracle:
 
 
 class Script:
-    """Writes both files' lines, and drives the oracle."""
+    """Writes the lines, and drives the oracle."""
 
     def __init__(self, oracle):
         self.oracle = oracle
-        self.stdin, self.stdout = [], []
+        self.lines = []
         self.rust = self.paper = self.images = 0
 
     def heading(self, text):
-        self.stdin.append("# " + text)
-        self.stdout.append("# " + text)
+        self.lines.append("# " + text)
 
-    def lend(self, words, bytes_):
-        self.stdin.append(f"lend {n(words)} {n(bytes_)}")
+    def lend(self, words, bytes_, list_=0x400):
+        self.lines.append(f"lend {n(words)} {n(bytes_)} {n(list_)}")
 
     def size(self, length):
-        self.stdin.append(f"size {n(length)}")
+        self.lines.append(f"size {n(length)}")
         self.oracle.setting(f"size {length}")
 
     def patch(self, at, bytes_):
-        self.stdin.append(f"patch {n(at)} {bytes_.hex()}")
+        self.lines.append(f"patch {n(at)} :{bytes_.hex()}")
         self.oracle.setting(f"patch {at} {bytes_.hex()}")
 
     def fill(self, at, times, bytes_):
-        self.stdin.append(f"fill {n(at)} {n(times)} {bytes_.hex()}")
+        self.lines.append(f"fill {n(at)} {n(times * len(bytes_))} :{bytes_.hex()}")
         self.oracle.setting(f"patch {at} {(bytes_ * times).hex()}")
 
     def save(self):
-        self.stdin.append("save")
+        self.lines.append("save")
         self.oracle.setting("save kept")
 
     def load(self):
-        self.stdin.append("load")
+        self.lines.append("load")
         self.oracle.setting("load kept")
 
+    def bytes_at(self, at, length):
+        return bytes.fromhex(self.oracle.setting(f"peek {at} {length}"))
+
     def peek(self, at, length):
-        line = f"peek {n(at)} {n(length)}"
-        self.stdin.append(line)
-        self.stdout.append(f"{line}: {self.oracle.setting(f'peek {at} {length}')}")
+        """The image's bytes, by a window on them."""
+        self.window(at, length, 0)
+        self.read(length, f"r:{length}", note="the bytes there")
+
+    def call(self, line, answer, source):
+        """A line with its answer: numbers, and at the end a text."""
+        shown = [str(answer[0])] + [n(a) if isinstance(a, int) else text(a) for a in answer[1:]]
+        self.lines.append(f"{line} = {' '.join(shown)}  # {source}")
+        if source.startswith("Rust"):
+            self.rust += 1
+        else:
+            self.paper += 1
+
+    # ---- edits
 
     def edit(self, name, *arguments, note="", paper=None, why="", image=None):
         """An edit. `paper`: the answer by document 01, `ok`, `ok NUMBER` or the number of a refusal, and `why` the Rust's is not it.
         `image`: where 01 accepts what the Rust refuses, a function that has the oracle make the image that 01 describes."""
-        line = " ".join([name] + [n(a) if isinstance(a, int) else escaped(a) for a in arguments]).rstrip()
+        line = " ".join([CALLS.get(name, name)] + [n(a) if isinstance(a, int) else text(a) for a in arguments])
         command = " ".join([COMMANDS.get(name, name)] + [str(a) if isinstance(a, int) else a.hex() or "-" for a in arguments])
         if paper is None:
-            answer = as_answer(self.oracle(command), line)
-            self.stdin.append(f"{line}  # Rust" + (f"; {note}" if note else ""))
-            self.rust += 1
+            answer, source = as_answer(self.oracle(command), line), "Rust" + (f"; {note}" if note else "")
         else:
-            answer = self.by_hand(command, line, paper, image)
-            self.stdin.append(f"{line}  # 01: {why}")
-            self.paper += 1
-        self.stdout.append(f"{shown(line)}: {answer} {self.oracle.checksum()}")
+            answer, source = self.by_hand(command, line, paper, image), f"01: {why}"
+        self.call(line, [answer[0], int(self.oracle.checksum(), 16)] + answer[1:], source)
 
     def by_hand(self, command, line, paper, image):
-        answer = f"refused {paper}" if isinstance(paper, int) else paper
+        answer = [paper] if isinstance(paper, int) else [0] + [int(word) for word in paper.split()[1:]]
         self.oracle.setting("save before")
         said = self.oracle(command)
         image_said = self.oracle.checksum()
@@ -110,18 +122,136 @@ class Script:
         assert not agrees, (line, "the Rust agrees", said)
         return answer
 
+    # ---- calls that read
+
+    def look(self, name, *arguments, note="", paper=None, why=""):
+        """A call that reads. `paper`: the answer by document 01, a number, or 0 and the words of the answer."""
+        line = " ".join([name] + [n(a) if isinstance(a, int) else text(a) for a in arguments])
+        said = self.said(name, arguments)
+        if paper is None:
+            assert said, (line, "no answer by the Rust")
+            return self.call(line, said, "Rust" + (f"; {note}" if note else ""))
+        answer = [paper] if isinstance(paper, int) else list(paper)
+        assert said != answer, (line, "the Rust agrees", said)
+        return self.call(line, answer, f"01: {why}")
+
+    def said(self, name, arguments):
+        """What the Rust says, in the form of a line; None where it says nothing that 01 knows."""
+        commands = {"open": "open", "entry": "entry", "lookup": "lookup", "max_file_size": "maxfile", "max_region_size": "maxregion",
+                    "allocate": "alloc", "free_regions": "free", "totals": "total", "header": "header", "open_dol": "dol", "open_file": "maxfile"}
+        if name not in commands:
+            return None
+        command = " ".join([commands[name]] + [str(a) if isinstance(a, int) else a.hex() or "-" for a in arguments])
+        said = self.oracle(command)
+        words = said.split()
+        if words[0] != "ok":
+            number = {"Dol:Io:UnexpectedEof": 24}.get(words[-1], NUMBERS.get(words[-1]))
+            return [number] if words[0] == "err" and number else None
+        if name in ("entry", "lookup"):
+            return self.entry_said(int(words[1]) if name == "lookup" else arguments[0])
+        if name in ("open", "totals"):
+            opened = self.opened_said()
+            return [0] + (opened if name == "open" else [opened[2], opened[4]])
+        if name == "header":
+            assert words[-1] == "written=same", said
+            return [0, fnv(self.bytes_at(0, 0x440))]
+        if name == "open_dol":
+            at = int.from_bytes(self.bytes_at(0x420, 4), "big")
+            header = self.bytes_at(at, 0xE4)
+            return [0, at, int(words[2]), 0] + [int.from_bytes(header[k:k + 4], "big") for k in range(0, 0xE4, 4)]
+        if name == "open_file":
+            return [0] + self.entry_said(arguments[0])[3:] + [0]
+        numbers = [int(number) for word in words[1:] for number in word.split(":")]
+        return [0] + ([len(numbers) // 2] + numbers if name == "free_regions" else numbers)
+
+    def entry_said(self, number):
+        kind, *numbers = self.oracle.setting(f"entry {number}").split(":")
+        return [0, int(numbers[0]), int(kind == "d"), int(numbers[1]), int(numbers[2])]
+
+    def opened_said(self):
+        fst = self.bytes_at(0x424, 8)
+        entries = len(self.oracle.setting("list").split())
+        return [int.from_bytes(fst[:4], "big"), int.from_bytes(fst[4:], "big"), int(self.oracle.setting("total")), entries,
+                int(self.oracle.setting("used"))]
+
+    def text(self, name, room, note="", paper=None, why=""):
+        """`list` or `report` into a buffer of so many bytes; what a call does not write there are dots. `paper`: the number of a refusal, or
+        the text, by document 01."""
+        line = f"{name} {n(room)}"
+        if paper is None:
+            listing = self.listing_said()
+            source = "Rust" + (f"; {note}" if note else "")
+        else:
+            listing, source = paper, f"01: {why}"
+        if isinstance(listing, int):
+            return self.call(line, [listing], source)
+        return self.call(line, [0, len(listing), listing], source)
+
+    def listing_said(self):
+        said = self.oracle("listing").split()
+        assert said[0] == "ok", said
+        return bytes.fromhex(said[1])
+
+    # ---- windows: one is kept, and all that was asked of it, since the oracle makes a window anew for each command
+
+    def window(self, start, length, position):
+        self.lines.append(f"window {n(start)} {n(length)} {n(position)}")
+        self.ops, self.opener = [f"s:{position}"] if position else [], f"window {start} {length}"
+
+    def file_window(self, number, note=""):
+        self.look("open_file", number, note=note)
+        self.ops, self.opener = [], f"filewindow {number}"
+
+    def dol_window(self, note=""):
+        self.look("open_dol", note=note)
+        self.ops, self.opener = [], "dolwindow"
+
+    def ask_window(self, op):
+        self.ops.append(op)
+        return self.oracle.setting(" ".join([self.opener] + self.ops)).split()[-1].split("=")[1]
+
+    def seek(self, whence, distance, note="", paper=None, why=""):
+        line = f"seek_{whence} {n(distance % 2 ** 64)}"
+        shown = f"{distance}, " if distance < 0 else ""
+        if paper is not None:
+            return self.call(line, [paper] if isinstance(paper, int) else paper, f"01: {shown}{why}")
+        said = self.ask_window(f"{whence[0]}:{distance}")
+        answer = [23] if said == "err:Io:InvalidInput" else [0, int(said)]
+        return self.call(line, answer, "Rust" + (f"; {distance}" if distance < 0 else "") + (f"; {note}" if note else ""))
+
+    def read(self, length, op=None, note="", paper=None, why=""):
+        if paper is not None:
+            return self.call(f"read {n(length)}", paper, f"01: {why}")
+        count, shown = self.ask_window(op or f"r:{length}").split(":")
+        count = int(count)
+        bytes_ = bytes.fromhex(shown)[:count] + b"." * (length - count)
+        return self.call(f"read {n(length)}", [0, count, int(self.position()), bytes_], "Rust" + (f"; {note}" if note else ""))
+
+    def position(self):
+        return self.oracle.setting(" ".join([self.opener] + self.ops + ["c:0"])).split()[-1].split("=")[1]
+
+
+CALLS = {"move": "move_file", "resize": "resize_file"}
+COMMANDS = {"insert_directory": "insert_dir", "make_directories": "mkdirs"}
+
 
 def n(number):
     return str(number) if number < 10 else hex(number)
 
 
-def shown(line):
-    return line if len(line) <= 64 else line[:64] + ".."
+def text(bytes_):
+    """A text as it is, or in base 16."""
+    if b'"' not in bytes_ and all(0x20 <= b <= 0x7E or b == 10 for b in bytes_):
+        return '"' + bytes_.decode("ascii") + '"'
+    return ":" + bytes_.hex()
 
 
-def escaped(text):
-    """A name or path in one word: itself, but for bytes that would end the word."""
-    return "".join(chr(b) if 0x21 <= b <= 0x7E and b not in b"%#" else f"%{b:02x}" for b in text)
+def fnv(bytes_):
+    """FNV-1a of 64 bits."""
+    sum_ = 0xCBF29CE484222325
+    for b in bytes_:
+        sum_ = (sum_ ^ b) * 0x100000001B3 % 2 ** 64
+    return sum_
 
 
 def is_answer(said):
@@ -133,7 +263,7 @@ def is_answer(said):
 def as_answer(said, line):
     assert is_answer(said), (line, said)
     words = said.split()
-    return said if words[0] == "ok" else f"refused {NUMBERS[words[1]]}"
+    return [0] + [int(word) for word in words[1:]] if words[0] == "ok" else [NUMBERS[words[1]]]
 
 
 def word(value):
@@ -796,17 +926,513 @@ def chain(s):
     s.edit("resize", 1, 0x800)
 
 
+# ---- calls that read: one image for each refusal, entries and lookups
+
+
+def with_changes(s):
+    """The small master as it is, and with a change for each refusal."""
+    new_image(s, "small master of document 01: what opening says of it, and of a change for each refusal", 0x2000, A_AT_500, free=False)
+    s.lend(0x40, 0x1000)
+    bounds = "bounds that the Rust does not test"
+    s.look("open")
+    s.look("totals")
+    s.look("header")
+    s.lend(15, 0x1000)
+    s.look("open", paper=9, why="15 words; two entries want 16")
+    s.lend(0x40, 0x1000)
+    for note, change, number in [
+            ("image of 0x43f bytes", lambda: s.size(0x43F), None),
+            ("image of 0x1fff bytes", lambda: s.size(0x1FFF), 4),
+            ("Wii magic", lambda: s.patch(0x18, word(0x5D1C9EA3)), None),
+            ("no GameCube magic", lambda: s.patch(0x1C, word(0)), None),
+            ("FST offset 0x43f", lambda: s.patch(0x424, word(0x43F)), 4),
+            ("disc end above 2^32 - 1", lambda: s.patch(0x438, word(0xFFFFE000)), 4),
+            ("table end past the disc end", lambda: s.patch(0x428, word(0x1BC1)), 4),
+            ("FST size 11", lambda: s.patch(0x428, word(11)), None),
+            ("FST size 23", lambda: s.patch(0x428, word(23)), None),
+            ("root of kind 2", lambda: s.patch(0x440, b"\2"), None),
+            ("entry 1 of kind 2", lambda: s.patch(0x44C, b"\2"), None),
+            ("root a file", lambda: s.patch(0x440, b"\0"), None),
+            ("FST size 25", lambda: s.patch(0x428, word(25)), None),
+            ("count 16385", lambda: s.patch(0x448, word(16385)), 9),
+            ("count 0", lambda: s.patch(0x448, word(0)), None),
+            ("name offset 2", lambda: s.patch(0x44C, word(2)), None),
+            ("name byte 0x1f", lambda: s.patch(0x458, b"\x1F"), 12),
+            ("name .", lambda: s.patch(0x458, b"."), None),
+            ("name :", lambda: s.patch(0x458, b":"), None),
+            ("empty name", lambda: s.patch(0x44C, word(1)), None),
+            ("file in the table", lambda: s.patch(0x450, word(0x459)), 14),
+            ("file past the disc end", lambda: s.patch(0x450, word(0x1F01)), 14),
+            ("count 1: the empty tree", lambda: s.patch(0x448, word(1)), None)]:
+        s.load()
+        change()
+        if number:
+            s.look("open", paper=number, why=note)
+        else:
+            s.look("open", note=note)
+    s.load()
+
+
+def lookups(s):
+    new_image(s, "small master: lookups", 0x2000, A_AT_500, free=False)
+    s.look("lookup", 0, b"", note="P9")
+    s.look("lookup", 0, b"a/", note="P10")
+    s.look("lookup", 0, b"..", note="P11")
+    s.look("lookup", 0, b"a")
+    s.look("lookup", 0, b".//a")
+    s.look("lookup", 0, b"A")
+    s.look("lookup", 1, b"")
+    s.look("lookup", 2, b"")
+    new_image(s, "nested directories, shared texts, a name inside another text, equal names, empty files in the table and past the disc end, "
+              "stored parents that are wrong", 0x2000,
+              directory(0, 7, 7) + directory(0, 6, 5) + file(2, 0xFFFFFFFF, 0) + directory(0, 0, 5) + file(3, 0x600, 0x10) + file(2, 0x500, 0x100)
+              + file(2, 0x441, 0) + b"d\0ab\0", free=False)
+    s.lend(0x40, 0x1000, 0x2A)
+    s.look("open")
+    for k in range(8):
+        s.look("entry", k)
+    rows = [1, 0, 0, 7, 0, 0, 1, 0, 0, 5, 0x494, 1, 0, 1, 0xFFFFFFFF, 0, 0x496, 2, 1, 1, 0, 5, 0x494, 1, 0, 3, 0x600, 0x10, 0x497, 1,
+            0, 0, 0x500, 0x100, 0x496, 2, 0, 0, 0x441, 0, 0x496, 2]
+    s.look("entries", paper=[0, 0x440, 0x59, 0x2000, 7, 0x5A9] + rows, why="kind, nested in, offset, size or next, and where the name's bytes "
+           "stand and how many they are, for each entry; the list is just long enough")
+    s.lend(0x40, 0x1000, 0x29)
+    s.look("entries", paper=9, why="a list that is a word short")
+    s.lend(0x40, 0x1000)
+    for start, path in [(0, b"d"), (0, b"d/d/b"), (0, b"d\\d\\b"), (0, b"/d//d/./"), (0, b"ab"), (0, b"d/ab"), (0, b"d/../ab"), (0, b"d/d/../../d/d"), (0, b"b"),
+                        (0, b"d/x"), (0, b"d/ab/"), (0, b"d/ab/.."), (0, b"d/../.."), (1, b"d/b"), (3, b"b"), (3, b".."), (5, b""), (7, b"d")]:
+        s.look("lookup", start, path)
+    s.look("lookup", 0, b"/" * 1024, note="1,024 bytes")
+    s.look("lookup", 0, b"/" * 1025, paper=9, why="a path over 1,024 bytes")
+
+
+# ---- boundaries of header, windows and DOL
+
+
+def headers(s):
+    """Cut short inside the Wii magic, before and inside the GameCube magic, behind it, before the last byte; and whole."""
+    for note, wii, gcn in [("the GameCube magic", 0, 0xC2339F3D), ("both magics", 0x5D1C9EA3, 0xC2339F3D), ("no magic", 0, 0)]:
+        s.heading(f"headers cut short: {note}, and else zeros")
+        s.images += 1
+        s.size(0)
+        s.size(0x440)
+        s.patch(0x18, word(wii) + word(gcn))
+        for length in (0x440, 0x43F, 0x20, 0x1F, 0x1C, 0x1B):
+            s.size(length)
+            s.look("header")
+    s.heading("a header's fields: FST offset and size, user size; the word at 0x18 and the game name are written back as read")
+    s.images += 1
+    s.size(0)
+    s.size(0x440)
+    s.patch(0x1C, word(0xC2339F3D))
+    s.patch(0x424, word(0x440) + word(0x1A))
+    s.patch(0x434, word(0x2000))
+    s.look("header")
+    for bytes_ in (b"\1\2\3\4", b"\x80\0\0\1", b"\xFF\xFF\xFF\xFF"):
+        s.patch(0x424, bytes_)
+        s.look("header", note="the FST offset")
+
+
+def fields(s):
+    """Big-endian fields of 24 and 32 bits, through the entries of a table: names, offsets and sizes."""
+    new_image(s, "fields are big-endian: an empty file's offset, and names at offsets of three bytes", 0x21000,
+              [(directory(0, 0, 4) + file(0x010203, 0x01020304, 0) + file(0x000001, 0x80000001, 0) + file(0x010000, 0xFFFFFFFF, 0), 1),
+               (b"x", 0x10203), (b"y\0", 1)], free=False)
+    s.lend(0x40, 0x1000)
+    for k in range(1, 4):
+        s.look("entry", k, note="document 01, \"Fields are big-endian\"")
+    s.look("lookup", 0, b"y", note="its name stands at 0x010203")
+    s.load()
+    s.patch(0x44D, b"\xFF\xFF\xFF")
+    s.look("open", note="a name offset of 0xffffff")
+    s.load()
+    s.patch(0x44D, b"\x80\0\1")
+    s.look("open", note="a name offset of 0x800001")
+
+
+def windows(s):
+    new_image(s, "the window of file a: seeks at 0, 2^63 and 2^64 - 1", 0x2000, A_AT_500, free=False)
+    s.file_window(1)
+    s.seek("current", -1, note="P12")
+    s.seek("start", 0)
+    s.seek("start", 2 ** 63)
+    s.seek("start", 2 ** 64 - 1)
+    s.seek("current", 0)
+    s.file_window(1)
+    s.seek("start", 2 ** 64 - 0x501, note="start + position is 2^64 - 1")
+    s.seek("start", 2 ** 64 - 0x500)
+    s.seek("end", -0x100)
+    s.seek("end", -0x101)
+    s.file_window(1)
+    s.seek("end", -2 ** 63)
+    s.seek("end", 2 ** 63 - 1)
+    s.seek("current", -2 ** 63)
+    s.seek("current", 2 ** 63 - 1)
+    s.heading("a window that starts at 0 refuses nothing")
+    s.window(0, 8, 0)
+    s.seek("start", 0)
+    s.seek("start", 2 ** 63)
+    s.seek("start", 2 ** 64 - 1)
+    s.seek("current", 1)
+    s.seek("current", -1)
+    s.seek("end", -9)
+    s.look("open_file", 0)
+    s.look("open_file", 2)
+
+
+def reads(s):
+    s.heading("reads of four bytes over dots, at the edges of windows and of an image of 16 bytes")
+    s.images += 1
+    s.size(0)
+    s.size(16)
+    s.patch(0, b"0123456789abcdef")
+    for start, length in [(4, 6), (14, 100), (16, 4), (4, 0), (2 ** 63, 4), (2 ** 64 - 1, 4)]:
+        s.window(start, length, 0)
+        s.read(4)
+    s.heading("seeks and reads: positions in the window, at its end and past it, and the last position that a window at 4 has")
+    s.window(4, 6, 0)
+    for whence, distance in [("start", 0), ("current", 0), ("end", -1), ("current", -7), ("current", -6), ("end", 3), ("start", 2 ** 64 - 5), ("start", 2 ** 64 - 4),
+                             ("current", 7)]:
+        s.seek(whence, distance)
+        s.read(4)
+    s.window(14, 100, 0)
+    s.seek("start", 0)
+    s.read(4)
+    s.seek("current", 1)
+    s.read(4)
+    s.heading("a window that the Rust cannot be handed: start + position is above 2^64 - 1")
+    s.window(4, 2 ** 64 - 1, 2 ** 64 - 2)
+    s.seek("current", 0, paper=[0, 2 ** 64 - 2], why="current with distance 0 always succeeds")
+    s.read(4, paper=[0, 0, 2 ** 64 - 2, b"...."], why="none are read past the image")
+    s.seek("current", 1, paper=23, why="start + position passes 2^64 - 1")
+    s.read(4, paper=[0, 0, 2 ** 64 - 2, b"...."], why="a refused seek leaves the window as it was")
+    s.seek("current", 3, paper=[0, 1], why="a distance is added modulo 2^64")
+    s.read(4, paper=[0, 4, 5, b"5678"], why="four bytes at 4 + 1")
+
+
+def executables(s):
+    new_image(s, "an executable at 0x1000: its first text section and its last data section, and else zeros", 0x2000, A_AT_500, free=False)
+    s.patch(0x420, word(0x1000))
+    s.save()
+    sums = "a sum above 2^32 - 1, at which the Rust stops"
+    for text_offset, text_size, data_offset, data_size, paper in [
+            (0x100, 0x23, 0, 0, None), (0x100, 0x23, 0x1000, 2, None), (0x2000, 0x23, 0x1000, 2, None), (0xFFFFFFFE, 1, 0, 0, None),
+            (0xFFFFFFFF, 1, 0, 0, 24), (0, 0, 0xFFFFFFFF, 0, None), (0, 0, 0xFFFFFFFF, 1, 24), (0, 0, 0xFFFFFFFF, 0xFFFFFFFF, 24)]:
+        s.load()
+        s.patch(0x1000, word(text_offset))
+        s.patch(0x1044, word(data_offset))
+        s.patch(0x1090, word(text_size))
+        s.patch(0x10D4, word(data_size))
+        if paper:
+            s.look("open_dol", paper=paper, why=sums)
+        else:
+            s.dol_window()
+            s.read(0x1000, note="all that the image has")
+    s.load()
+    s.patch(0x420, word(0x1F1C))
+    s.dol_window(note="the header ends at the image's end")
+    s.read(4)
+    s.patch(0x420, word(0x1F1D))
+    s.look("open_dol", note="it passes the image's end")
+
+
+# ---- tables written anew
+
+
+def tables(s):
+    """An image whose table is each of these, written anew, and every entry read back."""
+    shared = (directory(0, 7, 8) + directory(1, 5, 5) + file(1, 0x10000, 0x10) + directory(3, 0, 5) + file(4, 0x10100, 0x20) + file(6, 0x10200, 0x30)
+              + directory(8, 6, 7) + file(0, 0x2FFFFFFF, 0) + b"xdata\0file\0slack\0")
+    ends = directory(0, 0, 21) + b"".join(file(k, 0x10000 + 0x20 * k, k) for k in range(20)) + b"abcdefghijklmnopqrst\0"
+    s.lend(0x1000, 0x1000)
+    for heading, table in [
+            ("the small master's table", A_AT_500),
+            ("names share texts, stored parents are wrong, texts are unused", shared),
+            ("64 directories one in the other, and a file", directory(0, 0, 66) + directory(0, 99, 66) * 64 + file(0, 0x10000, 1) + b"d\0"),
+            ("a root alone", directory(0, 0, 1)),
+            ("a root alone, with texts", directory(0, 3, 1) + b"unused\0"),
+            ("20 names that are ends of one text", ends)]:
+        new_image(s, "a table written anew: " + heading, 0x11000, table)
+        s.edit("rewrite")
+        s.peek(0x440, int.from_bytes(s.bytes_at(0x428, 4), "big"))
+        for k in range(len(s.oracle.setting("list").split())):
+            s.look("entry", k)
+
+
+# ---- listings
+
+
+def refused(number):
+    return b"refused %d\n" % number
+
+
+def listings(s):
+    """The listing program's lines: every refusal, nested directories, free lists, the bound of 65,536 bytes."""
+    s.lend(0x4000, 0)
+    new_image(s, "small master of document 01: its listing is document 01's", 0x2000, A_AT_500, free=False)
+    small = b"total 8192 used 1370\nd 0 0 2 /\nf 1 1280 256 /a\nr 1114 166\nr 1536 6656\n"
+    assert s.listing_said() == small
+    s.text("report", 0x80, note="document 01 has these lines")
+    s.text("list", len(small), note="a buffer that is just long enough")
+    s.text("list", len(small) - 1, paper=9, why="a buffer that is a byte short")
+    s.text("report", len(small) - 1, paper=refused(9), why="the same, as the program says it")
+    s.text("report", 10, paper=refused(9), why="room for the refusal and no more")
+    s.text("report", 9, paper=b"", why="no room for the refusal: nothing is written")
+    s.text("report", 0, paper=b"", why="no room at all")
+    s.lend(0xF, 0)
+    s.text("report", 0x80, paper=refused(9), why="one working word too few")
+    s.text("list", 0x80, paper=9, why="one working word too few")
+    s.lend(0x4000, 0)
+    for number, note, change in [
+            (1, "image of 0x43f bytes", lambda: s.size(0x43F)), (1, "an empty image", lambda: s.size(0)),
+            (2, "Wii magic", lambda: s.patch(0x18, word(0x5D1C9EA3))), (3, "no GameCube magic", lambda: s.patch(0x1C, word(0))),
+            (4, "image of 0x1fff bytes", lambda: s.size(0x1FFF)), (4, "FST offset 0x43f", lambda: s.patch(0x424, word(0x43F))),
+            (5, "FST size 23", lambda: s.patch(0x428, word(23))), (6, "entry 1 of kind 2", lambda: s.patch(0x44C, b"\2")),
+            (7, "root a file", lambda: s.patch(0x440, b"\0")), (8, "FST size 25", lambda: s.patch(0x428, word(25))),
+            (9, "count 16385", lambda: s.patch(0x448, word(16385))), (10, "count 0", lambda: s.patch(0x448, word(0))),
+            (11, "name offset 2", lambda: s.patch(0x44C, word(2))), (12, "name byte 0x1f", lambda: s.patch(0x458, b"\x1F")),
+            (13, "name .", lambda: s.patch(0x458, b".")), (14, "file in the table", lambda: s.patch(0x450, word(0x459)))]:
+        s.load()
+        change()
+        s.text("report", 0x80, paper=refused(number), why=note)
+        s.text("list", 0x80, paper=number, why=note)
+    s.load()
+    table = (directory(0, 7, 7) + directory(0, 6, 5) + file(2, 0xFFFFFFFF, 0) + directory(0, 0, 5) + file(3, 0x600, 0x10) + file(2, 0x500, 0x100)
+             + file(2, 0x441, 0) + b"d\0ab\0")
+    new_image(s, "nested directories, equal names, empty files, stored parents that are wrong", 0x2000, table)
+    s.text("report", 0x400)
+    chain = directory(0, 0, 66) + directory(0, 0, 65) * 64 + file(2, 0x1000, 0x10) + b"d\0e\0"
+    new_image(s, "64 directories one in the other: a path of 128 bytes, which grows by two bytes an entry", 0x2000, chain)
+    s.text("list", 0x1000)
+    new_image(s, "directories behind directories: paths grow and shrink", 0x2000,
+              directory(0, 0, 7) + directory(0, 0, 4) + directory(3, 1, 3) + file(6, 0x800, 1) + directory(8, 0, 7) + directory(3, 4, 7) + file(6, 0x900, 2)
+              + b"aa\0bb\0c\0dddd\0")
+    s.text("report", 0x400)
+    new_image(s, "no free region: the file fills all behind the table", 0x600, directory(0, 0, 2) + file(0, 0x45A, 0x1A6) + b"a\0", free=False)
+    s.text("report", 0x80)
+    new_image(s, "one free region", 0x2000, directory(0, 0, 2) + file(0, 0x45A, 0x100) + b"a\0", free=False)
+    s.text("report", 0x80)
+    new_image(s, "several free regions, by files that stand in the table against the order of their places", 0x2000,
+              directory(0, 0, 5) + file(0, 0x1F00, 0x80) + file(2, 0x700, 0x100) + file(4, 0x800, 0x100) + file(6, 0xA00, 1) + b"z\0y\0x\0w\0", free=False)
+    s.text("report", 0x100)
+    new_image(s, "a root alone: no files", 0x2000, directory(0, 0, 1), free=False)
+    s.text("report", 0x80)
+    new_image(s, "an image of exactly 65,536 bytes, and one of 65,537", 0x10000, A_AT_500, free=False)
+    s.text("report", 0x80)
+    s.size(0x10001)
+    s.text("report", 0x80, paper=refused(9), why="more than 65,536 bytes")
+    s.text("list", 0x80, note="the call has no such bound")
+
+
+# ---- records
+
+# A record has 20 words of 32 bits, big-endian: kind; three numbers; lengths of image, words, bytes, list and text; 0; the sum of what the
+# call has to give, in 64 bits; the window before it, in 64 bits each; the line, and 100,000 times its script's number; 0. Behind it stand the bytes of the text.
+# Kind 1 writes a text over the image, kind 2 copies the image's bytes from one place to another, byte after byte; others are calls.
+KINDS = {"open": 0x10, "totals": 0x11, "entry": 0x12, "lookup": 0x13, "entries": 0x14, "free_regions": 0x15, "max_region_size": 0x16,
+         "max_file_size": 0x17, "allocate": 0x18, "open_file": 0x19, "open_dol": 0x1A, "list": 0x1B, "report": 0x1C, "insert_file": 0x20, "insert_directory": 0x21,
+         "make_directories": 0x22, "move_file": 0x23, "resize_file": 0x24, "rewrite": 0x25, "seek_start": 0x30, "seek_current": 0x31,
+         "seek_end": 0x32, "read": 0x33, "header": 0x34}
+ROOM = 262144
+PRIME = 0x100000001B3
+
+
+def fold(sum_, numbers):
+    for number in numbers:
+        sum_ = (sum_ ^ number) * PRIME % 2 ** 64
+    return sum_
+
+
+def fold_zeros(sum_, count):
+    """The same with so many zeros."""
+    return sum_ * pow(PRIME, count, 2 ** 64) % 2 ** 64
+
+
+def padded(answer, count, filler=0):
+    assert len(answer) <= count, (answer, count)
+    return answer + [filler] * (count - len(answer))
+
+
+class Records:
+    """The records of one script after the other."""
+
+    def __init__(self):
+        self.out = bytearray()
+        self.length = 0
+        self.lent = (0, 0, 0)
+        self.made = self.kept = []
+        self.window = [0, 0, 0]
+        self.calls = 0
+
+    def record(self, kind, numbers, text=b"", sum_=0, window=(0, 0, 0), place=0):
+        words, bytes_, list_ = self.lent
+        head = [kind] + padded(list(numbers), 3) + [self.length, words, bytes_, list_, len(text), 0]
+        head += [part for number in (sum_, *window) for part in (number >> 32, number & 0xFFFFFFFF)] + [place, 0]
+        self.out += b"".join(word(number) for number in head) + text
+
+    # ---- lines that set up
+
+    def put(self, at, bytes_):
+        for i in range(0, len(bytes_), 4096):
+            part = bytes_[i:i + 4096]
+            self.record(1, [at + i, len(part)], part)
+
+    def fill(self, at, count, step, bytes_):
+        if step:
+            bytes_ = bytes((b + step * k) % 256 for k in range(256) for b in bytes_)
+        self.put(at, bytes_[:count])
+        if len(bytes_) < count:
+            self.record(2, [at, count - len(bytes_), at + len(bytes_)])
+
+    def zero(self, at):
+        if at < ROOM:
+            self.put(at, b"\0")
+            self.record(2, [at, ROOM - at - 1, at + 1])
+
+    def set_up(self, name, numbers, text):
+        if name == "size":
+            self.length = numbers[0]
+            self.zero(numbers[0])
+        elif name == "patch":
+            self.put(numbers[0], text)
+        elif name == "fill":
+            self.fill(numbers[0], numbers[1], numbers[2] if len(numbers) > 2 else 0, text)
+        elif name == "lend":
+            self.lent = tuple(numbers)
+        elif name == "window":
+            self.window = numbers
+        elif name == "save":
+            self.kept = self.made[:]
+        elif name == "load":
+            kept, self.made = self.kept[:], []
+            self.line("size", [0], b"")
+            for line in kept:
+                self.line(*line)
+        else:
+            return False
+        return True
+
+    def line(self, name, numbers, text):
+        """A line that sets up; what the image was made by is kept, for `load`."""
+        if not self.set_up(name, numbers, text):
+            return False
+        if name == "size" and numbers == [0]:
+            self.made = []
+        if name in ("size", "patch", "fill"):
+            self.made = (self.made or []) + [(name, numbers, text)]
+        return True
+
+    # ---- calls
+
+    def call(self, name, numbers, text, number, answer, expected, place):
+        self.calls += 1
+        kind = KINDS[name]
+        before = list(self.window)
+        arguments = list(numbers)
+        if kind < 0x19:
+            sum_ = self.looked(name, number, answer)
+        elif kind in (0x1B, 0x1C):
+            text = expected + b"." * (numbers[0] - len(expected))
+            sum_ = fold_zeros(fold(number, padded(answer, 1) + list(text)), self.lent[0])
+        elif kind < 0x20:
+            if number == 0:
+                self.window = answer[:3]
+            sum_ = fold(number, padded(answer[:3], 3) + padded(answer[3:], 57))
+            sum_ = fold_zeros(sum_, self.lent[0])
+        elif kind < 0x30:
+            self.made = None if number == 0 else self.made
+            sum_ = fold(number, [answer[1] if len(answer) > 1 else 0, answer[0]])
+            sum_ = fold_zeros(sum_, self.lent[0] + self.lent[1])
+        elif kind < 0x33:
+            if number == 0:
+                self.window = before[:2] + answer
+            sum_ = fold(number, self.window)
+            arguments = [numbers[0] & 0xFFFFFFFF, 0, numbers[0] >> 32]
+        elif kind == 0x33:
+            self.window = before[:2] + [answer[1]]
+            sum_ = fold(number, self.window + [answer[0]] + list(expected))
+            assert len(expected) == numbers[0], (name, numbers, expected)
+            text = expected
+        else:
+            sum_ = fold(number, answer if number == 0 else [fnv(bytes(0x440))])
+        self.record(kind, arguments, text, sum_, before, place)
+
+    def looked(self, name, number, answer):
+        sizes = {"open": 5, "totals": 2, "entry": 4, "lookup": 4, "entries": 5, "free_regions": 1, "max_region_size": 1, "max_file_size": 1,
+                 "allocate": 2}
+        own, listed = answer[:sizes[name]], answer[sizes[name]:]
+        sum_ = number
+        for size in (1, 2, 4, 5):
+            sum_ = fold(sum_, padded(own, size) if size == sizes[name] else [0] * size)
+        return fold_zeros(fold(sum_, padded(listed, self.lent[2], 0xA5A5A5A5)), self.lent[0])
+
+
+WORDS = re.compile(r'"([^"]*)"|:([0-9a-f]*)|(\S+)')
+
+
+def taken(part):
+    """The words of a part of a line: its numbers, and the bytes of its texts."""
+    numbers, bytes_ = [], b""
+    for quoted, digits, other in (match.groups() for match in WORDS.finditer(part)):
+        if other:
+            numbers.append(other)
+        else:
+            bytes_ += quoted.encode("ascii") if quoted is not None else bytes.fromhex(digits)
+    return numbers, bytes_
+
+
+def records():
+    made = Records()
+    for script, name in enumerate(SCRIPTS, 1):
+        with open(os.path.join(CRATE, "scripts", name + ".txt"), encoding="ascii") as file_:
+            text_ = file_.read()
+        at = 1
+        for match in re.finditer(r'((?:"[^"]*"|[^"#\n])*)(#[^\n]*)?\n', text_):
+            line, at = match.group(1), at + match.group(0).count("\n")
+            if line.strip():
+                left, _, right = line.partition(" = ") if " = " in line and '"' not in line.partition(" = ")[0] else halves(line)
+                words, bytes_ = taken(left)
+                numbers = [int(number, 0) for number in words[1:]]
+                if not made.line(words[0], numbers, bytes_):
+                    answer, expected = taken(right)
+                    answer = [int(number, 0) for number in answer]
+                    made.call(words[0], numbers, bytes_, answer[0], answer[1:], expected, script * 100000 + at - match.group(0).count("\n"))
+    return made
+
+
+def halves(line):
+    """A line before and behind its ` = `, which no text holds."""
+    outside = re.match(r'((?:"[^"]*"|[^"=])*) = (.*)', line, re.S)
+    return (outside.group(1), " = ", outside.group(2)) if outside else (line, "", "")
+
+
+def make(oracle):
+    s = Script(Oracle(oracle))
+    for name, parts in [
+            ("edits", (small_master, memory, places, spoiled_master, grown_over, half_done, empty_files, equal_rests, nested, disc_ends, far_table,
+                       game_names, unopened, limits, inserts, names, made, deep, limits_of_inserts, chain)),
+            ("reading", (with_changes, lookups, headers, fields)), ("windows", (windows, reads, executables)), ("tables", (tables,)), ("listing", (listings,))]:
+        s.lines = []
+        for part in parts:
+            part(s)
+        with open(os.path.join(CRATE, "scripts", name + ".txt"), "w", encoding="ascii") as out:
+            out.write("\n".join(s.lines) + "\n")
+    print(f"{s.images} images, {s.rust + s.paper} calls: {s.rust} by the Rust, {s.paper} by document 01")
+
+
 def main():
-    s = Script(Oracle(sys.argv[1] if len(sys.argv) > 1 else os.path.join(HERE, "target", "release", "oracle")))
-    for part in (small_master, memory, places, spoiled_master, grown_over, half_done, empty_files, equal_rests, nested, disc_ends, far_table,
-                 game_names, unopened, limits, inserts, names, made, deep, limits_of_inserts, chain):
-        part(s)
-    text = "\n".join(s.stdin) + "\n"
-    assert len(text) <= 65536, len(text)
-    for name, lines in (("stdin", s.stdin), ("stdout", s.stdout)):
-        with open(os.path.join(CRATE, name), "w", encoding="ascii") as out:
-            out.write("\n".join(lines) + "\n")
-    print(f"{s.images} images, {s.rust + s.paper} edits: {s.rust} by the Rust, {s.paper} by document 01; {len(text)} bytes")
+    if len(sys.argv) > 2 and sys.argv[1] == "--make":
+        make(sys.argv[2])
+    made = records()
+    path = os.path.join(CRATE, "stdin")
+    if sys.argv[1:] == ["--check"]:
+        with open(path, "rb") as old:
+            assert old.read() == made.out, "crates/replay/stdin is not what the scripts give"
+    else:
+        with open(path, "wb") as out:
+            out.write(made.out)
+        with open(os.path.join(CRATE, "stdout"), "w", encoding="ascii") as out:
+            out.write(f"{made.calls} calls, 0 differ\n")
+    print(f"{made.calls} calls, {len(made.out)} bytes of records")
 
 
 if __name__ == "__main__":
