@@ -2,3 +2,4 @@
 pub mod Counts
 pub mod HeaderBytes
 pub mod Puts
+pub mod EditAnswers
