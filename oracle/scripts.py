@@ -185,6 +185,7 @@ class Script:
             listing, source = paper, f"01: {why}"
         if isinstance(listing, int):
             return self.call(line, [listing], source)
+        assert len(listing) <= room <= 4096, (line, len(listing))
         return self.call(line, [0, len(listing), listing], source)
 
     def listing_said(self):
@@ -1200,8 +1201,8 @@ def listings(s):
              + file(2, 0x441, 0) + b"d\0ab\0")
     new_image(s, "nested directories, equal names, empty files, stored parents that are wrong", 0x2000, table)
     s.text("report", 0x400)
-    chain = directory(0, 0, 66) + directory(0, 0, 65) * 64 + file(2, 0x1000, 0x10) + b"d\0e\0"
-    new_image(s, "64 directories one in the other: a path of 128 bytes, which grows by two bytes an entry", 0x2000, chain)
+    chain = directory(0, 0, 52) + directory(0, 0, 51) * 50 + file(2, 0x1000, 0x10) + b"d\0e\0"
+    new_image(s, "50 directories one in the other: the path grows by two bytes an entry", 0x2000, chain)
     s.text("list", 0x1000)
     new_image(s, "directories behind directories: paths grow and shrink", 0x2000,
               directory(0, 0, 7) + directory(0, 0, 4) + directory(3, 1, 3) + file(6, 0x800, 1) + directory(8, 0, 7) + directory(3, 4, 7) + file(6, 0x900, 2)
@@ -1265,6 +1266,7 @@ class Records:
 
     def record(self, kind, numbers, text=b"", sum_=0, window=(0, 0, 0), place=0):
         words, bytes_, list_ = self.lent
+        assert words <= 16384 or not 0x10 <= kind < 0x20, (kind, words)
         head = [kind] + padded(list(numbers), 3) + [self.length, words, bytes_, list_, len(text), 0]
         head += [part for number in (sum_, *window) for part in (number >> 32, number & 0xFFFFFFFF)] + [place, 0]
         self.out += b"".join(word(number) for number in head) + text
