@@ -21,7 +21,7 @@ const fn edit(name: &'static str, operands: &'static [&'static str]) -> Form {
     Form { name, edits: true, operands, options: &["--dry-run", "--over-program"] }
 }
 
-pub const FORMS: [Form; 16] = [
+pub const FORMS: [Form; 17] = [
     look("info", &[]),
     look("list", &[]),
     look("tree", &[]),
@@ -43,6 +43,7 @@ pub const FORMS: [Form; 16] = [
     edit("move", &["PATH", "OFFSET"]),
     edit("resize", &["PATH", "SIZE"]),
     edit("rewrite", &[]),
+    Form { name: "recover", edits: true, operands: &[], options: &["--anyway"] },
 ];
 
 pub struct Args {
@@ -53,6 +54,8 @@ pub struct Args {
     pub json: bool,
     pub dry: bool,
     pub over_program: bool,
+    pub as_is: bool,
+    pub anyway: bool,
     pub all: bool,
     pub given: Option<PathBuf>,
     pub out: Option<PathBuf>,
@@ -77,6 +80,8 @@ impl Args {
             json: false,
             dry: false,
             over_program: false,
+            as_is: false,
+            anyway: false,
             all: false,
             given: None,
             out: None,
@@ -101,7 +106,8 @@ impl Args {
             Some((name, value)) => (name, Some(OsString::from(value))),
             None => (text, None),
         };
-        if !self.form.options.contains(&name) {
+        let as_is = name == "--as-is" && !self.form.edits;
+        if !as_is && !self.form.options.contains(&name) {
             return Err(Failure::usage(format!("{} has no option {name}", self.form.name)));
         }
         let valued = matches!(name, "--given" | "--out");
@@ -117,6 +123,8 @@ impl Args {
             "--dry-run" => self.dry = true,
             "--over-program" => self.over_program = true,
             "--all" => self.all = true,
+            "--as-is" => self.as_is = true,
+            "--anyway" => self.anyway = true,
             "--given" => self.given = file()?,
             _ => self.out = file()?,
         }
@@ -166,6 +174,7 @@ impl Form {
                 "--given" => " [--given LIST]",
                 "--out" => " [--out FILE]",
                 "--json" => " [--json]",
+                "--anyway" => " [--anyway]",
                 _ => " [--dry-run]",
             });
         }

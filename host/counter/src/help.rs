@@ -4,7 +4,7 @@ use crate::args::FORMS;
 use crate::failure::CAUSES;
 
 /// What each command does, in the order of `FORMS`.
-const WORDS: [(&str, &str); 16] = [
+const WORDS: [(&str, &str); 17] = [
     ("info", "the header's fields and the totals"),
     ("list", "totals, entries and free regions, one line each, for programs"),
     ("tree", "folders and files as a tree, with offsets and sizes"),
@@ -24,6 +24,7 @@ const WORDS: [(&str, &str); 16] = [
         "gives the file at PATH the size SIZE; what cannot grow where it lies goes to the largest\n      free place on a multiple of 0x8000; new bytes are what the free space held",
     ),
     ("rewrite", "writes the table anew, each name by itself"),
+    ("recover", "finishes an edit that was cut, from its journal"),
 ];
 
 pub const USAGE: &str = "usage: counter COMMAND [IMAGE] ...   (`counter help` has the commands)\n";
@@ -39,7 +40,7 @@ pub fn general() -> String {
     out.push_str("\nProve\n");
     commands(&mut out, 10..11);
     out.push_str("\nEdit\n");
-    commands(&mut out, 11..16);
+    commands(&mut out, 11..17);
     out.push_str(ARGUMENTS);
     out.push_str(COMPARE);
     out.push_str(SAFETY);

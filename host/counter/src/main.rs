@@ -1,21 +1,32 @@
 //! `counter`: looks at GameCube disc images, edits them and compares them, over libcounter.a.
 
 mod args;
+mod call;
+mod change;
 mod compare;
 mod disc;
+mod disk;
 mod dol;
 mod edit;
 mod failure;
 mod help;
 mod image;
+mod journal;
 mod json;
 mod look;
 mod map;
 mod os;
 mod progress;
+mod recover;
+mod redo;
+mod room;
+mod signals;
+mod sum;
 mod take;
 mod text;
+mod told;
 mod tree;
+mod trial;
 mod trouble;
 
 use args::{Args, Form};
@@ -73,6 +84,7 @@ fn run(args: Args) -> Outcome<u8> {
     if args.image.is_none() {
         eprintln!("counter: no IMAGE given: this is the {}", image::BUILT_IN);
     }
+    image::as_is(args.as_is);
     match args.form.name {
         "info" => look::info(&args)?,
         "list" => tree::list(&args)?,
@@ -85,6 +97,7 @@ fn run(args: Args) -> Outcome<u8> {
         "dol" => dol::dol(&args)?,
         "map" => map::map(&args)?,
         "compare" => return compare::compare(&args),
+        "recover" => recover::recover(&args)?,
         _ => edit::edit(&args)?,
     }
     Ok(0)

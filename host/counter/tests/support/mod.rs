@@ -19,9 +19,19 @@ pub struct Temp(PathBuf);
 
 impl Temp {
     pub fn new() -> Temp {
+        Temp::below(&std::env::temp_dir())
+    }
+
+    /// In memory where there is such a disk, so that a sync takes no time.
+    pub fn in_memory() -> Temp {
+        let memory = Path::new("/dev/shm");
+        if memory.is_dir() { Temp::below(memory) } else { Temp::new() }
+    }
+
+    fn below(folder: &Path) -> Temp {
         static NEXT: AtomicU32 = AtomicU32::new(0);
         let n = NEXT.fetch_add(1, Ordering::SeqCst);
-        let path = std::env::temp_dir().join(format!("counter-test-{}-{n}", std::process::id()));
+        let path = folder.join(format!("counter-test-{}-{n}", std::process::id()));
         fs::create_dir(&path).unwrap();
         Temp(path)
     }

@@ -1,0 +1,159 @@
+//! An edit that was cut is finished: by `recover`, and before the next edit.
+
+use crate::args::Args;
+use crate::failure::{CUT, Failure, INPUT_OUTPUT, Outcome, UNSAID};
+use crate::image::Image;
+use crate::journal::{self, Journal};
+use crate::progress::Progress;
+use crate::redo::{self, Owned};
+use crate::text::human;
+use crate::{say, signals};
+use std::fs::File;
+use std::io;
+use std::path::Path;
+
+pub fn recover(args: &Args) -> Outcome<()> {
+    let path = args.image.as_deref().expect("recover has an image");
+    let image = Image::edit(path)?;
+    match put_right(&image, args.anyway)? {
+        None => say(b"there is no journal: no edit was cut, nothing is to be done\n"),
+        Some(text) => finish(&format!("{text}done: written and synced\n")),
+    }
+}
+
+/// Says the last word of an edit; that it is done and synced is told by the status too. Then a signal
+/// that came meanwhile has its turn.
+pub fn finish(text: &str) -> Outcome<()> {
+    if let Err(why) = say(text.as_bytes()) {
+        let text =
+            format!("the edit is done and synced, but its answer could not be printed: {why}");
+        return Err(Failure::error(UNSAID, text));
+    }
+    match signals::signalled() {
+        None => Ok(()),
+        Some(number) => {
+            let text = format!("signal {number} came during the edit; the edit is done and synced");
+            Err(Failure::Signal { number, text })
+        }
+    }
+}
+
+/// Finishes the edit whose journal is there; the answer says which it was. `anyway` lets a journal pass
+/// that was written for another file with the same contents.
+pub fn put_right(image: &Image, anyway: bool) -> Outcome<Option<String>> {
+    let (Some(file), Some(path)) = (image.file(), image.path()) else {
+        return Ok(None);
+    };
+    let unread = |e: io::Error| Failure::file(INPUT_OUTPUT, &journal::beside(path), &e);
+    let mut journal = match Journal::find(path).map_err(unread)? {
+        None => return Ok(None),
+        Some(Err(why)) => return Err(useless(path, why)),
+        Some(Ok(journal)) => journal,
+    };
+    may_be_applied(file, path, &mut journal, anyway)?;
+    signals::begin_writing();
+    let kept = journal.record.change.kept;
+    let progress = Progress::start("recovering", kept);
+    let words = journal.record.change.words.clone();
+    match redo::redo(file, &mut journal, &progress) {
+        Ok(()) => Ok(Some(format!("finished an edit that was cut: {words}\n"))),
+        Err(why) => Err(stuck(file, path, &journal, &why)),
+    }
+}
+
+fn may_be_applied(file: &File, path: &Path, journal: &mut Journal, anyway: bool) -> Outcome<()> {
+    let unread = |e: io::Error| Failure::file(INPUT_OUTPUT, path, &e);
+    match redo::owned(file, journal).map_err(unread)? {
+        Owned::No => return Err(useless(path, "it belongs to another image")),
+        Owned::ByAnother if !anyway => return Err(doubtful(path)),
+        _ => {}
+    }
+    match redo::misfit(file, journal).map_err(unread)? {
+        None => Ok(()),
+        Some(why) => Err(changed(path, journal, why)),
+    }
+}
+
+// What is said ----------------------------------------------------------------------------
+
+fn cut(text: String) -> Failure {
+    Failure::error(CUT, text)
+}
+
+fn useless(path: &Path, why: &str) -> Failure {
+    cut(format!(
+        "{}: this journal cannot be used: {why}. Neither it nor the image was touched.\n\
+         counter: look at the image with `counter check --as-is {}`, and compare it with your copy;\n\
+         counter: once you know that it is as it should be, take the journal away",
+        journal::beside(path).display(),
+        path.display()
+    ))
+}
+
+fn doubtful(path: &Path) -> Failure {
+    cut(format!(
+        "{0}: its journal was written for another file. Nothing was touched.\n\
+         counter: if the image was brought back from a copy, take {1} away;\n\
+         counter: if it is the one that was cut (on another disk, or the disk has no lasting numbers),\n\
+         counter: `counter recover --anyway {0}` finishes the edit, if its contents fit",
+        path.display(),
+        journal::beside(path).display()
+    ))
+}
+
+fn changed(path: &Path, journal: &Journal, why: &str) -> Failure {
+    cut(format!(
+        "{}: the journal of an edit ({}) is there, but the image is none that this edit can have\n\
+         counter: left: {why}. Another program has changed it since. Nothing was touched.\n\
+         counter: look at it with `counter check --as-is`; once it is as it should be, take away\n\
+         counter: {}",
+        path.display(),
+        journal.record.change.words,
+        journal.path().display()
+    ))
+}
+
+/// The disk does not let the edit be finished. Where only free space was written so far, the edit is
+/// given up instead, and the image is as it was.
+pub fn stuck(file: &File, path: &Path, journal: &Journal, why: &io::Error) -> Failure {
+    let change = &journal.record.change;
+    if change.kept > 0 && journal.copied.is_none() && given_up(file, journal) {
+        let mut text = format!(
+            "{}: {}: nothing was written to the header, the table and the files: they are as they were",
+            path.display(),
+            reason(why)
+        );
+        if !journal.record.hole {
+            text.push_str(&format!(
+                ";\ncounter: free space from {:#x} on, {} at most, holds a part of a copy",
+                change.to,
+                human(change.kept)
+            ));
+        }
+        return Failure::error(INPUT_OUTPUT, text);
+    }
+    cut(format!(
+        "{0}: {1}: the image holds a part of the edit ({2}).\n\
+         counter: Nothing is lost. Make room on the disk, then: counter recover {0}",
+        path.display(),
+        reason(why),
+        change.words
+    ))
+}
+
+pub fn reason(why: &io::Error) -> String {
+    match why.kind() {
+        io::ErrorKind::StorageFull | io::ErrorKind::QuotaExceeded => "the disk is full".into(),
+        _ => why.to_string(),
+    }
+}
+
+/// Takes an edit back that only wrote to free space.
+pub fn given_up(file: &File, journal: &Journal) -> bool {
+    let span = journal.record.change.copy_span();
+    if journal.record.hole && !span.is_empty() {
+        // If it fails, free space is not what it was, and nothing else is different.
+        let _ = crate::disk::punch(file, span.start, span.end - span.start);
+    }
+    journal.remove().is_ok()
+}
