@@ -7,11 +7,16 @@ use crate::image::{Desk, Image, shown};
 use crate::text::{grouped, number};
 use counter_sys::{self as counter, Memory};
 
+/// Where a file that has to move is looked a place for.
+pub const CLUSTER: u32 = 0x8000;
+
 /// What was asked, in the words of the command line.
 pub enum Wish {
     MakeFolders(Vec<u8>),
     Add(Vec<u8>),
     Move(Vec<u8>, u32),
+    /// To a place that is found.
+    MoveAway(Vec<u8>),
     Resize(Vec<u8>, u32),
     Rewrite,
 }
@@ -22,6 +27,7 @@ impl Wish {
         Ok(match args.form.name {
             "mkdir" => Wish::MakeFolders(args.bytes(0)),
             "add" => Wish::Add(args.bytes(0)),
+            "move" if args.bytes(1) == b"auto" => Wish::MoveAway(args.bytes(0)),
             "move" => Wish::Move(args.bytes(0), wanted()?),
             "resize" => Wish::Resize(args.bytes(0), wanted()?),
             _ => Wish::Rewrite,
@@ -34,6 +40,7 @@ impl Wish {
             Wish::MakeFolders(path) => format!("mkdir {}", shown(path)),
             Wish::Add(path) => format!("add {}", shown(path)),
             Wish::Move(path, to) => format!("move {} to {to:#x}", shown(path)),
+            Wish::MoveAway(path) => format!("move {} to a place of its size", shown(path)),
             Wish::Resize(path, to) => {
                 format!("resize {} to {} bytes", shown(path), grouped((*to).into()))
             }
@@ -66,6 +73,11 @@ impl<'a> Call<'a> {
                 Call::Insert(find(folder)?, &path[cut.map_or(0, |at| at + 1)..])
             }
             Wish::Move(path, to) => Call::Move(find(path)?, *to),
+            Wish::MoveAway(path) => {
+                let at = find(path)?;
+                let place = place_for(at, image, desk).map_err(|number| refused(wish, number))?;
+                Call::Move(at, place)
+            }
             Wish::Resize(path, to) => Call::Resize(find(path)?, *to),
             Wish::Rewrite => Call::Rewrite,
         })
@@ -87,6 +99,12 @@ impl<'a> Call<'a> {
     }
 }
 
+/// The largest free place for file `at`, as a file that has to move in order to grow finds it.
+fn place_for(at: u32, image: &Image, desk: &mut Desk) -> Result<u32, u32> {
+    let size = counter::open_file(image.bytes(), &mut desk.lend(), at)?.length as u32;
+    counter::allocate(image.bytes(), &mut desk.lend(), size, CLUSTER).map(|place| place.offset)
+}
+
 /// The library's refusal, with what it means for this edit.
 pub fn refused(wish: &Wish, number: u32) -> Failure {
     let failure = Failure::refused(number, wish.words());
@@ -95,6 +113,10 @@ pub fn refused(wish: &Wish, number: u32) -> Failure {
         (20, Wish::Move(..)) => failure.because("the new place overlaps the old one"),
         (21, Wish::Move(..)) => failure
             .because("the new place is not free, or the table has no room; see `counter free`"),
+        (21, Wish::MoveAway(_)) => failure.because(
+            "no free place on a multiple of 0x8000 is that long, or the table has no room; see \
+             `counter free`",
+        ),
         (21, Wish::Resize(..)) => failure.because(
             "it cannot grow where it lies, and no free place on a multiple of 0x8000 is that long, \
              or the table has no room; see `counter free`",

@@ -2,8 +2,8 @@
 //! them, or let one fail. (The proved call writes through a mapping; what it changed is found by
 //! comparing.)
 //!
-//! COUNTER_LOG_WRITES names the file of the log. COUNTER_FAIL_WRITE=n lets the n-th step fail as on a
-//! full disk. Both are for tests; without them nothing is kept.
+//! COUNTER_LOG_WRITES names the file of the log. COUNTER_FULL_FROM=n lets the n-th step that takes room,
+//! and all after it, fail as on a full disk. Both are for tests; without them nothing is kept.
 
 use crate::{os, signals};
 use std::env;
@@ -56,7 +56,6 @@ pub fn create(path: &Path) -> io::Result<File> {
 
 /// The journal gets the name under which it is found.
 pub fn rename(from: &Path, to: &Path) -> io::Result<()> {
-    step()?;
     fs::rename(from, to)?;
     log(b'r', On::Journal, 0, &[]);
     Ok(())
@@ -64,7 +63,6 @@ pub fn rename(from: &Path, to: &Path) -> io::Result<()> {
 
 /// The journal goes.
 pub fn remove(path: &Path) -> io::Result<()> {
-    step()?;
     fs::remove_file(path)?;
     log(b'd', On::Journal, 0, &[]);
     Ok(())
@@ -72,16 +70,18 @@ pub fn remove(path: &Path) -> io::Result<()> {
 
 /// Waits until the names in the folder of `path` are on the disk.
 pub fn sync_folder(path: &Path) -> io::Result<()> {
-    step()?;
     let folder = path.parent().unwrap_or(Path::new("/"));
-    File::open(folder)?.sync_all()?;
+    match File::open(folder)?.sync_all() {
+        // Some disks sync no folders; what they do with names cannot be helped.
+        Err(e) if matches!(e.kind(), io::ErrorKind::InvalidInput | io::ErrorKind::Unsupported) => {}
+        synced => synced?,
+    }
     log(b'f', On::Journal, 0, &[]);
     Ok(())
 }
 
 /// A part of the image becomes a hole.
 pub fn punch(file: &File, at: u64, len: u64) -> io::Result<()> {
-    step()?;
     os::punch(file, at, len)?;
     log(b'p', On::Image, at, &len.to_le_bytes());
     Ok(())
@@ -150,8 +150,9 @@ fn log(what: u8, on: On, at: u64, bytes: &[u8]) {
 fn step() -> io::Result<()> {
     static FAILS: OnceLock<Option<u64>> = OnceLock::new();
     static STEPS: AtomicU64 = AtomicU64::new(0);
-    let fails = FAILS.get_or_init(|| env::var("COUNTER_FAIL_WRITE").ok()?.parse().ok());
-    match *fails == Some(STEPS.fetch_add(1, Ordering::SeqCst) + 1) {
+    let fails = FAILS.get_or_init(|| env::var("COUNTER_FULL_FROM").ok()?.parse().ok());
+    let count = STEPS.fetch_add(1, Ordering::SeqCst) + 1;
+    match fails.is_some_and(|from| from <= count) {
         true => Err(io::Error::from_raw_os_error(FULL)),
         false => Ok(()),
     }

@@ -7,11 +7,11 @@ use crate::change::Change;
 use crate::disc::Disc;
 use crate::disk::Watch;
 use crate::dol::program_behind;
-use crate::failure::{CANNOT_CREATE, CUT, DATA, Failure, INPUT_OUTPUT, INTERNAL, Outcome};
+use crate::failure::{CANNOT_CREATE, DATA, Failure, INPUT_OUTPUT, INTERNAL, Outcome};
 use crate::image::{Desk, Image};
 use crate::journal::{self, Journal, Owner, Record};
 use crate::progress::Progress;
-use crate::recover::{finish, given_up, put_right, reason, stuck};
+use crate::recover::{finish, given_up, put_right, reason, still_there, stuck};
 use crate::text::human;
 use crate::told::report;
 use crate::trial::{Trial, try_out};
@@ -39,7 +39,7 @@ pub fn edit(args: &Args) -> Outcome<()> {
         return say((lines + last).as_bytes());
     }
     if trial.change.is_nothing() {
-        return say(format!("{text}done: nothing was to be written\n").as_bytes());
+        return say(format!("{text}done: there was nothing to write\n").as_bytes());
     }
     enough_room(&image, &trial.change)?;
     carry_out(&call, &mut image, &mut desk, trial)?;
@@ -188,14 +188,4 @@ fn no_journal(path: &Path, why: &io::Error) -> Failure {
         reason(why)
     );
     Failure::error(status, text)
-}
-
-fn still_there(journal: &Journal, why: &io::Error) -> Failure {
-    let text = format!(
-        "{}: {}: the edit is written and synced, but its journal could not be taken away;\n\
-         counter: `counter recover` does it",
-        journal.path().display(),
-        reason(why)
-    );
-    Failure::error(CUT, text)
 }

@@ -58,7 +58,8 @@ impl Image {
         let file = open(path, access)?;
         lock(path, &file, access)?;
         let mapping = mapped(path, &file, access)?;
-        let place = fs::canonicalize(path).map_err(|e| cannot_open(path, &e))?;
+        // A file without a name (of a descriptor) can be read; a journal finds no place beside it.
+        let place = fs::canonicalize(path).unwrap_or(path.to_path_buf());
         let name = path.display().to_string();
         Ok(Image { name, path: Some(place), bytes: Bytes::Mapped { file, mapping } })
     }
@@ -74,9 +75,9 @@ impl Image {
         let failed = |e: io::Error| Failure::file(INPUT_OUTPUT, path, &e);
         let file = file.try_clone().map_err(failed)?;
         let mut mapping = mapped(path, &file, Access::Private)?;
-        for span in spans {
-            mapping.stand_in(span.start as usize..span.end as usize).map_err(failed)?;
-        }
+        let spans: Vec<_> =
+            spans.iter().map(|span| span.start as usize..span.end as usize).collect();
+        mapping.stand_in(&spans).map_err(failed)?;
         let bytes = Bytes::Mapped { file, mapping };
         Ok(Image { name: self.name.clone(), path: self.path.clone(), bytes })
     }

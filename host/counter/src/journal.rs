@@ -21,10 +21,10 @@ const COPIED: &[u8; 8] = b"copied!\n";
 /// No journal is longer: two tables of the largest size, a header, and a few numbers.
 const LONGEST: u64 = 2 * (2 << 20) + (64 << 10);
 
-/// Which file the journal belongs to.
+/// Which file the journal belongs to. The disk's number is left out: it may be another after a
+/// restart.
 #[derive(Debug, Clone, PartialEq, Eq)]
 pub struct Owner {
-    pub device: u64,
     pub inode: u64,
     pub len: u64,
     /// The header before the edit.
@@ -34,7 +34,7 @@ pub struct Owner {
 impl Owner {
     pub fn new(told: &Metadata, image: &[u8]) -> Owner {
         let header = image[..HEADER as usize].to_vec();
-        Owner { device: told.dev(), inode: told.ino(), len: told.len(), header }
+        Owner { inode: told.ino(), len: told.len(), header }
     }
 }
 
@@ -93,7 +93,12 @@ impl Journal {
         // One that was cut before it had its name: the image was not touched then.
         let _ = fs::remove_file(with(&path, ".new"));
         let told = match fs::symlink_metadata(&path) {
-            Err(e) if e.kind() == io::ErrorKind::NotFound => return Ok(None),
+            // A name too long for a journal has none.
+            Err(e)
+                if matches!(e.kind(), io::ErrorKind::NotFound | io::ErrorKind::InvalidFilename) =>
+            {
+                return Ok(None);
+            }
             told => told?,
         };
         if !told.is_file() {
@@ -148,7 +153,6 @@ fn encode(record: &Record) -> Vec<u8> {
     let mut out = MAGIC.to_vec();
     let numbers = [
         VERSION,
-        owner.device,
         owner.inode,
         owner.len,
         u64::from(*hole),
@@ -200,7 +204,7 @@ fn decode(bytes: &[u8]) -> Option<(Record, usize)> {
         return None;
     }
     let mut number = || reader.number();
-    let (device, inode, len, hole) = (number()?, number()?, number()?, number()? != 0);
+    let (inode, len, hole) = (number()?, number()?, number()? != 0);
     let (table, old_size, new_size) = (number()?, number()?, number()?);
     let (from, to, kept, lost) = (number()?, number()?, number()?, number()?..number()?);
     let header = reader.part()?.to_vec();
@@ -212,7 +216,7 @@ fn decode(bytes: &[u8]) -> Option<(Record, usize)> {
     }
     let (old_size, new_size) = (old_size.try_into().ok()?, new_size.try_into().ok()?);
     let change = Change { words, table, old, new, old_size, new_size, from, to, kept, lost };
-    let owner = Owner { device, inode, len, header };
+    let owner = Owner { inode, len, header };
     let record = Record { owner, change, hole };
     is_sound(&record).then_some((record, reader.at))
 }

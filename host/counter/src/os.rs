@@ -8,6 +8,9 @@ use std::io;
 use std::ops::Range;
 use std::os::fd::{AsRawFd, FromRawFd};
 use std::ptr;
+use std::sync::mpsc::{self, RecvTimeoutError, Sender};
+use std::thread::{self, JoinHandle};
+use std::time::Duration;
 
 #[cfg(not(all(target_os = "linux", target_pointer_width = "64")))]
 compile_error!("the numbers below are those of 64-bit Linux");
@@ -19,6 +22,7 @@ const MAP_PRIVATE: i32 = 2;
 const MAP_NORESERVE: i32 = 0x4000;
 const MS_SYNC: i32 = 4;
 const MAP_FIXED: i32 = 0x10;
+const MADV_DONTNEED: i32 = 4;
 const MFD_CLOEXEC: u32 = 1;
 const PUNCH_HOLE_KEEP_SIZE: i32 = 3;
 
@@ -29,6 +33,7 @@ unsafe extern "C" {
     fn mmap(addr: *mut u8, len: usize, prot: i32, flags: i32, fd: i32, offset: i64) -> *mut u8;
     fn munmap(addr: *mut u8, len: usize) -> i32;
     fn msync(addr: *mut u8, len: usize, flags: i32) -> i32;
+    fn madvise(addr: *mut u8, len: usize, advice: i32) -> i32;
     fn memfd_create(name: *const c_char, flags: u32) -> i32;
     fn fallocate(fd: i32, mode: i32, offset: i64, len: i64) -> i32;
 }
@@ -49,12 +54,14 @@ pub struct Mapping {
     start: *mut u8,
     len: usize,
     access: Access,
+    /// Parts for which other memory stands in.
+    relief: Option<Relief>,
 }
 
 impl Mapping {
     pub fn new(file: &File, len: usize, access: Access) -> io::Result<Mapping> {
         if len == 0 {
-            return Ok(Mapping { start: ptr::null_mut(), len, access });
+            return Ok(Mapping { start: ptr::null_mut(), len, access, relief: None });
         }
         let (prot, flags) = match access {
             Access::Read => (PROT_READ, MAP_SHARED),
@@ -65,7 +72,7 @@ impl Mapping {
         if start as isize == -1 {
             return Err(io::Error::last_os_error());
         }
-        Ok(Mapping { start, len, access })
+        Ok(Mapping { start, len, access, relief: None })
     }
 
     pub fn bytes(&self) -> &[u8] {
@@ -100,30 +107,69 @@ const PAGE: usize = 0x1000;
 const STAND_IN: usize = 0x20_0000;
 
 impl Mapping {
-    /// Lets one small piece of memory stand in for all whole pages of `span` of a private mapping, again
+    /// Lets one small piece of memory stand in for all whole pages of `spans` of a private mapping, again
     /// and again. What is copied there takes no memory; what is read there says nothing.
-    pub fn stand_in(&mut self, span: Range<usize>) -> io::Result<()> {
-        let (start, end) =
-            (span.start.next_multiple_of(PAGE), span.end.min(self.len) / PAGE * PAGE);
-        if self.access != Access::Private || end < start + 2 * STAND_IN {
+    pub fn stand_in(&mut self, spans: &[Range<usize>]) -> io::Result<()> {
+        if self.access != Access::Private {
             return Ok(());
         }
+        let mut taken = Vec::new();
+        for span in spans {
+            let start = span.start.next_multiple_of(PAGE);
+            let end = span.end.min(self.len) / PAGE * PAGE;
+            if end > start + 2 * STAND_IN {
+                self.replace(start..end)?;
+                taken.push((self.start as usize + start, end - start));
+            }
+        }
+        self.relief = (!taken.is_empty()).then(|| Relief::start(taken));
+        Ok(())
+    }
+
+    fn replace(&mut self, span: Range<usize>) -> io::Result<()> {
         let fd = unsafe { memfd_create(c"counter".as_ptr(), MFD_CLOEXEC) };
         if fd < 0 {
             return Err(io::Error::last_os_error());
         }
         let memory = unsafe { File::from_raw_fd(fd) };
         memory.set_len(STAND_IN as u64)?;
-        for at in (start..end).step_by(STAND_IN) {
-            let len = STAND_IN.min(end - at);
-            let flags = MAP_SHARED | MAP_FIXED;
+        let end = span.end;
+        for at in span.step_by(STAND_IN) {
+            let (prot, flags) = (PROT_READ | PROT_WRITE, MAP_SHARED | MAP_FIXED);
             let place = unsafe { self.start.add(at) };
-            let got = unsafe { mmap(place, len, PROT_READ | PROT_WRITE, flags, fd, 0) };
+            let got = unsafe { mmap(place, STAND_IN.min(end - at), prot, flags, fd, 0) };
             if got as isize == -1 {
                 return Err(io::Error::last_os_error());
             }
         }
         Ok(())
+    }
+}
+
+/// While pages that stand in are used, lets go of those that were: they are the same few, but the
+/// system counts them once for every place.
+struct Relief {
+    stop: Sender<()>,
+    watch: JoinHandle<()>,
+}
+
+impl Relief {
+    fn start(spans: Vec<(usize, usize)>) -> Relief {
+        let (stop, stopped) = mpsc::channel();
+        let pause = Duration::from_millis(10);
+        let watch = thread::spawn(move || {
+            while stopped.recv_timeout(pause) == Err(RecvTimeoutError::Timeout) {
+                for &(start, len) in &spans {
+                    unsafe { madvise(start as *mut u8, len, MADV_DONTNEED) };
+                }
+            }
+        });
+        Relief { stop, watch }
+    }
+
+    fn end(self) {
+        drop(self.stop);
+        let _ = self.watch.join();
     }
 }
 
@@ -137,6 +183,9 @@ pub fn punch(file: &File, at: u64, len: u64) -> io::Result<()> {
 
 impl Drop for Mapping {
     fn drop(&mut self) {
+        if let Some(relief) = self.relief.take() {
+            relief.end();
+        }
         if self.len != 0 {
             unsafe { munmap(self.start, self.len) };
         }

@@ -2,12 +2,13 @@
 
 use crate::args::Args;
 use crate::failure::{CUT, Failure, INPUT_OUTPUT, Outcome, UNSAID};
-use crate::image::Image;
+use crate::image::{Desk, Image};
 use crate::journal::{self, Journal};
 use crate::progress::Progress;
 use crate::redo::{self, Owned};
 use crate::text::human;
 use crate::{say, signals};
+use counter_sys as counter;
 use std::fs::File;
 use std::io;
 use std::path::Path;
@@ -55,10 +56,12 @@ pub fn put_right(image: &Image, anyway: bool) -> Outcome<Option<String>> {
     let kept = journal.record.change.kept;
     let progress = Progress::start("recovering", kept);
     let words = journal.record.change.words.clone();
-    match redo::redo(file, &mut journal, &progress) {
-        Ok(()) => Ok(Some(format!("finished an edit that was cut: {words}\n"))),
-        Err(why) => Err(stuck(file, path, &journal, &why)),
+    redo::redo(file, &mut journal, &progress).map_err(|why| stuck(file, path, &journal, &why))?;
+    if let Err(number) = counter::open(image.bytes(), &mut Desk::new().lend()) {
+        return Err(changed(path, &journal, &format!("now it does not open ({number})")));
     }
+    journal.remove().map_err(|why| still_there(&journal, &why))?;
+    Ok(Some(format!("finished an edit that was cut: {words}\n")))
 }
 
 fn may_be_applied(file: &File, path: &Path, journal: &mut Journal, anyway: bool) -> Outcome<()> {
@@ -138,6 +141,16 @@ pub fn stuck(file: &File, path: &Path, journal: &Journal, why: &io::Error) -> Fa
         path.display(),
         reason(why),
         change.words
+    ))
+}
+
+/// All is on the disk, but for the journal's end.
+pub fn still_there(journal: &Journal, why: &io::Error) -> Failure {
+    cut(format!(
+        "{}: {}: the edit is written and synced, but its journal could not be taken away;\n\
+         counter: `counter recover` does it",
+        journal.path().display(),
+        reason(why)
     ))
 }
 

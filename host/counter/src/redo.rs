@@ -53,14 +53,13 @@ pub fn finish(file: &File, change: &Change) -> io::Result<()> {
     disk::sync(On::Image, file)
 }
 
-/// Does all of it again that may be missing, and takes the journal away.
+/// Does all of it again that may be missing.
 pub fn redo(file: &File, journal: &mut Journal, progress: &Progress) -> io::Result<()> {
     if journal.record.change.kept > 0 && journal.copied.is_none() {
         let sum = copy(file, &journal.record.change, progress)?;
         journal.mark_copied(sum)?;
     }
-    finish(file, &journal.record.change)?;
-    journal.remove()
+    finish(file, &journal.record.change)
 }
 
 // Whether the image is one that the edit can have left ------------------------------------
@@ -75,7 +74,6 @@ pub enum Owned {
     No,
 }
 
-/// A disk may come back under another number after a restart, so the file's own number decides.
 pub fn owned(file: &File, journal: &Journal) -> io::Result<Owned> {
     let owner = &journal.record.owner;
     let told = file.metadata()?;

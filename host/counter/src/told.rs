@@ -68,14 +68,14 @@ fn placed(out: &mut String, wish: &Wish, before: &Node, after: &Node) {
     if let Wish::Resize(..) = wish {
         let (old, new) = (grouped(size.into()), grouped(now.into()));
         let _ = match size == now {
-            true => writeln!(out, "{path} has {new} bytes already; nothing is to be written"),
+            true => writeln!(out, "{path} has {new} bytes already"),
             false => writeln!(out, "resized {path}: {old} -> {new} bytes"),
         };
     }
     if offset != to {
         let _ =
             writeln!(out, "moved {path}: {offset:#x} -> {to:#x}, {} bytes", grouped(now.into()));
-    } else if let Wish::Move(..) = wish {
+    } else if let Wish::Move(..) | Wish::MoveAway(_) = wish {
         let _ = writeln!(out, "{path} stays at {to:#x}");
     }
     if now > size {

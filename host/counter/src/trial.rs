@@ -1,16 +1,13 @@
 //! An edit tried out before the image is written: the proved call runs on a mapping that is written in
 //! memory only. It refuses as it would, and what it changed there is what the edit will write.
 
-use crate::call::{Call, Wish, refused};
+use crate::call::{CLUSTER, Call, Wish, refused};
 use crate::change::Change;
 use crate::disc::{Disc, Kind, table_end};
 use crate::failure::Outcome;
 use crate::image::{Desk, Image};
 use counter_sys as counter;
 use std::ops::Range;
-
-/// Where a file that has to move is looked a place for.
-const CLUSTER: u32 = 0x8000;
 
 pub struct Trial {
     /// The entry's number in the new table, where the call gives one.

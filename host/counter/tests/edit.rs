@@ -47,7 +47,7 @@ fn accepted(image: &Path, args: &[&str]) -> String {
     assert_eq!(State::of(image), before, "{args:?}");
     let out = done(args[0], image, &args[1..]);
     match State::of(image) == before {
-        true => assert!(out.ends_with("done: nothing was to be written\n"), "{out}"),
+        true => assert!(out.ends_with("done: there was nothing to write\n"), "{out}"),
         false => assert!(out.ends_with("done: written and synced\n"), "{out}"),
     }
     assert!(!journal_of(image).exists());
