@@ -3,7 +3,8 @@
 //! comparing.)
 //!
 //! COUNTER_LOG_WRITES names the file of the log. COUNTER_FULL_FROM=n lets the n-th step that takes room,
-//! and all after it, fail as on a full disk. Both are for tests; without them nothing is kept.
+//! and all after it, fail as on a full disk; COUNTER_ASSUME_ROOM lets an edit begin on a disk that is
+//! really full. They are for tests; without them nothing is kept.
 
 use crate::{os, signals};
 use std::env;
@@ -145,6 +146,10 @@ fn log(what: u8, on: On, at: u64, bytes: &[u8]) {
     entry.extend((bytes.len() as u64).to_le_bytes());
     entry.extend(bytes);
     file.write_all(&entry).expect("the log of a test is written");
+}
+
+pub fn assumes_room() -> bool {
+    env::var_os("COUNTER_ASSUME_ROOM").is_some()
 }
 
 fn step() -> io::Result<()> {

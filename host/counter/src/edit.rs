@@ -5,7 +5,7 @@ use crate::args::Args;
 use crate::call::{Call, Wish};
 use crate::change::Change;
 use crate::disc::Disc;
-use crate::disk::Watch;
+use crate::disk::{self, Watch};
 use crate::dol::program_behind;
 use crate::failure::{CANNOT_CREATE, DATA, Failure, INPUT_OUTPUT, INTERNAL, Outcome};
 use crate::image::{Desk, Image};
@@ -92,24 +92,23 @@ fn enough_room(image: &Image, change: &Change) -> Outcome<()> {
     };
     let end = image.bytes().len() as u64;
     let elsewhere = room::copies_on_write(file);
-    let mut needed = 0;
+    let (mut needed, mut shared) = (0, 0);
     for span in change.spans() {
         if span.is_empty() {
             continue;
         }
         let span = span.start / BLOCK * BLOCK..span.end.next_multiple_of(BLOCK).min(end);
-        needed += match elsewhere {
-            true => span.end - span.start,
-            false => room::holes(file, span.clone()) + room::shared(file, span),
-        };
+        shared += if elsewhere { span.end - span.start } else { room::shared(file, span.clone()) };
+        needed += if elsewhere { 0 } else { room::holes(file, span) };
     }
+    needed += shared;
     if elsewhere {
         // The copy is written twice, and the first one's room comes back late.
         needed += change.kept;
     }
     let journal = 2 * change.new.len() as u64 + 2 * BLOCK;
-    let slack = if elsewhere { MORE_SLACK } else { SLACK };
-    if needed > 0 && needed + needed / 64 + journal + slack > left {
+    let slack = if shared > 0 { MORE_SLACK } else { SLACK };
+    if !disk::assumes_room() && needed > 0 && needed + needed / 64 + journal + slack > left {
         let text = format!(
             "{}: the disk is full: the edit takes {} of new room (holes, blocks shared with a copy, or a \
              copy-on-write disk), the disk has {} left; nothing was written",
