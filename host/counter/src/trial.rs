@@ -4,7 +4,7 @@
 use crate::call::{CLUSTER, Call, Wish, refused};
 use crate::change::Change;
 use crate::disc::{Disc, Kind, table_end};
-use crate::failure::Outcome;
+use crate::failure::{Failure, INTERNAL, Outcome};
 use crate::image::{Desk, Image};
 use counter_sys as counter;
 use std::ops::Range;
@@ -50,6 +50,10 @@ pub fn try_out(
         }
         _ => 0..0,
     };
+    if !change.is_sound(image.bytes().len() as u64) {
+        let text = format!("{}: libcounter would write where no edit writes", image.name);
+        return Err(Failure::error(INTERNAL, text));
+    }
     Ok(Trial { found, after, change, place })
 }
 

@@ -93,7 +93,9 @@ impl Disk {
             }
             (b'r', _) => self.names.push(Name::Own),
             (b'd', _) => self.names.push(Name::None),
-            (b'f', _) => self.sure.name = self.names.drain(..).last().unwrap_or(self.sure.name),
+            (b'f', _) => {
+                self.sure.name = self.names.drain(..).next_back().unwrap_or(self.sure.name)
+            }
             other => panic!("step {other:?}"),
         }
     }
