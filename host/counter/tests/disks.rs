@@ -59,6 +59,22 @@ done
 cd /; umount "$dir/$fs"
 "#;
 
+/// Runs a script that mounts; None, said aloud, where the machine does not allow it.
+fn tried(command: &mut Command, fs: &str) -> Option<Run> {
+    let path = std::env::var("PATH").unwrap_or_default();
+    let Ok(output) = command.env("PATH", format!("{path}:/usr/sbin:/sbin")).output() else {
+        println!("NOT TRIED on {fs}: no unshare here");
+        return None;
+    };
+    let run = Run::from(output);
+    let missing = ["mkfs", "mount:", "unshare:", "not permitted", "loop"];
+    if run.out.is_empty() && run.status != 0 && missing.iter().any(|word| run.err.contains(word)) {
+        println!("NOT TRIED on {fs}: {}", run.err.lines().next().unwrap_or_default());
+        return None;
+    }
+    Some(run)
+}
+
 fn nearly_full(fs: &str, size: &str, left: &str) {
     let temp = Temp::new();
     let before = temp.at("before.iso");
@@ -74,17 +90,9 @@ fn nearly_full(fs: &str, size: &str, left: &str) {
     command.args(["-m", "sh", "-c", SCRIPT, "sh", fs]).arg(temp.at(""));
     command.arg(env!("CARGO_BIN_EXE_counter")).args([size, &TO.to_string()]);
     command.args(left.split(' '));
-    let path = std::env::var("PATH").unwrap_or_default();
-    let Ok(output) = command.env("PATH", format!("{path}:/usr/sbin:/sbin")).output() else {
-        println!("NOT TRIED on {fs}: no unshare here");
+    let Some(run) = tried(&mut command, fs) else {
         return;
     };
-    let run = Run::from(output);
-    let missing = ["mkfs", "mount:", "unshare:", "not permitted", "loop"];
-    if run.out.is_empty() && run.status != 0 && missing.iter().any(|word| run.err.contains(word)) {
-        println!("NOT TRIED on {fs}: {}", run.err.lines().next().unwrap_or_default());
-        return;
-    }
     println!("{fs}: left, status, image, recover, image, journal\n{}{}", run.out, run.err);
     assert_eq!(run.status, 0, "{fs}: {}{}", run.out, run.err);
     assert_eq!(run.out.lines().count(), left.split(' ').count());
@@ -126,4 +134,83 @@ fn a_nearly_full_btrfs_is_no_danger() {
         "160M",
         "0 64 8192 13000 14000 20000 0! 64! 256! 1024! 3000! 4000! 4200! 4400! 5000! 6000! 8000! 8300! 8500! 9000! 12000!",
     );
+}
+
+// A power cut -----------------------------------------------------------------------------
+
+/// $1 folder with before.iso and after.iso, $2 program, $3 new offset, $4 reflink file system below.
+/// An ext4 in a file; while the edit runs, that file is cloned again and again: each clone is what a
+/// power cut would have left. Prints for each: image, journal, status of `recover`, image.
+const CUTS: &str = r#"set -e
+dir=$1; counter=$2; to=$3; below=$4
+mkdir "$dir/below" "$dir/disk"
+truncate -s 600M "$dir/below.img"
+case $below in
+    xfs) mkfs.xfs -q -m reflink=1 "$dir/below.img" ;;
+    btrfs) mkfs.btrfs -q "$dir/below.img" >&2 ;;
+esac
+mount -o loop "$dir/below.img" "$dir/below"
+truncate -s 64M "$dir/below/disk"
+mkfs.ext4 -q -m 0 -F "$dir/below/disk"
+mount -o loop "$dir/below/disk" "$dir/disk"
+cp "$dir/before.iso" "$dir/disk/disc.iso"; sync
+"$counter" move "$dir/disk/disc.iso" movie/intro.thp "$to" >&2 &
+edit=$!
+count=0
+while kill -0 $edit 2>/dev/null && [ $count -lt 24 ]; do
+    cp --reflink=always "$dir/below/disk" "$dir/below/cut$count"
+    count=$((count + 1))
+done
+wait $edit
+umount "$dir/disk"
+state() {
+    if cmp -s "$dir/disk/disc.iso" "$dir/before.iso"; then echo before
+    elif cmp -s "$dir/disk/disc.iso" "$dir/after.iso"; then echo after
+    else echo other; fi
+}
+for cut in $(seq 0 $((count - 1))); do
+    mount -o loop "$dir/below/cut$cut" "$dir/disk"
+    found=$(state); journal=none
+    [ ! -e "$dir/disk/disc.iso.counter-journal" ] || journal=there
+    status=0
+    "$counter" recover "$dir/disk/disc.iso" >&2 || status=$?
+    echo "$found $journal $status $(state)"
+    umount "$dir/disk"
+done
+umount "$dir/below"
+"#;
+
+fn power_cuts(below: &str, to: u32, from: u32) {
+    let temp = Temp::new();
+    let before = temp.at("before.iso");
+    sparse(&before, &usual(from, SIZE), END);
+    let mut bytes = fs::read(&before).unwrap();
+    pattern(&mut bytes[0x10_0000..], 6);
+    fs::write(&before, &bytes).unwrap();
+    fs::copy(&before, temp.at("after.iso")).unwrap();
+    done("move", &temp.at("after.iso"), &["movie/intro.thp", &to.to_string()]);
+    let mut command = Command::new("unshare");
+    command.args(["-m", "sh", "-c", CUTS, "sh"]).arg(temp.at(""));
+    command.arg(env!("CARGO_BIN_EXE_counter")).args([&to.to_string(), below]);
+    let Some(run) = tried(&mut command, below) else {
+        return;
+    };
+    println!("{below}: image, journal, recover, image\n{}{}", run.out, run.err);
+    assert_eq!(run.status, 0, "{}{}", run.out, run.err);
+    for line in run.out.lines() {
+        let words: Vec<&str> = line.split(' ').collect();
+        let [found, journal, status, then] = words[..] else { panic!("{line}") };
+        assert_eq!(status, "0", "{line}: {}", run.err);
+        match journal {
+            "none" => assert!(found != "other" && then == found, "{line}"),
+            _ => assert_eq!(then, "after", "{line}"),
+        }
+    }
+}
+
+#[test]
+fn a_power_cut_on_ext4_is_recovered() {
+    // Upwards: the kernel writes the zeros and the table before the copy.
+    power_cuts("xfs", TO, FROM);
+    power_cuts("btrfs", FROM, TO);
 }
