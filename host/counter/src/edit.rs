@@ -16,6 +16,7 @@ use crate::text::human;
 use crate::told::report;
 use crate::trial::{Trial, try_out};
 use crate::{redo, room, say, signals};
+use std::fs::File;
 use std::io;
 use std::path::Path;
 
@@ -148,12 +149,19 @@ fn carry_out(call: &Call, image: &mut Image, desk: &mut Desk, trial: Trial) -> O
         given_up(&file, &journal);
     })?;
     signals::rescue(None);
-    if image.sync().is_err() {
-        // Once more, without the mapping.
-        redo::finish(&file, &journal.record.change)
-            .map_err(|e| stuck(&file, &path, &journal, &e))?;
-    }
+    image
+        .sync()
+        .or_else(|failed| once_more(&file, &journal.record.change, &failed))
+        .map_err(|e| stuck(&file, &path, &journal, &e))?;
     journal.remove().map_err(|e| still_there(&journal, &e))
+}
+
+/// After a failed sync: the same without the mapping. A full disk has kept the copy.
+fn once_more(file: &File, change: &Change, failed: &io::Error) -> io::Result<()> {
+    if failed.kind() != io::ErrorKind::StorageFull {
+        redo::refresh(file, change)?;
+    }
+    redo::finish(file, change)
 }
 
 /// The proved call on the image itself. It was tried, so it is not refused now.

@@ -44,7 +44,7 @@ impl Image {
         let image = Image::map(path, Access::Read)?;
         match image.path.as_deref().is_some_and(journal::is_there) && !AS_IS.load(Ordering::SeqCst)
         {
-            true => Err(unfinished(path)),
+            true => Err(unfinished(image.path().unwrap_or(path))),
             false => Ok(image),
         }
     }
@@ -125,10 +125,11 @@ fn mapped(path: &Path, file: &File, access: Access) -> Outcome<Mapping> {
 }
 
 /// For a command that does not edit.
-pub fn unfinished(path: &Path) -> Failure {
+fn unfinished(path: &Path) -> Failure {
+    let edit = journal::words(path).map_or(String::new(), |words| format!(" ({words})"));
     let text = format!(
-        "{0}: an edit of this image was cut, and it may hold a part of it; nothing was done.\n\
-         counter: finish the edit with `counter recover {0}`, or look at the image with --as-is",
+        "{0}: an edit of this image was cut{edit}, and it may hold a part of it. Nothing was done. \
+         `counter recover {0}` finishes the edit; --as-is takes the image as it is",
         path.display()
     );
     Failure::error(CUT, text)

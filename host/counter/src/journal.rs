@@ -54,6 +54,8 @@ pub struct Journal {
     pub record: Record,
     /// The sum of the bytes that are whole at the new place, once they are.
     pub copied: Option<u64>,
+    /// Whether they were found spoiled there, and are to be copied again.
+    pub spoiled: bool,
 }
 
 /// The name of the journal of the image at `path`, which is no link.
@@ -72,6 +74,28 @@ pub fn is_there(image: &Path) -> bool {
     fs::symlink_metadata(beside(image)).is_ok()
 }
 
+/// The edit whose journal it is, in words.
+pub fn words(image: &Path) -> Option<String> {
+    let bytes = read(&beside(image)).ok()??.ok()?;
+    decode(&bytes).map(|(record, _)| record.change.words)
+}
+
+/// The journal's bytes: None, or what keeps it from being one.
+fn read(path: &Path) -> io::Result<Option<Result<Vec<u8>, &'static str>>> {
+    let told = match fs::symlink_metadata(path) {
+        // A name too long for a journal has none.
+        Err(e) if matches!(e.kind(), io::ErrorKind::NotFound | io::ErrorKind::InvalidFilename) => {
+            return Ok(None);
+        }
+        told => told?,
+    };
+    Ok(Some(match told.is_file() {
+        false => Err("it is no file"),
+        true if told.len() > LONGEST => Err("it is too long"),
+        true => Ok(fs::read(path)?),
+    }))
+}
+
 impl Journal {
     /// Writes the journal of an edit that is about to begin. On an error there is none.
     pub fn start(image: &Path, record: Record) -> io::Result<Journal> {
@@ -83,7 +107,7 @@ impl Journal {
             let _ = fs::remove_file(&path);
         }
         let (file, end) = begun?;
-        Ok(Journal { path, file, end, record, copied: None })
+        Ok(Journal { path, file, end, record, copied: None, spoiled: false })
     }
 
     /// The journal beside the image: None, a whole one, or what is wrong with it. For whoever has the
@@ -92,28 +116,17 @@ impl Journal {
         let path = beside(image);
         // One that was cut before it had its name: the image was not touched then.
         let _ = fs::remove_file(with(&path, ".new"));
-        let told = match fs::symlink_metadata(&path) {
-            // A name too long for a journal has none.
-            Err(e)
-                if matches!(e.kind(), io::ErrorKind::NotFound | io::ErrorKind::InvalidFilename) =>
-            {
-                return Ok(None);
-            }
-            told => told?,
+        let bytes = match read(&path)? {
+            Some(Ok(bytes)) => bytes,
+            Some(Err(why)) => return Ok(Some(Err(why))),
+            None => return Ok(None),
         };
-        if !told.is_file() {
-            return Ok(Some(Err("it is no file")));
-        }
-        if told.len() > LONGEST {
-            return Ok(Some(Err("it is too long")));
-        }
-        let bytes = fs::read(&path)?;
         let Some((record, end)) = decode(&bytes) else {
             return Ok(Some(Err("it is torn, or no journal")));
         };
         let file = File::options().read(true).write(true).open(&path)?;
         let copied = decode_copied(&bytes, end);
-        Ok(Some(Ok(Journal { path, file, end: end as u64, record, copied })))
+        Ok(Some(Ok(Journal { path, file, end: end as u64, record, copied, spoiled: false })))
     }
 
     /// Notes that the file's bytes are on the disk at the new place.

@@ -77,7 +77,7 @@ fn may_be_applied(file: &File, path: &Path, journal: &mut Journal, anyway: bool)
     }
 }
 
-// What is said ----------------------------------------------------------------------------
+// What is said: what happened, what state the image is in, what to do next ------------------
 
 fn cut(text: String) -> Failure {
     Failure::error(CUT, text)
@@ -85,9 +85,9 @@ fn cut(text: String) -> Failure {
 
 fn useless(path: &Path, why: &str) -> Failure {
     cut(format!(
-        "{}: this journal cannot be used: {why}. Neither it nor the image was touched.\n\
-         counter: look at the image with `counter check --as-is {}`, and compare it with your copy;\n\
-         counter: once you know that it is as it should be, take the journal away",
+        "{}: this journal cannot be used: {why}. Neither it nor the image was touched. Look at the image \
+         with `counter check --as-is {}` and compare it with your copy; once you know that it is as it \
+         should be, take the journal away",
         journal::beside(path).display(),
         path.display()
     ))
@@ -95,10 +95,9 @@ fn useless(path: &Path, why: &str) -> Failure {
 
 fn doubtful(path: &Path) -> Failure {
     cut(format!(
-        "{0}: its journal was written for another file. Nothing was touched.\n\
-         counter: if the image was brought back from a copy, take {1} away;\n\
-         counter: if it is the one that was cut (on another disk, or the disk has no lasting numbers),\n\
-         counter: `counter recover --anyway {0}` finishes the edit, if its contents fit",
+        "{0}: its journal was written for another file. Nothing was touched. If the image was brought back \
+         from a copy, take {1} away. If it is the one that was cut (now on another disk, or the disk has \
+         no lasting numbers), `counter recover --anyway {0}` finishes the edit, if its contents fit",
         path.display(),
         journal::beside(path).display()
     ))
@@ -106,10 +105,9 @@ fn doubtful(path: &Path) -> Failure {
 
 fn changed(path: &Path, journal: &Journal, why: &str) -> Failure {
     cut(format!(
-        "{}: the journal of an edit ({}) is there, but the image is none that this edit can have\n\
-         counter: left: {why}. Another program has changed it since. Nothing was touched.\n\
-         counter: look at it with `counter check --as-is`; once it is as it should be, take away\n\
-         counter: {}",
+        "{0}: there is the journal of an edit ({1}), but the image is none that this edit can have left: \
+         {why}. Another program has changed it since. Nothing was touched. Look at it with `counter check \
+         --as-is {0}`; once you know that it is as it should be, take {2} away",
         path.display(),
         journal.record.change.words,
         journal.path().display()
@@ -128,7 +126,7 @@ pub fn stuck(file: &File, path: &Path, journal: &Journal, why: &io::Error) -> Fa
         );
         if !journal.record.hole {
             text.push_str(&format!(
-                ";\ncounter: free space from {:#x} on, {} at most, holds a part of a copy",
+                "; free space from {:#x} on, {} at most, holds a part of a copy",
                 change.to,
                 human(change.kept)
             ));
@@ -136,8 +134,8 @@ pub fn stuck(file: &File, path: &Path, journal: &Journal, why: &io::Error) -> Fa
         return Failure::error(INPUT_OUTPUT, text);
     }
     cut(format!(
-        "{0}: {1}: the image holds a part of the edit ({2}).\n\
-         counter: Nothing is lost. Make room on the disk, then: counter recover {0}",
+        "{0}: {1}: the image holds a part of the edit ({2}). Nothing is lost: make room on the disk, then \
+         `counter recover {0}` finishes it",
         path.display(),
         reason(why),
         change.words
@@ -147,8 +145,8 @@ pub fn stuck(file: &File, path: &Path, journal: &Journal, why: &io::Error) -> Fa
 /// All is on the disk, but for the journal's end.
 pub fn still_there(journal: &Journal, why: &io::Error) -> Failure {
     cut(format!(
-        "{}: {}: the edit is written and synced, but its journal could not be taken away;\n\
-         counter: `counter recover` does it",
+        "{}: {}: the edit is written and synced, but its journal could not be taken away; `counter \
+         recover` does it",
         journal.path().display(),
         reason(why)
     ))

@@ -53,9 +53,20 @@ pub fn finish(file: &File, change: &Change) -> io::Result<()> {
     disk::sync(On::Image, file)
 }
 
+/// Writes the bytes at the new place once more, over themselves: after a failed sync the system may take
+/// for written what is not.
+pub fn refresh(file: &File, change: &Change) -> io::Result<()> {
+    let mut bytes = vec![0; PART as usize];
+    for (at, len) in parts(change.copy_span()) {
+        file.read_exact_at(&mut bytes[..len], at)?;
+        disk::write_at(On::Image, file, at, &bytes[..len])?;
+    }
+    Ok(())
+}
+
 /// Does all of it again that may be missing.
 pub fn redo(file: &File, journal: &mut Journal, progress: &Progress) -> io::Result<()> {
-    if journal.record.change.kept > 0 && journal.copied.is_none() {
+    if journal.record.change.kept > 0 && (journal.copied.is_none() || journal.spoiled) {
         let sum = copy(file, &journal.record.change, progress)?;
         journal.mark_copied(sum)?;
     }
@@ -118,7 +129,7 @@ pub fn misfit(file: &File, journal: &mut Journal) -> io::Result<Option<&'static 
     if sum_of(file, change.source_span())? != sum {
         return Ok(Some("the file's bytes are whole neither at its old nor at its new place"));
     }
-    journal.copied = None;
+    journal.spoiled = true;
     Ok(None)
 }
 

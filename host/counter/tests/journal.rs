@@ -103,7 +103,11 @@ fn a_cut_edit_is_told_and_finished() {
     for args in reading {
         let run = on(args[0], &cut.image, &args[1..]);
         assert_eq!(run.status, 78, "{args:?}: {}", run.err);
-        assert!(run.err.contains("an edit of this image was cut"), "{args:?}: {}", run.err);
+        assert!(
+            run.err.contains("an edit of this image was cut (move film to 0x20000)"),
+            "{args:?}: {}",
+            run.err
+        );
         assert!(run.err.contains("counter recover ") && run.err.contains("--as-is"), "{}", run.err);
         assert_eq!(run.out, "", "{args:?}");
     }
