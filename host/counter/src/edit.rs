@@ -139,16 +139,15 @@ fn carry_out(call: &Call, image: &mut Image, desk: &mut Desk, trial: Trial) -> O
     let hole = trial.change.kept > 0 && room::holes(&file, copy) == trial.change.kept;
     let record = Record { owner, change: trial.change, hole };
     let mut journal = Journal::start(&path, record).map_err(|e| no_journal(&path, &e))?;
+    signals::rescue(&path);
     if journal.record.change.kept > 0 {
         redo::copy(&file, &journal.record.change, &progress)
             .and_then(|sum| journal.mark_copied(sum))
             .map_err(|e| stuck(&file, &path, &journal, &e))?;
     }
-    signals::rescue(Some(&path));
     write(call, image, desk, &journal, trial.found).inspect_err(|_| {
         given_up(&file, &journal);
     })?;
-    signals::rescue(None);
     image
         .sync()
         .or_else(|failed| once_more(&file, &journal.record.change, &failed))

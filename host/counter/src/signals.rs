@@ -147,9 +147,9 @@ pub fn begin_writing() {
     }
 }
 
-/// The image that is recovered if a page fails while it is written; None from where none is written.
-pub fn rescue(image: Option<&Path>) {
-    let name = image.and_then(|path| CString::new(path.as_os_str().as_bytes()).ok());
+/// From here on there is a journal: if a page of the image fails, the edit is finished from it.
+pub fn rescue(image: &Path) {
+    let name = CString::new(image.as_os_str().as_bytes()).ok();
     // Never given back: the handler may be using it.
     let words = name.map(|name| {
         let words = [c"counter".into(), c"recover".into(), c"--".into(), name];
