@@ -411,3 +411,66 @@ fn growing_elsewhere_survives_a_power_cut() {
 fn a_rewrite_that_shrinks_the_table_survives_a_power_cut() {
     cut_everywhere(master(2000), &["rewrite"], 16);
 }
+
+/// Edits one after another, at random: files and table that share sectors, places right beside each
+/// other, sizes of every kind.
+#[test]
+fn any_edits_survive_a_power_cut() {
+    let mut random = Random(0x1234_5678_9ABC_DEF1);
+    let mut bench = Bench::new(master(300));
+    let (mut accepted, mut states) = (0, 0);
+    for turn in 0..120 {
+        if accepted == 30 {
+            break;
+        }
+        let args = any_edit(&bench.image, turn, &mut random);
+        let args: Vec<&str> = args.iter().map(String::as_str).collect();
+        let (run, steps) = bench.logged(&args);
+        bench.after = fs::read(&bench.image).unwrap();
+        if bench.after == bench.before {
+            assert!(steps.is_empty(), "{args:?}");
+            continue;
+        }
+        assert_eq!(run.status, 0, "{args:?}: {}", run.err);
+        accepted += 1;
+        let start = Found { image: bench.before.clone(), name: Name::None, journal: Vec::new() };
+        let found = cuts(&start, &steps, &mut random);
+        let mut found: Vec<&Found> = found.iter().filter(|found| found.name == Name::Own).collect();
+        // Those that differ most from both ends first.
+        found.sort_by_cached_key(|found| {
+            let old = found.image == bench.before;
+            let new = found.image == bench.after;
+            (old || new, sum(&found.image) ^ sum(&found.journal))
+        });
+        for found in found.iter().take(12) {
+            assert!(bench.recovered(found, &format!("turn {turn}, {args:?}")));
+            states += 1;
+        }
+        fs::write(&bench.image, &bench.after).unwrap();
+        bench.before = bench.after.clone();
+    }
+    println!("{accepted} edits, {states} cuts");
+    assert!(accepted > 20 && states > 100, "{accepted} edits, {states} cuts");
+}
+
+fn any_edit(image: &Path, turn: u32, random: &mut Random) -> Vec<String> {
+    let table = Table::of(image);
+    let files: Vec<&Entry> = table.entries.iter().filter(|entry| !entry.folder).collect();
+    let file = match random.below(3) {
+        // The large ones more often.
+        0 => files[random.below(files.len())],
+        _ => files.iter().max_by_key(|file| file.size ^ (random.below(0x4000) as u32)).unwrap(),
+    };
+    let behind = u64::from(file.offset) + u64::from(file.size);
+    let words: Vec<String> = match random.below(8) {
+        0 => vec!["add".into(), format!("new{turn}")],
+        1 => vec!["mkdir".into(), format!("d/m{turn}/n")],
+        2 => vec!["rewrite".into()],
+        3 => vec!["resize".into(), file.path.clone(), random.below(0x5000).to_string()],
+        4 => vec!["resize".into(), file.path.clone(), (file.size / 2).to_string()],
+        5 => vec!["move".into(), file.path.clone(), table.table_end.to_string()],
+        6 => vec!["move".into(), file.path.clone(), behind.to_string()],
+        _ => vec!["move".into(), file.path.clone(), random.below(END as usize).to_string()],
+    };
+    words
+}

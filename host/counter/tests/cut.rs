@@ -12,12 +12,12 @@ use std::thread;
 use std::time::{Duration, Instant};
 use support::*;
 
-const END: u32 = 0x500_0000;
+const END: u32 = 0x280_0000;
 const FROM: u32 = 0x10_0000;
-const TO: u32 = 0x300_0000;
-const SIZE: u32 = 0x180_0000;
+const TO: u32 = 0x180_0000;
+const SIZE: u32 = 0xC0_0000;
 
-/// A master with a film of 24 MiB, every byte of which says where it is from.
+/// A master with a film of 12 MiB, every byte of which says where it is from.
 struct Stage {
     temp: Temp,
     bytes: Vec<u8>,
@@ -251,7 +251,7 @@ fn an_image_that_shrinks_while_it_is_read_is_told() {
     assert!(run.err.contains("could not be read to its end"), "{}", run.err);
 }
 
-/// A file system of 16 MiB that is nearly full; needs leave to mount one.
+/// A disk in memory that is nearly full; needs leave to mount one.
 #[test]
 fn a_full_disk_is_told_before_anything_is_written() {
     let stage = Stage::new();
@@ -259,16 +259,16 @@ fn a_full_disk_is_told_before_anything_is_written() {
     let small = stage.temp.at("small");
     fs::create_dir(&small).unwrap();
     let script = "set -e
-        mount -t tmpfs -o size=40M tmpfs \"$1\"
+        mount -t tmpfs -o size=20M tmpfs \"$1\"
         cp --sparse=always \"$2\" \"$1/image.iso\"
         cp \"$1/image.iso\" \"$1/copy\" 2>/dev/null || true
         sum=$(cksum < \"$1/image.iso\"); time=$(stat -c %y \"$1/image.iso\")
-        status=0; \"$3\" move \"$1/image.iso\" movie/intro.thp 0x3000000 || status=$?
+        status=0; \"$3\" move \"$1/image.iso\" movie/intro.thp 0x1800000 || status=$?
         test \"$sum\" = \"$(cksum < \"$1/image.iso\")\"
         test \"$time\" = \"$(stat -c %y \"$1/image.iso\")\"
         status2=0; \"$3\" extract \"$1/image.iso\" movie/intro.thp \"$1/film\" || status2=$?
         test ! -e \"$1/film\"
-        rm \"$1/copy\"; \"$3\" move \"$1/image.iso\" opening.bnr 0x3000000
+        rm \"$1/copy\"; \"$3\" move \"$1/image.iso\" opening.bnr 0x1800000
         echo \"statuses $status $status2\"";
     let output = Command::new("unshare")
         .args(["-m", "sh", "-c", script, "sh"])
@@ -286,5 +286,5 @@ fn a_full_disk_is_told_before_anything_is_written() {
     }
     assert_eq!(run.status, 0, "{}{}", run.out, run.err);
     assert!(run.out.contains("statuses 74 74"), "{}{}", run.out, run.err);
-    assert!(run.err.contains("the disk is full: the edit takes 24 MiB of new room"), "{}", run.err);
+    assert!(run.err.contains("the disk is full: the edit takes 12 MiB of new room"), "{}", run.err);
 }
