@@ -102,23 +102,30 @@ impl Mapping {
     }
 }
 
-/// A page, and the memory that stands in for many of them.
-const PAGE: usize = 0x1000;
+/// A multiple of every system's pages, and the memory that stands in for many of them.
+const PAGE: usize = 0x1_0000;
 const STAND_IN: usize = 0x20_0000;
 
 impl Mapping {
     /// Lets one small piece of memory stand in for all whole pages of `spans` of a private mapping, again
     /// and again. What is copied there takes no memory; what is read there says nothing.
     pub fn stand_in(&mut self, spans: &[Range<usize>]) -> io::Result<()> {
-        if self.access != Access::Private {
+        let fd = match self.access {
+            Access::Private => unsafe { memfd_create(c"counter".as_ptr(), MFD_CLOEXEC) },
+            _ => -1,
+        };
+        // Without it the copy takes its memory.
+        if fd < 0 {
             return Ok(());
         }
+        let memory = unsafe { File::from_raw_fd(fd) };
+        memory.set_len(STAND_IN as u64)?;
         let mut taken = Vec::new();
         for span in spans {
             let start = span.start.next_multiple_of(PAGE);
             let end = span.end.min(self.len) / PAGE * PAGE;
             if end > start + 2 * STAND_IN {
-                self.replace(start..end)?;
+                self.replace(start..end, &memory)?;
                 taken.push((self.start as usize + start, end - start));
             }
         }
@@ -126,14 +133,8 @@ impl Mapping {
         Ok(())
     }
 
-    fn replace(&mut self, span: Range<usize>) -> io::Result<()> {
-        let fd = unsafe { memfd_create(c"counter".as_ptr(), MFD_CLOEXEC) };
-        if fd < 0 {
-            return Err(io::Error::last_os_error());
-        }
-        let memory = unsafe { File::from_raw_fd(fd) };
-        memory.set_len(STAND_IN as u64)?;
-        let end = span.end;
+    fn replace(&mut self, span: Range<usize>, memory: &File) -> io::Result<()> {
+        let (fd, end) = (memory.as_raw_fd(), span.end);
         for at in span.step_by(STAND_IN) {
             let (prot, flags) = (PROT_READ | PROT_WRITE, MAP_SHARED | MAP_FIXED);
             let place = unsafe { self.start.add(at) };

@@ -1,6 +1,7 @@
 //! An edit that was cut is finished: by `recover`, and before the next edit.
 
 use crate::args::Args;
+use crate::disk;
 use crate::failure::{CUT, Failure, INPUT_OUTPUT, Outcome, UNSAID};
 use crate::image::{Desk, Image};
 use crate::journal::{self, Journal};
@@ -45,8 +46,8 @@ pub fn put_right(image: &Image, anyway: bool) -> Outcome<Option<String>> {
     let (Some(file), Some(path)) = (image.file(), image.path()) else {
         return Ok(None);
     };
-    let unread = |e: io::Error| Failure::file(INPUT_OUTPUT, &journal::beside(path), &e);
-    let mut journal = match Journal::find(path).map_err(unread)? {
+    let found = Journal::find(path).map_err(|e| useless(path, &reason(&e)))?;
+    let mut journal = match found {
         None => return Ok(None),
         Some(Err(why)) => return Err(useless(path, why)),
         Some(Ok(journal)) => journal,
@@ -58,14 +59,15 @@ pub fn put_right(image: &Image, anyway: bool) -> Outcome<Option<String>> {
     let words = journal.record.change.words.clone();
     redo::redo(file, &mut journal, &progress).map_err(|why| stuck(file, path, &journal, &why))?;
     if let Err(number) = counter::open(image.bytes(), &mut Desk::new().lend()) {
-        return Err(changed(path, &journal, &format!("now it does not open ({number})")));
+        return Err(not_opened(path, &journal, number));
     }
     journal.remove().map_err(|why| still_there(&journal, &why))?;
     Ok(Some(format!("finished an edit that was cut: {words}\n")))
 }
 
 fn may_be_applied(file: &File, path: &Path, journal: &mut Journal, anyway: bool) -> Outcome<()> {
-    let unread = |e: io::Error| Failure::file(INPUT_OUTPUT, path, &e);
+    let words = journal.record.change.words.clone();
+    let unread = |e: io::Error| unread(path, &words, &e);
     match redo::owned(file, journal).map_err(unread)? {
         Owned::No => return Err(useless(path, "it belongs to another image")),
         Owned::ByAnother if !anyway => return Err(doubtful(path)),
@@ -90,6 +92,25 @@ fn useless(path: &Path, why: &str) -> Failure {
          should be, take the journal away",
         journal::beside(path).display(),
         path.display()
+    ))
+}
+
+fn unread(path: &Path, words: &str, why: &io::Error) -> Failure {
+    cut(format!(
+        "{0}: {1}: the image could not be read, so the edit that was cut ({words}) was not finished. \
+         Neither the image nor its journal was touched; try `counter recover {0}` again",
+        path.display(),
+        reason(why)
+    ))
+}
+
+fn not_opened(path: &Path, journal: &Journal, number: u32) -> Failure {
+    cut(format!(
+        "{}: the edit that was cut ({}) was finished as its journal says, but the image does not open \
+         (refused {number}). The journal is kept: {}. Go back to your copy",
+        path.display(),
+        journal.record.change.words,
+        journal.path().display()
     ))
 }
 
@@ -164,7 +185,7 @@ pub fn given_up(file: &File, journal: &Journal) -> bool {
     let span = journal.record.change.copy_span();
     if journal.record.hole && !span.is_empty() {
         // If it fails, free space is not what it was, and nothing else is different.
-        let _ = crate::disk::punch(file, span.start, span.end - span.start);
+        let _ = disk::punch(file, span.start, span.end - span.start);
     }
     journal.remove().is_ok()
 }

@@ -107,14 +107,11 @@ pub fn owned(file: &File, journal: &Journal) -> io::Result<Owned> {
 pub fn misfit(file: &File, journal: &mut Journal) -> io::Result<Option<&'static str>> {
     let change = &journal.record.change;
     let (table, word) = table_and_size(file, change)?;
-    let untouched = table == change.old && word == change.old_size.to_be_bytes();
-    let ends = word.iter().zip(change.old_size.to_be_bytes()).zip(change.new_size.to_be_bytes());
-    let bytes = table.iter().zip(&change.old).zip(&change.new);
-    if !bytes.into_iter().all(|((now, old), new)| now == old || now == new)
-        || !ends.into_iter().all(|((now, old), new)| *now == old || *now == new)
-    {
+    let (old, new) = (change.old_size.to_be_bytes(), change.new_size.to_be_bytes());
+    if !is_mix(&table, &change.old, &change.new) || !is_mix(&word, &old, &new) {
         return Ok(Some("its table is neither the old nor the new one"));
     }
+    let untouched = table == change.old && word == old;
     if change.kept == 0 {
         return Ok(None);
     }
@@ -131,6 +128,11 @@ pub fn misfit(file: &File, journal: &mut Journal) -> io::Result<Option<&'static 
     }
     journal.spoiled = true;
     Ok(None)
+}
+
+/// Whether each byte is one of the old bytes or of the new ones.
+fn is_mix(now: &[u8], old: &[u8], new: &[u8]) -> bool {
+    now.iter().zip(old).zip(new).all(|((now, old), new)| now == old || now == new)
 }
 
 fn table_and_size(file: &File, change: &Change) -> io::Result<(Vec<u8>, [u8; 4])> {
@@ -153,13 +155,12 @@ fn sum_of(file: &File, span: Range<u64>) -> io::Result<u64> {
 
 /// Whether each byte of the old place is still the file's, or zero.
 fn copied_or_zero(file: &File, change: &Change) -> io::Result<bool> {
-    let (mut old, mut new) = (vec![0; PART as usize], vec![0; PART as usize]);
+    let zeros = vec![0; PART as usize];
+    let (mut old, mut new) = (zeros.clone(), zeros.clone());
     for (at, len) in parts(change.source_span()) {
         file.read_exact_at(&mut old[..len], at)?;
         file.read_exact_at(&mut new[..len], change.to + (at - change.from))?;
-        if old[..len] != new[..len]
-            && !old[..len].iter().zip(&new[..len]).all(|(old, new)| old == new || *old == 0)
-        {
+        if old[..len] != new[..len] && !is_mix(&old[..len], &new[..len], &zeros[..len]) {
             return Ok(false);
         }
     }
