@@ -168,7 +168,7 @@ impl Random {
 }
 
 /// Random states at a point where much is unsure.
-const SUBSETS: usize = 12;
+const SUBSETS: usize = 20;
 
 /// The states that a cut can leave: at every step nothing and all of what is unsure; every subset
 /// where there are few unsure parts, and random ones, with halves, where there are many.
@@ -178,7 +178,7 @@ fn cuts(start: &Found, steps: &[Step], random: &mut Random) -> HashSet<Found> {
     for at in 0..=steps.len() {
         all.insert(disk.cut(|_| 0));
         all.insert(disk.cut(|_| 1));
-        if disk.unsure() > 0 && disk.unsure() <= 4 {
+        if disk.unsure() > 0 && disk.unsure() <= 6 {
             for set in 0..1usize << disk.unsure() {
                 let mut bit = 0;
                 all.insert(disk.cut(|_| {
