@@ -9,6 +9,7 @@ mod support;
 
 use std::collections::HashSet;
 use std::fs::{self, File};
+use std::hash::{DefaultHasher, Hash, Hasher};
 use std::os::unix::fs::FileExt;
 use std::path::{Path, PathBuf};
 use support::*;
@@ -167,14 +168,31 @@ impl Random {
     }
 }
 
+/// States, each once, in their order.
+#[derive(Default)]
+struct States {
+    states: Vec<Found>,
+    known: HashSet<u64>,
+}
+
+impl States {
+    fn insert(&mut self, found: Found) {
+        let mut hash = DefaultHasher::new();
+        found.hash(&mut hash);
+        if self.known.insert(hash.finish()) {
+            self.states.push(found);
+        }
+    }
+}
+
 /// Random states at a point where much is unsure.
 const SUBSETS: usize = 20;
 
 /// The states that a cut can leave: at every step nothing and all of what is unsure; every subset
 /// where there are few unsure parts, and random ones, with halves, where there are many.
-fn cuts(start: &Found, steps: &[Step], random: &mut Random) -> HashSet<Found> {
+fn cuts(start: &Found, steps: &[Step], random: &mut Random) -> Vec<Found> {
     let mut disk = Disk::new(start.clone());
-    let mut all = HashSet::new();
+    let mut all = States::default();
     for at in 0..=steps.len() {
         all.insert(disk.cut(|_| 0));
         all.insert(disk.cut(|_| 1));
@@ -203,7 +221,7 @@ fn cuts(start: &Found, steps: &[Step], random: &mut Random) -> HashSet<Found> {
             disk.take(step);
         }
     }
-    all
+    all.states
 }
 
 // A master --------------------------------------------------------------------------------
@@ -342,7 +360,7 @@ fn cut_everywhere(before: Vec<u8>, args: &[&str], seed: u64) {
             true => new += 1,
             false => old += 1,
         }
-        if found.name == Name::Own && again.len() < 5 && random.below(6) == 0 {
+        if found.name == Name::Own && again.len() < 5 && (new < 3 || random.below(12) == 0) {
             again.push(found);
         }
     }
