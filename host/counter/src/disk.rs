@@ -28,6 +28,11 @@ const SECTOR: usize = 0x200;
 
 const FULL: i32 = 28;
 
+/// Whether an error says that there is no room left.
+pub fn is_full(error: &io::Error) -> bool {
+    matches!(error.kind(), io::ErrorKind::StorageFull | io::ErrorKind::QuotaExceeded)
+}
+
 pub fn write_at(on: On, file: &File, at: u64, bytes: &[u8]) -> io::Result<()> {
     step()?;
     file.write_all_at(bytes, at)?;

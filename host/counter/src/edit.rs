@@ -157,7 +157,7 @@ fn carry_out(call: &Call, image: &mut Image, desk: &mut Desk, trial: Trial) -> O
 
 /// After a failed sync: the same without the mapping. A full disk has kept the copy.
 fn once_more(file: &File, change: &Change, failed: &io::Error) -> io::Result<()> {
-    if failed.kind() != io::ErrorKind::StorageFull {
+    if !disk::is_full(failed) {
         redo::refresh(file, change)?;
     }
     redo::finish(file, change)
@@ -184,10 +184,7 @@ fn write(
 }
 
 fn no_journal(path: &Path, why: &io::Error) -> Failure {
-    let status = match why.kind() {
-        io::ErrorKind::StorageFull | io::ErrorKind::QuotaExceeded => INPUT_OUTPUT,
-        _ => CANNOT_CREATE,
-    };
+    let status = if disk::is_full(why) { INPUT_OUTPUT } else { CANNOT_CREATE };
     let text = format!(
         "{}: the journal of the edit cannot be written: {}; nothing was written",
         journal::beside(path).display(),

@@ -110,26 +110,24 @@ impl Mapping {
     /// Lets one small piece of memory stand in for all whole pages of `spans` of a private mapping, again
     /// and again. What is copied there takes no memory; what is read there says nothing.
     pub fn stand_in(&mut self, spans: &[Range<usize>]) -> io::Result<()> {
-        let fd = match self.access {
-            Access::Private => unsafe { memfd_create(c"counter".as_ptr(), MFD_CLOEXEC) },
-            _ => -1,
+        let whole = |span: &Range<usize>| {
+            span.start.next_multiple_of(PAGE)..span.end.min(self.len) / PAGE * PAGE
         };
-        // Without it the copy takes its memory.
-        if fd < 0 {
+        let worth = |span: &Range<usize>| span.end > span.start + 2 * STAND_IN;
+        let spans: Vec<Range<usize>> = spans.iter().map(whole).filter(worth).collect();
+        if spans.is_empty() || self.access != Access::Private {
             return Ok(());
         }
-        let memory = unsafe { File::from_raw_fd(fd) };
-        memory.set_len(STAND_IN as u64)?;
+        // Without it the copy takes its memory.
+        let Some(memory) = memory() else {
+            return Ok(());
+        };
         let mut taken = Vec::new();
         for span in spans {
-            let start = span.start.next_multiple_of(PAGE);
-            let end = span.end.min(self.len) / PAGE * PAGE;
-            if end > start + 2 * STAND_IN {
-                self.replace(start..end, &memory)?;
-                taken.push((self.start as usize + start, end - start));
-            }
+            taken.push((self.start as usize + span.start, span.end - span.start));
+            self.replace(span, &memory)?;
         }
-        self.relief = (!taken.is_empty()).then(|| Relief::start(taken));
+        self.relief = Some(Relief::start(taken));
         Ok(())
     }
 
@@ -145,6 +143,17 @@ impl Mapping {
         }
         Ok(())
     }
+}
+
+/// A file in memory, as long as what stands in.
+fn memory() -> Option<File> {
+    let fd = unsafe { memfd_create(c"counter".as_ptr(), MFD_CLOEXEC) };
+    if fd < 0 {
+        return None;
+    }
+    let memory = unsafe { File::from_raw_fd(fd) };
+    memory.set_len(STAND_IN as u64).ok()?;
+    Some(memory)
 }
 
 /// While pages that stand in are used, lets go of those that were: they are the same few, but the

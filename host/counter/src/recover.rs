@@ -147,7 +147,7 @@ pub fn stuck(file: &File, path: &Path, journal: &Journal, why: &io::Error) -> Fa
         );
         if !journal.record.hole {
             text.push_str(&format!(
-                "; free space from {:#x} on, {} at most, holds a part of a copy",
+                "; free space from {:#x} on, {} at most, may hold a part of a copy",
                 change.to,
                 human(change.kept)
             ));
@@ -174,10 +174,7 @@ pub fn still_there(journal: &Journal, why: &io::Error) -> Failure {
 }
 
 pub fn reason(why: &io::Error) -> String {
-    match why.kind() {
-        io::ErrorKind::StorageFull | io::ErrorKind::QuotaExceeded => "the disk is full".into(),
-        _ => why.to_string(),
-    }
+    if disk::is_full(why) { "the disk is full".into() } else { why.to_string() }
 }
 
 /// Takes an edit back that only wrote to free space.

@@ -43,7 +43,7 @@ pub fn finish(file: &File, change: &Change) -> io::Result<()> {
     for (at, len) in parts(change.lost.clone()) {
         match disk::write_at(On::Image, file, at, &zeros[..len]) {
             // A hole reads as zeros too, and gives room instead of taking it.
-            Err(e) if e.kind() == io::ErrorKind::StorageFull => {
+            Err(e) if disk::is_full(&e) => {
                 disk::punch(file, at, change.lost.end - at)?;
                 break;
             }

@@ -13,6 +13,7 @@ const SIGINT: i32 = 2;
 const SIGQUIT: i32 = 3;
 const SIGBUS: i32 = 7;
 const SIGTERM: i32 = 15;
+const SIGXFSZ: i32 = 25;
 pub const SIGPIPE: i32 = 13;
 const SIG_DFL: usize = 0;
 const SIG_IGN: usize = 1;
@@ -130,6 +131,8 @@ pub fn catch_signals() {
     }
     unsafe {
         signal(SIGBUS, cut_off as *const () as usize);
+        // A write past the limit of a file's size is an error like others.
+        signal(SIGXFSZ, SIG_IGN);
         // A rescue begins inside the handler, where it is blocked.
         pthread_sigmask(SIG_UNBLOCK, &Set::one(SIGBUS), ptr::null_mut());
     }

@@ -7,6 +7,7 @@ mod support;
 use std::fs::{self, File};
 use std::os::unix::fs::{FileExt, symlink};
 use std::path::{Path, PathBuf};
+use std::process::Command;
 use support::*;
 
 const END: u32 = 0x4_0000;
@@ -337,4 +338,35 @@ fn a_journal_that_cannot_be_written_ends_the_edit_before_it_begins() {
     assert!(run.err.contains("nothing was written"), "{}", run.err);
     assert_eq!(State::of(&image), before);
     done("check", &image, &[]);
+}
+
+/// `ulimit -f` ends a program by a signal, unless it minds it.
+#[test]
+fn a_limit_of_a_files_size_is_an_error_like_others() {
+    let temp = Temp::in_memory();
+    let mut seen = Vec::new();
+    for kilobytes in ["0", "1", "64", "100", "1000"] {
+        let image = temp.write("disc.iso", &master());
+        let script = "ulimit -f \"$1\"; exec \"$2\" move \"$3\" film 0x20000 2>&1";
+        let mut command = Command::new("bash");
+        command.args(["-c", script, "bash", kilobytes, env!("CARGO_BIN_EXE_counter")]).arg(&image);
+        let Ok(output) = command.output() else {
+            println!("NOT TRIED: no bash here");
+            return;
+        };
+        let run = Run::from(output);
+        seen.push(run.status);
+        let now = fs::read(&image).unwrap();
+        match run.status {
+            0 => assert!(run.out.ends_with("done: written and synced\n"), "{}", run.out),
+            73 => assert!(now == master(), "{kilobytes}: {}", run.out),
+            74 => {
+                let place = 0x2_0000..0x2_3210;
+                assert!(without(&now, place.clone()) == without(&master(), place), "{}", run.out);
+            }
+            _ => panic!("{kilobytes}: {} {}", run.status, run.out),
+        }
+        assert!(!journal_of(&image).exists(), "{kilobytes}");
+    }
+    assert_eq!(seen, [73, 73, 74, 74, 0]);
 }
