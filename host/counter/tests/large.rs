@@ -4,6 +4,7 @@ mod support;
 
 use std::fs;
 use std::path::Path;
+use std::process::Stdio;
 use support::*;
 
 const DISC: u32 = 0x5705_8000;
@@ -35,6 +36,22 @@ fn sums(image: &Path) -> Vec<(String, u64)> {
     files.map(|e| (e.path.clone(), if e.size == 0 { 0 } else { sum_of(&e) })).collect()
 }
 
+unsafe extern "C" {
+    fn wait4(process: i32, status: *mut i32, options: i32, usage: *mut [i64; 18]) -> i32;
+}
+
+/// Runs, and gives the most memory it had at once, in KiB.
+fn memory_of(image: &Path, args: &[&str]) -> i64 {
+    let mut command = program();
+    command.arg(args[0]).arg(image).args(&args[1..]).stdout(Stdio::null());
+    let process = command.spawn().unwrap().id() as i32;
+    let (mut status, mut usage) = (0, [0; 18]);
+    // SAFETY: the process is waited for here and nowhere else; `struct rusage` has 18 words.
+    let got = unsafe { wait4(process, &mut status, 0, &mut usage) };
+    assert_eq!((got, status), (process, 0), "{args:?}");
+    usage[4]
+}
+
 fn compare(before: &Path, after: &Path, list: &Path) -> Run {
     on("compare", before, &[after.to_str().unwrap(), "--given", list.to_str().unwrap()])
 }
@@ -64,6 +81,11 @@ fn a_disc_of_real_size_is_read_edited_and_compared() {
         assert_eq!(run.status, number, "{args:?}: {}", run.err);
     }
     done("move", &image, &["reel.thp", "0x56000000", "--dry-run"]);
+    // The film's 256 MiB are not copied for it.
+    for args in [["move", film, "0x44000000"], ["resize", film, "1"], ["resize", film, "257M"]] {
+        let memory = memory_of(&image, &[args[0], args[1], args[2], "--dry-run"]);
+        assert!(memory < 160 << 10, "{args:?}: {memory} KiB");
+    }
     assert_eq!((modified(&image), on_disk(&image)), (time, at_first));
 
     // A day's work.
