@@ -93,8 +93,14 @@ fn a_cut_edit_is_told_and_finished() {
     let cut = Cut::new();
     let before = cut.state();
     let svg = cut.temp.at("map.svg");
-    let reading: [&[&str]; 6] = [
+    let other = cut.temp.at("whole.iso");
+    let other = other.to_str().unwrap();
+    let page = cut.temp.at("page.html");
+    let reading: [&[&str]; 9] = [
         &["list"],
+        &["hash"],
+        &["compare", other],
+        &["report", other, page.to_str().unwrap()],
         &["check"],
         &["cat", "film"],
         &["map", svg.to_str().unwrap()],
@@ -112,8 +118,8 @@ fn a_cut_edit_is_told_and_finished() {
         assert!(run.err.contains("counter recover ") && run.err.contains("--as-is"), "{}", run.err);
         assert_eq!(run.out, "", "{args:?}");
     }
-    assert!(!svg.exists());
-    for args in [&["list"][..], &["check"], &["cat", "film"]] {
+    assert!(!svg.exists() && !page.exists());
+    for args in [&["list"][..], &["check"], &["cat", "film"], &["hash"]] {
         let mut rest = args[1..].to_vec();
         rest.push("--as-is");
         assert_eq!(on(args[0], &cut.image, &rest).status, 0, "{args:?}");
@@ -135,6 +141,34 @@ fn a_cut_edit_is_told_and_finished() {
     let out = done("recover", &cut.image, &[]);
     assert!(out.contains("no edit was cut"), "{out}");
     assert!(fs::read(&cut.image).unwrap() == cut.after);
+}
+
+#[test]
+fn what_became_of_a_cut_edit_is_told_as_json() {
+    let cut = Cut::new();
+    let run = on("list", &cut.image, &["--json"]);
+    assert_eq!(run.status, 78);
+    assert_eq!(Json::read(&run.out).at("status").number(), 78);
+    let told = json("recover", &cut.image, &[]);
+    assert_eq!(told.at("finished").text(), "move film to 0x20000");
+    assert!(told.at("written").flag());
+    assert!(fs::read(&cut.image).unwrap() == cut.after);
+    let told = json("recover", &cut.image, &[]);
+    assert!(!told.at("written").flag());
+
+    // A page of the image fails, and the edit is finished at once.
+    let image = cut.temp.write("disc.iso", &master());
+    let mut args = MOVE.to_vec();
+    args.push("--json");
+    let run = full_from(8, &image, &args);
+    assert_eq!(run.status, 0, "{}", run.err);
+    assert_eq!(Json::read(&run.out).at("finished").text(), "move film to 0x20000");
+    assert!(fs::read(&image).unwrap() == cut.after);
+    // The disk fails in the last sync.
+    let image = cut.temp.write("disc.iso", &master());
+    let run = full_from(9, &image, &args);
+    assert_eq!(run.status, 78, "{}", run.err);
+    assert_eq!(Json::read(&run.out).at("status").number(), 78);
 }
 
 #[test]
