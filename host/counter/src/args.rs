@@ -111,6 +111,16 @@ const OVER: Flag = Flag {
     value: None,
     words: "lets an edit write where a program lies behind the table",
 };
+const AS_IS: Flag = Flag {
+    name: "--as-is",
+    value: None,
+    words: "reads the image although an edit of it was cut (78), as it is now",
+};
+const ANYWAY: Flag = Flag {
+    name: "--anyway",
+    value: None,
+    words: "lets a journal pass that was written for another file with the same contents",
+};
 const ALL: Flag = Flag { name: "--all", value: None, words: "everything, in the place of PATH" };
 const DEMO: Flag =
     Flag { name: "--demo", value: None, words: "the built-in small master, in the place of IMAGE" };
@@ -135,7 +145,7 @@ const MAP: Flag = Flag {
     words: "draws both discs side by side, into a new file",
 };
 
-const LOOK: &[&Flag] = &[&JSON, &WAIT];
+const LOOK: &[&Flag] = &[&JSON, &WAIT, &AS_IS];
 const EDIT: &[&Flag] = &[&DRY, &OVER, &JSON, &WAIT];
 
 const fn look(
@@ -195,7 +205,7 @@ pub const FORMS: &[Form] = &[
         &["counter cat disc.iso /opening.bnr > opening.bnr"],
     ),
     Form {
-        flags: &[&ALL, &JSON, &WAIT],
+        flags: &[&ALL, &JSON, &WAIT, &AS_IS],
         more: "Nothing that is there is overwritten. The second of two equal names gets its entry's number \
                behind it.",
         ..look(
@@ -206,7 +216,7 @@ pub const FORMS: &[Form] = &[
         )
     },
     Form {
-        flags: &[&OUT, &JSON, &WAIT],
+        flags: &[&OUT, &JSON, &WAIT, &AS_IS],
         ..look(
             "dol",
             &[&IMAGE],
@@ -215,7 +225,7 @@ pub const FORMS: &[Form] = &[
         )
     },
     Form {
-        flags: &[&DEMO, &JSON, &WAIT],
+        flags: &[&DEMO, &JSON, &WAIT, &AS_IS],
         ..look(
             "map",
             &[&IMAGE, &SVG],
@@ -234,7 +244,7 @@ pub const FORMS: &[Form] = &[
     },
     Form {
         group: Group::Check,
-        flags: &[&GIVEN, &ONLY, &MAP, &JSON, &WAIT],
+        flags: &[&GIVEN, &ONLY, &MAP, &JSON, &WAIT, &AS_IS],
         more: COMPARE,
         ..look(
             "compare",
@@ -249,7 +259,7 @@ pub const FORMS: &[Form] = &[
     },
     Form {
         group: Group::Check,
-        flags: &[&WAIT],
+        flags: &[&WAIT, &AS_IS],
         more: MANIFEST,
         ..look(
             "hash",
@@ -260,7 +270,7 @@ pub const FORMS: &[Form] = &[
     },
     Form {
         group: Group::Check,
-        flags: &[&GIVEN, &JSON, &WAIT],
+        flags: &[&GIVEN, &JSON, &WAIT, &AS_IS],
         more: REPORT,
         ..look(
             "report",
@@ -303,6 +313,16 @@ pub const FORMS: &[Form] = &[
         "writes the table anew, each name by itself",
         &["counter rewrite disc.iso --dry-run", "counter rewrite disc.iso --json"],
     ),
+    Form {
+        flags: &[&ANYWAY, &JSON, &WAIT],
+        more: RECOVER,
+        ..edit(
+            "recover",
+            &[&IMAGE],
+            "finishes an edit that was cut, from its journal",
+            &["counter recover disc.iso"],
+        )
+    },
 ];
 
 const COMPARE: &str = "\
@@ -331,6 +351,10 @@ The page holds all it shows: verdict, LIST, each file that differs with place, s
 and after, both maps, the sums of both images, this program's version and its library's sum. The exit \
 status is that of compare; the page is written in either case.";
 
+const RECOVER: &str = "\
+Where there is no journal, no edit was cut, and nothing is done. A journal that is torn, or of another \
+image, or of one that was changed since, is not applied (78), and neither it nor the image is touched.";
+
 // The arguments ---------------------------------------------------------------------------
 
 pub struct Args {
@@ -344,6 +368,8 @@ pub struct Args {
     pub dry: bool,
     pub over_program: bool,
     pub only_differences: bool,
+    pub as_is: bool,
+    pub anyway: bool,
     pub all: bool,
     demo: bool,
     pub given: Vec<PathBuf>,
@@ -377,6 +403,8 @@ impl Args {
             dry: false,
             over_program: false,
             only_differences: false,
+            as_is: false,
+            anyway: false,
             all: false,
             demo: false,
             given: Vec::new(),
@@ -420,6 +448,8 @@ impl Args {
             "--dry-run" => self.dry = true,
             "--over-program" => self.over_program = true,
             "--only-differences" => self.only_differences = true,
+            "--as-is" => self.as_is = true,
+            "--anyway" => self.anyway = true,
             "--all" => self.all = true,
             "--demo" => self.demo = true,
             "--given" => self.given.push(file()?),

@@ -144,6 +144,11 @@ impl Disc {
         Ok(())
     }
 
+    /// Whether every path is kept.
+    pub fn has_paths(&self) -> bool {
+        self.named
+    }
+
     /// For a command that shows every path.
     pub fn with_paths(self) -> Outcome<Disc> {
         match self.named {

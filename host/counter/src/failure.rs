@@ -13,7 +13,15 @@ pub const INTERNAL: u8 = 70;
 pub const CANNOT_CREATE: u8 = 73;
 pub const INPUT_OUTPUT: u8 = 74;
 pub const BUSY: u8 = 75;
+/// The edit is written and synced, but its answer could not be printed.
+pub const UNSAID: u8 = 76;
 pub const NOT_ALLOWED: u8 = 77;
+/// An edit was cut: the image may hold a part of it, and there is a journal. The only status with
+/// which the image is neither as it was nor as the edit makes it. (signals.rs has its number too.)
+pub const CUT: u8 = 78;
+
+/// The signal that says that nobody reads the output.
+const SIGPIPE: u8 = 13;
 
 /// The causes of a refusal in words; the cause with number n is the n-th.
 pub const CAUSES: [&str; 24] = [
@@ -108,7 +116,7 @@ impl Failure {
             Failure::Refused { number, .. } => *number as u8,
             Failure::Error { status, .. } => *status,
             Failure::Signal { number, .. } => 128 + *number as u8,
-            Failure::Pipe => 128 + crate::os::SIGPIPE as u8,
+            Failure::Pipe => 128 + SIGPIPE,
         }
     }
 }

@@ -163,6 +163,7 @@ const FIELDS: &[(&str, &str)] = &[
     ("move", EDITED),
     ("resize", EDITED),
     ("rewrite", EDITED),
+    ("recover", "status edit finished written; finished: the edit that was cut, or null"),
 ];
 
 const COMPARED: &str = "before after manifest passed covers_all order_changed free_space \
@@ -197,27 +198,32 @@ Safety
   - The image is locked while it is used: readers share it, an editor has it alone. A second editor
     is told to wait (75). Other programs may ignore the lock.
   - `done` is said after every byte has been synced to the disk.
-  - Ctrl-C, a hang-up and a kill (SIGINT, SIGQUIT, SIGHUP, SIGTERM) during an edit are held until
-    it is done and synced; the program then says so and ends with 128 + the signal's number.
+  - Before an edit writes to the image it writes a journal beside it, IMAGE.counter-journal: the
+    table before and after, the file's old and new place. It is on the disk before the first byte of
+    the image changes, and goes when the last one is there. So an edit that is cut anywhere (by a
+    power cut, SIGKILL, a disk that fails or is full) is finished from it: `counter recover IMAGE`
+    does it, and so does the next edit before it begins. Then the image is what the edit makes of
+    it, every byte. Where a cut leaves no journal, the image is as it was, or the edit is done.
+  - While there is a journal, commands that only read refuse (78), unless they are told --as-is.
+  - A journal that is torn, or of another image, or of one that was changed since, is never applied;
+    what to do is told. If you bring an image back from a copy, take its journal away; if you rename
+    the image, rename the journal with it.
+  - Every signal that comes during an edit (Ctrl-C, a hang-up, a kill and all others but SIGKILL)
+    waits until it is done and synced; the program then says so and ends by the signal.
   - A program (main.dol) that lies behind the table counts as free space in `free` and `list`. An
     edit that would write there is stopped before it begins (65); --over-program lets it pass.
-  - Room on the disk for the holes of a sparse image is looked for first; if there is too little,
-    nothing is written (74).
-  - Only SIGKILL, a power cut, a failing disk or a disk that another program fills meanwhile can cut
-    an edit in two. What is written, in this order: the file's bytes to its new place, which was
-    free; the table in its own place, and zeros over what it lost; its size in the header; zeros over
-    the place that the file left or the end that it lost. After a SIGKILL:
-      promised: every other file, the program and the rest of the header are byte for byte as they
-      were, and the edited file's bytes lie whole at its old place, or at its new one, or at both.
-      Not promised: that the table is whole, if the cut falls into the moment it is written; that
-      an old place is all zeros; and, after a power cut, that the disk kept this order.
-  - So keep a copy of an image that cannot be had again (a copy on the same disk may be a reflink:
-    cp --reflink=auto), try with --dry-run, and let `counter compare` tell what changed.
+  - Holes of a sparse image, blocks that a reflink copy shares and, on a copy-on-write disk (btrfs,
+    ZFS), all blocks take new room when they are written. It is looked for first; if there is too
+    little, nothing is written (74). If room fails in the midst of an edit all the same, the edit is
+    finished from the journal at once; if that fails too (78), make room, then `counter recover`.
+  - Not promised: a disk that says it has synced what it has not; programs that ignore the lock.
+  - So keep a copy of an image that cannot be had again, on another disk, try with --dry-run, and
+    let `counter compare` tell what changed.
 ";
 
 fn statuses() -> String {
     let mut out = String::from(
-        "\nExit status\n   0  done\n   1  compare: a file that is not on the list differs; else as below\n",
+        "\nExit status, and what it says of the image of an edit\n   0  done: written and synced, or there was nothing to write\n   1  compare: a file that is not on the list differs; else as below\n      1 to 24: refused, nothing changed, not even the time of modification\n",
     );
     for (i, cause) in CAUSES.iter().enumerate() {
         out.push_str(&format!("  {:2}  refused: {cause}\n", i + 1));
@@ -229,11 +235,16 @@ fn statuses() -> String {
          \x20     64 MiB of them\n\
          \x20 66  no such image, or a folder or special file in its place\n\
          \x20 70  the library answered what it never should\n\
-         \x20 73  an output cannot be created, or is there already\n\
+         \x20 73  an output or a journal cannot be created, or is there already\n\
          \x20 74  input/output error; the disk is full\n\
          \x20 75  another program is using the image\n\
          \x20 77  not allowed: a read-only file or disk, or no permission\n\
-         \x20 128 + n  ended by signal n\n",
+         \x20     64 to 75 and 77: an edit wrote nothing; header, table and files are as they were\n\
+         \x20 76  the edit is written and synced, but its answer could not be printed\n\
+         \x20 78  an edit was cut: the image may hold a part of it, and its journal is there;\n\
+         \x20     `counter recover IMAGE` finishes the edit\n\
+         \x20 128 + n  ended by signal n: before an edit wrote anything, or when it was written and\n\
+         \x20     synced; the last line says which. After SIGKILL (137) there may be a journal: see 78\n",
     );
     out
 }

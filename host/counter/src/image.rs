@@ -1,13 +1,16 @@
 //! An image: a file that is locked and mapped, or the built-in small master.
 
-use crate::failure::{BUSY, Failure, INPUT_OUTPUT, NO_INPUT, NOT_ALLOWED, Outcome};
+use crate::disk::{self, On};
+use crate::failure::{BUSY, CUT, Failure, INPUT_OUTPUT, NO_INPUT, NOT_ALLOWED, Outcome};
+use crate::journal;
 use crate::os::{self, Access, Mapping};
 pub use crate::text::shown;
 use counter_sys::Memory;
 use std::fs::{self, File, Metadata, OpenOptions, TryLockError};
 use std::io;
+use std::ops::Range;
 use std::os::unix::fs::{OpenOptionsExt, PermissionsExt};
-use std::path::Path;
+use std::path::{Path, PathBuf};
 use std::sync::atomic::{AtomicBool, Ordering};
 
 /// How an image without a file is called in what the program says.
@@ -20,36 +23,68 @@ enum Bytes {
 
 pub struct Image {
     pub name: String,
+    /// Where the file lies, after every link.
+    path: Option<PathBuf>,
     bytes: Bytes,
+}
+
+static AS_IS: AtomicBool = AtomicBool::new(false);
+
+/// Whether an image is read although an edit of it was cut.
+pub fn as_is(wanted: bool) {
+    AS_IS.store(wanted, Ordering::SeqCst);
 }
 
 impl Image {
     /// The file at `path`, or without one the built-in small master.
     pub fn read(path: Option<&Path>) -> Outcome<Image> {
-        match path {
-            Some(path) => Image::map(path, Access::Read),
-            None => {
-                let bytes = Bytes::BuiltIn(small_master());
-                Ok(Image { name: BUILT_IN.into(), bytes })
-            }
+        let Some(path) = path else {
+            let bytes = Bytes::BuiltIn(small_master());
+            return Ok(Image { name: BUILT_IN.into(), path: None, bytes });
+        };
+        let image = Image::map(path, Access::Read)?;
+        match image.path.as_deref().is_some_and(journal::is_there) && !AS_IS.load(Ordering::SeqCst)
+        {
+            true => Err(unfinished(image.path().unwrap_or(path))),
+            false => Ok(image),
         }
     }
 
-    /// The file at `path`, to be edited; with `dry` only in memory.
-    pub fn edit(path: &Path, dry: bool) -> Outcome<Image> {
-        Image::map(path, if dry { Access::Private } else { Access::Shared })
+    /// The file at `path`, to be edited. A journal is left to whoever edits.
+    pub fn edit(path: &Path) -> Outcome<Image> {
+        Image::map(path, Access::Shared)
     }
 
     fn map(path: &Path, access: Access) -> Outcome<Image> {
         let file = open(path, access)?;
         lock(path, &file, access)?;
-        let len = regular(path, file.metadata())?.len();
-        let mapping = usize::try_from(len)
-            .map_err(io::Error::other)
-            .and_then(|len| Mapping::new(&file, len, access))
-            .map_err(|e| Failure::file(INPUT_OUTPUT, path, &e))?;
+        let mapping = mapped(path, &file, access)?;
+        // A file without a name (of a descriptor) can be read; a journal finds no place beside it.
+        let place = fs::canonicalize(path).unwrap_or(path.to_path_buf());
         let name = path.display().to_string();
-        Ok(Image { name, bytes: Bytes::Mapped { file, mapping } })
+        Ok(Image { name, path: Some(place), bytes: Bytes::Mapped { file, mapping } })
+    }
+
+    /// The same file to try an edit on: what is written stays in memory. The bytes of `spans` are none
+    /// of the file's, so that copying them takes no memory.
+    pub fn trial(&self, spans: &[Range<u64>]) -> Outcome<Image> {
+        let Bytes::Mapped { file, .. } = &self.bytes else {
+            let bytes = Bytes::BuiltIn(self.bytes().to_vec());
+            return Ok(Image { name: self.name.clone(), path: None, bytes });
+        };
+        let path = Path::new(&self.name);
+        let failed = |e: io::Error| Failure::file(INPUT_OUTPUT, path, &e);
+        let file = file.try_clone().map_err(failed)?;
+        let mut mapping = mapped(path, &file, Access::Private)?;
+        let spans: Vec<_> =
+            spans.iter().map(|span| span.start as usize..span.end as usize).collect();
+        mapping.stand_in(&spans).map_err(failed)?;
+        let bytes = Bytes::Mapped { file, mapping };
+        Ok(Image { name: self.name.clone(), path: self.path.clone(), bytes })
+    }
+
+    pub fn path(&self) -> Option<&Path> {
+        self.path.as_deref()
     }
 
     pub fn bytes(&self) -> &[u8] {
@@ -74,18 +109,31 @@ impl Image {
     }
 
     /// Waits until every written byte is on the disk.
-    pub fn sync(&self) -> Outcome<()> {
+    pub fn sync(&self) -> io::Result<()> {
         let Bytes::Mapped { file, mapping } = &self.bytes else {
             return Ok(());
         };
-        mapping.sync().and_then(|()| file.sync_all()).map_err(|e| {
-            let text = format!(
-                "{}: the edit is made, but its bytes did not reach the disk: {e}",
-                self.name
-            );
-            Failure::error(INPUT_OUTPUT, text)
-        })
+        disk::synced(On::Image, || mapping.sync().and_then(|()| file.sync_all()))
     }
+}
+
+fn mapped(path: &Path, file: &File, access: Access) -> Outcome<Mapping> {
+    let len = regular(path, file.metadata())?.len();
+    usize::try_from(len)
+        .map_err(io::Error::other)
+        .and_then(|len| Mapping::new(file, len, access))
+        .map_err(|e| Failure::file(INPUT_OUTPUT, path, &e))
+}
+
+/// For a command that does not edit.
+fn unfinished(path: &Path) -> Failure {
+    let edit = journal::words(path).map_or(String::new(), |words| format!(" ({words})"));
+    let text = format!(
+        "{0}: an edit of this image was cut{edit}, and it may hold a part of it. Nothing was done. \
+         `counter recover {0}` finishes the edit; --as-is takes the image as it is",
+        path.display()
+    );
+    Failure::error(CUT, text)
 }
 
 fn open(path: &Path, access: Access) -> Outcome<File> {

@@ -7,8 +7,11 @@
 mod out;
 
 mod args;
+mod call;
+mod change;
 mod compare;
 mod disc;
+mod disk;
 mod dol;
 mod edit;
 mod edited;
@@ -17,6 +20,7 @@ mod given;
 mod header;
 mod help;
 mod image;
+mod journal;
 mod json;
 mod layout;
 mod look;
@@ -25,12 +29,19 @@ mod map;
 mod os;
 mod pages;
 mod progress;
+mod recover;
+mod redo;
 mod report;
+mod room;
 mod save;
 mod sha256;
+mod signals;
+mod sum;
 mod take;
 mod text;
+mod told;
 mod tree;
+mod trial;
 mod trouble;
 mod version;
 
@@ -97,6 +108,7 @@ fn run(args: Args) -> Outcome<u8> {
     if args.wait {
         image::wait_for_others();
     }
+    image::as_is(args.as_is);
     match args.form.name {
         "info" => look::info(&args)?,
         "list" => tree::list(&args)?,
@@ -112,6 +124,7 @@ fn run(args: Args) -> Outcome<u8> {
         "hash" => manifest::hash(&args)?,
         "compare" => return compare::compare(&args),
         "report" => return report::report(&args),
+        "recover" => recover::recover(&args)?,
         _ => edit::edit(&args)?,
     }
     Ok(0)

@@ -1,14 +1,16 @@
-//! What the program asks of the operating system beyond std: a mapped file, how much of it is
-//! holes, room on its disk, and signals.
+//! What the program asks of the operating system beyond std: a mapped file, memory that stands in for
+//! parts of it, and holes in a file. (Signals and room on the disk have files of their own.)
 
-use std::ffi::{CString, c_char};
+pub use crate::signals::{SIGPIPE, catch_signals, end_by, holding, unfinished};
+use std::ffi::c_char;
 use std::fs::File;
 use std::io;
-use std::os::fd::AsRawFd;
-use std::os::unix::ffi::OsStrExt;
-use std::path::Path;
+use std::ops::Range;
+use std::os::fd::{AsRawFd, FromRawFd};
 use std::ptr;
-use std::sync::atomic::{AtomicBool, AtomicI32, AtomicPtr, Ordering};
+use std::sync::mpsc::{self, RecvTimeoutError, Sender};
+use std::thread::{self, JoinHandle};
+use std::time::Duration;
 
 #[cfg(not(all(target_os = "linux", target_pointer_width = "64")))]
 compile_error!("the numbers below are those of 64-bit Linux");
@@ -19,44 +21,21 @@ const MAP_SHARED: i32 = 1;
 const MAP_PRIVATE: i32 = 2;
 const MAP_NORESERVE: i32 = 0x4000;
 const MS_SYNC: i32 = 4;
-const SEEK_DATA: i32 = 3;
-const SEEK_HOLE: i32 = 4;
-const ENXIO: i32 = 6;
+const MAP_FIXED: i32 = 0x10;
+const MADV_DONTNEED: i32 = 4;
+const MFD_CLOEXEC: u32 = 1;
+const PUNCH_HOLE_KEEP_SIZE: i32 = 3;
 
 pub const O_NONBLOCK: i32 = 0x800;
 pub const EROFS: i32 = 30;
-
-const SIGHUP: i32 = 1;
-const SIGINT: i32 = 2;
-const SIGQUIT: i32 = 3;
-const SIGBUS: i32 = 7;
-const SIGTERM: i32 = 15;
-pub const SIGPIPE: i32 = 13;
-const SIG_DFL: usize = 0;
-const SIG_IGN: usize = 1;
-
-/// The start of `struct statvfs`; the rest is room for what the system writes behind it.
-#[repr(C)]
-struct Statvfs {
-    block_size: u64,
-    fragment_size: u64,
-    blocks: u64,
-    free: u64,
-    available: u64,
-    rest: [u64; 16],
-}
 
 unsafe extern "C" {
     fn mmap(addr: *mut u8, len: usize, prot: i32, flags: i32, fd: i32, offset: i64) -> *mut u8;
     fn munmap(addr: *mut u8, len: usize) -> i32;
     fn msync(addr: *mut u8, len: usize, flags: i32) -> i32;
-    fn lseek(fd: i32, offset: i64, whence: i32) -> i64;
-    fn fstatvfs(fd: i32, buf: *mut Statvfs) -> i32;
-    fn signal(number: i32, handler: usize) -> usize;
-    fn raise(number: i32) -> i32;
-    fn write(fd: i32, buf: *const u8, len: usize) -> isize;
-    fn unlink(path: *const c_char) -> i32;
-    fn _exit(status: i32) -> !;
+    fn madvise(addr: *mut u8, len: usize, advice: i32) -> i32;
+    fn memfd_create(name: *const c_char, flags: u32) -> i32;
+    fn fallocate(fd: i32, mode: i32, offset: i64, len: i64) -> i32;
 }
 
 /// How a file is mapped.
@@ -75,12 +54,14 @@ pub struct Mapping {
     start: *mut u8,
     len: usize,
     access: Access,
+    /// Parts for which other memory stands in.
+    relief: Option<Relief>,
 }
 
 impl Mapping {
     pub fn new(file: &File, len: usize, access: Access) -> io::Result<Mapping> {
         if len == 0 {
-            return Ok(Mapping { start: ptr::null_mut(), len, access });
+            return Ok(Mapping { start: ptr::null_mut(), len, access, relief: None });
         }
         let (prot, flags) = match access {
             Access::Read => (PROT_READ, MAP_SHARED),
@@ -91,7 +72,7 @@ impl Mapping {
         if start as isize == -1 {
             return Err(io::Error::last_os_error());
         }
-        Ok(Mapping { start, len, access })
+        Ok(Mapping { start, len, access, relief: None })
     }
 
     pub fn bytes(&self) -> &[u8] {
@@ -121,157 +102,102 @@ impl Mapping {
     }
 }
 
+/// A multiple of every system's pages, and the memory that stands in for many of them.
+const PAGE: usize = 0x1_0000;
+const STAND_IN: usize = 0x20_0000;
+
+impl Mapping {
+    /// Lets one small piece of memory stand in for all whole pages of `spans` of a private mapping, again
+    /// and again. What is copied there takes no memory; what is read there says nothing.
+    pub fn stand_in(&mut self, spans: &[Range<usize>]) -> io::Result<()> {
+        let whole = |span: &Range<usize>| {
+            span.start.next_multiple_of(PAGE)..span.end.min(self.len) / PAGE * PAGE
+        };
+        let worth = |span: &Range<usize>| span.end > span.start + 2 * STAND_IN;
+        let spans: Vec<Range<usize>> = spans.iter().map(whole).filter(worth).collect();
+        if spans.is_empty() || self.access != Access::Private {
+            return Ok(());
+        }
+        // Without it the copy takes its memory.
+        let Some(memory) = memory() else {
+            return Ok(());
+        };
+        let mut taken = Vec::new();
+        for span in spans {
+            taken.push((self.start as usize + span.start, span.end - span.start));
+            self.replace(span, &memory)?;
+        }
+        self.relief = Some(Relief::start(taken));
+        Ok(())
+    }
+
+    fn replace(&mut self, span: Range<usize>, memory: &File) -> io::Result<()> {
+        let (fd, end) = (memory.as_raw_fd(), span.end);
+        for at in span.step_by(STAND_IN) {
+            let (prot, flags) = (PROT_READ | PROT_WRITE, MAP_SHARED | MAP_FIXED);
+            let place = unsafe { self.start.add(at) };
+            let got = unsafe { mmap(place, STAND_IN.min(end - at), prot, flags, fd, 0) };
+            if got as isize == -1 {
+                return Err(io::Error::last_os_error());
+            }
+        }
+        Ok(())
+    }
+}
+
+/// A file in memory, as long as what stands in.
+fn memory() -> Option<File> {
+    let fd = unsafe { memfd_create(c"counter".as_ptr(), MFD_CLOEXEC) };
+    if fd < 0 {
+        return None;
+    }
+    let memory = unsafe { File::from_raw_fd(fd) };
+    memory.set_len(STAND_IN as u64).ok()?;
+    Some(memory)
+}
+
+/// While pages that stand in are used, lets go of those that were: they are the same few, but the
+/// system counts them once for every place.
+struct Relief {
+    stop: Sender<()>,
+    watch: JoinHandle<()>,
+}
+
+impl Relief {
+    fn start(spans: Vec<(usize, usize)>) -> Relief {
+        let (stop, stopped) = mpsc::channel();
+        let pause = Duration::from_millis(10);
+        let watch = thread::spawn(move || {
+            while stopped.recv_timeout(pause) == Err(RecvTimeoutError::Timeout) {
+                for &(start, len) in &spans {
+                    unsafe { madvise(start as *mut u8, len, MADV_DONTNEED) };
+                }
+            }
+        });
+        Relief { stop, watch }
+    }
+
+    fn end(self) {
+        drop(self.stop);
+        let _ = self.watch.join();
+    }
+}
+
+/// Makes a part of a file a hole: it reads as zeros and takes no room.
+pub fn punch(file: &File, at: u64, len: u64) -> io::Result<()> {
+    match unsafe { fallocate(file.as_raw_fd(), PUNCH_HOLE_KEEP_SIZE, at as i64, len as i64) } {
+        0 => Ok(()),
+        _ => Err(io::Error::last_os_error()),
+    }
+}
+
 impl Drop for Mapping {
     fn drop(&mut self) {
+        if let Some(relief) = self.relief.take() {
+            relief.end();
+        }
         if self.len != 0 {
             unsafe { munmap(self.start, self.len) };
         }
     }
-}
-
-/// How many bytes from `start` up to `end` are holes, which take room on the disk once written.
-pub fn holes(file: &File, start: u64, end: u64) -> u64 {
-    let fd = file.as_raw_fd();
-    let mut at = start;
-    let mut found = 0;
-    while at < end {
-        let data = unsafe { lseek(fd, at as i64, SEEK_DATA) };
-        if data < 0 {
-            let none = io::Error::last_os_error().raw_os_error() == Some(ENXIO);
-            return if none { found + (end - at) } else { found };
-        }
-        let data = (data as u64).min(end);
-        found += data - at;
-        let hole = unsafe { lseek(fd, data as i64, SEEK_HOLE) };
-        if hole < 0 {
-            return found;
-        }
-        at = (hole as u64).max(data + 1);
-    }
-    found
-}
-
-/// Bytes that can still be written to the disk that holds `file`.
-pub fn room(file: &File) -> Option<u64> {
-    let mut told = Statvfs {
-        block_size: 0,
-        fragment_size: 0,
-        blocks: 0,
-        free: 0,
-        available: 0,
-        rest: [0; 16],
-    };
-    match unsafe { fstatvfs(file.as_raw_fd(), &mut told) } {
-        0 => told.available.checked_mul(told.fragment_size),
-        _ => None,
-    }
-}
-
-// Signals ---------------------------------------------------------------------------------
-
-static CAUGHT: AtomicI32 = AtomicI32::new(0);
-static WRITING: AtomicBool = AtomicBool::new(false);
-static HOLDING: AtomicBool = AtomicBool::new(false);
-static UNFINISHED: AtomicPtr<c_char> = AtomicPtr::new(ptr::null_mut());
-
-const CUT_READING: &[u8] =
-    b"counter: input/output error: the image could not be read to its end (did it shrink?)\n";
-const CUT_WRITING: &[u8] =
-    b"counter: input/output error: the disk failed or is full in the midst of an edit.\n\
-counter: the image may hold a part of the edit; `counter help safety` says which part.\n";
-
-fn stopped(number: i32) -> &'static [u8] {
-    match number {
-        SIGHUP => b"counter: stopped by a hang-up; the image is as it was\n",
-        SIGINT => b"counter: stopped by Ctrl-C (SIGINT); the image is as it was\n",
-        SIGQUIT => b"counter: stopped by SIGQUIT; the image is as it was\n",
-        _ => b"counter: stopped by a kill (SIGTERM); the image is as it was\n",
-    }
-}
-
-/// While the image is written, or something else that must be whole is done, the signal is only
-/// noted. Otherwise it ends the program.
-extern "C" fn caught(number: i32) {
-    if WRITING.load(Ordering::SeqCst) || HOLDING.load(Ordering::SeqCst) {
-        CAUGHT.store(number, Ordering::SeqCst);
-    } else {
-        stop(number);
-    }
-}
-
-/// Says so, takes a file that is not finished away, and ends as the signal ends a program.
-fn stop(number: i32) {
-    let text = stopped(number);
-    let unfinished = UNFINISHED.load(Ordering::SeqCst);
-    unsafe {
-        write(2, text.as_ptr(), text.len());
-        if !unfinished.is_null() {
-            unlink(unfinished);
-        }
-        signal(number, SIG_DFL);
-        raise(number);
-    }
-}
-
-/// A mapped page could not be had: nothing to go back to, so say so and leave.
-extern "C" fn cut_off(_: i32) {
-    let text = if WRITING.load(Ordering::SeqCst) { CUT_WRITING } else { CUT_READING };
-    unsafe {
-        write(2, text.as_ptr(), text.len());
-        _exit(74)
-    }
-}
-
-/// From here on Ctrl-C, a hang-up, a kill and a failing disk are dealt with as said above.
-pub fn catch_signals() {
-    for number in [SIGHUP, SIGINT, SIGQUIT, SIGTERM] {
-        unsafe {
-            // What whoever started the program ignores (nohup), stays ignored.
-            if signal(number, caught as *const () as usize) == SIG_IGN {
-                signal(number, SIG_IGN);
-            }
-        }
-    }
-    unsafe { signal(SIGBUS, cut_off as *const () as usize) };
-}
-
-/// From here on the image is written, and signals wait for the end.
-pub fn begin_writing() {
-    WRITING.store(true, Ordering::SeqCst);
-}
-
-/// The signal that came while the image was written, if one did.
-pub fn signalled() -> Option<i32> {
-    match CAUGHT.load(Ordering::SeqCst) {
-        0 => None,
-        number => Some(number),
-    }
-}
-
-/// Does something that no signal may cut; one that came meanwhile has its turn then.
-pub fn holding<T>(work: impl FnOnce() -> T) -> T {
-    HOLDING.store(true, Ordering::SeqCst);
-    let done = work();
-    HOLDING.store(false, Ordering::SeqCst);
-    if let Some(number) = signalled() {
-        stop(number);
-    }
-    done
-}
-
-/// The file that a signal takes away, since it is not finished; None once it is.
-pub fn unfinished(path: Option<&Path>) {
-    let name = path.and_then(|path| CString::new(path.as_os_str().as_bytes()).ok());
-    // The name may be in use by the handler, so it is never given back.
-    let name = name.map_or(ptr::null_mut(), CString::into_raw);
-    UNFINISHED.store(name, Ordering::SeqCst);
-}
-
-/// Ends the program as signal `number` ends a program, so that a shell sees it.
-pub fn end_by(number: i32) -> i32 {
-    unsafe {
-        signal(number, SIG_DFL);
-        raise(number);
-    }
-    128 + number
 }

@@ -1,21 +1,21 @@
 //! `list` and `tree`: every entry, for programs and for people.
 
 use crate::args::Args;
-use crate::disc::{Disc, Kind, Node, opened};
+use crate::disc::{Disc, Kind, Node, not_opened, opened};
 use crate::failure::{Failure, Outcome};
-use crate::image::Image;
+use crate::image::{Desk, Image};
 use crate::json::Json;
 use crate::out::say;
 use crate::text::{counted, human};
-use counter_sys::Region;
+use counter_sys::{self as counter, Region};
 use std::fmt::Write;
 
 // list ------------------------------------------------------------------------------------
 
 /// The scope paper's listing, for an image of any size.
 pub fn list(args: &Args) -> Outcome<()> {
-    let (image, disc) = match opened(args.image.as_deref()) {
-        Ok((image, _, disc)) => (image, disc),
+    let (image, mut desk, disc) = match opened(args.image.as_deref()) {
+        Ok(opened) => opened,
         Err(Failure::Refused { number, what, detail }) => {
             if !args.json {
                 say(format!("refused {number}\n").as_bytes())?;
@@ -26,14 +26,27 @@ pub fn list(args: &Args) -> Outcome<()> {
     };
     match args.json {
         true => say(list_json(&disc.with_paths()?).document().as_bytes()),
-        false => list_text(&image, &disc),
+        false if disc.has_paths() => list_whole(&image, &mut desk, &disc),
+        false => list_in_parts(&image, &disc),
     }
 }
 
-/// Lines are said in parts, since their paths may be long.
+/// No line is longer but for its path.
+const LINE: usize = 48;
+
+/// The library's own listing.
+fn list_whole(image: &Image, desk: &mut Desk, disc: &Disc) -> Outcome<()> {
+    let paths: usize = disc.nodes.iter().map(|node| node.path.len()).sum();
+    let mut text = vec![0; paths + LINE * (1 + disc.nodes.len() + disc.free.len())];
+    let len = counter::list(image.bytes(), &mut desk.lend(), &mut text)
+        .map_err(|number| not_opened(image, number))?;
+    say(&text[..len as usize])
+}
+
 const PART: usize = 1 << 20;
 
-fn list_text(image: &Image, disc: &Disc) -> Outcome<()> {
+/// The same where the paths are too long to be held at once: names can share one long text.
+fn list_in_parts(image: &Image, disc: &Disc) -> Outcome<()> {
     let mut out = format!("total {} used {}\n", disc.opened.disc_end, disc.opened.used);
     for node in &disc.nodes {
         let (letter, first, second) = match node.kind {

@@ -5,6 +5,7 @@ mod support;
 use std::fs::{self, OpenOptions, Permissions};
 use std::os::unix::fs::PermissionsExt;
 use std::path::{Path, PathBuf};
+use std::process::Stdio;
 use support::*;
 
 const END: u32 = 0x20_0000;
@@ -33,6 +34,7 @@ fn refused(image: &Path, args: &[&str], number: i32) {
         assert_eq!(run.out, "", "{args:?}");
     }
     assert_eq!(State::of(image), before, "{args:?}");
+    assert!(!journal_of(image).exists(), "{args:?}");
 }
 
 /// Runs an edit dry, which must leave the file as it was, then real.
@@ -44,13 +46,22 @@ fn accepted(image: &Path, args: &[&str]) -> String {
     assert!(told.contains("nothing was written"), "{told}");
     assert_eq!(State::of(image), before, "{args:?}");
     let out = done(args[0], image, &args[1..]);
-    let nothing = out.ends_with("done: there was nothing to write\n");
-    assert!(nothing || out.ends_with("done: written and synced\n"), "{out}");
+    match State::of(image) == before {
+        true => assert!(out.ends_with("done: there was nothing to write\n"), "{out}"),
+        false => assert!(out.ends_with("done: written and synced\n"), "{out}"),
+    }
+    assert!(!journal_of(image).exists());
     // The dry run said the same things.
     let said = |text: &str| text.lines().rev().skip(1).map(str::to_string).collect::<Vec<_>>();
     let dry: Vec<String> = said(&out).iter().map(|line| format!("dry run: {line}")).collect();
     assert_eq!(said(&told), dry);
     out
+}
+
+fn journal_of(image: &Path) -> PathBuf {
+    let mut name = image.as_os_str().to_os_string();
+    name.push(".counter-journal");
+    name.into()
 }
 
 fn free_of(image: &Path) -> Vec<(u64, u64)> {
@@ -431,16 +442,21 @@ fn bytes_past_the_disc_end_stay() {
 fn a_done_edit_whose_word_is_not_heard_is_still_done() {
     let temp = Temp::new();
     let image = small(&temp);
-    let full = OpenOptions::new().write(true).open("/dev/full").unwrap();
-    let run: Run = program()
-        .arg("move")
-        .arg(&image)
-        .args(["a", "0x600"])
-        .stdout(full)
-        .output()
-        .unwrap()
-        .into();
-    assert_eq!(run.status, 74);
+    let mut command = program();
+    command.arg("move").arg(&image).args(["a", "0x600"]);
+    command.stdout(OpenOptions::new().write(true).open("/dev/full").unwrap());
+    let run: Run = command.output().unwrap().into();
+    assert_eq!(run.status, 76);
     assert!(run.err.contains("the edit is done and synced"), "{}", run.err);
     assert_eq!(Table::of(&image).entry("/a").offset, 0x600);
+
+    // A pipe that nobody reads.
+    let mut command = program();
+    command.arg("move").arg(&image).args(["a", "0x700"]);
+    let mut child = command.stdout(Stdio::piped()).stderr(Stdio::piped()).spawn().unwrap();
+    drop(child.stdout.take());
+    let run: Run = child.wait_with_output().unwrap().into();
+    assert_eq!(run.status, 76, "{}", run.err);
+    assert!(run.err.contains("the edit is done and synced"), "{}", run.err);
+    assert_eq!(Table::of(&image).entry("/a").offset, 0x700);
 }

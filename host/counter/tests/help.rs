@@ -8,9 +8,9 @@ use std::path::Path;
 use std::process::{Command, Stdio};
 use support::*;
 
-const COMMANDS: [&str; 19] = [
+const COMMANDS: [&str; 20] = [
     "info", "list", "tree", "free", "find", "place", "cat", "extract", "dol", "map", "check",
-    "compare", "hash", "report", "mkdir", "add", "move", "resize", "rewrite",
+    "compare", "hash", "report", "mkdir", "add", "move", "resize", "rewrite", "recover",
 ];
 
 /// A folder with the files that the examples name.
@@ -70,6 +70,8 @@ fn help_comes_in_every_way_and_is_about_its_command_alone() {
         "--given",
         "--only-differences",
         "--map",
+        "--as-is",
+        "--anyway",
     ];
     for command in COMMANDS {
         let help = run(&["help", command]).out;
@@ -88,7 +90,7 @@ fn help_comes_in_every_way_and_is_about_its_command_alone() {
         }
         assert!(usage.starts_with(&format!("  counter {command} ")), "{usage}");
         // What an edit promises is told of edits.
-        let edits = ["mkdir", "add", "move", "resize", "rewrite"].contains(&command);
+        let edits = ["mkdir", "add", "move", "resize", "rewrite", "recover"].contains(&command);
         assert_eq!(help.contains("\nSafety\n"), edits, "{command}");
     }
     // After `--` it is an operand.

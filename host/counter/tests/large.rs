@@ -4,6 +4,9 @@ mod support;
 
 use std::fs;
 use std::path::Path;
+use std::process::Stdio;
+use std::thread;
+use std::time::Duration;
 use support::*;
 
 const DISC: u32 = 0x5705_8000;
@@ -35,6 +38,27 @@ fn sums(image: &Path) -> Vec<(String, u64)> {
     files.map(|e| (e.path.clone(), if e.size == 0 { 0 } else { sum_of(&e) })).collect()
 }
 
+/// Runs, and gives the most memory it was seen to have, in KiB. Pages that it has mapped many times
+/// count once.
+fn memory_of(image: &Path, args: &[&str]) -> u64 {
+    let mut command = program();
+    command.arg(args[0]).arg(image).args(&args[1..]).stdout(Stdio::null());
+    let mut child = command.spawn().unwrap();
+    let seen = format!("/proc/{}/smaps_rollup", child.id());
+    let mut most = 0;
+    loop {
+        let told = fs::read_to_string(&seen).unwrap_or_default();
+        let line = told.lines().find_map(|line| line.strip_prefix("Pss:"));
+        let memory = line.and_then(|line| line.trim().split(' ').next()?.parse().ok());
+        most = most.max(memory.unwrap_or(0));
+        if let Some(status) = child.try_wait().unwrap() {
+            assert_eq!(status.code(), Some(0), "{args:?}");
+            return most;
+        }
+        thread::sleep(Duration::from_millis(2));
+    }
+}
+
 fn compare(before: &Path, after: &Path, list: &Path) -> Run {
     on("compare", before, &[after.to_str().unwrap(), "--given", list.to_str().unwrap()])
 }
@@ -64,6 +88,12 @@ fn a_disc_of_real_size_is_read_edited_and_compared() {
         assert_eq!(run.status, number, "{args:?}: {}", run.err);
     }
     done("move", &image, &["reel.thp", "0x56000000", "--dry-run"]);
+    // The film's 256 MiB are not copied for it.
+    for args in [["move", film, "0x44000000"], ["resize", film, "1"], ["resize", film, "257M"]] {
+        let memory = memory_of(&image, &[args[0], args[1], args[2], "--dry-run"]);
+        println!("{args:?}: {memory} KiB");
+        assert!(memory < 64 << 10, "{args:?}: {memory} KiB");
+    }
     assert_eq!((modified(&image), on_disk(&image)), (time, at_first));
 
     // A day's work.

@@ -718,7 +718,7 @@ fn help_documents_commands_statuses_and_safety() {
     assert_eq!(run_help.status, 0);
     let commands = [
         "info", "list", "tree", "free", "find", "place", "check", "extract", "cat", "dol", "map",
-        "compare", "hash", "report", "mkdir", "add", "move", "resize", "rewrite",
+        "compare", "hash", "report", "mkdir", "add", "move", "resize", "rewrite", "recover",
     ];
     for command in commands {
         assert!(run_help.out.contains(&format!("counter {command} ")), "{command}");

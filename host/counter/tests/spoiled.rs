@@ -56,7 +56,7 @@ fn damage(image: &mut [u8], random: &mut Random) {
 
 #[test]
 fn no_image_makes_the_program_fall_over() {
-    let temp = Temp::new();
+    let temp = Temp::in_memory();
     let mut random = Random(0x1234_5678);
     let mut opened = 0;
     for turn in 0..250 {

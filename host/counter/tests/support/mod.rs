@@ -11,6 +11,7 @@ use std::os::unix::process::CommandExt;
 use std::os::unix::process::ExitStatusExt;
 use std::path::{Path, PathBuf};
 use std::process::{Command, Output, Stdio};
+use std::sync::OnceLock;
 use std::sync::atomic::{AtomicU32, Ordering};
 
 // A folder --------------------------------------------------------------------------------
@@ -19,9 +20,19 @@ pub struct Temp(PathBuf);
 
 impl Temp {
     pub fn new() -> Temp {
+        Temp::below(&std::env::temp_dir())
+    }
+
+    /// In memory where there is such a disk, so that a sync takes no time.
+    pub fn in_memory() -> Temp {
+        let memory = Path::new("/dev/shm");
+        if memory.is_dir() { Temp::below(memory) } else { Temp::new() }
+    }
+
+    fn below(folder: &Path) -> Temp {
         static NEXT: AtomicU32 = AtomicU32::new(0);
         let n = NEXT.fetch_add(1, Ordering::SeqCst);
-        let path = std::env::temp_dir().join(format!("counter-test-{}-{n}", std::process::id()));
+        let path = folder.join(format!("counter-test-{}-{n}", std::process::id()));
         fs::create_dir(&path).unwrap();
         Temp(path)
     }
@@ -72,19 +83,37 @@ unsafe extern "C" {
 /// The program, with the signals that it minds as a terminal leaves them: whoever runs the tests in
 /// the background may ignore some, and what is ignored would stay so.
 pub fn program() -> Command {
-    const DEFAULT: usize = 0;
     let mut command = Command::new(env!("CARGO_BIN_EXE_counter"));
     command.stdin(Stdio::null());
-    // SAFETY: between fork and exec only `signal` is called, which may be called there.
-    unsafe {
-        command.pre_exec(|| {
-            for number in [1, 2, 3, 15] {
-                signal(number, DEFAULT);
-            }
-            Ok(())
-        });
+    // Only where it is wanted: a plain start takes a third of the time.
+    if signals_are_ignored() {
+        // SAFETY: between fork and exec only `signal` is called, which may be called there.
+        unsafe {
+            command.pre_exec(|| {
+                for number in MINDED {
+                    signal(number, DEFAULT);
+                }
+                Ok(())
+            });
+        }
     }
     command
+}
+
+const MINDED: [i32; 4] = [1, 2, 3, 15];
+const DEFAULT: usize = 0;
+const IGNORED: usize = 1;
+
+fn signals_are_ignored() -> bool {
+    static FOUND: OnceLock<bool> = OnceLock::new();
+    *FOUND.get_or_init(|| {
+        MINDED.into_iter().any(|number| {
+            // SAFETY: what is found is put back.
+            let found = unsafe { signal(number, DEFAULT) };
+            unsafe { signal(number, found) };
+            found == IGNORED
+        })
+    })
 }
 
 pub fn run<S: AsRef<OsStr>>(args: &[S]) -> Run {

@@ -1,0 +1,80 @@
+//! All that one edit writes, known before it writes: the table in its place with its size in the
+//! header, a file's bytes to a new place, and zeros.
+
+use std::ops::Range;
+
+/// Where the header has the table's size.
+pub const FST_SIZE: u64 = 0x428;
+
+/// Where the header ends.
+pub const HEADER: u64 = 0x440;
+
+#[derive(Debug, Clone, PartialEq, Eq)]
+pub struct Change {
+    /// The edit in words.
+    pub words: String,
+    /// The table's offset.
+    pub table: u64,
+    /// The bytes there before and after, as far as the longer table reaches.
+    pub old: Vec<u8>,
+    pub new: Vec<u8>,
+    /// The table's size before and after.
+    pub old_size: u32,
+    pub new_size: u32,
+    /// So many bytes are copied from one place to the other.
+    pub from: u64,
+    pub to: u64,
+    pub kept: u64,
+    /// What is zeroed at the end.
+    pub lost: Range<u64>,
+}
+
+impl Change {
+    pub fn table_span(&self) -> Range<u64> {
+        self.table..self.table + self.new.len() as u64
+    }
+
+    pub fn copy_span(&self) -> Range<u64> {
+        self.to..self.to + self.kept
+    }
+
+    pub fn source_span(&self) -> Range<u64> {
+        self.from..self.from + self.kept
+    }
+
+    /// Every byte that is written lies in one of these.
+    pub fn spans(&self) -> [Range<u64>; 4] {
+        [FST_SIZE..FST_SIZE + 4, self.table_span(), self.copy_span(), self.lost.clone()]
+    }
+
+    pub fn is_nothing(&self) -> bool {
+        self.old == self.new
+            && self.old_size == self.new_size
+            && self.kept == 0
+            && self.lost.is_empty()
+    }
+
+    /// Whether an edit of an image of `len` bytes can have this form: nothing is written twice, nothing
+    /// outside, and what is copied lies where it is not written before it is zeroed.
+    pub fn is_sound(&self, len: u64) -> bool {
+        let longer = u64::from(self.old_size.max(self.new_size));
+        let tables = self.old.len() == self.new.len() && self.new.len() as u64 == longer;
+        let [_, table, copy, lost] = self.spans();
+        let whole = [&table, &copy, &lost, &self.source_span()].iter().all(|span| {
+            span.start <= span.end && span.end <= len && span.start >= HEADER || span.is_empty()
+        });
+        let apart = |a: &Range<u64>, b: &Range<u64>| {
+            a.is_empty() || b.is_empty() || a.end <= b.start || b.end <= a.start
+        };
+        let source = self.source_span();
+        tables
+            && self.table >= HEADER
+            && whole
+            && apart(&table, &copy)
+            && apart(&table, &lost)
+            && apart(&copy, &lost)
+            && apart(&source, &copy)
+            && apart(&source, &table)
+            && (self.kept == 0 || source == self.lost)
+    }
+}

@@ -1,0 +1,254 @@
+//! The journal of an edit: a file beside the image, there from before the first byte is written until
+//! the last is on the disk. It holds what the edit writes, so that an edit that was cut can be
+//! finished.
+//!
+//! It is written under another name, synced and then renamed, so a cut never leaves a torn one under
+//! its own name.
+
+use crate::change::{Change, HEADER};
+use crate::disk::{self, On};
+use crate::sum;
+use std::fs::{self, File, Metadata};
+use std::io;
+use std::ops::Range;
+use std::os::unix::fs::MetadataExt;
+use std::path::{Path, PathBuf};
+
+const MAGIC: &[u8; 16] = b"counter journal\n";
+const VERSION: u64 = 1;
+const COPIED: &[u8; 8] = b"copied!\n";
+
+/// No journal is longer: two tables of the largest size, a header, and a few numbers.
+const LONGEST: u64 = 2 * (2 << 20) + (64 << 10);
+
+/// Which file the journal belongs to. The disk's number is left out: it may be another after a
+/// restart.
+#[derive(Debug, Clone, PartialEq, Eq)]
+pub struct Owner {
+    pub inode: u64,
+    pub len: u64,
+    /// The header before the edit.
+    pub header: Vec<u8>,
+}
+
+impl Owner {
+    pub fn new(told: &Metadata, image: &[u8]) -> Owner {
+        let header = image[..HEADER as usize].to_vec();
+        Owner { inode: told.ino(), len: told.len(), header }
+    }
+}
+
+#[derive(Debug, Clone, PartialEq, Eq)]
+pub struct Record {
+    pub owner: Owner,
+    pub change: Change,
+    /// Whether the file's new place was one hole, so that it can be made one again.
+    pub hole: bool,
+}
+
+pub struct Journal {
+    path: PathBuf,
+    file: File,
+    /// Where the first record ends.
+    end: u64,
+    pub record: Record,
+    /// The sum of the bytes that are whole at the new place, once they are.
+    pub copied: Option<u64>,
+    /// Whether they were found spoiled there, and are to be copied again.
+    pub spoiled: bool,
+}
+
+/// The name of the journal of the image at `path`, which is no link.
+pub fn beside(path: &Path) -> PathBuf {
+    with(path, ".counter-journal")
+}
+
+fn with(path: &Path, end: &str) -> PathBuf {
+    let mut name = path.as_os_str().to_os_string();
+    name.push(end);
+    PathBuf::from(name)
+}
+
+/// Whether there is anything under the journal's name.
+pub fn is_there(image: &Path) -> bool {
+    fs::symlink_metadata(beside(image)).is_ok()
+}
+
+/// The edit whose journal it is, in words.
+pub fn words(image: &Path) -> Option<String> {
+    let bytes = read(&beside(image)).ok()??.ok()?;
+    decode(&bytes).map(|(record, _)| record.change.words)
+}
+
+/// The journal's bytes: None, or what keeps it from being one.
+fn read(path: &Path) -> io::Result<Option<Result<Vec<u8>, &'static str>>> {
+    let told = match fs::symlink_metadata(path) {
+        // A name too long for a journal has none.
+        Err(e) if matches!(e.kind(), io::ErrorKind::NotFound | io::ErrorKind::InvalidFilename) => {
+            return Ok(None);
+        }
+        told => told?,
+    };
+    Ok(Some(match told.is_file() {
+        false => Err("it is no file"),
+        true if told.len() > LONGEST => Err("it is too long"),
+        true => Ok(fs::read(path)?),
+    }))
+}
+
+impl Journal {
+    /// Writes the journal of an edit that is about to begin. On an error there is none.
+    pub fn start(image: &Path, record: Record) -> io::Result<Journal> {
+        let path = beside(image);
+        let early = with(&path, ".new");
+        let begun = begin(&early, &path, &encode(&record));
+        if begun.is_err() {
+            let _ = fs::remove_file(&early);
+            let _ = fs::remove_file(&path);
+        }
+        let (file, end) = begun?;
+        Ok(Journal { path, file, end, record, copied: None, spoiled: false })
+    }
+
+    /// The journal beside the image: None, a whole one, or what is wrong with it. For whoever has the
+    /// image alone.
+    pub fn find(image: &Path) -> io::Result<Option<Result<Journal, &'static str>>> {
+        let path = beside(image);
+        // One that was cut before it had its name: the image was not touched then.
+        let _ = fs::remove_file(with(&path, ".new"));
+        let bytes = match read(&path)? {
+            Some(Ok(bytes)) => bytes,
+            Some(Err(why)) => return Ok(Some(Err(why))),
+            None => return Ok(None),
+        };
+        let Some((record, end)) = decode(&bytes) else {
+            return Ok(Some(Err("it is torn, or no journal")));
+        };
+        let file = File::options().read(true).write(true).open(&path)?;
+        let copied = decode_copied(&bytes, end);
+        Ok(Some(Ok(Journal { path, file, end: end as u64, record, copied, spoiled: false })))
+    }
+
+    /// Notes that the file's bytes are on the disk at the new place.
+    pub fn mark_copied(&mut self, bytes: u64) -> io::Result<()> {
+        let mut mark = COPIED.to_vec();
+        mark.extend(bytes.to_le_bytes());
+        mark.extend(sum::of(&[&self.end.to_le_bytes(), &mark[..]].concat()).to_le_bytes());
+        disk::write_at(On::Journal, &self.file, self.end, &mark)?;
+        disk::sync(On::Journal, &self.file)?;
+        self.copied = Some(bytes);
+        Ok(())
+    }
+
+    pub fn remove(&self) -> io::Result<()> {
+        disk::remove(&self.path)?;
+        disk::sync_folder(&self.path)
+    }
+
+    pub fn path(&self) -> &Path {
+        &self.path
+    }
+}
+
+fn begin(early: &Path, path: &Path, bytes: &[u8]) -> io::Result<(File, u64)> {
+    let file = disk::create(early)?;
+    disk::write_at(On::Journal, &file, 0, bytes)?;
+    disk::sync(On::Journal, &file)?;
+    disk::rename(early, path)?;
+    disk::sync_folder(path)?;
+    Ok((file, bytes.len() as u64))
+}
+
+// Its form --------------------------------------------------------------------------------
+
+fn encode(record: &Record) -> Vec<u8> {
+    let Record { owner, change, hole } = record;
+    let mut out = MAGIC.to_vec();
+    let numbers = [
+        VERSION,
+        owner.inode,
+        owner.len,
+        u64::from(*hole),
+        change.table,
+        change.old_size.into(),
+        change.new_size.into(),
+        change.from,
+        change.to,
+        change.kept,
+        change.lost.start,
+        change.lost.end,
+    ];
+    out.extend(numbers.iter().flat_map(|number| number.to_le_bytes()));
+    for part in [&owner.header, change.words.as_bytes(), &change.old, &change.new] {
+        out.extend((part.len() as u64).to_le_bytes());
+        out.extend(part);
+    }
+    let sum = sum::of(&out);
+    out.extend(sum.to_le_bytes());
+    out
+}
+
+struct Reader<'a> {
+    bytes: &'a [u8],
+    at: usize,
+}
+
+impl<'a> Reader<'a> {
+    fn take(&mut self, len: usize) -> Option<&'a [u8]> {
+        let part = self.bytes.get(self.at..self.at.checked_add(len)?)?;
+        self.at += len;
+        Some(part)
+    }
+
+    fn number(&mut self) -> Option<u64> {
+        Some(u64::from_le_bytes(self.take(8)?.try_into().ok()?))
+    }
+
+    fn part(&mut self) -> Option<&'a [u8]> {
+        let len = self.number()?;
+        self.take(usize::try_from(len).ok()?)
+    }
+}
+
+/// The record, and where it ends; None for anything that is not one, whole and sound.
+fn decode(bytes: &[u8]) -> Option<(Record, usize)> {
+    let mut reader = Reader { bytes, at: 0 };
+    if reader.take(16)? != MAGIC || reader.number()? != VERSION {
+        return None;
+    }
+    let mut number = || reader.number();
+    let (inode, len, hole) = (number()?, number()?, number()? != 0);
+    let (table, old_size, new_size) = (number()?, number()?, number()?);
+    let (from, to, kept, lost) = (number()?, number()?, number()?, number()?..number()?);
+    let header = reader.part()?.to_vec();
+    let words = String::from_utf8(reader.part()?.to_vec()).ok()?;
+    let (old, new) = (reader.part()?.to_vec(), reader.part()?.to_vec());
+    let sum = sum::of(&bytes[..reader.at]);
+    if reader.number()? != sum {
+        return None;
+    }
+    let (old_size, new_size) = (old_size.try_into().ok()?, new_size.try_into().ok()?);
+    let change = Change { words, table, old, new, old_size, new_size, from, to, kept, lost };
+    let owner = Owner { inode, len, header };
+    let record = Record { owner, change, hole };
+    is_sound(&record).then_some((record, reader.at))
+}
+
+/// What the sum says of a record is that it is whole; this, that it can be acted on.
+fn is_sound(record: &Record) -> bool {
+    let Record { owner, change, .. } = record;
+    let below = |span: Range<u64>| span.end < 1 << 33;
+    let numbers = [change.table, change.from, change.to, change.kept];
+    owner.header.len() as u64 == HEADER
+        && numbers.iter().all(|number| *number < 1 << 32)
+        && below(change.lost.clone())
+        && change.is_sound(owner.len)
+}
+
+fn decode_copied(bytes: &[u8], end: usize) -> Option<u64> {
+    let mut reader = Reader { bytes, at: end };
+    let mark = reader.take(16)?;
+    let sum = sum::of(&[&(end as u64).to_le_bytes(), mark].concat());
+    let whole = reader.number()? == sum && &mark[..8] == COPIED;
+    whole.then(|| u64::from_le_bytes(mark[8..].try_into().expect("eight bytes")))
+}

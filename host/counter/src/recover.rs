@@ -1,0 +1,204 @@
+//! An edit that was cut is finished: by `recover`, and before the next edit.
+
+use crate::args::Args;
+use crate::disk;
+use crate::failure::{CUT, Failure, INPUT_OUTPUT, Outcome, UNSAID};
+use crate::image::{Desk, Image};
+use crate::journal::{self, Journal};
+use crate::json::Json;
+use crate::out::say;
+use crate::progress::Progress;
+use crate::redo::{self, Owned};
+use crate::signals;
+use crate::text::human;
+use counter_sys as counter;
+use std::fs::File;
+use std::io;
+use std::path::Path;
+
+pub fn recover(args: &Args) -> Outcome<()> {
+    let path = args.image.as_deref().expect("recover has an image");
+    let image = Image::edit(path)?;
+    let finished = put_right(&image, args.anyway)?;
+    let told = match &finished {
+        _ if args.json => json(finished.as_deref()).document(),
+        None => "there is no journal: no edit was cut, nothing is to be done\n".into(),
+        Some(words) => {
+            format!("finished an edit that was cut: {words}\ndone: written and synced\n")
+        }
+    };
+    if finished.is_some() { finish(&told) } else { say(told.as_bytes()) }
+}
+
+fn json(finished: Option<&str>) -> Json {
+    Json::Object(vec![
+        ("status", 0u32.into()),
+        ("edit", "recover".into()),
+        ("finished", finished.map_or(Json::Null, Json::from)),
+        ("written", finished.is_some().into()),
+    ])
+}
+
+/// Says the last word of an edit; that it is done and synced is told by the status too. Then a signal
+/// that came meanwhile has its turn.
+pub fn finish(text: &str) -> Outcome<()> {
+    if let Err(why) = say(text.as_bytes()) {
+        let text =
+            format!("the edit is done and synced, but its answer could not be printed: {why}");
+        return Err(Failure::error(UNSAID, text));
+    }
+    match signals::signalled() {
+        None => Ok(()),
+        Some(number) => {
+            let text = format!("signal {number} came during the edit; the edit is done and synced");
+            Err(Failure::Signal { number, text })
+        }
+    }
+}
+
+/// Finishes the edit whose journal is there; the answer is that edit in words. `anyway` lets a journal pass
+/// that was written for another file with the same contents.
+pub fn put_right(image: &Image, anyway: bool) -> Outcome<Option<String>> {
+    let (Some(file), Some(path)) = (image.file(), image.path()) else {
+        return Ok(None);
+    };
+    let found = Journal::find(path).map_err(|e| useless(path, &reason(&e)))?;
+    let mut journal = match found {
+        None => return Ok(None),
+        Some(Err(why)) => return Err(useless(path, why)),
+        Some(Ok(journal)) => journal,
+    };
+    may_be_applied(file, path, &mut journal, anyway)?;
+    signals::begin_writing();
+    let kept = journal.record.change.kept;
+    let progress = Progress::start("recovering", kept);
+    let words = journal.record.change.words.clone();
+    redo::redo(file, &mut journal, &progress).map_err(|why| stuck(file, path, &journal, &why))?;
+    if let Err(number) = counter::open(image.bytes(), &mut Desk::new().lend()) {
+        return Err(not_opened(path, &journal, number));
+    }
+    journal.remove().map_err(|why| still_there(&journal, &why))?;
+    Ok(Some(words))
+}
+
+fn may_be_applied(file: &File, path: &Path, journal: &mut Journal, anyway: bool) -> Outcome<()> {
+    let words = journal.record.change.words.clone();
+    let unread = |e: io::Error| unread(path, &words, &e);
+    match redo::owned(file, journal).map_err(unread)? {
+        Owned::No => return Err(useless(path, "it belongs to another image")),
+        Owned::ByAnother if !anyway => return Err(doubtful(path)),
+        _ => {}
+    }
+    match redo::misfit(file, journal).map_err(unread)? {
+        None => Ok(()),
+        Some(why) => Err(changed(path, journal, why)),
+    }
+}
+
+// What is said: what happened, what state the image is in, what to do next ------------------
+
+fn cut(text: String) -> Failure {
+    Failure::error(CUT, text)
+}
+
+fn useless(path: &Path, why: &str) -> Failure {
+    cut(format!(
+        "{}: this journal cannot be used: {why}. Neither it nor the image was touched. Look at the image \
+         with `counter check --as-is {}` and compare it with your copy; once you know that it is as it \
+         should be, take the journal away",
+        journal::beside(path).display(),
+        path.display()
+    ))
+}
+
+fn unread(path: &Path, words: &str, why: &io::Error) -> Failure {
+    cut(format!(
+        "{0}: {1}: the image could not be read, so the edit that was cut ({words}) was not finished. \
+         Neither the image nor its journal was touched; try `counter recover {0}` again",
+        path.display(),
+        reason(why)
+    ))
+}
+
+fn not_opened(path: &Path, journal: &Journal, number: u32) -> Failure {
+    cut(format!(
+        "{}: the edit that was cut ({}) was finished as its journal says, but the image does not open \
+         (refused {number}). The journal is kept: {}. Go back to your copy",
+        path.display(),
+        journal.record.change.words,
+        journal.path().display()
+    ))
+}
+
+fn doubtful(path: &Path) -> Failure {
+    cut(format!(
+        "{0}: its journal was written for another file. Nothing was touched. If the image was brought back \
+         from a copy, take {1} away. If it is the one that was cut (now on another disk, or the disk has \
+         no lasting numbers), `counter recover --anyway {0}` finishes the edit, if its contents fit",
+        path.display(),
+        journal::beside(path).display()
+    ))
+}
+
+fn changed(path: &Path, journal: &Journal, why: &str) -> Failure {
+    cut(format!(
+        "{0}: there is the journal of an edit ({1}), but the image is none that this edit can have left: \
+         {why}. Another program has changed it since. Nothing was touched. Look at it with `counter check \
+         --as-is {0}`; once you know that it is as it should be, take {2} away",
+        path.display(),
+        journal.record.change.words,
+        journal.path().display()
+    ))
+}
+
+/// The disk does not let the edit be finished. Where only free space was written so far, the edit is
+/// given up instead, and the image is as it was.
+pub fn stuck(file: &File, path: &Path, journal: &Journal, why: &io::Error) -> Failure {
+    let change = &journal.record.change;
+    if change.kept > 0 && journal.copied.is_none() && given_up(file, journal) {
+        let mut text = format!(
+            "{}: {}: nothing was written to the header, the table and the files: they are as they were",
+            path.display(),
+            reason(why)
+        );
+        if !journal.record.hole {
+            text.push_str(&format!(
+                "; free space from {:#x} on, {} at most, may hold a part of a copy",
+                change.to,
+                human(change.kept)
+            ));
+        }
+        return Failure::error(INPUT_OUTPUT, text);
+    }
+    cut(format!(
+        "{0}: {1}: the image holds a part of the edit ({2}). Nothing is lost: make room on the disk, then \
+         `counter recover {0}` finishes it",
+        path.display(),
+        reason(why),
+        change.words
+    ))
+}
+
+/// All is on the disk, but for the journal's end.
+pub fn still_there(journal: &Journal, why: &io::Error) -> Failure {
+    cut(format!(
+        "{}: {}: the edit is written and synced, but its journal could not be taken away; `counter \
+         recover` does it",
+        journal.path().display(),
+        reason(why)
+    ))
+}
+
+pub fn reason(why: &io::Error) -> String {
+    if disk::is_full(why) { "the disk is full".into() } else { why.to_string() }
+}
+
+/// Takes an edit back that only wrote to free space.
+pub fn given_up(file: &File, journal: &Journal) -> bool {
+    let span = journal.record.change.copy_span();
+    if journal.record.hole && !span.is_empty() {
+        // If it fails, free space is not what it was, and nothing else is different.
+        let _ = disk::punch(file, span.start, span.end - span.start);
+    }
+    journal.remove().is_ok()
+}

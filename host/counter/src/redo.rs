@@ -1,0 +1,168 @@
+//! An edit finished from its journal. Every step writes bytes that the journal holds or that lie whole
+//! in the image, so it can be cut and done again as often as need be.
+
+use crate::change::{Change, FST_SIZE};
+use crate::disk::{self, On};
+use crate::journal::Journal;
+use crate::progress::Progress;
+use crate::sum::Sum;
+use std::fs::File;
+use std::io;
+use std::ops::Range;
+use std::os::unix::fs::{FileExt, MetadataExt};
+
+/// Bytes that are read or written at once: a multiple of 8, as the sum wants it.
+const PART: u64 = 1 << 20;
+
+fn parts(span: Range<u64>) -> impl Iterator<Item = (u64, usize)> {
+    let end = span.end;
+    span.step_by(PART as usize).map(move |at| (at, PART.min(end - at) as usize))
+}
+
+/// Copies the file's bytes to the new place, which is free, and waits until they are on the disk. The
+/// answer is their sum.
+pub fn copy(file: &File, change: &Change, progress: &Progress) -> io::Result<u64> {
+    let mut sum = Sum::new();
+    let mut bytes = vec![0; PART as usize];
+    for (at, len) in parts(change.source_span()) {
+        let part = &mut bytes[..len];
+        file.read_exact_at(part, at)?;
+        sum.add(part);
+        disk::write_at(On::Image, file, change.to + (at - change.from), part)?;
+        progress.advance(len as u64);
+    }
+    disk::sync(On::Image, file)?;
+    Ok(sum.value())
+}
+
+/// Writes the table, its size and the zeros, and waits until they are on the disk.
+pub fn finish(file: &File, change: &Change) -> io::Result<()> {
+    disk::write_at(On::Image, file, change.table, &change.new)?;
+    disk::write_at(On::Image, file, FST_SIZE, &change.new_size.to_be_bytes())?;
+    let zeros = vec![0; PART as usize];
+    for (at, len) in parts(change.lost.clone()) {
+        match disk::write_at(On::Image, file, at, &zeros[..len]) {
+            // A hole reads as zeros too, and gives room instead of taking it.
+            Err(e) if disk::is_full(&e) => {
+                disk::punch(file, at, change.lost.end - at)?;
+                break;
+            }
+            written => written?,
+        }
+    }
+    disk::sync(On::Image, file)
+}
+
+/// Writes the bytes at the new place once more, over themselves: after a failed sync the system may take
+/// for written what is not.
+pub fn refresh(file: &File, change: &Change) -> io::Result<()> {
+    let mut bytes = vec![0; PART as usize];
+    for (at, len) in parts(change.copy_span()) {
+        file.read_exact_at(&mut bytes[..len], at)?;
+        disk::write_at(On::Image, file, at, &bytes[..len])?;
+    }
+    Ok(())
+}
+
+/// Does all of it again that may be missing.
+pub fn redo(file: &File, journal: &mut Journal, progress: &Progress) -> io::Result<()> {
+    if journal.record.change.kept > 0 && (journal.copied.is_none() || journal.spoiled) {
+        let sum = copy(file, &journal.record.change, progress)?;
+        journal.mark_copied(sum)?;
+    }
+    finish(file, &journal.record.change)
+}
+
+// Whether the image is one that the edit can have left ------------------------------------
+
+/// Whether it is the file that the journal was written for.
+#[derive(Debug, PartialEq, Eq)]
+pub enum Owned {
+    Yes,
+    /// Another number on the disk: the image was copied or brought back, or its disk has no lasting
+    /// numbers.
+    ByAnother,
+    No,
+}
+
+pub fn owned(file: &File, journal: &Journal) -> io::Result<Owned> {
+    let owner = &journal.record.owner;
+    let told = file.metadata()?;
+    if told.len() != owner.len {
+        return Ok(Owned::No);
+    }
+    let mut header = vec![0; owner.header.len()];
+    file.read_exact_at(&mut header, 0)?;
+    let size = FST_SIZE as usize..FST_SIZE as usize + 4;
+    header[size.clone()].copy_from_slice(&owner.header[size]);
+    if header != owner.header {
+        return Ok(Owned::No);
+    }
+    Ok(if told.ino() == owner.inode { Owned::Yes } else { Owned::ByAnother })
+}
+
+/// What is wrong if the image is none that the edit can have left: then somebody else has changed it,
+/// and nothing may be written. Where the new place does not hold the file whole, but the old one does,
+/// the journal is told so.
+pub fn misfit(file: &File, journal: &mut Journal) -> io::Result<Option<&'static str>> {
+    let change = &journal.record.change;
+    let (table, word) = table_and_size(file, change)?;
+    let (old, new) = (change.old_size.to_be_bytes(), change.new_size.to_be_bytes());
+    if !is_mix(&table, &change.old, &change.new) || !is_mix(&word, &old, &new) {
+        return Ok(Some("its table is neither the old nor the new one"));
+    }
+    let untouched = table == change.old && word == old;
+    if change.kept == 0 {
+        return Ok(None);
+    }
+    let Some(sum) = journal.copied else {
+        return Ok((!untouched).then_some("its table is not the old one"));
+    };
+    if sum_of(file, change.copy_span())? == sum {
+        return Ok(
+            (!copied_or_zero(file, change)?).then_some("the file's old place holds something else")
+        );
+    }
+    if sum_of(file, change.source_span())? != sum {
+        return Ok(Some("the file's bytes are whole neither at its old nor at its new place"));
+    }
+    journal.spoiled = true;
+    Ok(None)
+}
+
+/// Whether each byte is one of the old bytes or of the new ones.
+fn is_mix(now: &[u8], old: &[u8], new: &[u8]) -> bool {
+    now.iter().zip(old).zip(new).all(|((now, old), new)| now == old || now == new)
+}
+
+fn table_and_size(file: &File, change: &Change) -> io::Result<(Vec<u8>, [u8; 4])> {
+    let mut table = vec![0; change.new.len()];
+    file.read_exact_at(&mut table, change.table)?;
+    let mut word = [0; 4];
+    file.read_exact_at(&mut word, FST_SIZE)?;
+    Ok((table, word))
+}
+
+fn sum_of(file: &File, span: Range<u64>) -> io::Result<u64> {
+    let mut sum = Sum::new();
+    let mut bytes = vec![0; PART as usize];
+    for (at, len) in parts(span) {
+        file.read_exact_at(&mut bytes[..len], at)?;
+        sum.add(&bytes[..len]);
+    }
+    Ok(sum.value())
+}
+
+/// Whether each byte of the old place is still the file's, or zero.
+fn copied_or_zero(file: &File, change: &Change) -> io::Result<bool> {
+    let zeros = vec![0; PART as usize];
+    let (mut old, mut new) = (zeros.clone(), zeros.clone());
+    for (at, len) in parts(change.source_span()) {
+        file.read_exact_at(&mut old[..len], at)?;
+        file.read_exact_at(&mut new[..len], change.to + (at - change.from))?;
+        if old[..len] != new[..len] && !is_mix(&old[..len], &new[..len], &zeros[..len]) {
+            return Ok(false);
+        }
+    }
+    Ok(true)
+}

@@ -1,0 +1,406 @@
+//! The journal of an edit: what is said when there is one, and that a journal which is not this image's,
+//! torn or foreign, is never applied. And what each exit status says of the image when the disk is full
+//! at any step.
+
+mod support;
+
+use std::fs::{self, File};
+use std::os::unix::fs::{FileExt, symlink};
+use std::path::{Path, PathBuf};
+use std::process::Command;
+use support::*;
+
+const END: u32 = 0x4_0000;
+
+/// Free space is full of bytes that say where they are from.
+fn master() -> Vec<u8> {
+    let entries = [
+        file("film", 0x8000, 0x3210),
+        file("next", 0xB210, 0x700),
+        folder("d", vec![file("song", 0xC000, 0x2001)]),
+    ];
+    let mut table = table(&entries);
+    table.extend([b'x', b'x', 0]);
+    let mut image = vec![0; END as usize];
+    pattern(&mut image, 78);
+    image[..0x440].fill(0);
+    put(&mut image, 0x1C, 0xC233_9F3D);
+    put(&mut image, 0x420, 0x500);
+    put(&mut image, 0x424, 0x440);
+    put(&mut image, 0x428, table.len() as u32);
+    put(&mut image, 0x434, END);
+    image[0x440..0x440 + table.len()].copy_from_slice(&table);
+    image
+}
+
+fn journal_of(image: &Path) -> PathBuf {
+    let mut name = image.as_os_str().to_os_string();
+    name.push(".counter-journal");
+    name.into()
+}
+
+/// Runs an edit on a disk that is full from the n-th step on.
+fn full_from(n: u32, image: &Path, args: &[&str]) -> Run {
+    let mut command = program();
+    command.arg(args[0]).arg(image).args(&args[1..]).env("COUNTER_FULL_FROM", n.to_string());
+    command.output().unwrap().into()
+}
+
+const MOVE: [&str; 3] = ["move", "film", "0x20000"];
+
+/// An image whose edit was cut when its table was written, with its journal, and as it is afterwards.
+struct Cut {
+    temp: Temp,
+    image: PathBuf,
+    after: Vec<u8>,
+}
+
+impl Cut {
+    fn new() -> Cut {
+        let temp = Temp::in_memory();
+        let whole = temp.write("whole.iso", &master());
+        done(MOVE[0], &whole, &MOVE[1..]);
+        let after = fs::read(&whole).unwrap();
+        let image = temp.write("disc.iso", &master());
+        // Journal: create, write, sync. Image: write, sync. Journal: write, sync. The call. Sync.
+        let run = full_from(9, &image, &MOVE);
+        assert_eq!(run.status, 78, "{}", run.err);
+        assert!(run.err.contains("the image holds a part of the edit"), "{}", run.err);
+        assert!(run.err.contains("counter recover "), "{}", run.err);
+        assert!(journal_of(&image).exists());
+        Cut { temp, image, after }
+    }
+
+    fn state(&self) -> (State, Vec<u8>) {
+        (State::of(&self.image), fs::read(journal_of(&self.image)).unwrap())
+    }
+
+    /// No command touches image or journal; all say why, and what to do.
+    fn is_left_alone(&self, why: &str) {
+        let before = self.state();
+        for args in [&["recover"][..], &["mkdir", "x"], &["recover", "--anyway"]] {
+            let run = on(args[0], &self.image, &args[1..]);
+            assert_eq!(run.status, 78, "{why} {args:?}: {}{}", run.out, run.err);
+            assert!(run.err.contains(why), "{why} {args:?}: {}", run.err);
+            assert!(run.err.contains("take"), "{why} {args:?}: {}", run.err);
+            assert!(self.state() == before, "{why} {args:?}");
+        }
+    }
+}
+
+#[test]
+fn a_cut_edit_is_told_and_finished() {
+    let cut = Cut::new();
+    let before = cut.state();
+    let svg = cut.temp.at("map.svg");
+    let other = cut.temp.at("whole.iso");
+    let other = other.to_str().unwrap();
+    let page = cut.temp.at("page.html");
+    let reading: [&[&str]; 9] = [
+        &["list"],
+        &["hash"],
+        &["compare", other],
+        &["report", other, page.to_str().unwrap()],
+        &["check"],
+        &["cat", "film"],
+        &["map", svg.to_str().unwrap()],
+        &["mkdir", "x", "--dry-run"],
+        &["move", "film", "0x30000", "--dry-run"],
+    ];
+    for args in reading {
+        let run = on(args[0], &cut.image, &args[1..]);
+        assert_eq!(run.status, 78, "{args:?}: {}", run.err);
+        assert!(
+            run.err.contains("an edit of this image was cut (move film to 0x20000)"),
+            "{args:?}: {}",
+            run.err
+        );
+        assert!(run.err.contains("counter recover ") && run.err.contains("--as-is"), "{}", run.err);
+        assert_eq!(run.out, "", "{args:?}");
+    }
+    assert!(!svg.exists() && !page.exists());
+    for args in [&["list"][..], &["check"], &["cat", "film"], &["hash"]] {
+        let mut rest = args[1..].to_vec();
+        rest.push("--as-is");
+        assert_eq!(on(args[0], &cut.image, &rest).status, 0, "{args:?}");
+    }
+    assert_eq!(on("mkdir", &cut.image, &["x", "--as-is"]).status, 64);
+    assert!(cut.state() == before);
+    // Through a link too.
+    let link = cut.temp.at("link.iso");
+    symlink(&cut.image, &link).unwrap();
+    assert_eq!(on("check", &link, &[]).status, 78);
+
+    let out = done("recover", &link, &[]);
+    assert_eq!(
+        out,
+        "finished an edit that was cut: move film to 0x20000\ndone: written and synced\n"
+    );
+    assert!(fs::read(&cut.image).unwrap() == cut.after);
+    assert!(!journal_of(&cut.image).exists());
+    let out = done("recover", &cut.image, &[]);
+    assert!(out.contains("no edit was cut"), "{out}");
+    assert!(fs::read(&cut.image).unwrap() == cut.after);
+}
+
+#[test]
+fn what_became_of_a_cut_edit_is_told_as_json() {
+    let cut = Cut::new();
+    let run = on("list", &cut.image, &["--json"]);
+    assert_eq!(run.status, 78);
+    assert_eq!(Json::read(&run.out).at("status").number(), 78);
+    let told = json("recover", &cut.image, &[]);
+    assert_eq!(told.at("finished").text(), "move film to 0x20000");
+    assert!(told.at("written").flag());
+    assert!(fs::read(&cut.image).unwrap() == cut.after);
+    let told = json("recover", &cut.image, &[]);
+    assert!(!told.at("written").flag());
+
+    // A page of the image fails, and the edit is finished at once.
+    let image = cut.temp.write("disc.iso", &master());
+    let mut args = MOVE.to_vec();
+    args.push("--json");
+    let run = full_from(8, &image, &args);
+    assert_eq!(run.status, 0, "{}", run.err);
+    assert_eq!(Json::read(&run.out).at("finished").text(), "move film to 0x20000");
+    assert!(fs::read(&image).unwrap() == cut.after);
+    // The disk fails in the last sync.
+    let image = cut.temp.write("disc.iso", &master());
+    let run = full_from(9, &image, &args);
+    assert_eq!(run.status, 78, "{}", run.err);
+    assert_eq!(Json::read(&run.out).at("status").number(), 78);
+}
+
+#[test]
+fn the_next_edit_finishes_the_one_that_was_cut() {
+    let cut = Cut::new();
+    let run = on("resize", &cut.image, &["next", "0x600"]);
+    assert_eq!(run.status, 0, "{}", run.err);
+    assert!(run.err.contains("finished an edit that was cut: move film to 0x20000"), "{}", run.err);
+    let mut wanted = cut.after.clone();
+    wanted[0xB810..0xB910].fill(0);
+    let table = Table::of(&cut.image);
+    assert_eq!((table.entry("/film").offset, table.entry("/next").size), (0x2_0000, 0x600));
+    let at = 0x440 + 12 * 2 + 8;
+    put(&mut wanted, at, 0x600);
+    assert!(fs::read(&cut.image).unwrap() == wanted);
+    assert!(!journal_of(&cut.image).exists());
+}
+
+#[test]
+fn a_torn_or_foreign_journal_is_never_applied() {
+    let cut = Cut::new();
+    let path = journal_of(&cut.image);
+    let whole = fs::read(&path).unwrap();
+    let torn = "it is torn, or no journal";
+    for len in [0, 1, 15, 16, 100, 0x440, whole.len() / 2, whole.len() - 25] {
+        fs::write(&path, &whole[..len]).unwrap();
+        cut.is_left_alone(torn);
+    }
+    let mut random = 0x2545_F491u32;
+    for _ in 0..40 {
+        random ^= random << 13;
+        random ^= random >> 17;
+        random ^= random << 5;
+        let mut bytes = whole.clone();
+        // The mark behind the record has its own test below.
+        let at = random as usize % (bytes.len() - 24);
+        bytes[at] ^= 1 << (random >> 29);
+        fs::write(&path, &bytes).unwrap();
+        cut.is_left_alone(torn);
+    }
+    fs::write(&path, b"my notes on this image\n").unwrap();
+    cut.is_left_alone(torn);
+    fs::write(&path, vec![7; 6 << 20]).unwrap();
+    cut.is_left_alone("it is too long");
+
+    fs::write(&path, &whole).unwrap();
+    done("recover", &cut.image, &[]);
+    assert!(fs::read(&cut.image).unwrap() == cut.after);
+}
+
+#[test]
+fn a_journal_that_is_no_file_is_never_applied() {
+    let cut = Cut::new();
+    let path = journal_of(&cut.image);
+    let aside = cut.temp.at("aside");
+    fs::rename(&path, &aside).unwrap();
+    symlink(&aside, &path).unwrap();
+    cut.is_left_alone("it is no file");
+    fs::remove_file(&path).unwrap();
+    fs::create_dir(&path).unwrap();
+    let run = on("recover", &cut.image, &[]);
+    assert_eq!(run.status, 78, "{}", run.err);
+    assert!(run.err.contains("it is no file"), "{}", run.err);
+}
+
+#[test]
+fn a_mark_that_is_torn_means_that_nothing_but_free_space_was_written() {
+    let cut = Cut::new();
+    let path = journal_of(&cut.image);
+    let whole = fs::read(&path).unwrap();
+    // The table is new already, so the mark cannot have been torn by a cut.
+    fs::write(&path, &whole[..whole.len() - 1]).unwrap();
+    cut.is_left_alone("its table is not the old one");
+    // With the old table and the film where it was, the edit is carried on.
+    let file = File::options().write(true).open(&cut.image).unwrap();
+    file.write_all_at(&master(), 0).unwrap();
+    done("recover", &cut.image, &[]);
+    assert!(fs::read(&cut.image).unwrap() == cut.after);
+}
+
+#[test]
+fn a_journal_of_another_image_is_never_applied() {
+    // Another header, another length.
+    for (at, len) in [(0x20, END), (0x434, END), (END as usize - 1, END - 1)] {
+        let cut = Cut::new();
+        let file = File::options().write(true).open(&cut.image).unwrap();
+        file.write_all_at(&[0x55], at as u64).unwrap();
+        file.set_len(len.into()).unwrap();
+        cut.is_left_alone("it belongs to another image");
+    }
+    // A copy, or the image brought back: the same name, another file.
+    let cut = Cut::new();
+    let aside = cut.temp.at("aside");
+    fs::copy(&cut.image, &aside).unwrap();
+    fs::rename(&aside, &cut.image).unwrap();
+    let before = cut.state();
+    for args in [&["recover"][..], &["mkdir", "x"]] {
+        let run = on(args[0], &cut.image, &args[1..]);
+        assert_eq!(run.status, 78, "{args:?}: {}", run.err);
+        assert!(run.err.contains("its journal was written for another file"), "{}", run.err);
+        assert!(run.err.contains("counter recover --anyway"), "{}", run.err);
+        assert!(cut.state() == before, "{args:?}");
+    }
+    done("recover", &cut.image, &["--anyway"]);
+    assert!(fs::read(&cut.image).unwrap() == cut.after);
+}
+
+#[test]
+fn an_image_that_was_changed_since_is_left_alone() {
+    let cases = [
+        (0x445, "its table is neither the old nor the new one"),
+        (0x42A, "its table is neither the old nor the new one"),
+        (0x8001, "the file's old place holds something else"),
+    ];
+    for (at, why) in cases {
+        let cut = Cut::new();
+        let file = File::options().read(true).write(true).open(&cut.image).unwrap();
+        let mut byte = [0];
+        file.read_exact_at(&mut byte, at).unwrap();
+        file.write_all_at(&[byte[0] ^ 0x5A], at).unwrap();
+        cut.is_left_alone(why);
+    }
+    // The copy is spoiled, and the old place has zeros already.
+    let cut = Cut::new();
+    let file = File::options().read(true).write(true).open(&cut.image).unwrap();
+    let mut byte = [0];
+    file.read_exact_at(&mut byte, 0x2_0100).unwrap();
+    file.write_all_at(&[!byte[0]], 0x2_0100).unwrap();
+    cut.is_left_alone("whole neither at its old nor at its new place");
+}
+
+// Statuses --------------------------------------------------------------------------------
+
+/// The bytes that an edit must keep: all but the free space that it may use.
+fn without(image: &[u8], place: std::ops::Range<usize>) -> Vec<u8> {
+    let mut image = image.to_vec();
+    image[place].fill(0);
+    image
+}
+
+#[test]
+fn each_status_says_what_the_image_is_when_the_disk_is_full() {
+    let edits: [(&[&str], std::ops::Range<usize>); 6] = [
+        (&MOVE, 0x2_0000..0x2_3210),
+        (&["resize", "film", "0x5000"], 0x1_0000..0x1_5000),
+        (&["resize", "film", "0x1001"], 0..0),
+        (&["resize", "d/song", "0x2800"], 0..0),
+        (&["mkdir", "d/x/y"], 0..0),
+        (&["rewrite"], 0..0),
+    ];
+    let mut rescued = 0;
+    for (args, place) in edits {
+        let temp = Temp::in_memory();
+        let image = temp.write("whole.iso", &master());
+        done(args[0], &image, &args[1..]);
+        let after = fs::read(&image).unwrap();
+        let mut seen = Vec::new();
+        for n in 1.. {
+            let image = temp.write(&format!("disc{n}.iso"), &master());
+            let run = full_from(n, &image, args);
+            seen.push(run.status);
+            let now = fs::read(&image).unwrap();
+            let what = format!("{args:?}, full from {n}: {}{}", run.out, run.err);
+            match run.status {
+                // Done; perhaps from the journal, since a page could not be had.
+                0 => assert!(now == after, "{what}"),
+                74 => {
+                    let same = without(&now, place.clone()) == without(&master(), place.clone());
+                    assert!(same, "{what}");
+                    assert!(run.err.contains("nothing was written"), "{what}");
+                }
+                78 => {
+                    assert!(run.err.contains("the image holds a part of the edit"), "{what}");
+                    assert!(journal_of(&image).exists(), "{what}");
+                    done("recover", &image, &[]);
+                    assert!(fs::read(&image).unwrap() == after, "{what}");
+                }
+                _ => panic!("{what}"),
+            }
+            assert!(!journal_of(&image).exists(), "{what}");
+            if run.status == 0 && !run.err.contains("finished from the journal") {
+                break;
+            }
+        }
+        println!("{args:?}: {seen:?}");
+        assert!(seen.contains(&74) && seen.contains(&78), "{args:?}: {seen:?}");
+        // A page could not be had, and the journal did it all the same.
+        rescued += seen.iter().filter(|status| **status == 0).count() - 1;
+    }
+    assert!(rescued > 0);
+}
+
+#[test]
+fn a_journal_that_cannot_be_written_ends_the_edit_before_it_begins() {
+    let temp = Temp::in_memory();
+    // The journal's name would be longer than a name may be.
+    let image = temp.write(&"n".repeat(250), &master());
+    let before = State::of(&image);
+    let run = on("move", &image, &MOVE[1..]);
+    assert_eq!(run.status, 73, "{}", run.err);
+    assert!(run.err.contains("nothing was written"), "{}", run.err);
+    assert_eq!(State::of(&image), before);
+    done("check", &image, &[]);
+}
+
+/// `ulimit -f` ends a program by a signal, unless it minds it.
+#[test]
+fn a_limit_of_a_files_size_is_an_error_like_others() {
+    let temp = Temp::in_memory();
+    let mut seen = Vec::new();
+    for kilobytes in ["0", "1", "64", "100", "1000"] {
+        let image = temp.write("disc.iso", &master());
+        let script = "ulimit -f \"$1\"; exec \"$2\" move \"$3\" film 0x20000 2>&1";
+        let mut command = Command::new("bash");
+        command.args(["-c", script, "bash", kilobytes, env!("CARGO_BIN_EXE_counter")]).arg(&image);
+        let Ok(output) = command.output() else {
+            println!("NOT TRIED: no bash here");
+            return;
+        };
+        let run = Run::from(output);
+        seen.push(run.status);
+        let now = fs::read(&image).unwrap();
+        match run.status {
+            0 => assert!(run.out.ends_with("done: written and synced\n"), "{}", run.out),
+            73 => assert!(now == master(), "{kilobytes}: {}", run.out),
+            74 => {
+                let place = 0x2_0000..0x2_3210;
+                assert!(without(&now, place.clone()) == without(&master(), place), "{}", run.out);
+            }
+            _ => panic!("{kilobytes}: {} {}", run.status, run.out),
+        }
+        assert!(!journal_of(&image).exists(), "{kilobytes}");
+    }
+    assert_eq!(seen, [73, 73, 74, 74, 0]);
+}
