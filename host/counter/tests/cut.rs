@@ -5,7 +5,7 @@ mod support;
 
 use std::fs::{self, File};
 use std::io::Read;
-use std::os::unix::fs::FileExt;
+use std::os::unix::fs::{FileExt, OpenOptionsExt};
 use std::path::{Path, PathBuf};
 use std::process::{Child, Command, Stdio};
 use std::thread;
@@ -51,9 +51,24 @@ impl Stage {
     }
 
     fn start(&self, image: &Path) -> Child {
+        self.command(image).spawn().unwrap()
+    }
+
+    fn command(&self, image: &Path) -> Command {
         let mut command = program();
         command.arg("move").arg(image).args(["movie/intro.thp", &TO.to_string()]);
-        command.stdout(Stdio::piped()).stderr(Stdio::piped()).spawn().unwrap()
+        command.stdout(Stdio::piped()).stderr(Stdio::piped());
+        command
+    }
+
+    /// The same edit, which logs what it writes to a pipe: it comes no further than the log is read.
+    fn start_slowly(&self, image: &Path) -> (Child, File) {
+        let pipe = self.temp.at("log");
+        let _ = fs::remove_file(&pipe);
+        assert!(Command::new("mkfifo").arg(&pipe).status().unwrap().success());
+        let log = File::options().read(true).custom_flags(O_NONBLOCK).open(&pipe).unwrap();
+        let child = self.command(image).env("COUNTER_LOG_WRITES", &pipe).spawn().unwrap();
+        (child, log)
     }
 
     fn film(&self) -> &[u8] {
@@ -105,6 +120,22 @@ fn wait_for(image: &Path, at: u64, zero: bool, child: &mut Child) {
     }
 }
 
+const O_NONBLOCK: i32 = 0x800;
+
+/// Reads so many bytes of the log, or all of it.
+fn read_log(log: &mut File, bytes: usize, child: &mut Child) {
+    let mut part = vec![0; 0x1_0000];
+    let mut left = bytes;
+    while left > 0 {
+        let most = left.min(part.len());
+        match log.read(&mut part[..most]) {
+            Ok(got) if got > 0 => left -= got,
+            _ if child.try_wait().unwrap().is_some() => return,
+            _ => thread::sleep(Duration::from_millis(1)),
+        }
+    }
+}
+
 fn finish(child: Child) -> Run {
     child.wait_with_output().unwrap().into()
 }
@@ -123,12 +154,15 @@ fn a_killed_edit_is_finished_or_never_begun() {
     };
     for turn in 0..18 {
         let image = stage.reset();
-        let mut child = stage.start(&image);
+        let (mut child, mut log) = match turn % 3 {
+            2 => stage.start_slowly(&image),
+            _ => (stage.start(&image), File::open("/dev/null").unwrap()),
+        };
         match turn % 3 {
-            // While the bytes are copied, while the old place is zeroed, at any time.
+            // While the bytes are copied, while the old place is zeroed, at any step.
             0 => wait_for(&image, u64::from(TO + next(SIZE - 4)), false, &mut child),
             1 => wait_for(&image, u64::from(FROM + (next(SIZE - 4) & !3)), true, &mut child),
-            _ => thread::sleep(Duration::from_micros(next(120_000).into())),
+            _ => read_log(&mut log, next(2 * SIZE) as usize, &mut child),
         }
         send(&child, SIGKILL);
         finish(child);
@@ -164,12 +198,13 @@ fn a_signal_during_an_edit_waits_for_its_end() {
     let stage = Stage::new();
     // USR1, USR2, ALRM, VTALRM, PROF, IO, XCPU and a real-time one end a program too.
     let signals = [SIGTERM, SIGINT, 10, 12, 14, 26, 27, 29, 24, 40];
-    let mut caught = 0;
-    for signal in signals {
+    for (i, signal) in signals.into_iter().enumerate() {
         let image = stage.reset();
-        let mut child = stage.start(&image);
-        wait_for(&image, u64::from(TO + 0x1000), false, &mut child);
+        let (mut child, mut log) = stage.start_slowly(&image);
+        // The first one right after the journal was begun, the last while the old place is zeroed.
+        read_log(&mut log, 1 + i * 0x20_0000, &mut child);
         send(&child, signal);
+        read_log(&mut log, usize::MAX, &mut child);
         let run = finish(child);
         assert!(
             run.out.ends_with("done: written and synced\n"),
@@ -178,13 +213,9 @@ fn a_signal_during_an_edit_waits_for_its_end() {
             run.err
         );
         assert_eq!(stage.judge(&image), "all written", "{signal}");
-        // Unless the edit was over before the signal came.
-        if run.signal == Some(signal) {
-            assert!(run.err.contains("came during the edit; the edit is done"), "{}", run.err);
-            caught += 1;
-        }
+        assert_eq!(run.signal, Some(signal), "{}", run.err);
+        assert!(run.err.contains("came during the edit; the edit is done"), "{}", run.err);
     }
-    assert!(caught > 2, "no signal came in time");
 }
 
 #[test]
