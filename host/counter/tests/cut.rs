@@ -5,6 +5,7 @@ mod support;
 
 use std::fs::{self, File};
 use std::io::Read;
+use std::os::fd::AsRawFd;
 use std::os::unix::fs::{FileExt, OpenOptionsExt};
 use std::path::{Path, PathBuf};
 use std::process::{Child, Command, Stdio};
@@ -67,6 +68,8 @@ impl Stage {
         let _ = fs::remove_file(&pipe);
         assert!(Command::new("mkfifo").arg(&pipe).status().unwrap().success());
         let log = File::options().read(true).custom_flags(O_NONBLOCK).open(&pipe).unwrap();
+        // If that is not allowed, it only takes longer.
+        unsafe { fcntl(log.as_raw_fd(), F_SETPIPE_SZ, AT_ONCE) };
         let child = self.command(image).env("COUNTER_LOG_WRITES", &pipe).spawn().unwrap();
         (child, log)
     }
@@ -121,10 +124,18 @@ fn wait_for(image: &Path, at: u64, zero: bool, child: &mut Child) {
 }
 
 const O_NONBLOCK: i32 = 0x800;
+const F_SETPIPE_SZ: i32 = 1031;
+
+/// The edit is at most so many bytes of its log ahead.
+const AT_ONCE: usize = 0x10_0000;
+
+unsafe extern "C" {
+    fn fcntl(fd: i32, command: i32, ...) -> i32;
+}
 
 /// Reads so many bytes of the log, or all of it.
 fn read_log(log: &mut File, bytes: usize, child: &mut Child) {
-    let mut part = vec![0; 0x1_0000];
+    let mut part = vec![0; AT_ONCE];
     let mut left = bytes;
     while left > 0 {
         let most = left.min(part.len());
@@ -162,7 +173,8 @@ fn a_killed_edit_is_finished_or_never_begun() {
             // While the bytes are copied, while the old place is zeroed, at any step.
             0 => wait_for(&image, u64::from(TO + next(SIZE - 4)), false, &mut child),
             1 => wait_for(&image, u64::from(FROM + (next(SIZE - 4) & !3)), true, &mut child),
-            _ => read_log(&mut log, next(2 * SIZE) as usize, &mut child),
+            // The log is longer: it has the copy, and then the zeros.
+            _ => read_log(&mut log, next(2 * SIZE - 0x20_0000) as usize, &mut child),
         }
         send(&child, SIGKILL);
         finish(child);
