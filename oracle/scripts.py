@@ -1,23 +1,18 @@
 #!/usr/bin/env python3
-"""Makes the scripts of the program `replay` (crates/replay/scripts, format: crates/replay/SOURCES.md) and the records that it reads
-(crates/replay/stdin) from them.
+"""Makes the scripts of host/replay (host/replay/scripts, format: host/replay/SOURCES.md), but for sampled.txt.
 
-    oracle/scripts.py                  the records, from the scripts
-    oracle/scripts.py --check          whether the records are those of the scripts
-    oracle/scripts.py --make ORACLE    the scripts too, but for sampled.txt; ORACLE: the program that oracle/build makes
+    oracle/scripts.py ORACLE    ORACLE: the program that oracle/build makes
 
-The calls of --make stand below. An answer comes from the unchanged Rust, which carries out the same call, with the checksum of its image.
+The calls stand below. An answer comes from the unchanged Rust, which carries out the same call, with the checksum of its image.
 Where document 01 says something else than the Rust, or has a limit that the Rust has not, the answer is written here by hand, with the
 reason; the script then insists that the Rust says something else. Each call ends with a comment that says which of the two it is.
-Nothing here comes from the program `replay` or from the crates that it tests."""
+Nothing here comes from the program `replay` or from what it tests."""
 import os
-import re
 import subprocess
 import sys
 
 HERE = os.path.dirname(os.path.abspath(__file__))
-CRATE = os.path.join(HERE, "..", "crates", "replay")
-SCRIPTS = ["edits", "reading", "windows", "tables", "listing", "sampled"]
+SCRIPTS = os.path.join(HERE, "..", "host", "replay", "scripts")
 
 NUMBERS = {
     "Io:UnexpectedEof": 1, "Text:Other:Io:UnexpectedEof": 1, "WiiNotSupported": 2, "InvalidMagic": 3, "Fst:Io:UnexpectedEof": 5,
@@ -1051,6 +1046,7 @@ def fields(s):
 
 
 def windows(s):
+    s.lend(0x1000, 0x1000)
     new_image(s, "the window of file a: seeks at 0, 2^63 and 2^64 - 1", 0x2000, A_AT_500, free=False)
     s.file_window(1)
     s.seek("current", -1, note="P12")
@@ -1224,189 +1220,6 @@ def listings(s):
     s.text("list", 0x80, note="the call has no such bound")
 
 
-# ---- records
-
-# A record has 20 words of 32 bits, big-endian: kind; three numbers; lengths of image, words, bytes, list and text; 0; the sum of what the
-# call has to give, in 64 bits; the window before it, in 64 bits each; the line, and 100,000 times its script's number; 0. Behind it stand the bytes of the text.
-# Kind 1 writes a text over the image, kind 2 copies the image's bytes from one place to another, byte after byte; others are calls.
-KINDS = {"open": 0x10, "totals": 0x11, "entry": 0x12, "lookup": 0x13, "entries": 0x14, "free_regions": 0x15, "max_region_size": 0x16,
-         "max_file_size": 0x17, "allocate": 0x18, "open_file": 0x19, "open_dol": 0x1A, "list": 0x1B, "report": 0x1C, "insert_file": 0x20, "insert_directory": 0x21,
-         "make_directories": 0x22, "move_file": 0x23, "resize_file": 0x24, "rewrite": 0x25, "seek_start": 0x30, "seek_current": 0x31,
-         "seek_end": 0x32, "read": 0x33, "header": 0x34}
-ROOM = 262144
-PRIME = 0x100000001B3
-
-
-def fold(sum_, numbers):
-    for number in numbers:
-        sum_ = (sum_ ^ number) * PRIME % 2 ** 64
-    return sum_
-
-
-def fold_zeros(sum_, count):
-    """The same with so many zeros."""
-    return sum_ * pow(PRIME, count, 2 ** 64) % 2 ** 64
-
-
-def padded(answer, count, filler=0):
-    assert len(answer) <= count, (answer, count)
-    return answer + [filler] * (count - len(answer))
-
-
-class Records:
-    """The records of one script after the other."""
-
-    def __init__(self):
-        self.out = bytearray()
-        self.length = 0
-        self.lent = (0, 0, 0)
-        self.made = self.kept = []
-        self.window = [0, 0, 0]
-        self.calls = 0
-
-    def record(self, kind, numbers, text=b"", sum_=0, window=(0, 0, 0), place=0):
-        words, bytes_, list_ = self.lent
-        assert words <= 16384 or not 0x10 <= kind < 0x20, (kind, words)
-        head = [kind] + padded(list(numbers), 3) + [self.length, words, bytes_, list_, len(text), 0]
-        head += [part for number in (sum_, *window) for part in (number >> 32, number & 0xFFFFFFFF)] + [place, 0]
-        self.out += b"".join(word(number) for number in head) + text
-
-    # ---- lines that set up
-
-    def put(self, at, bytes_):
-        for i in range(0, len(bytes_), 4096):
-            part = bytes_[i:i + 4096]
-            self.record(1, [at + i, len(part)], part)
-
-    def fill(self, at, count, step, bytes_):
-        if step:
-            bytes_ = bytes((b + step * k) % 256 for k in range(256) for b in bytes_)
-        self.put(at, bytes_[:count])
-        if len(bytes_) < count:
-            self.record(2, [at, count - len(bytes_), at + len(bytes_)])
-
-    def zero(self, at):
-        if at < ROOM:
-            self.put(at, b"\0")
-            self.record(2, [at, ROOM - at - 1, at + 1])
-
-    def set_up(self, name, numbers, text):
-        if name == "size":
-            self.length = numbers[0]
-            self.zero(numbers[0])
-        elif name == "patch":
-            self.put(numbers[0], text)
-        elif name == "fill":
-            self.fill(numbers[0], numbers[1], numbers[2] if len(numbers) > 2 else 0, text)
-        elif name == "lend":
-            self.lent = tuple(numbers)
-        elif name == "window":
-            self.window = numbers
-        elif name == "save":
-            self.kept = self.made[:]
-        elif name == "load":
-            kept, self.made = self.kept[:], []
-            self.line("size", [0], b"")
-            for line in kept:
-                self.line(*line)
-        else:
-            return False
-        return True
-
-    def line(self, name, numbers, text):
-        """A line that sets up; what the image was made by is kept, for `load`."""
-        if not self.set_up(name, numbers, text):
-            return False
-        if name == "size" and numbers == [0]:
-            self.made = []
-        if name in ("size", "patch", "fill"):
-            self.made = (self.made or []) + [(name, numbers, text)]
-        return True
-
-    # ---- calls
-
-    def call(self, name, numbers, text, number, answer, expected, place):
-        self.calls += 1
-        kind = KINDS[name]
-        before = list(self.window)
-        arguments = list(numbers)
-        if kind < 0x19:
-            sum_ = self.looked(name, number, answer)
-        elif kind in (0x1B, 0x1C):
-            text = expected + b"." * (numbers[0] - len(expected))
-            sum_ = fold_zeros(fold(number, padded(answer, 1) + list(text)), self.lent[0])
-        elif kind < 0x20:
-            if number == 0:
-                self.window = answer[:3]
-            sum_ = fold(number, padded(answer[:3], 3) + padded(answer[3:], 57))
-            sum_ = fold_zeros(sum_, self.lent[0])
-        elif kind < 0x30:
-            self.made = None if number == 0 else self.made
-            sum_ = fold(number, [answer[1] if len(answer) > 1 else 0, answer[0]])
-            sum_ = fold_zeros(sum_, self.lent[0] + self.lent[1])
-        elif kind < 0x33:
-            if number == 0:
-                self.window = before[:2] + answer
-            sum_ = fold(number, self.window)
-            arguments = [numbers[0] & 0xFFFFFFFF, 0, numbers[0] >> 32]
-        elif kind == 0x33:
-            self.window = before[:2] + [answer[1]]
-            sum_ = fold(number, self.window + [answer[0]] + list(expected))
-            assert len(expected) == numbers[0], (name, numbers, expected)
-            text = expected
-        else:
-            sum_ = fold(number, answer if number == 0 else [fnv(bytes(0x440))])
-        self.record(kind, arguments, text, sum_, before, place)
-
-    def looked(self, name, number, answer):
-        sizes = {"open": 5, "totals": 2, "entry": 4, "lookup": 4, "entries": 5, "free_regions": 1, "max_region_size": 1, "max_file_size": 1,
-                 "allocate": 2}
-        own, listed = answer[:sizes[name]], answer[sizes[name]:]
-        sum_ = number
-        for size in (1, 2, 4, 5):
-            sum_ = fold(sum_, padded(own, size) if size == sizes[name] else [0] * size)
-        return fold_zeros(fold(sum_, padded(listed, self.lent[2], 0xA5A5A5A5)), self.lent[0])
-
-
-WORDS = re.compile(r'"([^"]*)"|:([0-9a-f]*)|(\S+)')
-
-
-def taken(part):
-    """The words of a part of a line: its numbers, and the bytes of its texts."""
-    numbers, bytes_ = [], b""
-    for quoted, digits, other in (match.groups() for match in WORDS.finditer(part)):
-        if other:
-            numbers.append(other)
-        else:
-            bytes_ += quoted.encode("ascii") if quoted is not None else bytes.fromhex(digits)
-    return numbers, bytes_
-
-
-def records():
-    made = Records()
-    for script, name in enumerate(SCRIPTS, 1):
-        with open(os.path.join(CRATE, "scripts", name + ".txt"), encoding="ascii") as file_:
-            text_ = file_.read()
-        at = 1
-        for match in re.finditer(r'((?:"[^"]*"|[^"#\n])*)(#[^\n]*)?\n', text_):
-            line, at = match.group(1), at + match.group(0).count("\n")
-            if line.strip():
-                left, _, right = line.partition(" = ") if " = " in line and '"' not in line.partition(" = ")[0] else halves(line)
-                words, bytes_ = taken(left)
-                numbers = [int(number, 0) for number in words[1:]]
-                if not made.line(words[0], numbers, bytes_):
-                    answer, expected = taken(right)
-                    answer = [int(number, 0) for number in answer]
-                    made.call(words[0], numbers, bytes_, answer[0], answer[1:], expected, script * 100000 + at - match.group(0).count("\n"))
-    return made
-
-
-def halves(line):
-    """A line before and behind its ` = `, which no text holds."""
-    outside = re.match(r'((?:"[^"]*"|[^"=])*) = (.*)', line, re.S)
-    return (outside.group(1), " = ", outside.group(2)) if outside else (line, "", "")
-
-
 def make(oracle):
     s = Script(Oracle(oracle))
     for name, parts in [
@@ -1416,26 +1229,12 @@ def make(oracle):
         s.lines = []
         for part in parts:
             part(s)
-        with open(os.path.join(CRATE, "scripts", name + ".txt"), "w", encoding="ascii") as out:
+        with open(os.path.join(SCRIPTS, name + ".txt"), "w", encoding="ascii") as out:
             out.write("\n".join(s.lines) + "\n")
     print(f"{s.images} images, {s.rust + s.paper} calls: {s.rust} by the Rust, {s.paper} by document 01")
 
 
-def main():
-    if len(sys.argv) > 2 and sys.argv[1] == "--make":
-        make(sys.argv[2])
-    made = records()
-    path = os.path.join(CRATE, "stdin")
-    if sys.argv[1:] == ["--check"]:
-        with open(path, "rb") as old:
-            assert old.read() == made.out, "crates/replay/stdin is not what the scripts give"
-    else:
-        with open(path, "wb") as out:
-            out.write(made.out)
-        with open(os.path.join(CRATE, "stdout"), "w", encoding="ascii") as out:
-            out.write(f"{made.calls} calls, 0 differ\n")
-    print(f"{made.calls} calls, {len(made.out)} bytes of records")
-
-
 if __name__ == "__main__":
-    main()
+    if len(sys.argv) != 2:
+        sys.exit("usage: scripts.py ORACLE")
+    make(sys.argv[1])

@@ -2,9 +2,9 @@
 //! to afterwards: working memory zero; the image as it was, unless an edit was accepted; list words
 //! past the answer, and on a refusal all slots and lists, as they were.
 
-use crate::guarded::{Element, Guarded};
 use crate::language::{Answer, Stop};
 pub use counter_sys::ENTRY_WORDS;
+use counter_sys::guarded::{Element, Guarded};
 use counter_sys::{DOL_WORDS, HEADER_SIZE, call};
 
 /// Words of a list lent beyond what an answer takes.

@@ -4,7 +4,7 @@
 //! lent, in another state than it promises.
 
 mod calls;
-mod guarded;
+
 mod language;
 mod state;
 

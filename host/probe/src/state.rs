@@ -1,9 +1,9 @@
 //! The current image, and the commands.
 
 use crate::calls::{ENTRY_WORDS, Lender};
-use crate::guarded::Guarded;
 use crate::language::{Answer, FNV_START, Stop, Words, fnv, hex, number, signed};
 use counter_sys::ffi;
+use counter_sys::guarded::Guarded;
 use std::collections::HashMap;
 use std::fmt::Write as _;
 use std::fs;

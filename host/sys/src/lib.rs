@@ -4,6 +4,7 @@
 //! it is zero after every call, whatever it held.
 
 pub mod ffi;
+pub mod guarded;
 
 /// A refusal: the number of its cause.
 pub type Answer<T> = Result<T, u32>;

@@ -116,7 +116,7 @@ fn report(counts: &Counts) {
     }
 }
 
-/// Writes a sample of the original's answers for crates/replay.
+/// Writes a sample of the original's answers for host/replay.
 fn write_sample(options: &Options, path: &str) -> std::io::Result<()> {
     let (script, sample) =
         Sample::new(&options.oracle, options.inserts)?.make(options.seed, options.images);

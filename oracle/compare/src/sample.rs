@@ -1,4 +1,4 @@
-//! A fixed sample of the original's answers, as a script of crates/replay: images of many shapes,
+//! A fixed sample of the original's answers, as a script of host/replay: images of many shapes,
 //! calls that look at them and lists of edits. Each expected answer is the original's, or, where the
 //! two differ by an entry of docs/DIFFERENCES.md, 01's number.
 

@@ -1,0 +1,351 @@
+//! A script carried out: the image, what is lent and the window from line to line, and what a call gives.
+
+use crate::script::Part;
+use counter_sys::guarded::{Element, Guarded};
+use counter_sys::{HEADER_SIZE, call};
+
+/// What a call gave, in the form of a script's answer: its number, the words of the answer, and a text.
+#[derive(Debug, Default, PartialEq, Eq)]
+pub struct Given {
+    pub numbers: Vec<u64>,
+    pub text: Vec<u8>,
+}
+
+pub struct Stage {
+    image: Vec<u8>,
+    kept: Vec<u8>,
+    words: usize,
+    bytes: usize,
+    list: usize,
+    window: [u64; 3],
+}
+
+/// What one call is lent; none of it is zero before.
+struct Lent {
+    image: Guarded<u8>,
+    words: Guarded<u32>,
+    bytes: Guarded<u8>,
+    list: Guarded<u32>,
+}
+
+impl Lent {
+    fn of(stage: &Stage) -> Lent {
+        Lent {
+            image: Guarded::of(&stage.image),
+            words: Guarded::new(stage.words),
+            bytes: Guarded::new(stage.bytes),
+            list: Guarded::new(stage.list),
+        }
+    }
+
+    /// Nothing beside what was lent is touched.
+    fn margins_stay(&self) -> bool {
+        self.image.margins_stay()
+            && self.words.margins_stay()
+            && self.bytes.margins_stay()
+            && self.list.margins_stay()
+    }
+}
+
+/// The checksum of the scripts: FNV-1a of 64 bits.
+pub fn checksum(bytes: &[u8]) -> u64 {
+    bytes
+        .iter()
+        .fold(0xcbf2_9ce4_8422_2325, |sum, b| (sum ^ u64::from(*b)).wrapping_mul(0x0100_0000_01b3))
+}
+
+fn holds(promise: bool, broken: &str) -> Result<(), String> {
+    if promise { Ok(()) } else { Err(broken.into()) }
+}
+
+/// A call whose answer is `N` slots: its number, and the slots where it is accepted; they stay where it is refused.
+fn slots<T: Element + Into<u64>, const N: usize>(
+    call: impl FnOnce(&mut [T; N]) -> u32,
+) -> Result<Vec<u64>, String> {
+    let mut slots = Guarded::<T>::new(N);
+    let number = call(slots.slots());
+    holds(slots.margins_stay(), "something beside the slots was written")?;
+    let mut given = vec![u64::from(number)];
+    if number == 0 {
+        given.extend(slots.slice().iter().map(|slot| (*slot).into()));
+    } else {
+        holds(slots.stays_from(0), "a refusal wrote into the slots")?;
+    }
+    Ok(given)
+}
+
+/// `used` words of the list behind the numbers; the others stay.
+fn listed(
+    given: &mut Vec<u64>,
+    list: &Guarded<u32>,
+    each: u64,
+    count: usize,
+) -> Result<(), String> {
+    let used = if given[0] == 0 { given[count] * each } else { 0 } as usize;
+    holds(used <= list.len() && list.stays_from(used), "words behind the list were written")?;
+    given.extend(list.slice()[..used].iter().map(|word| u64::from(*word)));
+    Ok(())
+}
+
+impl Stage {
+    pub fn new() -> Stage {
+        Stage { image: vec![], kept: vec![], words: 0, bytes: 0, list: 0, window: [0; 3] }
+    }
+
+    pub fn image(&self) -> &[u8] {
+        &self.image
+    }
+
+    /// How many words are lent.
+    pub fn words(&self) -> usize {
+        self.words
+    }
+
+    /// A line that makes the image or says what is lent; false where it is a call.
+    pub fn set_up(&mut self, line: &Part) -> Result<bool, String> {
+        let numbers = line.numbers(1)?;
+        let at = |i: usize| numbers.get(i).map(|n| *n as usize).ok_or("a number is missing");
+        match line.words[0].as_str() {
+            "size" => self.image.resize(at(0)?, 0),
+            "patch" => self.fill(at(0)?, line.text.len(), 0, &line.text)?,
+            "fill" => {
+                let step = if numbers.len() > 2 { at(2)? } else { 0 };
+                self.fill(at(0)?, at(1)?, step, &line.text)?
+            }
+            "save" => self.kept = self.image.clone(),
+            "load" => self.image = self.kept.clone(),
+            "lend" => (self.words, self.bytes, self.list) = (at(0)?, at(1)?, at(2)?),
+            "window" => self.window = [at(0)? as u64, at(1)? as u64, at(2)? as u64],
+            _ => return Ok(false),
+        }
+        Ok(true)
+    }
+
+    /// `count` bytes: the text time and again, each time larger by `step`.
+    fn fill(&mut self, at: usize, count: usize, step: usize, text: &[u8]) -> Result<(), String> {
+        let part = self.image.get_mut(at..at + count).ok_or("bytes past the image's end")?;
+        for (i, byte) in part.iter_mut().enumerate() {
+            let turn = (i / text.len()).wrapping_mul(step) as u8;
+            *byte = text[i % text.len()].wrapping_add(turn);
+        }
+        Ok(())
+    }
+
+    /// Carries out a call of the C face.
+    pub fn call(&mut self, line: &Part) -> Result<Given, String> {
+        let name = line.words[0].as_str();
+        let numbers = line.numbers(1)?;
+        let mut lent = Lent::of(self);
+        let given = match name {
+            "insert_file" | "insert_directory" | "make_directories" | "move_file"
+            | "resize_file" | "rewrite" => self.edit(name, &numbers, &line.text, &mut lent)?,
+            "seek_start" | "seek_current" | "seek_end" | "read" => {
+                self.on_window(name, &numbers, &lent)?
+            }
+            _ => self.look(name, &numbers, &line.text, &mut lent)?,
+        };
+        holds(lent.margins_stay(), "something beside what was lent was written")?;
+        Ok(given)
+    }
+
+    fn edit(
+        &mut self,
+        name: &str,
+        numbers: &[u64],
+        text: &[u8],
+        l: &mut Lent,
+    ) -> Result<Given, String> {
+        let at = |i: usize| word(numbers, i);
+        let mut numbers = match name {
+            "move_file" => {
+                let (a, b) = (at(0)?, at(1)?);
+                slots::<u32, 0>(|_| unsafe {
+                    call!(counter_move_file(mut l.image.slice_mut(), mut l.words.slice_mut(), mut l.bytes.slice_mut(), = a, = b))
+                })?
+            }
+            "resize_file" => {
+                let (a, b) = (at(0)?, at(1)?);
+                slots::<u32, 0>(|_| unsafe {
+                    call!(counter_resize_file(mut l.image.slice_mut(), mut l.words.slice_mut(), mut l.bytes.slice_mut(), = a, = b))
+                })?
+            }
+            "rewrite" => slots::<u32, 0>(|_| unsafe {
+                call!(counter_rewrite(mut l.image.slice_mut(), mut l.words.slice_mut(), mut l.bytes.slice_mut()))
+            })?,
+            _ => {
+                let a = at(0)?;
+                slots::<u32, 1>(|s| unsafe {
+                    match name {
+                        "insert_file" => {
+                            call!(counter_insert_file(mut l.image.slice_mut(), mut l.words.slice_mut(), mut l.bytes.slice_mut(), = a, in text, = s))
+                        }
+                        "insert_directory" => {
+                            call!(counter_insert_directory(mut l.image.slice_mut(), mut l.words.slice_mut(), mut l.bytes.slice_mut(), = a, in text, = s))
+                        }
+                        _ => {
+                            call!(counter_make_directories(mut l.image.slice_mut(), mut l.words.slice_mut(), mut l.bytes.slice_mut(), = a, in text, = s))
+                        }
+                    }
+                })?
+            }
+        };
+        holds(l.words.is_zero() && l.bytes.is_zero(), "working memory is not zero")?;
+        holds(numbers[0] == 0 || l.image.slice() == self.image, "a refusal changed the image")?;
+        self.image.copy_from_slice(l.image.slice());
+        numbers.insert(1, checksum(&self.image));
+        Ok(Given { numbers, text: vec![] })
+    }
+
+    fn look(
+        &mut self,
+        name: &str,
+        numbers: &[u64],
+        text: &[u8],
+        l: &mut Lent,
+    ) -> Result<Given, String> {
+        let at = |i: usize| word(numbers, i);
+        let image = l.image.slice();
+        let words = l.words.slice_mut();
+        let mut buffer = Guarded::<u8>::new(0);
+        let mut given = match name {
+            "header" => {
+                let mut fields = Guarded::<u8>::new(HEADER_SIZE);
+                let number = unsafe { call!(counter_header(in image, = fields.slots())) };
+                holds(number == 0 || fields.stays_from(0), "a refusal wrote the header")?;
+                holds(fields.margins_stay(), "something beside the header was written")?;
+                let mut given = vec![u64::from(number)];
+                given.extend((number == 0).then(|| checksum(fields.slice())));
+                return Ok(Given { numbers: given, text: vec![] });
+            }
+            "open" => {
+                slots::<u32, 5>(|s| unsafe { call!(counter_open(in image, mut words, = s)) })?
+            }
+            "totals" => {
+                slots::<u32, 2>(|s| unsafe { call!(counter_totals(in image, mut words, = s)) })?
+            }
+            "entry" => {
+                let a = at(0)?;
+                slots::<u32, 4>(|s| unsafe { call!(counter_entry(in image, mut words, = a, = s)) })?
+            }
+            "lookup" => {
+                let a = at(0)?;
+                slots::<u32, 4>(|s| unsafe {
+                    call!(counter_lookup(in image, mut words, = a, in text, = s))
+                })?
+            }
+            "entries" => slots::<u32, 5>(|s| unsafe {
+                call!(counter_entries(in image, mut words, mut l.list.slice_mut(), = s))
+            })?,
+            "free_regions" => slots::<u32, 1>(|s| unsafe {
+                call!(counter_free_regions(in image, mut words, mut l.list.slice_mut(), = s))
+            })?,
+            "max_region_size" => {
+                let (a, b) = (at(0)?, at(1)?);
+                slots::<u32, 1>(|s| unsafe {
+                    call!(counter_max_region_size(in image, mut words, = a, = b, = s))
+                })?
+            }
+            "max_file_size" => {
+                let a = at(0)?;
+                slots::<u32, 1>(|s| unsafe {
+                    call!(counter_max_file_size(in image, mut words, = a, = s))
+                })?
+            }
+            "allocate" => {
+                let (a, b) = (at(0)?, at(1)?);
+                slots::<u32, 2>(|s| unsafe {
+                    call!(counter_allocate(in image, mut words, = a, = b, = s))
+                })?
+            }
+            "open_file" => {
+                let a = at(0)?;
+                slots::<u64, 3>(|s| unsafe {
+                    call!(counter_open_file(in image, mut words, = a, = s))
+                })?
+            }
+            "open_dol" => {
+                let mut header = vec![];
+                let mut given = slots::<u64, 3>(|s| {
+                    let mut number = 0;
+                    header = slots::<u32, 57>(|h| {
+                        number = unsafe { call!(counter_open_dol(in image, mut words, = h, = s)) };
+                        number
+                    })
+                    .unwrap_or_default();
+                    number
+                })?;
+                holds(!header.is_empty(), "the header's slots are not as they have to be")?;
+                given.extend(&header[1..]);
+                given
+            }
+            "list" | "report" => {
+                buffer = Guarded::new(at(0)? as usize);
+                slots::<u64, 1>(|s| unsafe {
+                    match name {
+                        "list" => {
+                            call!(counter_list(in image, mut words, mut buffer.slice_mut(), = s))
+                        }
+                        _ => {
+                            call!(counter_report(in image, mut words, mut buffer.slice_mut(), = s))
+                        }
+                    }
+                })?
+            }
+            _ => return Err(format!("`{name}` is no call")),
+        };
+        holds(l.words.is_zero(), "working memory is not zero")?;
+        holds(l.image.slice() == self.image, "a call that reads changed the image")?;
+        match name {
+            "entries" => listed(&mut given, &l.list, 6, 4)?,
+            "free_regions" => listed(&mut given, &l.list, 2, 1)?,
+            "open_file" | "open_dol" if given[0] == 0 => {
+                self.window = [given[1], given[2], given[3]]
+            }
+            _ => {}
+        }
+        let used = if given[0] == 0 && buffer.len() > 0 { given[1] as usize } else { 0 };
+        holds(
+            used <= buffer.len() && buffer.stays_from(used),
+            "bytes behind the text were written",
+        )?;
+        Ok(Given { numbers: given, text: buffer.slice()[..used].to_vec() })
+    }
+
+    fn on_window(&mut self, name: &str, numbers: &[u64], l: &Lent) -> Result<Given, String> {
+        let to = *numbers.first().ok_or("a number is missing")?;
+        let mut window = Guarded::of(&self.window);
+        if name == "read" {
+            let mut buffer = Guarded::of(&vec![b'.'; to as usize]);
+            let mut given = slots::<u64, 1>(|s| unsafe {
+                call!(counter_read(= window.slots(), in l.image.slice(), mut buffer.slice_mut(), = s))
+            })?;
+            holds(
+                buffer.margins_stay() && window.margins_stay(),
+                "something beside the buffer was written",
+            )?;
+            self.window.copy_from_slice(window.slice());
+            given.push(self.window[2]);
+            return Ok(Given { numbers: given, text: buffer.slice().to_vec() });
+        }
+        let number = unsafe {
+            match name {
+                "seek_start" => call!(counter_seek_start(= window.slots(), = to)),
+                "seek_current" => call!(counter_seek_current(= window.slots(), = to as i64)),
+                _ => call!(counter_seek_end(= window.slots(), = to as i64)),
+            }
+        };
+        holds(window.margins_stay(), "something beside the window was written")?;
+        let after = window.slice();
+        holds(after[..2] == self.window[..2], "a seek moved the window itself")?;
+        holds(number == 0 || after == self.window, "a refusal changed the window")?;
+        self.window.copy_from_slice(after);
+        let mut numbers = vec![u64::from(number)];
+        numbers.extend((number == 0).then_some(self.window[2]));
+        Ok(Given { numbers, text: vec![] })
+    }
+}
+
+fn word(numbers: &[u64], i: usize) -> Result<u32, String> {
+    let number = numbers.get(i).ok_or("a number is missing")?;
+    u32::try_from(*number).map_err(|_| format!("{number} has more than 32 bits"))
+}
