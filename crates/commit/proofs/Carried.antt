@@ -4,7 +4,9 @@ use Prim.Native.Nat.{ℕ}
 use mathlib.Core.Path.{_≡_, ap, _∙_}
 use mathlib.Core.List.{List}
 use lib.ListN.{length, replicate}
+use Rattle.endian.specs.Bytes.{span}
 use Rattle.refusal.specs.declared.Verdict.{Verdict}
+use Rattle.refusal.specs.declared.Verdict.the-variants.{Passed}
 use Rattle.opening.specs.Opening.{opening}
 use Rattle.commit.specs.declared.Writing.{Writing}
 use Rattle.commit.specs.declared.Decision.{Decision}
@@ -12,13 +14,19 @@ use Rattle.commit.specs.declared.Decision.the-variants as decision
 use Rattle.edits.specs.Change.{Plan}
 use Rattle.edits.specs.Edits.{Edit, planned, planOf, planNumber, verdictOf}
 use Rattle.edits.specs.Promise.{lent, onlyVerdict, Edited}
-use Rattle.commit.specs.Inner.Decision.{Fits, CanCarry, carriedVerdict, carriedImage, Decided}
+use Rattle.commit.specs.Inner.Decision.{Fits, CanCarry, writtenWith, carriedVerdict, carriedImage, Decided}
 use Rattle.commit.proofs.Decisions.{edit-decided}
 
 -- ---- by the cases of the decision
 
 pub write-fits : (image : List ℕ) (room : ℕ) (d : Decision) (size : ℕ) (w : Writing) → CanCarry image room d → d ≡ decision.Write size w → Fits image room size w
 write-fits image room d size w h e = rw e at h
+
+pub write-answered : (d : Decision) (size : ℕ) (w : Writing) → d ≡ decision.Write size w → Passed ≡ carriedVerdict d
+write-answered d size w e = rw e
+
+pub write-image : (d : Decision) (size : ℕ) (w : Writing) (image bytes after : List ℕ) → d ≡ decision.Write size w → after ≡ writtenWith w (span bytes 0 size) image → after ≡ carriedImage d bytes image
+write-image d size w image bytes after e h = rw e h
 
 -- ---- the whole edit
 

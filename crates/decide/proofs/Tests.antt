@@ -12,7 +12,7 @@ use Rattle.refusal.specs.declared.Refusal.{Refusal}
 use Rattle.refusal.specs.declared.Refusal.the-variants.{OverlappingMove, NotEnoughSpace}
 use Rattle.refusal.specs.declared.Verdict.the-variants.{Passed, Refused}
 use Rattle.header.specs.Verdicts.{fstOffset, tableEnd}
-use Rattle.tree.specs.Table.{none, nodesOf, check}
+use Rattle.tree.specs.Table.{none, nodesOf}
 use Rattle.tree.specs.Lookup.{entryFound}
 use Rattle.tree.specs.declared.Entry.{Entry}
 use Rattle.tree.specs.declared.Found.{Found}
@@ -20,10 +20,9 @@ use Rattle.tree.specs.declared.Found.the-variants as found
 use Rattle.space.specs.declared.DiscRegion.{DiscRegion}
 use Rattle.space.specs.Used.{endOf}
 use Rattle.free_space.specs.MaxRegionSize.{maxRegionSize}
-use Rattle.opening.specs.Opening.{opening, nodesIn, regionOf}
+use Rattle.opening.specs.Opening.{nodesIn, regionOf}
 use Rattle.opening.proofs.Tests.{part-table}
 use Rattle.edits.specs.Edits.{fileVerdict, overlapsItself, relocateVerdict}
-use Rattle.commit.proofs.Images.{checked}
 use Rattle.decide.specs.declared.FileAt.{FileAt}
 use Rattle.decide.specs.declared.FileAt.the-variants as place
 use Rattle.decide.specs.Inner.Files.{fileOf, fileAs}
@@ -63,9 +62,6 @@ larger-stays n size r most h e = rw (lt-leb n size h) (ap (leb n) e)
 module _ (image : List ℕ) (from to : ℕ) (start : from ≡ fstOffset image) (end : to ≡ tableEnd image) where
   abbrev slice : List ℕ
   slice = take (to - from) (drop from image)
-
-  pub slice-accepted : (words : ℕ) → opening image words ≡ Passed → check slice words ≡ Passed
-  slice-accepted words e = rw (part-table image from to start end) (checked image words e)
 
   module _ (k : ℕ) (r : Found) (read : r ≡ entryFound (nodesOf slice) k) where
     read-is : r ≡ entryFound (nodesIn image) k

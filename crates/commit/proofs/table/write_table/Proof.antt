@@ -12,8 +12,8 @@ use Rattle.commit.proofs.table.write_table.Statement.{statement}
 use Rattle.commit.proofs.table.write_table.Tie as tie
 
 -- what holds at entry
-inside : (c : tie.After-slice-known) → let s = c .before .before in tableEnd (now (s .args .image)) ≤ length (now (s .args .image))
-inside c = let s = c .before .before in table-inside _ _ (opens (now (s .args .image)) (s .pre .0 .words) (λ i. omega (arith, c .before .shared-slice-known .given i)) (s .pre .0 .passed))
+inside : (c : tie.After-shared-slice-known) → let s = c .before in tableEnd (now (s .args .image)) ≤ length (now (s .args .image))
+inside c = let s = c .before in table-inside _ _ (opens (now (s .args .image)) (s .pre .0 .words) (λ i. omega (arith, c .shared-slice-known .given i)) (s .pre .0 .passed))
 
 fst-offset-requires : tie.Need-fst-offset-requires
 fst-offset-requires c κs = search needs

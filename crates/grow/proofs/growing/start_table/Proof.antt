@@ -12,8 +12,8 @@ use Rattle.grow.proofs.growing.start_table.Statement.{statement}
 use Rattle.grow.proofs.growing.start_table.Tie as tie
 
 -- what holds at entry
-known : (c : tie.After-slice-known) → let s = c .before .before .before in OpenImage (now (s .args .image)) (length (now (s .args .words)))
-known c = let s = c .before .before .before in opens (now (s .args .image)) (length (now (s .args .words))) (λ i. omega (arith, c .before .before .shared-slice-known .given i)) (s .pre .passed)
+known : (c : tie.After-shared-slice-known) → let s = c .before in OpenImage (now (s .args .image)) (length (now (s .args .words)))
+known c = let s = c .before in opens (now (s .args .image)) (length (now (s .args .words))) (λ i. omega (arith, c .shared-slice-known .given i)) (s .pre .passed)
 
 fst-offset-requires : tie.Need-fst-offset-requires
 fst-offset-requires c κs = search needs

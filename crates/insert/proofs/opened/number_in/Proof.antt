@@ -15,8 +15,8 @@ use Rattle.insert.proofs.opened.number_in.Statement.{statement}
 use Rattle.insert.proofs.opened.number_in.Tie as tie
 
 -- what holds at entry
-inside : (c : tie.After-shared-slice-known2) → let s = c .before .before in tableEnd (now (s .args .image)) ≤ length (now (s .args .image))
-inside c = let s = c .before .before in table-inside _ _ (opens (now (s .args .image)) (s .pre .words) (λ i. omega (arith, c .before .shared-slice-known .given i)) (s .pre .passed))
+inside : (c : tie.After-shared-slice-known) → let s = c .before in tableEnd (now (s .args .image)) ≤ length (now (s .args .image))
+inside c = let s = c .before in table-inside _ _ (opens (now (s .args .image)) (s .pre .words) (λ i. omega (arith, c .shared-slice-known .given i)) (s .pre .passed))
 
 fst-offset-requires : tie.Need-fst-offset-requires
 fst-offset-requires c κs = search needs
