@@ -1,5 +1,8 @@
 -- What the proofs of the functions cite.
+pub mod BuiltTable
+pub mod Finished
 pub mod GrowthLaws
+pub mod Limits
 pub mod NameLaws
 pub mod NumberLaws
 pub mod StandingTable

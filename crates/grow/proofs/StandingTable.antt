@@ -56,6 +56,9 @@ module _ (s : List ℕ) (size words : ℕ) (st : Stands s size words) where
   pub inside : Within M words
   inside = within-limits M words (st .within)
 
+  pub few-entries : length M ≤ 16384
+  few-entries = inside .few
+
   pub entry-held : (k : ℕ) → k < length M → 12 * k + 12 ≤ length s
   entry-held k h = omega (arith, size-is, length-encode M, st .held)
 
@@ -74,6 +77,9 @@ module _ (s : List ℕ) (size words : ℕ) (st : Stands s size words) where
 
   pub stored-parent : (k : ℕ) → IsDirectory M k → be32 s (12 * k + 4) ≡ parentOf M k
   stored-parent k d = let x = is-directory (getD M k none) (d .kind) in directory-fields k _ (x .0) (d .inside) (x .1) .0
+
+  pub parent-read : (k r : ℕ) → IsDirectory M k → r ≡ be32 s (12 * k + 4) → r ≡ parentOf M k
+  parent-read k r d e = e ∙ stored-parent k d
 
   pub count-is : be32 s 8 ≡ length M
   count-is = directory-fields 0 (length M) _ (not-empty M (st .well)) (root-is M (st .well)) .1
@@ -112,6 +118,12 @@ pub depth-done : (nodes : List Node) (k at n : ℕ) → Counted nodes k at n →
 depth-done nodes k at n c h =
     let z : at ≡ 0 = omega arith in
     omega (arith, c .counted, ap (depthOf nodes) z, depth-root nodes)
+
+pub depth-falls : (s : List ℕ) (size words k at n up : ℕ) → Stands s size words → Counted (treeIn s size) k at n → 0 < at → up ≡ parentOf (treeIn s size) at → up < at
+depth-falls s size words k at n up st c z e = depth-up s size words k at n up st c z e .0
+
+pub depth-turn : (s : List ℕ) (size words k at n up : ℕ) → Stands s size words → Counted (treeIn s size) k at n → 0 < at → up ≡ parentOf (treeIn s size) at → Counted (treeIn s size) k up (n + 1)
+depth-turn s size words k at n up st c z e = depth-up s size words k at n up st c z e .1
 
 -- ---- a tree that was built stands there
 

@@ -1,6 +1,6 @@
 -- The plan of an insert, and what its tests leave. Assumes nothing.
 use Prim.Native.Nat.{ℕ}
-use mathlib.Core.Path.{_≡_, refl}
+use mathlib.Core.Path.{_≡_, refl, sym, _∙_}
 use mathlib.Core.Bool.{Bool, true, false, not}
 use mathlib.Core.List.{List}
 use borrow.Author.Tests.{leb-false}
@@ -15,8 +15,17 @@ use Rattle.tree.specs.Inner.WellFormed.{GoodName}
 use Rattle.tree.specs.Lookup.{isDirectory, childOf}
 use Rattle.opening.specs.Opening.{nodesIn}
 use Rattle.edits.specs.Change.{change}
-use Rattle.edits.specs.Edits.{tableOnly, newNumber, isFound, insertVerdict, planned, planOf}
+use Rattle.edits.specs.Edits.{tableOnly, newNumber, isFound, insertVerdict, planned, planOf, numberedAs}
 use Rattle.grow.specs.Inner.Growth.{IsDirectory, added}
+use Rattle.refusal.specs.declared.Refusal.{Refusal}
+use Rattle.tree.specs.declared.Located.{Located}
+use Rattle.tree.specs.declared.Located.the-variants as located
+use Rattle.commit.specs.declared.TableSize.{TableSize}
+use Rattle.commit.specs.Inner.Decision.{Decided}
+use Rattle.grow.specs.declared.Grown.{Grown}
+use Rattle.grow.specs.declared.Grown.the-variants as grown
+use Rattle.grow.specs.Inner.Grown.{tableDecision, grownAs, Numbered}
+use Rattle.grow.proofs.NumberLaws.{number-refused, number-at, change-numbered, behind-numbered, behind-refused-numbered}
 use Rattle.insert.specs.Inner.Insertion.{insertion}
 
 pub plan-insert : (d : Bool) (p : ℕ) (nm image : List ℕ) →
@@ -37,3 +46,30 @@ insert-allows nodes p nm e =
     let f = refuse-passed (isFound (childOf nodes p nm)) AlreadyExists _ (d .1) in
     let g = refuse-passed (not (plain nm)) InvalidNameByte _ (f .1) in
     (record { inside = leb-false (length nodes) p (a .0); kind = not-off _ (d .0) }, (not-off _ (g .0), not-off _ (b .0)))
+
+-- ---- an insert, decided on once its number was found
+
+module _ (image : List ℕ) (p : ℕ) (nm : List ℕ) (r : Located) (numbered : r ≡ numberedAs (insertVerdict (nodesIn image) p nm) (newNumber (nodesIn image) p)) where
+  found-at : (k : ℕ) → r ≡ located.At k → (insertVerdict (nodesIn image) p nm ≡ Passed) × (newNumber (nodesIn image) p ≡ k)
+  found-at k e = number-at (insertVerdict (nodesIn image) p nm) (newNumber (nodesIn image) p) k (sym numbered ∙ e)
+
+  pub into-directory : (k : ℕ) → r ≡ located.At k → IsDirectory (nodesIn image) p
+  into-directory k e = insert-allows (nodesIn image) p nm (found-at k e .0) .0
+
+  pub under-name : (k : ℕ) → r ≡ located.At k → GoodName nm
+  under-name k e = insert-allows (nodesIn image) p nm (found-at k e .0) .1
+
+  module _ (d : Bool) (words room : ℕ) (bytes : List ℕ) where
+    pub insert-refused : (c : Refusal) → r ≡ located.Refused c → Numbered (planOf (insertion d p nm) image) image words room bytes (grown.Refused c)
+    insert-refused c e =
+        rw (plan-insert d p nm image)
+        (behind-refused-numbered image words room bytes (insertVerdict (nodesIn image) p nm) (change (newNumber (nodesIn image) p) (tableOnly (added (nodesIn image) d p nm))) c
+        (number-refused (insertVerdict (nodesIn image) p nm) (newNumber (nodesIn image) p) c (sym numbered ∙ e)))
+
+    pub insert-numbered : (k : ℕ) (b : TableSize) (g : Grown) → r ≡ located.At k → Decided (change 0 (tableOnly (added (nodesIn image) d p nm))) image words room bytes (tableDecision b) → g ≡ grownAs b k →
+        Numbered (planOf (insertion d p nm) image) image words room bytes g
+    insert-numbered k b g e h f =
+        let a = found-at k e in
+        rw (plan-insert d p nm image, f)
+        (behind-numbered image words room bytes (insertVerdict (nodesIn image) p nm) (change (newNumber (nodesIn image) p) (tableOnly (added (nodesIn image) d p nm))) (grownAs b k) (a .0)
+        (change-numbered image words room bytes (newNumber (nodesIn image) p) k (tableOnly (added (nodesIn image) d p nm)) b (sym (a .1)) h))

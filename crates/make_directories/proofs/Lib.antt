@@ -1,3 +1,5 @@
 -- What the proofs of the functions cite.
-pub mod Turns
+pub mod Outcomes
 pub mod Plans
+pub mod Steps
+pub mod Turns

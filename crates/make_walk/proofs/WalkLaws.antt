@@ -1,6 +1,6 @@
 -- The walk that finds the troubles of a path, a component at a time: each step leaves what the whole has. Assumes nothing.
 use Prim.Native.Nat.{ℕ, zero, suc, _+_, _-_, _<_, _≤_}
-use mathlib.Core.Path.{_≡_, refl, _∙_}
+use mathlib.Core.Path.{_≡_, refl, sym, _∙_}
 use mathlib.Core.Bool.{Bool, true, false, cond, not, _||_}
 use mathlib.Core.List.{List, [], _∷_}
 use native.Mathlib.Omega.{arith}
@@ -14,7 +14,8 @@ use Rattle.refusal.specs.declared.Verdict.{Verdict}
 use Rattle.refusal.specs.declared.Verdict.the-variants as verdict
 use Rattle.tree.specs.declared.Located.{Located}
 use Rattle.tree.specs.declared.Located.the-variants as located
-use Rattle.tree.specs.Table.{Node, none, plain, safe, parentOf}
+use Rattle.tree.specs.Table.{Node, none, count, nodesOf, plain, safe, parentOf}
+use Rattle.tree.specs.Laws.Accepted.{length-nodesOf}
 use Rattle.tree.specs.Inner.WellFormed.{WellFormed}
 use Rattle.tree.specs.Lookup.{isDirectory, components, childOf, stays, goesBack}
 use Rattle.tree.specs.Laws.LookupLaws.{child-inside}
@@ -149,3 +150,26 @@ module _ {nodes : List Node} {start : ℕ} {path : List ℕ} {k level : ℕ} {ba
   walk-turn j n b q h l =
       let i = step-inside nodes start k bad w (f .inside) level nm j n b q in
       record { inside = i .0; levels = omega (arith, f .levels); at-most = omega arith; left = stepped (To j n b) q ∙ rw (lt-ltb e (length path) l) }
+
+-- ---- the walk through the tree of a table, by what the code found
+
+pub walk-from : (tab : List ℕ) (start : ℕ) (path : List ℕ) → start < count tab → Walking (nodesOf tab) start path start 0 false 0
+walk-from tab start path h = walk-start (nodesOf tab) start path (rw (length-nodesOf tab) h)
+
+pub walks-inside : (tab : List ℕ) (start : ℕ) (path : List ℕ) (k level : ℕ) (bad : Bool) (at : ℕ) → Walking (nodesOf tab) start path k level bad at → k < count tab
+walks-inside tab start path k level bad at f = omega (arith, f .inside, length-nodesOf tab)
+
+module _ (tab : List ℕ) (start : ℕ) (path : List ℕ) (k level : ℕ) (bad : Bool) (at e : ℕ) (nm : List ℕ) (s : Step) (f : Walking (nodesOf tab) start path k level bad at)
+    (cut : components (drop at path) ≡ nm ∷ componentsAfter path e) (took : s ≡ stepOf (nodesOf tab) start k level bad nm) (w : WellFormed (nodesOf tab)) where
+  pub walk-stops : (c : Refusal) → s ≡ Refused c → verdict.Refused c ≡ troubleOf (nodesOf tab) start start 0 false (components path)
+  walk-stops c q = sym (walk-refused w f e nm cut c (sym took ∙ q))
+
+  module _ (j n : ℕ) (b : Bool) (went : s ≡ To j n b) where
+    pub walk-lands-inside : j < count tab
+    walk-lands-inside = omega (arith, walk-lands w f e nm cut j n b (sym took ∙ went), length-nodesOf tab)
+
+    pub walk-ends : (r : Verdict) → length path ≤ e → r ≡ lastVerdict (nodesOf tab) j n b → r ≡ troubleOf (nodesOf tab) start start 0 false (components path)
+    walk-ends r h q = q ∙ sym (walk-end w f e nm cut j n b (sym took ∙ went) h)
+
+    pub walk-goes-on : at ≤ e → e < length path → Walking (nodesOf tab) start path j n b (e + 1)
+    walk-goes-on h l = walk-turn w f e nm cut j n b (sym took ∙ went) h l

@@ -1,11 +1,7 @@
 -- `insert::decide` meets its contract: refused by opening, or what is decided on the open image.
 -- Assumes nothing.
 use Rattle.grow.proofs.NumberLaws.{open-numbered, unopened-numbered}
-use Rattle.insert.specs.Inner.Insertion.{insertion}
 use Rattle.commit.proofs.Decisions.{is-open}
-use Rattle.edits.specs.Edits.{planOf}
-use lib.ListN.{length}
-use denote.Ref.{now}
 use borrow.Author.Needs.{needs}
 use Rattle.insert.proofs.decide.Statement.{statement}
 use Rattle.insert.proofs.decide.Tie as tie
@@ -20,13 +16,13 @@ enum-known-prepared-2 : tie.Need-enum-known-prepared-2
 enum-known-prepared-2 c = search needs
 
 insert-requires : tie.Need-insert-requires
-insert-requires c κs = let s = c .before .before .before .before .before .before .before .before .before .before .before .before .before in is-open (now (s .args .image)) (now (s .args .words)) _ _ _ (c .before .before .before .before .before .before .before .prepare .ensures) (c .before .before .before .prepared2 .given .1) (c .before .before .before .before .before .before .before .prepare .kept .1 .0)
+insert-requires c κs = search is-open
 
 same-length : tie.Need-same-length
 same-length c = search needs
 
 returns : tie.Need-returns
-returns c = let s = c .before .before .before .before .before .before .before .before .before .before .before in let image = now (s .args .image) in let w = now (s .args .words) in let room = length (now (s .args .bytes)) in let ed = insertion (s .args .is-directory) (s .args .parent) (now (s .args .name)) in unopened-numbered image w _ _ _ room _ (planOf ed image) (c .before .before .before .before .before .prepare .ensures) (c .before .prepared .given .1)
+returns c = search unopened-numbered
 
 same-length-2 : tie.Need-same-length-2
 same-length-2 c = search needs
@@ -35,7 +31,7 @@ same-length-3 : tie.Need-same-length-3
 same-length-3 c = search needs
 
 returns-2 : tie.Need-returns-2
-returns-2 c = let s = c .before .before .before .before .before .before .before .before .before .before .before .before .before .before .before .before in let image = now (s .args .image) in let w = now (s .args .words) in let room = length (now (s .args .bytes)) in let ed = insertion (s .args .is-directory) (s .args .parent) (now (s .args .name)) in open-numbered image w _ _ _ room _ (planOf ed image) _ (c .before .before .before .before .before .before .before .before .before .before .prepare .ensures) (c .before .before .before .before .before .before .prepared2 .given .1) (c .before .before .before .before .before .before .before .before .before .before .prepare .kept .1 .0) (c .before .before .insert .ensures)
+returns-2 c = search open-numbered
 
 pub decide-spec : {M : Type 1} → statement M
 decide-spec =

@@ -1,12 +1,6 @@
 -- `insert::insert` meets its contract: what is decided on is carried out, and the working memory zeroed.
 -- Assumes nothing.
-use Rattle.grow.proofs.NumberLaws.{number-answer}
-use Rattle.insert.specs.Inner.Insertion.{insertion}
-use Rattle.commit.proofs.Decisions.{edit-decided}
-use lib.ListN.{length, replicate}
-use denote.Ref.{now}
-use Prim.Native.Nat.{ℕ}
-use mathlib.Core.Path.{ap, _∙_}
+use Rattle.grow.proofs.Finished.{numbered-fits, numbered-edited}
 use borrow.Author.Needs.{needs}
 use Rattle.insert.proofs.insert.Statement.{statement}
 use Rattle.insert.proofs.insert.Tie as tie
@@ -15,7 +9,7 @@ decide-requires : tie.Need-decide-requires
 decide-requires c κs = search needs
 
 finish-requires : tie.Need-finish-requires
-finish-requires c κs = rw (c .before .before .before .before .before .before .before .decide .kept .1 .1 .0) (c .before .before .before .before .before .before .before .decide .ensures .decided .fits)
+finish-requires c κs = search numbered-fits
 
 same-length : tie.Need-same-length
 same-length c = search needs
@@ -27,13 +21,7 @@ same-length-3 : tie.Need-same-length-3
 same-length-3 c = search needs
 
 returns : tie.Need-returns
-returns c = let s = c .before .before .before .before .before .before .before .before .before .before .before .before .before .before .before .before .before .before .before .before .before .before in
-    let image = now (s .args .image) in
-    let ed = insertion (s .args .is-directory) (s .args .parent) (now (s .args .name)) in
-    let d = c .before .before .before .before .before .before .before .before .before .before .before .before .before .before .decide in
-    let f = c .before .before .before .before .before .before .finish .ensures in
-    let e = edit-decided image (length (now (s .args .words))) (length (now (s .args .bytes))) _ ed _ (d .ensures .decided) in
-    record { answered = f .0 .0 ∙ number-answer image (length (now (s .args .words))) (length (now (s .args .bytes))) _ ed _ (d .ensures); image = f .0 .1 ∙ e .1; words = f .1 .0 ∙ ap (λ (n : ℕ). replicate n 0) (d .kept .1 .0); bytes = f .1 .1 ∙ ap (λ (n : ℕ). replicate n 0) (d .kept .1 .1 .0) }
+returns c = search numbered-edited
 
 pub insert-spec : {M : Type 1} → statement M
 insert-spec =

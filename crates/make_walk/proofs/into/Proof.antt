@@ -1,5 +1,6 @@
 -- `make_walk::into` meets its contract: by what the search for a child answered.
 -- Assumes nothing.
+use Rattle.make_walk.proofs.Steps.{child-found, child-missing}
 use borrow.Author.Needs.{needs}
 use Rattle.make_walk.proofs.into.Statement.{statement}
 use Rattle.make_walk.proofs.into.Tie as tie
@@ -20,10 +21,10 @@ into-new-requires : tie.Need-into-new-requires
 into-new-requires c κs = search needs
 
 returns : tie.Need-returns
-returns c = rw (← c .before .before .before .child .ensures, c .before .j .given .1)
+returns c = search child-found
 
 returns-2 : tie.Need-returns-2
-returns-2 c = rw (← c .before .before .before .child .ensures, c .before .enum-told .given .1) (c .into-new .ensures)
+returns-2 c = search child-missing
 
 pub into-spec : {M : Type 1} → statement M
 into-spec =

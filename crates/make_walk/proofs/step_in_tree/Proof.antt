@@ -1,11 +1,6 @@
 -- `make_walk::step_in_tree` meets its contract: each return by the tests that led there.
 -- Assumes nothing.
-use mathlib.Core.Path.{_≡_, sym, _∙_}
-use mathlib.Core.Bool.{true, false}
-use borrow.Author.Tests.{not-true, not-false}
-use lib.ListN.{getD}
-use Rattle.tree.specs.Table.{none, nodesOf}
-use Rattle.tree.specs.Lookup.{isDirectory, stays, goesBack}
+use Rattle.make_walk.proofs.Steps.{old-file, old-stays, old-back, old-into}
 use borrow.Author.Needs.{needs}
 use Rattle.make_walk.proofs.step_in_tree.Statement.{statement}
 use Rattle.make_walk.proofs.step_in_tree.Tie as tie
@@ -14,18 +9,13 @@ is-directory-requires : tie.Need-is-directory-requires
 is-directory-requires c κs = search needs
 
 returns : tie.Need-returns
-returns c = let s = c .before .before .before .before in
-    let t : isDirectory (getD (nodesOf (s .args .table .now)) (s .args .k) none) ≡ false = sym (c .before .is-directory .ensures) ∙ not-true (c .before .is-directory .result) (c .if1 .taken) in
-    rw t
+returns c = search old-file
 
 stays-requires : tie.Need-stays-requires
 stays-requires c κs = search needs
 
 returns-2 : tie.Need-returns-2
-returns-2 c = let s = c .before .before .before .before .before .before in
-    let t : isDirectory (getD (nodesOf (s .args .table .now)) (s .args .k) none) ≡ true = sym (c .before .before .before .is-directory .ensures) ∙ not-false (c .before .before .before .is-directory .result) (c .before .before .if1 .left) in
-    let u : stays (s .args .name .now) ≡ true = sym (c .before .stays .ensures) ∙ c .if2 .taken in
-    rw (t, u)
+returns-2 c = search old-stays
 
 goes-back-requires : tie.Need-goes-back-requires
 goes-back-requires c κs = search needs
@@ -34,21 +24,13 @@ back-requires : tie.Need-back-requires
 back-requires c κs = search needs
 
 returns-3 : tie.Need-returns-3
-returns-3 c = let s = c .before .before .before .before .before .before .before .before .before in
-    let t : isDirectory (getD (nodesOf (s .args .table .now)) (s .args .k) none) ≡ true = sym (c .before .before .before .before .before .before .is-directory .ensures) ∙ not-false (c .before .before .before .before .before .before .is-directory .result) (c .before .before .before .before .before .if1 .left) in
-    let u : stays (s .args .name .now) ≡ false = sym (c .before .before .before .before .stays .ensures) ∙ c .before .before .before .if2 .left in
-    let v : goesBack (s .args .name .now) ≡ true = sym (c .before .before .goes-back .ensures) ∙ c .before .if3 .taken in
-    rw (t, u, v) (c .back .ensures)
+returns-3 c = search old-back
 
 into-requires : tie.Need-into-requires
 into-requires c κs = search needs
 
 returns-4 : tie.Need-returns-4
-returns-4 c = let s = c .before .before .before .before .before .before .before .before .before in
-    let t : isDirectory (getD (nodesOf (s .args .table .now)) (s .args .k) none) ≡ true = sym (c .before .before .before .before .before .before .is-directory .ensures) ∙ not-false (c .before .before .before .before .before .before .is-directory .result) (c .before .before .before .before .before .if1 .left) in
-    let u : stays (s .args .name .now) ≡ false = sym (c .before .before .before .before .stays .ensures) ∙ c .before .before .before .if2 .left in
-    let v : goesBack (s .args .name .now) ≡ false = sym (c .before .before .goes-back .ensures) ∙ c .before .if3 .left in
-    rw (t, u, v) (c .into .ensures)
+returns-4 c = search old-into
 
 pub step-in-tree-spec : {M : Type 1} → statement M
 step-in-tree-spec =

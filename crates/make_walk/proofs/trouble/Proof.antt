@@ -1,13 +1,12 @@
 -- `make_walk::trouble` meets its contract. The invariant of its loop: what is left of the walk is what the whole has.
 -- Assumes nothing.
+use Rattle.tree.specs.Inner.WellFormed.{WellFormed}
 use native.Mathlib.Omega.{arith}
 use Prim.Native.Nat.{_-_}
-use mathlib.Core.Path.{sym, _∙_}
 use lib.ListN.{length}
 use Rattle.tree.specs.Table.{nodesOf}
-use Rattle.tree.specs.Laws.Accepted.{length-nodesOf}
 use Rattle.fst.proofs.Nodes.{opened}
-use Rattle.make_walk.proofs.WalkLaws.{Walking, walk-start, walk-refused, walk-end, walk-turn, walk-lands}
+use Rattle.make_walk.proofs.WalkLaws.{Walking, walk-from, walks-inside, walk-stops, walk-lands-inside, walk-ends, walk-goes-on}
 use borrow.Author.Needs.{needs}
 use Rattle.make_walk.proofs.trouble.Statement.{statement}
 use Rattle.make_walk.proofs.trouble.Tie as tie
@@ -18,9 +17,12 @@ Inv-loop table start path k₀ level₀ bad₀ at₀ k level bad at = Walking (n
 abbrev μ-loop : tie.MeasureT-loop
 μ-loop table start path k₀ level₀ bad₀ at₀ k level bad at = length path - at
 
+-- what holds at entry
+well : (c : tie.After-shared-slice-known Inv-loop μ-loop) → WellFormed (nodesOf (c .before .args .table .now))
+well c = opened (c .before .args .table .now) (λ i. omega (arith, c .shared-slice-known .given i)) (c .before .pre .0) .well
+
 loop-holds : tie.Need-loop-holds Inv-loop μ-loop
-loop-holds c = let T = c .before .before .args .table .now in
-    walk-start (nodesOf T) (c .before .before .args .start) (c .before .before .args .path .now) (rw (length-nodesOf T) (c .before .before .pre .1))
+loop-holds c = search walk-from
 
 component-end-requires : tie.Need-component-end-requires Inv-loop μ-loop
 component-end-requires c κs = omega arith
@@ -35,8 +37,7 @@ part-take-step-end : tie.Need-part-take-step-end Inv-loop μ-loop
 part-take-step-end c = omega arith
 
 take-step-requires : tie.Need-take-step-requires Inv-loop μ-loop
-take-step-requires c κs = let T = c .before .before .before .before .before .args .table .now in
-    (c .before .before .before .before .before .pre .0, omega (arith, c .before .before .loop .inv .inside, length-nodesOf T), omega (arith, c .before .before .loop .inv .levels, c .before .before .loop .inv .at-most, c .before .before .before .before .before .pre .2))
+take-step-requires c κs = (search, search walks-inside, omega arith)
 
 enum-known-j : tie.Need-enum-known-j Inv-loop μ-loop
 enum-known-j c = search needs
@@ -45,20 +46,13 @@ enum-known-cause : tie.Need-enum-known-cause Inv-loop μ-loop
 enum-known-cause c = search needs
 
 returns : tie.Need-returns Inv-loop μ-loop
-returns c = let T = c .before .before .before .before .before .before .before .before .before .args .table .now in
-    let w = opened T (λ i. omega (arith, c .before .before .before .before .before .before .before .before .shared-slice-known .given i)) (c .before .before .before .before .before .before .before .before .before .pre .0) .well in
-    sym (walk-refused w (c .before .before .before .before .before .before .loop .inv) (c .before .before .before .before .before .component-end .result) _ (c .before .before .before .before .before .component-end .ensures .2) _ (sym (c .before .before .before .take-step .ensures) ∙ c .before .cause .given .1))
+returns c = search (walk-stops, well)
 
 last-verdict-requires : tie.Need-last-verdict-requires Inv-loop μ-loop
-last-verdict-requires c κs = let T = c .before .before .before .before .before .before .before .before .before .before .args .table .now in
-    let w = opened T (λ i. omega (arith, c .before .before .before .before .before .before .before .before .before .shared-slice-known .given i)) (c .before .before .before .before .before .before .before .before .before .before .pre .0) .well in
-    let l = walk-lands w (c .before .before .before .before .before .before .before .loop .inv) (c .before .before .before .before .before .before .component-end .result) _ (c .before .before .before .before .before .before .component-end .ensures .2) _ _ _ (sym (c .before .before .before .before .take-step .ensures) ∙ c .before .before .j .given .1) in
-    (c .before .before .before .before .before .before .before .before .before .before .pre .0, omega (arith, length-nodesOf T))
+last-verdict-requires c κs = (search, search (walk-lands-inside, well))
 
 returns-2 : tie.Need-returns-2 Inv-loop μ-loop
-returns-2 c = let T = c .before .before .before .before .before .before .before .before .before .before .before .args .table .now in
-    let w = opened T (λ i. omega (arith, c .before .before .before .before .before .before .before .before .before .before .shared-slice-known .given i)) (c .before .before .before .before .before .before .before .before .before .before .before .pre .0) .well in
-    c .last-verdict .ensures ∙ sym (walk-end w (c .before .before .before .before .before .before .before .before .loop .inv) (c .before .before .before .before .before .before .before .component-end .result) _ (c .before .before .before .before .before .before .before .component-end .ensures .2) _ _ _ (sym (c .before .before .before .before .before .take-step .ensures) ∙ c .before .before .before .j .given .1) (c .before .if1 .taken))
+returns-2 c = search (walk-ends, well)
 
 add-at : tie.Need-add-at Inv-loop μ-loop
 add-at c = omega arith
@@ -67,9 +61,7 @@ loop-less : tie.Need-loop-less Inv-loop μ-loop
 loop-less c = omega arith
 
 loop-again : tie.Need-loop-again Inv-loop μ-loop
-loop-again c = let T = c .before .before .before .before .before .before .before .before .before .before .args .table .now in
-    let w = opened T (λ i. omega (arith, c .before .before .before .before .before .before .before .before .before .shared-slice-known .given i)) (c .before .before .before .before .before .before .before .before .before .before .pre .0) .well in
-    walk-turn w (c .before .before .before .before .before .before .before .loop .inv) (c .before .before .before .before .before .before .component-end .result) _ (c .before .before .before .before .before .before .component-end .ensures .2) _ _ _ (sym (c .before .before .before .before .take-step .ensures) ∙ c .before .before .j .given .1) (c .before .before .before .before .before .before .component-end .ensures .0) (c .if1 .left)
+loop-again c = search (walk-goes-on, well)
 
 pub trouble-spec : {M : Type 1} → statement M
 trouble-spec =

@@ -1,21 +1,17 @@
 -- `commit::table::check_table` meets its contract: the size that was measured settles the limits, and the place is judged by it.
 -- Assumes nothing.
-use mathlib.Core.Path.{sym, ap, _∙_}
+use Rattle.commit.proofs.TableSlice.{slice-ends, slice-valid, slice-past, slice-sized}
 use native.Mathlib.Omega.{arith}
 use denote.Ref.{now}
 use lib.ListN.{length}
 use Rattle.opening.specs.Laws.OpeningLaws.{OpenImage, opens}
-use Rattle.opening.proofs.Tests.{part-table}
-use Rattle.opening.specs.Opening.{nodesIn}
-use Rattle.fst_measure.specs.Inner.Measure.{measureOf}
-use Rattle.commit.proofs.Images.{table-valid, measured-past, measured-size, table-past, table-sized}
 use borrow.Author.Needs.{needs}
 use Rattle.commit.proofs.table.check_table.Statement.{statement}
 use Rattle.commit.proofs.table.check_table.Tie as tie
 
 -- what holds at entry
-known : (c : tie.After-shared-slice-known2) → let s = c .before .before in OpenImage (now (s .args .image)) (length (now (s .args .words)))
-known c = let s = c .before .before in opens (now (s .args .image)) (length (now (s .args .words))) (λ i. omega (arith, c .before .shared-slice-known .given i)) (s .pre .passed)
+known : (c : tie.After-shared-slice-known) → let s = c .before in OpenImage (now (s .args .image)) (length (now (s .args .words)))
+known c = let s = c .before in opens (now (s .args .image)) (length (now (s .args .words))) (λ i. omega (arith, c .shared-slice-known .given i)) (s .pre .passed)
 
 fst-offset-requires : tie.Need-fst-offset-requires
 fst-offset-requires c κs = search needs
@@ -33,12 +29,10 @@ part-measure-start : tie.Need-part-measure-start
 part-measure-start c = search needs
 
 part-measure-end : tie.Need-part-measure-end
-part-measure-end c = let b = known (c .before .before) .reads .bounds in omega (arith, b .table, b .image-holds, c .table-end .ensures)
+part-measure-end c = search (slice-ends, known)
 
 measure-requires : tie.Need-measure-requires
-measure-requires c κs = let s = c .before .before .before .before .before in
-    let image = now (s .args .image) in
-    rw (part-table image _ _ (c .before .before .fst-offset .ensures) (c .before .table-end .ensures)) (table-valid image (length (now (s .args .words))) (s .pre .passed))
+measure-requires c κs = search slice-valid
 
 enum-told : tie.Need-enum-told
 enum-told c = search needs
@@ -53,17 +47,10 @@ sized-requires : tie.Need-sized-requires
 sized-requires c κs = search needs
 
 returns : tie.Need-returns
-returns c = let s = c .before .before .before .before .before .before .before .before in
-    let image = now (s .args .image) in
-    let t = part-table image _ _ (c .before .before .before .before .before .fst-offset .ensures) (c .before .before .before .before .table-end .ensures) in
-    table-past (nodesIn image) (s .args .place) image (length (now (s .args .words))) (s .args .room) (measured-past image (length (now (s .args .words))) (known (c .before .before .before .before .before .before)) (ap measureOf (sym t) ∙ sym (c .before .before .measure .ensures) ∙ c .enum-told .given .1))
+returns c = search (slice-past, known)
 
 returns-2 : tie.Need-returns-2
-returns-2 c = let s = c .before .before .before .before .before .before .before .before .before .before .before in
-    let image = now (s .args .image) in
-    let t = part-table image _ _ (c .before .before .before .before .before .before .before .before .fst-offset .ensures) (c .before .before .before .before .before .before .before .table-end .ensures) in
-    let m = measured-size image (length (now (s .args .words))) (known (c .before .before .before .before .before .before .before .before .before)) _ (ap measureOf (sym t) ∙ sym (c .before .before .before .before .before .measure .ensures) ∙ c .before .before .before .measured .given .1) in
-    table-sized (nodesIn image) (s .args .place) image (length (now (s .args .words))) (s .args .room) _ _ _ (m .0) (m .1) (c .before .check-place .ensures) (c .sized .ensures)
+returns-2 c = search (slice-sized, known)
 
 pub check-table-spec : {M : Type 1} → statement M
 check-table-spec =

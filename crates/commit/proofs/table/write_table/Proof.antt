@@ -1,23 +1,19 @@
 -- `commit::table::write_table` meets its contract: the slice that is written anew is the table.
 -- Assumes nothing.
-use mathlib.Core.Path.{ap, _∙_}
-use Prim.Native.Nat.{ℕ}
+use Rattle.commit.proofs.TableSlice.{table-inside, slice-inside, slice-valid, slice-shorter, slice-written}
 use native.Mathlib.Omega.{arith}
+use Prim.Native.Nat.{_≤_}
+use lib.ListN.{length}
+use Rattle.header.specs.Verdicts.{tableEnd}
 use denote.Ref.{now}
-use mathlib.Core.List.{List}
-use Rattle.opening.specs.Laws.OpeningLaws.{OpenImage, opens}
-use Rattle.opening.proofs.Tests.{part-table}
-use Rattle.endian.specs.Bytes.{put}
-use Rattle.tree.specs.Table.{encode, nodesOf}
-use Rattle.opening.specs.Opening.{nodesIn}
-use Rattle.commit.proofs.Images.{table-valid}
+use Rattle.opening.specs.Laws.OpeningLaws.{opens}
 use borrow.Author.Needs.{needs}
 use Rattle.commit.proofs.table.write_table.Statement.{statement}
 use Rattle.commit.proofs.table.write_table.Tie as tie
 
 -- what holds at entry
-known : (c : tie.After-slice-known) → let s = c .before .before in OpenImage (now (s .args .image)) (s .pre .0 .words)
-known c = let s = c .before .before in opens (now (s .args .image)) (s .pre .0 .words) (λ i. omega (arith, c .before .shared-slice-known .given i)) (s .pre .0 .passed)
+inside : (c : tie.After-shared-slice-known) → let s = c .before in tableEnd (now (s .args .image)) ≤ length (now (s .args .image))
+inside c = let s = c .before in table-inside _ _ (opens (now (s .args .image)) (s .pre .0 .words) (λ i. omega (arith, c .shared-slice-known .given i)) (s .pre .0 .passed))
 
 fst-offset-requires : tie.Need-fst-offset-requires
 fst-offset-requires c κs = search needs
@@ -35,23 +31,16 @@ part-write-table-start : tie.Need-part-write-table-start
 part-write-table-start c = search needs
 
 part-write-table-end : tie.Need-part-write-table-end
-part-write-table-end c = let b = known (c .before .before) .reads .bounds in omega (arith, b .table, b .image-holds, c .table-end .ensures)
+part-write-table-end c = search (slice-inside, inside)
 
 write-table-requires : tie.Need-write-table-requires
-unfolding nodesIn
-write-table-requires c κs = let s = c .before .before .before .before .before .before in
-    let image = now (s .args .image) in
-    rw (part-table image _ _ (c .before .before .before .fst-offset .ensures) (c .before .before .table-end .ensures)) (table-valid image (s .pre .0 .words) (s .pre .0 .passed), (s .pre .1, s .pre .2))
+write-table-requires c κs = search (slice-valid, slice-shorter)
 
 same-length : tie.Need-same-length
 same-length c = search needs
 
 returns : tie.Need-returns
-unfolding nodesIn
-returns c = let s = c .before .before .before .before .before .before .before .before .before in
-    let image = now (s .args .image) in
-    let t = part-table image _ _ (c .before .before .before .before .before .before .fst-offset .ensures) (c .before .before .before .before .before .table-end .ensures) in
-    c .before .before .write-table .ensures .1 ∙ ap (λ (l : List ℕ). put (now (s .args .bytes)) 0 (encode (nodesOf l))) t
+returns c = search slice-written
 
 pub write-table-spec : {M : Type 1} → statement M
 write-table-spec =

@@ -1,5 +1,6 @@
 -- `commit::written::carry_out` meets its contract, by the cases of the decision.
 -- Assumes nothing.
+use Rattle.commit.proofs.Carried.{write-fits, write-answered, write-image}
 use mathlib.Core.Path.{refl}
 use borrow.Author.Needs.{needs}
 use Rattle.commit.proofs.written.carry_out.Statement.{statement}
@@ -15,7 +16,7 @@ enum-known-decision-2 : tie.Need-enum-known-decision-2
 enum-known-decision-2 c = search needs
 
 write-change-requires : tie.Need-write-change-requires
-write-change-requires c κs = rw (c .before .before .decision2 .given .1) at (c .before .before .before .before .before .before .pre)
+write-change-requires c κs = search write-fits
 
 returns : tie.Need-returns
 returns c = rw (c .before .decision .given .1) (refl, refl)
@@ -27,7 +28,7 @@ same-length : tie.Need-same-length
 same-length c = search needs
 
 returns-3 : tie.Need-returns-3
-returns-3 c = rw (c .before .before .before .before .before .decision2 .given .1) (refl, c .before .before .write-change .ensures)
+returns-3 c = (search write-answered, search write-image)
 
 pub carry-out-spec : {M : Type 1} → statement M
 carry-out-spec =

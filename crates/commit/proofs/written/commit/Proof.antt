@@ -1,6 +1,5 @@
 -- `commit::written::commit` meets its contract: the table and the zeros behind it are put at once, then the size.
 -- Assumes nothing.
-use denote.Ref.{now}
 use Rattle.commit.proofs.Puts.{committed}
 use borrow.Author.Needs.{needs}
 use Rattle.commit.proofs.written.commit.Statement.{statement}
@@ -28,8 +27,7 @@ same-length : tie.Need-same-length
 same-length c = search needs
 
 returns : tie.Need-returns
-returns c = let s = c .before .before .before .before .before .before .before .before .before .before .before .before .before .before .before in
-    committed (now (s .args .image)) (now (s .args .bytes)) _ _ _ _ _ _ _ (s .pre .held) (s .pre .into) (s .pre .old) (c .before .before .before .before .before .before .before .before .less .ensures) (c .before .before .before .before .before .before .before .before .before .before .before .copy .ensures) (c .before .before .before .before .before .before .fill .ensures) (c .before .before .write-u32 .ensures)
+returns c = search committed
 
 pub commit-spec : {M : Type 1} → statement M
 commit-spec =

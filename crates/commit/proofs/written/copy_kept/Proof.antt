@@ -1,23 +1,15 @@
 -- `commit::written::copy_kept` meets its contract: no byte put changes nothing, and otherwise it is the copy.
 -- Assumes nothing.
-use mathlib.Core.Path.{_≡_, sym}
-use Prim.Native.Nat.{_<_}
-use native.Mathlib.Omega.{arith}
-use denote.Ref.{now}
-use Rattle.endian.specs.Laws.Stored.{put-none}
+use Rattle.commit.proofs.Puts.{copied-none, copy-asks}
 use borrow.Author.Needs.{needs}
 use Rattle.commit.proofs.written.copy_kept.Statement.{statement}
 use Rattle.commit.proofs.written.copy_kept.Tie as tie
 
 returns : tie.Need-returns
-returns c = let s = c .before .before in
-    let e : s .args .n ≡ 0 = omega arith in
-    rw e (sym (put-none (now (s .args .image)) (s .args .to)))
+returns c = search copied-none
 
 copy-within-requires : tie.Need-copy-within-requires
-copy-within-requires c κs = let s = c .before .before .before in
-    let z : 0 < s .args .n = omega arith in
-    (s .pre .from z, s .pre .into z)
+copy-within-requires c κs = copy-asks _ _ _ _ (search) (search)
 
 same-length : tie.Need-same-length
 same-length c = search needs

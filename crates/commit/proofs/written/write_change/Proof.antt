@@ -1,6 +1,6 @@
 -- `commit::written::write_change` meets its contract: copy, table and zeros in the order of the definition.
 -- Assumes nothing.
-use native.Mathlib.Omega.{arith}
+use Rattle.commit.proofs.Puts.{zero-still-fits}
 use Rattle.commit.specs.Inner.Decision.{writtenWith}
 use borrow.Author.Needs.{needs}
 use Rattle.commit.proofs.written.write_change.Statement.{statement}
@@ -28,19 +28,14 @@ commit-requires : tie.Need-commit-requires
 commit-requires c κs = search needs
 
 zero-lost-requires : tie.Need-zero-lost-requires
-zero-lost-requires c κs = record { into = λ z. omega (arith, c .before .before .before .before .before .before .before .before .before .before .before .before .before .before .before .before .before .pre .inside .zeroed .into z, c .before .before .before .commit .kept .0, c .before .before .before .before .before .before .before .copy-kept .kept .0) }
+zero-lost-requires c κs = search zero-still-fits
 
 same-length : tie.Need-same-length
 same-length c = search needs
 
 returns : tie.Need-returns
 unfolding writtenWith
-returns c = let z = c .before .before .zero-lost .ensures in
-    let t = c .before .before .before .before .before .before .commit .ensures in
-    let k = c .before .before .before .before .before .before .before .before .before .before .copy-kept .ensures in
-    let n = c .before .before .before .before .before .before .before .before .before .before .before .before .before .before .fst-size .ensures in
-    let f = c .before .before .before .before .before .before .before .before .before .before .before .before .before .before .before .before .fst-offset .ensures in
-    cc
+returns c = cc
 
 pub write-change-spec : {M : Type 1} → statement M
 write-change-spec =

@@ -1,8 +1,6 @@
 -- `commit::written::zero_bytes` meets its contract: the whole slice is filled.
 -- Assumes nothing.
-use mathlib.Core.Path.{_∙_}
-use denote.Ref.{now}
-use Rattle.commit.proofs.Puts.{put-zeros}
+use Rattle.commit.proofs.Puts.{filled-whole}
 use borrow.Author.Needs.{needs}
 use Rattle.commit.proofs.written.zero_bytes.Statement.{statement}
 use Rattle.commit.proofs.written.zero_bytes.Tie as tie
@@ -14,7 +12,7 @@ same-length : tie.Need-same-length
 same-length c = search needs
 
 returns : tie.Need-returns
-returns c = c .before .before .fill .ensures ∙ put-zeros (now (c .before .before .before .before .before .args .bytes))
+returns c = search filled-whole
 
 pub zero-bytes-spec : {M : Type 1} → statement M
 zero-bytes-spec = tie.close (tie.spec fill-requires same-length returns)

@@ -1,23 +1,15 @@
 -- `commit::written::zero_lost` meets its contract: no byte put changes nothing, and otherwise it is the fill.
 -- Assumes nothing.
-use mathlib.Core.Path.{_≡_, sym}
-use Prim.Native.Nat.{_<_}
-use native.Mathlib.Omega.{arith}
-use denote.Ref.{now}
-use Rattle.endian.specs.Laws.Stored.{put-none}
+use Rattle.commit.proofs.Puts.{filled-none, zero-asks}
 use borrow.Author.Needs.{needs}
 use Rattle.commit.proofs.written.zero_lost.Statement.{statement}
 use Rattle.commit.proofs.written.zero_lost.Tie as tie
 
 returns : tie.Need-returns
-returns c = let s = c .before .before in
-    let e : s .args .n ≡ 0 = omega arith in
-    rw e (sym (put-none (now (s .args .image)) (s .args .at)))
+returns c = search filled-none
 
 fill-requires : tie.Need-fill-requires
-fill-requires c κs = let s = c .before .before .before in
-    let z : 0 < s .args .n = omega arith in
-    s .pre .into z
+fill-requires c κs = search zero-asks
 
 same-length : tie.Need-same-length
 same-length c = search needs

@@ -1,24 +1,22 @@
 -- `decide::opened::file_at` meets its contract: the slice is the table, and its entry is a file or refused.
 -- Assumes nothing.
-use mathlib.Core.Path.{sym, ap, _∙_}
-use Prim.Native.Nat.{ℕ}
+use Rattle.commit.proofs.Images.{checked}
+use Rattle.opening.proofs.Tests.{part-table}
+use lib.ListN.{length}
+use Rattle.header.specs.Verdicts.{tableEnd}
+use Rattle.commit.proofs.TableSlice.{table-inside, slice-inside}
+use Rattle.decide.proofs.Tests.{no-entry-there, entry-there}
+use Prim.Native.Nat.{_≤_}
 use native.Mathlib.Omega.{arith}
 use denote.Ref.{now}
-use mathlib.Core.List.{List}
-use Rattle.opening.specs.Laws.OpeningLaws.{OpenImage, opens}
-use Rattle.opening.proofs.Tests.{part-table}
-use Rattle.tree.specs.Table.{nodesOf}
-use Rattle.tree.specs.Lookup.{entryFound}
-use Rattle.opening.specs.Opening.{nodesIn}
-use Rattle.commit.proofs.Images.{checked}
-use Rattle.decide.proofs.Files.{entry-refused, entry-file}
+use Rattle.opening.specs.Laws.OpeningLaws.{opens}
 use borrow.Author.Needs.{needs}
 use Rattle.decide.proofs.opened.file_at.Statement.{statement}
 use Rattle.decide.proofs.opened.file_at.Tie as tie
 
 -- what holds at entry
-known : (c : tie.After-shared-slice-known) → let s = c .before in OpenImage (now (s .args .image)) (s .pre .words)
-known c = let s = c .before in opens (now (s .args .image)) (s .pre .words) (λ i. omega (arith, c .shared-slice-known .given i)) (s .pre .passed)
+inside : (c : tie.After-shared-slice-known) → let s = c .before in tableEnd (now (s .args .image)) ≤ length (now (s .args .image))
+inside c = let s = c .before in table-inside _ _ (opens (now (s .args .image)) (s .pre .words) (λ i. omega (arith, c .shared-slice-known .given i)) (s .pre .passed))
 
 fst-offset-requires : tie.Need-fst-offset-requires
 fst-offset-requires c κs = search needs
@@ -36,12 +34,10 @@ part-entry-start : tie.Need-part-entry-start
 part-entry-start c = search needs
 
 part-entry-end : tie.Need-part-entry-end
-part-entry-end c = let b = known (c .before .before) .reads .bounds in omega (arith, b .table, b .image-holds, c .table-end .ensures)
+part-entry-end c = search (slice-inside, inside)
 
 entry-requires : tie.Need-entry-requires
-entry-requires c κs = let s = c .before .before .before .before in
-    let image = now (s .args .image) in
-    rw (part-table image _ _ (c .before .before .fst-offset .ensures) (c .before .table-end .ensures)) (record { words = s .pre .words; passed = checked image (s .pre .words) (s .pre .passed) })
+entry-requires c κs = search (part-table, checked)
 
 enum-known-found : tie.Need-enum-known-found
 enum-known-found c = search needs
@@ -53,18 +49,10 @@ file-of-requires : tie.Need-file-of-requires
 file-of-requires c κs = search needs
 
 returns : tie.Need-returns
-unfolding nodesIn
-returns c = let s = c .before .before .before .before .before .before .before .before in
-    let image = now (s .args .image) in
-    let t = part-table image _ _ (c .before .before .before .before .before .before .fst-offset .ensures) (c .before .before .before .before .before .table-end .ensures) in
-    entry-refused (nodesIn image) (s .args .number) _ (ap (λ (l : List ℕ). entryFound (nodesOf l) (s .args .number)) (sym t) ∙ sym (c .before .before .before .entry .ensures) ∙ c .before .found .given .1)
+returns c = search no-entry-there
 
 returns-2 : tie.Need-returns-2
-unfolding nodesIn
-returns-2 c = let s = c .before .before .before .before .before .before .before .before .before in
-    let image = now (s .args .image) in
-    let t = part-table image _ _ (c .before .before .before .before .before .before .before .fst-offset .ensures) (c .before .before .before .before .before .before .table-end .ensures) in
-    entry-file (nodesIn image) (s .args .number) _ _ _ (ap (λ (l : List ℕ). entryFound (nodesOf l) (s .args .number)) (sym t) ∙ sym (c .before .before .before .before .entry .ensures) ∙ c .before .before .found2 .given .1) (c .file-of .ensures)
+returns-2 c = search entry-there
 
 pub file-at-spec : {M : Type 1} → statement M
 file-at-spec =

@@ -1,9 +1,6 @@
 -- `decide::opened::move_file` meets its contract: 15 and 16, then the move of the file that was found.
 -- Assumes nothing.
-use denote.Ref.{now}
-use lib.ListN.{length}
-use Rattle.opening.specs.Opening.{nodesIn, freeOf}
-use Rattle.decide.proofs.Files.{file-found, file-refused, move-decided, move-refused}
+use Rattle.decide.proofs.Outcomes.{no-file-to-move, file-moved, found-file, found-place}
 use borrow.Author.Needs.{needs}
 use Rattle.decide.proofs.opened.move_file.Statement.{statement}
 use Rattle.decide.proofs.opened.move_file.Tie as tie
@@ -18,24 +15,16 @@ enum-known-found-2 : tie.Need-enum-known-found-2
 enum-known-found-2 c = search needs
 
 relocate-requires : tie.Need-relocate-requires
-relocate-requires c κs = let s = c .before .before .before .before .before .before .before .before in
-    let image = now (s .args .image) in
-    let f = file-found (nodesIn image) (s .args .number) _ _ (c .before .before .before .before .file-at .ensures) (c .before .before .found2 .given .1) in
-    (s .pre, f .is, f .place)
+relocate-requires c κs = search (found-file, found-place)
 
 returns : tie.Need-returns
-returns c = let s = c .before .before .before .before .before .before .before in
-    let image = now (s .args .image) in
-    move-refused image (length (now (s .args .words))) (length (now (s .args .bytes))) _ (freeOf image) (nodesIn image) (s .args .number) (s .args .new-offset) _ (file-refused (nodesIn image) (s .args .number) _ _ (c .before .before .before .file-at .ensures) (c .before .found .given .1))
+returns c = search no-file-to-move
 
 same-length : tie.Need-same-length
 same-length c = search needs
 
 returns-2 : tie.Need-returns-2
-returns-2 c = let s = c .before .before .before .before .before .before .before .before .before .before .before in
-    let image = now (s .args .image) in
-    let f = file-found (nodesIn image) (s .args .number) _ _ (c .before .before .before .before .before .before .before .file-at .ensures) (c .before .before .before .before .before .found2 .given .1) in
-    move-decided image (length (now (s .args .words))) (length (now (s .args .bytes))) _ (freeOf image) (nodesIn image) (s .args .number) (s .args .new-offset) _ _ (f .passed) (f .place) (c .before .before .relocate .ensures)
+returns-2 c = search file-moved
 
 pub move-file-spec : {M : Type 1} → statement M
 move-file-spec =

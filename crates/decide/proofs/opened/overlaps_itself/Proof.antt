@@ -1,10 +1,6 @@
 -- `decide::opened::overlaps_itself` meets its contract: each comparison is the definition's.
 -- Assumes nothing.
-use mathlib.Core.Path.{ap}
-use Prim.Native.Nat.{_+_, _≤_, _<_}
-use native.Mathlib.Omega.{arith}
-use borrow.Author.Tests.{lt-ltb, le-ltb}
-use lib.Dec.{ltb}
+use Rattle.decide.proofs.Tests.{overlaps-by-start, behind-itself}
 use borrow.Author.Needs.{needs}
 use Rattle.decide.proofs.opened.overlaps_itself.Statement.{statement}
 use Rattle.decide.proofs.opened.overlaps_itself.Tie as tie
@@ -22,18 +18,10 @@ region-end-requires-2 : tie.Need-region-end-requires-2
 region-end-requires-2 c κs = search needs
 
 returns : tie.Need-returns
-returns c = let s = c .before .before .before .before .before in
-    let o = s .args .old in
-    let n = s .args .new in
-    let h : n .offset < o .offset + o .size = omega (arith, c .before .before .before .region-end .ensures) in
-    rw (lt-ltb (n .offset) (o .offset + o .size) h) (ap (ltb (o .offset)) (c .region-end2 .ensures))
+returns c = search overlaps-by-start
 
 returns-2 : tie.Need-returns-2
-returns-2 c = let s = c .before .before .before in
-    let o = s .args .old in
-    let n = s .args .new in
-    let h : o .offset + o .size ≤ n .offset = omega (arith, c .before .region-end .ensures) in
-    rw (le-ltb (n .offset) (o .offset + o .size) h)
+returns-2 c = search behind-itself
 
 pub overlaps-itself-spec : {M : Type 1} → statement M
 overlaps-itself-spec =

@@ -1,9 +1,6 @@
 -- `decide::opened::resize_file` meets its contract: 15 and 16, then the resize of the file that was found.
 -- Assumes nothing.
-use denote.Ref.{now}
-use lib.ListN.{length}
-use Rattle.opening.specs.Opening.{nodesIn, freeOf}
-use Rattle.decide.proofs.Files.{file-found, file-refused, resize-decided, resize-refused}
+use Rattle.decide.proofs.Outcomes.{no-file-to-resize, file-resized, found-file, found-place}
 use borrow.Author.Needs.{needs}
 use Rattle.decide.proofs.opened.resize_file.Statement.{statement}
 use Rattle.decide.proofs.opened.resize_file.Tie as tie
@@ -18,24 +15,16 @@ enum-known-found-2 : tie.Need-enum-known-found-2
 enum-known-found-2 c = search needs
 
 resize-requires : tie.Need-resize-requires
-resize-requires c κs = let s = c .before .before .before .before .before .before .before .before in
-    let image = now (s .args .image) in
-    let f = file-found (nodesIn image) (s .args .number) _ _ (c .before .before .before .before .file-at .ensures) (c .before .before .found2 .given .1) in
-    (s .pre, f .is, f .place)
+resize-requires c κs = search (found-file, found-place)
 
 returns : tie.Need-returns
-returns c = let s = c .before .before .before .before .before .before .before in
-    let image = now (s .args .image) in
-    resize-refused image (length (now (s .args .words))) (length (now (s .args .bytes))) _ (freeOf image) (nodesIn image) (s .args .number) (s .args .new-size) _ (file-refused (nodesIn image) (s .args .number) _ _ (c .before .before .before .file-at .ensures) (c .before .found .given .1))
+returns c = search no-file-to-resize
 
 same-length : tie.Need-same-length
 same-length c = search needs
 
 returns-2 : tie.Need-returns-2
-returns-2 c = let s = c .before .before .before .before .before .before .before .before .before .before .before in
-    let image = now (s .args .image) in
-    let f = file-found (nodesIn image) (s .args .number) _ _ (c .before .before .before .before .before .before .before .file-at .ensures) (c .before .before .before .before .before .found2 .given .1) in
-    resize-decided image (length (now (s .args .words))) (length (now (s .args .bytes))) _ (freeOf image) (nodesIn image) (s .args .number) (s .args .new-size) _ _ (f .passed) (f .place) (c .before .before .resize .ensures)
+returns-2 c = search file-resized
 
 pub resize-file-spec : {M : Type 1} → statement M
 resize-file-spec =

@@ -1,6 +1,6 @@
 -- `grow::growing::depth` meets its contract. The invariant of its loop: the directories around k are those counted and those around the one where it stands.
 -- Assumes nothing.
-use Rattle.grow.proofs.StandingTable.{inside, Counted, depth-start, depth-up, depth-done}
+use Rattle.grow.proofs.StandingTable.{Counted, depth-start, depth-done, few-entries, depth-falls, depth-turn}
 use Rattle.grow.specs.Inner.Growth.{treeIn}
 use native.Mathlib.Omega.{arith}
 use Rattle.grow.proofs.growing.depth.Statement.{statement}
@@ -16,16 +16,16 @@ loop-holds : tie.Need-loop-holds Inv-loop μ-loop
 loop-holds c = depth-start _ _ (c .before .pre .1)
 
 parent-requires : tie.Need-parent-requires Inv-loop μ-loop
-parent-requires c κs = (c .before .before .before .pre .0, c .before .loop .inv .is)
+parent-requires c κs = search
 
 add-n : tie.Need-add-n Inv-loop μ-loop
-add-n c = omega (arith, c .before .before .loop .inv .counted, c .before .before .loop .inv .most, inside _ _ _ (c .before .before .before .before .pre .0) .few)
+add-n c = omega (arith, few-entries)
 
 loop-less : tie.Need-loop-less Inv-loop μ-loop
-loop-less c = depth-up _ _ _ _ _ _ _ (c .before .before .before .before .pre .0) (c .before .before .loop .inv) (c .before .loop-test .taken) (c .parent .ensures) .0
+loop-less c = search depth-falls
 
 loop-again : tie.Need-loop-again Inv-loop μ-loop
-loop-again c = depth-up _ _ _ _ _ _ _ (c .before .before .before .before .pre .0) (c .before .before .loop .inv) (c .before .loop-test .taken) (c .parent .ensures) .1
+loop-again c = search depth-turn
 
 returns : tie.Need-returns Inv-loop μ-loop
 returns c = depth-done _ _ _ _ (c .before .loop .inv) (c .loop-test .left)

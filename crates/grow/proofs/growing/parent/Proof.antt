@@ -1,7 +1,6 @@
 -- `grow::growing::parent` meets its contract: a directory of a written table stores what it is nested in.
 -- Assumes nothing.
-use Rattle.grow.proofs.StandingTable.{entry-held, inside, stored-parent}
-use mathlib.Core.Path.{_∙_}
+use Rattle.grow.proofs.StandingTable.{entry-held, inside, parent-read}
 use native.Mathlib.Omega.{arith}
 use borrow.Author.Needs.{needs}
 use Rattle.grow.proofs.growing.parent.Statement.{statement}
@@ -20,7 +19,7 @@ cast-result : tie.Need-cast-result
 cast-result c = search needs
 
 returns : tie.Need-returns
-returns c = let s = c .before .before in c .read-u32 .ensures ∙ stored-parent _ _ _ (s .pre .0) _ (s .pre .1)
+returns c = search parent-read
 
 pub parent-spec : {M : Type 1} → statement M
 parent-spec = tie.close (tie.spec mul-read-u32 add-read-u32 read-u32-requires cast-result returns)

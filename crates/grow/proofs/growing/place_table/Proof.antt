@@ -1,13 +1,17 @@
 -- `grow::growing::place_table` meets its contract: the limits are passed, so the verdict on the place is the table's.
 -- Assumes nothing.
 use Rattle.grow.proofs.GrowthLaws.{place-refused, place-passed}
-use Rattle.opening.specs.Laws.OpeningLaws.{opens}
+use Rattle.opening.specs.Laws.OpeningLaws.{opens, OpenImage}
 use lib.ListN.{length}
 use denote.Ref.{now}
 use native.Mathlib.Omega.{arith}
 use borrow.Author.Needs.{needs}
 use Rattle.grow.proofs.growing.place_table.Statement.{statement}
 use Rattle.grow.proofs.growing.place_table.Tie as tie
+
+-- what holds at entry
+known : (c : tie.After-shared-slice-known) → let s = c .before in OpenImage (now (s .args .image)) (length (now (s .args .words)))
+known c = let s = c .before in opens (now (s .args .image)) (length (now (s .args .words))) (λ i. omega (arith, c .shared-slice-known .given i)) (s .pre .0 .passed)
 
 check-place-requires : tie.Need-check-place-requires
 check-place-requires c κs = search needs
@@ -19,13 +23,10 @@ enum-told : tie.Need-enum-told
 enum-told c = search needs
 
 returns : tie.Need-returns
-returns c = let s = c .before .before .before .before .before .before .before in
-    place-refused (now (s .args .bytes)) (s .args .size) (length (now (s .args .words))) (s .pre .1) (now (s .args .image)) _ _ (c .before .before .before .check-place .ensures) (c .before .verdict .given .1)
+returns c = search place-refused
 
 returns-2 : tie.Need-returns-2
-returns-2 c = let s = c .before .before .before .before .before .before in
-    let known = opens (now (s .args .image)) (length (now (s .args .words))) (λ i. omega (arith, c .before .before .before .before .before .shared-slice-known .given i)) (s .pre .0 .passed) in
-    place-passed (now (s .args .bytes)) (s .args .size) (length (now (s .args .words))) (s .pre .1) (now (s .args .image)) _ known (c .before .before .check-place .ensures) (c .enum-told .given .1)
+returns-2 c = search (place-passed, known)
 
 pub place-table-spec : {M : Type 1} → statement M
 place-table-spec =

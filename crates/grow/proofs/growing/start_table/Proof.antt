@@ -1,33 +1,19 @@
 -- `grow::growing::start_table` meets its contract: the size that was measured settles the limits, and what is written is the tree.
 -- Assumes nothing.
-use Rattle.grow.proofs.GrowthLaws.{past-built}
-use Rattle.commit.proofs.Images.{table-valid, measured-past, measured-size}
-use Rattle.fst_measure.specs.Inner.Measure.{measureOf}
-use Rattle.opening.specs.Opening.{nodesIn}
-use Rattle.tree.specs.Laws.WrittenEntries.{length-encode}
-use Rattle.tree.specs.Laws.RoundTrip.{within-limits}
-use Rattle.refusal.specs.declared.Verdict.the-variants.{Passed}
-use Rattle.tree.specs.Table.{encode, limits}
-use Rattle.opening.proofs.Tests.{part-table}
+use Rattle.commit.proofs.TableSlice.{slice-ends, slice-valid}
+use Rattle.grow.proofs.BuiltTable.{past-limits, within-limit, size-measured, too-short, long-enough, table-small}
 use Rattle.opening.specs.Laws.OpeningLaws.{OpenImage, opens}
 use lib.ListN.{length}
 use denote.Ref.{now}
-use mathlib.Core.Path.{_≡_, refl, sym, ap, _∙_}
+use mathlib.Core.Path.{refl}
 use native.Mathlib.Omega.{arith}
 use borrow.Author.Needs.{needs}
 use Rattle.grow.proofs.growing.start_table.Statement.{statement}
 use Rattle.grow.proofs.growing.start_table.Tie as tie
 
 -- what holds at entry
-known : (c : tie.After-slice-known) → let s = c .before .before .before in OpenImage (now (s .args .image)) (length (now (s .args .words)))
-known c = let s = c .before .before .before in opens (now (s .args .image)) (length (now (s .args .words))) (λ i. omega (arith, c .before .before .shared-slice-known .given i)) (s .pre .passed)
-
--- the size that was measured
-sized : (c : tie.After-known-told) → let s = c .before .before .before .before .before .before .before .before .before .before in (limits (nodesIn (now (s .args .image))) (length (now (s .args .words))) ≡ Passed) × (c .before .measured .given .0 .0 ≡ length (encode (nodesIn (now (s .args .image)))))
-sized c = let s = c .before .before .before .before .before .before .before .before .before .before in
-    let image = now (s .args .image) in
-    let t = part-table image _ _ (c .before .before .before .before .before .before .fst-offset .ensures) (c .before .before .before .before .before .table-end .ensures) in
-    measured-size image (length (now (s .args .words))) (known (c .before .before .before .before .before .before .before)) _ (ap measureOf (sym t) ∙ sym (c .before .before .before .measure .ensures) ∙ c .before .measured .given .1)
+known : (c : tie.After-shared-slice-known) → let s = c .before in OpenImage (now (s .args .image)) (length (now (s .args .words)))
+known c = let s = c .before in opens (now (s .args .image)) (length (now (s .args .words))) (λ i. omega (arith, c .shared-slice-known .given i)) (s .pre .passed)
 
 fst-offset-requires : tie.Need-fst-offset-requires
 fst-offset-requires c κs = search needs
@@ -45,12 +31,10 @@ part-measure-start : tie.Need-part-measure-start
 part-measure-start c = search needs
 
 part-measure-end : tie.Need-part-measure-end
-part-measure-end c = let b = known (c .before .before) .reads .bounds in omega (arith, b .table, b .image-holds, c .table-end .ensures)
+part-measure-end c = search (slice-ends, known)
 
 measure-requires : tie.Need-measure-requires
-measure-requires c κs = let s = c .before .before .before .before .before .before in
-    let image = now (s .args .image) in
-    rw (part-table image _ _ (c .before .before .fst-offset .ensures) (c .before .table-end .ensures)) (table-valid image (length (now (s .args .words))) (s .pre .passed))
+measure-requires c κs = search slice-valid
 
 enum-told : tie.Need-enum-told
 enum-told c = search needs
@@ -59,28 +43,19 @@ enum-known-measured : tie.Need-enum-known-measured
 enum-known-measured c = search needs
 
 returns : tie.Need-returns
-returns c = let m = sized (c .before) in
-    (refl, λ e. omega (arith, m .1))
+returns c = (refl, search (too-short, known))
 
 write-table-requires : tie.Need-write-table-requires
-write-table-requires c κs = let s = c .before .before .before .before .before .before .before .before .before .before .before .before in
-    let image = now (s .args .image) in
-    let m = sized (c .before .before) in
-    let w = within-limits (nodesIn image) (length (now (s .args .words))) (m .0) in
-    (record { words = length (now (s .args .words)); passed = s .pre .passed }, omega (arith, m .1), omega (arith, length-encode (nodesIn image), w .few, w .texts))
+write-table-requires c κs = (search, search (long-enough, known), search (table-small, known))
 
 returns-2 : tie.Need-returns-2
-returns-2 c = let s = c .before .before .before .before .before .before .before .before .before in
-    let image = now (s .args .image) in
-    let t = part-table image _ _ (c .before .before .before .before .before .fst-offset .ensures) (c .before .before .before .before .table-end .ensures) in
-    past-built (nodesIn image) (length (now (s .args .words))) (now (s .args .bytes)) (now (s .args .bytes)) _ _ refl (measured-past image (length (now (s .args .words))) (known (c .before .before .before .before .before .before)) (ap measureOf (sym t) ∙ sym (c .before .before .measure .ensures) ∙ c .enum-told .given .1))
+returns-2 c = (refl, search (past-limits, known))
 
 same-length : tie.Need-same-length
 same-length c = search needs
 
 returns-3 : tie.Need-returns-3
-returns-3 c = let m = sized (c .before .before .before .before .before) in
-    (m .0, m .1, omega arith, c .before .before .write-table .ensures)
+returns-3 c = (search (within-limit, known), search (size-measured, known), search needs, search)
 
 pub start-table-spec : {M : Type 1} → statement M
 start-table-spec =

@@ -1,12 +1,11 @@
 -- `grow::names::every_byte` meets its contract. The invariant of its loop: the rest of the name has the answer of the whole.
 -- Assumes nothing.
-use Rattle.grow.proofs.NameLaws.{every-turn, every-past}
+use Rattle.grow.proofs.NameLaws.{byte-fits, byte-fails, no-more-bytes}
 use borrow.Author.Needs.{needs}
 use Rattle.fst_text.specs.Inner.Texts.{byteTest}
 use Rattle.tree.specs.Table.{every}
 use lib.ListN.{length, drop}
-use mathlib.Core.Bool.{true, false}
-use mathlib.Core.Path.{_≡_, refl, sym, _∙_}
+use mathlib.Core.Path.{_≡_, refl}
 use native.Mathlib.Omega.{arith}
 use Prim.Native.Nat.{_-_}
 use Rattle.grow.proofs.names.every_byte.Statement.{statement}
@@ -34,13 +33,13 @@ loop-less : tie.Need-loop-less Inv-loop μ-loop
 loop-less c = omega arith
 
 loop-again : tie.Need-loop-again Inv-loop μ-loop
-loop-again c = c .before .before .before .before .loop .inv ∙ every-turn (byteTest (c .before .before .before .before .before .before .args .safe-only)) (c .before .before .before .before .before .before .args .name .now) (c .before .before .before .before .loop .i) true (c .before .before .before .loop-test .taken) (sym (c .before .fits2 .ensures) ∙ c .if1 .taken)
+loop-again c = search byte-fits
 
 returns : tie.Need-returns Inv-loop μ-loop
-returns c = sym (c .before .before .before .before .loop .inv ∙ every-turn (byteTest (c .before .before .before .before .before .before .args .safe-only)) (c .before .before .before .before .before .before .args .name .now) (c .before .before .before .before .loop .i) false (c .before .before .before .loop-test .taken) (sym (c .before .fits2 .ensures) ∙ c .if1 .left))
+returns c = search byte-fails
 
 returns-2 : tie.Need-returns-2 Inv-loop μ-loop
-returns-2 c = sym (c .before .loop .inv ∙ every-past (byteTest (c .before .before .before .args .safe-only)) (c .before .before .before .args .name .now) (c .before .loop .i) (c .loop-test .left))
+returns-2 c = search no-more-bytes
 
 pub every-byte-spec : {M : Type 1} → statement M
 every-byte-spec =

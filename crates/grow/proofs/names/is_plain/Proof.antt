@@ -1,7 +1,6 @@
 -- `grow::names::is_plain` meets its contract: each byte is.
 -- Assumes nothing.
-use Rattle.grow.proofs.NameLaws.{plain-is}
-use mathlib.Core.Path.{_∙_}
+use Rattle.grow.proofs.NameLaws.{plain-read}
 use borrow.Author.Needs.{needs}
 use Rattle.grow.proofs.names.is_plain.Statement.{statement}
 use Rattle.grow.proofs.names.is_plain.Tie as tie
@@ -10,7 +9,7 @@ every-byte-requires : tie.Need-every-byte-requires
 every-byte-requires c κs = search needs
 
 returns : tie.Need-returns
-returns c = c .every-byte .ensures ∙ plain-is (c .before .before .args .name .now)
+returns c = search plain-read
 
 pub is-plain-spec : {M : Type 1} → statement M
 is-plain-spec = tie.close (tie.spec every-byte-requires returns)

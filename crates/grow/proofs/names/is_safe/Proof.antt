@@ -1,25 +1,24 @@
 -- `grow::names::is_safe` meets its contract: not empty, no dots, and each byte is.
 -- Assumes nothing.
-use Rattle.grow.proofs.NameLaws.{safe-none, safe-is}
-use mathlib.Core.Path.{sym}
+use Rattle.grow.proofs.NameLaws.{unsafe-none, unsafe-dots, safe-read}
 use borrow.Author.Needs.{needs}
 use Rattle.grow.proofs.names.is_safe.Statement.{statement}
 use Rattle.grow.proofs.names.is_safe.Tie as tie
 
 returns : tie.Need-returns
-returns c = sym (safe-none (c .before .before .args .name .now) (c .if1 .taken))
+returns c = search unsafe-none
 
 is-dots-requires : tie.Need-is-dots-requires
 is-dots-requires c κs = search needs
 
 returns-2 : tie.Need-returns-2
-returns-2 c = rw (safe-is (c .before .before .before .before .args .name .now) (c .before .before .if1 .left), ← (c .before .is-dots .ensures), c .if2 .taken)
+returns-2 c = search unsafe-dots
 
 every-byte-requires : tie.Need-every-byte-requires
 every-byte-requires c κs = search needs
 
 returns-3 : tie.Need-returns-3
-returns-3 c = rw (safe-is (c .before .before .before .before .before .args .name .now) (c .before .before .before .if1 .left), ← (c .before .before .is-dots .ensures), c .before .if2 .left) (c .every-byte .ensures)
+returns-3 c = search safe-read
 
 pub is-safe-spec : {M : Type 1} → statement M
 is-safe-spec =

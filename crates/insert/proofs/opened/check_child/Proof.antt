@@ -1,13 +1,6 @@
 -- `insert::opened::check_child` meets its contract: each return by the tests that led there.
 -- Assumes nothing.
-use borrow.Author.Tests.{not-true, not-false}
-use Rattle.edits.specs.Edits.{isFound}
-use Rattle.tree.specs.Lookup.{isDirectory, childOf}
-use Rattle.tree.specs.Table.{none, nodesOf, plain}
-use lib.ListN.{getD}
-use denote.Ref.{now}
-use mathlib.Core.Bool.{true, false}
-use mathlib.Core.Path.{_≡_, sym, ap, _∙_}
+use Rattle.insert.proofs.Tests.{no-directory, already-there, not-plain, may-be-child}
 use borrow.Author.Needs.{needs}
 use Rattle.insert.proofs.opened.check_child.Statement.{statement}
 use Rattle.insert.proofs.opened.check_child.Tie as tie
@@ -16,9 +9,7 @@ is-directory-requires : tie.Need-is-directory-requires
 is-directory-requires c κs = search needs
 
 returns : tie.Need-returns
-returns c = let s = c .before .before .before .before in
-    let t : isDirectory (getD (nodesOf (now (s .args .table))) (s .args .p) none) ≡ false = sym (c .before .is-directory .ensures) ∙ not-true (c .before .is-directory .result) (c .if1 .taken) in
-    rw t
+returns c = search no-directory
 
 child-requires : tie.Need-child-requires
 child-requires c κs = search needs
@@ -27,10 +18,7 @@ enum-told : tie.Need-enum-told
 enum-told c = search needs
 
 returns-2 : tie.Need-returns-2
-returns-2 c = let s = c .before .before .before .before .before .before .before in
-    let t : isDirectory (getD (nodesOf (now (s .args .table))) (s .args .p) none) ≡ true = sym (c .before .before .before .before .is-directory .ensures) ∙ not-false (c .before .before .before .before .is-directory .result) (c .before .before .before .if1 .left) in
-    let u : isFound (childOf (nodesOf (now (s .args .table))) (s .args .p) (now (s .args .name))) ≡ true = ap isFound (sym (c .before .before .child .ensures) ∙ c .enum-told .given .1) in
-    rw (t, u)
+returns-2 c = search already-there
 
 enum-told-2 : tie.Need-enum-told-2
 enum-told-2 c = search needs
@@ -39,18 +27,10 @@ is-plain-requires : tie.Need-is-plain-requires
 is-plain-requires c κs = search needs
 
 returns-3 : tie.Need-returns-3
-returns-3 c = let s = c .before .before .before .before .before .before .before .before .before in
-    let t : isDirectory (getD (nodesOf (now (s .args .table))) (s .args .p) none) ≡ true = sym (c .before .before .before .before .before .before .is-directory .ensures) ∙ not-false (c .before .before .before .before .before .before .is-directory .result) (c .before .before .before .before .before .if1 .left) in
-    let u : isFound (childOf (nodesOf (now (s .args .table))) (s .args .p) (now (s .args .name))) ≡ false = ap isFound (sym (c .before .before .before .before .child .ensures) ∙ c .before .before .enum-told2 .given .1) in
-    let v : plain (now (s .args .name)) ≡ false = sym (c .before .is-plain .ensures) ∙ not-true (c .before .is-plain .result) (c .if2 .taken) in
-    rw (t, u, v)
+returns-3 c = search not-plain
 
 returns-4 : tie.Need-returns-4
-returns-4 c = let s = c .before .before .before .before .before .before .before .before .before in
-    let t : isDirectory (getD (nodesOf (now (s .args .table))) (s .args .p) none) ≡ true = sym (c .before .before .before .before .before .before .is-directory .ensures) ∙ not-false (c .before .before .before .before .before .before .is-directory .result) (c .before .before .before .before .before .if1 .left) in
-    let u : isFound (childOf (nodesOf (now (s .args .table))) (s .args .p) (now (s .args .name))) ≡ false = ap isFound (sym (c .before .before .before .before .child .ensures) ∙ c .before .before .enum-told2 .given .1) in
-    let v : plain (now (s .args .name)) ≡ true = sym (c .before .is-plain .ensures) ∙ not-false (c .before .is-plain .result) (c .if2 .left) in
-    rw (t, u, v)
+returns-4 c = search may-be-child
 
 pub check-child-spec : {M : Type 1} → statement M
 check-child-spec =

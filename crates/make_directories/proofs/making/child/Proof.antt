@@ -1,14 +1,13 @@
 -- `make_directories::making::child` meets its contract: the part of the bytes is the table.
 -- Assumes nothing.
-use mathlib.Core.Path.{sym}
-use lib.Seq.{length-take-le}
+use Rattle.make_directories.proofs.Steps.{part-count}
 use Rattle.grow.specs.Inner.Growth.{treeIn}
 use borrow.Author.Needs.{needs}
 use Rattle.make_directories.proofs.making.child.Statement.{statement}
 use Rattle.make_directories.proofs.making.child.Tie as tie
 
 slice-aggregate-child : tie.Need-slice-aggregate-child
-slice-aggregate-child c = let s = c .before .before .before in sym (length-take-le (s .args .size) (s .args .bytes .now) (s .pre .held))
+slice-aggregate-child c = search part-count
 
 child-requires : tie.Need-child-requires
 child-requires c κs = search needs

@@ -1,14 +1,13 @@
 -- `make_directories::making::into` meets its contract: by what the search for a child answered.
 -- Assumes nothing.
-use mathlib.Core.Path.{refl, sym, _∙_}
-use denote.Ref.{now}
+use Rattle.make_directories.proofs.Steps.{new-name, child-made, child-there}
 use Rattle.make_directories.proofs.Turns.{in-bytes}
 use borrow.Author.Needs.{needs}
 use Rattle.make_directories.proofs.making.into.Statement.{statement}
 use Rattle.make_directories.proofs.making.into.Tie as tie
 
 child-requires : tie.Need-child-requires
-child-requires c κs = let s = c .before .before .before in in-bytes (now (s .args .bytes)) (s .args .size) (s .args .words) (s .args .k) (s .pre .0) (s .pre .1 .inside)
+child-requires c κs = search in-bytes
 
 enum-known-found : tie.Need-enum-known-found
 enum-known-found c = search needs
@@ -20,19 +19,19 @@ enum-told : tie.Need-enum-told
 enum-told c = search needs
 
 into-new-requires : tie.Need-into-new-requires
-into-new-requires c κs = let s = c .before .before .before .before .before .before .before in (s .pre .0, s .pre .1, s .pre .2 .good _ (sym (c .before .before .before .child .ensures) ∙ c .before .enum-told .given .1))
+into-new-requires c κs = (search, search, search new-name)
 
 same-length : tie.Need-same-length
 same-length c = search needs
 
 returns : tie.Need-returns
-returns c = let s = c .before .before .before .before .before .before .before in rw (← c .before .before .before .child .ensures, c .before .found .given .1) (refl, s .pre .0, refl)
+returns c = search child-there
 
 same-length-2 : tie.Need-same-length-2
 same-length-2 c = search needs
 
 returns-2 : tie.Need-returns-2
-returns-2 c = rw (← c .before .before .before .before .before .before .child .ensures, c .before .before .before .before .enum-told .given .1) (c .before .before .into-new .ensures)
+returns-2 c = search child-made
 
 pub into-spec : {M : Type 1} → statement M
 into-spec =

@@ -1,17 +1,16 @@
 -- `make_directories::making::make_along` meets its contract. The invariant of its loop: what is left of the walk makes what the whole makes.
 -- Assumes nothing.
+use Rattle.make_directories.proofs.Steps.{making-from, making-goes-on, making-cause, making-no-room, making-entry, making-stands, making-tree}
 use native.Mathlib.Omega.{arith}
 use Prim.Native.Nat.{_-_}
-use mathlib.Core.Path.{refl}
 use mathlib.Core.Bool.{false}
 use mathlib.Core.List.{[]}
-use denote.Ref.{now}
 use lib.ListN.{length}
 use Rattle.tree.specs.Lookup.{components}
 use Rattle.edits.specs.Edits.{make}
 use Rattle.grow.specs.Inner.Growth.{treeIn}
 use Rattle.make_directories.specs.Inner.Making.{madeTree, madeEntry}
-use Rattle.make_directories.proofs.Turns.{Making, making-start, making-can, making-refused, making-end, making-turn}
+use Rattle.make_directories.proofs.Turns.{Making, making-can}
 use borrow.Author.Needs.{needs}
 use Rattle.make_directories.proofs.making.make_along.Statement.{statement}
 use Rattle.make_directories.proofs.making.make_along.Tie as tie
@@ -23,7 +22,7 @@ abbrev μ-loop : tie.MeasureT-loop
 μ-loop bytes₀ size words start path k₀ n₀ at₀ bytes k n at = length path - at
 
 loop-holds : tie.Need-loop-holds Inv-loop μ-loop
-loop-holds c = let s = c .before .before in making-start (s .args .start) (now (s .args .path)) (s .args .words) (now (s .args .bytes)) (s .args .size) (s .pre .0) (s .pre .1) _ refl (s .pre .2)
+loop-holds c = search making-from
 
 component-end-requires : tie.Need-component-end-requires Inv-loop μ-loop
 component-end-requires c κs = omega arith
@@ -38,7 +37,7 @@ part-take-step-end : tie.Need-part-take-step-end Inv-loop μ-loop
 part-take-step-end c = omega arith
 
 take-step-requires : tie.Need-take-step-requires Inv-loop μ-loop
-take-step-requires c κs = (c .before .before .before .loop .inv .stands, making-can (c .before .before .before .loop .inv) (c .before .before .component-end .result) _ (c .before .before .component-end .ensures .2))
+take-step-requires c κs = (search, search making-can)
 
 enum-known-j : tie.Need-enum-known-j Inv-loop μ-loop
 enum-known-j c = search needs
@@ -50,13 +49,13 @@ same-length : tie.Need-same-length Inv-loop μ-loop
 same-length c = search needs
 
 returns : tie.Need-returns Inv-loop μ-loop
-returns c = making-refused (c .before .before .before .before .before .before .before .before .before .loop .inv) (c .before .before .before .before .before .before .before .before .component-end .result) _ (c .before .before .before .before .before .before .before .before .component-end .ensures .2) _ (rw (c .before .cause .given .1) at (c .before .before .before .before .before .take-step .ensures))
+returns c = (search making-cause, search making-no-room)
 
 same-length-2 : tie.Need-same-length-2 Inv-loop μ-loop
 same-length-2 c = search needs
 
 returns-2 : tie.Need-returns-2 Inv-loop μ-loop
-returns-2 c = making-end (c .before .before .before .before .before .before .before .before .before .before .loop .inv) (c .before .before .before .before .before .before .before .before .before .component-end .result) _ (c .before .before .before .before .before .before .before .before .before .component-end .ensures .2) _ _ _ (rw (c .before .before .j .given .1) at (c .before .before .before .before .before .before .take-step .ensures)) (c .if1 .taken)
+returns-2 c = (search making-entry, search making-stands, search making-tree)
 
 add-at : tie.Need-add-at Inv-loop μ-loop
 add-at c = omega arith
@@ -65,7 +64,7 @@ loop-less : tie.Need-loop-less Inv-loop μ-loop
 loop-less c = omega arith
 
 loop-again : tie.Need-loop-again Inv-loop μ-loop
-loop-again c = making-turn (c .before .before .before .before .before .before .before .before .before .before .loop .inv) (c .before .before .before .before .before .before .before .before .before .component-end .result) _ (c .before .before .before .before .before .before .before .before .before .component-end .ensures .2) _ _ _ (rw (c .before .before .j .given .1) at (c .before .before .before .before .before .before .take-step .ensures)) (c .before .before .before .before .before .before .before .before .before .component-end .ensures .0) (c .if1 .left) (c .before .before .before .before .before .before .take-step .kept .0)
+loop-again c = search making-goes-on
 
 pub make-along-spec : {M : Type 1} → statement M
 make-along-spec =

@@ -1,14 +1,13 @@
 -- `make_directories::making::new_number` meets its contract: the part of the bytes is the table.
 -- Assumes nothing.
-use mathlib.Core.Path.{sym}
-use lib.Seq.{length-take-le}
+use Rattle.make_directories.proofs.Steps.{part-count}
 use Rattle.grow.specs.Inner.Growth.{treeIn}
 use borrow.Author.Needs.{needs}
 use Rattle.make_directories.proofs.making.new_number.Statement.{statement}
 use Rattle.make_directories.proofs.making.new_number.Tie as tie
 
 slice-aggregate-next : tie.Need-slice-aggregate-next
-slice-aggregate-next c = let s = c .before .before in sym (length-take-le (s .args .size) (s .args .bytes .now) (s .pre .held))
+slice-aggregate-next c = search part-count
 
 next-requires : tie.Need-next-requires
 next-requires c κs = search needs

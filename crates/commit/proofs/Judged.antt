@@ -1,0 +1,63 @@
+-- The tests of a new table's place, by what the code found: the largest size in the working words, and whether the place reaches the table.
+-- Assumes nothing.
+use Prim.Native.Nat.{ℕ, _+_, _≤_, _<_}
+use mathlib.Core.Path.{_≡_, refl, sym, ap, _∙_}
+use mathlib.Core.Bool.{Bool, true, false, _&&_}
+use mathlib.Core.List.{List}
+use native.Mathlib.Omega.{arith}
+use borrow.Author.Tests.{lt-ltb, le-ltb}
+use lib.Dec.{ltb}
+use lib.ListN.{length}
+use mir.Syntax.{w32}
+use mir.Val.{Fits}
+use Rattle.refusal.specs.declared.Refusal.the-variants.{LimitOrMemory, NotEnoughSpace}
+use Rattle.refusal.specs.declared.Verdict.the-variants.{Passed, Refused}
+use Rattle.header.specs.Verdicts.{fstOffset, fstSize, discEnd}
+use Rattle.space.specs.declared.DiscRegion.{DiscRegion}
+use Rattle.space.specs.Free.{freeRegions}
+use Rattle.space.specs.Inner.Sort.{regionsIn}
+use Rattle.space.specs.Inner.Words.{SortedDisjoint}
+use Rattle.free_space.specs.MaxRegionSize.{maxRegionSize}
+use Rattle.opening.specs.Opening.{freeOf}
+use Rattle.opening.specs.Laws.OpeningLaws.{OpenImage}
+use Rattle.opening.specs.Inner.Prepared.{UsedWords, IsOpen}
+use Rattle.edits.specs.Change.{placeVerdict}
+use Rattle.commit.proofs.Images.{free-size, place-verdict}
+
+pub end-fits : (image w : List ℕ) (m e : ℕ) → IsOpen image w m → OpenImage image (length w) → e ≡ discEnd image → Fits w32 e
+end-fits image w m e o known q = record { fits = omega (arith, known .reads .bounds .small) }
+
+pub sorted-to : (image w : List ℕ) (m e : ℕ) → UsedWords image w m → e ≡ discEnd image → SortedDisjoint w m e
+sorted-to image w m e u q = rw q (u .sorted)
+
+-- ---- whether a place reaches the table
+
+pub empty-reaches-not : (size offset end : ℕ) → size ≡ 0 → false ≡ (ltb 0 size && ltb offset end)
+empty-reaches-not size offset end e = rw (le-ltb 0 size (omega arith))
+
+pub reaches-by-start : (size offset end : ℕ) → (size ≡ 0 → ⊥) → ltb offset end ≡ (ltb 0 size && ltb offset end)
+reaches-by-start size offset end h = rw (lt-ltb 0 size (omega arith))
+
+-- ---- the verdict
+
+pub too-few-bytes : (image : List ℕ) (room size : ℕ) (place : DiscRegion) → room < size → Refused LimitOrMemory ≡ placeVerdict image room size place
+unfolding placeVerdict
+too-few-bytes image room size place h = rw (lt-ltb room size h)
+
+module _ (image w : List ℕ) (room size m e o n most : ℕ) (place : DiscRegion) (used : UsedWords image w m) (end : e ≡ discEnd image) (start : o ≡ fstOffset image) (long : n ≡ fstSize image)
+    (found : most ≡ maxRegionSize o n (freeRegions e (regionsIn w 0 m))) (held : size ≤ room) where
+  most-is : most ≡ maxRegionSize (fstOffset image) (fstSize image) (freeOf image)
+  most-is = free-size image w m e o n most (fstOffset image) (fstSize image) used end start long found
+
+  pub grows-too-far : most < size → Refused NotEnoughSpace ≡ placeVerdict image room size place
+  grows-too-far h = sym (place-verdict image room size place most _ most-is refl ∙ rw (le-ltb room size held, lt-ltb most size h))
+
+  module _ (r : Bool) (h : size ≤ most) (reached : r ≡ (ltb 0 (place .size) && ltb (place .offset) (o + size))) where
+    reached-is : r ≡ (ltb 0 (place .size) && ltb (place .offset) (fstOffset image + size))
+    reached-is = reached ∙ ap (λ (f : ℕ). ltb 0 (place .size) && ltb (place .offset) (f + size)) start
+
+    pub place-taken : r ≡ true → Refused NotEnoughSpace ≡ placeVerdict image room size place
+    place-taken t = sym (place-verdict image room size place most r most-is reached-is ∙ rw (le-ltb room size held, le-ltb most size h, t))
+
+    pub place-free-of-it : r ≡ false → Passed ≡ placeVerdict image room size place
+    place-free-of-it t = sym (place-verdict image room size place most r most-is reached-is ∙ rw (le-ltb room size held, le-ltb most size h, t))
