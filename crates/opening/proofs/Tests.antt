@@ -57,6 +57,11 @@ module _ (image : List ℕ) (words : ℕ) (v : Verdict) (e : v ≡ verdictBefore
 pub table-inside : (image : List ℕ) (to : ℕ) → Bounded image → to ≡ tableEnd image → to ≤ length image
 table-inside image to b e = omega (arith, b .table, b .image-holds)
 
+-- the bounds of an image that opened
+pub opened-bounds : (image : List ℕ) (n : ℕ) → opening image n ≡ Passed → Bounded image
+opened-bounds image n e =
+    bounds-passed image (first-passed (boundsVerdict image) _ (first-passed (headerVerdict image) _ (first-passed (verdictBefore14 image n) _ (sym (opening-split image n) ∙ e) .0) .1) .0)
+
 pub end-fits : (image : List ℕ) (e : ℕ) → Bounded image → e ≡ discEnd image → e < 2 ^ 32
 end-fits image e b p = omega (arith, b .small)
 
