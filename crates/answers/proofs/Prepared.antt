@@ -1,14 +1,17 @@
 -- What a prepared image gives the calls on it: what they ask of its words, and their answers behind its verdict. Assumes nothing.
-use Prim.Native.Nat.{ℕ}
+use Prim.Native.Nat.{ℕ, _+_, _^_, _<_}
+use lib.ListN.{length}
+use Rattle.header.specs.Verdicts.{fstOffset}
 use mathlib.Core.Path.{_≡_, ap, _∙_}
 use mathlib.Core.List.{List}
 use Rattle.refusal.specs.declared.Refusal.{Refusal}
 use Rattle.refusal.specs.declared.Verdict.the-variants as verdict
-use Rattle.opening.proofs.Words.{DiscRegion, freeRegions, regionsIn, SortedDisjoint}
+use Rattle.opening.proofs.Tests.{opened-bounds, table-below}
+use Rattle.opening.proofs.Words.{Opens, table-opens, DiscRegion, freeRegions, regionsIn, SortedDisjoint}
 use Rattle.free_space.specs.MaxRegionSize.{maxRegionSize}
 use Rattle.opening.specs.declared.Prepared.{Prepared}
 use Rattle.opening.specs.declared.Prepared.the-variants.{Ready, Refused}
-use Rattle.opening.specs.Opening.{opening, freeOf}
+use Rattle.opening.specs.Opening.{opening, tableOf, freeOf}
 use Rattle.opening.specs.Inner.Prepared.{UsedWords, Prepares}
 use Rattle.answers.specs.declared.Disc.{Disc}
 use Rattle.answers.specs.declared.SizeAnswer.the-variants as size
@@ -22,6 +25,14 @@ module _ (image : List ℕ) (n : ℕ) (w : List ℕ) (p : Prepared) (h : Prepare
   pub ready-used : (m : ℕ) → p ≡ Ready m → UsedWords image w m
   ready-used m r = was-ready image n w p h m r .1
 
+  -- its table
+  pub ready-table : (m : ℕ) (tab : List ℕ) → p ≡ Ready m → tab ≡ tableOf image → Opens tab
+  ready-table m tab r e = table-opens image n tab (ready-opened m r) e
+
+  pub ready-table-below : (m from : ℕ) (tab : List ℕ) → p ≡ Ready m → from ≡ fstOffset image → tab ≡ tableOf image → from + length tab < 2 ^ 32
+  ready-table-below m from tab r e f = table-below image from tab (opened-bounds image n (ready-opened m r)) e f
+
+  -- its words
   pub ready-sorted : (m : ℕ) (d : Disc) → p ≡ Ready m → d ≡ discOf image → SortedDisjoint w m (d .«disc_end»)
   ready-sorted m d r e = rw e (ready-used m r .sorted)
 

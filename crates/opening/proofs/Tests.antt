@@ -6,6 +6,7 @@ use mathlib.Core.List.{List, _∷_, map}
 use native.Mathlib.Omega.{arith}
 use lib.ListN.{length, take, drop}
 use Rattle.endian.specs.Bytes.{be32}
+use Rattle.endian.specs.Laws.Stored.{length-span}
 use Rattle.refusal.specs.declared.Refusal.{Refusal}
 use Rattle.refusal.specs.declared.Verdict.{Verdict}
 use Rattle.refusal.specs.declared.Verdict.the-variants.{Passed, Refused}
@@ -61,6 +62,12 @@ table-inside image to b e = omega (arith, b .table, b .image-holds)
 pub opened-bounds : (image : List ℕ) (n : ℕ) → opening image n ≡ Passed → Bounded image
 opened-bounds image n e =
     bounds-passed image (first-passed (boundsVerdict image) _ (first-passed (headerVerdict image) _ (first-passed (verdictBefore14 image n) _ (sym (opening-split image n) ∙ e) .0) .1) .0)
+
+pub table-below : (image : List ℕ) (from : ℕ) (tab : List ℕ) → Bounded image → from ≡ fstOffset image → tab ≡ tableOf image → from + length tab < 2 ^ 32
+unfolding tableOf
+table-below image from tab b e f =
+    let l : length (tableOf image) ≡ fstSize image = length-span image (fstOffset image) (fstSize image) (omega (arith, b .table, b .image-holds)) in
+    rw f (omega (arith, l, b .table, b .small))
 
 pub end-fits : (image : List ℕ) (e : ℕ) → Bounded image → e ≡ discEnd image → e < 2 ^ 32
 end-fits image e b p = omega (arith, b .small)
