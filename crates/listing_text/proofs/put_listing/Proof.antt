@@ -6,16 +6,16 @@ use Rattle.listing_text.proofs.put_listing.Statement.{statement}
 use Rattle.listing_text.proofs.put_listing.Tie as tie
 
 used-size-requires : tie.Need-used-size-requires
-used-size-requires c κs = search
+used-size-requires c κs = let s : tie.Start = search in s .pre .1
 
 put-totals-requires : tie.Need-put-totals-requires
 put-totals-requires c κs = tt
 
 put-entries-requires : tie.Need-put-entries-requires
-put-entries-requires c κs = search
+put-entries-requires c κs = let s : tie.Start = search in s .pre .0
 
 put-regions-requires : tie.Need-put-regions-requires
-put-regions-requires c κs = search
+put-regions-requires c κs = let s : tie.Start = search in s .pre .1
 
 same-length : tie.Need-same-length
 same-length c =

@@ -25,7 +25,7 @@ count-requires : tie.Need-count-requires Inv-loop μ-loop
 count-requires c κs = search opens-long
 
 put-root-requires : tie.Need-put-root-requires Inv-loop μ-loop
-put-root-requires c κs = search
+put-root-requires c κs = let s : tie.Start Inv-loop μ-loop = search in s .pre
 
 loop-holds : tie.Need-loop-holds Inv-loop μ-loop
 loop-holds c = (omega arith, omega (arith, opens-some), search (chain-start, reads), search climbs-start, search walk-start)

@@ -7,22 +7,22 @@ use Rattle.listing_text.proofs.entries.put_entry.Statement.{statement}
 use Rattle.listing_text.proofs.entries.put_entry.Tie as tie
 
 sub-put-fields : tie.Need-sub-put-fields
-sub-put-fields c = omega arith
+sub-put-fields c = let s : tie.Start = search in omega (arith, s .pre .3 .chain .some)
 
 mul-put-fields : tie.Need-mul-put-fields
-mul-put-fields c = omega arith
+mul-put-fields c = let s : tie.Start = search in omega (arith, s .pre .3 .chain .few)
 
 element-copy-out-put-fields : tie.Need-element-copy-out-put-fields
-element-copy-out-put-fields c = omega arith
+element-copy-out-put-fields c = let s : tie.Start = search in omega (arith, s .pre .3 .chain .few, s .pre .3 .chain .some)
 
 put-fields-requires : tie.Need-put-fields-requires
-put-fields-requires c κs = (search, search, search around-before)
+put-fields-requires c κs = let s : tie.Start = search in (s .pre .0, s .pre .2, around-before (s .pre .3))
 
 put-parent-requires : tie.Need-put-parent-requires
-put-parent-requires c κs = (search, search, search)
+put-parent-requires c κs = let s : tie.Start = search in (s .pre .0, s .pre .2, s .pre .3)
 
 put-name-requires : tie.Need-put-name-requires
-put-name-requires c κs = (search, search, search)
+put-name-requires c κs = let s : tie.Start = search in (s .pre .0, s .pre .1, s .pre .2)
 
 put-byte-requires : tie.Need-put-byte-requires
 put-byte-requires c κs = tt

@@ -12,31 +12,31 @@ reads : (c : tie.After-shared-slice-known) → Read (c .before .args .table .now
 reads c = read _ (λ i. omega (arith, c .shared-slice-known .given i)) (search)
 
 mul-read-u32 : tie.Need-mul-read-u32
-mul-read-u32 c = omega (arith, opens-held)
+mul-read-u32 c = let s : tie.Start = search in omega (arith, s .pre .1, opens-held _ (s .pre .0))
 
 add-read-u32 : tie.Need-add-read-u32
-add-read-u32 c = omega (arith, opens-held)
+add-read-u32 c = let s : tie.Start = search in omega (arith, s .pre .1, opens-held _ (s .pre .0))
 
 read-u32-requires : tie.Need-read-u32-requires
-read-u32-requires c κs = omega (arith, opens-held)
+read-u32-requires c κs = let s : tie.Start = search in omega (arith, s .pre .1, opens-held _ (s .pre .0))
 
 mul-if1 : tie.Need-mul-if1
-mul-if1 c = omega (arith, opens-held)
+mul-if1 c = let s : tie.Start = search in omega (arith, s .pre .1, opens-held _ (s .pre .0))
 
 shared-slice-read-if1 : tie.Need-shared-slice-read-if1
-shared-slice-read-if1 c = omega (arith, opens-held)
+shared-slice-read-if1 c = let s : tie.Start = search in omega (arith, s .pre .1, opens-held _ (s .pre .0))
 
 mul-read-u32-2 : tie.Need-mul-read-u32-2
-mul-read-u32-2 c = omega (arith, opens-held)
+mul-read-u32-2 c = let s : tie.Start = search in omega (arith, s .pre .1, opens-held _ (s .pre .0))
 
 add-read-u32-2 : tie.Need-add-read-u32-2
-add-read-u32-2 c = omega (arith, opens-held)
+add-read-u32-2 c = let s : tie.Start = search in omega (arith, s .pre .1, opens-held _ (s .pre .0))
 
 read-u32-requires-2 : tie.Need-read-u32-requires-2
-read-u32-requires-2 c κs = omega (arith, opens-held)
+read-u32-requires-2 c κs = let s : tie.Start = search in omega (arith, s .pre .1, opens-held _ (s .pre .0))
 
 cast-put-pair : tie.Need-cast-put-pair
-cast-put-pair c = omega (arith, opens-small)
+cast-put-pair c = let s : tie.Start = search in omega (arith, s .pre .1, opens-small _ (s .pre .0))
 
 put-pair-requires : tie.Need-put-pair-requires
 put-pair-requires c κs = tt
@@ -51,10 +51,10 @@ returns : tie.Need-returns
 returns c = search (file-written, reads)
 
 cast-put-pair-2 : tie.Need-cast-put-pair-2
-cast-put-pair-2 c = omega (arith, opens-small)
+cast-put-pair-2 c = let s : tie.Start = search in omega (arith, s .pre .1, opens-small _ (s .pre .0))
 
 cast-put-pair-3 : tie.Need-cast-put-pair-3
-cast-put-pair-3 c = omega (arith, opens-small)
+cast-put-pair-3 c = let s : tie.Start = search in omega (arith, s .pre .1, s .pre .2, opens-small _ (s .pre .0))
 
 put-pair-requires-2 : tie.Need-put-pair-requires-2
 put-pair-requires-2 c κs = tt

@@ -2,38 +2,38 @@
 -- Assumes nothing.
 use Rattle.listing_text.proofs.Joining.{kept-two}
 use Rattle.listing_text.proofs.LineParts.{directory-named, file-named}
-use Rattle.listing_text.proofs.Tables.{opens-held}
+use Rattle.listing_text.proofs.Tables.{opens-held, opens-small}
 use native.Mathlib.Omega.{arith}
 use borrow.Author.Needs.{needs}
 use Rattle.listing_text.proofs.entries.put_name.Statement.{statement}
 use Rattle.listing_text.proofs.entries.put_name.Tie as tie
 
 count-requires : tie.Need-count-requires
-count-requires c κs = omega (arith, opens-held)
+count-requires c κs = let s : tie.Start = search in omega (arith, s .pre .2, opens-held _ (s .pre .0))
 
 mul-place : tie.Need-mul-place
-mul-place c = omega (arith, opens-held)
+mul-place c = let s : tie.Start = search in omega (arith, c .count .ensures, opens-small _ (s .pre .0))
 
 mul-read-u24 : tie.Need-mul-read-u24
-mul-read-u24 c = omega (arith, opens-held)
+mul-read-u24 c = let s : tie.Start = search in omega (arith, s .pre .2, opens-held _ (s .pre .0))
 
 add-read-u24 : tie.Need-add-read-u24
-add-read-u24 c = omega (arith, opens-held)
+add-read-u24 c = let s : tie.Start = search in omega (arith, s .pre .2, opens-held _ (s .pre .0))
 
 read-u24-requires : tie.Need-read-u24-requires
-read-u24-requires c κs = omega (arith, opens-held)
+read-u24-requires c κs = let s : tie.Start = search in omega (arith, s .pre .2, opens-held _ (s .pre .0))
 
 cast-place : tie.Need-cast-place
 cast-place c = search needs
 
 add-place : tie.Need-add-place
-add-place c = omega (arith, opens-held)
+add-place c = let s : tie.Start = search in omega (arith, c .before .count .ensures, c .read-u24 .ensures .1, opens-small _ (s .pre .0))
 
 put-text-requires : tie.Need-put-text-requires
 put-text-requires c κs = tt
 
 is-directory-requires : tie.Need-is-directory-requires
-is-directory-requires c κs = (search, search)
+is-directory-requires c κs = let s : tie.Start = search in (s .pre .0, s .pre .2)
 
 put-byte-requires : tie.Need-put-byte-requires
 put-byte-requires c κs = tt

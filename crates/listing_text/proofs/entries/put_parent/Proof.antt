@@ -5,7 +5,7 @@ use Prim.Native.Nat.{_-_}
 use native.Mathlib.Omega.{arith}
 use borrow.Author.Needs.{needs}
 use Rattle.tree.specs.Table.{nodesOf}
-use Rattle.listing_text.proofs.LineParts.{Stepping, step-start, step-few, step-some, step-below, step-turn, step-end}
+use Rattle.listing_text.proofs.LineParts.{Stepping, step-start, step-some, step-below, step-turn, step-end}
 use Rattle.listing_text.proofs.entries.put_parent.Statement.{statement}
 use Rattle.listing_text.proofs.entries.put_parent.Tie as tie
 
@@ -25,16 +25,16 @@ loop-holds : tie.Need-loop-holds Inv-loop μ-loop
 loop-holds c = search step-start
 
 mul-put-name : tie.Need-mul-put-name Inv-loop μ-loop
-mul-put-name c = omega arith
+mul-put-name c = let s : tie.Start Inv-loop μ-loop = search in omega (arith, s .pre .2 .chain .few)
 
 element-copy-out-put-name : tie.Need-element-copy-out-put-name Inv-loop μ-loop
-element-copy-out-put-name c = search step-few
+element-copy-out-put-name c = let s : tie.Start Inv-loop μ-loop = search in omega (arith, s .pre .2 .chain .few)
 
 put-name-requires : tie.Need-put-name-requires Inv-loop μ-loop
 put-name-requires c κs = (search, search step-some, search step-below)
 
 add-i : tie.Need-add-i Inv-loop μ-loop
-add-i c = omega arith
+add-i c = let s : tie.Start Inv-loop μ-loop = search in omega (arith, s .pre .2 .chain .few)
 
 loop-less : tie.Need-loop-less Inv-loop μ-loop
 loop-less c = omega arith

@@ -20,10 +20,10 @@ sub-next : tie.Need-sub-next Inv-loop μ-loop
 sub-next c = omega arith
 
 mul-next : tie.Need-mul-next Inv-loop μ-loop
-mul-next c = omega arith
+mul-next c = let s : tie.Start Inv-loop μ-loop = search in omega (arith, s .pre .0 .2 .few)
 
 element-copy-out-next : tie.Need-element-copy-out-next Inv-loop μ-loop
-element-copy-out-next c = omega arith
+element-copy-out-next c = let s : tie.Start Inv-loop μ-loop = search in omega (arith, s .pre .0 .2 .few)
 
 next-requires : tie.Need-next-requires Inv-loop μ-loop
 next-requires c κs = (search, search shut-before)
