@@ -105,9 +105,6 @@ module _ {nodes : List Node} {dirs : List ℕ} {d k : ℕ} (a : Around nodes dir
   pub step-below : (i n : ℕ) → i < d → k < n → getD dirs i 0 < n
   step-below i n h l = omega (arith, a .chain .before i h)
 
-  pub step-few : (i : ℕ) → i < d → i < 65
-  step-few i h = omega (arith, a .chain .few)
-
   module _ {text₀ text : List ℕ} {at end i : ℕ} (s : Stepping nodes dirs d text₀ text at end i) where
     here : ℕ
     here = getD dirs i 0

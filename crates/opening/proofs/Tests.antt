@@ -78,10 +78,6 @@ table-end-fits image to b p = omega (arith, b .table, b .small)
 pub root-inside : (image : List ℕ) (from : ℕ) → Bounded image → 12 ≤ fstSize image → from ≡ fstOffset image → from + 8 + 4 ≤ length image
 root-inside image from b r p = omega (arith, b .table, b .image-holds)
 
--- the table ends below 2^32
-pub table-ends : (image : List ℕ) (n from : ℕ) (tab : List ℕ) → Readable image n → from ≡ fstOffset image → tab ≡ tableOf image → from + length tab < 2 ^ 32
-table-ends image n from tab k e f = rw f (omega (arith, k .size, k .bounds .table, k .bounds .small))
-
 -- the root's next, read from the image
 pub count-is : (image : List ℕ) (n from r : ℕ) → Readable image n → from ≡ fstOffset image → r ≡ be32 image (from + 8) → r ≡ count (tableOf image)
 count-is image n from r k e f = f ∙ ap (λ (a : ℕ). be32 image (a + 8)) e ∙ k .next

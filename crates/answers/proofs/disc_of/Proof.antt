@@ -18,7 +18,7 @@ use Rattle.answers.proofs.disc_of.Tie as tie
 
 -- what holds at entry
 abbrev entry : tie.After-shared-slice-known2 → tie.Start
-entry c = c .before .before
+entry c = search
 
 known : (c : tie.After-shared-slice-known2) → Readable (now (entry c .args .image)) (length (now (entry c .args .words)))
 known c = opens _ _ (λ i. omega (arith, c .before .shared-slice-known .given i)) (entry c .pre .0) .reads

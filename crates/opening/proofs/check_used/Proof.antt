@@ -21,7 +21,7 @@ use Rattle.opening.proofs.check_used.Tie as tie
 
 -- what holds at entry
 abbrev entry : tie.After-slice-known → tie.Start
-entry c = c .before .before
+entry c = search
 
 known : (c : tie.After-slice-known) → Readable (now (entry c .args .image)) (length (now (entry c .args .words)))
 known c = readable _ _ (λ i. omega (arith, c .before .shared-slice-known .given i)) (search)
