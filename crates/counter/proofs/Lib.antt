@@ -3,3 +3,4 @@ pub mod Counts
 pub mod HeaderBytes
 pub mod Puts
 pub mod EditAnswers
+pub mod ReadAnswers

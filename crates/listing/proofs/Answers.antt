@@ -21,7 +21,10 @@ use Rattle.space.specs.Used.{totalSize}
 use Rattle.space.specs.Free.{freeRegions}
 use Rattle.space.specs.Inner.Sort.{regionsIn}
 use Rattle.opening.specs.Opening.{tableOf, nodesIn, opening}
-use Rattle.opening.specs.Inner.Prepared.{UsedWords}
+use Rattle.opening.specs.Inner.Prepared.{UsedWords, Prepares}
+use Rattle.opening.specs.declared.Prepared.{Prepared}
+use Rattle.opening.specs.declared.Prepared.the-variants as prepared
+use Rattle.answers.specs.Laws.AnswerLaws.{was-refused}
 use Rattle.answers.specs.Answers.{behind}
 use Rattle.listing.specs.declared.Listed.{Listed}
 use Rattle.listing.specs.declared.Listed.the-variants.{Text, Refused}
@@ -67,10 +70,23 @@ module _ (text : List ℕ) {none none′ bs : List ℕ} {size : ℕ} (w : Wrote 
 
 -- ---- refused
 
-pub list-refused : (image : List ℕ) (words : ℕ) (text : List ℕ) (c : Refusal) → opening image words ≡ verdict.Refused c →
-    (Refused c ≡ listAnswer image words (length text)) × (text ≡ listBuffer image words text)
-unfolding listAnswer listBuffer listingVerdict
-list-refused image words text c e = (rw e, rw e)
+module _ (image : List ℕ) (n : ℕ) (w : List ℕ) (p : Prepared) (h : Prepares image n w p) (c : Refusal) (e : p ≡ prepared.Refused c) where
+  pub list-refused : (room : ℕ) → Refused c ≡ listAnswer image n room
+  unfolding listAnswer listingVerdict
+  list-refused room = rw (was-refused image n w p h c e)
+
+  pub buffer-refused : (text : List ℕ) → text ≡ listBuffer image n text
+  unfolding listBuffer listingVerdict
+  buffer-refused text = rw (was-refused image n w p h c e)
+
+-- ---- after `prepare`, which keeps the number of the words
+
+module _ (image : List ℕ) (n n′ : ℕ) (kept : n′ ≡ n) where
+  pub list-kept : (room : ℕ) (a : Listed) → a ≡ listAnswer image n′ room → a ≡ listAnswer image n room
+  list-kept room a h = rw kept at h
+
+  pub buffer-kept : (text text′ : List ℕ) → text′ ≡ listBuffer image n′ text → text′ ≡ listBuffer image n text
+  buffer-kept text text′ h = rw kept at h
 
 -- ---- images of the program's length
 
@@ -79,13 +95,21 @@ SmallAnswer image words text r text′ =
     (r ≡ behind (reportVerdict image words (length text)) Refused (Text (length (listingText image)))) × (text′ ≡ behind (reportVerdict image words (length text)) (λ c. text) (put text 0 (listingText image)))
 
 module _ (image : List ℕ) (words : ℕ) (text : List ℕ) where
-  pub too-large : 65536 < length image → SmallAnswer image words text (Refused LimitOrMemory) text
+  pub large-answer : 65536 < length image → Refused LimitOrMemory ≡ behind (reportVerdict image words (length text)) Refused (Text (length (listingText image)))
   unfolding reportVerdict
-  too-large h = let t = lt-ltb 65536 (length image) h in (rw t, rw t)
+  large-answer h = rw (lt-ltb 65536 (length image) h)
 
-  pub not-large : (r : Listed) (text′ : List ℕ) → length image ≤ 65536 → (r ≡ listAnswer image words (length text)) × (text′ ≡ listBuffer image words text) → SmallAnswer image words text r text′
-  unfolding reportVerdict listAnswer listBuffer
-  not-large r text′ h a = let t = le-ltb 65536 (length image) h in (rw t (a .0), rw t (a .1))
+  pub large-buffer : 65536 < length image → text ≡ behind (reportVerdict image words (length text)) (λ c. text) (put text 0 (listingText image))
+  unfolding reportVerdict
+  large-buffer h = rw (lt-ltb 65536 (length image) h)
+
+  pub small-answer : (r : Listed) → length image ≤ 65536 → r ≡ listAnswer image words (length text) → r ≡ behind (reportVerdict image words (length text)) Refused (Text (length (listingText image)))
+  unfolding reportVerdict listAnswer
+  small-answer r h a = rw (le-ltb 65536 (length image) h) a
+
+  pub small-buffer : (text′ : List ℕ) → length image ≤ 65536 → text′ ≡ listBuffer image words text → text′ ≡ behind (reportVerdict image words (length text)) (λ c. text) (put text 0 (listingText image))
+  unfolding reportVerdict listBuffer
+  small-buffer text′ h a = rw (le-ltb 65536 (length image) h) a
 
   -- ---- the report
 

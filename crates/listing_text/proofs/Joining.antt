@@ -28,6 +28,18 @@ module _ {text text′ text″ : List ℕ} {at m end : ℕ} {a b : List ℕ} (f 
   pub wrote-join : Wrote text text″ at (a ++ b) end
   wrote-join = record { stop = omega (arith, both, f .stop, g .stop); laid = lies }
 
+-- a text in two parts, and in three
+pub wrote-two : (text text₁ text₂ : List ℕ) (at m end : ℕ) (a b bs : List ℕ) → Wrote text text₁ at a m → Wrote text₁ text₂ m b end → a ++ b ≡ bs → Wrote text text₂ at bs end
+wrote-two text text₁ text₂ at m end a b bs f g e = rw e at (wrote-join f g)
+
+pub wrote-three : (text text₁ text₂ text₃ : List ℕ) (at m₁ m₂ end : ℕ) (a b c bs : List ℕ) → Wrote text text₁ at a m₁ → Wrote text₁ text₂ m₁ b m₂ → Wrote text₂ text₃ m₂ c end
+    → a ++ (b ++ c) ≡ bs → Wrote text text₃ at bs end
+wrote-three text text₁ text₂ text₃ at m₁ m₂ end a b c bs f g h e = rw e at (wrote-join f (wrote-join g h))
+
+-- the buffer keeps its length
+pub kept-two : (a b c : ℕ) → a ≡ b → b ≡ c → a ≡ c
+kept-two a b c p q = p ∙ q
+
 -- ---- a text up to its end
 
 pub record Copying (source text₀ text : List ℕ) (from i at end : ℕ) : Type 0 where

@@ -1,5 +1,7 @@
 -- What the proofs of the functions cite.
 pub mod Joining
+pub mod Digits
+pub mod Tables
 pub mod Paths
 pub mod Chains
 pub mod LineParts

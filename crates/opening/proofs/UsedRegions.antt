@@ -1,6 +1,6 @@
 -- The used regions collected: one turn of the loop over the entries, and what stands in the words after it. Assumes nothing.
 use Prim.Native.Nat.{ℕ, zero, suc, _+_, _-_, _≤_}
-use mathlib.Core.Path.{_≡_, refl, sym, ap}
+use mathlib.Core.Path.{_≡_, refl, sym, ap, _∙_}
 use mathlib.Core.List.{List, [], _∷_, _++_, append-nil, map}
 use native.Mathlib.Omega.{arith}
 use native.Mathlib.Nat.{add-zero}
@@ -20,14 +20,15 @@ unfolding nonempty
 directory-empty zero a b h = absurd (h refl)
 directory-empty (suc n) a b h = refl
 
-pub added-file : (tab : List ℕ) (k : ℕ) (w w′ : List ℕ) (m r o n : ℕ) → kind tab k ≡ 0 → o ≡ offsetOrParent tab k → n ≡ sizeOrNext tab k → Added w w′ m o n r → AddedEntry tab k w w′ m r
-added-file tab k w w′ m r o n e p q a =
+-- the kind was read, and then the fields
+pub added-file : (tab : List ℕ) (k : ℕ) (w w′ : List ℕ) (m r o n t : ℕ) → t ≡ kind tab k → t ≡ 0 → o ≡ offsetOrParent tab k → n ≡ sizeOrNext tab k → Added w w′ m o n r → AddedEntry tab k w w′ m r
+added-file tab k w w′ m r o n t d e p q a =
     let l : regionsIn w′ 0 r ≡ regionsIn w 0 m ++ nonempty (record { offset = offsetOrParent tab k; size = sizeOrNext tab k } ∷ []) = rw (← p, ← q) (a .list) in
-    record { list = rw e l; bound = a .bound }
+    record { list = rw (sym d ∙ e) l; bound = a .bound }
 
-pub added-none : (tab : List ℕ) (k : ℕ) (w : List ℕ) (m : ℕ) → (kind tab k ≡ 0 → ⊥) → AddedEntry tab k w w m m
-added-none tab k w m h =
-    record { list = rw (directory-empty (kind tab k) (offsetOrParent tab k) (sizeOrNext tab k) h) (sym (append-nil (regionsIn w 0 m))); bound = omega arith }
+pub added-none : (tab : List ℕ) (k : ℕ) (w : List ℕ) (m t : ℕ) → t ≡ kind tab k → (t ≡ 0 → ⊥) → AddedEntry tab k w w m m
+added-none tab k w m t d h =
+    record { list = rw (directory-empty (kind tab k) (offsetOrParent tab k) (sizeOrNext tab k) (λ e. h (d ∙ e))) (sym (append-nil (regionsIn w 0 m))); bound = omega arith }
 
 -- ---- the loop
 
@@ -51,6 +52,11 @@ collect-turn tab w w′ t k m r h e a =
     let p : k + 1 - 1 ≡ suc (k - 1) = omega arith in
     let q : 1 + (k - 1) ≡ k = omega arith in
     rw (p, entries-snoc tab 1 (k - 1), q, used-snoc t (entryRegions tab 1 (k - 1)) (entryRegion tab k), ← e) (a .list)
+
+pub collect-end : (tab w : List ℕ) (t k n m : ℕ) → k ≤ n → n ≤ k → regionsIn w 0 m ≡ usedRegions t (entryRegions tab 1 (k - 1)) → regionsIn w 0 m ≡ usedRegions t (entryRegions tab 1 (n - 1))
+collect-end tab w t k n m a b h =
+    let e : k ≡ n = omega arith in
+    rw e at h
 
 -- ---- the entries' regions are those of the tree
 

@@ -1,19 +1,37 @@
 -- `answers::disc_of` meets its contract: each number is read where the definition has it.
 -- Assumes nothing.
-use mathlib.Core.Path.{_∙_}
 use native.Mathlib.Omega.{arith}
 use lib.ListN.{length}
 use denote.Ref.{now}
 use Rattle.opening.specs.Laws.OpeningLaws.{Readable, opens}
-use Rattle.opening.proofs.Tests.{count-is}
-use Rattle.answers.proofs.Answers.{disc-is}
+use Rattle.opening.proofs.Tests.{count-is, end-fits, root-inside, opened-bounds}
+use Rattle.answers.proofs.Answers.{disc-read}
+use Rattle.opening.proofs.Words.{sorted-below}
+use Rattle.tree.specs.Table.{count}
+use Rattle.opening.specs.Opening.{tableOf}
+use Rattle.header.specs.Verdicts.{fstSize}
+use Prim.Native.Nat.{_≤_}
+use mathlib.Core.Path.{_≡_}
 use borrow.Author.Needs.{needs}
 use Rattle.answers.proofs.disc_of.Statement.{statement}
 use Rattle.answers.proofs.disc_of.Tie as tie
 
 -- what holds at entry
-known : (c : tie.After-shared-slice-known2) → let s = c .before .before in Readable (now (s .args .image)) (length (now (s .args .words)))
-known c = opens (now (c .before .before .args .image)) (length (now (c .before .before .args .words))) (λ i. omega (arith, c .before .shared-slice-known .given i)) (c .before .before .pre .0) .reads
+abbrev entry : tie.After-shared-slice-known2 → tie.Start
+entry c = search
+
+known : (c : tie.After-shared-slice-known2) → Readable (now (entry c .args .image)) (length (now (entry c .args .words)))
+known c = opens _ _ (λ i. omega (arith, c .before .shared-slice-known .given i)) (entry c .pre .0) .reads
+
+rooted : (c : tie.After-shared-slice-known2) → 12 ≤ fstSize (now (entry c .args .image))
+rooted c = known c .root
+
+-- the count that was read
+abbrev start : tie.After-read-u32 → tie.Start
+start c = search
+
+counted : (c : tie.After-read-u32) → c .read-u32 .result ≡ count (tableOf (now (start c .args .image)))
+counted c = count-is _ _ _ _ (known (search)) (search) (c .read-u32 .ensures)
 
 fst-offset-requires : tie.Need-fst-offset-requires
 fst-offset-requires c κs = search needs
@@ -25,7 +43,7 @@ disc-end-requires : tie.Need-disc-end-requires
 disc-end-requires c κs = search needs
 
 cast-disc-end : tie.Need-cast-disc-end
-cast-disc-end c = let k = known (c .before .before .before) in omega (arith, k .bounds .small, c .disc-end .ensures)
+cast-disc-end c = search (end-fits, opened-bounds)
 
 cast-read-u32 : tie.Need-cast-read-u32
 cast-read-u32 c = search needs
@@ -34,16 +52,13 @@ add-read-u32 : tie.Need-add-read-u32
 add-read-u32 c = search needs
 
 read-u32-requires : tie.Need-read-u32-requires
-read-u32-requires c κs = let k = known (c .before .before .before) in omega (arith, k .root, k .bounds .table, k .bounds .image-holds, c .before .before .fst-offset .ensures)
+read-u32-requires c κs = search (root-inside, opened-bounds, rooted)
 
 used-size-requires : tie.Need-used-size-requires
-used-size-requires c κs = rw (c .before .disc-end .ensures) (c .before .before .before .before .before .before .pre .1 .sorted)
+used-size-requires c κs = search sorted-below
 
 returns : tie.Need-returns
-returns c = let s = c .before .before .before .before .before .before .before in
-    let image = now (s .args .image) in
-    disc-is image _ _ _ _ _ (c .before .before .before .before .fst-offset .ensures) (c .before .before .before .fst-size .ensures) (c .before .before .disc-end .ensures)
-    (count-is image _ _ _ (known (c .before .before .before .before .before)) (c .before .before .before .before .fst-offset .ensures) (c .before .read-u32 .ensures)) (c .used-size .ensures ∙ s .pre .1 .total)
+returns c = search (disc-read, counted)
 
 pub disc-of-spec : {M : Type 1} → statement M
 disc-of-spec =

@@ -22,10 +22,19 @@ put-byte-requires : tie.Need-put-byte-requires
 put-byte-requires c κs = tt
 
 same-length : tie.Need-same-length
-same-length c = c .before .before .put-byte .kept .0 ∙ c .before .before .before .before .before .before .put-decimal .kept .0 ∙ c .before .before .before .before .before .before .before .before .before .before .before .put-text .kept .0
+same-length c =
+    let a : tie.After-put-text = search in
+    let b : tie.After-put-decimal = search in
+    let d : tie.After-put-byte = search in
+    d .put-byte .kept .0 ∙ b .put-decimal .kept .0 ∙ a .put-text .kept .0
 
 returns : tie.Need-returns
-returns c = wrote-join (c .before .before .before .before .before .before .before .before .before .before .before .put-text .ensures) (wrote-join (rw (c .before .before .before .before .before .before .before .number .ensures) at (c .before .before .before .before .before .before .put-decimal .ensures)) (c .before .before .put-byte .ensures))
+returns c =
+    let a : tie.After-put-text = search in
+    let b : tie.After-put-decimal = search in
+    let d : tie.After-put-byte = search in
+    let n : tie.After-number = search in
+    wrote-join (a .put-text .ensures) (wrote-join (rw (n .number .ensures) at (b .put-decimal .ensures)) (d .put-byte .ensures))
 
 pub put-refused-spec : {M : Type 1} → statement M
 put-refused-spec = tie.close (tie.spec slice-aggregate-put-text put-text-requires number-requires put-decimal-requires put-byte-requires same-length returns)

@@ -1,6 +1,6 @@
 -- `listing::report` meets its contract, by the two cases of a listing.
 -- Assumes nothing.
-use mathlib.Core.Path.{_∙_}
+use Rattle.listing_text.proofs.Joining.{kept-two}
 use borrow.Author.Needs.{needs}
 use lib.ListN.{length}
 use denote.Ref.{now}
@@ -21,22 +21,34 @@ write-refused-requires : tie.Need-write-refused-requires
 write-refused-requires c κs = tt
 
 same-length : tie.Need-same-length
-same-length c = c .before .before .before .before .before .before .before .list-small .kept .1 .0
+same-length c = search
 
 same-length-2 : tie.Need-same-length-2
-same-length-2 c = c .before .before .before .before .before .before .before .list-small .kept .1 .1 .0
+same-length-2 c = search
 
 returns : tie.Need-returns
-returns c = let s = c .before .before .before .before .before .before .before .before .before .before .before .before .before in let e = c .before .before .before .before .before .before .before .list-small .ensures in let a = report-text (now (s .args .image)) (length (now (s .args .words))) (now (s .args .text)) _ _ (e .0, e .1) _ (c .before .listed .given .1) in (a .0, a .1, e .2)
+returns c =
+    let s : tie.Start = search in
+    let l : tie.After-list-small = search in
+    let e = l .list-small .ensures in
+    let a = report-text (now (s .args .image)) (length (now (s .args .words))) (now (s .args .text)) _ _ (e .0, e .1) _ (c .before .listed .given .1) in
+    (a .0, a .1, e .2)
 
 same-length-3 : tie.Need-same-length-3
-same-length-3 c = c .before .before .before .before .before .before .before .before .before .before .before .list-small .kept .1 .0
+same-length-3 c = search
 
 same-length-4 : tie.Need-same-length-4
-same-length-4 c = c .before .before .write-refused .kept .0 ∙ c .before .before .before .before .before .before .before .before .before .before .before .list-small .kept .1 .1 .0
+same-length-4 c = search kept-two
 
 returns-2 : tie.Need-returns-2
-returns-2 c = let s = c .before .before .before .before .before .before .before .before .before .before .before .before .before .before .before .before .before in let e = c .before .before .before .before .before .before .before .before .before .before .before .list-small .ensures in let a = report-refused (now (s .args .image)) (length (now (s .args .words))) (now (s .args .text)) _ _ (e .0, e .1) _ (c .before .before .before .before .before .listed2 .given .1) _ _ (c .before .before .write-refused .ensures) in (a .0, a .1, e .2)
+returns-2 c =
+    let s : tie.Start = search in
+    let l : tie.After-list-small = search in
+    let e = l .list-small .ensures in
+    let m : tie.After-listed2 = search in
+    let w : tie.After-write-refused = search in
+    let a = report-refused (now (s .args .image)) (length (now (s .args .words))) (now (s .args .text)) _ _ (e .0, e .1) _ (m .listed2 .given .1) _ _ (w .write-refused .ensures) in
+    (a .0, a .1, e .2)
 
 pub report-spec : {M : Type 1} → statement M
 report-spec = tie.close (tie.spec list-small-requires enum-known-listed enum-known-listed-2 write-refused-requires same-length same-length-2 returns same-length-3 same-length-4 returns-2)

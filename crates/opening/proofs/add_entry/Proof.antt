@@ -1,7 +1,5 @@
 -- `opening::add_entry` meets its contract: a file's offset and size are the fields of its entry, and a directory has no region.
 -- Assumes nothing.
-use mathlib.Core.Path.{sym, _∙_}
-use denote.Ref.{now}
 use Rattle.opening.proofs.UsedRegions.{added-file, added-none}
 use borrow.Author.Needs.{needs}
 use Rattle.opening.proofs.add_entry.Statement.{statement}
@@ -38,12 +36,10 @@ same-length : tie.Need-same-length
 same-length c = search needs
 
 returns : tie.Need-returns
-returns c = let s = c .before .before .before .before .before .before .before .before .before .before in
-    added-file (now (s .args .table)) (s .args .k) _ _ _ _ _ _ (sym (c .before .before .before .before .before .before .before .read-u8 .ensures) ∙ c .before .before .before .before .before .before .if1 .taken) (c .before .before .before .before .before .read-u32 .ensures) (c .before .before .before .before .read-u322 .ensures) (c .before .before .add-region .ensures)
+returns c = search added-file
 
 returns-2 : tie.Need-returns-2
-returns-2 c = let s = c .before .before .before .before in
-    added-none (now (s .args .table)) (s .args .k) _ _ (λ e. c .if1 .left (c .before .read-u8 .ensures ∙ e))
+returns-2 c = search added-none
 
 pub add-entry-spec : {M : Type 1} → statement M
 add-entry-spec =

@@ -5,27 +5,59 @@ use native.Mathlib.Omega.{arith}
 use denote.Ref.{now}
 use lib.ListN.{length}
 use Rattle.tree.specs.Table.{count}
+use Prim.Native.Nat.{_+_, _*_, _≤_}
+use Rattle.header.specs.Verdicts.{fstSize}
+use Rattle.header.specs.Laws.FieldTests.{Bounded}
 use Rattle.opening.specs.Opening.{tableOf, usedIn}
+use Rattle.refusal.specs.declared.Verdict.the-variants.{Passed}
+use Rattle.opening.specs.Inner.Prepared.{UsedWords}
 use Rattle.opening.specs.Laws.OpeningLaws.{Readable, readable}
-use Rattle.opening.proofs.Tests.{part-table, count-is, collect-asks, used-words, used-full, left-ready, left-refused}
+use Rattle.opening.proofs.Tests.{part-table, count-is, collect-asks, used-words, end-fits, root-inside, table-end-fits, table-inside, regions-room, regions-full, left-passed, left-words, left-refused}
+use Rattle.space.specs.Used.{AllNonempty}
 use Rattle.space.specs.Inner.Sort.{regionsIn}
 use borrow.Author.Needs.{needs}
 use Rattle.opening.proofs.check_used.Statement.{statement}
 use Rattle.opening.proofs.check_used.Tie as tie
 
 -- what holds at entry
-known : (c : tie.After-slice-known) → let s = c .before .before in Readable (now (s .args .image)) (length (now (s .args .words)))
-known c = readable (now (c .before .before .args .image)) (length (now (c .before .before .args .words))) (λ i. omega (arith, c .before .shared-slice-known .given i)) (c .before .before .pre)
+abbrev entry : tie.After-slice-known → tie.Start
+entry c = search
+
+known : (c : tie.After-slice-known) → Readable (now (entry c .args .image)) (length (now (entry c .args .words)))
+known c = readable _ _ (λ i. omega (arith, c .before .shared-slice-known .given i)) (search)
+
+bounded : (c : tie.After-slice-known) → Bounded (now (entry c .args .image))
+bounded c = known c .bounds
+
+rooted : (c : tie.After-slice-known) → 12 ≤ fstSize (now (entry c .args .image))
+rooted c = known c .root
 
 -- the count that was read
-counted : (c : tie.After-read-u32) → c .read-u32 .result ≡ count (tableOf (now (c .before .before .before .before .before .before .args .image)))
-counted c = count-is (now (c .before .before .before .before .before .before .args .image)) _ _ _ (known (c .before .before .before .before)) (c .before .before .before .fst-offset .ensures) (c .read-u32 .ensures)
+abbrev start : tie.After-read-u32 → tie.Start
+start c = search
+
+counted : (c : tie.After-read-u32) → c .read-u32 .result ≡ count (tableOf (now (start c .args .image)))
+counted c = count-is _ _ _ _ (known (search)) (search) (c .read-u32 .ensures)
 
 -- the regions that were collected
-used : (c : tie.After-collect) → regionsIn (c .collect .last .1 .0) 0 (c .collect .result) ≡ usedIn (now (c .before .before .before .before .before .before .before .before .before .args .image))
-used c =
-    let image = now (c .before .before .before .before .before .before .before .before .before .args .image) in
-    used-words image _ _ _ _ _ (part-table image _ _ (c .before .before .before .before .before .before .fst-offset .ensures) (c .before .before .before .before .before .table-end .ensures)) (c .before .before .before .before .before .table-end .ensures) (counted (c .before .before .before)) (c .collect .ensures .0)
+abbrev read : tie.After-collect → tie.After-read-u32
+read c = search
+
+used : (c : tie.After-collect) → regionsIn (c .collect .last .1 .0) 0 (c .collect .result) ≡ usedIn (now (start (read c) .args .image))
+used c = used-words _ _ _ _ _ _ (search part-table) (search) (counted (read c)) (c .collect .ensures .0)
+
+room : (c : tie.After-collect) → 2 * (read c .read-u32 .result + 2 + c .collect .result) ≤ length (c .collect .last .1 .0)
+room c = regions-room _ _ _ _ _ (known (search)) (counted (read c)) (c .collect .ensures .1) (c .collect .kept .1 .0)
+
+filled : (c : tie.After-collect) → AllNonempty (regionsIn (c .collect .last .1 .0) 0 (c .collect .result))
+filled c = regions-full _ _ _ (used c)
+
+-- the regions in order, once the test passed
+abbrev collected : tie.After-check-regions → tie.After-collect
+collected c = search
+
+ready : (c : tie.After-check-regions) → c .check-regions .result ≡ Passed → UsedWords (now (start (read (collected c)) .args .image)) (c .check-regions .last .0) (collected c .collect .result)
+ready c h = left-words _ _ _ _ _ _ _ (c .check-regions .ensures) h (search) (used (collected c))
 
 fst-offset-requires : tie.Need-fst-offset-requires
 fst-offset-requires c κs = search needs
@@ -40,13 +72,13 @@ disc-end-requires : tie.Need-disc-end-requires
 disc-end-requires c κs = search needs
 
 cast-end : tie.Need-cast-end
-cast-end c = let b = known (c .before .before .before) .bounds in omega (arith, b .small, c .disc-end .ensures)
+cast-end c = search (end-fits, bounded)
 
 add-read-u32 : tie.Need-add-read-u32
 add-read-u32 c = search needs
 
 read-u32-requires : tie.Need-read-u32-requires
-read-u32-requires c κs = let k = known (c .before .before .before) in omega (arith, k .root, k .bounds .table, k .bounds .image-holds, c .before .before .fst-offset .ensures)
+read-u32-requires c κs = search (root-inside, bounded, rooted)
 
 cast-count : tie.Need-cast-count
 cast-count c = search needs
@@ -58,23 +90,19 @@ part-collect-start : tie.Need-part-collect-start
 part-collect-start c = search needs
 
 part-collect-end : tie.Need-part-collect-end
-part-collect-end c = let b = known (c .before .before .before .before) .bounds in omega (arith, b .table, b .image-holds, c .before .before .table-end .ensures)
+part-collect-end c = search (table-inside, bounded)
 
 cast-collect : tie.Need-cast-collect
-cast-collect c = let b = known (c .before .before .before .before .before .before) .bounds in omega (arith, b .table, b .small, c .before .before .before .before .table-end .ensures)
+cast-collect c = search (table-end-fits, bounded)
 
 collect-requires : tie.Need-collect-requires
-collect-requires c κs = collect-asks (now (c .before .before .before .before .before .before .before .before .args .image)) _ _ _ _ (known (c .before .before .before .before .before .before)) (c .before .before .before .before .before .fst-offset .ensures) (c .before .before .before .before .table-end .ensures) (counted (c .before .before))
+collect-requires c κs = collect-asks _ _ _ _ _ (search known) (search) (search) (search counted)
 
 add-check-regions : tie.Need-add-check-regions
 add-check-regions c = search needs
 
 check-regions-requires : tie.Need-check-regions-requires
-check-regions-requires c κs =
-    let d = c .before .before .before in
-    let n : c .before .before .before .before .before .before .read-u32 .result ≡ count (tableOf (now (c .before .before .before .before .before .before .before .before .before .before .before .before .args .image))) = counted (c .before .before .before .before .before .before) in
-    let r = known (c .before .before .before .before .before .before .before .before .before .before) .table .room in
-    (omega (arith, d .collect .ensures .1), omega (arith, d .collect .ensures .1, d .collect .kept .1 .0), used-full (now (c .before .before .before .before .before .before .before .before .before .before .before .before .args .image)) _ _ (used d))
+check-regions-requires c κs = (omega arith, search room, search filled)
 
 enum-told : tie.Need-enum-told
 enum-told c = search needs
@@ -86,17 +114,13 @@ same-length : tie.Need-same-length
 same-length c = search needs
 
 returns : tie.Need-returns
-returns c =
-    let s = c .before .before .before .before .before .before .before .before .before .before .before .before .before .before .before .before .before in
-    left-ready (now (s .args .image)) _ _ (length (now (s .args .words))) _ _ _ _ (s .pre) (used (c .before .before .before .before .before .before .before .before)) (c .before .before .before .before .before .before .before .before .before .before .before .before .disc-end .ensures) (c .before .before .before .before .check-regions .ensures) (c .enum-told .given .1)
+returns c = (search (left-passed, used), search ready)
 
 same-length-2 : tie.Need-same-length-2
 same-length-2 c = search needs
 
 returns-2 : tie.Need-returns-2
-returns-2 c =
-    let s = c .before .before .before .before .before .before .before .before .before .before .before .before .before .before .before .before .before .before in
-    left-refused (now (s .args .image)) _ _ (length (now (s .args .words))) _ _ _ _ (s .pre) (used (c .before .before .before .before .before .before .before .before .before)) (c .before .before .before .before .before .before .before .before .before .before .before .before .before .disc-end .ensures) (c .before .before .before .before .before .check-regions .ensures) _ (c .before .verdict .given .1)
+returns-2 c = search (left-refused, used)
 
 pub check-used-spec : {M : Type 1} → statement M
 check-used-spec =

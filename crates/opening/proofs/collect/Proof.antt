@@ -8,7 +8,7 @@ use borrow.Author.Needs.{needs}
 use Rattle.space.specs.Inner.Sort.{regionsIn}
 use Rattle.space.specs.Used.{usedRegions}
 use Rattle.opening.specs.Inner.Prepared.{entryRegions}
-use Rattle.opening.proofs.UsedRegions.{collect-start, collect-turn}
+use Rattle.opening.proofs.UsedRegions.{collect-start, collect-turn, collect-end}
 use Rattle.opening.proofs.collect.Statement.{statement}
 use Rattle.opening.proofs.collect.Tie as tie
 
@@ -22,8 +22,7 @@ add-region-requires : tie.Need-add-region-requires Inv-loop μ-loop
 add-region-requires c κs = omega arith
 
 loop-holds : tie.Need-loop-holds Inv-loop μ-loop
-loop-holds c = let a = c .before .before .add-region .ensures in
-    (omega arith, omega arith, omega (arith, a .bound), search needs, collect-start _ _ _ _ _ a)
+loop-holds c = (omega arith, omega arith, omega arith, search needs, search collect-start)
 
 add-entry-requires : tie.Need-add-entry-requires Inv-loop μ-loop
 add-entry-requires c κs = omega arith
@@ -35,17 +34,13 @@ loop-less : tie.Need-loop-less Inv-loop μ-loop
 loop-less c = omega arith
 
 loop-again : tie.Need-loop-again Inv-loop μ-loop
-loop-again c = let l = c .before .before .before .before .before .loop in
-    let a = c .before .before .add-entry .ensures in
-    (omega arith, omega arith, omega (arith, a .bound), search needs, collect-turn _ _ _ _ _ _ _ (omega arith) (l .inv .4) a)
+loop-again c = (omega arith, omega arith, omega arith, search needs, search collect-turn)
 
 same-length : tie.Need-same-length Inv-loop μ-loop
 same-length c = search needs
 
 returns : tie.Need-returns Inv-loop μ-loop
-returns c = let l = c .before .loop in
-    let e : l .k ≡ c .before .before .before .before .before .before .before .before .args .count = omega arith in
-    (rw e at (l .inv .4), omega arith)
+returns c = (search collect-end, omega arith)
 
 pub collect-spec : {M : Type 1} → statement M
 collect-spec =

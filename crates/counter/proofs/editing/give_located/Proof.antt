@@ -16,11 +16,11 @@ number-requires c κs = search needs
 
 returns : tie.Need-returns
 unfolding locatedReply
-returns c = rw (c .before .before .located .given .1)
+returns c = let o : tie.After-located = search in rw (o .located .given .1)
 
 returns-2 : tie.Need-returns-2
 unfolding locatedReply
-returns-2 c = rw (c .before .before .located2 .given .1, c .number .ensures)
+returns-2 c = let o : tie.After-located2 = search in rw (o .located2 .given .1, c .number .ensures)
 
 pub give-located-spec : {M : Type 1} → statement M
 give-located-spec =

@@ -20,7 +20,7 @@ returns c = rw (c .enum-told .given .1)
 
 returns-2 : tie.Need-returns-2
 unfolding verdictNumber
-returns-2 c = rw (c .before .before .verdict .given .1) (c .number .ensures)
+returns-2 c = let v : tie.After-verdict = search in rw (v .verdict .given .1) (c .number .ensures)
 
 pub number-of-spec : {M : Type 1} → statement M
 number-of-spec =

@@ -23,10 +23,19 @@ number-requires : tie.Need-number-requires
 number-requires c κs = search needs
 
 returns : tie.Need-returns
-returns c = rw (c .write-to .ensures .1) (header-written (now (c .before .before .before .before .before .before .before .args .image)) (now (c .before .before .before .before .before .before .before .args .fields)) _ (c .before .before .before .before .before .read-from .ensures) (c .before .before .before .enum-told .given .1) (λ i. omega (arith, c .before .before .before .before .before .before .shared-slice-known .given i)) (search needs))
+returns c =
+    let told : tie.After-enum-told = search in
+    let r : tie.After-read-from = search in
+    let k : tie.After-shared-slice-known = search in
+    let s : tie.Start = search in
+    rw (c .write-to .ensures .1) (header-written (now (s .args .image)) (now (s .args .fields)) _ (r .read-from .ensures) (told .enum-told .given .1) (λ i. omega (arith, k .shared-slice-known .given i)) (search needs))
 
 returns-2 : tie.Need-returns-2
-returns-2 c = rw (c .number .ensures) (header-refused (now (c .before .before .before .before .before .before .args .image)) (now (c .before .before .before .before .before .before .args .fields)) _ (c .before .before .before .before .read-from .ensures) _ (c .before .before .verdict .given .1))
+returns-2 c =
+    let v : tie.After-verdict = search in
+    let r : tie.After-read-from = search in
+    let s : tie.Start = search in
+    rw (c .number .ensures) (header-refused (now (s .args .image)) (now (s .args .fields)) _ (r .read-from .ensures) _ (v .verdict .given .1))
 
 pub counter-header-spec : {M : Type 1} → statement M
 counter-header-spec =

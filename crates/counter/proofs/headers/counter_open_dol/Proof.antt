@@ -26,14 +26,21 @@ same-length c = search needs
 
 returns : tie.Need-returns
 unfolding judged
-returns c = rw (← c .before .before .before .before .before .before .before .before .before .open-dol .ensures .0, c .before .before .before .before .before .enum-told .given .1, c .before .before .give-dol-header .ensures) (record { answered = refl; words = search needs }, refl)
+returns c =
+    let g : tie.After-give-dol-header = search in
+    let told : tie.After-enum-told = search in
+    let o : tie.After-open-dol = search in
+    rw (← o .open-dol .ensures .0, told .enum-told .given .1, g .give-dol-header .ensures) (record { answered = refl; words = search needs }, refl)
 
 same-length-2 : tie.Need-same-length-2
 same-length-2 c = search needs
 
 returns-2 : tie.Need-returns-2
 unfolding judged
-returns-2 c = rw (← c .before .before .before .before .before .before .open-dol .ensures .0, c .before .before .verdict .given .1, c .number .ensures) (record { answered = refl; words = search needs }, refl)
+returns-2 c =
+    let v : tie.After-verdict = search in
+    let o : tie.After-open-dol = search in
+    rw (← o .open-dol .ensures .0, v .verdict .given .1, c .number .ensures) (record { answered = refl; words = search needs }, refl)
 
 pub counter-open-dol-spec : {M : Type 1} → statement M
 counter-open-dol-spec =

@@ -31,7 +31,8 @@ element-write-slots-3 c = search needs
 
 returns : tie.Need-returns
 unfolding dolWords
-returns c = let s = c .before .before .before .before .before .before .before .before .before .before .before .before .before .before .before .before .before .before in
+returns c =
+    let s : tie.Start = search in
     let to : length (s .args .h .«text_offsets») ≡ 7 = search needs in
     let dO : length (s .args .h .«data_offsets») ≡ 11 = search needs in
     let ta : length (s .args .h .«text_addresses») ≡ 7 = search needs in
@@ -42,7 +43,9 @@ returns c = let s = c .before .before .before .before .before .before .before .b
     let a : length (s .args .h .«text_offsets» ++ s .args .h .«data_offsets») ≡ 18 = omega (arith, length-append (s .args .h .«text_offsets») (s .args .h .«data_offsets»)) in
     let b : length (s .args .h .«text_addresses» ++ s .args .h .«data_addresses») ≡ 18 = omega (arith, length-append (s .args .h .«text_addresses») (s .args .h .«data_addresses»)) in
     let d : length (s .args .h .«text_sizes» ++ s .args .h .«data_sizes») ≡ 18 = omega (arith, length-append (s .args .h .«text_sizes») (s .args .h .«data_sizes»)) in
-    rw (c .put-sections3 .ensures, c .before .before .before .before .before .before .put-sections2 .ensures, c .before .before .before .before .before .before .before .before .before .before .before .before .put-sections .ensures) (four-parts (now (s .args .slots)) _ _ _ _ _ _ a b d room)
+    let second : tie.After-put-sections2 = search in
+    let first : tie.After-put-sections = search in
+    rw (c .put-sections3 .ensures, second .put-sections2 .ensures, first .put-sections .ensures) (four-parts (now (s .args .slots)) _ _ _ _ _ _ a b d room)
 
 pub give-dol-header-spec : {M : Type 1} → statement M
 give-dol-header-spec =

@@ -23,10 +23,13 @@ same-length : tie.Need-same-length
 same-length c = search needs
 
 returns : tie.Need-returns
-returns c = let s = c .before .before .before .before .before .before .before .before .before .before .before in
+returns c =
+    let s : tie.Start = search in
     let t : length (now (s .args .texts)) ≡ 7 = search needs in
     let d : length (now (s .args .datas)) ≡ 11 = search needs in
-    rw (c .before .before .put-words2 .ensures, c .before .before .before .before .before .before .before .put-words .ensures) (put-append (now (s .args .slots)) (s .args .at) (now (s .args .texts)) (s .args .at + 7) (now (s .args .datas)) (omega arith) (omega arith))
+    let second : tie.After-put-words2 = search in
+    let first : tie.After-put-words = search in
+    rw (second .put-words2 .ensures, first .put-words .ensures) (put-append (now (s .args .slots)) (s .args .at) (now (s .args .texts)) (s .args .at + 7) (now (s .args .datas)) (omega arith) (omega arith))
 
 pub put-sections-spec : {M : Type 1} → statement M
 put-sections-spec =

@@ -42,15 +42,20 @@ loop-less : tie.Need-loop-less Inv-loop μ-loop
 loop-less c = omega arith
 
 loop-again : tie.Need-loop-again Inv-loop μ-loop
-loop-again c = let l = c .before .before .loop in
-    let a = c .before .before .before .args in
+loop-again c =
+    let o : tie.At-loop Inv-loop μ-loop = search in
+    let s : tie.Start Inv-loop μ-loop = search in
+    let l = o .loop in
+    let a = s .args in
     (omega arith, simp length-set (l .inv .1), word-turn (a .source .now) (a .slots .now) _ (a .at) (l .i) (l .inv .2) (omega arith) (omega arith))
 
 same-length : tie.Need-same-length Inv-loop μ-loop
 same-length c = c .before .loop .inv .1
 
 returns : tie.Need-returns Inv-loop μ-loop
-returns c = let a = c .before .before .args in
+returns c =
+    let s : tie.Start Inv-loop μ-loop = search in
+    let a = s .args in
     let e : c .before .loop .i ≡ length (a .source .now) = omega arith in
     let t : take (length (a .source .now)) (a .source .now) ≡ a .source .now = take-length (a .source .now) in
     rw (e, t) at (c .before .loop .inv .2)

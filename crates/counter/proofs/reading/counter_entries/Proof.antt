@@ -1,4 +1,5 @@
 use borrow.Author.Needs.{needs}
+use Rattle.counter.proofs.ReadAnswers.{opened-by}
 use Rattle.counter.proofs.reading.counter_entries.Statement.{statement}
 use Rattle.counter.proofs.reading.counter_entries.Tie as tie
 
@@ -15,7 +16,7 @@ same-length-2 : tie.Need-same-length-2
 same-length-2 c = search needs
 
 returns : tie.Need-returns
-returns c = (record { answered = rw (c .before .before .before .before .before .before .entries .ensures .0) at (c .give-opened .ensures); words = c .before .before .before .before .before .before .entries .ensures .2 }, c .before .before .before .before .before .before .entries .ensures .1)
+returns c = (search opened-by, search)
 
 pub counter-entries-spec : {M : Type 1} → statement M
 counter-entries-spec =

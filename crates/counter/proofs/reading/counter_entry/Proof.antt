@@ -1,4 +1,5 @@
 use borrow.Author.Needs.{needs}
+use Rattle.counter.proofs.ReadAnswers.{found-by}
 use Rattle.counter.proofs.reading.counter_entry.Statement.{statement}
 use Rattle.counter.proofs.reading.counter_entry.Tie as tie
 
@@ -12,7 +13,7 @@ same-length : tie.Need-same-length
 same-length c = search needs
 
 returns : tie.Need-returns
-returns c = record { answered = rw (c .before .before .before .before .entry .ensures .0) at (c .give-found .ensures); words = c .before .before .before .before .entry .ensures .1 }
+returns c = search found-by
 
 pub counter-entry-spec : {M : Type 1} → statement M
 counter-entry-spec = tie.close (tie.spec entry-requires give-found-requires same-length returns)

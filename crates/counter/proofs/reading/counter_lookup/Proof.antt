@@ -1,4 +1,5 @@
 use borrow.Author.Needs.{needs}
+use Rattle.counter.proofs.ReadAnswers.{found-by}
 use Rattle.counter.proofs.reading.counter_lookup.Statement.{statement}
 use Rattle.counter.proofs.reading.counter_lookup.Tie as tie
 
@@ -12,7 +13,7 @@ same-length : tie.Need-same-length
 same-length c = search needs
 
 returns : tie.Need-returns
-returns c = record { answered = rw (c .before .before .before .before .lookup .ensures .0) at (c .give-found .ensures); words = c .before .before .before .before .lookup .ensures .1 }
+returns c = search found-by
 
 pub counter-lookup-spec : {M : Type 1} → statement M
 counter-lookup-spec = tie.close (tie.spec lookup-requires give-found-requires same-length returns)

@@ -1,4 +1,5 @@
 use borrow.Author.Needs.{needs}
+use Rattle.counter.proofs.ReadAnswers.{opened-by}
 use Rattle.counter.proofs.reading.counter_open.Statement.{statement}
 use Rattle.counter.proofs.reading.counter_open.Tie as tie
 
@@ -12,7 +13,7 @@ same-length : tie.Need-same-length
 same-length c = search needs
 
 returns : tie.Need-returns
-returns c = record { answered = rw (c .before .before .before .before .«open» .ensures .0) at (c .give-opened .ensures); words = c .before .before .before .before .«open» .ensures .1 }
+returns c = search opened-by
 
 pub counter-open-spec : {M : Type 1} → statement M
 counter-open-spec = tie.close (tie.spec open-requires give-opened-requires same-length returns)

@@ -1,4 +1,4 @@
-use Rattle.counter.specs.Replies.{totalsReply}
+use Rattle.counter.proofs.ReadAnswers.{totals-found, totals-refused}
 use borrow.Author.Needs.{needs}
 use Rattle.counter.proofs.reading.counter_totals.Statement.{statement}
 use Rattle.counter.proofs.reading.counter_totals.Tie as tie
@@ -19,15 +19,13 @@ same-length : tie.Need-same-length
 same-length c = search needs
 
 returns : tie.Need-returns
-unfolding totalsReply
-returns c = record { answered = rw (← c .before .before .before .before .before .before .totals .ensures .0, c .before .before .totals2 .given .1); words = c .before .before .before .before .before .before .totals .ensures .1 }
+returns c = search totals-found
 
 same-length-2 : tie.Need-same-length-2
 same-length-2 c = search needs
 
 returns-2 : tie.Need-returns-2
-unfolding totalsReply
-returns-2 c = record { answered = rw (← c .before .before .before .before .before .before .totals .ensures .0, c .before .before .totals3 .given .1, c .number .ensures); words = c .before .before .before .before .before .before .totals .ensures .1 }
+returns-2 c = search totals-refused
 
 pub counter-totals-spec : {M : Type 1} → statement M
 counter-totals-spec =

@@ -22,15 +22,15 @@ number-requires c κs = search needs
 
 returns : tie.Need-returns
 unfolding foundReply
-returns c = rw (c .before .before .before .before .before .found .given .1, c .before .before .entry .given .1)
+returns c = let e : tie.After-entry = search in let f : tie.After-found = search in rw (f .found .given .1, e .entry .given .1)
 
 returns-2 : tie.Need-returns-2
 unfolding foundReply
-returns-2 c = rw (c .before .before .before .before .before .found .given .1, c .before .before .entry2 .given .1)
+returns-2 c = let e : tie.After-entry2 = search in let f : tie.After-found = search in rw (f .found .given .1, e .entry2 .given .1)
 
 returns-3 : tie.Need-returns-3
 unfolding foundReply
-returns-3 c = rw (c .before .before .found2 .given .1, c .number .ensures)
+returns-3 c = let f : tie.After-found2 = search in rw (f .found2 .given .1, c .number .ensures)
 
 pub give-found-spec : {M : Type 1} → statement M
 give-found-spec =

@@ -16,11 +16,11 @@ number-requires c κs = search needs
 
 returns : tie.Need-returns
 unfolding openedReply
-returns c = rw (c .before .before .opened .given .1)
+returns c = let o : tie.After-opened = search in rw (o .opened .given .1)
 
 returns-2 : tie.Need-returns-2
 unfolding openedReply
-returns-2 c = rw (c .before .before .opened2 .given .1, c .number .ensures)
+returns-2 c = let o : tie.After-opened2 = search in rw (o .opened2 .given .1, c .number .ensures)
 
 pub give-opened-spec : {M : Type 1} → statement M
 give-opened-spec =

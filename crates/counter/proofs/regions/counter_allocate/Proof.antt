@@ -1,6 +1,6 @@
 -- `counter::regions::counter_allocate` meets its contract, by the cases of the answer.
 -- Assumes nothing.
-use Rattle.counter.specs.Replies.{allocationReply}
+use Rattle.counter.proofs.ReadAnswers.{allocation-found, allocation-refused}
 use borrow.Author.Needs.{needs}
 use Rattle.counter.proofs.regions.counter_allocate.Statement.{statement}
 use Rattle.counter.proofs.regions.counter_allocate.Tie as tie
@@ -21,15 +21,13 @@ same-length : tie.Need-same-length
 same-length c = search needs
 
 returns : tie.Need-returns
-unfolding allocationReply
-returns c = record { answered = rw (← c .before .before .before .before .before .before .allocate .ensures .0, c .before .before .allocation .given .1); words = c .before .before .before .before .before .before .allocate .ensures .1 }
+returns c = search allocation-found
 
 same-length-2 : tie.Need-same-length-2
 same-length-2 c = search needs
 
 returns-2 : tie.Need-returns-2
-unfolding allocationReply
-returns-2 c = record { answered = rw (← c .before .before .before .before .before .before .allocate .ensures .0, c .before .before .allocation2 .given .1, c .number .ensures); words = c .before .before .before .before .before .before .allocate .ensures .1 }
+returns-2 c = search allocation-refused
 
 pub counter-allocate-spec : {M : Type 1} → statement M
 counter-allocate-spec =

@@ -1,7 +1,7 @@
 -- `counter::regions::counter_free_regions` meets its contract, by the cases of the answer. There are few enough regions for a slot.
 -- Assumes nothing.
+use Rattle.counter.proofs.ReadAnswers.{listing-made, listing-refused}
 use mathlib.Core.Path.{sym, _∙_}
-use Rattle.counter.specs.Replies.{listingReply}
 use Rattle.counter.proofs.Counts.{listed-small}
 use borrow.Author.Needs.{needs}
 use Rattle.counter.proofs.regions.counter_free_regions.Statement.{statement}
@@ -14,7 +14,7 @@ enum-known-listing : tie.Need-enum-known-listing
 enum-known-listing c = search needs
 
 cast-t13 : tie.Need-cast-t13
-cast-t13 c = record { fits = listed-small _ _ _ _ (sym (c .before .before .before .before .before .before .before .free-regions .ensures .0) ∙ c .before .listing .given .1) }
+cast-t13 c = let f : tie.After-free-regions = search in record { fits = listed-small _ _ _ _ (sym (f .free-regions .ensures .0) ∙ c .before .listing .given .1) }
 
 enum-known-listing-2 : tie.Need-enum-known-listing-2
 enum-known-listing-2 c = search needs
@@ -29,8 +29,7 @@ same-length-2 : tie.Need-same-length-2
 same-length-2 c = search needs
 
 returns : tie.Need-returns
-unfolding listingReply
-returns c = (record { answered = rw (← c .before .before .before .before .before .before .before .before .free-regions .ensures .0, c .before .before .listing .given .1); words = c .before .before .before .before .before .before .before .before .free-regions .ensures .2 }, c .before .before .before .before .before .before .before .before .free-regions .ensures .1)
+returns c = (search listing-made, search)
 
 same-length-3 : tie.Need-same-length-3
 same-length-3 c = search needs
@@ -39,8 +38,7 @@ same-length-4 : tie.Need-same-length-4
 same-length-4 c = search needs
 
 returns-2 : tie.Need-returns-2
-unfolding listingReply
-returns-2 c = (record { answered = rw (← c .before .before .before .before .before .before .before .before .free-regions .ensures .0, c .before .before .listing2 .given .1, c .number .ensures); words = c .before .before .before .before .before .before .before .before .free-regions .ensures .2 }, c .before .before .before .before .before .before .before .before .free-regions .ensures .1)
+returns-2 c = (search listing-refused, search)
 
 pub counter-free-regions-spec : {M : Type 1} → statement M
 counter-free-regions-spec =

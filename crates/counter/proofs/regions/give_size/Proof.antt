@@ -16,11 +16,11 @@ number-requires c κs = search needs
 
 returns : tie.Need-returns
 unfolding sizeReply
-returns c = rw (c .before .before .size .given .1)
+returns c = let o : tie.After-size = search in rw (o .size .given .1)
 
 returns-2 : tie.Need-returns-2
 unfolding sizeReply
-returns-2 c = rw (c .before .before .size2 .given .1, c .number .ensures)
+returns-2 c = let o : tie.After-size2 = search in rw (o .size2 .given .1, c .number .ensures)
 
 pub give-size-spec : {M : Type 1} → statement M
 give-size-spec =

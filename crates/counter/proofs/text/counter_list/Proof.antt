@@ -1,6 +1,6 @@
 -- `counter::text::counter_list` meets its contract, by the cases of the answer.
 -- Assumes nothing.
-use Rattle.counter.specs.Replies.{listedReply}
+use Rattle.counter.proofs.ReadAnswers.{text-made, text-refused}
 use borrow.Author.Needs.{needs}
 use Rattle.counter.proofs.text.counter_list.Statement.{statement}
 use Rattle.counter.proofs.text.counter_list.Tie as tie
@@ -24,8 +24,7 @@ same-length-2 : tie.Need-same-length-2
 same-length-2 c = search needs
 
 returns : tie.Need-returns
-unfolding listedReply
-returns c = (record { answered = rw (← c .before .before .before .before .before .before .before .before .list .ensures .0, c .before .before .listed .given .1); words = c .before .before .before .before .before .before .before .before .list .ensures .2 }, c .before .before .before .before .before .before .before .before .list .ensures .1)
+returns c = (search text-made, search)
 
 same-length-3 : tie.Need-same-length-3
 same-length-3 c = search needs
@@ -34,8 +33,7 @@ same-length-4 : tie.Need-same-length-4
 same-length-4 c = search needs
 
 returns-2 : tie.Need-returns-2
-unfolding listedReply
-returns-2 c = (record { answered = rw (← c .before .before .before .before .before .before .before .before .list .ensures .0, c .before .before .listed2 .given .1, c .number .ensures); words = c .before .before .before .before .before .before .before .before .list .ensures .2 }, c .before .before .before .before .before .before .before .before .list .ensures .1)
+returns-2 c = (search text-refused, search)
 
 pub counter-list-spec : {M : Type 1} → statement M
 counter-list-spec =

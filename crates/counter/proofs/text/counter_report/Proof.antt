@@ -14,7 +14,7 @@ same-length-2 : tie.Need-same-length-2
 same-length-2 c = search needs
 
 returns : tie.Need-returns
-returns c = (record { answered = rw (c .before .before .before .before .before .report .ensures .0); words = c .before .before .before .before .before .report .ensures .2 }, c .before .before .before .before .before .report .ensures .1)
+returns c = let r : tie.After-report = search in (record { answered = rw (r .report .ensures .0); words = r .report .ensures .2 }, r .report .ensures .1)
 
 pub counter-report-spec : {M : Type 1} → statement M
 counter-report-spec = tie.close (tie.spec report-requires same-length same-length-2 returns)

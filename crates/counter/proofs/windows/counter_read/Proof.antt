@@ -15,7 +15,11 @@ same-length : tie.Need-same-length
 same-length c = search needs
 
 returns : tie.Need-returns
-returns c = let w = c .before .before .before .before .before .before .before .window-in .ensures in rw (c .before .before .before .before .before .read .ensures .0, w) (refl, refl, refl, rw w at (c .before .before .before .before .before .read .ensures .1))
+returns c =
+    let r : tie.After-read = search in
+    let v : tie.After-window-in = search in
+    let w = v .window-in .ensures in
+    rw (r .read .ensures .0, w) (refl, refl, refl, rw w at (r .read .ensures .1))
 
 pub counter-read-spec : {M : Type 1} → statement M
 counter-read-spec = tie.close (tie.spec window-in-requires read-requires same-length returns)

@@ -10,7 +10,7 @@ seek-requires : tie.Need-seek-requires
 seek-requires c κs = search needs
 
 returns : tie.Need-returns
-returns c = let s = c .before .before in rw (toZ-ofZ w64 (s .args .distance) (s .fits .distance)) at (c .seek .ensures)
+returns c = let s : tie.Start = search in rw (toZ-ofZ w64 (s .args .distance) (s .fits .distance)) at (c .seek .ensures)
 
 pub counter-seek-current-spec : {M : Type 1} → statement M
 counter-seek-current-spec = tie.close (tie.spec seek-requires returns)

@@ -22,11 +22,21 @@ number-requires c κs = search needs
 
 returns : tie.Need-returns
 unfolding soughtReply
-returns c = let e = rw (c .before .before .before .before .before .window-in .ensures) at (c .before .before .before .before .seek .ensures) in rw (← e, c .before .before .sought .given .1)
+returns c =
+    let g : tie.After-sought = search in
+    let k : tie.After-seek = search in
+    let w : tie.After-window-in = search in
+    let e = rw (w .window-in .ensures) at (k .seek .ensures) in
+    rw (← e, g .sought .given .1)
 
 returns-2 : tie.Need-returns-2
 unfolding soughtReply
-returns-2 c = let e = rw (c .before .before .before .before .before .window-in .ensures) at (c .before .before .before .before .seek .ensures) in rw (← e, c .before .before .sought2 .given .1, c .number .ensures)
+returns-2 c =
+    let g : tie.After-sought2 = search in
+    let k : tie.After-seek = search in
+    let w : tie.After-window-in = search in
+    let e = rw (w .window-in .ensures) at (k .seek .ensures) in
+    rw (← e, g .sought2 .given .1, c .number .ensures)
 
 pub seek-spec : {M : Type 1} → statement M
 seek-spec =

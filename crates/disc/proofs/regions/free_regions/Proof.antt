@@ -1,5 +1,7 @@
 -- `disc::regions::free_regions` meets its contract: the prepared image gives the answer and the list, and the words are zeroed.
 -- Assumes nothing.
+use Rattle.disc.proofs.Answers.{listing-kept, list-kept}
+use Rattle.opening.proofs.Words.{prepares-kept, zeroed-kept}
 use borrow.Author.Needs.{needs}
 use Rattle.disc.proofs.regions.free_regions.Statement.{statement}
 use Rattle.disc.proofs.regions.free_regions.Tie as tie
@@ -8,7 +10,7 @@ prepare-requires : tie.Need-prepare-requires
 prepare-requires c κs = search needs
 
 listed-requires : tie.Need-listed-requires
-listed-requires c κs = rw (c .before .before .before .before .prepare .kept .1 .0) (c .before .before .before .before .prepare .ensures)
+listed-requires c κs = search prepares-kept
 
 zero-words-requires : tie.Need-zero-words-requires
 zero-words-requires c κs = search needs
@@ -20,10 +22,7 @@ same-length-2 : tie.Need-same-length-2
 same-length-2 c = search needs
 
 returns : tie.Need-returns
-returns c =
-    let k = c .before .before .before .before .before .before .before .before .before .before .before .prepare .kept .1 .0 in
-    let e = rw k at (c .before .before .before .before .before .before .listed .ensures) in
-    (e .0, e .1, rw k at (c .before .before .zero-words .ensures))
+returns c = (search listing-kept, search list-kept, search zeroed-kept)
 
 pub free-regions-spec : {M : Type 1} → statement M
 free-regions-spec =

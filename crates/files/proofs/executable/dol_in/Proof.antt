@@ -1,10 +1,6 @@
 -- `files::executable::dol_in` meets its contract, by the verdict on the DOL's header.
 -- Assumes nothing.
-use mathlib.Core.Path.{sym, ap, _∙_}
-use denote.Ref.{now}
-use Rattle.refusal.specs.declared.Verdict.{Verdict}
-use Rattle.files.specs.Files.{dolAs}
-use Rattle.files.proofs.Dol.{dol-verdict, dol-is}
+use Rattle.files.proofs.Dol.{dol-refused, dol-is}
 use borrow.Author.Needs.{needs}
 use Rattle.files.proofs.executable.dol_in.Statement.{statement}
 use Rattle.files.proofs.executable.dol_in.Tie as tie
@@ -25,8 +21,7 @@ refused-requires : tie.Need-refused-requires
 refused-requires c κs = search needs
 
 returns : tie.Need-returns
-returns c = let image = now (c .before .before .before .before .before .before .before .args .image) in
-    c .refused .ensures ∙ ap (λ (v : Verdict). dolAs v image) (sym (dol-verdict image _ _ (c .before .before .before .before .read .ensures) (c .before .before .before .before .before .dol-offset .ensures) _ (c .before .before .verdict .given .1)))
+returns c = search dol-refused
 
 enum-told : tie.Need-enum-told
 enum-told c = search needs
@@ -35,8 +30,7 @@ window-requires : tie.Need-window-requires
 window-requires c κs = search needs
 
 returns-2 : tie.Need-returns-2
-returns-2 c = let image = now (c .before .before .before .before .before .before .before .args .image) in
-    dol-is image _ _ (c .before .before .before .before .read .ensures) (c .before .before .before .before .before .dol-offset .ensures) _ (c .before .before .enum-told .given .1) (c .window .ensures)
+returns-2 c = search dol-is
 
 pub dol-in-spec : {M : Type 1} → statement M
 dol-in-spec =

@@ -1,5 +1,7 @@
 -- `files::listing::entries` meets its contract: the prepared image gives the answer and the list, and the words are zeroed.
 -- Assumes nothing.
+use Rattle.files.proofs.Prepared.{entries-kept, rows-kept}
+use Rattle.opening.proofs.Words.{prepares-kept, zeroed-kept}
 use borrow.Author.Needs.{needs}
 use Rattle.files.proofs.listing.entries.Statement.{statement}
 use Rattle.files.proofs.listing.entries.Tie as tie
@@ -8,7 +10,7 @@ prepare-requires : tie.Need-prepare-requires
 prepare-requires c κs = search needs
 
 entries-in-requires : tie.Need-entries-in-requires
-entries-in-requires c κs = rw (c .before .before .before .before .prepare .kept .1 .0) (c .before .before .before .before .prepare .ensures)
+entries-in-requires c κs = search prepares-kept
 
 zero-words-requires : tie.Need-zero-words-requires
 zero-words-requires c κs = search needs
@@ -20,9 +22,7 @@ same-length-2 : tie.Need-same-length-2
 same-length-2 c = search needs
 
 returns : tie.Need-returns
-returns c = let k = c .before .before .before .before .before .before .before .before .before .before .before .prepare .kept .1 .0 in
-    let e = rw k at (c .before .before .before .before .before .before .entries-in .ensures) in
-    (e .0, e .1, rw k at (c .before .before .zero-words .ensures))
+returns c = (search entries-kept, search rows-kept, search zeroed-kept)
 
 pub entries-spec : {M : Type 1} → statement M
 entries-spec =

@@ -1,7 +1,6 @@
 -- `files::lookups::file_size_in` meets its contract, by the cases of the entry's answer.
 -- Assumes nothing.
-use mathlib.Core.Path.{sym, _∙_}
-use Rattle.files.specs.Files.{maxFileSizeAnswer}
+use Rattle.files.proofs.OfEntry.{size-of-file, size-of-directory, size-of-none}
 use borrow.Author.Needs.{needs}
 use Rattle.files.proofs.lookups.file_size_in.Statement.{statement}
 use Rattle.files.proofs.lookups.file_size_in.Tie as tie
@@ -16,7 +15,7 @@ enum-known-entry : tie.Need-enum-known-entry
 enum-known-entry c = search needs
 
 sized-requires : tie.Need-sized-requires
-sized-requires c κs = c .before .before .before .before .before .before .before .before .before .pre
+sized-requires c κs = search
 
 enum-told : tie.Need-enum-told
 enum-told c = search needs
@@ -25,16 +24,13 @@ enum-known-found-2 : tie.Need-enum-known-found-2
 enum-known-found-2 c = search needs
 
 returns : tie.Need-returns
-unfolding maxFileSizeAnswer
-returns c = let e = sym (c .before .before .before .before .before .before .before .entry-in .ensures) ∙ c .before .before .before .before .before .found .given .1 in rw (e, c .before .before .entry .given .1) (c .sized .ensures)
+returns c = search size-of-file
 
 returns-2 : tie.Need-returns-2
-unfolding maxFileSizeAnswer
-returns-2 c = let e = sym (c .before .before .before .before .before .entry-in .ensures) ∙ c .before .before .before .found .given .1 in rw (e, c .enum-told .given .1)
+returns-2 c = search size-of-directory
 
 returns-3 : tie.Need-returns-3
-unfolding maxFileSizeAnswer
-returns-3 c = let e = sym (c .before .before .before .entry-in .ensures) ∙ c .before .found2 .given .1 in rw e
+returns-3 c = search size-of-none
 
 pub file-size-in-spec : {M : Type 1} → statement M
 file-size-in-spec =

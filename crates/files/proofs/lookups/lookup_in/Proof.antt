@@ -1,13 +1,8 @@
 -- `files::lookups::lookup_in` meets its contract, by the two cases of a prepared image and the length of the path.
 -- Assumes nothing.
+use Rattle.files.proofs.Prepared.{ready-long, ready-lookup, refused-lookup}
+use Rattle.answers.proofs.Prepared.{ready-opened, ready-table}
 use native.Mathlib.Omega.{arith}
-use lib.ListN.{length}
-use denote.Ref.{now}
-use Rattle.opening.specs.Opening.{nodesIn}
-use Rattle.opening.specs.Laws.OpeningLaws.{table-accepted}
-use Rattle.answers.specs.Laws.AnswerLaws.{was-ready, was-refused}
-use borrow.Author.Tests.{lt-ltb, le-ltb}
-use Rattle.files.specs.Files.{lookupAnswer}
 use borrow.Author.Needs.{needs}
 use Rattle.files.proofs.lookups.lookup_in.Statement.{statement}
 use Rattle.files.proofs.lookups.lookup_in.Tie as tie
@@ -16,35 +11,22 @@ enum-told : tie.Need-enum-told
 enum-told c = search needs
 
 returns : tie.Need-returns
-unfolding lookupAnswer
-returns c =
-    let s = c .before .before .before .before .before .before in
-    rw (was-ready (now (s .args .image)) (length (now (s .args .words))) (now (s .args .words)) (s .args .prepared) (s .pre) _ (c .before .enum-told .given .1) .0, lt-ltb 1024 (length (now (s .args .path))) (c .if1 .taken))
+returns c = search ready-long
 
 table-requires : tie.Need-table-requires
-table-requires c κs =
-    let s = c .before .before .before .before .before .before in
-    was-ready (now (s .args .image)) (length (now (s .args .words))) (now (s .args .words)) (s .args .prepared) (s .pre) _ (c .before .enum-told .given .1) .0
+table-requires c κs = search ready-opened
 
 find-requires : tie.Need-find-requires
-find-requires c κs =
-    let s = c .before .before .before .before .before .before .before in
-    (rw (c .table .ensures) (record { words = length (now (s .args .words)); passed = table-accepted _ _ (was-ready (now (s .args .image)) (length (now (s .args .words))) (now (s .args .words)) (s .args .prepared) (s .pre) _ (c .before .before .enum-told .given .1) .0) }), omega arith)
+find-requires c κs = (search ready-table, omega arith)
 
 enum-known-prepared : tie.Need-enum-known-prepared
 enum-known-prepared c = search needs
 
 returns-2 : tie.Need-returns-2
-unfolding lookupAnswer nodesIn
-returns-2 c =
-    let s = c .before .before .before .before .before .before .before .before in
-    rw (was-ready (now (s .args .image)) (length (now (s .args .words))) (now (s .args .words)) (s .args .prepared) (s .pre) _ (c .before .before .before .enum-told .given .1) .0, le-ltb 1024 (length (now (s .args .path))) (c .before .before .if1 .left)) (rw (c .before .table .ensures) at (c .find .ensures))
+returns-2 c = search ready-lookup
 
 returns-3 : tie.Need-returns-3
-unfolding lookupAnswer
-returns-3 c =
-    let s = c .before .before .before .before .before .before in
-    rw (was-refused (now (s .args .image)) (length (now (s .args .words))) (now (s .args .words)) (s .args .prepared) (s .pre) _ (c .before .prepared .given .1))
+returns-3 c = search refused-lookup
 
 pub lookup-in-spec : {M : Type 1} → statement M
 lookup-in-spec =

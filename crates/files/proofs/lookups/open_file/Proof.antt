@@ -1,7 +1,6 @@
 -- `files::lookups::open_file` meets its contract: the window of the entry's answer.
 -- Assumes nothing.
-use mathlib.Core.Path.{ap, _∙_}
-use Rattle.files.specs.Files.{windowAnswer, openFileAnswer}
+use Rattle.files.proofs.OfEntry.{window-of-entry}
 use borrow.Author.Needs.{needs}
 use Rattle.files.proofs.lookups.open_file.Statement.{statement}
 use Rattle.files.proofs.lookups.open_file.Tie as tie
@@ -16,8 +15,7 @@ same-length : tie.Need-same-length
 same-length c = search needs
 
 returns : tie.Need-returns
-unfolding openFileAnswer
-returns c = (c .window-of .ensures ∙ ap windowAnswer (c .before .before .before .entry .ensures .0), c .before .before .before .entry .ensures .1)
+returns c = (search window-of-entry, search)
 
 pub open-file-spec : {M : Type 1} → statement M
 open-file-spec = tie.close (tie.spec entry-requires window-of-requires same-length returns)

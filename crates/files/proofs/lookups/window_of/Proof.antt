@@ -1,7 +1,6 @@
 -- `files::lookups::window_of` meets its contract, by the cases of the answer.
 -- Assumes nothing.
-use mathlib.Core.Path.{ap}
-use Rattle.files.specs.declared.WindowAnswer.the-variants as answer
+use Rattle.files.proofs.OfEntry.{window-of-file, window-of-directory, window-of-none}
 use borrow.Author.Needs.{needs}
 use Rattle.files.proofs.lookups.window_of.Statement.{statement}
 use Rattle.files.proofs.lookups.window_of.Tie as tie
@@ -28,13 +27,13 @@ enum-known-found-2 : tie.Need-enum-known-found-2
 enum-known-found-2 c = search needs
 
 returns : tie.Need-returns
-returns c = rw (c .before .before .before .before .before .before .before .found .given .1, c .before .before .before .before .entry .given .1) (ap answer.Opened (c .new .ensures))
+returns c = search window-of-file
 
 returns-2 : tie.Need-returns-2
-returns-2 c = rw (c .before .before .before .found .given .1, c .enum-told .given .1)
+returns-2 c = search window-of-directory
 
 returns-3 : tie.Need-returns-3
-returns-3 c = rw (c .before .found2 .given .1)
+returns-3 c = search window-of-none
 
 pub window-of-spec : {M : Type 1} → statement M
 window-of-spec =

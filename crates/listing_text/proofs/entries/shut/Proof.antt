@@ -1,9 +1,9 @@
 -- `listing_text::entries::shut` meets its contract. The invariant of its loop: the entry is nested in the last of the directories or in one around that.
 -- Assumes nothing.
-use Prim.Native.Nat.{_-_, _<_, _≤_}
+use Prim.Native.Nat.{_<_, _≤_}
 use native.Mathlib.Omega.{arith}
 use Rattle.tree.specs.Table.{nodesOf}
-use Rattle.listing_text.proofs.Chains.{Climbs, chain-shorter, shut-found, shut-root, shut-turn}
+use Rattle.listing_text.proofs.Chains.{Climbs, shut-before, shut-found, shut-root, shut-turn}
 use Rattle.listing_text.proofs.entries.shut.Statement.{statement}
 use Rattle.listing_text.proofs.entries.shut.Tie as tie
 
@@ -20,16 +20,16 @@ sub-next : tie.Need-sub-next Inv-loop μ-loop
 sub-next c = omega arith
 
 mul-next : tie.Need-mul-next Inv-loop μ-loop
-mul-next c = omega (arith, c .before .before .before .pre .0 .2 .few)
+mul-next c = let s : tie.Start Inv-loop μ-loop = search in omega (arith, s .pre .0 .2 .few)
 
 element-copy-out-next : tie.Need-element-copy-out-next Inv-loop μ-loop
-element-copy-out-next c = omega (arith, c .before .before .before .pre .0 .2 .few)
+element-copy-out-next c = let s : tie.Start Inv-loop μ-loop = search in omega (arith, s .pre .0 .2 .few)
 
 next-requires : tie.Need-next-requires Inv-loop μ-loop
-next-requires c κs = (c .before .before .before .before .pre .0 .0, omega (arith, c .before .before .before .before .pre .0 .2 .before (c .before .before .loop .d - 1) (omega arith), c .before .before .before .before .pre .0 .1))
+next-requires c κs = (search, search shut-before)
 
 returns : tie.Need-returns Inv-loop μ-loop
-returns c = shut-found (chain-shorter (c .before .before .before .before .before .before .pre .0 .2) (c .before .before .before .before .loop .d) (omega arith) (omega arith)) (c .before .before .before .before .loop .inv .2) (omega (arith, c .before .next .ensures))
+returns c = search shut-found
 
 sub-d : tie.Need-sub-d Inv-loop μ-loop
 sub-d c = omega arith
@@ -38,10 +38,10 @@ loop-less : tie.Need-loop-less Inv-loop μ-loop
 loop-less c = omega arith
 
 loop-again : tie.Need-loop-again Inv-loop μ-loop
-loop-again c = (omega arith, omega arith, shut-turn (chain-shorter (c .before .before .before .before .before .before .pre .0 .2) (c .before .before .before .before .loop .d) (omega arith) (omega arith)) (c .before .before .before .before .loop .inv .2) (omega arith) (omega (arith, c .before .next .ensures)))
+loop-again c = (omega arith, omega arith, search shut-turn)
 
 returns-2 : tie.Need-returns-2 Inv-loop μ-loop
-returns-2 c = shut-root (chain-shorter (c .before .before .before .pre .0 .2) (c .before .loop .d) (omega arith) (omega arith)) (c .before .loop .inv .2) (omega arith)
+returns-2 c = search shut-root
 
 pub shut-spec : {M : Type 1} → statement M
 shut-spec = tie.close (tie.spec Inv-loop μ-loop loop-holds sub-next mul-next element-copy-out-next next-requires returns sub-d loop-less loop-again returns-2)

@@ -28,10 +28,22 @@ put-byte-requires : tie.Need-put-byte-requires
 put-byte-requires c κs = tt
 
 same-length : tie.Need-same-length
-same-length c = c .before .before .put-byte .kept .0 ∙ c .before .before .before .before .before .before .put-field2 .kept .0 ∙ c .before .before .before .before .before .before .before .before .before .before .put-text2 .kept .0 ∙ c .before .before .before .before .before .before .before .before .before .before .before .before .before .before .before .put-field .kept .0 ∙ c .before .before .before .before .before .before .before .before .before .before .before .before .before .before .before .before .before .before .before .put-text .kept .0
+same-length c =
+    let a : tie.After-put-text = search in
+    let b : tie.After-put-field = search in
+    let d : tie.After-put-text2 = search in
+    let e : tie.After-put-field2 = search in
+    let f : tie.After-put-byte = search in
+    f .put-byte .kept .0 ∙ e .put-field2 .kept .0 ∙ d .put-text2 .kept .0 ∙ b .put-field .kept .0 ∙ a .put-text .kept .0
 
 returns : tie.Need-returns
-returns c = wrote-join (c .before .before .before .before .before .before .before .before .before .before .before .before .before .before .before .before .before .before .before .put-text .ensures) (wrote-join (c .before .before .before .before .before .before .before .before .before .before .before .before .before .before .before .put-field .ensures) (wrote-join (c .before .before .before .before .before .before .before .before .before .before .put-text2 .ensures) (wrote-join (c .before .before .before .before .before .before .put-field2 .ensures) (c .before .before .put-byte .ensures))))
+returns c =
+    let a : tie.After-put-text = search in
+    let b : tie.After-put-field = search in
+    let d : tie.After-put-text2 = search in
+    let e : tie.After-put-field2 = search in
+    let f : tie.After-put-byte = search in
+    wrote-join (a .put-text .ensures) (wrote-join (b .put-field .ensures) (wrote-join (d .put-text2 .ensures) (wrote-join (e .put-field2 .ensures) (f .put-byte .ensures))))
 
 pub put-totals-spec : {M : Type 1} → statement M
 put-totals-spec = tie.close (tie.spec slice-aggregate-put-text put-text-requires put-field-requires slice-aggregate-put-text-2 put-text-requires-2 put-field-requires-2 put-byte-requires same-length returns)

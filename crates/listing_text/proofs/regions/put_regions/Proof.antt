@@ -13,10 +13,10 @@ abbrev μ-loop : tie.MeasureT-loop
 μ-loop words count disc-end text₀ at end₀ i₀ text end i = count + 1 - i
 
 loop-holds : tie.Need-loop-holds Inv-loop μ-loop
-loop-holds c = regions-start _ _ _ _ _ (c .before .before .pre)
+loop-holds c = search regions-start
 
 gap-at-requires : tie.Need-gap-at-requires Inv-loop μ-loop
-gap-at-requires c κs = (c .before .before .before .before .pre, omega arith)
+gap-at-requires c κs = (search, omega arith)
 
 add-i : tie.Need-add-i Inv-loop μ-loop
 add-i c = omega arith
@@ -25,7 +25,7 @@ loop-less : tie.Need-loop-less Inv-loop μ-loop
 loop-less c = omega arith
 
 loop-again : tie.Need-loop-again Inv-loop μ-loop
-loop-again c = regions-skip (c .before .before .before .before .loop .inv) _ (c .before .before .before .loop-test .taken) (c .before .before .gap-at .ensures .0) (c .if1 .taken)
+loop-again c = search regions-skip
 
 put-region-requires : tie.Need-put-region-requires Inv-loop μ-loop
 put-region-requires c κs = tt
@@ -37,7 +37,7 @@ loop-less-2 : tie.Need-loop-less-2 Inv-loop μ-loop
 loop-less-2 c = omega arith
 
 loop-again-2 : tie.Need-loop-again-2 Inv-loop μ-loop
-loop-again-2 c = regions-go (c .before .before .before .before .before .before .before .before .loop .inv) _ (c .before .before .before .before .before .before .before .loop-test .taken) (c .before .before .before .before .before .before .gap-at .ensures .0) (c .before .before .before .before .if1 .left) (c .before .before .put-region .kept .0) (c .before .before .put-region .ensures)
+loop-again-2 c = search regions-go
 
 same-length : tie.Need-same-length Inv-loop μ-loop
 same-length c = c .before .loop .inv .same

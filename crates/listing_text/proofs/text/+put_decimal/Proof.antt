@@ -1,12 +1,11 @@
 -- `listing_text::text::+put_decimal` meets its contract, and ends: a call of itself is for a lower number.
 -- Assumes nothing.
+use Rattle.listing_text.proofs.Digits.{wrote-digit, wrote-digits}
 use Prim.Native.Nat.{ℕ, _<_}
 use native.Mathlib.Omega.{arith}
 use borrow.Author.Needs.{needs}
 use borrow.Fn.Kinds.{In}
 use borrow.Fn.PlainCycle.{Measures, is, falls, and}
-use Rattle.listing_text.specs.Laws.DecimalLaws.{decimal-small, decimal-more}
-use Rattle.listing_text.proofs.Joining.{wrote-join}
 use Rattle.listing_text.proofs.text.put_decimal.Reads as put-decimal
 use Rattle.listing_text.proofs.text.put_decimal.Kinds as put-decimal-kinds
 use Rattle.listing_text.proofs.text.+put_decimal.Lts-put_decimal as lts
@@ -40,10 +39,10 @@ module _ (t : ℕ) where
   same-length c = search needs
 
   returns : lts.Need-returns (C t) (put-decimal-at t) put-decimal.Post
-  returns c = rw (decimal-small (c .before .before .before .before .before .before .before .args .n) (c .before .before .before .before .before .if1 .taken)) (rw (c .before .before .before .digit .ensures) at (c .before .before .put-byte .ensures))
+  returns c = search wrote-digit
 
   put-decimal-requires : lts.Need-put-decimal-requires (C t) (put-decimal-at t) put-decimal.Post
-  put-decimal-requires c κs = (omega (arith, c .before .before .before .pre .0, c .before .if1 .left), tt)
+  put-decimal-requires c κs = (omega arith, tt)
 
   digit-requires-2 : lts.Need-digit-requires-2 (C t) (put-decimal-at t) put-decimal.Post
   digit-requires-2 c κs = search needs
@@ -55,7 +54,7 @@ module _ (t : ℕ) where
   same-length-2 c = search needs
 
   returns-2 : lts.Need-returns-2 (C t) (put-decimal-at t) put-decimal.Post
-  returns-2 c = rw (decimal-more (c .before .before .before .before .before .before .before .before .before .before .before .args .n) (c .before .before .before .before .before .before .before .before .before .if1 .left)) (wrote-join (c .before .before .before .before .before .before .before .put-decimal .ensures) (rw (c .before .before .before .digit2 .ensures) at (c .before .before .put-byte2 .ensures)))
+  returns-2 c = search wrote-digits
 
 pub +put-decimal-spec : {M : Type 1} → statement M
 +put-decimal-spec = close μ-put-decimal (λ t. lts.spec (C t) (put-decimal-at t) put-decimal.Post (digit-requires t) (put-byte-requires t) (same-length t) (returns t) (put-decimal-requires t) (digit-requires-2 t) (put-byte-requires-2 t) (same-length-2 t) (returns-2 t))

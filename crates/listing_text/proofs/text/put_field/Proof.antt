@@ -1,7 +1,6 @@
 -- `listing_text::text::put_field` meets its contract: the space, and the digits behind it.
 -- Assumes nothing.
-use mathlib.Core.Path.{_∙_}
-use Rattle.listing_text.proofs.Joining.{wrote-join}
+use Rattle.listing_text.proofs.Joining.{wrote-two, kept-two}
 use Rattle.listing_text.proofs.text.put_field.Statement.{statement}
 use Rattle.listing_text.proofs.text.put_field.Tie as tie
 
@@ -12,10 +11,10 @@ put-decimal-requires : tie.Need-put-decimal-requires
 put-decimal-requires c κs = tt
 
 same-length : tie.Need-same-length
-same-length c = c .before .before .put-decimal .kept .0 ∙ c .before .before .before .before .before .before .put-byte .kept .0
+same-length c = search kept-two
 
 returns : tie.Need-returns
-returns c = wrote-join (c .before .before .before .before .before .before .put-byte .ensures) (c .before .before .put-decimal .ensures)
+returns c = search wrote-two
 
 pub put-field-spec : {M : Type 1} → statement M
 put-field-spec = tie.close (tie.spec put-byte-requires put-decimal-requires same-length returns)

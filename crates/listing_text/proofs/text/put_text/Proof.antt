@@ -20,10 +20,10 @@ shared-slice-read-b : tie.Need-shared-slice-read-b Inv-loop μ-loop
 shared-slice-read-b c = omega arith
 
 same-length : tie.Need-same-length Inv-loop μ-loop
-same-length c = c .before .before .before .loop .inv .same
+same-length c = search
 
 returns : tie.Need-returns Inv-loop μ-loop
-returns c = copy-stop (c .before .before .before .loop .inv) (c .if1 .taken)
+returns c = search copy-stop
 
 put-byte-requires : tie.Need-put-byte-requires Inv-loop μ-loop
 put-byte-requires c κs = tt
@@ -35,7 +35,7 @@ loop-less : tie.Need-loop-less Inv-loop μ-loop
 loop-less c = omega arith
 
 loop-again : tie.Need-loop-again Inv-loop μ-loop
-loop-again c = copy-turn (c .before .before .before .before .before .before .before .loop .inv) (c .before .before .before .before .if1 .left) (c .before .before .put-byte .kept .0) (c .before .before .put-byte .ensures)
+loop-again c = search copy-turn
 
 same-length-2 : tie.Need-same-length-2 Inv-loop μ-loop
 same-length-2 c = c .before .loop .inv .same

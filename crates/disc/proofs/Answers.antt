@@ -1,0 +1,99 @@
+-- The calls' answers from a prepared image, by its two cases. Assumes nothing.
+use Prim.Native.Nat.{ℕ}
+use mathlib.Core.Path.{_≡_, sym, ap, _∙_}
+use mathlib.Core.List.{List}
+use Rattle.refusal.specs.declared.Refusal.{Refusal}
+use Rattle.header.specs.Verdicts.{discEnd}
+use Rattle.space.specs.declared.DiscRegion.{DiscRegion}
+use Rattle.space.specs.Free.{freeRegions}
+use Rattle.space.specs.Inner.Sort.{regionsIn}
+use Rattle.opening.specs.declared.Prepared.{Prepared}
+use Rattle.opening.specs.declared.Prepared.the-variants.{Ready, Refused}
+use Rattle.opening.specs.Opening.{opening, freeOf, usedOf}
+use Rattle.opening.specs.Inner.Prepared.{Prepares}
+use Rattle.answers.specs.declared.Disc.{Disc}
+use Rattle.answers.specs.declared.Opened.the-variants as opened
+use Rattle.answers.specs.declared.Opened.{Opened}
+use Rattle.answers.specs.declared.SizeAnswer.{SizeAnswer}
+use Rattle.answers.specs.Answers.{discOf, maxRegionSizeAnswer}
+use Rattle.answers.specs.Laws.AnswerLaws.{behind-passed, was-refused}
+use Rattle.answers.proofs.Prepared.{ready-opened, ready-behind, refused-behind}
+use Rattle.free_space.specs.declared.Allocation.{Allocation}
+use Rattle.free_space.specs.declared.Allocation.the-variants as allocation
+use Rattle.free_space.specs.declared.Listing.{Listing}
+use Rattle.free_space.specs.declared.Listing.the-variants as listing
+use Rattle.free_space.specs.Listing.{listingOf, listAfter}
+use Rattle.free_space.specs.Allocate.{allocationOf}
+use Rattle.disc.specs.declared.TotalsAnswer.{TotalsAnswer}
+use Rattle.disc.specs.declared.TotalsAnswer.the-variants as totals
+use Rattle.disc.specs.Calls.{openedAs, openedOf, totalsAnswer, freeRegionsAnswer, freeRegionsList, allocateAnswer}
+
+module _ (image : List ℕ) (n : ℕ) (w : List ℕ) (p : Prepared) (h : Prepares image n w p) where
+  -- opening
+  pub ready-disc : (m : ℕ) (d : Disc) → p ≡ Ready m → d ≡ discOf image → opened.Accepted d ≡ openedOf image n
+  unfolding openedOf
+  ready-disc m d r e = ap opened.Accepted e ∙ ap (openedAs image) (sym (ready-opened image n w p h m r))
+
+  pub refused-disc : (c : Refusal) → p ≡ Refused c → opened.Refused c ≡ openedOf image n
+  unfolding openedOf
+  refused-disc c r = ap (openedAs image) (sym (was-refused image n w p h c r))
+
+  -- totals
+  pub ready-totals : (m : ℕ) (d : Disc) → p ≡ Ready m → d ≡ discOf image → totals.Found (record { «disc_end» = d .«disc_end»; used = d .used }) ≡ totalsAnswer image n
+  unfolding totalsAnswer
+  ready-totals m d r e =
+      rw e (behind-passed (opening image n) totals.Refused (totals.Found (record { «disc_end» = discEnd image; used = usedOf image })) (ready-opened image n w p h m r))
+
+  pub refused-totals : (c : Refusal) → p ≡ Refused c → totals.Refused c ≡ totalsAnswer image n
+  unfolding totalsAnswer
+  refused-totals c r = refused-behind image n w p h totals.Refused _ c r
+
+  -- the free regions, and the list of them
+  pub ready-listing : (room m : ℕ) (d : Disc) (a : Listing) → p ≡ Ready m → d ≡ discOf image → a ≡ listingOf (freeRegions (d .«disc_end») (regionsIn w 0 m)) room
+      → a ≡ freeRegionsAnswer image n room
+  unfolding freeRegionsAnswer
+  ready-listing room m d a r e f = f ∙ ready-behind image n w p h listing.Refused (λ (l : List DiscRegion). listingOf l room) m d r e
+
+  pub ready-list : (m : ℕ) (d : Disc) (list list′ : List ℕ) → p ≡ Ready m → d ≡ discOf image → list′ ≡ listAfter (freeRegions (d .«disc_end») (regionsIn w 0 m)) list
+      → list′ ≡ freeRegionsList image n list
+  unfolding freeRegionsList
+  ready-list m d list list′ r e f = f ∙ ready-behind image n w p h (λ (x : Refusal). list) (λ (l : List DiscRegion). listAfter l list) m d r e
+
+  pub refused-listing : (room : ℕ) (c : Refusal) → p ≡ Refused c → listing.Refused c ≡ freeRegionsAnswer image n room
+  unfolding freeRegionsAnswer
+  refused-listing room c r = refused-behind image n w p h listing.Refused (listingOf (freeOf image) room) c r
+
+  pub refused-list : (list : List ℕ) (c : Refusal) → p ≡ Refused c → list ≡ freeRegionsList image n list
+  unfolding freeRegionsList
+  refused-list list c r = refused-behind image n w p h (λ (x : Refusal). list) (listAfter (freeOf image) list) c r
+
+  -- allocation
+  pub ready-allocation : (size align m : ℕ) (d : Disc) (a : Allocation) → p ≡ Ready m → d ≡ discOf image → a ≡ allocationOf align size (freeRegions (d .«disc_end») (regionsIn w 0 m))
+      → a ≡ allocateAnswer image n size align
+  unfolding allocateAnswer
+  ready-allocation size align m d a r e f = f ∙ ready-behind image n w p h allocation.Refused (allocationOf align size) m d r e
+
+  pub refused-allocation : (size align : ℕ) (c : Refusal) → p ≡ Refused c → allocation.Refused c ≡ allocateAnswer image n size align
+  unfolding allocateAnswer
+  refused-allocation size align c r = refused-behind image n w p h allocation.Refused (allocationOf align size (freeOf image)) c r
+
+-- ---- after `prepare`, which keeps the number of the words
+
+module _ (image : List ℕ) (n n′ : ℕ) (kept : n′ ≡ n) where
+  pub opened-kept : (a : Opened) → a ≡ openedOf image n′ → a ≡ openedOf image n
+  opened-kept a h = rw kept at h
+
+  pub totals-kept : (a : TotalsAnswer) → a ≡ totalsAnswer image n′ → a ≡ totalsAnswer image n
+  totals-kept a h = rw kept at h
+
+  pub listing-kept : (room : ℕ) (a : Listing) → a ≡ freeRegionsAnswer image n′ room → a ≡ freeRegionsAnswer image n room
+  listing-kept room a h = rw kept at h
+
+  pub list-kept : (list list′ : List ℕ) → list′ ≡ freeRegionsList image n′ list → list′ ≡ freeRegionsList image n list
+  list-kept list list′ h = rw kept at h
+
+  pub allocation-kept : (size align : ℕ) (a : Allocation) → a ≡ allocateAnswer image n′ size align → a ≡ allocateAnswer image n size align
+  allocation-kept size align a h = rw kept at h
+
+  pub size-kept : (offset size : ℕ) (a : SizeAnswer) → a ≡ maxRegionSizeAnswer image n′ offset size → a ≡ maxRegionSizeAnswer image n offset size
+  size-kept offset size a h = rw kept at h
