@@ -1,3 +1,4 @@
 -- What the proofs of the functions cite.
+pub mod Places
 pub mod Records
 pub mod Turn

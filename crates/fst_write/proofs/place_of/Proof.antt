@@ -1,6 +1,6 @@
 -- `fst_write::place_of` meets its contract: by the test on the kind.
 -- Assumes nothing.
-use borrow.Author.Tests.{eq-eqb, ne-eqb}
+use Rattle.fst_write.proofs.Places.{file-place, directory-place}
 use borrow.Author.Needs.{needs}
 use Rattle.fst_write.proofs.place_of.Statement.{statement}
 use Rattle.fst_write.proofs.place_of.Tie as tie
@@ -21,10 +21,10 @@ read-u32-requires : tie.Need-read-u32-requires
 read-u32-requires c κs = search needs
 
 returns : tie.Need-returns
-returns c = simp (eq-eqb _ _ (c .before .if1 .taken)) (c .read-u32 .ensures)
+returns c = search file-place
 
 returns-2 : tie.Need-returns-2
-returns-2 c = simp (ne-eqb _ _ (c .if1 .left))
+returns-2 c = search directory-place
 
 pub place-of-spec : {M : Type 1} → statement M
 place-of-spec =
