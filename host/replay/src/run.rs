@@ -2,7 +2,7 @@
 
 use crate::script::Part;
 use counter_sys::guarded::{Element, Guarded};
-use counter_sys::{HEADER_SIZE, call};
+use counter_sys::{DOL_WORDS, HEADER_SIZE, call};
 
 /// What a call gave, in the form of a script's answer: its number, the words of the answer, and a text.
 #[derive(Debug, Default, PartialEq, Eq)]
@@ -135,14 +135,17 @@ impl Stage {
     pub fn call(&mut self, line: &Part) -> Result<Given, String> {
         let name = line.words[0].as_str();
         let numbers = line.numbers(1)?;
+        holds(numbers.len() == arity(name), "a number too many or too few")?;
         let mut lent = Lent::of(self);
         let given = match name {
-            "insert_file" | "insert_directory" | "make_directories" | "move_file"
-            | "resize_file" | "rewrite" => self.edit(name, &numbers, &line.text, &mut lent)?,
             "seek_start" | "seek_current" | "seek_end" | "read" => {
-                self.on_window(name, &numbers, &lent)?
+                self.on_window(name, numbers[0], &lent)?
             }
-            _ => self.look(name, &numbers, &line.text, &mut lent)?,
+            "insert_file" | "insert_directory" | "make_directories" | "move_file"
+            | "resize_file" | "rewrite" => {
+                self.edit(name, words(&numbers)?, &line.text, &mut lent)?
+            }
+            _ => self.look(name, words(&numbers)?, &line.text, &mut lent)?,
         };
         holds(lent.margins_stay(), "something beside what was lent was written")?;
         Ok(given)
@@ -151,43 +154,31 @@ impl Stage {
     fn edit(
         &mut self,
         name: &str,
-        numbers: &[u64],
+        [a, b]: [u32; 2],
         text: &[u8],
         l: &mut Lent,
     ) -> Result<Given, String> {
-        let at = |i: usize| word(numbers, i);
-        let mut numbers = match name {
-            "move_file" => {
-                let (a, b) = (at(0)?, at(1)?);
-                slots::<u32, 0>(|_| unsafe {
-                    call!(counter_move_file(mut l.image.slice_mut(), mut l.words.slice_mut(), mut l.bytes.slice_mut(), = a, = b))
-                })?
-            }
-            "resize_file" => {
-                let (a, b) = (at(0)?, at(1)?);
-                slots::<u32, 0>(|_| unsafe {
-                    call!(counter_resize_file(mut l.image.slice_mut(), mut l.words.slice_mut(), mut l.bytes.slice_mut(), = a, = b))
-                })?
-            }
-            "rewrite" => slots::<u32, 0>(|_| unsafe {
-                call!(counter_rewrite(mut l.image.slice_mut(), mut l.words.slice_mut(), mut l.bytes.slice_mut()))
-            })?,
-            _ => {
-                let a = at(0)?;
+        let (image, words, bytes) = (l.image.slice_mut(), l.words.slice_mut(), l.bytes.slice_mut());
+        // A call lent all three, with what else it takes.
+        macro_rules! change {
+            ($name:ident($($given:tt)*)) => {
+                slots::<u32, 0>(|_| unsafe { call!($name(mut image, mut words, mut bytes $($given)*)) })?
+            };
+        }
+        macro_rules! insert {
+            ($name:ident) => {
                 slots::<u32, 1>(|s| unsafe {
-                    match name {
-                        "insert_file" => {
-                            call!(counter_insert_file(mut l.image.slice_mut(), mut l.words.slice_mut(), mut l.bytes.slice_mut(), = a, in text, = s))
-                        }
-                        "insert_directory" => {
-                            call!(counter_insert_directory(mut l.image.slice_mut(), mut l.words.slice_mut(), mut l.bytes.slice_mut(), = a, in text, = s))
-                        }
-                        _ => {
-                            call!(counter_make_directories(mut l.image.slice_mut(), mut l.words.slice_mut(), mut l.bytes.slice_mut(), = a, in text, = s))
-                        }
-                    }
+                    call!($name(mut image, mut words, mut bytes, = a, in text, = s))
                 })?
-            }
+            };
+        }
+        let mut numbers = match name {
+            "insert_file" => insert!(counter_insert_file),
+            "insert_directory" => insert!(counter_insert_directory),
+            "make_directories" => insert!(counter_make_directories),
+            "move_file" => change!(counter_move_file(, = a, = b)),
+            "resize_file" => change!(counter_resize_file(, = a, = b)),
+            _ => change!(counter_rewrite()),
         };
         holds(l.words.is_zero() && l.bytes.is_zero(), "working memory is not zero")?;
         holds(numbers[0] == 0 || l.image.slice() == self.image, "a refusal changed the image")?;
@@ -199,98 +190,41 @@ impl Stage {
     fn look(
         &mut self,
         name: &str,
-        numbers: &[u64],
+        [a, b]: [u32; 2],
         text: &[u8],
         l: &mut Lent,
     ) -> Result<Given, String> {
-        let at = |i: usize| word(numbers, i);
-        let image = l.image.slice();
-        let words = l.words.slice_mut();
-        let mut buffer = Guarded::<u8>::new(0);
+        let (image, words, list) = (l.image.slice(), l.words.slice_mut(), l.list.slice_mut());
+        let mut buffer =
+            Guarded::<u8>::new(if matches!(name, "list" | "report") { a as usize } else { 0 });
+        // A call on the image and the words, with what else it takes.
+        macro_rules! ask {
+            ($kind:ty, $slots:literal, $name:ident($($given:tt)*)) => {
+                slots::<$kind, $slots>(|s| unsafe { call!($name(in image, mut words $($given)*, = s)) })?
+            };
+        }
         let mut given = match name {
-            "header" => {
-                let mut fields = Guarded::<u8>::new(HEADER_SIZE);
-                let number = unsafe { call!(counter_header(in image, = fields.slots())) };
-                holds(number == 0 || fields.stays_from(0), "a refusal wrote the header")?;
-                holds(fields.margins_stay(), "something beside the header was written")?;
-                let mut given = vec![u64::from(number)];
-                given.extend((number == 0).then(|| checksum(fields.slice())));
-                return Ok(Given { numbers: given, text: vec![] });
-            }
-            "open" => {
-                slots::<u32, 5>(|s| unsafe { call!(counter_open(in image, mut words, = s)) })?
-            }
-            "totals" => {
-                slots::<u32, 2>(|s| unsafe { call!(counter_totals(in image, mut words, = s)) })?
-            }
-            "entry" => {
-                let a = at(0)?;
-                slots::<u32, 4>(|s| unsafe { call!(counter_entry(in image, mut words, = a, = s)) })?
-            }
-            "lookup" => {
-                let a = at(0)?;
-                slots::<u32, 4>(|s| unsafe {
-                    call!(counter_lookup(in image, mut words, = a, in text, = s))
-                })?
-            }
-            "entries" => slots::<u32, 5>(|s| unsafe {
-                call!(counter_entries(in image, mut words, mut l.list.slice_mut(), = s))
-            })?,
-            "free_regions" => slots::<u32, 1>(|s| unsafe {
-                call!(counter_free_regions(in image, mut words, mut l.list.slice_mut(), = s))
-            })?,
-            "max_region_size" => {
-                let (a, b) = (at(0)?, at(1)?);
-                slots::<u32, 1>(|s| unsafe {
-                    call!(counter_max_region_size(in image, mut words, = a, = b, = s))
-                })?
-            }
-            "max_file_size" => {
-                let a = at(0)?;
-                slots::<u32, 1>(|s| unsafe {
-                    call!(counter_max_file_size(in image, mut words, = a, = s))
-                })?
-            }
-            "allocate" => {
-                let (a, b) = (at(0)?, at(1)?);
-                slots::<u32, 2>(|s| unsafe {
-                    call!(counter_allocate(in image, mut words, = a, = b, = s))
-                })?
-            }
-            "open_file" => {
-                let a = at(0)?;
-                slots::<u64, 3>(|s| unsafe {
-                    call!(counter_open_file(in image, mut words, = a, = s))
-                })?
-            }
+            "open" => ask!(u32, 5, counter_open()),
+            "totals" => ask!(u32, 2, counter_totals()),
+            "entry" => ask!(u32, 4, counter_entry(, = a)),
+            "lookup" => ask!(u32, 4, counter_lookup(, = a, in text)),
+            "entries" => ask!(u32, 5, counter_entries(, mut list)),
+            "free_regions" => ask!(u32, 1, counter_free_regions(, mut list)),
+            "max_region_size" => ask!(u32, 1, counter_max_region_size(, = a, = b)),
+            "max_file_size" => ask!(u32, 1, counter_max_file_size(, = a)),
+            "allocate" => ask!(u32, 2, counter_allocate(, = a, = b)),
+            "open_file" => ask!(u64, 3, counter_open_file(, = a)),
             "open_dol" => {
-                let mut header = vec![];
-                let mut given = slots::<u64, 3>(|s| {
-                    let mut number = 0;
-                    header = slots::<u32, 57>(|h| {
-                        number = unsafe { call!(counter_open_dol(in image, mut words, = h, = s)) };
-                        number
-                    })
-                    .unwrap_or_default();
-                    number
-                })?;
-                holds(!header.is_empty(), "the header's slots are not as they have to be")?;
-                given.extend(&header[1..]);
+                let mut header = Guarded::<u32>::new(DOL_WORDS);
+                let mut given = ask!(u64, 3, counter_open_dol(, = header.slots()));
+                let used = if given[0] == 0 { DOL_WORDS } else { 0 };
+                holds(header.stays_from(used), "a refusal wrote the header")?;
+                given.extend(header.slice()[..used].iter().map(|word| u64::from(*word)));
                 given
             }
-            "list" | "report" => {
-                buffer = Guarded::new(at(0)? as usize);
-                slots::<u64, 1>(|s| unsafe {
-                    match name {
-                        "list" => {
-                            call!(counter_list(in image, mut words, mut buffer.slice_mut(), = s))
-                        }
-                        _ => {
-                            call!(counter_report(in image, mut words, mut buffer.slice_mut(), = s))
-                        }
-                    }
-                })?
-            }
+            "list" => ask!(u64, 1, counter_list(, mut buffer.slice_mut())),
+            "report" => ask!(u64, 1, counter_report(, mut buffer.slice_mut())),
+            "header" => return header(image),
             _ => return Err(format!("`{name}` is no call")),
         };
         holds(l.words.is_zero(), "working memory is not zero")?;
@@ -311,8 +245,7 @@ impl Stage {
         Ok(Given { numbers: given, text: buffer.slice()[..used].to_vec() })
     }
 
-    fn on_window(&mut self, name: &str, numbers: &[u64], l: &Lent) -> Result<Given, String> {
-        let to = *numbers.first().ok_or("a number is missing")?;
+    fn on_window(&mut self, name: &str, to: u64, l: &Lent) -> Result<Given, String> {
         let mut window = Guarded::of(&self.window);
         if name == "read" {
             let mut buffer = Guarded::of(&vec![b'.'; to as usize]);
@@ -345,7 +278,30 @@ impl Stage {
     }
 }
 
-fn word(numbers: &[u64], i: usize) -> Result<u32, String> {
-    let number = numbers.get(i).ok_or("a number is missing")?;
-    u32::try_from(*number).map_err(|_| format!("{number} has more than 32 bits"))
+fn header(image: &[u8]) -> Result<Given, String> {
+    let mut fields = Guarded::<u8>::new(HEADER_SIZE);
+    let number = unsafe { call!(counter_header(in image, = fields.slots())) };
+    holds(fields.margins_stay(), "something beside the header was written")?;
+    holds(number == 0 || fields.stays_from(0), "a refusal wrote the header")?;
+    let mut numbers = vec![u64::from(number)];
+    numbers.extend((number == 0).then(|| checksum(fields.slice())));
+    Ok(Given { numbers, text: vec![] })
+}
+
+/// How many numbers a call takes.
+fn arity(name: &str) -> usize {
+    match name {
+        "open" | "totals" | "entries" | "free_regions" | "open_dol" | "header" | "rewrite" => 0,
+        "max_region_size" | "allocate" | "move_file" | "resize_file" => 2,
+        _ => 1,
+    }
+}
+
+/// The numbers, each of 32 bits; 0 where a call takes fewer.
+fn words(numbers: &[u64]) -> Result<[u32; 2], String> {
+    let mut words = [0; 2];
+    for (word, number) in words.iter_mut().zip(numbers) {
+        *word = u32::try_from(*number).map_err(|_| format!("{number} has more than 32 bits"))?;
+    }
+    Ok(words)
 }

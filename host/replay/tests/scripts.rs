@@ -54,7 +54,7 @@ fn a_wrong_answer_is_told() {
         ),
         ("rewrite = 0 1", "s:7: rewrite: gave 0x0 0x203a64a4776abcd2, has to give 0x0 0x1"),
         ("read 2 = 0 0 0 \"\"", "s:7: read 2: gave 0x0 0x0 0x0 \"..\", has to give 0x0 0x0 0x0"),
-        ("fly = 0", "s:7: fly: `fly` is no call"),
+        ("fly 1 = 0", "s:7: fly 1: `fly` is no call"),
     ] {
         assert_eq!(of(line), [told], "{line}");
     }
