@@ -1,7 +1,7 @@
 -- `fst_list::name_length` meets its contract: the length of the text at the name's place, which the texts' limit bounds.
 -- Assumes nothing.
 use native.Mathlib.Omega.{arith}
-use mathlib.Core.Path.{_≡_, sym, ap}
+use mathlib.Core.Path.{_≡_}
 use lib.ListN.{length, getD}
 use Rattle.tree.specs.Table.{none, nodesOf, nameOf, namePlace}
 use Rattle.fst_text.specs.Inner.Texts.{textAt}
@@ -12,9 +12,7 @@ use Rattle.fst_list.proofs.name_length.Statement.{statement}
 use Rattle.fst_list.proofs.name_length.Tie as tie
 
 returns : tie.Need-returns
-returns c =
-    let T = c .before .before .args .table .now in
-    (sym (ap length (root-name T (c .before .before .args .k) (c .if1 .taken))), omega arith)
+returns c = search (root-name, needs)
 
 name-place-requires : tie.Need-name-place-requires
 name-place-requires c κs = search needs

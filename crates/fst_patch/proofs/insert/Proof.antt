@@ -27,22 +27,16 @@ new-start-requires : tie.Need-new-start-requires
 new-start-requires c κs = search needs
 
 insert-text-requires : tie.Need-insert-text-requires
-insert-text-requires c κs =
-    let s = c .before .before .before .before .before .before .before .before .before in
-    (inside-read (s .args .table .now) (s .args .size) (s .args .p) (s .args .is-directory) (s .args .name .now) (s .pre) _ _ _ (c .before .before .before .before .before .read-u32 .ensures) (c .before .before .before .read-u322 .ensures) (c .before .new-start .ensures), s .pre .fits)
+insert-text-requires c κs = search inside-read
 
 patch-records-requires : tie.Need-patch-records-requires
-patch-records-requires c κs =
-    let s = c .before .before .before .before .before .before .before .before .before .before .before .before .before in
-    patchable-read (s .args .table .now) (s .args .size) (s .args .p) (s .args .is-directory) (s .args .name .now) (s .pre) _ _ _ (c .before .before .before .before .before .before .before .before .before .read-u32 .ensures) (c .before .before .before .before .before .before .before .read-u322 .ensures) (c .before .before .before .before .before .new-start .ensures) _ (c .before .before .before .insert-text .ensures)
+patch-records-requires c κs = search patchable-read
 
 same-length : tie.Need-same-length
 same-length c = search needs
 
 returns : tie.Need-returns
-returns c =
-    let s = c .before .before .before .before .before .before .before .before .before .before .before .before .before .before .before .before in
-    (c .before .before .before .before .before .before .before .before .before .before .read-u322 .ensures, inserted-read (s .args .table .now) (s .args .size) (s .args .p) (s .args .is-directory) (s .args .name .now) (s .pre) _ _ _ (c .before .before .before .before .before .before .before .before .before .before .before .before .read-u32 .ensures) (c .before .before .before .before .before .before .before .before .before .before .read-u322 .ensures) (c .before .before .before .before .before .before .before .before .new-start .ensures) _ (c .before .before .before .before .before .before .insert-text .ensures) _ (c .before .before .patch-records .ensures))
+returns c = search (inserted-read, needs)
 
 pub insert-spec : {M : Type 1} → statement M
 insert-spec =

@@ -11,9 +11,7 @@ add-patch-behind : tie.Need-add-patch-behind
 add-patch-behind c = search needs
 
 patch-behind-requires : tie.Need-patch-behind-requires
-patch-behind-requires c κs =
-    let s = c .before .before .before in
-    (s .pre .room, s .pre .within, s .pre .each, λ i h. omega (arith, s .pre .names i h))
+patch-behind-requires c κs = search
 
 write-new-requires : tie.Need-write-new-requires
 write-new-requires c κs = search needs

@@ -14,13 +14,13 @@ shared-slice-read-if2 : tie.Need-shared-slice-read-if2
 shared-slice-read-if2 c = search needs
 
 returns-2 : tie.Need-returns-2
-returns-2 c = rw (back-two (c .before .before .before .args .name .now) (c .before .before .if1 .left), ne-eqb _ _ (c .if2 .taken))
+returns-2 c = search (back-two, ne-eqb)
 
 shared-slice-read-result : tie.Need-shared-slice-read-result
 shared-slice-read-result c = search needs
 
 returns-3 : tie.Need-returns-3
-returns-3 c = rw (back-two (c .before .before .before .before .args .name .now) (c .before .before .before .if1 .left), eq-eqb _ _ (c .before .if2 .left))
+returns-3 c = search (back-two, eq-eqb)
 
 pub goes-back-spec : {M : Type 1} → statement M
 goes-back-spec =

@@ -10,13 +10,13 @@ returns : tie.Need-returns
 returns c = sym (stays-none (c .before .args .name .now) (c .if1 .taken))
 
 returns-2 : tie.Need-returns-2
-returns-2 c = sym (stays-more (c .before .before .args .name .now) (c .before .if1 .left) (c .if2 .taken))
+returns-2 c = search (stays-more, needs)
 
 shared-slice-read-result : tie.Need-shared-slice-read-result
 shared-slice-read-result c = search needs
 
 returns-3 : tie.Need-returns-3
-returns-3 c = sym (stays-one (c .before .before .before .args .name .now) (c .before .if2 .left))
+returns-3 c = search (stays-one, needs)
 
 pub stays-spec : {M : Type 1} → statement M
 stays-spec = tie.close (tie.spec returns returns-2 shared-slice-read-result returns-3)

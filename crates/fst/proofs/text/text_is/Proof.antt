@@ -11,9 +11,7 @@ sub-if1 : tie.Need-sub-if1
 sub-if1 c = search needs
 
 returns : tie.Need-returns
-returns c =
-    let a = c .before .before .before .args in
-    sym (text-short (a .table .now) (a .name .now) (a .at) (c .if1 .taken))
+returns c = search (text-short, needs)
 
 add-byte-at : tie.Need-add-byte-at
 add-byte-at c = search needs

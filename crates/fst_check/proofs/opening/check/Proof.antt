@@ -17,25 +17,21 @@ use Rattle.fst_check.proofs.opening.check.Tie as tie
 
 returns : tie.Need-returns
 unfolding check
-returns c = rw (lt-ltb (length (c .before .before .args .table .now)) 12 (c .if1 .taken))
+returns c = search (lt-ltb, needs)
 
 shared-slice-read-if2 : tie.Need-shared-slice-read-if2
 shared-slice-read-if2 c = search needs
 
 returns-2 : tie.Need-returns-2
 unfolding check
-returns-2 c =
-    let T = c .before .before .before .before .args .table .now in
-    rw (le-ltb (length T) 12 (c .before .before .if1 .left), lt-ltb 1 (kind T 0) (c .if2 .taken))
+returns-2 c = search (le-ltb, lt-ltb)
 
 shared-slice-read-if3 : tie.Need-shared-slice-read-if3
 shared-slice-read-if3 c = search needs
 
 returns-3 : tie.Need-returns-3
 unfolding check
-returns-3 c =
-    let T = c .before .before .before .before .before .before .args .table .now in
-    rw (le-ltb (length T) 12 (c .before .before .before .before .if1 .left), le-ltb 1 (kind T 0) (c .before .before .if2 .left), eq-eqb (kind T 0) 0 (c .if3 .taken))
+returns-3 c = search (le-ltb, eq-eqb)
 
 count-requires : tie.Need-count-requires
 count-requires c κs = search needs

@@ -24,11 +24,11 @@ shared-slice-read-if2 c = search needs
 
 returns-2 : tie.Need-returns-2
 unfolding entryVerdict
-returns-2 c = simp (le-ltb _ _ (c .before .before .if1 .left), lt-ltb _ _ (c .if2 .taken))
+returns-2 c = search (le-ltb, lt-ltb)
 
 returns-3 : tie.Need-returns-3
 unfolding entryVerdict
-returns-3 c = simp (le-ltb _ _ (c .before .before .if1 .left), le-ltb _ _ (c .if2 .left))
+returns-3 c = search (le-ltb, needs)
 
 pub entry-verdict-spec : {M : Type 1} → statement M
 entry-verdict-spec =

@@ -20,7 +20,7 @@ unfolding openIn
 returns c = rw (c .if1 .taken)
 
 returns-2 : tie.Need-returns-2
-returns-2 c = rw (open-some (c .before .before .args .nexts .now) (c .before .before .args .depth) (c .before .if1 .left))
+returns-2 c = search (open-some, needs)
 
 pub innermost-spec : {M : Type 1} → statement M
 innermost-spec =
