@@ -13,7 +13,7 @@ ghost use Rattle.endian.specs.Bytes.{put};
 ghost use Rattle.tree.specs.Table.{encode};
 ghost use Rattle.opening.specs.Opening.{nodesIn};
 ghost use Rattle.edits.specs.Change.{tableVerdict, placeVerdict};
-ghost use Rattle.opening.specs.Inner.Prepared.{Opens, IsOpen};
+ghost use Rattle.opening.specs.Inner.Prepared.{OpensImage, IsOpen};
 ghost use Rattle.commit.specs.Inner.Decision.{sizedAs, placing};
 
 // Whether a place that is not empty starts before `end`.
@@ -85,7 +85,7 @@ pub fn check_table(
 
 // The tree as it is, written anew.
 pub fn write_table(image: &[u8], bytes: &mut [u8])
-    requires { ⌜ Opens (now image) × (length (encode (nodesIn (now image))) ≤ length (now bytes)) × (length (encode (nodesIn (now image))) ≤ 2 ^ 24) ⌝ }
+    requires { ⌜ OpensImage (now image) × (length (encode (nodesIn (now image))) ≤ length (now bytes)) × (length (encode (nodesIn (now image))) ≤ 2 ^ 24) ⌝ }
     ensures { λ _. ⌜ now (bytes .exit) ≡ put (now (bytes .entry)) 0 (encode (nodesIn (now (image .entry)))) ⌝ }
 {
     let from = header::fst_offset(image) as usize;

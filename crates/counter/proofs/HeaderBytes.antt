@@ -19,7 +19,7 @@ use Rattle.header.specs.Verdicts.{headerVerdict}
 use Rattle.header.specs.Laws.FieldTests.{header-passed}
 use Rattle.header.specs.Laws.Tiling.{fields-tile, fields-count, one-field}
 use Rattle.disc_header.specs.Laws.RoundTrip.{Fills, length-putFields, putFields-in, write-read}
-use Rattle.counter.specs.Replies.{accepts, refuses, judged}
+use Rattle.counter.specs.Replies.{accepts, refuses, verdictReply}
 
 module _ (image slots : List ℕ) (good : headerVerdict image ≡ Passed) (bytes : AllBytes image) (room : length slots ≡ 0x440) where
   whole : 0x440 ≤ length image
@@ -62,18 +62,18 @@ module _ (image slots : List ℕ) (good : headerVerdict image ≡ Passed) (bytes
   back = rw (le-ltb (length slots) 0x440 (omega arith)) taken
 
 module _ (image slots : List ℕ) (read : HeaderRead) (e : read ≡ headerRead image) where
-  pub header-written : read .verdict ≡ Passed → AllBytes image → length slots ≡ 0x440 → accepts (headerWritten (read .header) slots) ≡ judged slots (headerVerdict image) (take 0x440 image)
-  unfolding judged
+  pub header-written : read .verdict ≡ Passed → AllBytes image → length slots ≡ 0x440 → accepts (headerWritten (read .header) slots) ≡ verdictReply slots (headerVerdict image) (take 0x440 image)
+  unfolding verdictReply
   header-written p bytes room = go (headerVerdict image) refl e
     where
-      go : (v : Verdict) → headerVerdict image ≡ v → read ≡ headerAnswer v (headerOf image) → accepts (headerWritten (read .header) slots) ≡ judged slots v (take 0x440 image)
+      go : (v : Verdict) → headerVerdict image ≡ v → read ≡ headerAnswer v (headerOf image) → accepts (headerWritten (read .header) slots) ≡ verdictReply slots v (take 0x440 image)
       go Passed g h = rw (h, back image slots g bytes room)
       go (Refused c) g h = let z : _≡_ {A = ℕ} 0 1 = cc in absurd (omega arith)
 
-  pub header-refused : (c : Refusal) → read .verdict ≡ Refused c → refuses slots c ≡ judged slots (headerVerdict image) (take 0x440 image)
-  unfolding judged
+  pub header-refused : (c : Refusal) → read .verdict ≡ Refused c → refuses slots c ≡ verdictReply slots (headerVerdict image) (take 0x440 image)
+  unfolding verdictReply
   header-refused c p = go (headerVerdict image) e
     where
-      go : (v : Verdict) → read ≡ headerAnswer v (headerOf image) → refuses slots c ≡ judged slots v (take 0x440 image)
+      go : (v : Verdict) → read ≡ headerAnswer v (headerOf image) → refuses slots c ≡ verdictReply slots v (take 0x440 image)
       go Passed h = let z : _≡_ {A = ℕ} 0 1 = cc in absurd (omega arith)
       go (Refused d) h = let k : c ≡ d = cc in rw k

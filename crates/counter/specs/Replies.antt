@@ -128,9 +128,9 @@ soughtReply before (sought.Refused c) = refuses before c
 -- ---- headers
 
 -- slots after a verdict: with these words, or as they were
-unfoldable pub judged : List ℕ → Verdict → List ℕ → Reply
-judged before verdict.Passed ws = accepts ws
-judged before (verdict.Refused c) ws = refuses before c
+unfoldable pub verdictReply : List ℕ → Verdict → List ℕ → Reply
+verdictReply before verdict.Passed ws = accepts ws
+verdictReply before (verdict.Refused c) ws = refuses before c
 
 -- "7 text and 11 data offsets, then addresses, then sizes in that order, BSS address, BSS size, entry point"
 unfoldable pub dolWords : DolHeader → List ℕ
@@ -140,7 +140,7 @@ dolWords h =
 
 -- the header's slots, and the window's
 abbrev pub dolReply : List ℕ → DolFile → Reply
-dolReply before f = judged before (f .verdict) (dolWords (f .header))
+dolReply before f = verdictReply before (f .verdict) (dolWords (f .header))
 
 abbrev pub dolWindowReply : List ℕ → DolFile → Reply
-dolWindowReply before f = judged before (f .verdict) (windowWords (f .window))
+dolWindowReply before f = verdictReply before (f .verdict) (windowWords (f .window))

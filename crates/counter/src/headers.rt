@@ -6,7 +6,7 @@ ghost use lib.ListN.{length, take};
 ghost use Rattle.endian.specs.Bytes.{put};
 ghost use Rattle.header.specs.Verdicts.{headerVerdict};
 ghost use Rattle.files.specs.Files.{openDolAnswer};
-ghost use Rattle.counter.specs.Replies.{Read, reply, judged, dolWords, dolReply, dolWindowReply};
+ghost use Rattle.counter.specs.Replies.{Read, reply, verdictReply, dolWords, dolReply, dolWindowReply};
 use disc_header::DiscHeader;
 use dol::DolHeader;
 use refusal::Verdict;
@@ -14,7 +14,7 @@ use refusal::Verdict;
 // The header is read field by field, and written back: the image's first 0x440 bytes.
 #[no_mangle]
 pub extern "C" fn counter_header(image: &[u8], fields: &mut [u8; 0x440]) -> u32
-    ensures { λ r. ⌜ reply r (now (fields .exit)) ≡ judged (now (fields .entry)) (headerVerdict (now (image .entry))) (take 0x440 (now (image .entry))) ⌝ }
+    ensures { λ r. ⌜ reply r (now (fields .exit)) ≡ verdictReply (now (fields .entry)) (headerVerdict (now (image .entry))) (take 0x440 (now (image .entry))) ⌝ }
 {
     let read = DiscHeader::read_from(image);
     let verdict = read.verdict;

@@ -24,7 +24,7 @@ use Rattle.free_space.specs.MaxRegionSize.{maxRegionSize}
 use Rattle.free_space.specs.Allocate.{allocationOf}
 use Rattle.opening.specs.Opening.{nodesIn, freeOf, regionOf}
 use Rattle.opening.specs.Laws.OpeningLaws.{OpenImage}
-use Rattle.opening.specs.Inner.Prepared.{UsedWords, Opens, IsOpen}
+use Rattle.opening.specs.Inner.Prepared.{UsedWords, OpensImage, IsOpen}
 use Rattle.edits.specs.Change.{tableVerdict, change}
 use Rattle.edits.specs.Edits.{noPlace, tableOnly, planned, fileVerdict, relocateVerdict, relocated, resized, planElsewhere, planMove, planResize, planSized}
 use Rattle.commit.specs.declared.Writing.{Writing}
@@ -43,7 +43,7 @@ use Rattle.decide.proofs.Files.{file-found, file-refused, placed-table,
 
 -- ---- the table, judged and written
 
-pub still-opens : (image w : List ℕ) (m : ℕ) → IsOpen image w m → Opens image
+pub still-opens : (image w : List ℕ) (m : ℕ) → IsOpen image w m → OpensImage image
 still-opens image w m o = record { words = length w; passed = o .passed }
 
 module _ (image w : List ℕ) (room : ℕ) (to : DiscRegion) (r : TableSize)

@@ -25,7 +25,7 @@ ghost use Rattle.free_space.specs.Allocate.{allocationOf};
 ghost use Rattle.opening.specs.Opening.{nodesIn, freeOf, regionOf};
 ghost use Rattle.edits.specs.Change.{change};
 ghost use Rattle.edits.specs.Edits.{planned, tableOnly, fileVerdict, overlapsItself, relocateVerdict, relocated, resized, planElsewhere, planMove, planResize, planSized};
-ghost use Rattle.opening.specs.Inner.Prepared.{Opens, IsOpen};
+ghost use Rattle.opening.specs.Inner.Prepared.{OpensImage, IsOpen};
 ghost use Rattle.decide.specs.Inner.Files.{IsFile, fileOf, fileAs};
 ghost use Rattle.commit.specs.Inner.Decision.{InImage, Decided, changeWith};
 
@@ -90,7 +90,7 @@ fn file_of(entry: Entry) -> FileAt
 
 // The place of a file: 15, then 16.
 fn file_at(image: &[u8], number: u32) -> FileAt
-    requires { ⌜ Opens (now image) ⌝ }
+    requires { ⌜ OpensImage (now image) ⌝ }
     ensures { λ r. ⌜ r ≡ fileAs (fileVerdict (nodesIn (now (image .entry))) number) (regionOf (getD (nodesIn (now (image .entry))) number none)) ⌝ }
 {
     let from = header::fst_offset(image) as usize;

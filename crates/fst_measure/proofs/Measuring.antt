@@ -10,7 +10,7 @@ use lib.Dec.{ltb}
 use Rattle.tree.specs.Table.{kind, sizeOrNext, nodesOf, textsOf, encode}
 use Rattle.fst_measure.specs.declared.Measured.the-variants.{Size, PastLimit}
 use Rattle.fst_measure.specs.Inner.Valid.{Valid}
-use Rattle.fst_measure.specs.Inner.Flat.{afterOf, textTo}
+use Rattle.fst_measure.specs.Inner.Flat.{afterIn, textTo}
 use Rattle.fst_measure.specs.Inner.Measure.{measureOf, capped}
 use Rattle.fst_measure.proofs.Nesting.{count-is, after-later, after-within}
 use Rattle.fst_measure.proofs.Split.{text-split, text-none, text-mono}
@@ -37,13 +37,13 @@ module _ (tab : List ℕ) (n k texts : ℕ) (v : Valid tab n) (kn : k < n) (dir 
     pub sum-inside : c < n
     sum-inside = omega (arith, v .nested k kn dir .within)
 
-    pub sum-later : c < afterOf tab c
+    pub sum-later : c < afterIn tab c
     sum-later = after-later tab n c v sum-inside
 
-    within : afterOf tab c ≤ sizeOrNext tab k
+    within : afterIn tab c ≤ sizeOrNext tab k
     within = after-within tab n k c v kn dir (u .low) more
 
-    pub sum-again : (sum′ c′ : ℕ) → sum′ ≡ capped (textTo tab n c (afterOf tab c) sum) → c′ ≡ afterOf tab c → Summed tab n k texts sum′ c′
+    pub sum-again : (sum′ c′ : ℕ) → sum′ ≡ capped (textTo tab n c (afterIn tab c) sum) → c′ ≡ afterIn tab c → Summed tab n k texts sum′ c′
     sum-again sum′ c′ e ec =
         let l = sum-later in
         let low = u .low in
@@ -51,7 +51,7 @@ module _ (tab : List ℕ) (n k texts : ℕ) (v : Valid tab n) (kn : k < n) (dir 
         record {
           low = omega arith;
           high = within;
-          total = e ∙ capped-split tab n (k + 1) c (afterOf tab c) texts sum (omega arith) (omega arith) (u .total);
+          total = e ∙ capped-split tab n (k + 1) c (afterIn tab c) texts sum (omega arith) (omega arith) (u .total);
         }
 
     pub sum-past : 1048576 < sum → sum ≡ capped (textTo tab n (k + 1) (sizeOrNext tab k) texts)
@@ -61,7 +61,7 @@ module _ (tab : List ℕ) (n k texts : ℕ) (v : Valid tab n) (kn : k < n) (dir 
 
 -- an entry's own name, and then those of what is in it
 pub sum-in : (tab : List ℕ) (n k texts sum : ℕ) → Valid tab n → k < n → kind tab k ≡ 1 → sum ≡ capped (textTo tab n k (k + 1) texts)
-    → capped (textTo tab n (k + 1) (sizeOrNext tab k) sum) ≡ capped (textTo tab n k (afterOf tab k) texts)
+    → capped (textTo tab n (k + 1) (sizeOrNext tab k) sum) ≡ capped (textTo tab n k (afterIn tab k) texts)
 sum-in tab n k texts sum v kn dir e =
     rw (eq-eqb (kind tab k) 1 dir) (capped-split tab n k (k + 1) (sizeOrNext tab k) texts sum (omega arith) (omega (arith, v .nested k kn dir .later)) e)
 

@@ -12,7 +12,7 @@ use lib.ListN.{getD}
 use lib.Dec.{eqb, ltb}
 use Rattle.tree.specs.Table.{none, kind, sizeOrNext, count, nodeWith, nodeAt, nodesFrom, nodesOf, encloses, parentBelow, parentOf}
 use Rattle.fst_measure.specs.Inner.Valid.{Valid}
-use Rattle.fst_measure.specs.Inner.Flat.{afterOf}
+use Rattle.fst_measure.specs.Inner.Flat.{afterIn}
 
 -- a comparison of two numbers has three ends
 pub tri : (a b : ℕ) → (a < b) ⊎ ((a ≡ b) ⊎ (b < a))
@@ -69,13 +69,13 @@ encloses-at tab n (suc i) k v h =
 
 -- ---- the entry after c is a directory's "next" or the number after c
 
-pub after-cases : (tab : List ℕ) (c : ℕ) → ((kind tab c ≡ 1) × (afterOf tab c ≡ sizeOrNext tab c)) ⊎ ((kind tab c ≡ 1 → ⊥) × (afterOf tab c ≡ c + 1))
+pub after-cases : (tab : List ℕ) (c : ℕ) → ((kind tab c ≡ 1) × (afterIn tab c ≡ sizeOrNext tab c)) ⊎ ((kind tab c ≡ 1 → ⊥) × (afterIn tab c ≡ c + 1))
 after-cases tab c = ⊎-elim (λ p. inl (eqb-true _ _ (p .0), p .1)) (λ p. inr (eqb-false _ _ (p .0), p .1)) (cases (eqb (kind tab c) 1) (sizeOrNext tab c) (c + 1))
 
-pub after-later : (tab : List ℕ) (n c : ℕ) → Valid tab n → c < n → c < afterOf tab c
+pub after-later : (tab : List ℕ) (n c : ℕ) → Valid tab n → c < n → c < afterIn tab c
 after-later tab n c v h = ⊎-elim (λ p. omega (arith, p .1, v .nested c h (p .0) .later)) (λ p. omega (arith, p .1)) (after-cases tab c)
 
-pub after-within : (tab : List ℕ) (n k c : ℕ) → Valid tab n → k < n → kind tab k ≡ 1 → k < c → c < sizeOrNext tab k → afterOf tab c ≤ sizeOrNext tab k
+pub after-within : (tab : List ℕ) (n k c : ℕ) → Valid tab n → k < n → kind tab k ≡ 1 → k < c → c < sizeOrNext tab k → afterIn tab c ≤ sizeOrNext tab k
 after-within tab n k c v h d p q =
     ⊎-elim (λ w. omega (arith, w .1, v .nested k h d .inner c p q (w .0))) (λ w. omega (arith, w .1)) (after-cases tab c)
 
@@ -86,7 +86,7 @@ Closed tab k c = (j : ℕ) → k < j → j < c → kind tab j ≡ 1 → sizeOrNe
 pub closed-none : (tab : List ℕ) (k : ℕ) → Closed tab k (k + 1)
 closed-none tab k j p q d = omega arith
 
-pub closed-more : (tab : List ℕ) (n k c : ℕ) → Valid tab n → c < n → Closed tab k c → Closed tab k (afterOf tab c)
+pub closed-more : (tab : List ℕ) (n k c : ℕ) → Valid tab n → c < n → Closed tab k c → Closed tab k (afterIn tab c)
 closed-more tab n k c v h f j p q d =
     ⊎-elim
     (λ w.

@@ -11,7 +11,7 @@ use Rattle.endian.specs.Bytes.{put}
 use Rattle.endian.specs.Laws.Stored.{length-put, put-none}
 use Rattle.tree.specs.Table.{Node, file, directory, nameOf, kind, nameOffset, sizeOrNext, nameAt, nodeWith, nodeAt, nodesFrom, nodesOf, parentOf, nodeBytes, entriesBytes, textsOf, encode}
 use Rattle.fst_measure.specs.Inner.Valid.{Valid, nameSize}
-use Rattle.fst_measure.specs.Inner.Flat.{recordAt, textAt, textFlat, writeFlat, textTo, writeTo, rootAt, Room}
+use Rattle.fst_measure.specs.Inner.Flat.{recordAt, putText, textFlat, writeFlat, textTo, writeTo, rootAt, Room}
 use Rattle.fst_measure.proofs.Puts.{put-append, put-swap}
 use Rattle.fst_measure.proofs.Nesting.{count-is}
 
@@ -74,8 +74,8 @@ unfolding nodesFrom entriesBytes textsOf
 part-none tab n k text out = rw (put-none out (12 * k)) (put-none out text)
 
 written-length : (tab : List ℕ) (n k text : ℕ) (out : List ℕ) → 12 * k + 12 ≤ length out → text + nameSize tab n k + 1 ≤ length out →
-    length (textAt tab n k text (recordAt tab n (parentOf (nodesOf tab) k) k text out)) ≡ length out
-unfolding textAt recordAt nameSize
+    length (putText tab n k text (recordAt tab n (parentOf (nodesOf tab) k) k text out)) ≡ length out
+unfolding putText recordAt nameSize
 written-length tab n k text out h f =
     let p : ℕ = parentOf (nodesOf tab) k in
     let R : List ℕ = nodeBytes p (text - 12 * n) (nodeAt tab n k) in
@@ -87,8 +87,8 @@ written-length tab n k text out h f =
 
 module _ (tab : List ℕ) (n m k text : ℕ) (out : List ℕ) (past : 12 * n ≤ text) (few : suc k + m ≤ n)
     (fits : text + nameSize tab n k + 1 + length (textsOf (nodesFrom tab n (suc k) m)) ≤ length out) where
-  part-step : parted tab n m (suc k) (text + nameSize tab n k + 1) (textAt tab n k text (recordAt tab n (parentOf (nodesOf tab) k) k text out)) ≡ parted tab n (suc m) k text out
-  unfolding nodesFrom entriesBytes textsOf textAt recordAt nameSize
+  part-step : parted tab n m (suc k) (text + nameSize tab n k + 1) (putText tab n k text (recordAt tab n (parentOf (nodesOf tab) k) k text out)) ≡ parted tab n (suc m) k text out
+  unfolding nodesFrom entriesBytes textsOf putText recordAt nameSize
   part-step =
       let nm : List ℕ = nameAt tab n (nameOffset tab k) in
       let xs : List Node = nodesFrom tab n (suc k) m in
@@ -111,7 +111,7 @@ flat-put tab n (suc m) k text out p q h =
     let t = text-end tab n m (k + 1) (text + nameSize tab n k + 1) in
     let f : text + nameSize tab n k + 1 + length (textsOf (nodesFrom tab n (k + 1) m)) ≤ length out = omega arith in
     let l = written-length tab n k text out (omega arith) (omega arith) in
-    let ih = flat-put tab n m (k + 1) (text + nameSize tab n k + 1) (textAt tab n k text (recordAt tab n (parentOf (nodesOf tab) k) k text out)) (omega arith) (omega arith) (omega arith) in
+    let ih = flat-put tab n m (k + 1) (text + nameSize tab n k + 1) (putText tab n k text (recordAt tab n (parentOf (nodesOf tab) k) k text out)) (omega arith) (omega arith) (omega arith) in
     ih ∙ rw (add-one k) (part-step tab n m k text out p (omega arith) (rw (add-one k) at f))
 
 -- ---- the whole table

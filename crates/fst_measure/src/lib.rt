@@ -5,7 +5,7 @@ ghost use lib.ListN.{length, drop};
 ghost use Rattle.tree.specs.Table.{kind, sizeOrNext, upTo0, count};
 ghost use Rattle.fst_measure.specs.Inner.Valid.{Valid, nameSize};
 ghost use Rattle.fst_measure.specs.Inner.Measure.{measureOf, capped};
-ghost use Rattle.fst_measure.specs.Inner.Flat.{afterOf, textTo};
+ghost use Rattle.fst_measure.specs.Inner.Flat.{afterIn, textTo};
 
 // More bytes of texts than this are refused (document 01: "texts over 1,048,576 bytes (9)").
 pub const TEXTS_LIMIT: usize = 1048576;
@@ -31,7 +31,7 @@ pub fn name_len(table: &[u8], at: usize) -> usize
 // The entry after k in its directory.
 pub fn after(table: &[u8], k: usize) -> usize
     requires { ⌜ 12 * k + 12 ≤ length (now table) ⌝ }
-    ensures { λ r. ⌜ r ≡ afterOf (now (table .entry)) k ⌝ }
+    ensures { λ r. ⌜ r ≡ afterIn (now (table .entry)) k ⌝ }
 {
     if table[12 * k] == 1 {
         endian::read_u32(table, 12 * k + 8) as usize
@@ -65,7 +65,7 @@ fn measure_name(table: &[u8], count: usize, k: usize, texts: usize) -> usize
 // The texts so far and those of entry k, and if it is a directory of all that is in it.
 fn measure_entry(table: &[u8], count: usize, k: usize, texts: usize) -> usize
     requires { ⌜ Valid (now table) count × (0 < k) × (k < count) × (texts ≤ 1048576) ⌝ }
-    ensures { λ r. ⌜ r ≡ capped (textTo (now (table .entry)) count k (afterOf (now (table .entry)) k) texts) ⌝ }
+    ensures { λ r. ⌜ r ≡ capped (textTo (now (table .entry)) count k (afterIn (now (table .entry)) k) texts) ⌝ }
 {
     let next_texts = measure_name(table, count, k, texts);
     if table[12 * k] == 1 {

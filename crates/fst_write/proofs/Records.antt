@@ -10,7 +10,7 @@ use lib.Dec.{eqb}
 use Rattle.endian.specs.Bytes.{put, span}
 use Rattle.tree.specs.Table.{kind, nameOffset, offsetOrParent, sizeOrNext, upTo0, nameAt, nodeWith, nodeAt, nodeBytes}
 use Rattle.fst_measure.specs.Inner.Valid.{nameSize}
-use Rattle.fst_measure.specs.Inner.Flat.{placeOf, recordAt, textAt, recordBytes}
+use Rattle.fst_measure.specs.Inner.Flat.{placeOf, recordAt, putText, recordBytes}
 use Rattle.fst_measure.proofs.Names.{take-run}
 use Rattle.fst_measure.proofs.Puts.{put-append}
 
@@ -26,8 +26,8 @@ record-is tab n parent k text out t =
     ap (λ (l : List ℕ). put out (12 * k) l) (fields-of (kind tab k) (nameAt tab n (nameOffset tab k)) (offsetOrParent tab k) (sizeOrNext tab k) parent (text - 12 * n) t)
 
 pub text-is : (tab : List ℕ) (n k text : ℕ) (out : List ℕ) → text + nameSize tab n k + 1 ≤ length out →
-    put (put out text (span tab (12 * n + nameOffset tab k) (nameSize tab n k))) (text + nameSize tab n k) (0 ∷ []) ≡ textAt tab n k text out
-unfolding textAt nameSize nameAt
+    put (put out text (span tab (12 * n + nameOffset tab k) (nameSize tab n k))) (text + nameSize tab n k) (0 ∷ []) ≡ putText tab n k text out
+unfolding putText nameSize nameAt
 text-is tab n k text out h =
     rw (take-run (drop (12 * n + nameOffset tab k) tab))
     (put-append out text (upTo0 (drop (12 * n + nameOffset tab k) tab)) (text + length (upTo0 (drop (12 * n + nameOffset tab k) tab))) (0 ∷ []) refl (omega arith))

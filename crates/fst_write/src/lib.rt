@@ -6,7 +6,7 @@ ghost use lib.ListN.{length};
 ghost use Rattle.endian.specs.Bytes.{put};
 ghost use Rattle.tree.specs.Table.{kind, sizeOrNext, count, nodesOf, parentOf, encode};
 ghost use Rattle.fst_measure.specs.Inner.Valid.{Valid, nameSize};
-ghost use Rattle.fst_measure.specs.Inner.Flat.{recordBytes, afterOf, placeOf, recordAt, textAt, textTo, writeTo, rootAt, Room};
+ghost use Rattle.fst_measure.specs.Inner.Flat.{recordBytes, afterIn, placeOf, recordAt, putText, textTo, writeTo, rootAt, Room};
 
 // What stands in the third field: a file's offset, or the parent that a directory is nested in.
 fn place_of(table: &[u8], k: usize, parent: u32) -> u32
@@ -50,7 +50,7 @@ fn write_name(table: &[u8], out: &mut [u8], count: usize, k: usize, text: usize)
     requires { ⌜ Valid (now table) count × (0 < k) × (k < count) ⌝ }
     requires { ⌜ text + nameSize (now table) count k + 1 ≤ length (now out) ⌝ }
     ensures { λ r. ⌜ r ≡ text + nameSize (now (table .entry)) count k + 1 ⌝ }
-    ensures { λ _. ⌜ now (out .exit) ≡ textAt (now (table .entry)) count k text (now (out .entry)) ⌝ }
+    ensures { λ _. ⌜ now (out .exit) ≡ putText (now (table .entry)) count k text (now (out .entry)) ⌝ }
 {
     let from = 12 * count + endian::read_u24(table, 12 * k + 1) as usize;
     let n = fst_measure::name_len(table, from);
@@ -87,9 +87,9 @@ fn write_entry(
     text: usize,
 ) -> usize
     requires { ⌜ Valid (now table) count × (0 < k) × (k < count) × (parent ≡ parentOf (nodesOf (now table)) k) ⌝ }
-    requires { ⌜ Room count text (textTo (now table) count k (afterOf (now table) k) text) (length (now out)) ⌝ }
-    ensures { λ r. ⌜ r ≡ textTo (now (table .entry)) count k (afterOf (now (table .entry)) k) text ⌝ }
-    ensures { λ _. ⌜ now (out .exit) ≡ writeTo (now (table .entry)) count k (afterOf (now (table .entry)) k) text (now (out .entry)) ⌝ }
+    requires { ⌜ Room count text (textTo (now table) count k (afterIn (now table) k) text) (length (now out)) ⌝ }
+    ensures { λ r. ⌜ r ≡ textTo (now (table .entry)) count k (afterIn (now (table .entry)) k) text ⌝ }
+    ensures { λ _. ⌜ now (out .exit) ≡ writeTo (now (table .entry)) count k (afterIn (now (table .entry)) k) text (now (out .entry)) ⌝ }
 {
     let next_text = write_one(table, out, count, k, parent, text);
     if table[12 * k] == 1 {

@@ -14,7 +14,7 @@ ghost use Rattle.fst_check.specs.Inner.Reading as reading;
 ghost use Rattle.opening.specs.Opening.{nodesIn};
 ghost use Rattle.edits.specs.Change.{change};
 ghost use Rattle.edits.specs.Edits.{tableOnly, newNumber, insertVerdict, planOf, numberedAs, childVerdict};
-ghost use Rattle.opening.specs.Inner.Prepared.{Opens, IsOpen};
+ghost use Rattle.opening.specs.Inner.Prepared.{OpensImage, IsOpen};
 ghost use Rattle.commit.specs.Inner.Decision.{Decided};
 ghost use Rattle.grow.specs.Inner.Growth.{treeIn, Stands, IsDirectory, added};
 ghost use Rattle.insert.specs.Inner.Insertion.{insertion};
@@ -65,7 +65,7 @@ fn new_number(table: &[u8], parent: u32, name: &[u8]) -> Located
 }
 
 fn number_in(image: &[u8], parent: u32, name: &[u8]) -> Located
-    requires { ⌜ Opens (now image) ⌝ }
+    requires { ⌜ OpensImage (now image) ⌝ }
     ensures { λ r. ⌜ r ≡ numberedAs (insertVerdict (nodesIn (now (image .entry))) parent (now (name .entry))) (newNumber (nodesIn (now (image .entry))) parent) ⌝ }
 {
     let from = header::fst_offset(image) as usize;

@@ -11,7 +11,7 @@ use Rattle.tree.specs.Lookup.{isDirectory}
 use Rattle.tree.specs.Laws.Accepted.{Accepted}
 use Rattle.fst_text.specs.Inner.Texts.{textAt}
 use Rattle.fst.proofs.Nodes.{file-is, directory-is, name-is}
-use Rattle.listing_text.specs.Lines.{totalsLine, field, ending, fields, lineFeed, pathOf, entryLine, entryLines}
+use Rattle.listing_text.specs.Lines.{totalsLine, field, ending, entryFields, lineFeed, pathOf, entryLine, entryLines}
 use Rattle.listing_text.specs.Inner.Writing.{Wrote, Around}
 use Rattle.listing_text.proofs.Joining.{wrote-none, wrote-join}
 use Rattle.listing_text.proofs.Tables.{Read}
@@ -28,24 +28,24 @@ pair-more kind a b c = rw (append-assoc a b c)
 -- ---- the numbers, by the entry's kind
 
 module _ {tab : List ℕ} {words : ℕ} (a : Accepted tab words) (k p : ℕ) (inside : k < count tab) (l : ℕ) (last : l ≡ sizeOrNext tab k) where
-  file-fields : kind tab k ≡ 0 → (o : ℕ) → o ≡ offsetOrParent tab k → (0x66 ∷ (field k ++ field o)) ++ field l ≡ fields k p (getD (nodesOf tab) k none)
+  file-fields : kind tab k ≡ 0 → (o : ℕ) → o ≡ offsetOrParent tab k → (0x66 ∷ (field k ++ field o)) ++ field l ≡ entryFields k p (getD (nodesOf tab) k none)
   file-fields e o q = rw (file-is a k inside e, last, q) (pair-more 0x66 (field k) (field (offsetOrParent tab k)) (field (sizeOrNext tab k)))
 
-  directory-fields : (kind tab k ≡ 0 → ⊥) → (0x64 ∷ (field k ++ field p)) ++ field l ≡ fields k p (getD (nodesOf tab) k none)
+  directory-fields : (kind tab k ≡ 0 → ⊥) → (0x64 ∷ (field k ++ field p)) ++ field l ≡ entryFields k p (getD (nodesOf tab) k none)
   directory-fields e = rw last (go (getD (nodesOf tab) k none) (directory-is a k inside e))
     where
-      go : (x : Node) → x ≡ directory (nameOf x) (sizeOrNext tab k) → (0x64 ∷ (field k ++ field p)) ++ field (sizeOrNext tab k) ≡ fields k p x
+      go : (x : Node) → x ≡ directory (nameOf x) (sizeOrNext tab k) → (0x64 ∷ (field k ++ field p)) ++ field (sizeOrNext tab k) ≡ entryFields k p x
       go (file nm offset size) q = let z : _≡_ {A = ℕ} 0 1 = cc in absurd (omega arith)
       go (directory nm next) q = let n : next ≡ sizeOrNext tab k = cc in rw n (pair-more 0x64 (field k) (field p) (field (sizeOrNext tab k)))
 
 -- the same, written in two parts
 module _ (tab : List ℕ) (k p l : ℕ) (text text₁ text₂ : List ℕ) (at m end : ℕ) (r : Read tab) (inside : k < count tab) (last : l ≡ sizeOrNext tab k) where
   pub file-written : (o : ℕ) → kind tab k ≡ 0 → o ≡ offsetOrParent tab k → Wrote text text₁ at (0x66 ∷ (field k ++ field o)) m → Wrote text₁ text₂ m (field l) end
-      → Wrote text text₂ at (fields k p (getD (nodesOf tab) k none)) end
+      → Wrote text text₂ at (entryFields k p (getD (nodesOf tab) k none)) end
   file-written o e q f g = wrote-as (wrote-join f g) (file-fields (r .is) k p inside l last e o q)
 
   pub directory-written : (kind tab k ≡ 0 → ⊥) → Wrote text text₁ at (0x64 ∷ (field k ++ field p)) m → Wrote text₁ text₂ m (field l) end
-      → Wrote text text₂ at (fields k p (getD (nodesOf tab) k none)) end
+      → Wrote text text₂ at (entryFields k p (getD (nodesOf tab) k none)) end
   directory-written e f g = wrote-as (wrote-join f g) (directory-fields (r .is) k p inside l last e)
 
 -- ---- the last part of a path
@@ -171,12 +171,12 @@ module _ {nodes : List Node} {text₀ text : List ℕ} {at end k : ℕ} (s : Wal
 
 -- ---- a whole line
 
-pub root-written : (nodes : List Node) (text text₁ text₂ : List ℕ) (at m end : ℕ) → Wrote text text₁ at (fields 0 0 (getD nodes 0 none)) m → Wrote text₁ text₂ m (0x20 ∷ 0x2F ∷ 0x0A ∷ []) end
+pub root-written : (nodes : List Node) (text text₁ text₂ : List ℕ) (at m end : ℕ) → Wrote text text₁ at (entryFields 0 0 (getD nodes 0 none)) m → Wrote text₁ text₂ m (0x20 ∷ 0x2F ∷ 0x0A ∷ []) end
     → Wrote text text₂ at (entryLine nodes 0) end
 root-written nodes text text₁ text₂ at m end f g = wrote-as (wrote-join f g) (root-line nodes)
 
 pub entry-written : (nodes : List Node) (dirs : List ℕ) (d k : ℕ) (text text₁ text₂ text₃ text₄ : List ℕ) (at m₁ m₂ m₃ end : ℕ) → 0 < k → Around nodes dirs d k
-    → Wrote text text₁ at (fields k (getD dirs (d - 1) 0) (getD nodes k none)) m₁ → Wrote text₁ text₂ m₁ (0x20 ∷ pathOf nodes (parentOf nodes k)) m₂
+    → Wrote text text₁ at (entryFields k (getD dirs (d - 1) 0) (getD nodes k none)) m₁ → Wrote text₁ text₂ m₁ (0x20 ∷ pathOf nodes (parentOf nodes k)) m₂
     → Wrote text₂ text₃ m₂ (nameOf (getD nodes k none) ++ ending (getD nodes k none)) m₃ → Wrote text₃ text₄ m₃ lineFeed end → Wrote text text₄ at (entryLine nodes k) end
 entry-written nodes dirs d k text text₁ text₂ text₃ text₄ at m₁ m₂ m₃ end some a f g h i =
     wrote-as (wrote-join (rw (← a .last) at f) (wrote-join g (wrote-join h i))) (line-parts nodes k some)

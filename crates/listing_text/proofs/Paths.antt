@@ -9,7 +9,7 @@ use borrow.Author.Tests.{ne-eqb}
 use lib.ListN.{getD}
 use Rattle.tree.specs.Table.{Node, nameOf, none, parentOf}
 use Rattle.tree.specs.Laws.Nesting.{parent-before, parent-root}
-use Rattle.listing_text.specs.Lines.{ending, fields, lineFeed, pathWithin, pathOf, entryLine, entryLines}
+use Rattle.listing_text.specs.Lines.{ending, entryFields, lineFeed, pathWithin, pathOf, entryLine, entryLines}
 
 pub path-root : (f : ℕ) (nodes : List Node) (k : ℕ) → k ≡ 0 → pathWithin f nodes k ≡ 0x2F ∷ []
 unfolding pathWithin
@@ -45,11 +45,11 @@ path-step nodes (suc k) h =
 -- ---- a line in the parts that are written
 
 pub line-parts : (nodes : List Node) (k : ℕ) → 0 < k →
-    fields k (parentOf nodes k) (getD nodes k none) ++ ((0x20 ∷ pathOf nodes (parentOf nodes k)) ++ ((nameOf (getD nodes k none) ++ ending (getD nodes k none)) ++ lineFeed)) ≡ entryLine nodes k
+    entryFields k (parentOf nodes k) (getD nodes k none) ++ ((0x20 ∷ pathOf nodes (parentOf nodes k)) ++ ((nameOf (getD nodes k none) ++ ending (getD nodes k none)) ++ lineFeed)) ≡ entryLine nodes k
 unfolding entryLine
 line-parts nodes k h = rw (path-step nodes k h, append-assoc (pathOf nodes (parentOf nodes k)) (nameOf (getD nodes k none) ++ ending (getD nodes k none)) lineFeed)
 
-pub root-line : (nodes : List Node) → fields 0 0 (getD nodes 0 none) ++ (0x20 ∷ 0x2F ∷ 0x0A ∷ []) ≡ entryLine nodes 0
+pub root-line : (nodes : List Node) → entryFields 0 0 (getD nodes 0 none) ++ (0x20 ∷ 0x2F ∷ 0x0A ∷ []) ≡ entryLine nodes 0
 unfolding entryLine pathWithin
 root-line nodes = rw (parent-root nodes)
 

@@ -51,12 +51,12 @@ abbrev pub pathOf : List Node → ℕ → List ℕ
 pathOf nodes k = pathWithin k nodes k
 
 -- `d`, number, the parent it is nested in, next; `f`, number, offset, size
-abbrev pub fields : ℕ → ℕ → Node → List ℕ
-fields k parent (file nm offset size) = 0x66 ∷ (field k ++ (field offset ++ field size))
-fields k parent (directory nm next) = 0x64 ∷ (field k ++ (field parent ++ field next))
+abbrev pub entryFields : ℕ → ℕ → Node → List ℕ
+entryFields k parent (file nm offset size) = 0x66 ∷ (field k ++ (field offset ++ field size))
+entryFields k parent (directory nm next) = 0x64 ∷ (field k ++ (field parent ++ field next))
 
 unfoldable pub entryLine : List Node → ℕ → List ℕ
-entryLine nodes k = fields k (parentOf nodes k) (getD nodes k none) ++ (0x20 ∷ (pathOf nodes k ++ lineFeed))
+entryLine nodes k = entryFields k (parentOf nodes k) (getD nodes k none) ++ (0x20 ∷ (pathOf nodes k ++ lineFeed))
 
 -- the lines of the entries below k
 unfoldable pub entryLines : List Node → ℕ → List ℕ

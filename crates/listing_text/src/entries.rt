@@ -7,7 +7,7 @@ ghost use lib.ListN.{getD};
 ghost use Rattle.tree.specs.Table as table_of;
 ghost use Rattle.tree.specs.Table.{none, nodesOf, nameOf, parentOf, parentBelow};
 ghost use Rattle.fst_check.specs.Inner.Reading.{Opens};
-ghost use Rattle.listing_text.specs.Lines.{ending, fields, pathOf, entryLine, entryLines};
+ghost use Rattle.listing_text.specs.Lines.{ending, entryFields, pathOf, entryLine, entryLines};
 ghost use Rattle.listing_text.specs.Inner.Writing.{Wrote, Chain, Around};
 use crate::lines;
 use crate::text;
@@ -44,7 +44,7 @@ fn enter(table: &[u8], dirs: &mut [usize; 65], depth: usize, k: usize) -> usize
 // The first byte of entry k's line and its three numbers.
 fn put_fields(table: &[u8], k: usize, parent: usize, text: &mut [u8], at: usize) -> usize
     requires { ⌜ Opens (now table) × (k < table_of.count (now table)) × (parent ≤ k) ⌝ }
-    ensures { λ r. ⌜ Wrote (now (text .entry)) (now (text .exit)) at (fields k parent (getD (nodesOf (now (table .entry))) k none)) r ⌝ }
+    ensures { λ r. ⌜ Wrote (now (text .entry)) (now (text .exit)) at (entryFields k parent (getD (nodesOf (now (table .entry))) k none)) r ⌝ }
 {
     let last = endian::read_u32(table, 12 * k + 8);
     if table[12 * k] == 0 {

@@ -23,7 +23,7 @@ ghost use Rattle.fst_check.specs.Inner.Reading as reading;
 ghost use Rattle.opening.specs.Opening.{opening, nodesIn};
 ghost use Rattle.edits.specs.Edits.{planMakeDirectories, planned, planOf, makeDirectories, numberedAs};
 ghost use Rattle.edits.specs.Inner.Troubles.{troubleOf};
-ghost use Rattle.opening.specs.Inner.Prepared.{Opens, IsOpen};
+ghost use Rattle.opening.specs.Inner.Prepared.{OpensImage, IsOpen};
 ghost use Rattle.grow.specs.Inner.Growth.{Stands, treeIn};
 ghost use Rattle.grow.specs.Inner.Grown.{Numbered};
 ghost use Rattle.make_walk.specs.Inner.Walk.{pathVerdict};
@@ -43,7 +43,7 @@ fn check_start(table: &[u8], start: u32, path: &[u8]) -> Verdict
 
 // The tests that need no memory: a path over 1,024 bytes 9, then those of the table.
 fn check_path(image: &[u8], start: u32, path: &[u8]) -> Verdict
-    requires { ⌜ Opens (now image) ⌝ }
+    requires { ⌜ OpensImage (now image) ⌝ }
     ensures { λ r. ⌜ r ≡ pathVerdict (nodesIn (now (image .entry))) start (now (path .entry)) ⌝ }
 {
     if 1024 < path.len() {

@@ -9,8 +9,8 @@ use Rattle.tree.specs.Table.{kind, nameOffset, offsetOrParent, sizeOrNext, name
 use Rattle.fst_measure.specs.Inner.Valid.{nameSize}
 
 -- the entry after k in its directory
-abbrev pub afterOf : List ℕ → ℕ → ℕ
-afterOf tab k = cond (eqb (kind tab k) 1) (sizeOrNext tab k) (k + 1)
+abbrev pub afterIn : List ℕ → ℕ → ℕ
+afterIn tab k = cond (eqb (kind tab k) 1) (sizeOrNext tab k) (k + 1)
 
 -- "offset or parent": a file keeps its offset, a directory gets the parent that it is nested in
 abbrev pub placeOf : List ℕ → ℕ → ℕ → ℕ
@@ -21,8 +21,8 @@ unfoldable pub recordAt : List ℕ → ℕ → ℕ → ℕ → ℕ → List ℕ 
 recordAt tab n parent k text out = put out (12 * k) (nodeBytes parent (text - 12 * n) (nodeAt tab n k))
 
 -- its name, ended by a zero byte
-unfoldable pub textAt : List ℕ → ℕ → ℕ → ℕ → List ℕ → List ℕ
-textAt tab n k text out = put out text (nameAt tab n (nameOffset tab k) ++ (0 ∷ []))
+unfoldable pub putText : List ℕ → ℕ → ℕ → ℕ → List ℕ → List ℕ
+putText tab n k text out = put out text (nameAt tab n (nameOffset tab k) ++ (0 ∷ []))
 
 -- m entries from k on, their names from `text` on: where the last name ends, and what is then written
 unfoldable pub textFlat : List ℕ → ℕ → ℕ → ℕ → ℕ → ℕ
@@ -32,7 +32,7 @@ textFlat tab n (suc m) k text = textFlat tab n m (k + 1) (text + nameSize tab n 
 unfoldable pub writeFlat : List ℕ → ℕ → ℕ → ℕ → ℕ → List ℕ → List ℕ
 writeFlat tab n zero k text out = out
 writeFlat tab n (suc m) k text out =
-    writeFlat tab n m (k + 1) (text + nameSize tab n k + 1) (textAt tab n k text (recordAt tab n (parentOf (nodesOf tab) k) k text out))
+    writeFlat tab n m (k + 1) (text + nameSize tab n k + 1) (putText tab n k text (recordAt tab n (parentOf (nodesOf tab) k) k text out))
 
 -- the entries from a up to b
 abbrev pub textTo : List ℕ → ℕ → ℕ → ℕ → ℕ → ℕ

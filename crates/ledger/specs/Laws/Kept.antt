@@ -21,7 +21,7 @@ use Rattle.ledger.specs.Laws.Files.{filesOf}
 use Rattle.ledger.specs.Laws.Apart.{apart-test, apart-table}
 use Rattle.ledger.specs.Laws.Histories.{Trues, trues-same}
 use Rattle.ledger.specs.Laws.Opened.{Opened, opened, nodes-written, opens-written}
-use Rattle.ledger.specs.Laws.Room.{filesIn, Room}
+use Rattle.ledger.specs.Laws.Room.{filesIn, TableRoom}
 
 pub record Kept (w : ℕ) (image : List ℕ) (l : Ledger) : Type 0 where
   pub bytes : AllBytes image
@@ -42,7 +42,7 @@ module _ (w : ℕ) (image : List ℕ) (l : Ledger) (K : Kept w image l) where
   pub opened-kept : Opened image
   opened-kept = opened image w (K .opens) (K .bytes)
 
-  module _ (words : ℕ) (lent : words ≤ w) (nodes : List Node) (well : WellFormed nodes) (r : Room (tableOnly nodes) image words) where
+  module _ (words : ℕ) (lent : words ≤ w) (nodes : List Node) (well : WellFormed nodes) (r : TableRoom (tableOnly nodes) image words) where
     pub table-safe : Safe (tableOnly nodes) image
     table-safe = record {
       bytes = K .bytes;

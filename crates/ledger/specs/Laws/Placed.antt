@@ -24,7 +24,7 @@ use Rattle.ledger.specs.Laws.Files.{filesOf, files-setPlace, files-at, f
 use Rattle.ledger.specs.Laws.Apart.{Has, region, apart-test, apart-table, apart-set}
 use Rattle.ledger.specs.Laws.Histories.{True, Trues, SameIn, trues-set, trues-at, true-lowered}
 use Rattle.ledger.specs.Laws.Opened.{Opened, nodes-written, opens-written}
-use Rattle.ledger.specs.Laws.Room.{filesIn, outside, Room, Placeable}
+use Rattle.ledger.specs.Laws.Room.{filesIn, outside, TableRoom, Placeable}
 use Rattle.ledger.specs.Laws.Kept.{Kept, opened-kept}
 
 -- where file k lies, and its number among the files
@@ -50,7 +50,7 @@ module _ (w : ℕ) (image : List ℕ) (l : Ledger) (K : Kept w image l) (words :
   pub record Placed (c : Change) : Type 0 where
     pub nodes : c .nodes ≡ setPlace k (new .offset) (new .size) (nodesIn image)
     pub safe : Safe c image
-    pub room : Room c image words
+    pub room : TableRoom c image words
     pub place : c .place ≡ new
     pub others : (j : ℕ) → (j ≡ numberIn image k → ⊥) → SameIn image (written c image) (region (filesIn image) j)
     pub moved : (i : ℕ) → i < min (placeIn image k .size) (new .size) → getD (written c image) (new .offset + i) 0 ≡ getD image (placeIn image k .offset + i) 0
@@ -83,7 +83,7 @@ module _ (w : ℕ) (image : List ℕ) (l : Ledger) (K : Kept w image l) (words :
   -- ---- elsewhere: the bytes are copied, the old place is zeroed
 
   module _ (nowhere : (i : ℕ) → Has new i → Has (placeIn image k) i → ⊥) (ho : new .offset < 2 ^ 32) (hn : new .size < 2 ^ 32)
-      (r : Room (relocated (nodesIn image) k (placeIn image k) new) image words) where
+      (r : TableRoom (relocated (nodesIn image) k (placeIn image k) new) image words) where
     c : Change
     c = relocated (nodesIn image) k (placeIn image k) new
 
@@ -128,7 +128,7 @@ module _ (w : ℕ) (image : List ℕ) (l : Ledger) (K : Kept w image l) (words :
   -- ---- in place: nothing is copied, the lost end is zeroed
 
   module _ (here : new .offset ≡ placeIn image k .offset) (ho : new .offset < 2 ^ 32) (hn : new .size < 2 ^ 32)
-      (r : Room (resized (nodesIn image) k (placeIn image k) (new .size)) image words) where
+      (r : TableRoom (resized (nodesIn image) k (placeIn image k) (new .size)) image words) where
     d : Change
     d = resized (nodesIn image) k (placeIn image k) (new .size)
 

@@ -44,7 +44,7 @@ outside r n i h f = ⊎-elim (λ a. inl a) (λ a. ⊎-elim (λ b. absurd (f (a, 
 
 -- ---- the table
 
-pub record Room (c : Change) (image : List ℕ) (words : ℕ) : Type 0 where
+pub record TableRoom (c : Change) (image : List ℕ) (words : ℕ) : Type 0 where
   pub within : limits (c .nodes) words ≡ Passed
   pub end : newEnd c image ≤ discEnd image
   pub clear : (k i : ℕ) → Has (region (filesIn image) k) i → newEnd c image ≤ i
@@ -73,7 +73,7 @@ module _ (c : Change) (image : List ℕ) (words bytes : ℕ) (o : Opened image) 
       ltb-false (c .place .offset) (newEnd c image) (rw (lt-ltb 0 (c .place .size) z) at f)
 
   -- LAW: a new table is within the limits, ends on the disc, and covers no byte of a file, nor of the edited file's new place
-  pub room : Room c image words
+  pub room : TableRoom c image words
   room = record {
     within = within-ok;
     end = omega (arith, largest .below, fits, o .bounds .table);

@@ -47,7 +47,7 @@ abbrev pub Prepares : List ℕ → ℕ → List ℕ → Prepared → Type 0
 Prepares image words w (Ready m) = (opening image words ≡ verdict.Passed) × UsedWords image w m
 Prepares image words w (Refused c) = opening image words ≡ verdict.Refused c
 
-pub record Opens (image : List ℕ) : Type 0 where
+pub record OpensImage (image : List ℕ) : Type 0 where
   pub words : ℕ
   pub passed : opening image words ≡ Passed
 

@@ -91,9 +91,9 @@ child-named nodes d nm k c = rw (eq-eqb (parentOf nodes k) d (c .parent), c .nam
 -- ---- a loop over the children: from a child to the next, past all that is in it
 
 -- the entry after entry k and all that is in it
-abbrev pub afterOf : Node → ℕ → ℕ
-afterOf (file nm offset size) k = k + 1
-afterOf (directory nm next) k = next
+abbrev pub afterNode : Node → ℕ → ℕ
+afterNode (file nm offset size) k = k + 1
+afterNode (directory nm next) k = next
 
 -- where the search is at k, which is at or before the directory's end m
 pub search-end : (nodes : List Node) (d : ℕ) (nm : List ℕ) (k m : ℕ) → m ≤ k → firstChild nodes d nm k (m - k) ≡ Refused NotFound
@@ -153,17 +153,17 @@ module _ (nodes : List Node) (d m : ℕ) (dnm : List ℕ) (w : WellFormed nodes)
   m≤n = next-bounds nodes d m dnm w dir d<n .1
 
   -- what comes after a child lies behind it, and not past the directory's end
-  pub after-bounds : (k < afterOf (getD nodes k none) k) × (afterOf (getD nodes k none) k ≤ m)
+  pub after-bounds : (k < afterNode (getD nodes k none) k) × (afterNode (getD nodes k none) k ≤ m)
   after-bounds = go (getD nodes k none) refl
     where
-      go : (x : Node) → getD nodes k none ≡ x → (k < afterOf x k) × (afterOf x k ≤ m)
+      go : (x : Node) → getD nodes k none ≡ x → (k < afterNode x k) × (afterNode x k ≤ m)
       go (file nm a b) e = (omega arith, omega arith)
       go (directory nm n) e =
           let g : n ≤ nextOf (getD nodes d none) = nests nodes d k n nm w (d<k, rw dir (lt-ltb k m k<m)) (omega (arith, m≤n)) e in
           (next-bounds nodes k n nm w e (omega (arith, m≤n)) .0, rw dir at g)
 
   -- an entry between the child and what comes after it is inside the child, and ends there
-  inner : (x : Node) → getD nodes k none ≡ x → (j : ℕ) → k < j → j < afterOf x k → Inside nodes k j × (nextOf (getD nodes j none) ≤ afterOf x k)
+  inner : (x : Node) → getD nodes k none ≡ x → (j : ℕ) → k < j → j < afterNode x k → Inside nodes k j × (nextOf (getD nodes j none) ≤ afterNode x k)
   inner (file nm a b) e j l h = absurd (omega arith)
   inner (directory nm n) e j l h =
       let i : Inside nodes k j = (l, rw e (lt-ltb j n h)) in
@@ -174,23 +174,23 @@ module _ (nodes : List Node) (d m : ℕ) (dnm : List ℕ) (w : WellFormed nodes)
       le (file a b c) q i f = rw q (omega arith)
       le (directory a b) q i f = rw q (rw e at (nests nodes k j b a w i f q))
 
-  next-most : (x : Node) → nextOf x ≤ afterOf x k
+  next-most : (x : Node) → nextOf x ≤ afterNode x k
   next-most (file nm a b) = omega arith
   next-most (directory nm n) = omega arith
 
-  pub next-child : afterOf (getD nodes k none) k < m → parentOf nodes (afterOf (getD nodes k none) k) ≡ d
+  pub next-child : afterNode (getD nodes k none) k < m → parentOf nodes (afterNode (getD nodes k none) k) ≡ d
   next-child h =
       let x : Node = getD nodes k none in
-      let a : ℕ = afterOf x k in
+      let a : ℕ = afterNode x k in
       parent-is nodes a d (omega (arith, after-bounds .0), rw dir (lt-ltb a m h))
       (λ j p q. ⊎-elim (λ (l : j < k). still-ended (getD nodes j none) k a (parent-clear nodes k j (rw child p) l) (omega (arith, after-bounds .0)))
       (λ (l : k ≤ j). ⊎-elim (λ (l′ : k < j). ended a (getD nodes j none) (inner x refl j l′ q .1)) (λ (l′ : j ≤ k). let j≡ : j ≡ k = omega arith in rw j≡ (ended a x (next-most x))) (lt-or-le k j)) (lt-or-le j k))
 
   pub search-next : (nm : List ℕ) → sameBytes (nameOf (getD nodes k none)) nm ≡ false →
-      firstChild nodes d nm k (m - k) ≡ firstChild nodes d nm (afterOf (getD nodes k none) k) (m - afterOf (getD nodes k none) k)
+      firstChild nodes d nm k (m - k) ≡ firstChild nodes d nm (afterNode (getD nodes k none) k) (m - afterNode (getD nodes k none) k)
   search-next nm s =
       let x : Node = getD nodes k none in
-      let a : ℕ = afterOf x k in
+      let a : ℕ = afterNode x k in
       let e : k + (a - k) ≡ a = omega (arith, after-bounds .0) in
       rw e at (search-skip nodes d nm m k (a - k) (omega (arith, after-bounds .1)) (λ j p q. ⊎-elim
       (λ (l : k < j). let i = inner x refl j l (omega arith) .0 in let f : k ≤ parentOf nodes j = parent-at-least nodes k j i in rw (ne-eqb (parentOf nodes j) d (λ z. omega arith)))

@@ -1,7 +1,7 @@
 -- `counter::headers::counter_open_dol` meets its contract, by the cases of the verdict.
 -- Assumes nothing.
 use mathlib.Core.Path.{refl}
-use Rattle.counter.specs.Replies.{judged}
+use Rattle.counter.specs.Replies.{verdictReply}
 use borrow.Author.Needs.{needs}
 use Rattle.counter.proofs.headers.counter_open_dol.Statement.{statement}
 use Rattle.counter.proofs.headers.counter_open_dol.Tie as tie
@@ -25,7 +25,7 @@ same-length : tie.Need-same-length
 same-length c = search needs
 
 returns : tie.Need-returns
-unfolding judged
+unfolding verdictReply
 returns c =
     let g : tie.After-give-dol-header = search in
     let told : tie.After-enum-told = search in
@@ -36,7 +36,7 @@ same-length-2 : tie.Need-same-length-2
 same-length-2 c = search needs
 
 returns-2 : tie.Need-returns-2
-unfolding judged
+unfolding verdictReply
 returns-2 c =
     let v : tie.After-verdict = search in
     let o : tie.After-open-dol = search in
