@@ -49,8 +49,8 @@ module _ (image w : List ℕ) (room size m e o n most : ℕ) (place : DiscRegion
   most-is : most ≡ maxRegionSize (fstOffset image) (fstSize image) (freeOf image)
   most-is = free-size image w m e o n most (fstOffset image) (fstSize image) used end start long found
 
-  pub grows-too-far : most < size → Refused NotEnoughSpace ≡ placeVerdict image room size place
-  grows-too-far h = sym (place-verdict image room size place most _ most-is refl ∙ rw (le-ltb room size held, lt-ltb most size h))
+  pub no-room-to-grow : most < size → Refused NotEnoughSpace ≡ placeVerdict image room size place
+  no-room-to-grow h = sym (place-verdict image room size place most _ most-is refl ∙ rw (le-ltb room size held, lt-ltb most size h))
 
   module _ (r : Bool) (h : size ≤ most) (reached : r ≡ (ltb 0 (place .size) && ltb (place .offset) (o + size))) where
     reached-is : r ≡ (ltb 0 (place .size) && ltb (place .offset) (fstOffset image + size))
@@ -59,5 +59,5 @@ module _ (image w : List ℕ) (room size m e o n most : ℕ) (place : DiscRegion
     pub place-taken : r ≡ true → Refused NotEnoughSpace ≡ placeVerdict image room size place
     place-taken t = sym (place-verdict image room size place most r most-is reached-is ∙ rw (le-ltb room size held, le-ltb most size h, t))
 
-    pub place-free-of-it : r ≡ false → Passed ≡ placeVerdict image room size place
-    place-free-of-it t = sym (place-verdict image room size place most r most-is reached-is ∙ rw (le-ltb room size held, le-ltb most size h, t))
+    pub place-clear : r ≡ false → Passed ≡ placeVerdict image room size place
+    place-clear t = sym (place-verdict image room size place most r most-is reached-is ∙ rw (le-ltb room size held, le-ltb most size h, t))

@@ -1,5 +1,5 @@
 -- Bytes put over a list from its start. Assumes nothing.
-use Prim.Native.Nat.{ℕ, _+_, _-_, _≤_, _<_}
+use Prim.Native.Nat.{ℕ, _+_, _-_, _≤_}
 use mathlib.Core.Path.{_≡_, sym, ap, _∙_}
 use mathlib.Core.List.{List, [], _++_, append-nil}
 use native.Mathlib.Omega.{arith}
@@ -10,7 +10,6 @@ use Rattle.header.specs.Fields.{fstSizeField}
 use Rattle.tree.specs.Laws.Records.{put-middle}
 use Rattle.fst_measure.proofs.Puts.{put-append}
 use Rattle.edits.specs.Change.{withTable}
-use Rattle.commit.specs.Inner.Decision.{CopyFits, ZeroFits}
 
 pub put-start : (s t : List ℕ) → put s 0 t ≡ t ++ drop (length t) s
 unfolding put
@@ -62,14 +61,3 @@ filled-none s at n b e = rw e (sym (put-none s at))
 -- a slice filled with zeros
 pub filled-whole : (s t : List ℕ) → t ≡ put s 0 (replicate (length s) 0) → t ≡ replicate (length s) 0
 filled-whole s t e = e ∙ put-zeros s
-
--- what the writing asks, once some byte is written
-pub copy-asks : (long from to n : ℕ) → CopyFits long from to n → (n ≡ 0 → ⊥) → (from + n ≤ long) × (to + n ≤ long)
-copy-asks long from to n h z = let p : 0 < n = omega arith in (h .from p, h .into p)
-
-pub zero-asks : (long at n : ℕ) → ZeroFits long at n → (n ≡ 0 → ⊥) → at + n ≤ long
-zero-asks long at n h z = h .into (omega arith)
-
--- the image is as long as before
-pub zero-still-fits : (long long′ long″ at n : ℕ) → ZeroFits long at n → long′ ≡ long → long″ ≡ long′ → ZeroFits long″ at n
-zero-still-fits long long′ long″ at n h e f = rw (f, e) h

@@ -62,6 +62,9 @@ module _ (s : List ℕ) (size words : ℕ) (st : Stands s size words) where
   pub entry-held : (k : ℕ) → k < length M → 12 * k + 12 ≤ length s
   entry-held k h = omega (arith, size-is, length-encode M, st .held)
 
+  pub parent-held : (k : ℕ) → IsDirectory M k → 12 * k + 4 + 4 ≤ length s
+  parent-held k d = omega (arith, entry-held k (d .inside))
+
   same : (k : ℕ) → k < length M → SameEntry s (encode M) k
   same k h =
       same-entry s (encode M) k

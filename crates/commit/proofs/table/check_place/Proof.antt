@@ -1,6 +1,6 @@
 -- `commit::table::check_place` meets its contract: each test is the definition's, once the largest size found in the words is that of the free regions.
 -- Assumes nothing.
-use Rattle.commit.proofs.Judged.{end-fits, sorted-to, too-few-bytes, grows-too-far, place-taken, place-free-of-it}
+use Rattle.commit.proofs.Judged.{end-fits, sorted-to, too-few-bytes, no-room-to-grow, place-taken, place-clear}
 use native.Mathlib.Omega.{arith}
 use denote.Ref.{now}
 use lib.ListN.{length}
@@ -35,7 +35,7 @@ cast-if2 : tie.Need-cast-if2
 cast-if2 c = search needs
 
 returns-2 : tie.Need-returns-2
-returns-2 c = search grows-too-far
+returns-2 c = search no-room-to-grow
 
 cast-reaches : tie.Need-cast-reaches
 cast-reaches c = search needs
@@ -50,7 +50,7 @@ returns-3 : tie.Need-returns-3
 returns-3 c = search place-taken
 
 returns-4 : tie.Need-returns-4
-returns-4 c = search place-free-of-it
+returns-4 c = search place-clear
 
 pub check-place-spec : {M : Type 1} → statement M
 check-place-spec =

@@ -1,6 +1,7 @@
 -- `commit::written::copy_kept` meets its contract: no byte put changes nothing, and otherwise it is the copy.
 -- Assumes nothing.
-use Rattle.commit.proofs.Puts.{copied-none, copy-asks}
+use Rattle.commit.proofs.Asked.{copy-asks}
+use Rattle.commit.proofs.Puts.{copied-none}
 use borrow.Author.Needs.{needs}
 use Rattle.commit.proofs.written.copy_kept.Statement.{statement}
 use Rattle.commit.proofs.written.copy_kept.Tie as tie

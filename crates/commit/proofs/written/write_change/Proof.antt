@@ -1,6 +1,6 @@
 -- `commit::written::write_change` meets its contract: copy, table and zeros in the order of the definition.
 -- Assumes nothing.
-use Rattle.commit.proofs.Puts.{zero-still-fits}
+use Rattle.commit.proofs.Asked.{zero-still-fits}
 use Rattle.commit.specs.Inner.Decision.{writtenWith}
 use borrow.Author.Needs.{needs}
 use Rattle.commit.proofs.written.write_change.Statement.{statement}

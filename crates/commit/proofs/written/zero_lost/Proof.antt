@@ -1,6 +1,7 @@
 -- `commit::written::zero_lost` meets its contract: no byte put changes nothing, and otherwise it is the fill.
 -- Assumes nothing.
-use Rattle.commit.proofs.Puts.{filled-none, zero-asks}
+use Rattle.commit.proofs.Asked.{zero-asks}
+use Rattle.commit.proofs.Puts.{filled-none}
 use borrow.Author.Needs.{needs}
 use Rattle.commit.proofs.written.zero_lost.Statement.{statement}
 use Rattle.commit.proofs.written.zero_lost.Tie as tie

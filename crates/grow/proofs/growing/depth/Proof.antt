@@ -13,7 +13,7 @@ abbrev μ-loop : tie.MeasureT-loop
 μ-loop bytes size words k at₀ n₀ at n = at
 
 loop-holds : tie.Need-loop-holds Inv-loop μ-loop
-loop-holds c = depth-start _ _ (c .before .pre .1)
+loop-holds c = search depth-start
 
 parent-requires : tie.Need-parent-requires Inv-loop μ-loop
 parent-requires c κs = search
@@ -28,7 +28,7 @@ loop-again : tie.Need-loop-again Inv-loop μ-loop
 loop-again c = search depth-turn
 
 returns : tie.Need-returns Inv-loop μ-loop
-returns c = depth-done _ _ _ _ (c .before .loop .inv) (c .loop-test .left)
+returns c = search depth-done
 
 pub depth-spec : {M : Type 1} → statement M
 depth-spec =

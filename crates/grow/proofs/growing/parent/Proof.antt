@@ -1,19 +1,19 @@
 -- `grow::growing::parent` meets its contract: a directory of a written table stores what it is nested in.
 -- Assumes nothing.
-use Rattle.grow.proofs.StandingTable.{entry-held, inside, parent-read}
+use Rattle.grow.proofs.StandingTable.{parent-read, few-entries, parent-held}
 use native.Mathlib.Omega.{arith}
 use borrow.Author.Needs.{needs}
 use Rattle.grow.proofs.growing.parent.Statement.{statement}
 use Rattle.grow.proofs.growing.parent.Tie as tie
 
 mul-read-u32 : tie.Need-mul-read-u32
-mul-read-u32 c = let s = c .before in omega (arith, inside _ _ _ (s .pre .0) .few, s .pre .1 .inside)
+mul-read-u32 c = omega (arith, few-entries)
 
 add-read-u32 : tie.Need-add-read-u32
-add-read-u32 c = let s = c .before in omega (arith, inside _ _ _ (s .pre .0) .few, s .pre .1 .inside)
+add-read-u32 c = omega (arith, few-entries)
 
 read-u32-requires : tie.Need-read-u32-requires
-read-u32-requires c κs = let s = c .before in omega (arith, entry-held _ _ _ (s .pre .0) _ (s .pre .1 .inside))
+read-u32-requires c κs = search parent-held
 
 cast-result : tie.Need-cast-result
 cast-result c = search needs
