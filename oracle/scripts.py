@@ -5,7 +5,7 @@
 
 The calls stand below. An answer comes from the unchanged Rust, which carries out the same call, with the checksum of its image.
 Where document 01 says something else than the Rust, or has a limit that the Rust has not, the answer is written here by hand, with the
-reason; the script then insists that the Rust says something else. Each call ends with a comment that says which of the two it is.
+reason; the script then insists that the Rust says something else (but for a listing, which the Rust has not, and a window that it cannot make). Each call ends with a comment that says which of the two it is.
 Nothing here comes from the program `replay` or from what it tests."""
 import os
 import subprocess

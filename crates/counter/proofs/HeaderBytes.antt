@@ -13,7 +13,8 @@ use Rattle.refusal.specs.declared.Verdict.{Verdict}
 use Rattle.refusal.specs.declared.Verdict.the-variants.{Passed, Refused}
 use Rattle.header.specs.declared.Field.{Field}
 use Rattle.disc_header.specs.declared.HeaderRead.{HeaderRead}
-use Rattle.header.specs.Fields.{fields, nth, fieldAt, gameCodeField, makerCodeField, unused00aField, gameNameField, unused408Field}
+use Rattle.header.specs.Fields.{fields, gameCodeField, makerCodeField, unused00aField, gameNameField, unused408Field}
+use Rattle.header.specs.Inner.Judged.{fieldAt, nth}
 use Rattle.disc_header.specs.Header.{bytesOf, headerOf, headerAnswer, headerRead, fieldBytes, putHeader, headerWritten}
 use Rattle.header.specs.Verdicts.{headerVerdict}
 use Rattle.header.specs.Laws.FieldTests.{header-passed}

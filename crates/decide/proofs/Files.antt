@@ -18,7 +18,6 @@ use Rattle.header.specs.Verdicts.{discEnd}
 use Rattle.tree.specs.Table.{Node, file, directory, none, parentOf, encode}
 use Rattle.tree.specs.Lookup.{isDirectory, entryWith, entryOf, entryFound, foundAt}
 use Rattle.tree.specs.declared.Entry.{Entry}
-use Rattle.tree.specs.declared.Found.{Found}
 use Rattle.tree.specs.declared.Found.the-variants as found
 use Rattle.tree.specs.declared.Located.the-variants as located
 use Rattle.tree.specs.Insert.{setPlace}

@@ -3,6 +3,7 @@ use Prim.Native.Nat.{ℕ}
 use mathlib.Core.Path.{_≡_, sym, ap, _∙_}
 use mathlib.Core.List.{List}
 use Rattle.refusal.specs.declared.Refusal.{Refusal}
+use Rattle.refusal.specs.declared.Verdict.{Verdict}
 use Rattle.header.specs.Verdicts.{discEnd}
 use Rattle.space.specs.declared.DiscRegion.{DiscRegion}
 use Rattle.space.specs.Free.{freeRegions}
@@ -15,7 +16,7 @@ use Rattle.answers.specs.declared.Disc.{Disc}
 use Rattle.answers.specs.declared.Opened.the-variants as opened
 use Rattle.answers.specs.declared.Opened.{Opened}
 use Rattle.answers.specs.declared.SizeAnswer.{SizeAnswer}
-use Rattle.answers.specs.Answers.{discOf, maxRegionSizeAnswer}
+use Rattle.answers.specs.Answers.{behind, discOf, maxRegionSizeAnswer}
 use Rattle.answers.specs.Laws.AnswerLaws.{behind-passed, was-refused}
 use Rattle.answers.proofs.Prepared.{ready-opened, ready-behind, refused-behind}
 use Rattle.free_space.specs.declared.Allocation.{Allocation}
@@ -26,17 +27,17 @@ use Rattle.free_space.specs.Listing.{listingOf, listAfter}
 use Rattle.free_space.specs.Allocate.{allocationOf}
 use Rattle.disc.specs.declared.TotalsAnswer.{TotalsAnswer}
 use Rattle.disc.specs.declared.TotalsAnswer.the-variants as totals
-use Rattle.disc.specs.Calls.{openedAs, openedOf, totalsAnswer, freeRegionsAnswer, freeRegionsList, allocateAnswer}
+use Rattle.disc.specs.Calls.{openedOf, totalsAnswer, freeRegionsAnswer, freeRegionsList, allocateAnswer}
 
 module _ (image : List ℕ) (n : ℕ) (w : List ℕ) (p : Prepared) (h : Prepares image n w p) where
   -- opening
   pub ready-disc : (m : ℕ) (d : Disc) → p ≡ Ready m → d ≡ discOf image → opened.Accepted d ≡ openedOf image n
   unfolding openedOf
-  ready-disc m d r e = ap opened.Accepted e ∙ ap (openedAs image) (sym (ready-opened image n w p h m r))
+  ready-disc m d r e = ap opened.Accepted e ∙ ap (λ (v : Verdict). behind v opened.Refused (opened.Accepted (discOf image))) (sym (ready-opened image n w p h m r))
 
   pub refused-disc : (c : Refusal) → p ≡ Refused c → opened.Refused c ≡ openedOf image n
   unfolding openedOf
-  refused-disc c r = ap (openedAs image) (sym (was-refused image n w p h c r))
+  refused-disc c r = ap (λ (v : Verdict). behind v opened.Refused (opened.Accepted (discOf image))) (sym (was-refused image n w p h c r))
 
   -- totals
   pub ready-totals : (m : ℕ) (d : Disc) → p ≡ Ready m → d ≡ discOf image → totals.Found (record { «disc_end» = d .«disc_end»; used = d .used }) ≡ totalsAnswer image n

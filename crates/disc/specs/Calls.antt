@@ -2,10 +2,7 @@
 -- 15, 16 or 17 .. allocation 22, 21"). Assumes nothing: these are definitions.
 use Prim.Native.Nat.{ℕ}
 use mathlib.Core.List.{List}
-use Rattle.refusal.specs.declared.Verdict.{Verdict}
-use Rattle.refusal.specs.declared.Verdict.the-variants as verdict
 use Rattle.header.specs.Verdicts.{discEnd}
-use Rattle.tree.specs.declared.Found.{Found}
 use Rattle.free_space.specs.declared.Allocation.{Allocation}
 use Rattle.free_space.specs.declared.Allocation.the-variants as allocation
 use Rattle.free_space.specs.declared.Listing.{Listing}
@@ -21,14 +18,8 @@ use Rattle.answers.specs.Answers.{behind, discOf}
 
 -- ---- the answer of `open`
 
-abbrev pub openedAs : List ℕ → Verdict → Opened
-openedAs image verdict.Passed = opened.Accepted (discOf image)
-openedAs image (verdict.Refused c) = opened.Refused c
-
 unfoldable pub openedOf : List ℕ → ℕ → Opened
-openedOf image words = openedAs image (opening image words)
-
--- ---- entries
+openedOf image words = behind (opening image words) opened.Refused (opened.Accepted (discOf image))
 
 -- ---- space
 
@@ -45,7 +36,3 @@ freeRegionsList image words list = behind (opening image words) (λ c. list) (li
 
 unfoldable pub allocateAnswer : List ℕ → ℕ → ℕ → ℕ → Allocation
 allocateAnswer image words n align = behind (opening image words) allocation.Refused (allocationOf align n (freeOf image))
-
--- ---- files: 15, then 16
-
--- ---- the executable: after opening, 24

@@ -1,4 +1,4 @@
--- The header as it is read, made and headerWritten, from document 01, "The header". Assumes nothing: these are definitions.
+-- The header as it is read, made and written, from document 01, "The header". Assumes nothing: these are definitions.
 use Prim.Native.Nat.{ℕ}
 use mathlib.Core.List.{List, [], _∷_}
 use lib.Dec.{ltb}
@@ -81,7 +81,7 @@ headerAnswer (Refused c) h = record { verdict = Refused c; header = blank 0 }
 abbrev pub headerRead : List ℕ → HeaderRead
 headerRead image = headerAnswer (headerVerdict image) (headerOf image)
 
--- ---- headerWritten
+-- ---- written
 
 -- what a header puts in each field, in the order of the table; the game name, the word at 0x18 and the unused runs "as read"
 unfoldable pub fieldBytes : DiscHeader → List (List ℕ)

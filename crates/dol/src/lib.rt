@@ -1,10 +1,11 @@
 // The header of a DOL executable, read from an image at an offset: 7 text and 11 data offsets, then addresses, then sizes in that order,
 // BSS address, BSS size, entry point; 0xE4 bytes. An enum cannot hold arrays, so the answer is a struct with a verdict.
+use endian::wide;
 use refusal::Refusal;
 use refusal::Verdict;
 use window::Window;
 ghost use mathlib.Core.Path.{_≡_};
-ghost use Prim.Native.Nat.{_+_, _*_, _≤_, _<_, _^_, max};
+ghost use Prim.Native.Nat.{_+_, _*_, _≤_, _<_, max};
 ghost use lib.ListN.{length};
 ghost use Rattle.window.specs.Window.{newWindow};
 ghost use Rattle.dol.specs.Dol.{wordsAt, largestOf, newHeader, dolHeaderOf, fileSizeOf, dolAnswerOf, refusedAnswer};
@@ -25,13 +26,6 @@ pub struct DolAnswer {
     pub verdict: Verdict,
     pub header: DolHeader,
     pub size: u32,
-}
-
-// A word as a wider number, which asks its caller for no proof.
-fn wide(x: u32) -> u64
-    ensures { λ r. ⌜ (r ≡ x) × (r < 2 ^ 32) ⌝ }
-{
-    x as u64
 }
 
 fn larger(a: u64, b: u64) -> u64

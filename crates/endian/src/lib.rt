@@ -7,10 +7,17 @@ ghost use lib.ListN.{length, getD, replicate};
 ghost use Rattle.endian.specs.Bytes.{be24, be32, be24Bytes, be32Bytes, put, span, sameBytes};
 
 // A byte as a wider number, which asks its caller for no proof.
-fn wide(x: u8) -> u32
+fn wide_byte(x: u8) -> u32
     ensures { λ r. ⌜ (r ≡ x) × (r < 256) ⌝ }
 {
     x as u32
+}
+
+// A word as a wider number, which asks its caller for no proof.
+pub fn wide(x: u32) -> u64
+    ensures { λ r. ⌜ (r ≡ x) × (r < 4294967296) ⌝ }
+{
+    x as u64
 }
 
 pub fn read_u8(s: &[u8], at: usize) -> u8
@@ -24,7 +31,7 @@ pub fn read_u24(s: &[u8], at: usize) -> u32
     requires { ⌜ at + 3 ≤ length (now s) ⌝ }
     ensures { λ r. ⌜ (r ≡ be24 (now (s .entry)) at) × (r < 2 ^ 24) ⌝ }
 {
-    (wide(s[at]) * 256 + wide(s[at + 1])) * 256 + wide(s[at + 2])
+    (wide_byte(s[at]) * 256 + wide_byte(s[at + 1])) * 256 + wide_byte(s[at + 2])
 }
 
 pub fn read_u32(s: &[u8], at: usize) -> u32
@@ -32,7 +39,7 @@ pub fn read_u32(s: &[u8], at: usize) -> u32
     ensures { λ r. ⌜ r ≡ be32 (now (s .entry)) at ⌝ }
 {
     let high = read_u24(s, at);
-    high * 256 + wide(s[at + 3])
+    high * 256 + wide_byte(s[at + 3])
 }
 
 pub fn write_u8(s: &mut [u8], at: usize, v: u8)

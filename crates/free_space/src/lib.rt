@@ -135,8 +135,8 @@ fn inside_free(prev_end: u64, offset: u32, size: u32, other: u32) -> u32
     requires { ⌜ «prev_end» < 4294967296 ⌝ }
     ensures { λ r. ⌜ r ≡ insideFree offset size «prev_end» other ⌝ }
 {
-    if space::wide(offset) + space::wide(size) < prev_end {
-        (prev_end - space::wide(offset)) as u32
+    if endian::wide(offset) + endian::wide(size) < prev_end {
+        (prev_end - endian::wide(offset)) as u32
     } else {
         other
     }
@@ -150,7 +150,7 @@ fn beside_free(prev_end: u64, next: DiscRegion, offset: u32, size: u32) -> u32
     if next.offset == offset {
         return next.size;
     }
-    if space::wide(next.offset) == space::wide(offset) + space::wide(size) {
+    if endian::wide(next.offset) == endian::wide(offset) + endian::wide(size) {
         return inside_free(prev_end, offset, size, size + next.size);
     }
     inside_free(prev_end, offset, size, size)
@@ -168,7 +168,7 @@ pub fn max_region_size(words: &[u32], count: usize, disc_end: u32, offset: u32, 
         if gap.size == 0 {
             i += 1;
         } else if gap.offset < offset {
-            prev_end = space::wide(gap.offset) + space::wide(gap.size);
+            prev_end = endian::wide(gap.offset) + endian::wide(gap.size);
             i += 1;
         } else {
             return beside_free(prev_end, gap, offset, size);
@@ -184,8 +184,8 @@ fn align_up(a: u32, align: u32) -> u64
     requires { ⌜ 0 < align ⌝ }
     ensures { λ r. ⌜ r ≡ alignUp align a ⌝ }
 {
-    let al = space::wide(align);
-    (space::wide(a) + (al - 1)) / al * al
+    let al = endian::wide(align);
+    (endian::wide(a) + (al - 1)) / al * al
 }
 
 // The better of the best region so far and what `gap` has from its first multiple on.
@@ -194,15 +194,15 @@ fn better(best: DiscRegion, gap: DiscRegion, size: u32, align: u32) -> DiscRegio
     ensures { λ r. ⌜ r ≡ betterOf align size best gap ⌝ }
 {
     let start = align_up(gap.offset, align);
-    let end = space::wide(gap.offset) + space::wide(gap.size);
+    let end = endian::wide(gap.offset) + endian::wide(gap.size);
     if end <= start {
         return best;
     }
     let rest = end - start;
-    if rest < space::wide(size) {
+    if rest < endian::wide(size) {
         return best;
     }
-    if rest < space::wide(best.size) {
+    if rest < endian::wide(best.size) {
         return best;
     }
     DiscRegion {

@@ -111,5 +111,3 @@ pub unopened-numbered : (image w w′ : List ℕ) (r : Prepared) (c : Refusal) (
 unopened-numbered image w w′ r c room bytes p q e =
     let o : Prepares image (length w) w′ (prepared.Refused c) = rw e at q in
     behind-refused-numbered image (length w) room bytes (opening image (length w)) p c o
-
--- ---- the plan of an insert

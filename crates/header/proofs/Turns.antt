@@ -11,7 +11,8 @@ use Rattle.refusal.specs.declared.Verdict.{Verdict}
 use Rattle.refusal.specs.declared.Verdict.the-variants.{Passed}
 use Rattle.refusal.specs.Refusal.{first, isRefused}
 use Rattle.refusal.specs.Laws.Chains.{first-stop, first-go}
-use Rattle.header.specs.Fields.{place, fields, fieldAt}
+use Rattle.header.specs.Fields.{place, fields}
+use Rattle.header.specs.Inner.Judged.{fieldAt}
 use Rattle.header.specs.Verdicts.{fieldVerdict, fieldsVerdict}
 use Rattle.header.specs.Laws.Tiling.{fields-count}
 

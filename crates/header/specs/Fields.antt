@@ -2,11 +2,8 @@
 -- version 7, audio 8, stream buffer 9 (1 each), unused 0x0A (14), Wii magic 0x18, GameCube magic 0x1C, game name 0x20 (0x3E0), debug offset 0x400, debug address 0x404,
 -- unused 0x408 (0x18), DOL offset 0x420, FST offset 0x424, FST size 0x428, FST maximum 0x42C, user position 0x430, user size 0x434, disc size 0x438, unused 0x43C; a field
 -- without a size has 4." Assumes nothing: these are definitions.
-use Prim.Native.Nat.{ℕ, _+_}
-use mathlib.Core.Bool.{Bool, _&&_}
+use Prim.Native.Nat.{ℕ}
 use mathlib.Core.List.{List, [], _∷_}
-use lib.Dec.{eqb}
-use lib.ListN.{getD}
 use Rattle.header.specs.declared.Field.{Field}
 
 abbrev pub place : ℕ → ℕ → Field
@@ -78,15 +75,3 @@ unused43cField = place 0x43C 4
 -- the table: the fields in order
 unfoldable pub fields : List Field
 fields = gameCodeField ∷ makerCodeField ∷ discIdField ∷ versionField ∷ audioStreamingField ∷ streamBufferSizeField ∷ unused00aField ∷ wiiMagicField ∷ gcnMagicField ∷ gameNameField ∷ debugMonitorOffsetField ∷ debugMonitorAddrField ∷ unused408Field ∷ dolOffsetField ∷ fstOffsetField ∷ fstSizeField ∷ fstMaxSizeField ∷ userPositionField ∷ userSizeField ∷ discSizeField ∷ unused43cField ∷ []
-
--- the field with number k, counted from 0
-abbrev pub nth : List Field → ℕ → Field
-nth fs k = getD fs k (place 0 0)
-
-abbrev pub fieldAt : ℕ → Field
-fieldAt k = nth fields k
-
--- fields that tile the bytes from a to b: each starts where the one before it ends, so that there is no gap and no overlap
-abbrev pub tile : ℕ → ℕ → List Field → Bool
-tile a b [] = eqb a b
-tile a b (f ∷ fs) = eqb (f .at) a && tile (a + f .len) b fs

@@ -6,7 +6,7 @@ ghost use Prim.Native.Nat.{_+_, _<_};
 ghost use lib.ListN.{getD};
 ghost use Rattle.refusal.specs.Refusal.{first};
 ghost use Rattle.endian.specs.Bytes.{be32};
-ghost use Rattle.header.specs.Fields.{fieldAt};
+ghost use Rattle.header.specs.Inner.Judged.{fieldAt};
 ghost use Rattle.header.specs.Verdicts.{fieldVerdict, headerVerdict, dolOffset, fstOffset, fstSize, discEnd, tableEnd, boundsVerdict};
 ghost use Rattle.header.specs.Inner.Judged.{Judged};
 

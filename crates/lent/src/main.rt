@@ -1,5 +1,5 @@
 // The window that the caller lends and finds moved: seeks and reads on windows of a small image, by `window::seek_and_read`. A script of
-// `replay` cannot say this form; the same seeks and reads by value stand in crates/replay/scripts/windows.txt, and give the same. The lines
+// `replay` cannot say this form; the same seeks and reads by value stand in host/replay/scripts/windows.txt, and give the same. The lines
 // of the first two windows are the Rust's answers; those of the third, a window that the Rust cannot be handed, are document 01's: current
 // with distance 0 always succeeds, and none are read past the image.
 use window::SeekFrom;

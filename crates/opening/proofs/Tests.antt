@@ -15,7 +15,8 @@ use Rattle.refusal.specs.Laws.Chains.{not-refused, first-passed}
 use Rattle.header.specs.Laws.FieldTests.{Bounded, bounds-passed}
 use Rattle.header.specs.Verdicts.{headerVerdict, boundsVerdict, fstOffset, fstSize, discEnd, tableEnd}
 use Rattle.tree.specs.Table.{count, check}
-use Rattle.space.specs.Used.{AllNonempty, totalSize, usedRegions}
+use Rattle.space.specs.Used.{totalSize, usedRegions}
+use Rattle.space.specs.Inner.Words.{AllNonempty}
 use Rattle.space.specs.Laws.UsedLaws.{nonempty-all}
 use Rattle.space.specs.Laws.TotalLaws.{total-used}
 use Rattle.space.specs.Inner.Sort.{regionsIn}

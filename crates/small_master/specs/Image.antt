@@ -1,5 +1,5 @@
 -- Document 01, "A small master": "FST at 0x440, size 0x1A, disc end 0x2000 (user size 0x2000), DOL offset 0, GameCube magic set, 0x2000
--- masterBytes in all, every byte not named here 0, file `a` at 0x500 of 0x100." Assumes nothing: these are definitions.
+-- bytes in all, every byte not named here 0, file `a` at 0x500 of 0x100." Assumes nothing: these are definitions.
 use Prim.Native.Nat.{ℕ}
 use mathlib.Core.List.{List, [], _∷_}
 use lib.ListN.{replicate}
@@ -15,7 +15,7 @@ unfoldable pub master : List ℕ
 master =
     put (put (put (put (put (replicate 0x2000 0) (gcnMagicField .at) (be32Bytes gcnMagic)) (fstOffsetField .at) (be32Bytes 0x440)) (fstSizeField .at) (be32Bytes 0x1A)) (userSizeField .at) (be32Bytes 0x2000)) 0x440 masterTable
 
--- the working masterWords that the listing program lends, and as many working masterBytes as the masterTable has
+-- the working words that the listing program lends, and as many working bytes as the table has
 abbrev pub masterWords : ℕ
 masterWords = 16384
 

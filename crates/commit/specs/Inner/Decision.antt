@@ -20,8 +20,6 @@ use Rattle.commit.specs.declared.TableSize.the-variants as table
 use Rattle.edits.specs.Change.{Change, withTable, Plan}
 use Rattle.edits.specs.Edits.{noPlace, planVerdict, planImage}
 
--- ---- an open image
-
 -- ---- the numbers of a change
 
 abbrev pub changeWith : List Node → Writing → Change
@@ -41,8 +39,6 @@ writtenWith w table image =
 abbrev pub sizedAs : Verdict → ℕ → TableSize
 sizedAs Passed size = table.Bytes size
 sizedAs (Refused c) size = table.Refused c
-
--- ---- a file's place
 
 -- ---- what is written lies in the image; nothing is asked of a place where no byte is written
 

@@ -13,7 +13,9 @@ use Rattle.endian.specs.Laws.Stored.{be32-value, length-put, put-before, put-af
 use Rattle.refusal.specs.declared.Verdict.the-variants.{Passed}
 use Rattle.header.specs.declared.Field.{Field}
 use Rattle.disc_header.specs.declared.DiscHeader.{DiscHeader}
-use Rattle.header.specs.Fields.{fields, nth, tile, gameCodeField, makerCodeField, discIdField, versionField, audioStreamingField, streamBufferSizeField, unused00aField, wiiMagicField, gcnMagicField, gameNameField, debugMonitorOffsetField, debugMonitorAddrField, unused408Field, dolOffsetField, fstOffsetField, fstSizeField, fstMaxSizeField, userPositionField, userSizeField, discSizeField, unused43cField}
+use Rattle.header.specs.Fields.{fields, gameCodeField, makerCodeField, discIdField, versionField, audioStreamingField, streamBufferSizeField, unused00aField, wiiMagicField, gcnMagicField, gameNameField, debugMonitorOffsetField, debugMonitorAddrField, unused408Field, dolOffsetField, fstOffsetField, fstSizeField, fstMaxSizeField, userPositionField, userSizeField, discSizeField, unused43cField}
+use Rattle.header.specs.Inner.Judged.{nth}
+use Rattle.header.specs.Laws.Tiling.{tile}
 use Rattle.header.specs.Verdicts.{gcnMagic, wiiMagic, wordOf, headerVerdict}
 use Rattle.disc_header.specs.Header.{bytesOf, byteOf, headerOf, headerRead, fieldBytes, putFields, putHeader, headerWritten}
 use Rattle.header.specs.Laws.FieldTests.{GoodHeader, header-passed, header-passes}

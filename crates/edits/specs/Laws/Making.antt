@@ -22,8 +22,6 @@ use Rattle.tree.specs.Laws.NestedInsert.{nested-insert}
 use Rattle.tree.specs.Laws.Children.{child-is}
 use Rattle.tree.specs.Laws.ChildInsert.{moved, shifted-low, shifted-high, kept-kind, child-moved, child-kept, child-new, child-other, child-empty}
 
--- ---- the walk with no memory: at entry k of the tree as it is, `level` new directories below it
-
 -- ---- the tree so far: an old entry k has the number φ k, and ν tells the new ones
 
 -- what is found under a name that no old entry has: nothing, or a directory made for that name

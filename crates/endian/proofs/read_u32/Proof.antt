@@ -12,14 +12,14 @@ read-u24-requires c κs = search needs
 mul-result : tie.Need-mul-result
 mul-result c = search needs
 
-add-wide : tie.Need-add-wide
-add-wide c = search needs
+add-wide-byte : tie.Need-add-wide-byte
+add-wide-byte c = search needs
 
-shared-slice-read-wide : tie.Need-shared-slice-read-wide
-shared-slice-read-wide c = search needs
+shared-slice-read-wide-byte : tie.Need-shared-slice-read-wide-byte
+shared-slice-read-wide-byte c = search needs
 
-wide-requires : tie.Need-wide-requires
-wide-requires c κs = search needs
+wide-byte-requires : tie.Need-wide-byte-requires
+wide-byte-requires c κs = search needs
 
 add-result : tie.Need-add-result
 add-result c = search needs
@@ -34,8 +34,8 @@ read-u32-spec =
     (tie.spec
     read-u24-requires
     mul-result
-    add-wide
-    shared-slice-read-wide
-    wide-requires
+    add-wide-byte
+    shared-slice-read-wide-byte
+    wide-byte-requires
     add-result
     returns)

@@ -9,7 +9,8 @@ use native.Mathlib.Omega.{arith}
 use borrow.Author.Tests.{ltb-true, eqb-true, lt-ltb, le-ltb, eq-eqb, ne-eqb}
 use lib.Dec.{ltb, eqb}
 use Rattle.space.specs.declared.DiscRegion.{DiscRegion}
-use Rattle.space.specs.Used.{endOf, inside, usesByte, usedRegions, AllNonempty}
+use Rattle.space.specs.Used.{endOf, inside, usesByte, usedRegions}
+use Rattle.space.specs.Inner.Words.{AllNonempty}
 use Rattle.space.specs.Free.{freeIn, freeRegions}
 use Rattle.free_space.specs.MaxRegionSize.{insideFree, besideFree, maxSizeFrom, maxRegionSize}
 use Rattle.refusal.specs.Laws.Tests.{lt-or-le, or-left, or-right, never-both}

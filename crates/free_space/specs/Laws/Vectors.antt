@@ -36,9 +36,9 @@ free : freeRegions 0x2000 master ≡ at 1114 166 ∷ at 1536 6656 ∷ []
 unfolding freeRegions runs usesByte nonempty
 free = refl
 
-listed : listAfter (freeRegions 0x2000 master) (1 ∷ 2 ∷ 3 ∷ 4 ∷ 5 ∷ []) ≡ 1114 ∷ 166 ∷ 1536 ∷ 6656 ∷ 5 ∷ []
+list-written : listAfter (freeRegions 0x2000 master) (1 ∷ 2 ∷ 3 ∷ 4 ∷ 5 ∷ []) ≡ 1114 ∷ 166 ∷ 1536 ∷ 6656 ∷ 5 ∷ []
 unfolding regionWords
-listed = rw free
+list-written = rw free
 
 short : listAfter (freeRegions 0x2000 master) (1 ∷ 2 ∷ 3 ∷ []) ≡ 1 ∷ 2 ∷ 3 ∷ []
 unfolding regionWords

@@ -13,7 +13,8 @@ use Rattle.refusal.specs.declared.Verdict.the-variants.{Passed, Refused}
 use Rattle.refusal.specs.Refusal.{refuse}
 use Rattle.refusal.specs.Laws.Chains.{refuse-passed, first-passed}
 use Rattle.header.specs.declared.Field.{Field}
-use Rattle.header.specs.Fields.{fields, nth, fieldAt}
+use Rattle.header.specs.Fields.{fields}
+use Rattle.header.specs.Inner.Judged.{fieldAt, nth}
 use Rattle.header.specs.Laws.Tiling.{fields-count, every-at}
 use Rattle.header.specs.Verdicts.{gcnMagic, wiiMagic, wordOf, fieldVerdict, fieldsVerdict, headerVerdict, fstOffset, discEnd, tableEnd, boundsVerdict}
 use Rattle.header.specs.Inner.Judged.{Judged}

@@ -15,7 +15,8 @@ use Rattle.refusal.specs.declared.Verdict.{Verdict}
 use Rattle.refusal.specs.declared.Verdict.the-variants.{Passed}
 use Rattle.refusal.specs.Refusal.{refuse, first}
 use Rattle.header.specs.declared.Field.{Field}
-use Rattle.header.specs.Fields.{fields, tile, wiiMagicField, gcnMagicField, gameNameField}
+use Rattle.header.specs.Fields.{fields, wiiMagicField, gcnMagicField, gameNameField}
+use Rattle.header.specs.Laws.Tiling.{tile}
 use Rattle.header.specs.Verdicts.{gcnMagic, wiiMagic, fieldVerdict, fieldsVerdict, headerVerdict}
 use Rattle.refusal.specs.Laws.Tests.{and-left, and-right}
 use Rattle.header.specs.Laws.Tiling.{everyField, tile-start, tile-rest}

@@ -1,4 +1,4 @@
--- The table tiles 0x440 bytes: each byte of the header lies in one field, and in no two. Then a test that everyField field of a list passes. Assumes nothing.
+-- The table tiles 0x440 bytes: each byte of the header lies in one field, and in no two. Then a test that every field of a list passes. Assumes nothing.
 use Prim.Native.Nat.{ℕ, zero, suc, _+_, _<_, _≤_}
 use mathlib.Core.Path.{_≡_, refl}
 use mathlib.Core.Bool.{Bool, true, _&&_}
@@ -10,7 +10,13 @@ use lib.ListN.{length}
 use borrow.Author.Tests.{eqb-true}
 use Rattle.refusal.specs.Laws.Tests.{lt-or-le, and-left, and-right}
 use Rattle.header.specs.declared.Field.{Field}
-use Rattle.header.specs.Fields.{fields, nth, fieldAt, tile}
+use Rattle.header.specs.Fields.{fields}
+use Rattle.header.specs.Inner.Judged.{fieldAt, nth}
+
+-- fields that tile the bytes from a to b: each starts where the one before it ends, so that there is no gap and no overlap
+abbrev pub tile : ℕ → ℕ → List Field → Bool
+tile a b [] = eqb a b
+tile a b (f ∷ fs) = eqb (f .at) a && tile (a + f .len) b fs
 
 -- the 21 fields tile 0x440 bytes, without gap or overlap
 pub fields-tile : tile 0 0x440 fields ≡ true

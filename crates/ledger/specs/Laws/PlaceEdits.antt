@@ -10,7 +10,7 @@ use lib.ListN.{length, getD}
 use lib.Seq.{set-getD}
 use lib.Dec.{leb, eqb}
 use Rattle.refusal.specs.declared.Refusal.the-variants.{NoSuchEntry, ExpectedFile}
-use Rattle.refusal.specs.declared.Verdict.the-variants.{Passed, Refused}
+use Rattle.refusal.specs.declared.Verdict.the-variants.{Passed}
 use Rattle.refusal.specs.Refusal.{first}
 use Rattle.refusal.specs.Laws.Chains.{refuse-passed, first-passed}
 use Rattle.tree.specs.Table.{Node, file, directory, none}

@@ -13,7 +13,7 @@ use Rattle.refusal.specs.declared.Verdict.the-variants.{Passed}
 use Rattle.opening.specs.Inner.Prepared.{UsedWords}
 use Rattle.opening.specs.Laws.OpeningLaws.{Readable, readable}
 use Rattle.opening.proofs.Tests.{part-table, count-is, collect-asks, used-words, end-fits, root-inside, table-end-fits, table-inside, regions-room, regions-full, left-passed, left-words, left-refused}
-use Rattle.space.specs.Used.{AllNonempty}
+use Rattle.space.specs.Inner.Words.{AllNonempty}
 use Rattle.space.specs.Inner.Sort.{regionsIn}
 use borrow.Author.Needs.{needs}
 use Rattle.opening.proofs.check_used.Statement.{statement}

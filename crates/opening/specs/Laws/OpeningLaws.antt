@@ -20,7 +20,7 @@ use Rattle.header.specs.Verdicts.{headerVerdict, boundsVerdict, fstOffset, fstS
 use Rattle.header.specs.Laws.FieldTests.{GoodHeader, header-passed, Bounded, bounds-passed}
 use Rattle.tree.specs.Table.{count, check}
 use Rattle.tree.specs.Laws.Accepted.{Accepted, accepted}
-use Rattle.space.specs.Free.{freeBytes}
+use Rattle.space.specs.Laws.TotalLaws.{freeBytes}
 use Rattle.space.specs.Layout.{disjointBelow, regionsVerdict}
 use Rattle.space.specs.Laws.TotalLaws.{used-and-free}
 use Rattle.opening.specs.Opening.{tableOf, nodesIn, regionOf, usedIn, usedOf, opening}

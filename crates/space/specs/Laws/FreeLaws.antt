@@ -10,7 +10,8 @@ use native.Mathlib.Nat.{add-zero}
 use borrow.Author.Tests.{eqb-true}
 use lib.Dec.{eqb}
 use Rattle.space.specs.declared.DiscRegion.{DiscRegion}
-use Rattle.space.specs.Used.{endOf, used, usedRegions, AllNonempty}
+use Rattle.space.specs.Used.{endOf, used, usedRegions}
+use Rattle.space.specs.Inner.Words.{AllNonempty}
 use Rattle.space.specs.Free.{freeIn, join, runs, freeRegions}
 use Rattle.refusal.specs.Laws.Tests.{lt-or-le, is-false, never-both}
 use Rattle.space.specs.Laws.UsedLaws.{used-is}

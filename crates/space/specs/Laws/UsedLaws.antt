@@ -9,7 +9,8 @@ use native.Mathlib.Omega.{arith}
 use borrow.Author.Tests.{le-leb, lt-leb, lt-ltb, le-ltb, eq-eqb, ne-eqb}
 use lib.Dec.{leb, eqb}
 use Rattle.space.specs.declared.DiscRegion.{DiscRegion}
-use Rattle.space.specs.Used.{endOf, inside, usesByte, used, nonempty, usedRegions, AllNonempty}
+use Rattle.space.specs.Used.{endOf, inside, usesByte, used, nonempty, usedRegions}
+use Rattle.space.specs.Inner.Words.{AllNonempty}
 use Rattle.space.specs.Layout.{disjoint, disjointFromAll, pairwiseDisjoint, endBy, disjointBelow}
 use Rattle.refusal.specs.Laws.Tests.{lt-or-le, or-right, mix-and}
 

@@ -2,7 +2,7 @@
 -- Assumes nothing.
 use mathlib.Core.Path.{sym, _∙_}
 use mathlib.Core.Bool.{true, false}
-use Rattle.tree.specs.Table.{plain, safe}
+use Rattle.tree.specs.Table.{plain}
 use Rattle.fst_text.proofs.Texts.{safe-none, safe-more}
 use borrow.Author.Needs.{needs}
 use Rattle.fst_check.proofs.opening.clean_verdict.Statement.{statement}
