@@ -144,8 +144,8 @@ uint32_t counter_free_regions(const uint8_t *image, size_t image_len, uint32_t *
     uint32_t answer[1]);
 
 /* answer[1]: the size that a region at `offset` with `size` bytes can have. If a free region starts at offset, that region's size; else, if
- * it ends before the end of a free region that starts before it, the bytes from offset to that end; else, if a free region starts at its
- * end, both sizes together; else `size`. */
+ * it ends before the end of a free region that starts before it, the bytes from offset to that end; else, if the first
+ * free region behind offset starts at its end, both sizes together; else `size`. */
 uint32_t counter_max_region_size(const uint8_t *image, size_t image_len, uint32_t *words, size_t words_len, uint32_t offset, uint32_t size,
     uint32_t answer[1]);
 

@@ -1,5 +1,5 @@
--- The answers of the calls that read (document 01; the order of refusals: "Calls go on: path over 1,024 bytes or result list short 9, then
--- 15, 16 or 17 .. allocation 22, 21"). Assumes nothing: these are definitions.
+-- The answers of the calls on the disc and its space (document 01: after opening "result list short 9 .. allocation 22, 21").
+-- Assumes nothing: these are definitions.
 use Prim.Native.Nat.{ℕ}
 use mathlib.Core.List.{List}
 use Rattle.header.specs.Verdicts.{discEnd}

@@ -2,7 +2,7 @@
 use Prim.Native.Nat.{ℕ}
 use mathlib.Core.List.{List, [], _∷_}
 use lib.Dec.{ltb}
-use lib.ListN.{length, getD, take, drop, replicate}
+use lib.ListN.{length, getD, replicate}
 use Rattle.endian.specs.Bytes.{be32Bytes, put, span}
 use Rattle.refusal.specs.declared.Refusal.the-variants.{HeaderPastImage}
 use Rattle.refusal.specs.declared.Verdict.{Verdict}
@@ -114,10 +114,6 @@ unfoldable pub putFields : List Field → List (List ℕ) → List ℕ → List 
 putFields [] bss image = image
 putFields (f ∷ fs) [] image = image
 putFields (f ∷ fs) (bs ∷ bss) image = putFields fs bss (put image (f .at) bs)
-
--- the n fields from number k on
-unfoldable pub putSome : ℕ → ℕ → DiscHeader → List ℕ → List ℕ
-putSome k n h image = putFields (take n (drop k fields)) (take n (drop k (fieldBytes h))) image
 
 -- the image with the header in it
 abbrev pub putHeader : DiscHeader → List ℕ → List ℕ

@@ -6,7 +6,8 @@ ghost use mathlib.Core.Path.{_≡_};
 ghost use Prim.Native.Nat.{_+_, _≤_, _<_};
 ghost use lib.ListN.{length};
 ghost use Rattle.endian.specs.Bytes.{put, span};
-ghost use Rattle.disc_header.specs.Header.{headerOf, blank, headerRead, putSome, writeVerdict, headerWritten};
+ghost use Rattle.disc_header.specs.Header.{headerOf, blank, headerRead, writeVerdict, headerWritten};
+ghost use Rattle.disc_header.specs.Inner.Writing.{putSome};
 ghost use Rattle.header.specs.Verdicts.{gcnMagic};
 
 pub struct DiscHeader {

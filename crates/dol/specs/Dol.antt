@@ -67,7 +67,3 @@ dolAnswered (Refused c) h = record { verdict = Refused c; header = newHeader; si
 
 abbrev pub dolAnswerOf : List ℕ → ℕ → DolAnswer
 dolAnswerOf s at = dolAnswered (dolVerdictOf s at) (dolHeaderOf s at)
-
--- number 24
-abbrev pub refusedAnswer : DolAnswer
-refusedAnswer = record { verdict = Refused InvalidDol; header = newHeader; size = 0 }

@@ -8,7 +8,8 @@ ghost use mathlib.Core.Path.{_≡_};
 ghost use Prim.Native.Nat.{_+_, _*_, _≤_, _<_, max};
 ghost use lib.ListN.{length};
 ghost use Rattle.window.specs.Window.{newWindow};
-ghost use Rattle.dol.specs.Dol.{wordsAt, largestOf, newHeader, dolHeaderOf, fileSizeOf, dolAnswerOf, refusedAnswer};
+ghost use Rattle.dol.specs.Dol.{wordsAt, largestOf, newHeader, dolHeaderOf, fileSizeOf, dolAnswerOf};
+ghost use Rattle.dol.specs.Inner.Refused.{refusedAnswer};
 
 pub struct DolHeader {
     pub text_offsets: [u32; 7],

@@ -21,7 +21,7 @@ be24Bytes n = n / 65536 % 256 ∷ n / 256 % 256 ∷ n % 256 ∷ []
 abbrev pub be32Bytes : ℕ → List ℕ
 be32Bytes n = n / 16777216 % 256 ∷ n / 65536 % 256 ∷ n / 256 % 256 ∷ n % 256 ∷ []
 
--- the list with the bytes bs from `at` on
+-- the list with the bytes bs from `at` on, where they fit; all others are as they were
 unfoldable pub put : List ℕ → ℕ → List ℕ → List ℕ
 put s at bs = take at s ++ (bs ++ drop (at + length bs) s)
 

@@ -45,7 +45,7 @@ freeOf image = freeRegions (discEnd image) (usedIn image)
 unfoldable pub usedOf : List ℕ → ℕ
 usedOf image = usedTotal (tableEnd image) (map regionOf (nodesIn image))
 
--- ---- the answer of `open`
+-- ---- working memory
 
 -- "working memory returns zero from every call, accepted ones too"
 abbrev pub zeros : List ℕ → List ℕ

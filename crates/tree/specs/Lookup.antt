@@ -93,7 +93,7 @@ follow nodes trail k (c ∷ cs) =
     (andThen (childOf nodes k c) (λ j. follow nodes (k ∷ trail) j cs))))
     (Refused ExpectedDirectory)
 
--- "15, then along the path 17 and 18"
+-- 15, then along the path 17 and 18
 unfoldable pub lookup : List Node → ℕ → List ℕ → Located
 lookup nodes start path = cond (ltb start (length nodes)) (follow nodes [] start (components path)) (Refused NoSuchEntry)
 

@@ -206,13 +206,14 @@ unfoldable pub encode : List Node → List ℕ
 encode [] = []
 encode (root ∷ xs) = nodeBytes 0 0 root ++ (entriesBytes (root ∷ xs) 1 0 xs ++ textsOf xs)
 
--- ---- what a list of entries must be, to be a tree, and the limits of one that is written
+-- ---- the limits of a tree that is written
 
--- no directory among entries k and on is deeper than 64
+-- an entry below those directories is no directory deeper than 64
 abbrev pub shallowEntry : List ℕ → Node → Bool
 shallowEntry dirs (file nm offset size) = true
 shallowEntry dirs (directory nm next) = leb (length dirs) 64
 
+-- no directory among entries k and on is deeper than 64
 unfoldable pub shallowFrom : List ℕ → ℕ → List Node → Bool
 shallowFrom dirs k [] = true
 shallowFrom dirs k (x ∷ xs) = shallowEntry (shut k dirs) x && shallowFrom (enter (shut k dirs) x) (suc k) xs

@@ -123,7 +123,9 @@ impl Stage {
 
     /// `count` bytes: the text time and again, each time larger by `step`.
     fn fill(&mut self, at: usize, count: usize, step: usize, text: &[u8]) -> Result<(), String> {
-        let part = self.image.get_mut(at..at + count).ok_or("bytes past the image's end")?;
+        holds(count == 0 || !text.is_empty(), "a text is missing")?;
+        let end = at.saturating_add(count);
+        let part = self.image.get_mut(at..end).ok_or("bytes past the image's end")?;
         for (i, byte) in part.iter_mut().enumerate() {
             let turn = (i / text.len()).wrapping_mul(step) as u8;
             *byte = text[i % text.len()].wrapping_add(turn);

@@ -66,6 +66,7 @@ fn a_script_that_cannot_be_read_is_told() {
         replay("s", "size 4\npatch 3 :0000\n").unwrap_err(),
         "s:2: patch 3: bytes past the image's end"
     );
+    assert_eq!(replay("s", "size 4\nfill 0 4\n").unwrap_err(), "s:2: fill 0 4: a text is missing");
     assert_eq!(replay("s", "turn 4\n").unwrap_err(), "s:1: turn 4: no such line");
     assert_eq!(replay("s", "lend 1 2\n").unwrap_err(), "s:1: lend 1 2: a number is missing");
 }

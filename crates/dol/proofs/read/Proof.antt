@@ -11,7 +11,8 @@ use borrow.Author.Needs.{needs}
 use Rattle.refusal.specs.declared.Verdict.the-variants.{Passed}
 use Rattle.dol.specs.declared.DolHeader.{DolHeader}
 use Rattle.dol.specs.declared.DolAnswer.{DolAnswer}
-use Rattle.dol.specs.Dol.{dolHeaderOf, fileSizeOf, refusedAnswer, dolAnswered, dolAnswerOf}
+use Rattle.dol.specs.Dol.{dolHeaderOf, fileSizeOf, dolAnswered, dolAnswerOf}
+use Rattle.dol.specs.Inner.Refused.{refusedAnswer}
 use Rattle.dol.proofs.read.Statement.{statement}
 use Rattle.dol.proofs.read.Tie as tie
 

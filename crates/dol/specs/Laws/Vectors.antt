@@ -7,7 +7,8 @@ use Rattle.endian.specs.Bytes.{be32}
 use Rattle.refusal.specs.declared.Verdict.the-variants.{Passed}
 use Rattle.refusal.specs.declared.Refusal.the-variants.{InvalidDol}
 use Rattle.refusal.specs.Refusal.{numberOf}
-use Rattle.dol.specs.Dol.{wordsAt, largestOf, dolAnswerOf, refusedAnswer}
+use Rattle.dol.specs.Dol.{wordsAt, largestOf, dolAnswerOf}
+use Rattle.dol.specs.Inner.Refused.{refusedAnswer}
 
 -- the first text section's offset and size, all else 0
 abbrev file : List ℕ → List ℕ → List ℕ

@@ -11,7 +11,8 @@ use lib.ListN.{length, getD, set}
 use lib.Seq.{getD-set-same, getD-set-other}
 use lib.Dec.{leb, ltb, eqb}
 use Rattle.space.specs.declared.DiscRegion.{DiscRegion}
-use Rattle.space.specs.Used.{endOf, inside, usesByte, used, usedRegions}
+use Rattle.space.specs.Used.{endOf, inside, usesByte, usedRegions}
+use Rattle.space.specs.Laws.UsedLaws.{used}
 use Rattle.space.specs.Layout.{disjointFromAll, pairwiseDisjoint, disjointBelow}
 use Rattle.space.specs.Free.{freeIn}
 use Rattle.refusal.specs.Laws.Tests.{lt-or-le, and-left, and-right, and-both, or-cases, or-left, or-right, or-false, is-false, never-both}

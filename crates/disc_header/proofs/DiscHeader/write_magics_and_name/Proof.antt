@@ -4,7 +4,8 @@ use mathlib.Core.Path.{_≡_, sym}
 use native.Mathlib.Omega.{arith}
 use lib.ListN.{length}
 use Rattle.header.specs.Fields.{fields}
-use Rattle.disc_header.specs.Header.{fieldBytes, putFields, putSome}
+use Rattle.disc_header.specs.Header.{fieldBytes, putFields}
+use Rattle.disc_header.specs.Inner.Writing.{putSome}
 use borrow.Author.Needs.{needs}
 use Rattle.disc_header.proofs.DiscHeader.write_magics_and_name.Statement.{statement}
 use Rattle.disc_header.proofs.DiscHeader.write_magics_and_name.Tie as tie

@@ -1,7 +1,8 @@
 -- `disc_header::DiscHeader::write_places` meets its contract: each call puts one field, in the order of the table.
 -- Assumes nothing.
 use Rattle.header.specs.Fields.{fields}
-use Rattle.disc_header.specs.Header.{fieldBytes, putFields, putSome}
+use Rattle.disc_header.specs.Header.{fieldBytes, putFields}
+use Rattle.disc_header.specs.Inner.Writing.{putSome}
 use borrow.Author.Needs.{needs}
 use Rattle.disc_header.proofs.DiscHeader.write_places.Statement.{statement}
 use Rattle.disc_header.proofs.DiscHeader.write_places.Tie as tie
