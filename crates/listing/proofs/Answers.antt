@@ -30,7 +30,7 @@ use Rattle.listing.specs.declared.Listed.{Listed}
 use Rattle.listing.specs.declared.Listed.the-variants.{Text, Refused}
 use Rattle.listing_text.specs.Lines.{totalsLine, entryLines, regionLines}
 use Rattle.listing.specs.Listing.{listingText, listingVerdict, listAnswer, listBuffer, refusedText, reportVerdict, reportText, reportAnswer, reportBuffer}
-use Rattle.listing_text.specs.Inner.Writing.{Wrote}
+use Rattle.text_buffer.specs.Inner.Writing.{Wrote}
 
 -- the lines of an image that opened
 pub text-is : (image w : List ℕ) (m e : ℕ) (tab : List ℕ) → UsedWords image w m → e ≡ discEnd image → tab ≡ tableOf image →

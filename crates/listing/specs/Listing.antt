@@ -14,7 +14,8 @@ use Rattle.refusal.specs.Refusal.{numberOf, refuse, first}
 use Rattle.header.specs.Verdicts.{discEnd}
 use Rattle.opening.specs.Opening.{opening, nodesIn, usedOf, freeOf}
 use Rattle.answers.specs.Answers.{behind}
-use Rattle.listing_text.specs.Lines.{decimal, lineFeed, totalsLine, entryLines, regionLines}
+use Rattle.listing_text.specs.Lines.{lineFeed, totalsLine, entryLines, regionLines}
+use Rattle.text_buffer.specs.Decimal.{decimal}
 use Rattle.listing.specs.declared.Listed.{Listed}
 use Rattle.listing.specs.declared.Listed.the-variants as listed
 

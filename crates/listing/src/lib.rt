@@ -10,7 +10,7 @@ ghost use Rattle.refusal.specs.declared.Verdict.the-variants.{Passed};
 ghost use Rattle.opening.specs.Opening.{opening};
 ghost use Rattle.opening.specs.Inner.Prepared.{UsedWords, Prepares};
 ghost use Rattle.answers.specs.Answers.{behind};
-ghost use Rattle.listing_text.specs.Inner.Writing.{Wrote};
+ghost use Rattle.text_buffer.specs.Inner.Writing.{Wrote};
 ghost use Rattle.listing.specs.declared.Listed.the-variants as listed;
 ghost use Rattle.listing.specs.Listing.{listingText, listAnswer, listBuffer, refusedText, reportVerdict, reportAnswer, reportBuffer};
 
@@ -63,9 +63,9 @@ pub fn list(image: &[u8], words: &mut [u32], text: &mut [u8]) -> Listed
 fn put_refused(text: &mut [u8], cause: Refusal) -> usize
     ensures { λ r. ⌜ Wrote (now (text .entry)) (now (text .exit)) 0 (refusedText cause) r ⌝ }
 {
-    let a = listing_text::put_text(text, 0, b"refused ", 0);
-    let b = listing_text::put_decimal(text, a, cause.number());
-    listing_text::put_byte(text, b, b'\n')
+    let a = text_buffer::put_text(text, 0, b"refused ", 0);
+    let b = text_buffer::put_decimal(text, a, cause.number());
+    text_buffer::put_byte(text, b, b'\n')
 }
 
 // The same for a buffer that has room for it; otherwise nothing.

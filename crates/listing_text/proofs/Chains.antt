@@ -21,7 +21,7 @@ use Rattle.fst.proofs.PathLaws.{directory-depth}
 use Rattle.fst_list.proofs.RowLaws.{climb-found, climb-turn, climb-end}
 use Rattle.tree.specs.Laws.Accepted.{length-nodesOf}
 use Rattle.listing_text.proofs.Tables.{Read}
-use Rattle.listing_text.specs.Inner.Writing.{Chain, Around}
+use Rattle.listing_text.specs.Inner.Around.{Chain, Around}
 
 -- entry k's parent is the last of d directories, or one around that
 abbrev pub Climbs : List Node → List ℕ → ℕ → ℕ → Type 0

@@ -14,8 +14,8 @@ use Rattle.space.specs.Laws.UsedLaws.{nonempty-cons, nonempty-empty}
 use Rattle.space.proofs.Gaps.{gaps-free}
 use Rattle.free_space.proofs.Choice.{gaps-more, gaps-over}
 use Rattle.listing_text.specs.Lines.{regionLine, regionLines}
-use Rattle.listing_text.specs.Inner.Writing.{Wrote}
-use Rattle.listing_text.proofs.Joining.{wrote-none, wrote-join}
+use Rattle.text_buffer.specs.Inner.Writing.{Wrote}
+use Rattle.text_buffer.proofs.Joining.{wrote-none, wrote-join}
 
 pub record Listing (w : List ℕ) (m e : ℕ) (text₀ text : List ℕ) (at end i : ℕ) : Type 0 where
   pub bound : i ≤ m + 1

@@ -1,6 +1,4 @@
 -- What the proofs of the functions cite.
-pub mod Joining
-pub mod Digits
 pub mod Tables
 pub mod Paths
 pub mod Chains

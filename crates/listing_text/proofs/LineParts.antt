@@ -11,9 +11,11 @@ use Rattle.tree.specs.Lookup.{isDirectory}
 use Rattle.tree.specs.Laws.Accepted.{Accepted}
 use Rattle.fst_text.specs.Inner.Texts.{textAt}
 use Rattle.fst.proofs.Nodes.{file-is, directory-is, name-is}
-use Rattle.listing_text.specs.Lines.{totalsLine, field, ending, entryFields, lineFeed, pathOf, entryLine, entryLines}
-use Rattle.listing_text.specs.Inner.Writing.{Wrote, Around}
-use Rattle.listing_text.proofs.Joining.{wrote-none, wrote-join}
+use Rattle.listing_text.specs.Lines.{totalsLine, ending, entryFields, lineFeed, pathOf, entryLine, entryLines}
+use Rattle.text_buffer.specs.Decimal.{field}
+use Rattle.listing_text.specs.Inner.Around.{Around}
+use Rattle.text_buffer.specs.Inner.Writing.{Wrote}
+use Rattle.text_buffer.proofs.Joining.{wrote-none, wrote-join}
 use Rattle.listing_text.proofs.Tables.{Read}
 use Rattle.listing_text.proofs.Paths.{path-root, path-step, first-line, one-line-more, root-line, line-parts}
 

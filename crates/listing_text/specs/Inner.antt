@@ -1,2 +1,2 @@
 -- Definitions that only inner contracts need.
-pub mod Writing
+pub mod Around

@@ -1,28 +1,14 @@
 -- The lines of a listing (document 01, "A small master": "prints lines, each ended by a line feed: disc end and used total; entries in table
 -- order, a directory with number, the parent it is nested in (root 0), next and path ending in `/`, a file with number, offset, size, path;
 -- free regions with offset, size, in base ten"). Assumes nothing: these are definitions.
-use Prim.Native.Nat.{ℕ, zero, suc, _+_, _/_, _%_}
+use Prim.Native.Nat.{ℕ, zero, suc}
 use mathlib.Core.Bool.{cond}
 use mathlib.Core.List.{List, [], _∷_, _++_}
-use lib.Dec.{ltb, eqb}
+use lib.Dec.{eqb}
 use lib.ListN.{getD}
 use Rattle.tree.specs.Table.{Node, file, directory, nameOf, none, parentOf}
 use Rattle.space.specs.declared.DiscRegion.{DiscRegion}
-
--- ---- "in base ten"
-
--- the digits of n, the last of at most f
-unfoldable pub digits : ℕ → ℕ → List ℕ
-digits zero n = []
-digits (suc f) n = cond (ltb n 10) ((0x30 + n) ∷ []) (digits f (n / 10) ++ ((0x30 + n % 10) ∷ []))
-
--- no number has more digits than it counts, 0 aside
-abbrev pub decimal : ℕ → List ℕ
-decimal n = digits (suc n) n
-
--- a number in a line, behind a space
-abbrev pub field : ℕ → List ℕ
-field n = 0x20 ∷ decimal n
+use Rattle.text_buffer.specs.Decimal.{field}
 
 abbrev pub lineFeed : List ℕ
 lineFeed = 0x0A ∷ []

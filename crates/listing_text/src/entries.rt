@@ -8,9 +8,9 @@ ghost use Rattle.tree.specs.Table as table_of;
 ghost use Rattle.tree.specs.Table.{none, nodesOf, nameOf, parentOf, parentBelow};
 ghost use Rattle.fst_check.specs.Inner.Reading.{Opens};
 ghost use Rattle.listing_text.specs.Lines.{ending, entryFields, pathOf, entryLine, entryLines};
-ghost use Rattle.listing_text.specs.Inner.Writing.{Wrote, Chain, Around};
+ghost use Rattle.listing_text.specs.Inner.Around.{Chain, Around};
+ghost use Rattle.text_buffer.specs.Inner.Writing.{Wrote};
 use crate::lines;
-use crate::text;
 
 // How many of the directories are around entry k: those at the end that are done are left out.
 fn shut(table: &[u8], dirs: &[usize; 65], depth: usize, k: usize) -> usize
@@ -50,10 +50,10 @@ fn put_fields(table: &[u8], k: usize, parent: usize, text: &mut [u8], at: usize)
     if table[12 * k] == 0 {
         let offset = endian::read_u32(table, 12 * k + 4);
         let end = lines::put_pair(text, at, b'f', k as u32, offset);
-        return text::put_field(text, end, last);
+        return text_buffer::put_field(text, end, last);
     }
     let end = lines::put_pair(text, at, b'd', k as u32, parent as u32);
-    text::put_field(text, end, last)
+    text_buffer::put_field(text, end, last)
 }
 
 // The last part of entry k's path, which is not the root: its name, and `/` if it is a directory.
@@ -62,9 +62,9 @@ fn put_name(table: &[u8], k: usize, text: &mut [u8], at: usize) -> usize
     ensures { λ r. ⌜ Wrote (now (text .entry)) (now (text .exit)) at (nameOf (getD (nodesOf (now (table .entry))) k none) ++ ending (getD (nodesOf (now (table .entry))) k none)) r ⌝ }
 {
     let place = 12 * fst_check::count(table) + endian::read_u24(table, 12 * k + 1) as usize;
-    let end = text::put_text(text, at, table, place);
+    let end = text_buffer::put_text(text, at, table, place);
     if fst::is_directory(table, k) {
-        return text::put_byte(text, end, b'/');
+        return text_buffer::put_byte(text, end, b'/');
     }
     end
 }
@@ -81,7 +81,7 @@ fn put_parent(
     requires { ⌜ Opens (now table) × (k < table_of.count (now table)) × Around (nodesOf (now table)) (now dirs) depth k ⌝ }
     ensures { λ r. ⌜ Wrote (now (text .entry)) (now (text .exit)) at (0x20 ∷ pathOf (nodesOf (now (table .entry))) (parentOf (nodesOf (now (table .entry))) k)) r ⌝ }
 {
-    let mut end = text::put_text(text, at, b" /", 0);
+    let mut end = text_buffer::put_text(text, at, b" /", 0);
     let mut i = 1;
     while i < depth {
         end = put_name(table, dirs[i], text, end);
@@ -105,7 +105,7 @@ fn put_entry(
     let a = put_fields(table, k, dirs[depth - 1], text, at);
     let b = put_parent(table, dirs, depth, k, text, a);
     let c = put_name(table, k, text, b);
-    text::put_byte(text, c, b'\n')
+    text_buffer::put_byte(text, c, b'\n')
 }
 
 fn put_root(table: &[u8], text: &mut [u8], at: usize) -> usize
@@ -113,7 +113,7 @@ fn put_root(table: &[u8], text: &mut [u8], at: usize) -> usize
     ensures { λ r. ⌜ Wrote (now (text .entry)) (now (text .exit)) at (entryLine (nodesOf (now (table .entry))) 0) r ⌝ }
 {
     let end = put_fields(table, 0, 0, text, at);
-    text::put_text(text, end, b" /\n", 0)
+    text_buffer::put_text(text, end, b" /\n", 0)
 }
 
 // All entries, in table order.

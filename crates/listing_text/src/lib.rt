@@ -2,7 +2,6 @@
 mod entries;
 mod lines;
 mod regions;
-mod text;
 
 ghost use mathlib.Core.List.{_++_};
 ghost use Rattle.tree.specs.Table as table_of;
@@ -13,10 +12,10 @@ ghost use Rattle.space.specs.Inner.Sort.{regionsIn};
 ghost use Rattle.space.specs.Used.{totalSize};
 ghost use Rattle.space.specs.Inner.Words.{SortedDisjoint};
 ghost use Rattle.listing_text.specs.Lines.{totalsLine, entryLines, regionLines};
-ghost use Rattle.listing_text.specs.Inner.Writing.{Wrote};
-pub use text::put_byte;
-pub use text::put_decimal;
-pub use text::put_text;
+ghost use Rattle.text_buffer.specs.Inner.Writing.{Wrote};
+pub use text_buffer::put_byte;
+pub use text_buffer::put_decimal;
+pub use text_buffer::put_text;
 
 // The lines of a table and of the used regions in the words.
 pub fn put_listing(

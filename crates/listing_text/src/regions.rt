@@ -3,16 +3,15 @@ ghost use Rattle.space.specs.Free.{freeRegions};
 ghost use Rattle.space.specs.Inner.Sort.{regionsIn};
 ghost use Rattle.space.specs.Inner.Words.{SortedDisjoint};
 ghost use Rattle.listing_text.specs.Lines.{regionLine, regionLines};
-ghost use Rattle.listing_text.specs.Inner.Writing.{Wrote};
+ghost use Rattle.text_buffer.specs.Inner.Writing.{Wrote};
 use crate::lines;
-use crate::text;
 use space::DiscRegion;
 
 fn put_region(text: &mut [u8], at: usize, region: DiscRegion) -> usize
     ensures { λ r. ⌜ Wrote (now (text .entry)) (now (text .exit)) at (regionLine region) r ⌝ }
 {
     let end = lines::put_pair(text, at, b'r', region.offset, region.size);
-    text::put_byte(text, end, b'\n')
+    text_buffer::put_byte(text, end, b'\n')
 }
 
 // A line for each gap between the used regions that is not empty.

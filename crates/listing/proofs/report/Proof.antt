@@ -1,6 +1,6 @@
 -- `listing::report` meets its contract, by the two cases of a listing.
 -- Assumes nothing.
-use Rattle.listing_text.proofs.Joining.{kept-two}
+use Rattle.text_buffer.proofs.Joining.{kept-two}
 use borrow.Author.Needs.{needs}
 use lib.ListN.{length}
 use denote.Ref.{now}

@@ -9,7 +9,8 @@ use Rattle.space.specs.declared.DiscRegion.{DiscRegion}
 use Rattle.space.specs.Used.{totalSize}
 use Rattle.opening.specs.Opening.{tableOf, nodesIn, usedOf}
 use Rattle.listing.specs.declared.Listed.the-variants.{Text}
-use Rattle.listing_text.specs.Lines.{digits, totalsLine, pathWithin, entryLine, entryLines, regionLines}
+use Rattle.listing_text.specs.Lines.{totalsLine, pathWithin, entryLine, entryLines, regionLines}
+use Rattle.text_buffer.specs.Decimal.{digits}
 use Rattle.listing.specs.Listing.{listingText, listingVerdict, listAnswer, reportVerdict, reportText, reportAnswer}
 use Rattle.small_master.specs.Image.{master, masterWords}
 use Rattle.small_master.specs.Laws.Marked.{opens, nodes, header, free}

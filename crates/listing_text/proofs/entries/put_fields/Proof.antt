@@ -1,6 +1,6 @@
 -- `listing_text::entries::put_fields` meets its contract, by the entry's kind.
 -- Assumes nothing.
-use Rattle.listing_text.proofs.Joining.{kept-two}
+use Rattle.text_buffer.proofs.Joining.{kept-two}
 use Rattle.listing_text.proofs.LineParts.{file-written, directory-written}
 use Rattle.listing_text.proofs.Tables.{Read, read, opens-held, opens-small}
 use native.Mathlib.Omega.{arith}

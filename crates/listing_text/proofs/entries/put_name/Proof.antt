@@ -1,6 +1,6 @@
 -- `listing_text::entries::put_name` meets its contract: the text at the name's place, and `/` behind a directory's.
 -- Assumes nothing.
-use Rattle.listing_text.proofs.Joining.{kept-two}
+use Rattle.text_buffer.proofs.Joining.{kept-two}
 use Rattle.listing_text.proofs.LineParts.{directory-named, file-named}
 use Rattle.listing_text.proofs.Tables.{opens-held, opens-small}
 use native.Mathlib.Omega.{arith}

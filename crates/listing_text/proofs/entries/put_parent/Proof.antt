@@ -1,6 +1,6 @@
 -- `listing_text::entries::put_parent` meets its contract. The invariant of its loop: behind the space stands the path of a directory.
 -- Assumes nothing.
-use Rattle.listing_text.proofs.Joining.{kept-two}
+use Rattle.text_buffer.proofs.Joining.{kept-two}
 use Prim.Native.Nat.{_-_}
 use native.Mathlib.Omega.{arith}
 use borrow.Author.Needs.{needs}

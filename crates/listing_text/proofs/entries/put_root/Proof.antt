@@ -1,6 +1,6 @@
 -- `listing_text::entries::put_root` meets its contract: its three numbers, and its path.
 -- Assumes nothing.
-use Rattle.listing_text.proofs.Joining.{kept-two}
+use Rattle.text_buffer.proofs.Joining.{kept-two}
 use Rattle.listing_text.proofs.LineParts.{root-written}
 use Rattle.listing_text.proofs.Tables.{opens-some}
 use native.Mathlib.Omega.{arith}

@@ -1,6 +1,6 @@
 -- `listing_text::lines::put_pair` meets its contract: three texts, one behind the other.
 -- Assumes nothing.
-use Rattle.listing_text.proofs.Joining.{wrote-three}
+use Rattle.text_buffer.proofs.Joining.{wrote-three}
 use mathlib.Core.Path.{_∙_}
 use Rattle.listing_text.proofs.lines.put_pair.Statement.{statement}
 use Rattle.listing_text.proofs.lines.put_pair.Tie as tie

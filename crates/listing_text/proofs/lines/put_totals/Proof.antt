@@ -2,7 +2,7 @@
 -- Assumes nothing.
 use borrow.Author.Needs.{needs}
 use mathlib.Core.Path.{_∙_}
-use Rattle.listing_text.proofs.Joining.{wrote-join}
+use Rattle.text_buffer.proofs.Joining.{wrote-join}
 use Rattle.listing_text.proofs.lines.put_totals.Statement.{statement}
 use Rattle.listing_text.proofs.lines.put_totals.Tie as tie
 

@@ -1,6 +1,6 @@
 -- `listing_text::regions::put_region` meets its contract: the pair and the line feed.
 -- Assumes nothing.
-use Rattle.listing_text.proofs.Joining.{wrote-two, kept-two}
+use Rattle.text_buffer.proofs.Joining.{wrote-two, kept-two}
 use Rattle.listing_text.proofs.LineParts.{pair-more}
 use Rattle.listing_text.proofs.regions.put_region.Statement.{statement}
 use Rattle.listing_text.proofs.regions.put_region.Tie as tie

@@ -9,7 +9,7 @@ use Rattle.endian.specs.Laws.Stored.{length-put, put-none}
 use Rattle.endian.proofs.Parts.{put-append}
 use Rattle.fst_text.specs.Inner.Texts.{textAt}
 use Rattle.fst_text.proofs.Texts.{text-end, text-more}
-use Rattle.listing_text.specs.Inner.Writing.{Wrote}
+use Rattle.text_buffer.specs.Inner.Writing.{Wrote}
 
 pub wrote-none : (text : List ℕ) (at : ℕ) → Wrote text text at [] at
 wrote-none text at = record { stop = omega arith; laid = λ h l. sym (put-none text at) }

@@ -1,18 +1,12 @@
--- Texts written one behind the other into a buffer that may be too short, and the directories around an entry, for the functions inside.
+-- The directories around an entry, as the functions inside keep them.
 -- Assumes nothing: these are definitions.
-use Prim.Native.Nat.{ℕ, _+_, _-_, _<_, _≤_, _^_, min}
+use Prim.Native.Nat.{ℕ, _+_, _-_, _<_, _≤_}
 use mathlib.Core.Path.{_≡_}
 use mathlib.Core.Bool.{true}
 use mathlib.Core.List.{List}
 use lib.ListN.{length, getD}
-use Rattle.endian.specs.Bytes.{put}
 use Rattle.tree.specs.Table.{Node, none, parentOf}
 use Rattle.tree.specs.Lookup.{isDirectory}
-
--- bs behind `at`: where they end, and the buffer with them if they fit. No buffer has 2 ^ 63 bytes, so ends from there on are all the same
-pub record Wrote (text text′ : List ℕ) (at : ℕ) (bs : List ℕ) (end : ℕ) : Type 0 where
-  pub stop : min end (2 ^ 63) ≡ min (at + length bs) (2 ^ 63)
-  pub laid : at + length bs ≤ length text → at + length bs < 2 ^ 63 → text′ ≡ put text at bs
 
 -- the first d words hold directories before entry k: the root, and each the one that the next is nested in
 pub record Chain (nodes : List Node) (dirs : List ℕ) (d k : ℕ) : Type 0 where

@@ -3,8 +3,8 @@ ghost use mathlib.Core.Path.{_≡_};
 ghost use mathlib.Core.List.{[], _∷_};
 ghost use Prim.Native.Nat.{_+_, _<_};
 ghost use Rattle.fst_text.specs.Inner.Texts.{textAt};
-ghost use Rattle.listing_text.specs.Lines as lines_of;
-ghost use Rattle.listing_text.specs.Inner.Writing.{Wrote};
+ghost use Rattle.text_buffer.specs.Decimal as base_ten;
+ghost use Rattle.text_buffer.specs.Inner.Writing.{Wrote};
 
 pub fn put_byte(text: &mut [u8], at: usize, b: u8) -> usize
     ensures { λ r. ⌜ Wrote (now (text .entry)) (now (text .exit)) at (b ∷ []) r ⌝ }
@@ -45,7 +45,7 @@ fn digit(d: u32) -> u8
 
 // A number in base ten: the number without its last digit, then that digit.
 pub fn put_decimal(text: &mut [u8], at: usize, n: u32) -> usize
-    ensures { λ r. ⌜ Wrote (now (text .entry)) (now (text .exit)) at (lines_of.decimal n) r ⌝ }
+    ensures { λ r. ⌜ Wrote (now (text .entry)) (now (text .exit)) at (base_ten.decimal n) r ⌝ }
 {
     if n < 10 {
         return put_byte(text, at, digit(n));
@@ -56,7 +56,7 @@ pub fn put_decimal(text: &mut [u8], at: usize, n: u32) -> usize
 
 // The same behind a space.
 pub fn put_field(text: &mut [u8], at: usize, n: u32) -> usize
-    ensures { λ r. ⌜ Wrote (now (text .entry)) (now (text .exit)) at (lines_of.field n) r ⌝ }
+    ensures { λ r. ⌜ Wrote (now (text .entry)) (now (text .exit)) at (base_ten.field n) r ⌝ }
 {
     let end = put_byte(text, at, b' ');
     put_decimal(text, end, n)

@@ -1,11 +1,11 @@
--- `listing_text::text::put_text` meets its contract. The invariant of its loop: what is written and what is left are the text.
+-- `text_buffer::put_text` meets its contract. The invariant of its loop: what is written and what is left are the text.
 -- Assumes nothing.
 use Prim.Native.Nat.{_-_}
 use native.Mathlib.Omega.{arith}
 use lib.ListN.{length}
-use Rattle.listing_text.proofs.Joining.{Copying, copy-start, copy-stop, copy-end, copy-turn}
-use Rattle.listing_text.proofs.text.put_text.Statement.{statement}
-use Rattle.listing_text.proofs.text.put_text.Tie as tie
+use Rattle.text_buffer.proofs.Joining.{Copying, copy-start, copy-stop, copy-end, copy-turn}
+use Rattle.text_buffer.proofs.put_text.Statement.{statement}
+use Rattle.text_buffer.proofs.put_text.Tie as tie
 
 abbrev Inv-loop : tie.InvT-loop
 Inv-loop text₀ at source from i₀ end₀ text i end = Copying source text₀ text from i at end

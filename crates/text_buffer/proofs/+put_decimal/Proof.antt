@@ -1,18 +1,18 @@
--- `listing_text::text::+put_decimal` meets its contract, and ends: a call of itself is for a lower number.
+-- `text_buffer::+put_decimal` meets its contract, and ends: a call of itself is for a lower number.
 -- Assumes nothing.
-use Rattle.listing_text.proofs.Digits.{wrote-digit, wrote-digits}
+use Rattle.text_buffer.proofs.Digits.{wrote-digit, wrote-digits}
 use Prim.Native.Nat.{ℕ, _<_}
 use native.Mathlib.Omega.{arith}
 use borrow.Author.Needs.{needs}
 use borrow.Fn.Kinds.{In}
 use borrow.Fn.PlainCycle.{Measures, is, falls, and}
-use Rattle.listing_text.proofs.text.put_decimal.Reads as put-decimal
-use Rattle.listing_text.proofs.text.put_decimal.Kinds as put-decimal-kinds
-use Rattle.listing_text.proofs.text.+put_decimal.Lts-put_decimal as lts
-use Rattle.listing_text.proofs.text.digit.Reads as digit-reads
-use Rattle.listing_text.proofs.text.put_byte.Reads as put-byte-reads
-use Rattle.listing_text.proofs.text.+put_decimal.{statement}
-use Rattle.listing_text.proofs.text.+put_decimal.Tie.{close}
+use Rattle.text_buffer.proofs.put_decimal.Reads as put-decimal
+use Rattle.text_buffer.proofs.put_decimal.Kinds as put-decimal-kinds
+use Rattle.text_buffer.proofs.+put_decimal.Lts-put_decimal as lts
+use Rattle.text_buffer.proofs.digit.Reads as digit-reads
+use Rattle.text_buffer.proofs.put_byte.Reads as put-byte-reads
+use Rattle.text_buffer.proofs.+put_decimal.{statement}
+use Rattle.text_buffer.proofs.+put_decimal.Tie.{close}
 
 abbrev μ-put-decimal : Measures 1 put-decimal-kinds.ps ℕ
 μ-put-decimal κs a = a .1 .1 .0

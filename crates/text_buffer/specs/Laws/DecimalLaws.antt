@@ -9,7 +9,7 @@ use borrow.Author.Tests.{ltb-true, ltb-false, lt-ltb, le-ltb, le-leb}
 use lib.ListN.{length, getD, length-append, List·getD-append}
 use lib.Dec.{ltb, leb}
 use Rattle.tree.specs.Table.{every}
-use Rattle.listing_text.specs.Lines.{digits, decimal}
+use Rattle.text_buffer.specs.Decimal.{digits, decimal}
 
 -- ---- a number and its last digit
 

@@ -1,9 +1,9 @@
--- `listing_text::text::put_byte` meets its contract: past the buffer's end nothing is written.
+-- `text_buffer::put_byte` meets its contract: past the buffer's end nothing is written.
 -- Assumes nothing.
 use native.Mathlib.Omega.{arith}
 use borrow.Author.Needs.{needs}
-use Rattle.listing_text.proofs.text.put_byte.Statement.{statement}
-use Rattle.listing_text.proofs.text.put_byte.Tie as tie
+use Rattle.text_buffer.proofs.put_byte.Statement.{statement}
+use Rattle.text_buffer.proofs.put_byte.Tie as tie
 
 write-u8-requires : tie.Need-write-u8-requires
 write-u8-requires c κs = search needs

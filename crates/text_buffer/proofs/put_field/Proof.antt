@@ -1,8 +1,8 @@
--- `listing_text::text::put_field` meets its contract: the space, and the digits behind it.
+-- `text_buffer::put_field` meets its contract: the space, and the digits behind it.
 -- Assumes nothing.
-use Rattle.listing_text.proofs.Joining.{wrote-two, kept-two}
-use Rattle.listing_text.proofs.text.put_field.Statement.{statement}
-use Rattle.listing_text.proofs.text.put_field.Tie as tie
+use Rattle.text_buffer.proofs.Joining.{wrote-two, kept-two}
+use Rattle.text_buffer.proofs.put_field.Statement.{statement}
+use Rattle.text_buffer.proofs.put_field.Tie as tie
 
 put-byte-requires : tie.Need-put-byte-requires
 put-byte-requires c κs = tt

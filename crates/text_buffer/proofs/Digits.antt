@@ -2,10 +2,10 @@
 use Prim.Native.Nat.{ℕ, _+_, _<_, _≤_, _/_, _%_}
 use mathlib.Core.Path.{_≡_}
 use mathlib.Core.List.{List, [], _∷_}
-use Rattle.listing_text.specs.Lines.{decimal}
-use Rattle.listing_text.specs.Laws.DecimalLaws.{decimal-small, decimal-more}
-use Rattle.listing_text.specs.Inner.Writing.{Wrote}
-use Rattle.listing_text.proofs.Joining.{wrote-join}
+use Rattle.text_buffer.specs.Decimal.{decimal}
+use Rattle.text_buffer.specs.Laws.DecimalLaws.{decimal-small, decimal-more}
+use Rattle.text_buffer.specs.Inner.Writing.{Wrote}
+use Rattle.text_buffer.proofs.Joining.{wrote-join}
 
 pub wrote-digit : (text text′ : List ℕ) (at end n d : ℕ) → n < 10 → d ≡ 0x30 + n → Wrote text text′ at (d ∷ []) end → Wrote text text′ at (decimal n) end
 wrote-digit text text′ at end n d h e w = rw (decimal-small n h) (rw e at w)
