@@ -56,9 +56,9 @@ fn write_new(table: &mut [u8], p: usize, q: usize, is_directory: bool, start: us
     ensures { λ _. ⌜ now (table .exit) ≡ put (now (table .entry)) (12 * q) (nodeBytes p start (newNode «is_directory» [] q)) ⌝ }
 {
     if is_directory {
-        fst_write::write_fields(table, q, 1, start as u32, p as u32, q as u32 + 1);
+        fst_record::write_fields(table, q, 1, start as u32, p as u32, q as u32 + 1);
     } else {
-        fst_write::write_fields(table, q, 0, start as u32, 0, 0);
+        fst_record::write_fields(table, q, 0, start as u32, 0, 0);
     }
 }
 

@@ -1,4 +1,2 @@
 -- What the proofs of the functions cite.
-pub mod Places
-pub mod Records
 pub mod Turn

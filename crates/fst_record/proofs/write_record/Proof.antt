@@ -1,9 +1,9 @@
--- `fst_write::write_record` meets its contract: its four fields are the entry's bytes.
+-- `fst_record::write_record` meets its contract: its four fields are the entry's bytes.
 -- Assumes nothing.
-use Rattle.fst_write.proofs.Records.{record-is}
+use Rattle.fst_record.proofs.Records.{record-is}
 use borrow.Author.Needs.{needs}
-use Rattle.fst_write.proofs.write_record.Statement.{statement}
-use Rattle.fst_write.proofs.write_record.Tie as tie
+use Rattle.fst_record.proofs.write_record.Statement.{statement}
+use Rattle.fst_record.proofs.write_record.Tie as tie
 
 mul-kind : tie.Need-mul-kind
 mul-kind c = search needs

@@ -1,9 +1,9 @@
--- `fst_write::place_of` meets its contract: by the test on the kind.
+-- `fst_record::place_of` meets its contract: by the test on the kind.
 -- Assumes nothing.
-use Rattle.fst_write.proofs.Places.{file-place, directory-place}
+use Rattle.fst_record.proofs.Places.{file-place, directory-place}
 use borrow.Author.Needs.{needs}
-use Rattle.fst_write.proofs.place_of.Statement.{statement}
-use Rattle.fst_write.proofs.place_of.Tie as tie
+use Rattle.fst_record.proofs.place_of.Statement.{statement}
+use Rattle.fst_record.proofs.place_of.Tie as tie
 
 mul-if1 : tie.Need-mul-if1
 mul-if1 c = search needs

@@ -1,10 +1,10 @@
--- `fst_write::write_fields` meets its contract: its four stores, one right behind the other, put the entry's 12 bytes.
+-- `fst_record::write_fields` meets its contract: its four stores, one right behind the other, put the entry's 12 bytes.
 -- Assumes nothing.
 use Prim.Native.Nat.{_*_}
 use Rattle.fst_measure.proofs.Puts.{put-fields}
 use borrow.Author.Needs.{needs}
-use Rattle.fst_write.proofs.write_fields.Statement.{statement}
-use Rattle.fst_write.proofs.write_fields.Tie as tie
+use Rattle.fst_record.proofs.write_fields.Statement.{statement}
+use Rattle.fst_record.proofs.write_fields.Tie as tie
 
 mul-at : tie.Need-mul-at
 mul-at c = search needs

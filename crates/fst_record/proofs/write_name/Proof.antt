@@ -1,13 +1,13 @@
--- `fst_write::write_name` meets its contract: the length that it finds is the name's, so what it copies is the name.
+-- `fst_record::write_name` meets its contract: the length that it finds is the name's, so what it copies is the name.
 -- Assumes nothing.
 use native.Mathlib.Omega.{arith}
 use mathlib.Core.Path.{_≡_}
 use Rattle.tree.specs.Table.{nameAt}
 use Rattle.fst_measure.specs.Inner.Valid.{nameSize}
-use Rattle.fst_write.proofs.Records.{text-is}
+use Rattle.fst_record.proofs.Records.{text-is}
 use borrow.Author.Needs.{needs}
-use Rattle.fst_write.proofs.write_name.Statement.{statement}
-use Rattle.fst_write.proofs.write_name.Tie as tie
+use Rattle.fst_record.proofs.write_name.Statement.{statement}
+use Rattle.fst_record.proofs.write_name.Tie as tie
 
 mul-from : tie.Need-mul-from
 mul-from c = search needs
