@@ -12,8 +12,8 @@ use Rattle.endian.specs.Laws.Stored.{length-put, put-in, drop-put, length-span,
 use Rattle.tree.specs.Table.{nameOffset}
 use Rattle.tree.specs.Inner.Patch.{records, recordAfter}
 use Rattle.tree.specs.Laws.Records.{length-records}
-use Rattle.fst_patch.specs.Inner.Inserting.{Raisable, EachRaisable, NamesGrow}
-use Rattle.fst_patch.proofs.Patches.{MovedEntry, SameEntry, moved-after, raisable-moved, after-twelve}
+use Rattle.fst_raise.specs.Inner.Inserting.{Raisable, EachRaisable, NamesGrow}
+use Rattle.fst_raise.proofs.Patches.{MovedEntry, SameEntry, moved-after, raisable-moved, after-twelve}
 use Rattle.fst_patch.proofs.Passes.{Filled, fill-start, fill-same, fill-again, records-shift}
 
 -- bytes put over others of the same number

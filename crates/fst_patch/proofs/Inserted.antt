@@ -15,9 +15,9 @@ use Rattle.endian.specs.Laws.Stored.{length-put, put-before, length-span, span-
 use Rattle.tree.specs.Table.{Node, nameOffset, sizeOrNext}
 use Rattle.tree.specs.Inner.Patch.{records, patchedRecord, newStart, insertPatch}
 use Rattle.tree.specs.Laws.Records.{records-ext, length-records}
-use Rattle.fst_patch.specs.Inner.Inserting.{newNode, Patchable, newTexts, startIn, Insertable}
+use Rattle.fst_raise.specs.Inner.Inserting.{newNode, Patchable, newTexts, startIn, Insertable}
 use Rattle.fst_measure.proofs.Puts.{put-append, put-prepend}
-use Rattle.fst_patch.proofs.Patches.{new-name, patched-same, patched-twelve, SameEntry, same-entry, raisable-same}
+use Rattle.fst_raise.proofs.Patches.{new-name, patched-same, patched-twelve, SameEntry, same-entry, raisable-same}
 
 -- ---- the texts
 

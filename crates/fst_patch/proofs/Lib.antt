@@ -2,7 +2,4 @@
 pub mod Behind
 pub mod Inserted
 pub mod Passes
-pub mod Patches
-pub mod Raises
-pub mod Stays
 pub mod Written

@@ -15,9 +15,9 @@ use Rattle.tree.specs.Table.{Node, nodeBytes}
 use Rattle.tree.specs.Laws.WrittenEntries.{length-nodeBytes}
 use Rattle.tree.specs.Inner.Patch.{records, recordBefore, recordAfter, patchedRecord}
 use Rattle.tree.specs.Laws.Records.{Twelve, length-records, records-ext, records-split}
-use Rattle.fst_patch.specs.Inner.Inserting.{newNode, Raisable, EachRaisable, Patchable}
+use Rattle.fst_raise.specs.Inner.Inserting.{newNode, Raisable, EachRaisable, Patchable}
 use Rattle.fst_measure.proofs.Puts.{put-prepend}
-use Rattle.fst_patch.proofs.Patches.{SameEntry, same-entry, same-before, raisable-same, before-twelve, patched-twelve, patched-before, patched-new, patched-after, new-is, new-name, between-stays}
+use Rattle.fst_raise.proofs.Patches.{SameEntry, same-entry, same-before, raisable-same, before-twelve, patched-twelve, patched-before, patched-new, patched-after, new-is, new-name, between-stays}
 
 -- ---- records put over a list, the last one first
 

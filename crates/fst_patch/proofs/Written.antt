@@ -20,9 +20,9 @@ use Rattle.tree.specs.Laws.InsertLaws.{Fresh, length-insert}
 use Rattle.tree.specs.Laws.Writing.{textStart, start-most, Fields, written-fields}
 use Rattle.tree.specs.Inner.Patch.{insertPatch}
 use Rattle.tree.specs.Laws.PatchLaws.{place-patched, insert-patched, texts-insert}
-use Rattle.fst_patch.specs.Inner.Inserting.{newNode, Raisable, Insertable}
+use Rattle.fst_raise.specs.Inner.Inserting.{newNode, Raisable, Insertable}
 use Rattle.fst_measure.proofs.Puts.{take-put}
-use Rattle.fst_patch.proofs.Patches.{SameEntry, same-entry, raisable-same, new-name}
+use Rattle.fst_raise.proofs.Patches.{SameEntry, same-entry, raisable-same, new-name}
 
 -- ---- a table at the front
 

@@ -1,66 +1,12 @@
 // A written table changed in place: the place of a file, and one entry put in. For that: the texts make room for the new name, then the records behind it move up.
 ghost use mathlib.Core.Path.{_≡_};
-ghost use mathlib.Core.List.{[], _++_};
-ghost use Prim.Native.Nat.{_+_, _-_, _*_, _≤_, _<_, _^_};
+ghost use mathlib.Core.List.{_++_};
+ghost use Prim.Native.Nat.{_+_, _-_, _*_, _≤_, _<_};
 ghost use lib.ListN.{length, take};
 ghost use Rattle.endian.specs.Bytes.{put, be32Bytes};
-ghost use Rattle.tree.specs.Table.{nameOffset, sizeOrNext, nodeBytes, count};
-ghost use Rattle.tree.specs.Insert.{shifted};
+ghost use Rattle.tree.specs.Table.{sizeOrNext, count};
 ghost use Rattle.tree.specs.Inner.Patch.{records, recordBefore, recordAfter, patchedRecord, insertPatch};
-ghost use Rattle.fst_patch.specs.Inner.Inserting.{newNode, Raisable, EachRaisable, NamesGrow, Patchable, newTexts, startIn, Insertable};
-
-// The parent of a directory that moves behind the new entry at q: one more, if the parent moves too.
-fn place_after(q: usize, place: u32) -> u32
-    requires { ⌜ place + 1 < 2 ^ 32 ⌝ }
-    ensures { λ r. ⌜ r ≡ shifted q place ⌝ }
-{
-    if q <= place as usize {
-        place + 1
-    } else {
-        place
-    }
-}
-
-// Entry k, which stays before the new one: directory p and those around it end one later, and nothing else changes.
-fn patch_before(table: &mut [u8], k: usize, p: usize)
-    requires { ⌜ (k ≤ p) × (12 * k + 12 ≤ length (now table)) × Raisable (now table) k ⌝ }
-    ensures { λ _. ⌜ now (table .exit) ≡ put (now (table .entry)) (12 * k) (recordBefore (now (table .entry)) p k) ⌝ }
-{
-    if endian::read_u8(table, 12 * k) == 1 {
-        let next = endian::read_u32(table, 12 * k + 8);
-        if p < next as usize {
-            endian::write_u32(table, 12 * k + 8, next + 1);
-        }
-    }
-}
-
-// Entry k, which has moved behind the new one at q: the name offset grows by the new text, and a directory ends one later, and its parent may
-// have moved too. Each field is read and written back as one word, and the first holds the kind above the name offset.
-fn raise(table: &mut [u8], k: usize, q: usize, grow: usize)
-    requires { ⌜ (12 * k + 12 ≤ length (now table)) × Raisable (now table) k × (nameOffset (now table) k + grow < 2 ^ 24) ⌝ }
-    ensures { λ _. ⌜ now (table .exit) ≡ put (now (table .entry)) (12 * k) (recordAfter (now (table .entry)) q grow k) ⌝ }
-{
-    let first = endian::read_u32(table, 12 * k) + grow as u32;
-    endian::write_u32(table, 12 * k, first);
-    if 0x1000000 <= first {
-        let place = endian::read_u32(table, 12 * k + 4);
-        endian::write_u32(table, 12 * k + 4, place_after(q, place));
-        let next = endian::read_u32(table, 12 * k + 8);
-        endian::write_u32(table, 12 * k + 8, next + 1);
-    }
-}
-
-// The new entry: an empty directory, or an empty file.
-fn write_new(table: &mut [u8], p: usize, q: usize, is_directory: bool, start: usize)
-    requires { ⌜ (12 * q + 12 ≤ length (now table)) × (p < q) × (q ≤ 16384) × (start < 2 ^ 24) ⌝ }
-    ensures { λ _. ⌜ now (table .exit) ≡ put (now (table .entry)) (12 * q) (nodeBytes p start (newNode «is_directory» [] q)) ⌝ }
-{
-    if is_directory {
-        fst_record::write_fields(table, q, 1, start as u32, p as u32, q as u32 + 1);
-    } else {
-        fst_record::write_fields(table, q, 0, start as u32, 0, 0);
-    }
-}
+ghost use Rattle.fst_raise.specs.Inner.Inserting.{newNode, EachRaisable, NamesGrow, Patchable, newTexts, startIn, Insertable};
 
 // The entries behind the new one at q: all move at once, then each is raised where it stands.
 fn patch_behind(table: &mut [u8], count: usize, q: usize, grow: usize)
@@ -70,7 +16,7 @@ fn patch_behind(table: &mut [u8], count: usize, q: usize, grow: usize)
     endian::copy_within(table, 12 * q, 12 * (q + 1), 12 * (count - q));
     let mut k = count;
     while q < k {
-        raise(table, k, q, grow);
+        fst_raise::raise(table, k, q, grow);
         k -= 1;
     }
 }
@@ -83,7 +29,7 @@ fn patch_up_to(table: &mut [u8], p: usize)
     let mut k = p + 1;
     while 0 < k {
         k -= 1;
-        patch_before(table, k, p);
+        fst_raise::patch_before(table, k, p);
     }
 }
 
@@ -101,7 +47,7 @@ fn patch_records(
     ensures { λ _. ⌜ now (table .exit) ≡ put (now (table .entry)) 0 (records (patchedRecord (now (table .entry)) p q (newNode «is_directory» (now (name .entry)) q) start) 0 (count + 1)) ⌝ }
 {
     patch_behind(table, count, q, name.len() + 1);
-    write_new(table, p, q, is_directory, start);
+    fst_raise::write_new(table, p, q, is_directory, start);
     patch_up_to(table, p);
 }
 

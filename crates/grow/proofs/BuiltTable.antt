@@ -23,7 +23,7 @@ use Rattle.tree.specs.Laws.Growing.{bigger-same}
 use Rattle.fst_measure.specs.declared.Measured.{Measured}
 use Rattle.fst_measure.specs.declared.Measured.the-variants.{Size, PastLimit}
 use Rattle.fst_measure.specs.Inner.Measure.{measureOf}
-use Rattle.fst_patch.specs.Inner.Inserting.{newNode, Insertable}
+use Rattle.fst_raise.specs.Inner.Inserting.{newNode, Insertable}
 use Rattle.opening.specs.Opening.{nodesIn}
 use Rattle.opening.specs.Laws.OpeningLaws.{OpenImage}
 use Rattle.opening.specs.Inner.Prepared.{IsOpen}

@@ -25,7 +25,7 @@ use Rattle.tree.specs.Laws.Depth.{limits-insert}
 use Rattle.tree.specs.Laws.Growing.{Bigger, texts-grow, bigger-insert, limits-either}
 use Rattle.tree.specs.Laws.RoundTrip.{Within, within-limits}
 use Rattle.tree.specs.Laws.WrittenEntries.{length-encode}
-use Rattle.fst_patch.specs.Inner.Inserting.{newNode, Insertable}
+use Rattle.fst_raise.specs.Inner.Inserting.{newNode, Insertable}
 use Rattle.fst_patch.proofs.Written.{insertable, insert-written}
 use Rattle.opening.specs.Laws.OpeningLaws.{OpenImage}
 use Rattle.commit.specs.declared.TableSize.the-variants as table

@@ -25,7 +25,7 @@ use Rattle.tree.specs.Laws.Growing.{Bigger, bigger-limits, bigger-encode, limit
 use Rattle.tree.specs.Laws.RoundTrip.{Within, within-limits, written-reads}
 use Rattle.tree.specs.Laws.WrittenEntries.{length-encode}
 use Rattle.tree.specs.Laws.Writing.{Fields, textStart, written-fields}
-use Rattle.fst_patch.proofs.Patches.{SameEntry, same-entry}
+use Rattle.fst_raise.proofs.Patches.{SameEntry, same-entry}
 use Rattle.commit.specs.declared.TableSize.the-variants as table
 use Rattle.edits.specs.Change.{change, placeVerdict}
 use Rattle.edits.specs.Edits.{tableOnly, noPlace, planVerdict}

@@ -4,7 +4,7 @@ use Prim.Native.Nat.{_+_}
 use native.Mathlib.Omega.{arith}
 use borrow.Author.Needs.{needs}
 use Rattle.tree.specs.Inner.Patch.{recordBefore}
-use Rattle.fst_patch.proofs.Patches.{before-twelve}
+use Rattle.fst_raise.proofs.Patches.{before-twelve}
 use Rattle.fst_patch.proofs.Passes.{Filled, fill-start, before-turn, before-again, before-end}
 use Rattle.fst_patch.proofs.patch_up_to.Statement.{statement}
 use Rattle.fst_patch.proofs.patch_up_to.Tie as tie

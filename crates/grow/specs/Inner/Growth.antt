@@ -12,7 +12,7 @@ use Rattle.tree.specs.Table.{Node, none, nodesOf, encode, limits}
 use Rattle.tree.specs.Inner.WellFormed.{WellFormed}
 use Rattle.tree.specs.Lookup.{isDirectory, nextOf}
 use Rattle.tree.specs.Insert.{insertAt}
-use Rattle.fst_patch.specs.Inner.Inserting.{newNode}
+use Rattle.fst_raise.specs.Inner.Inserting.{newNode}
 use Rattle.commit.specs.declared.TableSize.{TableSize}
 use Rattle.commit.specs.declared.TableSize.the-variants as table
 

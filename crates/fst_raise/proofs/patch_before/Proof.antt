@@ -1,11 +1,11 @@
--- `fst_patch::patch_before` meets its contract: a record changes in its next or not at all, and what is written back is what stood there.
+-- `fst_raise::patch_before` meets its contract: a record changes in its next or not at all, and what is written back is what stood there.
 -- Assumes nothing.
 use mathlib.Core.Path.{sym, _∙_}
 use native.Mathlib.Omega.{arith}
-use Rattle.fst_patch.proofs.Patches.{raised, file-stays, ended-stays}
+use Rattle.fst_raise.proofs.Patches.{raised, file-stays, ended-stays}
 use borrow.Author.Needs.{needs}
-use Rattle.fst_patch.proofs.patch_before.Statement.{statement}
-use Rattle.fst_patch.proofs.patch_before.Tie as tie
+use Rattle.fst_raise.proofs.patch_before.Statement.{statement}
+use Rattle.fst_raise.proofs.patch_before.Tie as tie
 
 mul-read-u8 : tie.Need-mul-read-u8
 mul-read-u8 c = search needs

@@ -1,11 +1,11 @@
--- `fst_patch::raise` meets its contract: the kind and the name offset are one word, the words behind what was written are the old ones,
+-- `fst_raise::raise` meets its contract: the kind and the name offset are one word, the words behind what was written are the old ones,
 -- and those of a file stay.
 -- Assumes nothing.
 use native.Mathlib.Omega.{arith}
-use Rattle.fst_patch.proofs.Raises.{first-small, first-directory, first-file, place-read, next-read, raised-file, raised-directory}
+use Rattle.fst_raise.proofs.Raises.{first-small, first-directory, first-file, place-read, next-read, raised-file, raised-directory}
 use borrow.Author.Needs.{needs}
-use Rattle.fst_patch.proofs.raise.Statement.{statement}
-use Rattle.fst_patch.proofs.raise.Tie as tie
+use Rattle.fst_raise.proofs.raise.Statement.{statement}
+use Rattle.fst_raise.proofs.raise.Tie as tie
 
 mul-read-u32 : tie.Need-mul-read-u32
 mul-read-u32 c = search needs

@@ -19,9 +19,9 @@ use Rattle.tree.specs.Insert.{bump, earlier, later, shifted}
 use Rattle.tree.specs.Laws.Records.{Twelve}
 use Rattle.tree.specs.Inner.Patch.{stored, recordBefore, recordAfter, patchedRecord}
 use Rattle.fst_measure.specs.Inner.Flat.{recordBytes}
-use Rattle.fst_patch.specs.Inner.Inserting.{newNode, nextBefore, Raisable}
+use Rattle.fst_raise.specs.Inner.Inserting.{newNode, nextBefore, Raisable}
 use Rattle.fst_measure.proofs.Puts.{put-fields}
-use Rattle.fst_patch.proofs.Stays.{byte-stays, name-stays, word-stays}
+use Rattle.fst_raise.proofs.Stays.{byte-stays, name-stays, word-stays}
 
 -- ---- one record
 

@@ -1,9 +1,9 @@
--- `fst_patch::write_new` meets its contract: by the kind that is asked for.
+-- `fst_raise::write_new` meets its contract: by the kind that is asked for.
 -- Assumes nothing.
 use native.Mathlib.Numerals.{add-one}
 use borrow.Author.Needs.{needs}
-use Rattle.fst_patch.proofs.write_new.Statement.{statement}
-use Rattle.fst_patch.proofs.write_new.Tie as tie
+use Rattle.fst_raise.proofs.write_new.Statement.{statement}
+use Rattle.fst_raise.proofs.write_new.Tie as tie
 
 cast-write-fields : tie.Need-cast-write-fields
 cast-write-fields c = search needs

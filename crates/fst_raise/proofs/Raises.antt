@@ -12,8 +12,8 @@ use Rattle.tree.specs.Table.{kind, nameOffset, offsetOrParent, sizeOrNext}
 use Rattle.tree.specs.Insert.{shifted}
 use Rattle.tree.specs.Inner.Patch.{recordAfter}
 use Rattle.fst_measure.proofs.Puts.{put-append, put-prepend}
-use Rattle.fst_patch.proofs.Stays.{word-stays}
-use Rattle.fst_patch.proofs.Patches.{after-file, after-directory}
+use Rattle.fst_raise.proofs.Stays.{word-stays}
+use Rattle.fst_raise.proofs.Patches.{after-file, after-directory}
 
 -- ---- a word is its highest byte and a number of 3 bytes
 

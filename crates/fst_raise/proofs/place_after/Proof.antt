@@ -1,11 +1,11 @@
--- `fst_patch::place_after` meets its contract: by the test on the parent.
+-- `fst_raise::place_after` meets its contract: by the test on the parent.
 -- Assumes nothing.
 use native.Mathlib.Numerals.{add-one}
 use borrow.Author.Needs.{needs}
 use borrow.Author.Tests.{le-leb, lt-leb}
 use Rattle.tree.specs.Insert.{shifted}
-use Rattle.fst_patch.proofs.place_after.Statement.{statement}
-use Rattle.fst_patch.proofs.place_after.Tie as tie
+use Rattle.fst_raise.proofs.place_after.Statement.{statement}
+use Rattle.fst_raise.proofs.place_after.Tie as tie
 
 add-result : tie.Need-add-result
 add-result c = search needs
