@@ -32,7 +32,7 @@ fn lookup_in(image: &[u8], words: &[u32], prepared: Prepared, start: u32, path: 
             if 1024 < path.len() {
                 return Found::Refused(Refusal::LimitOrMemory);
             }
-            fst::find(answers::table(image, words.len()), start, path)
+            fst_path::find(answers::table(image, words.len()), start, path)
         }
         Prepared::Refused(cause) => Found::Refused(cause),
     }

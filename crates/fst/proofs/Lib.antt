@@ -1,8 +1,6 @@
 -- What the proofs of the functions cite.
 pub mod Nodes
 pub mod ChildLaws
-pub mod PathLaws
 pub mod Ended
 pub mod Comparing
 pub mod NamePlaces
-pub mod Components

@@ -1,4 +1,3 @@
 -- Definitions that only inner contracts need.
 pub mod After
-pub mod Steps
 pub mod Zeros

@@ -1,7 +1,6 @@
 // The entries of an accepted file table, by number and by path (fst.rs).
 mod children;
 mod entries;
-mod path;
 mod text;
 
 pub use children::child;
@@ -10,9 +9,4 @@ pub use entries::is_directory;
 pub use entries::name_place;
 pub use entries::next;
 pub use entries::parent;
-pub use path::component_end;
-pub use path::find;
-pub use path::goes_back;
-pub use path::lookup;
-pub use path::stays;
 pub use text::text_length;

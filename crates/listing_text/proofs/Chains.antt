@@ -17,7 +17,7 @@ use Rattle.tree.specs.Inner.Depths.{depthOf}
 use Rattle.tree.specs.Laws.Depth.{depth-root, depth-parent}
 use Rattle.refusal.specs.Laws.Tests.{lt-or-le}
 use Rattle.fst.proofs.Nodes.{parent-whole}
-use Rattle.fst.proofs.PathLaws.{directory-depth}
+use Rattle.fst_path.proofs.PathLaws.{directory-depth}
 use Rattle.fst_list.proofs.RowLaws.{climb-found, climb-turn, climb-end}
 use Rattle.tree.specs.Laws.Accepted.{length-nodesOf}
 use Rattle.listing_text.proofs.Tables.{Read}

@@ -14,7 +14,7 @@ use Rattle.tree.specs.declared.Located.the-variants as located
 use Rattle.tree.specs.Table.{Node, parentOf, encode, limits}
 use Rattle.tree.specs.Inner.WellFormed.{GoodName}
 use Rattle.tree.specs.Lookup.{components, childOf, stays, goesBack}
-use Rattle.fst.specs.Inner.Steps.{componentsAfter}
+use Rattle.fst_path.specs.Inner.Steps.{componentsAfter}
 use Rattle.edits.specs.Edits.{make}
 use Rattle.edits.specs.Inner.Troubles.{madeVerdict}
 use Rattle.grow.specs.Inner.Growth.{treeIn, Stands}

@@ -24,7 +24,7 @@ use Rattle.tree.specs.Laws.InsertLaws.{length-insert, parent-insert-before, par
 use Rattle.tree.specs.Laws.Accepted.{length-nodesOf}
 use Rattle.tree.specs.Laws.RoundTrip.{written-accepted}
 use Rattle.tree.specs.Laws.Growing.{Bigger, bigger-insert, bigger-limits, bigger-encode}
-use Rattle.fst.specs.Inner.Steps.{componentsAfter}
+use Rattle.fst_path.specs.Inner.Steps.{componentsAfter}
 use Rattle.edits.specs.Edits.{newNumber, Made, stopped, made, madeBack, ifFound, make}
 use Rattle.edits.specs.Inner.Troubles.{madeVerdict}
 use Rattle.edits.specs.Laws.MadeTree.{bad-stays, AllLt, make-grows}

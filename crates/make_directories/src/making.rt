@@ -68,10 +68,10 @@ fn take_step(bytes: &mut [u8], size: usize, words: usize, k: usize, name: &[u8])
     requires { ⌜ Stands (now bytes) size words × CanTurn (treeIn (now bytes) size) k (now name) ⌝ }
     ensures { λ r. ⌜ Reaches (turnOf (treeIn (now (bytes .entry)) size) k (now (name .entry))) words (length (now (bytes .entry))) (now (bytes .exit)) r ⌝ }
 {
-    if fst::stays(name) {
+    if fst_path::stays(name) {
         return Reached::At(k, size);
     }
-    if fst::goes_back(name) {
+    if fst_path::goes_back(name) {
         return Reached::At(grow::parent(bytes, size, words, k), size);
     }
     into(bytes, size, words, k, name)
@@ -86,7 +86,7 @@ pub fn make_along(bytes: &mut [u8], size: usize, words: usize, start: usize, pat
     let mut n = size;
     let mut at = 0;
     loop {
-        let end = fst::component_end(path, at);
+        let end = fst_path::component_end(path, at);
         match take_step(bytes, n, words, k, &path[at..end]) {
             Reached::At(j, m) => {
                 k = j;

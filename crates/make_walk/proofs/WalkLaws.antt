@@ -19,7 +19,7 @@ use Rattle.tree.specs.Laws.Accepted.{length-nodesOf}
 use Rattle.tree.specs.Inner.WellFormed.{WellFormed}
 use Rattle.tree.specs.Lookup.{isDirectory, components, childOf, stays, goesBack}
 use Rattle.tree.specs.Laws.LookupLaws.{child-inside}
-use Rattle.fst.specs.Inner.Steps.{componentsAfter}
+use Rattle.fst_path.specs.Inner.Steps.{componentsAfter}
 use Rattle.fst.proofs.Nodes.{parent-at-most}
 use Rattle.edits.specs.Inner.Troubles.{ifChild, troubleOf}
 use Rattle.make_walk.specs.declared.Step.{Step}

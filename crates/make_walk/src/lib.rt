@@ -68,10 +68,10 @@ fn step_in_tree(table: &[u8], start: usize, k: usize, bad: bool, name: &[u8]) ->
     if !fst::is_directory(table, k) {
         return Step::Refused(Refusal::ExpectedDirectory);
     }
-    if fst::stays(name) {
+    if fst_path::stays(name) {
         return Step::To(k, 0, bad);
     }
-    if fst::goes_back(name) {
+    if fst_path::goes_back(name) {
         return back(table, start, k, bad);
     }
     into(table, k, bad, name)
@@ -82,10 +82,10 @@ fn step_below(k: usize, level: usize, bad: bool, name: &[u8]) -> Step
     requires { ⌜ (0 < level) × (level < 2 ^ 63) ⌝ }
     ensures { λ r. ⌜ r ≡ belowStep k level bad (now (name .entry)) ⌝ }
 {
-    if fst::stays(name) {
+    if fst_path::stays(name) {
         return Step::To(k, level, bad);
     }
-    if fst::goes_back(name) {
+    if fst_path::goes_back(name) {
         return Step::To(k, level - 1, bad);
     }
     into_new(k, level, bad, name)
@@ -135,7 +135,7 @@ pub fn trouble(table: &[u8], start: usize, path: &[u8]) -> Verdict
     let mut bad = false;
     let mut at = 0;
     loop {
-        let end = fst::component_end(path, at);
+        let end = fst_path::component_end(path, at);
         match take_step(table, start, k, level, bad, &path[at..end]) {
             Step::To(j, n, b) => {
                 k = j;

@@ -1,11 +1,11 @@
--- `fst::path::goes_back` meets its contract: by the length, then the bytes.
+-- `fst_path::goes_back` meets its contract: by the length, then the bytes.
 -- Assumes nothing.
 use mathlib.Core.Path.{sym}
 use borrow.Author.Tests.{eq-eqb, ne-eqb}
-use Rattle.fst.proofs.Components.{back-two, back-other}
+use Rattle.fst_path.proofs.Components.{back-two, back-other}
 use borrow.Author.Needs.{needs}
-use Rattle.fst.proofs.path.goes_back.Statement.{statement}
-use Rattle.fst.proofs.path.goes_back.Tie as tie
+use Rattle.fst_path.proofs.goes_back.Statement.{statement}
+use Rattle.fst_path.proofs.goes_back.Tie as tie
 
 returns : tie.Need-returns
 returns c = sym (back-other (c .before .args .name .now) (c .if1 .taken))

@@ -1,8 +1,8 @@
--- `fst::path::into` meets its contract: by what the search for a child answered.
+-- `fst_path::into` meets its contract: by what the search for a child answered.
 -- Assumes nothing.
 use borrow.Author.Needs.{needs}
-use Rattle.fst.proofs.path.into.Statement.{statement}
-use Rattle.fst.proofs.path.into.Tie as tie
+use Rattle.fst_path.proofs.into.Statement.{statement}
+use Rattle.fst_path.proofs.into.Tie as tie
 
 child-requires : tie.Need-child-requires
 child-requires c κs = search needs

@@ -1,4 +1,4 @@
--- `fst::path::take_step` meets its contract: each return by the tests that led there.
+-- `fst_path::take_step` meets its contract: each return by the tests that led there.
 -- Assumes nothing.
 use mathlib.Core.Path.{_≡_, sym, _∙_}
 use mathlib.Core.Bool.{true, false}
@@ -7,8 +7,8 @@ use lib.ListN.{getD}
 use Rattle.tree.specs.Table.{none, nodesOf}
 use Rattle.tree.specs.Lookup.{isDirectory, stays, goesBack}
 use borrow.Author.Needs.{needs}
-use Rattle.fst.proofs.path.take_step.Statement.{statement}
-use Rattle.fst.proofs.path.take_step.Tie as tie
+use Rattle.fst_path.proofs.take_step.Statement.{statement}
+use Rattle.fst_path.proofs.take_step.Tie as tie
 
 is-directory-requires : tie.Need-is-directory-requires
 is-directory-requires c κs = search needs

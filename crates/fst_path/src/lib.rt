@@ -9,9 +9,7 @@ ghost use Rattle.tree.specs.Table.{nodesOf};
 ghost use Rattle.tree.specs.Lookup as lookup_of;
 ghost use Rattle.tree.specs.Lookup.{separator, components, goesBack, foundAt};
 ghost use Rattle.fst_check.specs.Inner.Reading.{Opens};
-ghost use Rattle.fst.specs.Inner.Steps.{componentsAfter, stepOf, backOf, intoOf};
-use crate::children;
-use crate::entries;
+ghost use Rattle.fst_path.specs.Inner.Steps.{componentsAfter, stepOf, backOf, intoOf};
 use refusal::Refusal;
 use tree::Found;
 use tree::Located;
@@ -88,7 +86,7 @@ fn into(table: &[u8], k: usize, steps: usize, name: &[u8]) -> Step
     requires { ⌜ Opens (now table) × (k < table_of.count (now table)) × (steps ≤ 65) ⌝ }
     ensures { λ r. ⌜ r ≡ intoOf (nodesOf (now (table .entry))) k steps (now (name .entry)) ⌝ }
 {
-    match children::child(table, k, name) {
+    match fst::child(table, k, name) {
         Located::At(j) => Step::To(j as usize, steps + 1),
         Located::Refused(cause) => Step::Refused(cause),
     }
@@ -99,7 +97,7 @@ fn take_step(table: &[u8], trail: &[usize; 65], k: usize, steps: usize, name: &[
     requires { ⌜ Opens (now table) × (k < table_of.count (now table)) × (steps ≤ 65) ⌝ }
     ensures { λ r. ⌜ r ≡ stepOf (nodesOf (now (table .entry))) (now (trail .entry)) k steps (now (name .entry)) ⌝ }
 {
-    if !entries::is_directory(table, k) {
+    if !fst::is_directory(table, k) {
         return Step::Refused(Refusal::ExpectedDirectory);
     }
     if stays(name) {
@@ -157,7 +155,7 @@ pub fn find(table: &[u8], start: u32, path: &[u8]) -> Found
     ensures { λ r. ⌜ r ≡ foundAt (nodesOf (now (table .entry))) (lookup_of.lookup (nodesOf (now (table .entry))) start (now (path .entry))) ⌝ }
 {
     match lookup(table, start, path) {
-        Located::At(k) => entries::entry(table, k),
+        Located::At(k) => fst::entry(table, k),
         Located::Refused(cause) => Found::Refused(cause),
     }
 }

@@ -22,12 +22,12 @@ use Rattle.tree.specs.Laws.Children.{child-is}
 use Rattle.tree.specs.Laws.OpenDirectories.{openAt, stack-is}
 use Rattle.tree.specs.Inner.Depths.{depthOf}
 use Rattle.tree.specs.Laws.Depth.{depth-root, depth-parent}
-use Rattle.fst.specs.declared.path.Step.{Step}
-use Rattle.fst.specs.declared.path.Step.the-variants.{To, Refused}
+use Rattle.fst_path.specs.declared.Step.{Step}
+use Rattle.fst_path.specs.declared.Step.the-variants.{To, Refused}
 use Rattle.fst_check.specs.Inner.Reading.{openIn}
-use Rattle.fst.specs.Inner.Steps.{componentsAfter, backOf, stepTo, intoOf, stepOf}
+use Rattle.fst_path.specs.Inner.Steps.{componentsAfter, backOf, stepTo, intoOf, stepOf}
 use Rattle.fst_check.proofs.Walking.{open-enter}
 use Rattle.fst.proofs.ChildLaws.{child-found}
 
 -- ---- a directory of an accepted tree is at most 64 deep
 

@@ -1,4 +1,4 @@
--- `fst::path::follow` meets its contract. The invariant of its loop: what is left of the path leads from here, with the trail kept, to where the whole leads from the start.
+-- `fst_path::follow` meets its contract. The invariant of its loop: what is left of the path leads from here, with the trail kept, to where the whole leads from the start.
 -- Assumes nothing.
 use native.Mathlib.Omega.{arith}
 use Prim.Native.Nat.{ℕ, _-_}
@@ -6,11 +6,11 @@ use mathlib.Core.Path.{sym, _∙_}
 use lib.ListN.{length, length-replicate}
 use Rattle.tree.specs.Table.{nodesOf}
 use Rattle.tree.specs.Laws.Accepted.{length-nodesOf}
 use Rattle.fst.proofs.Nodes.{opened}
-use Rattle.fst.proofs.PathLaws.{Following, follow-start, follow-refused, follow-end, follow-turn, step-lands}
+use Rattle.fst_path.proofs.PathLaws.{Following, follow-start, follow-refused, follow-end, follow-turn, step-lands}
 use borrow.Author.Needs.{needs}
-use Rattle.fst.proofs.path.follow.Statement.{statement}
-use Rattle.fst.proofs.path.follow.Tie as tie
+use Rattle.fst_path.proofs.follow.Statement.{statement}
+use Rattle.fst_path.proofs.follow.Tie as tie
 
 abbrev Inv-loop : tie.InvT-loop
 Inv-loop table start path trail₀ k₀ steps₀ at₀ trail k steps at = Following (nodesOf table) start path trail k steps at

@@ -12,7 +12,7 @@ use lib.Dec.{eqb}
 use Rattle.endian.specs.Bytes.{span}
 use Rattle.endian.specs.Laws.Stored.{span-snoc}
 use Rattle.tree.specs.Lookup.{separator, longer, components, stays, goesBack}
-use Rattle.fst.specs.Inner.Steps.{componentsAfter}
+use Rattle.fst_path.specs.Inner.Steps.{componentsAfter}
 
 -- ---- components
 

@@ -1,10 +1,10 @@
--- `fst::path::stays` meets its contract: by the length.
+-- `fst_path::stays` meets its contract: by the length.
 -- Assumes nothing.
 use mathlib.Core.Path.{sym}
-use Rattle.fst.proofs.Components.{stays-none, stays-one, stays-more}
+use Rattle.fst_path.proofs.Components.{stays-none, stays-one, stays-more}
 use borrow.Author.Needs.{needs}
-use Rattle.fst.proofs.path.stays.Statement.{statement}
-use Rattle.fst.proofs.path.stays.Tie as tie
+use Rattle.fst_path.proofs.stays.Statement.{statement}
+use Rattle.fst_path.proofs.stays.Tie as tie
 
 returns : tie.Need-returns
 returns c = sym (stays-none (c .before .args .name .now) (c .if1 .taken))

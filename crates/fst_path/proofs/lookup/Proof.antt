@@ -1,14 +1,14 @@
--- `fst::path::lookup` meets its contract: the count is the number of entries.
+-- `fst_path::lookup` meets its contract: the count is the number of entries.
 -- Assumes nothing.
 use native.Mathlib.Omega.{arith}
 use borrow.Author.Tests.{lt-ltb, le-ltb}
 use Rattle.tree.specs.Table.{count}
 use Rattle.tree.specs.Lookup.{lookup}
 use Rattle.tree.specs.Laws.Accepted.{length-nodesOf}
 use Rattle.fst.proofs.Nodes.{opens-inside}
 use borrow.Author.Needs.{needs}
-use Rattle.fst.proofs.path.lookup.Statement.{statement}
-use Rattle.fst.proofs.path.lookup.Tie as tie
+use Rattle.fst_path.proofs.lookup.Statement.{statement}
+use Rattle.fst_path.proofs.lookup.Tie as tie
 
 count-requires : tie.Need-count-requires
 count-requires c κs = let i = opens-inside (c .before .before .args .table .now) (c .before .before .pre .0) in omega arith

@@ -10,8 +10,8 @@ use Rattle.tree.specs.declared.Located.{Located}
 use Rattle.tree.specs.declared.Located.the-variants as located
 use Rattle.tree.specs.Table.{Node, none}
 use Rattle.tree.specs.Lookup.{isDirectory, components, childOf, stays, goesBack}
-use Rattle.fst.specs.declared.path.Step.{Step}
-use Rattle.fst.specs.declared.path.Step.the-variants.{To, Refused}
+use Rattle.fst_path.specs.declared.Step.{Step}
+use Rattle.fst_path.specs.declared.Step.the-variants.{To, Refused}
 
 -- the components of a path behind the one that ends at e
 abbrev pub componentsAfter : List ℕ → ℕ → List (List ℕ)

@@ -1,8 +1,8 @@
--- `fst::path::is_separator` meets its contract: each return by the test that led there.
+-- `fst_path::is_separator` meets its contract: each return by the test that led there.
 -- Assumes nothing.
 use borrow.Author.Tests.{eq-eqb, ne-eqb}
-use Rattle.fst.proofs.path.is_separator.Statement.{statement}
-use Rattle.fst.proofs.path.is_separator.Tie as tie
+use Rattle.fst_path.proofs.is_separator.Statement.{statement}
+use Rattle.fst_path.proofs.is_separator.Tie as tie
 
 returns : tie.Need-returns
 returns c = simp (eq-eqb _ _ (c .if1 .taken))

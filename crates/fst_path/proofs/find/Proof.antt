@@ -1,15 +1,15 @@
--- `fst::path::find` meets its contract: an entry that a lookup gives is in the table.
+-- `fst_path::find` meets its contract: an entry that a lookup gives is in the table.
 -- Assumes nothing.
 use native.Mathlib.Omega.{arith}
 use mathlib.Core.Path.{sym, _∙_}
 use borrow.Author.Tests.{lt-ltb}
 use lib.ListN.{length}
 use Rattle.tree.specs.Table.{nodesOf}
 use Rattle.fst.proofs.Nodes.{opened}
-use Rattle.fst.proofs.PathLaws.{lookup-inside}
+use Rattle.fst_path.proofs.PathLaws.{lookup-inside}
 use borrow.Author.Needs.{needs}
-use Rattle.fst.proofs.path.find.Statement.{statement}
-use Rattle.fst.proofs.path.find.Tie as tie
+use Rattle.fst_path.proofs.find.Statement.{statement}
+use Rattle.fst_path.proofs.find.Tie as tie
 
 lookup-requires : tie.Need-lookup-requires
 lookup-requires c κs = search needs

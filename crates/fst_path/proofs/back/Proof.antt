@@ -1,9 +1,9 @@
--- `fst::path::back` meets its contract: by the count of named steps.
+-- `fst_path::back` meets its contract: by the count of named steps.
 -- Assumes nothing.
-use Rattle.fst.proofs.PathLaws.{back-none, back-some}
+use Rattle.fst_path.proofs.PathLaws.{back-none, back-some}
 use borrow.Author.Needs.{needs}
-use Rattle.fst.proofs.path.back.Statement.{statement}
-use Rattle.fst.proofs.path.back.Tie as tie
+use Rattle.fst_path.proofs.back.Statement.{statement}
+use Rattle.fst_path.proofs.back.Tie as tie
 
 returns : tie.Need-returns
 returns c = back-none _ _ (c .if1 .taken)

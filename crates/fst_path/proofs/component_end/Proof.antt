@@ -1,4 +1,4 @@
--- `fst::path::component_end` meets its contract. The invariant of its loop: the bytes passed stand before the first component of the rest.
+-- `fst_path::component_end` meets its contract. The invariant of its loop: the bytes passed stand before the first component of the rest.
 -- Assumes nothing.
 use native.Mathlib.Omega.{arith}
 use Prim.Native.Nat.{_-_, _≤_}
@@ -6,10 +6,10 @@ use mathlib.Core.Path.{_≡_, sym, _∙_}
 use lib.ListN.{length, drop}
 use Rattle.endian.specs.Bytes.{span}
 use Rattle.tree.specs.Lookup.{components}
-use Rattle.fst.proofs.Components.{prepend, cut-start, cut-turn, cut-here, cut-end}
+use Rattle.fst_path.proofs.Components.{prepend, cut-start, cut-turn, cut-here, cut-end}
 use borrow.Author.Needs.{needs}
-use Rattle.fst.proofs.path.component_end.Statement.{statement}
-use Rattle.fst.proofs.path.component_end.Tie as tie
+use Rattle.fst_path.proofs.component_end.Statement.{statement}
+use Rattle.fst_path.proofs.component_end.Tie as tie
 
 abbrev Inv-loop : tie.InvT-loop
 Inv-loop path at end₀ end = (at ≤ end) × (end ≤ length path) × (components (drop at path) ≡ prepend (span path at (end - at)) (components (drop end path)))
