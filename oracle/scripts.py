@@ -5,7 +5,8 @@
 
 The calls stand below. An answer comes from the unchanged Rust, which carries out the same call, with the checksum of its image.
 Where document 01 says something else than the Rust, or has a limit that the Rust has not, the answer is written here by hand, with the
-reason; the script then insists that the Rust says something else (but for a listing, which the Rust has not, and a window that it cannot make). Each call ends with a comment that says which of the two it is.
+reason; the script then insists that the Rust says something else (but for a listing, which the Rust has not, and a window that it cannot make).
+A call that document 02 adds is answered by hand too. Each call ends with a comment that says where its answer comes from.
 Nothing here comes from the program `replay` or from what it tests."""
 import os
 import subprocess
@@ -168,6 +169,15 @@ class Script:
         entries = len(self.oracle.setting("list").split())
         return [int.from_bytes(fst[:4], "big"), int.from_bytes(fst[4:], "big"), int(self.oracle.setting("total")), entries,
                 int(self.oracle.setting("used"))]
+
+    def clusters(self, answer, why):
+        """`free_clusters`, which the Rust has not. `answer`: the number of a refusal, or before, clusters and rest of each region, by
+        document 02; together they have to be the sizes of the Rust's free regions."""
+        if isinstance(answer, int):
+            return self.call("free_clusters", [answer], f"02: {why}")
+        sizes = [before + 0x8000 * clusters + rest for before, clusters, rest in answer]
+        assert sizes == self.said("free_regions", ())[3::2], (why, sizes)
+        return self.call("free_clusters", [0, len(answer)] + [number for region in answer for number in region], f"02: {why}")
 
     def text(self, name, room, note="", paper=None, why=""):
         """`list` or `report` into a buffer of so many bytes; what a call does not write there are dots. `paper`: the number of a refusal, or
@@ -1001,6 +1011,58 @@ def lookups(s):
     s.look("lookup", 0, b"/" * 1025, paper=9, why="a path over 1,024 bytes")
 
 
+# ---- free regions in clusters of 0x8000 bytes
+
+
+def clusters(s):
+    """The small master; lists around the length that it wants; regions that begin or end on a multiple of 0x8000, or a byte beside it."""
+    small = [(0xA6, 0, 0), (0x1A00, 0, 0)]
+    new_image(s, "small master: free regions in clusters", 0x2000, A_AT_500, free=False)
+    for words, why in [(6, "a list that is just long enough"), (7, "a list that is a word longer"), (0x400, "a list that is much longer")]:
+        s.lend(0x10, 0, words)
+        s.clusters(small, why)
+    for words, why in [(5, "a list that is a word short"), (3, "a list that has room for one region"), (0, "no list")]:
+        s.lend(0x10, 0, words)
+        s.clusters(9, why)
+    s.patch(0x450, word(0x459))
+    s.clusters(14, "file in the table, before the list that is short")
+    s.load()
+    s.patch(0x1C, word(0))
+    s.clusters(3, "no GameCube magic, before the list that is short")
+    s.lend(0xF, 0)
+    s.load()
+    s.clusters(9, "one working word too few")
+    s.lend(0x10, 0)
+    s.patch(0x450, word(0x45A) + word(0x1BA6))
+    s.clusters([], "no free region")
+    new_image(s, "one file around multiples of 0x8000: disc end, offset and size change; the table ends at 0x45a", 0x28000, A_AT_500, free=False)
+    for end, offset, size, regions, why in [
+            (0x7FFF, 0x500, 0x100, [(0xA6, 0, 0), (0x79FF, 0, 0)], "the last region ends a byte before a multiple, and is all \"before\""),
+            (0x8000, 0x500, 0x100, [(0xA6, 0, 0), (0x7A00, 0, 0)], "its first multiple is exactly its end: all \"before\""),
+            (0x8001, 0x500, 0x100, [(0xA6, 0, 0), (0x7A00, 0, 1)], "one byte behind the first multiple"),
+            (0xFFFF, 0x500, 0x100, [(0xA6, 0, 0), (0x7A00, 0, 0x7FFF)], "a byte short of a cluster"),
+            (0x10000, 0x500, 0x100, [(0xA6, 0, 0), (0x7A00, 1, 0)], "it ends on a multiple"),
+            (0x10001, 0x500, 0x100, [(0xA6, 0, 0), (0x7A00, 1, 1)], "a cluster and a byte"),
+            (0x8001, 0x7000, 0x1000, [(0x6BA6, 0, 0), (0, 0, 1)], "it begins on a multiple, and is one byte"),
+            (0xFFFF, 0x7000, 0x1000, [(0x6BA6, 0, 0), (0, 0, 0x7FFF)], "it begins on a multiple, and is a byte short of a cluster"),
+            (0x10000, 0x7000, 0x1000, [(0x6BA6, 0, 0), (0, 1, 0)], "it is exactly one cluster"),
+            (0x10001, 0x7000, 0x1000, [(0x6BA6, 0, 0), (0, 1, 1)], "it begins on a multiple, and is a byte longer than a cluster"),
+            (0x28000, 0x845A, 0x1FBA6, [(0x7BA6, 0, 0x45A)], "a cluster's size, and no whole cluster")]:
+        s.load()
+        s.size(end)
+        s.patch(0x434, word(end))
+        s.patch(0x450, word(offset) + word(size))
+        s.clusters(regions, why)
+    new_image(s, "several free regions, by files that stand in the table against the order of their places", 0x4FFFF,
+              directory(0, 0, 6) + file(0, 0x40001, 0x7FFF) + file(2, 0x28000, 0x7FFF) + file(4, 0x18000, 1) + file(6, 0xE000, 0x2000)
+              + file(8, 0x8000, 0x4000) + b"z\0y\0x\0w\0v\0", free=False)
+    s.lend(0x20, 0, 0x12)
+    s.clusters([(0x7B6E, 0, 0), (0x2000, 0, 0), (0, 1, 0), (0x7FFF, 1, 0), (1, 2, 1), (0, 0, 0x7FFF)],
+               "the first multiple is its end; none; one cluster; it ends on one; two clusters inside; it begins on one")
+    s.lend(0x20, 0, 0x11)
+    s.clusters(9, "a list that is a word short")
+
+
 # ---- boundaries of header, windows and DOL
 
 
@@ -1225,13 +1287,14 @@ def make(oracle):
     for name, parts in [
             ("edits", (small_master, memory, places, spoiled_master, grown_over, half_done, empty_files, equal_rests, nested, disc_ends, far_table,
                        game_names, unopened, limits, inserts, names, made, deep, limits_of_inserts, chain)),
-            ("reading", (with_changes, lookups, headers, fields)), ("windows", (windows, reads, executables)), ("tables", (tables,)), ("listing", (listings,))]:
+            ("reading", (with_changes, lookups, clusters, headers, fields)), ("windows", (windows, reads, executables)), ("tables", (tables,)),
+            ("listing", (listings,))]:
         s.lines = []
         for part in parts:
             part(s)
         with open(os.path.join(SCRIPTS, name + ".txt"), "w", encoding="ascii") as out:
             out.write("\n".join(s.lines) + "\n")
-    print(f"{s.images} images, {s.rust + s.paper} calls: {s.rust} by the Rust, {s.paper} by document 01")
+    print(f"{s.images} images, {s.rust + s.paper} calls: {s.rust} by the Rust, {s.paper} by documents 01 and 02")
 
 
 if __name__ == "__main__":

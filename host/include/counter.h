@@ -25,6 +25,7 @@
  *
  *     counter_entries        COUNTER_ENTRY_WORDS * n words
  *     counter_free_regions   COUNTER_REGION_WORDS * n words: there is at most one free region behind the table and one behind each file
+ *     counter_free_clusters  COUNTER_CLUSTER_WORDS * n words
  *
  * Every call that takes words opens the image first, and refuses what opening refuses. Its tests, in this order: the header's fields (1),
  * Wii magic (2), GameCube magic (3); 4; the root (5, 6, 7); more entries than COUNTER_MOST_ENTRIES (9); each further entry in turn (5, 6);
@@ -49,6 +50,8 @@ extern "C" {
 #define COUNTER_ENTRY_SLOTS 4
 #define COUNTER_ENTRY_WORDS 6
 #define COUNTER_REGION_WORDS 2
+#define COUNTER_CLUSTER_WORDS 3
+#define COUNTER_CLUSTER_SIZE 0x8000
 #define COUNTER_ALLOCATE_SLOTS 2
 #define COUNTER_DOL_SLOTS 57
 #define COUNTER_WINDOW_SLOTS 3
@@ -141,6 +144,13 @@ uint32_t counter_report(const uint8_t *image, size_t image_len, uint32_t *words,
 /* The free regions, rising, offset and size of each into list. A short list is 9, and nothing is written to it; words behind the regions
  * stay. answer[1]: how many regions. */
 uint32_t counter_free_regions(const uint8_t *image, size_t image_len, uint32_t *words, size_t words_len, uint32_t *list, size_t list_len,
+    uint32_t answer[1]);
+
+/* The same regions, counted in clusters of COUNTER_CLUSTER_SIZE bytes: three words for each into list, the bytes before its first multiple
+ * of 0x8000, the whole clusters from there on, and the exact rest: before + 0x8000 * clusters + rest is its size. A region whose first
+ * multiple is at or past its end is all "before". A short list is 9, and nothing is written to it; words behind the regions stay.
+ * answer[1]: how many regions. */
+uint32_t counter_free_clusters(const uint8_t *image, size_t image_len, uint32_t *words, size_t words_len, uint32_t *list, size_t list_len,
     uint32_t answer[1]);
 
 /* answer[1]: the size that a region at `offset` with `size` bytes can have. If a free region starts at offset, that region's size; else, if

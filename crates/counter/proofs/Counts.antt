@@ -1,6 +1,6 @@
 -- There are fewer than 2^32 free regions: each has a byte of its own below the disc end. Assumes nothing.
-use Prim.Native.Nat.{ℕ, zero, suc, _*_, _^_, _<_, _≤_}
-use mathlib.Core.Path.{_≡_, refl}
+use Prim.Native.Nat.{ℕ, zero, suc, _^_, _<_, _≤_}
+use mathlib.Core.Path.{_≡_, refl, sym, _∙_}
 use mathlib.Core.Bool.{Bool, true, false, cond}
 use mathlib.Core.List.{List, [], _∷_}
 use native.Mathlib.Omega.{arith}
@@ -13,12 +13,13 @@ use Rattle.refusal.specs.Laws.Chains.{first-passed}
 use Rattle.header.specs.Verdicts.{headerVerdict, boundsVerdict, discEnd}
 use Rattle.header.specs.Laws.FieldTests.{bounds-passed}
 use Rattle.space.specs.declared.DiscRegion.{DiscRegion}
+use Rattle.free_space.specs.declared.Listing.{Listing}
 use Rattle.free_space.specs.declared.Listing.the-variants as listing
 use Rattle.space.specs.Free.{join, runs, freeRegions}
-use Rattle.free_space.specs.Listing.{listingOf}
+use Rattle.free_space.specs.Listing.{rowsOf, listingOf}
 use Rattle.opening.specs.Opening.{opening, freeOf}
 use Rattle.answers.specs.Answers.{behind}
-use Rattle.disc.specs.Calls.{freeRegionsAnswer}
+use Rattle.disc.specs.Calls.{freeAnswer}
 
 join-count : (i : ℕ) (rs : List DiscRegion) → length (join i rs) ≤ suc (length rs)
 join-count i [] = omega arith
@@ -42,7 +43,7 @@ free-count : (image : List ℕ) → length (freeOf image) ≤ discEnd image
 unfolding freeOf freeRegions
 free-count image = runs-count _ 0 (discEnd image)
 
-module _ (image : List ℕ) (words room n : ℕ) where
+module _ (row : DiscRegion → List ℕ) (image : List ℕ) (words room n : ℕ) where
   small-end : opening image words ≡ Passed → discEnd image < 2 ^ 32
   unfolding opening
   small-end e =
@@ -53,12 +54,12 @@ module _ (image : List ℕ) (words room n : ℕ) where
   counted true m e = let z : _≡_ {A = ℕ} 0 1 = cc in absurd (omega arith)
   counted false m e = cc
 
-  go : (v : Verdict) → opening image words ≡ v → behind v listing.Refused (listingOf (freeOf image) room) ≡ listing.Listed n → n < 2 ^ 32
+  go : (v : Verdict) → opening image words ≡ v → behind v listing.Refused (listingOf row (freeOf image) room) ≡ listing.Listed n → n < 2 ^ 32
   go Passed o e =
-      let m = counted (ltb room (2 * length (freeOf image))) (length (freeOf image)) e in
+      let m = counted (ltb room (length (rowsOf row (freeOf image)))) (length (freeOf image)) e in
       omega (arith, m, small-end o, free-count image)
   go (Refused c) o e = let z : _≡_ {A = ℕ} 0 1 = cc in absurd (omega arith)
 
-  pub listed-small : freeRegionsAnswer image words room ≡ listing.Listed n → n < 2 ^ 32
-  unfolding freeRegionsAnswer
-  listed-small e = go (opening image words) refl e
+  pub listed-small : (a : Listing) → a ≡ freeAnswer row image words room → a ≡ listing.Listed n → n < 2 ^ 32
+  unfolding freeAnswer
+  listed-small a f e = go (opening image words) refl (sym f ∙ e)

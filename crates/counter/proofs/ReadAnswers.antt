@@ -9,7 +9,6 @@ use Rattle.space.specs.declared.DiscRegion.{DiscRegion}
 use Rattle.free_space.specs.declared.Allocation.{Allocation}
 use Rattle.free_space.specs.declared.Allocation.the-variants as allocation
 use Rattle.free_space.specs.declared.Listing.{Listing}
-use Rattle.free_space.specs.declared.Listing.the-variants as listing
 use Rattle.opening.specs.Opening.{zeros}
 use Rattle.answers.specs.declared.Opened.{Opened}
 use Rattle.answers.specs.declared.SizeAnswer.{SizeAnswer}
@@ -32,6 +31,9 @@ module _ (before : List ℕ) (g : Reply) (w w′ : List ℕ) (zeroed : w′ ≡ 
   pub found-by : (a b : Found) → b ≡ a → g ≡ foundReply before b → Read (foundReply before a) g w w′
   found-by a b e h = record { answered = h ∙ ap (foundReply before) e; words = zeroed }
 
+  pub listing-by : (a b : Listing) → b ≡ a → g ≡ listingReply before b → Read (listingReply before a) g w w′
+  listing-by a b e h = record { answered = h ∙ ap (listingReply before) e; words = zeroed }
+
   pub sized-by : (a b : SizeAnswer) → b ≡ a → g ≡ sizeReply before b → Read (sizeReply before a) g w w′
   sized-by a b e h = record { answered = h ∙ ap (sizeReply before) e; words = zeroed }
 
@@ -45,10 +47,6 @@ module _ (before w w′ : List ℕ) (zeroed : w′ ≡ zeros w) where
   pub allocation-found : (a b : Allocation) (r : DiscRegion) → b ≡ a → b ≡ allocation.Found r → Read (allocationReply before a) (reply 0 (r .offset ∷ r .size ∷ [])) w w′
   unfolding allocationReply
   allocation-found a b r e h = record { answered = rw (← e, h); words = zeroed }
-
-  pub listing-made : (a b : Listing) (n : ℕ) → b ≡ a → b ≡ listing.Listed n → Read (listingReply before a) (reply 0 (n ∷ [])) w w′
-  unfolding listingReply
-  listing-made a b n e h = record { answered = rw (← e, h); words = zeroed }
 
   pub text-made : (a b : Listed) (n : ℕ) → b ≡ a → b ≡ listed.Text n → Read (listedReply before a) (reply 0 (n ∷ [])) w w′
   unfolding listedReply
@@ -66,10 +64,6 @@ module _ (before w w′ : List ℕ) (zeroed : w′ ≡ zeros w) where
     pub allocation-refused : (a b : Allocation) → b ≡ a → b ≡ allocation.Refused c → Read (allocationReply before a) (reply r before) w w′
     unfolding allocationReply
     allocation-refused a b e h = record { answered = rw (← e, h, number); words = zeroed }
-
-    pub listing-refused : (a b : Listing) → b ≡ a → b ≡ listing.Refused c → Read (listingReply before a) (reply r before) w w′
-    unfolding listingReply
-    listing-refused a b e h = record { answered = rw (← e, h, number); words = zeroed }
 
     pub text-refused : (a b : Listed) → b ≡ a → b ≡ listed.Refused c → Read (listedReply before a) (reply r before) w w′
     unfolding listedReply

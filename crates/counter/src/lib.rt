@@ -21,6 +21,7 @@ pub use reading::counter_lookup;
 pub use reading::counter_open;
 pub use reading::counter_totals;
 pub use regions::counter_allocate;
+pub use regions::counter_free_clusters;
 pub use regions::counter_free_regions;
 pub use regions::counter_max_file_size;
 pub use regions::counter_max_region_size;

@@ -27,7 +27,7 @@ use Rattle.free_space.specs.Listing.{listingOf, listAfter}
 use Rattle.free_space.specs.Allocate.{allocationOf}
 use Rattle.disc.specs.declared.TotalsAnswer.{TotalsAnswer}
 use Rattle.disc.specs.declared.TotalsAnswer.the-variants as totals
-use Rattle.disc.specs.Calls.{openedOf, totalsAnswer, freeRegionsAnswer, freeRegionsList, allocateAnswer}
+use Rattle.disc.specs.Calls.{openedOf, totalsAnswer, freeAnswer, freeList, allocateAnswer}
 
 module _ (image : List ℕ) (n : ℕ) (w : List ℕ) (p : Prepared) (h : Prepares image n w p) where
   -- opening
@@ -50,23 +50,23 @@ module _ (image : List ℕ) (n : ℕ) (w : List ℕ) (p : Prepared) (h : Prepare
   refused-totals c r = refused-behind image n w p h totals.Refused _ c r
 
   -- the free regions, and the list of them
-  pub ready-listing : (room m : ℕ) (d : Disc) (a : Listing) → p ≡ Ready m → d ≡ discOf image → a ≡ listingOf (freeRegions (d .«disc_end») (regionsIn w 0 m)) room
-      → a ≡ freeRegionsAnswer image n room
-  unfolding freeRegionsAnswer
-  ready-listing room m d a r e f = f ∙ ready-behind image n w p h listing.Refused (λ (l : List DiscRegion). listingOf l room) m d r e
+  pub ready-listing : (row : DiscRegion → List ℕ) (room m : ℕ) (d : Disc) (a : Listing) → p ≡ Ready m → d ≡ discOf image → a ≡ listingOf row (freeRegions (d .«disc_end») (regionsIn w 0 m)) room
+      → a ≡ freeAnswer row image n room
+  unfolding freeAnswer
+  ready-listing row room m d a r e f = f ∙ ready-behind image n w p h listing.Refused (λ (l : List DiscRegion). listingOf row l room) m d r e
 
-  pub ready-list : (m : ℕ) (d : Disc) (list list′ : List ℕ) → p ≡ Ready m → d ≡ discOf image → list′ ≡ listAfter (freeRegions (d .«disc_end») (regionsIn w 0 m)) list
-      → list′ ≡ freeRegionsList image n list
-  unfolding freeRegionsList
-  ready-list m d list list′ r e f = f ∙ ready-behind image n w p h (λ (x : Refusal). list) (λ (l : List DiscRegion). listAfter l list) m d r e
+  pub ready-list : (row : DiscRegion → List ℕ) (m : ℕ) (d : Disc) (list list′ : List ℕ) → p ≡ Ready m → d ≡ discOf image → list′ ≡ listAfter row (freeRegions (d .«disc_end») (regionsIn w 0 m)) list
+      → list′ ≡ freeList row image n list
+  unfolding freeList
+  ready-list row m d list list′ r e f = f ∙ ready-behind image n w p h (λ (x : Refusal). list) (λ (l : List DiscRegion). listAfter row l list) m d r e
 
-  pub refused-listing : (room : ℕ) (c : Refusal) → p ≡ Refused c → listing.Refused c ≡ freeRegionsAnswer image n room
-  unfolding freeRegionsAnswer
-  refused-listing room c r = refused-behind image n w p h listing.Refused (listingOf (freeOf image) room) c r
+  pub refused-listing : (row : DiscRegion → List ℕ) (room : ℕ) (c : Refusal) → p ≡ Refused c → listing.Refused c ≡ freeAnswer row image n room
+  unfolding freeAnswer
+  refused-listing row room c r = refused-behind image n w p h listing.Refused (listingOf row (freeOf image) room) c r
 
-  pub refused-list : (list : List ℕ) (c : Refusal) → p ≡ Refused c → list ≡ freeRegionsList image n list
-  unfolding freeRegionsList
-  refused-list list c r = refused-behind image n w p h (λ (x : Refusal). list) (listAfter (freeOf image) list) c r
+  pub refused-list : (row : DiscRegion → List ℕ) (list : List ℕ) (c : Refusal) → p ≡ Refused c → list ≡ freeList row image n list
+  unfolding freeList
+  refused-list row list c r = refused-behind image n w p h (λ (x : Refusal). list) (listAfter row (freeOf image) list) c r
 
   -- allocation
   pub ready-allocation : (size align m : ℕ) (d : Disc) (a : Allocation) → p ≡ Ready m → d ≡ discOf image → a ≡ allocationOf align size (freeRegions (d .«disc_end») (regionsIn w 0 m))
@@ -87,11 +87,11 @@ module _ (image : List ℕ) (n n′ : ℕ) (kept : n′ ≡ n) where
   pub totals-kept : (a : TotalsAnswer) → a ≡ totalsAnswer image n′ → a ≡ totalsAnswer image n
   totals-kept a h = rw kept at h
 
-  pub listing-kept : (room : ℕ) (a : Listing) → a ≡ freeRegionsAnswer image n′ room → a ≡ freeRegionsAnswer image n room
-  listing-kept room a h = rw kept at h
+  pub listing-kept : (row : DiscRegion → List ℕ) (room : ℕ) (a : Listing) → a ≡ freeAnswer row image n′ room → a ≡ freeAnswer row image n room
+  listing-kept row room a h = rw kept at h
 
-  pub list-kept : (list list′ : List ℕ) → list′ ≡ freeRegionsList image n′ list → list′ ≡ freeRegionsList image n list
-  list-kept list list′ h = rw kept at h
+  pub list-kept : (row : DiscRegion → List ℕ) (list list′ : List ℕ) → list′ ≡ freeList row image n′ list → list′ ≡ freeList row image n list
+  list-kept row list list′ h = rw kept at h
 
   pub allocation-kept : (size align : ℕ) (a : Allocation) → a ≡ allocateAnswer image n′ size align → a ≡ allocateAnswer image n size align
   allocation-kept size align a h = rw kept at h

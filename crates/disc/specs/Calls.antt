@@ -3,11 +3,12 @@
 use Prim.Native.Nat.{ℕ}
 use mathlib.Core.List.{List}
 use Rattle.header.specs.Verdicts.{discEnd}
+use Rattle.space.specs.declared.DiscRegion.{DiscRegion}
 use Rattle.free_space.specs.declared.Allocation.{Allocation}
 use Rattle.free_space.specs.declared.Allocation.the-variants as allocation
 use Rattle.free_space.specs.declared.Listing.{Listing}
 use Rattle.free_space.specs.declared.Listing.the-variants as listing
-use Rattle.free_space.specs.Listing.{listingOf, listAfter}
+use Rattle.free_space.specs.Listing.{regionRow, clusterRow, listingOf, listAfter}
 use Rattle.free_space.specs.Allocate.{allocationOf}
 use Rattle.disc.specs.declared.TotalsAnswer.{TotalsAnswer}
 use Rattle.disc.specs.declared.TotalsAnswer.the-variants as totaled
@@ -27,12 +28,26 @@ unfoldable pub totalsAnswer : List ℕ → ℕ → TotalsAnswer
 totalsAnswer image words =
     behind (opening image words) totaled.Refused (totaled.Found (record { «disc_end» = discEnd image; used = usedOf image }))
 
-unfoldable pub freeRegionsAnswer : List ℕ → ℕ → ℕ → Listing
-freeRegionsAnswer image words room = behind (opening image words) listing.Refused (listingOf (freeOf image) room)
+-- the free regions in a result list, with the words of each as `row` has them
+unfoldable pub freeAnswer : (DiscRegion → List ℕ) → List ℕ → ℕ → ℕ → Listing
+freeAnswer row image words room = behind (opening image words) listing.Refused (listingOf row (freeOf image) room)
 
 -- the list afterwards: a refusal leaves it as it is
-unfoldable pub freeRegionsList : List ℕ → ℕ → List ℕ → List ℕ
-freeRegionsList image words list = behind (opening image words) (λ c. list) (listAfter (freeOf image) list)
+unfoldable pub freeList : (DiscRegion → List ℕ) → List ℕ → ℕ → List ℕ → List ℕ
+freeList row image words list = behind (opening image words) (λ c. list) (listAfter row (freeOf image) list)
+
+abbrev pub freeRegionsAnswer : List ℕ → ℕ → ℕ → Listing
+freeRegionsAnswer image words room = freeAnswer regionRow image words room
+
+abbrev pub freeRegionsList : List ℕ → ℕ → List ℕ → List ℕ
+freeRegionsList image words list = freeList regionRow image words list
+
+-- document 02, Point 1: "For each free region give the bytes before its first multiple of 0x8000, the whole clusters, and the exact rest"
+abbrev pub freeClustersAnswer : List ℕ → ℕ → ℕ → Listing
+freeClustersAnswer image words room = freeAnswer clusterRow image words room
+
+abbrev pub freeClustersList : List ℕ → ℕ → List ℕ → List ℕ
+freeClustersList image words list = freeList clusterRow image words list
 
 unfoldable pub allocateAnswer : List ℕ → ℕ → ℕ → ℕ → Allocation
 allocateAnswer image words n align = behind (opening image words) allocation.Refused (allocationOf align n (freeOf image))

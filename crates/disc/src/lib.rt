@@ -3,6 +3,7 @@ mod regions;
 
 use refusal::Refusal;
 pub use regions::allocate;
+pub use regions::free_clusters;
 pub use regions::free_regions;
 pub use regions::max_region_size;
 pub use regions::open;

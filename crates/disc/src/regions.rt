@@ -1,9 +1,9 @@
-// What an image's header and its free regions say: opening, totals, free regions, the largest size of a region, allocation.
+// What an image's header and its free regions say: opening, totals, free regions, clusters, the largest size of a region, allocation.
 ghost use mathlib.Core.Path.{_≡_};
 ghost use lib.ListN.{length};
 ghost use Rattle.opening.specs.Opening.{zeros};
 ghost use Rattle.answers.specs.Answers.{maxRegionSizeAnswer};
-ghost use Rattle.disc.specs.Calls.{openedOf, totalsAnswer, freeRegionsAnswer, freeRegionsList, allocateAnswer};
+ghost use Rattle.disc.specs.Calls.{openedOf, totalsAnswer, freeRegionsAnswer, freeRegionsList, freeClustersAnswer, freeClustersList, allocateAnswer};
 ghost use Rattle.opening.specs.Inner.Prepared.{Prepares};
 use crate::DiscTotals;
 use crate::TotalsAnswer;
@@ -53,6 +53,19 @@ fn listed(image: &[u8], words: &[u32], prepared: Prepared, list: &mut [u32]) -> 
     }
 }
 
+fn counted(image: &[u8], words: &[u32], prepared: Prepared, list: &mut [u32]) -> Listing
+    requires { ⌜ Prepares (now image) (length (now words)) (now words) prepared ⌝ }
+    ensures { λ r. ⌜ (r ≡ freeClustersAnswer (now (image .entry)) (length (now (words .entry))) (length (now (list .entry)))) × (now (list .exit) ≡ freeClustersList (now (image .entry)) (length (now (words .entry))) (now (list .entry))) ⌝ }
+{
+    match prepared {
+        Prepared::Ready(count) => {
+            let disc = answers::disc_of(image, words, count);
+            free_clusters::free_clusters(words, count, disc.disc_end, list)
+        }
+        Prepared::Refused(cause) => Listing::Refused(cause),
+    }
+}
+
 fn allocated(image: &[u8], words: &[u32], prepared: Prepared, size: u32, align: u32) -> Allocation
     requires { ⌜ Prepares (now image) (length (now words)) (now words) prepared ⌝ }
     ensures { λ r. ⌜ r ≡ allocateAnswer (now (image .entry)) (length (now (words .entry))) size align ⌝ }
@@ -93,6 +106,16 @@ pub fn free_regions(image: &[u8], words: &mut [u32], list: &mut [u32]) -> Listin
 {
     let prepared = opening::prepare(image, words);
     let answer = listed(image, words, prepared, list);
+    space::zero_words(words);
+    answer
+}
+
+// The free regions in clusters of 0x8000 bytes into `list`: the bytes before the first multiple, the clusters and the rest of each.
+pub fn free_clusters(image: &[u8], words: &mut [u32], list: &mut [u32]) -> Listing
+    ensures { λ r. ⌜ (r ≡ freeClustersAnswer (now (image .entry)) (length (now (words .entry))) (length (now (list .entry)))) × (now (list .exit) ≡ freeClustersList (now (image .entry)) (length (now (words .entry))) (now (list .entry))) × (now (words .exit) ≡ zeros (now (words .entry))) ⌝ }
+{
+    let prepared = opening::prepare(image, words);
+    let answer = counted(image, words, prepared, list);
     space::zero_words(words);
     answer
 }

@@ -56,7 +56,12 @@ pub same-end : (a b : List ℕ) (at start i n : ℕ) → n ≤ i → sameBytes (
 unfolding sameBytes
 same-end a b at start i n h = let z : n - i ≡ 0 = omega arith in rw z
 
--- three and four single stores, one behind the other
+-- two, three and four single stores, one behind the other
+pub stores-2 : (s : List ℕ) (at a b : ℕ) → at + 2 ≤ length s → set (set s at a) (at + 1) b ≡ put s at (a ∷ b ∷ [])
+stores-2 s at a b h =
+    let o : at + 1 ≡ suc at = omega arith in
+    rw o (put-sets s at (a ∷ b ∷ []) h)
+
 pub stores-3 : (s : List ℕ) (at a b c : ℕ) → at + 3 ≤ length s → set (set (set s at a) (at + 1) b) (at + 2) c ≡ put s at (a ∷ b ∷ c ∷ [])
 stores-3 s at a b c h =
     let p : at + 1 ≡ suc at = omega arith in

@@ -17,7 +17,8 @@ use Rattle.refusal.specs.declared.Refusal.the-variants.{NotEnoughSpace, Invalid
 use Rattle.space.specs.Used.{endOf, nonempty}
 use Rattle.space.specs.Free.{freeRegions}
 use Rattle.free_space.specs.MaxRegionSize.{insideFree, besideFree, maxSizeFrom, maxRegionSize}
-use Rattle.free_space.specs.Allocate.{alignUp, rest, fits, betterOf, noRegion, largest, powers, allocationOf}
+use Rattle.space.specs.Align.{alignUp}
+use Rattle.free_space.specs.Allocate.{rest, fits, betterOf, noRegion, largest, powers, allocationOf}
 use Rattle.space.specs.Inner.Sort.{regionsIn}
 use Rattle.space.specs.Inner.Words.{SortedDisjoint, gaps}
 use Rattle.refusal.specs.Laws.Tests.{lt-or-le}

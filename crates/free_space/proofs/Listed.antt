@@ -1,28 +1,28 @@
 -- The free regions counted, listed and summed, one gap at a time.
 -- Assumes nothing.
-use Prim.Native.Nat.{ℕ, zero, suc, _+_, _-_, _*_, _/_, _%_, _<_, _≤_}
+use Prim.Native.Nat.{ℕ, _+_, _-_, _*_, _<_, _≤_}
 use mathlib.Core.Path.{_≡_, refl, sym, ap, _∙_}
-use mathlib.Core.Logic.{⊎-elim}
 use mathlib.Core.Bool.{true}
 use mathlib.Core.List.{List, [], _∷_, _++_, append-assoc, append-nil}
 use native.Mathlib.Omega.{arith}
-use native.Mathlib.Nat.{add-zero}
+use native.Mathlib.Nat.{add-zero, zero-mul, suc-mul}
 use borrow.Author.Tests.{leb-true, lt-ltb, le-ltb}
-use lib.ListN.{length, getD, drop, length-append, length-drop}
-use lib.Seq.{drop-cons, getD-drop, ext-getD}
+use lib.ListN.{length, getD, drop, length-append}
 use lib.Dec.{leb}
 use Rattle.refusal.specs.declared.Refusal.the-variants.{LimitOrMemory}
 use Rattle.space.specs.declared.DiscRegion.{DiscRegion}
 use Rattle.free_space.specs.declared.Listing.the-variants.{Listed, Refused}
+use Rattle.endian.specs.Bytes.{put}
+use Rattle.endian.specs.Laws.Stored.{length-put, put-none}
+use Rattle.endian.proofs.Parts.{put-append}
 use Rattle.space.specs.Used.{endOf, nonempty, totalSize}
 use Rattle.space.specs.Free.{freeRegions}
 use Rattle.free_space.specs.Allocate.{noRegion}
-use Rattle.free_space.specs.Listing.{regionWords, listingOf, listAfter}
-use Rattle.space.specs.Inner.Sort.{regionAt, regionsIn}
-use Rattle.space.specs.Inner.Words.{Added, inSequence, SortedDisjoint, gaps}
-use Rattle.refusal.specs.Laws.Tests.{lt-or-le, and-left, and-right}
+use Rattle.free_space.specs.Listing.{rowsOf, listingOf, listAfter}
+use Rattle.space.specs.Inner.Sort.{regionsIn}
+use Rattle.space.specs.Inner.Words.{inSequence, SortedDisjoint, gaps}
+use Rattle.refusal.specs.Laws.Tests.{and-left, and-right}
 use Rattle.space.specs.Laws.UsedLaws.{nonempty-cons, nonempty-empty}
-use Rattle.space.proofs.Pairs.{length-regions, regions-none}
 use Rattle.space.proofs.Order.{sequence-le}
 use Rattle.space.proofs.Gaps.{gaps-free}
 use Rattle.free_space.proofs.Choice.{gaps-more, gaps-over}
@@ -56,98 +56,107 @@ module _ (w : List ℕ) (m e n i : ℕ) (s : Counted w m e n i) where
       left = omega (arith, rw (nonempty-cons r (drop (i + 1) (gaps 0 e (regionsIn w 0 m))) (omega arith)) at here);
     }
 
--- ---- regions as words
+-- ---- the words of regions
 
-region-words : (w : List ℕ) (k n : ℕ) → 2 * (k + n) ≤ length w → regionWords (regionsIn w k n) ++ drop (2 * (k + n)) w ≡ drop (2 * k) w
-unfolding regionWords regionsIn regionAt
-region-words w k zero h = rw (add-zero k)
-region-words w k (suc n) h =
-    let a : k + suc n ≡ suc k + n = omega arith in
-    let b : suc (suc (2 * k)) ≡ 2 * suc k = omega arith in
-    let c : suc (2 * k) ≡ 2 * k + 1 = omega arith in
-    rw (a, region-words w (suc k) n (omega arith), drop-cons w (2 * k) 0 (omega arith), drop-cons w (suc (2 * k)) 0 (omega arith), b, c)
+module _ (row : DiscRegion → List ℕ) where
+  rows-append : (xs ys : List DiscRegion) → rowsOf row (xs ++ ys) ≡ rowsOf row xs ++ rowsOf row ys
+  unfolding rowsOf
+  rows-append [] ys = refl
+  rows-append (x ∷ xs) ys = rw (rows-append xs ys) (sym (append-assoc (row x) (rowsOf row xs) (rowsOf row ys)))
 
--- the words from pair n on, where the pairs are the same
-word-same : (l m : List ℕ) (n i : ℕ) → ((x : ℕ) → n ≤ x → regionAt l x ≡ regionAt m x) → 2 * n ≤ i → getD l i 0 ≡ getD m i 0
-unfolding regionAt
-word-same l m n i h b =
-    ⊎-elim (λ z. let q : 2 * (i / 2) ≡ i = omega arith in rw q at (ap (λ (r : DiscRegion). r .offset) (h (i / 2) (omega arith))))
-    (λ z. let q : 2 * (i / 2) + 1 ≡ i = omega arith in rw q at (ap (λ (r : DiscRegion). r .size) (h (i / 2) (omega arith)))) (lt-or-le (i % 2) 1)
-
-drop-same : (l m : List ℕ) (n : ℕ) → length l ≡ length m → ((x : ℕ) → n ≤ x → regionAt l x ≡ regionAt m x) → drop (2 * n) l ≡ drop (2 * n) m
-drop-same l m n e h =
-    ext-getD 0 (drop (2 * n) l) (drop (2 * n) m) (simp length-drop (rw e))
-    (λ j k. getD-drop (2 * n) l j 0 ∙ word-same l m n (2 * n + j) h (omega arith) ∙ sym (getD-drop (2 * n) m j 0))
+  -- k words each
+  pub length-rows : (k : ℕ) → ((r : DiscRegion) → length (row r) ≡ k) → (rs : List DiscRegion) → length (rowsOf row rs) ≡ length rs * k
+  unfolding rowsOf
+  length-rows k h [] = sym (zero-mul k)
+  length-rows k h (r ∷ rs) = omega (arith, length-append (row r) (rowsOf row rs), h r, length-rows k h rs, suc-mul (length rs) k)
 
 -- ---- listed
 
-pub record Written (w : List ℕ) (m e : ℕ) (l₀ l : List ℕ) (n i : ℕ) : Type 0 where
+-- the words of the regions done stand in front of the list, `at` words; what is left of the gaps has the other free regions
+pub record Written (row : DiscRegion → List ℕ) (w : List ℕ) (m e : ℕ) (l₀ l : List ℕ) (at i : ℕ) : Type 0 where
   pub bound : i ≤ m + 1
   pub same : length l ≡ length l₀
-  pub after : (x : ℕ) → n ≤ x → regionAt l x ≡ regionAt l₀ x
-  pub left : regionsIn l 0 n ++ nonempty (drop i (gaps 0 e (regionsIn w 0 m))) ≡ freeRegions e (regionsIn w 0 m)
+  pub done : List DiscRegion
+  pub words : at ≡ length (rowsOf row done)
+  pub inside : at ≤ length l
+  pub is : l ≡ put l₀ 0 (rowsOf row done)
+  pub left : done ++ nonempty (drop i (gaps 0 e (regionsIn w 0 m))) ≡ freeRegions e (regionsIn w 0 m)
 
-pub write-start : (w : List ℕ) (m e : ℕ) (l : List ℕ) → SortedDisjoint w m e → Written w m e l l 0 0
-write-start w m e l s = record {
+pub write-start : (row : DiscRegion → List ℕ) (w : List ℕ) (m e : ℕ) (l : List ℕ) → SortedDisjoint w m e → Written row w m e l l 0 0
+unfolding rowsOf
+write-start row w m e l s = record {
   bound = omega arith;
   same = refl;
-  after = λ x h. refl;
-  left = rw (regions-none l 0 0 refl) (gaps-free e (regionsIn w 0 m) (s .full) (s .sequence));
+  done = [];
+  words = refl;
+  inside = omega arith;
+  is = sym (put-none l 0);
+  left = gaps-free e (regionsIn w 0 m) (s .full) (s .sequence);
 }
 
-module _ (w : List ℕ) (m e : ℕ) (l₀ l : List ℕ) (n i : ℕ) (s : Written w m e l₀ l n i) where
-  pub write-end : m < i → 2 * length (freeRegions e (regionsIn w 0 m)) ≤ length l₀ →
-      l ≡ regionWords (freeRegions e (regionsIn w 0 m)) ++ drop (2 * length (freeRegions e (regionsIn w 0 m))) l₀
-  write-end h fits =
-      let k : length (freeRegions e (regionsIn w 0 m)) ≡ n = rw (← all) (length-regions l 0 n) in
-      let z : 0 + n ≡ n = omega arith in
-      let o : 2 * 0 ≡ 0 = omega arith in
-      rw (k, ← drop-same l l₀ n (s .same) (s .after), ← all) (sym (rw (z, o) at (region-words l 0 n (omega (arith, s .same)))))
+module _ (row : DiscRegion → List ℕ) (w : List ℕ) (m e : ℕ) (l₀ l : List ℕ) (at i : ℕ) (s : Written row w m e l₀ l at i) where
+  pub write-end : m < i → l ≡ put l₀ 0 (rowsOf row (freeRegions e (regionsIn w 0 m)))
+  write-end h = s .is ∙ ap (λ (rs : List DiscRegion). put l₀ 0 (rowsOf row rs)) (sym (append-nil (s .done)) ∙ all)
     where
-      all : regionsIn l 0 n ≡ freeRegions e (regionsIn w 0 m)
-      all = sym (append-nil (regionsIn l 0 n)) ∙ done
-        where
-          done : regionsIn l 0 n ++ [] ≡ freeRegions e (regionsIn w 0 m)
-          done = unfold nonempty in (rw (gaps-over w m e i h) at (s .left))
+      all : s .done ++ [] ≡ freeRegions e (regionsIn w 0 m)
+      all = unfold nonempty in (rw (gaps-over w m e i h) at (s .left))
 
   module _ (r : DiscRegion) (h : i ≤ m) (is : r ≡ getD (gaps 0 e (regionsIn w 0 m)) i noRegion) where
-    now-at : regionsIn l 0 n ++ nonempty (r ∷ drop (i + 1) (gaps 0 e (regionsIn w 0 m))) ≡ freeRegions e (regionsIn w 0 m)
+    now-at : s .done ++ nonempty (r ∷ drop (i + 1) (gaps 0 e (regionsIn w 0 m))) ≡ freeRegions e (regionsIn w 0 m)
     now-at = rw is (rw (gaps-more w m e i h) at (s .left))
 
-    pub write-skip : r .size ≡ 0 → Written w m e l₀ l n (i + 1)
-    write-skip z = record { bound = omega arith; same = s .same; after = s .after; left = rw (nonempty-empty r (drop (i + 1) (gaps 0 e (regionsIn w 0 m))) z) at now-at }
-
-    full : (r .size ≡ 0 → ⊥) → regionsIn l 0 n ++ (r ∷ nonempty (drop (i + 1) (gaps 0 e (regionsIn w 0 m)))) ≡ freeRegions e (regionsIn w 0 m)
-    full z = rw (nonempty-cons r (drop (i + 1) (gaps 0 e (regionsIn w 0 m))) (omega arith)) at now-at
-
-    pub write-room : (r .size ≡ 0 → ⊥) → 2 * length (freeRegions e (regionsIn w 0 m)) ≤ length l₀ → 2 * n + 2 ≤ length l
-    write-room z fits =
-        omega (arith, s .same, ap length (full z), length-append (regionsIn l 0 n) (r ∷ nonempty (drop (i + 1) (gaps 0 e (regionsIn w 0 m)))), length-regions l 0 n)
-
-    pub write-go : (l′ : List ℕ) (n′ : ℕ) → (r .size ≡ 0 → ⊥) → length l′ ≡ length l → Added l l′ n (r .offset) (r .size) n′ → Written w m e l₀ l′ n′ (i + 1)
-    write-go l′ n′ z k a = record {
+    pub write-skip : r .size ≡ 0 → Written row w m e l₀ l at (i + 1)
+    write-skip z = record {
       bound = omega arith;
-      same = k ∙ s .same;
-      after = λ x b. a .outside .high x (omega (arith, more)) ∙ s .after x (omega (arith, more));
-      left = rw (one, append-assoc (regionsIn l 0 n) (r ∷ []) (nonempty (drop (i + 1) (gaps 0 e (regionsIn w 0 m))))) (full z);
+      same = s .same;
+      done = s .done;
+      words = s .words;
+      inside = s .inside;
+      is = s .is;
+      left = rw (nonempty-empty r (drop (i + 1) (gaps 0 e (regionsIn w 0 m))) z) at now-at;
     }
-      where
-        one : regionsIn l′ 0 n′ ≡ regionsIn l 0 n ++ (r ∷ [])
-        one = a .list ∙ rw (nonempty-cons r [] (omega arith)) (unfold nonempty in refl)
 
-        more : n′ ≡ n + 1
-        more = sym (length-regions l′ 0 n′) ∙ ap length one ∙ length-append (regionsIn l 0 n) (r ∷ []) ∙ ap (λ (x : ℕ). x + 1) (length-regions l 0 n)
+    module _ (k : ℕ) (some : r .size ≡ 0 → ⊥) (wide : length (row r) ≡ k) (fits : length (rowsOf row (freeRegions e (regionsIn w 0 m))) ≤ length l₀) where
+      abbrev others : List DiscRegion
+      others = nonempty (drop (i + 1) (gaps 0 e (regionsIn w 0 m)))
+
+      full : s .done ++ (r ∷ others) ≡ freeRegions e (regionsIn w 0 m)
+      full = rw (nonempty-cons r (drop (i + 1) (gaps 0 e (regionsIn w 0 m))) (omega arith)) at now-at
+
+      pub write-room : at + k ≤ length l
+      write-room =
+          let all : length (rowsOf row (freeRegions e (regionsIn w 0 m))) ≡ length (rowsOf row (s .done) ++ rowsOf row (r ∷ others)) = ap length (ap (rowsOf row) (sym full) ∙ rows-append row (s .done) (r ∷ others)) in
+          omega (arith, s .same, s .words, all, length-append (rowsOf row (s .done)) (rowsOf row (r ∷ others)), here)
+        where
+          here : length (rowsOf row (r ∷ others)) ≡ length (row r) + length (rowsOf row others)
+          here = unfold rowsOf in length-append (row r) (rowsOf row others)
+
+      pub write-go : (l′ : List ℕ) → l′ ≡ put l at (row r) → Written row w m e l₀ l′ (at + k) (i + 1)
+      write-go l′ p = record {
+        bound = omega arith;
+        same = p-length;
+        done = s .done ++ (r ∷ []);
+        words = omega (arith, s .words, ap length more, length-append (rowsOf row (s .done)) (row r));
+        inside = omega (arith, write-room, p-length, s .same);
+        is = p ∙ rw (s .is, more) (put-append l₀ 0 (rowsOf row (s .done)) at (row r) (omega (arith, s .words)) (omega (arith, write-room, s .same)));
+        left = rw (append-assoc (s .done) (r ∷ []) others) full;
+      }
+        where
+          more : rowsOf row (s .done ++ (r ∷ [])) ≡ rowsOf row (s .done) ++ row r
+          more = rows-append row (s .done) (r ∷ []) ∙ ap (λ (x : List ℕ). rowsOf row (s .done) ++ x) (unfold rowsOf in append-nil (row r))
+
+          p-length : length l′ ≡ length l₀
+          p-length = ap length p ∙ length-put l at (row r) (omega (arith, write-room, wide)) ∙ s .same
 
 -- ---- the answer
 
-pub list-short : (rs : List DiscRegion) (l : List ℕ) (n : ℕ) → n ≡ length rs → length l / 2 < n → (Refused LimitOrMemory ≡ listingOf rs (length l)) × (l ≡ listAfter rs l)
-list-short rs l n q h = let a : length l < 2 * length rs = omega arith in (rw (lt-ltb (length l) (2 * length rs) a), rw (lt-ltb (length l) (2 * length rs) a))
+module _ (row : DiscRegion → List ℕ) (rs : List DiscRegion) (l : List ℕ) where
+  pub list-short : length l < length (rowsOf row rs) → (Refused LimitOrMemory ≡ listingOf row rs (length l)) × (l ≡ listAfter row rs l)
+  list-short a = (rw (lt-ltb (length l) (length (rowsOf row rs)) a), rw (lt-ltb (length l) (length (rowsOf row rs)) a))
 
-pub list-fits : (rs : List DiscRegion) (l l′ : List ℕ) (n : ℕ) → n ≡ length rs → n ≤ length l / 2 → l′ ≡ regionWords rs ++ drop (2 * length rs) l →
-    (Listed n ≡ listingOf rs (length l)) × (l′ ≡ listAfter rs l)
-list-fits rs l l′ n q h e =
-    let a : 2 * length rs ≤ length l = omega arith in
-    (rw (le-ltb (length l) (2 * length rs) a, q), rw (le-ltb (length l) (2 * length rs) a) e)
+  pub list-fits : (l′ : List ℕ) (n : ℕ) → n ≡ length rs → length (rowsOf row rs) ≤ length l → l′ ≡ put l 0 (rowsOf row rs) →
+      (Listed n ≡ listingOf row rs (length l)) × (l′ ≡ listAfter row rs l)
+  list-fits l′ n q a e = (rw (le-ltb (length l) (length (rowsOf row rs)) a, q), rw (le-ltb (length l) (length (rowsOf row rs)) a) e)
 
 -- ---- summed
 

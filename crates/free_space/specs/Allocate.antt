@@ -1,6 +1,6 @@
 -- Document 01, "Free space": "Allocation takes each free region from its first multiple of the alignment, drops it if the padding reaches its size
 -- or the rest is below the wish, and returns the largest rest, the last among equals." Calls: "allocation 22, 21". Assumes nothing: these are definitions.
-use Prim.Native.Nat.{ℕ, zero, suc, _+_, _-_, _*_, _/_, _^_}
+use Prim.Native.Nat.{ℕ, zero, suc, _-_, _^_}
 use mathlib.Core.Bool.{Bool, false, cond, _&&_, _||_}
 use mathlib.Core.List.{List, [], _∷_}
 use lib.Dec.{leb, ltb, eqb}
@@ -9,10 +9,7 @@ use Rattle.space.specs.declared.DiscRegion.{DiscRegion}
 use Rattle.free_space.specs.declared.Allocation.{Allocation}
 use Rattle.free_space.specs.declared.Allocation.the-variants.{Found, Refused}
 use Rattle.space.specs.Used.{endOf}
-
--- the first multiple of the alignment from a on
-unfoldable pub alignUp : ℕ → ℕ → ℕ
-alignUp align a = (a + (align - 1)) / align * align
+use Rattle.space.specs.Align.{alignUp}
 
 -- what a free region has from its first multiple on
 abbrev pub rest : ℕ → DiscRegion → DiscRegion

@@ -1,14 +1,15 @@
 // Free regions, the largest size of a region, and allocation, over the used regions that stand in lent words in order (disc.rs).
 ghost use mathlib.Core.Path.{_≡_};
 ghost use mathlib.Core.Bool.{true, false};
-ghost use mathlib.Core.List.{_++_};
 ghost use Prim.Native.Nat.{_+_, _-_, _*_, _≤_, _<_};
-ghost use lib.ListN.{length, getD, drop};
+ghost use lib.ListN.{length, getD};
+ghost use Rattle.endian.specs.Bytes.{put};
 ghost use Rattle.space.specs.Used.{totalSize};
 ghost use Rattle.space.specs.Free.{freeRegions};
 ghost use Rattle.free_space.specs.MaxRegionSize.{insideFree, besideFree, maxRegionSize};
-ghost use Rattle.free_space.specs.Allocate.{alignUp, betterOf, largest, isPowerOfTwo, noRegion, allocationOf};
-ghost use Rattle.free_space.specs.Listing.{regionWords, listingOf, listAfter};
+ghost use Rattle.space.specs.Align.{alignUp};
+ghost use Rattle.free_space.specs.Allocate.{betterOf, largest, isPowerOfTwo, noRegion, allocationOf};
+ghost use Rattle.free_space.specs.Listing.{regionRow, rowsOf, listingOf, listAfter};
 ghost use Rattle.space.specs.Inner.Sort.{regionsIn};
 ghost use Rattle.space.specs.Inner.Words.{SortedDisjoint, gaps, endBefore, startAt};
 use refusal::Refusal;
@@ -63,7 +64,7 @@ pub fn gap_at(words: &[u32], count: usize, disc_end: u32, i: usize) -> DiscRegio
 }
 
 // How many free regions there are.
-fn count_free_regions(words: &[u32], count: usize, disc_end: u32) -> usize
+pub fn count_free_regions(words: &[u32], count: usize, disc_end: u32) -> usize
     requires { ⌜ SortedDisjoint (now words) count «disc_end» ⌝ }
     ensures { λ r. ⌜ r ≡ length (freeRegions «disc_end» (regionsIn (now (words .entry)) 0 count)) ⌝ }
 {
@@ -81,19 +82,29 @@ fn count_free_regions(words: &[u32], count: usize, disc_end: u32) -> usize
     found
 }
 
+// The offset and the size of a region, from `at` on.
+fn put_region(list: &mut [u32], at: usize, region: DiscRegion)
+    requires { ⌜ at + 2 ≤ length (now list) ⌝ }
+    ensures { λ _. ⌜ now (list .exit) ≡ put (now (list .entry)) at (regionRow region) ⌝ }
+{
+    list[at] = region.offset;
+    list[at + 1] = region.size;
+}
+
 // Writes the free regions to the front of a list that has room for them.
 fn list_free_regions(words: &[u32], count: usize, disc_end: u32, list: &mut [u32])
-    requires { ⌜ SortedDisjoint (now words) count «disc_end» × (2 * length (freeRegions «disc_end» (regionsIn (now words) 0 count)) ≤ length (now list)) ⌝ }
-    ensures { λ _. ⌜ now (list .exit) ≡ regionWords (freeRegions «disc_end» (regionsIn (now (words .entry)) 0 count)) ++ drop (2 * length (freeRegions «disc_end» (regionsIn (now (words .entry)) 0 count))) (now (list .entry)) ⌝ }
+    requires { ⌜ SortedDisjoint (now words) count «disc_end» × (length (rowsOf regionRow (freeRegions «disc_end» (regionsIn (now words) 0 count))) ≤ length (now list)) ⌝ }
+    ensures { λ _. ⌜ now (list .exit) ≡ put (now (list .entry)) 0 (rowsOf regionRow (freeRegions «disc_end» (regionsIn (now (words .entry)) 0 count))) ⌝ }
 {
-    let mut found = 0;
+    let mut at = 0;
     let mut i = 0;
     while i <= count {
         let gap = gap_at(words, count, disc_end, i);
         if gap.size == 0 {
             i += 1;
         } else {
-            found = space::add_region(list, found, gap.offset, gap.size);
+            put_region(list, at, gap);
+            at += 2;
             i += 1;
         }
     }
@@ -102,8 +113,8 @@ fn list_free_regions(words: &[u32], count: usize, disc_end: u32, list: &mut [u32
 // Lists the free regions, an offset and a size each, rising. Refuses 9, with nothing written, if the list is short.
 pub fn free_regions(words: &[u32], count: usize, disc_end: u32, list: &mut [u32]) -> Listing
     requires { ⌜ SortedDisjoint (now words) count «disc_end» ⌝ }
-    ensures { λ r. ⌜ r ≡ listingOf (freeRegions «disc_end» (regionsIn (now (words .entry)) 0 count)) (length (now (list .entry))) ⌝ }
-    ensures { λ _. ⌜ now (list .exit) ≡ listAfter (freeRegions «disc_end» (regionsIn (now (words .entry)) 0 count)) (now (list .entry)) ⌝ }
+    ensures { λ r. ⌜ r ≡ listingOf regionRow (freeRegions «disc_end» (regionsIn (now (words .entry)) 0 count)) (length (now (list .entry))) ⌝ }
+    ensures { λ _. ⌜ now (list .exit) ≡ listAfter regionRow (freeRegions «disc_end» (regionsIn (now (words .entry)) 0 count)) (now (list .entry)) ⌝ }
 {
     let found = count_free_regions(words, count, disc_end);
     if list.len() / 2 < found {
@@ -180,7 +191,7 @@ pub fn max_region_size(words: &[u32], count: usize, disc_end: u32, offset: u32, 
 // ---- allocation
 
 // The first multiple of `align` from a on.
-fn align_up(a: u32, align: u32) -> u64
+pub fn align_up(a: u32, align: u32) -> u64
     requires { ⌜ 0 < align ⌝ }
     ensures { λ r. ⌜ r ≡ alignUp align a ⌝ }
 {

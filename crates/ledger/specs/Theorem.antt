@@ -11,7 +11,7 @@ use Rattle.refusal.specs.declared.Verdict.the-variants.{Passed}
 use Rattle.header.specs.Verdicts.{tableEnd, discEnd}
 use Rattle.tree.specs.Table.{file, none}
 use Rattle.space.specs.Used.{inside, totalSize}
-use Rattle.free_space.specs.Listing.{listingOf, listAfter}
+use Rattle.free_space.specs.Listing.{regionRow, listingOf, listAfter}
 use Rattle.opening.specs.Opening.{nodesIn, regionOf, usedIn, freeOf, opening}
 use Rattle.disc.specs.Calls.{totalsAnswer, freeRegionsAnswer, freeRegionsList}
 use Rattle.disc.specs.declared.TotalsAnswer.the-variants.{Found}
@@ -41,8 +41,8 @@ pub record Demand3 (w : ℕ) (image : List ℕ) (l : Ledger) : Type 0 where
   pub sum : tableEnd image + totalSize (map regionOf (nodesIn image)) + totalSize (freeOf image) ≡ discEnd image
   -- "a used total or free region reported then is the one defined above"
   pub used-reported : totalsAnswer image w ≡ Found (record { «disc_end» = discEnd image; used = tableEnd image + totalSize (map regionOf (nodesIn image)) })
-  pub free-reported : (room : ℕ) → freeRegionsAnswer image w room ≡ listingOf (freeOf image) room
-  pub free-listed : (list : List ℕ) → freeRegionsList image w list ≡ listAfter (freeOf image) list
+  pub free-reported : (room : ℕ) → freeRegionsAnswer image w room ≡ listingOf regionRow (freeOf image) room
+  pub free-listed : (list : List ℕ) → freeRegionsList image w list ≡ listAfter regionRow (freeOf image) list
   -- each file is true to its history
   pub files : (k : ℕ) (nm : List ℕ) (offset size : ℕ) → getD (nodesIn image) k none ≡ file nm offset size → TrueTo image l k offset size
 

@@ -4,3 +4,4 @@ pub mod LayoutLaws
 pub mod RunLaws
 pub mod TotalLaws
 pub mod UsedLaws
+pub mod ClusterLaws

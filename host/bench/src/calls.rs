@@ -19,6 +19,7 @@ fn cases(plan: &Plan, size: u32) -> Vec<(&'static str, Call, u32, u32)> {
         ("open", Call::Open, 0, 64),
         ("lookup of the last entry", Call::Lookup(last), 0, 64),
         ("free regions", Call::FreeRegions, 0, 64),
+        ("free clusters", Call::FreeClusters, 0, 64),
         ("allocate", Call::Allocate(0x40, 0x20), 0, 64),
         ("max file size", Call::MaxFileSize(file), file, 64),
         ("move, 1 byte", Call::Move(file, free), file, 1),

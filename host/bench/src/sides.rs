@@ -1,10 +1,10 @@
 //! One call on either side, timed. The Rust's time is that of its opening and of the call, without the time to free what it opened;
 //! Counter opens in each call. An answer is a list of numbers, so that both can be compared.
 
-use crate::dvd::disc::DiscStream;
+use crate::dvd::disc::{DiscRegion, DiscStream};
 use crate::dvd::fst::{DirectoryEntry, EntryId, FileEntry, FileTree};
 use crate::measure::Watch;
-use counter_sys::{self as counter, Memory};
+use counter_sys::{self as counter, CLUSTER_WORDS, Memory, REGION_WORDS};
 use std::hint::black_box;
 use std::io::Cursor;
 use std::time::Duration;
@@ -14,6 +14,7 @@ pub enum Call {
     Open,
     Lookup(Vec<u8>),
     FreeRegions,
+    FreeClusters,
     Allocate(u32, u32),
     MaxFileSize(u32),
     InsertFile(u32, Vec<u8>),
@@ -27,7 +28,10 @@ pub enum Call {
 impl Call {
     pub fn edits(&self) -> bool {
         use Call::*;
-        !matches!(self, Open | Lookup(_) | FreeRegions | Allocate(..) | MaxFileSize(_))
+        !matches!(
+            self,
+            Open | Lookup(_) | FreeRegions | FreeClusters | Allocate(..) | MaxFileSize(_)
+        )
     }
 }
 
@@ -44,7 +48,7 @@ impl Lent {
     /// What the paper asks for at `entries` entries and a table of `table` bytes, and `regions` free regions.
     pub fn new(entries: usize, table: usize, regions: usize) -> Self {
         let words = vec![0; 4 * (entries + 2)];
-        Self { words, bytes: vec![0; table], list: vec![0; 2 * regions] }
+        Self { words, bytes: vec![0; table], list: vec![0; CLUSTER_WORDS * regions] }
     }
 
     pub fn run(&mut self, call: &Call, image: &mut [u8]) -> (Duration, Result<Vec<u32>, u32>) {
@@ -60,7 +64,12 @@ impl Lent {
             Call::FreeRegions => {
                 let found = counter::free_regions(image, memory, &mut self.list);
                 let time = start.elapsed();
-                return (time, found.map(|n| self.list[..2 * n as usize].to_vec()));
+                return (time, found.map(|n| self.list[..REGION_WORDS * n as usize].to_vec()));
+            }
+            Call::FreeClusters => {
+                let found = counter::free_clusters(image, memory, &mut self.list);
+                let time = start.elapsed();
+                return (time, found.map(|n| self.list[..CLUSTER_WORDS * n as usize].to_vec()));
             }
             Call::Allocate(size, align) => {
                 counter::allocate(image, memory, *size, *align).map(|r| vec![r.offset, r.size])
@@ -101,6 +110,14 @@ fn text(bytes: &[u8]) -> &str {
     std::str::from_utf8(bytes).unwrap()
 }
 
+/// What document 02 asks of a free region, which the Rust has no call for: the bytes before its first multiple of 0x8000, the whole
+/// clusters and the rest.
+fn in_clusters(region: &DiscRegion) -> [u32; CLUSTER_WORDS] {
+    let before = region.size.min(region.offset.wrapping_neg() % 0x8000);
+    let behind = region.size - before;
+    [before, behind / 0x8000, behind % 0x8000]
+}
+
 pub fn rust_reads(call: &Call, image: &[u8], id: EntryId) -> Timed {
     let start = Watch::start();
     let disc = DiscStream::open(Cursor::new(image)).unwrap();
@@ -116,6 +133,10 @@ pub fn rust_reads(call: &Call, image: &[u8], id: EntryId) -> Timed {
         Call::FreeRegions => {
             let regions = black_box(disc.free_regions());
             (start.elapsed(), regions.iter().flat_map(|r| [r.offset, r.size]).collect())
+        }
+        Call::FreeClusters => {
+            let each: Vec<_> = black_box(disc.free_regions().iter().map(in_clusters).collect());
+            (start.elapsed(), each.concat())
         }
         Call::Allocate(size, align) => {
             let region = black_box(disc.allocate(*size, *align).unwrap());

@@ -122,6 +122,11 @@ const ANYWAY: Flag = Flag {
     words: "lets a journal pass that was written for another file with the same contents",
 };
 const ALL: Flag = Flag { name: "--all", value: None, words: "everything, in the place of PATH" };
+const CLUSTERS: Flag = Flag {
+    name: "--clusters",
+    value: None,
+    words: "counts each free region in clusters of 0x8000 bytes, for planners",
+};
 const DEMO: Flag =
     Flag { name: "--demo", value: None, words: "the built-in small master, in the place of IMAGE" };
 const OUT: Flag = Flag {
@@ -185,7 +190,16 @@ pub const FORMS: &[Form] = &[
         "folders and files as a tree, with offsets and sizes",
         &["counter tree disc.iso"],
     ),
-    look("free", &[&IMAGE], "the free regions", &["counter free disc.iso"]),
+    Form {
+        flags: &[&CLUSTERS, &JSON, &WAIT, &AS_IS],
+        more: FREE,
+        ..look(
+            "free",
+            &[&IMAGE],
+            "the free regions; with --clusters counted in clusters of 0x8000 bytes",
+            &["counter free disc.iso", "counter free disc.iso --clusters"],
+        )
+    },
     look(
         "find",
         &[&IMAGE, &PATH],
@@ -325,6 +339,11 @@ pub const FORMS: &[Form] = &[
     },
 ];
 
+const FREE: &str = "\
+With --clusters each region is told as the bytes before its first multiple of 0x8000, the whole \
+clusters from there on, and the rest: before + 0x8000 * clusters + rest = size. A region whose first \
+multiple of 0x8000 is at or past its end is all \"before\".";
+
 const COMPARE: &str = "\
 LIST is a text file, one path a line; a line that ends in / stands for that folder and all in it. / \
 alone stands for everything, and that is said aloud. A line that leads to the root in another way, or \
@@ -371,6 +390,7 @@ pub struct Args {
     pub as_is: bool,
     pub anyway: bool,
     pub all: bool,
+    pub clusters: bool,
     demo: bool,
     pub given: Vec<PathBuf>,
     pub out: Option<PathBuf>,
@@ -406,6 +426,7 @@ impl Args {
             as_is: false,
             anyway: false,
             all: false,
+            clusters: false,
             demo: false,
             given: Vec::new(),
             out: None,
@@ -451,6 +472,7 @@ impl Args {
             "--as-is" => self.as_is = true,
             "--anyway" => self.anyway = true,
             "--all" => self.all = true,
+            "--clusters" => self.clusters = true,
             "--demo" => self.demo = true,
             "--given" => self.given.push(file()?),
             "--map" => self.map = Some(file()?),

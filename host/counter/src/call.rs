@@ -1,14 +1,11 @@
 //! The edits: what is asked on the command line, and the one call of the library that does it.
 
 use crate::args::Args;
-use crate::disc::no_path;
+use crate::disc::{CLUSTER, no_path};
 use crate::failure::{Failure, Outcome};
 use crate::image::{Desk, Image, shown};
 use crate::text::{grouped, number};
 use counter_sys::{self as counter, Memory};
-
-/// Where a file that has to move is looked a place for.
-pub const CLUSTER: u32 = 0x8000;
 
 /// What was asked, in the words of the command line.
 pub enum Wish {

@@ -4,7 +4,9 @@ use crate::failure::{DATA, Failure, INTERNAL, Outcome};
 use crate::image::{Desk, Image};
 use crate::text::shown;
 use crate::trouble;
-use counter_sys::{self as counter, ENTRY_WORDS, Opened, Region};
+use counter_sys::{
+    self as counter, Answer, CLUSTER_WORDS, ENTRY_WORDS, Memory, Opened, REGION_WORDS, Region,
+};
 use std::path::Path;
 
 /// Most entries of a table that opens.
@@ -13,6 +15,10 @@ const MOST_ENTRIES: usize = 16_384;
 /// Most bytes that all paths of an image may take to be kept. Names can share one long text, so that
 /// 16,384 paths of 64 MiB each are possible; those of a real disc take some hundred KiB.
 const MOST_PATHS: u64 = 64 << 20;
+
+/// Bytes of a cluster. Games' files begin on its multiples, so a place is looked for there if nothing
+/// else is said, and planners count free space in it.
+pub const CLUSTER: u32 = 0x8000;
 
 #[derive(Clone, Copy, PartialEq, Eq)]
 pub enum Kind {
@@ -90,11 +96,35 @@ pub fn table_end(opened: &Opened) -> u64 {
 }
 
 fn free_regions(image: &Image, desk: &mut Desk) -> Outcome<Vec<Region>> {
-    let mut list = vec![0; 2 * (MOST_ENTRIES + 1)];
-    let count = counter::free_regions(image.bytes(), &mut desk.lend(), &mut list)
+    let regions = of_each_region::<REGION_WORDS>(image, desk, counter::free_regions)?;
+    Ok(regions.into_iter().map(|[offset, size]| Region { offset, size }).collect())
+}
+
+/// A free region in clusters: the bytes before its first multiple of `CLUSTER`, the whole clusters from
+/// there on, and the bytes behind them.
+pub struct Clusters {
+    pub before: u32,
+    pub whole: u32,
+    pub rest: u32,
+}
+
+/// The free regions in clusters, in the order of `Space::free`.
+pub fn free_clusters(image: &Image, desk: &mut Desk) -> Outcome<Vec<Clusters>> {
+    let regions = of_each_region::<CLUSTER_WORDS>(image, desk, counter::free_clusters)?;
+    Ok(regions.into_iter().map(|[before, whole, rest]| Clusters { before, whole, rest }).collect())
+}
+
+/// What a call of the library tells of each free region.
+fn of_each_region<const WORDS: usize>(
+    image: &Image,
+    desk: &mut Desk,
+    call: fn(&[u8], &mut Memory, &mut [u32]) -> Answer<u32>,
+) -> Outcome<Vec<[u32; WORDS]>> {
+    let mut list = vec![[0; WORDS]; MOST_ENTRIES + 1];
+    let count = call(image.bytes(), &mut desk.lend(), list.as_flattened_mut())
         .map_err(|number| not_opened(image, number))?;
-    let pairs = list.chunks_exact(2).take(count as usize);
-    Ok(pairs.map(|pair| Region { offset: pair[0], size: pair[1] }).collect())
+    list.truncate(count as usize);
+    Ok(list)
 }
 
 pub struct Disc {

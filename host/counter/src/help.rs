@@ -148,7 +148,11 @@ const FIELDS: &[(&str, &str)] = &[
     ),
     ("list", "total used entries[ENTRY] free[offset size]"),
     ("tree", "ENTRY with name for path; a directory's also with bytes files children[...]"),
-    ("free", "disc_end free regions[offset size]"),
+    (
+        "free",
+        "disc_end free regions[offset size]; with --clusters disc_end free cluster_size clusters \
+         regions[offset size before clusters rest]",
+    ),
     ("find", "ENTRY with largest_size (null for a directory)"),
     ("place", "size align offset room; room: the free bytes from offset on"),
     ("cat", "path offset size hex"),

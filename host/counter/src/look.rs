@@ -1,7 +1,9 @@
 //! The commands that look at an image.
 
 use crate::args::Args;
-use crate::disc::{Kind, Space, not_opened, opened, space, table_end};
+use crate::disc::{
+    CLUSTER, Clusters, Kind, Space, free_clusters, not_opened, opened, space, table_end,
+};
 use crate::dol::program_behind;
 use crate::failure::{Failure, Outcome};
 use crate::header::Header;
@@ -9,7 +11,7 @@ use crate::image::Image;
 use crate::json::{Json, latin};
 use crate::out::say;
 use crate::text::{both, counted, grouped, hex, human, line, number, shown, size};
-use crate::tree::{free_json, node_json, weights};
+use crate::tree::{free_json, node_json, region_fields, weights};
 use counter_sys as counter;
 use std::fmt::Write;
 
@@ -113,15 +115,25 @@ fn info_text(image: &Image, header: &Header, disc: &Space) -> String {
 // free, find, check -----------------------------------------------------------------------
 
 pub fn free(args: &Args) -> Outcome<()> {
-    let (_, _, disc) = space(args.image.as_deref())?;
+    let (image, mut desk, disc) = space(args.image.as_deref())?;
+    let clusters = args.clusters.then(|| free_clusters(&image, &mut desk)).transpose()?;
     if args.json {
-        let json = Json::Object(vec![
-            ("disc_end", disc.opened.disc_end.into()),
-            ("free", disc.free_bytes().into()),
-            ("regions", free_json(&disc.free)),
-        ]);
-        return say(json.document().as_bytes());
+        let mut fields =
+            vec![("disc_end", disc.opened.disc_end.into()), ("free", disc.free_bytes().into())];
+        fields.extend(match &clusters {
+            Some(clusters) => clusters_fields(&disc, clusters),
+            None => vec![("regions", free_json(&disc.free))],
+        });
+        return say(Json::Object(fields).document().as_bytes());
     }
+    let text = match &clusters {
+        Some(clusters) => clusters_text(&disc, clusters),
+        None => free_text(&disc),
+    };
+    say(text.as_bytes())
+}
+
+fn free_text(disc: &Space) -> String {
     let mut out = format!("{:>10}  {:>10}  {:>13}\n", "offset", "size", "bytes");
     for region in &disc.free {
         let bytes = u64::from(region.size);
@@ -142,7 +154,51 @@ pub fn free(args: &Args) -> Outcome<()> {
         size(total),
         human(disc.opened.disc_end.into())
     );
-    say(out.as_bytes())
+    out
+}
+
+fn whole_clusters(clusters: &[Clusters]) -> usize {
+    clusters.iter().map(|region| region.whole as usize).sum()
+}
+
+fn clusters_fields(disc: &Space, clusters: &[Clusters]) -> Vec<(&'static str, Json)> {
+    let regions = disc.free.iter().zip(clusters).map(|(region, in_clusters)| {
+        let mut fields = region_fields(region);
+        fields.push(("before", in_clusters.before.into()));
+        fields.push(("clusters", in_clusters.whole.into()));
+        fields.push(("rest", in_clusters.rest.into()));
+        Json::Object(fields)
+    });
+    vec![
+        ("cluster_size", CLUSTER.into()),
+        ("clusters", whole_clusters(clusters).into()),
+        ("regions", Json::List(regions.collect())),
+    ]
+}
+
+/// Six places hold what lies beside the whole clusters of a region: at most 32,767 bytes on each side.
+fn clusters_text(disc: &Space, clusters: &[Clusters]) -> String {
+    let mut out = format!(
+        "{:>10}  {:>10}  {:>6}  {:>8}  {:>6}\n",
+        "offset", "size", "before", "clusters", "rest"
+    );
+    for (region, in_clusters) in disc.free.iter().zip(clusters) {
+        let _ = writeln!(
+            out,
+            "{:#010x}  {:#010x}  {:>6}  {:>8}  {:>6}",
+            region.offset,
+            region.size,
+            grouped(in_clusters.before.into()),
+            grouped(in_clusters.whole.into()),
+            grouped(in_clusters.rest.into())
+        );
+    }
+    let whole = counted(whole_clusters(clusters), "whole cluster", "whole clusters");
+    let regions = counted(disc.free.len(), "region", "regions");
+    let beside = clusters.iter().map(|region| u64::from(region.before) + u64::from(region.rest));
+    let _ = writeln!(out, "{whole} of {CLUSTER:#x} bytes in {regions}");
+    let _ = writeln!(out, "{} free beside them", size(beside.sum()));
+    out
 }
 
 pub fn find(args: &Args) -> Outcome<()> {
@@ -182,9 +238,6 @@ pub fn find(args: &Args) -> Outcome<()> {
     }
     say(out.as_bytes())
 }
-
-/// Where a place is looked for if nothing else is said: where games' files begin.
-const CLUSTER: u32 = 0x8000;
 
 pub fn place(args: &Args) -> Outcome<()> {
     let wish = number(&args.bytes(0)).map_err(Failure::usage)?;

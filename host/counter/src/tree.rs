@@ -86,11 +86,12 @@ pub fn node_json(node: &Node) -> Json {
     Json::Object(fields)
 }
 
+pub fn region_fields(region: &Region) -> Vec<(&'static str, Json)> {
+    vec![("offset", region.offset.into()), ("size", region.size.into())]
+}
+
 pub fn free_json(free: &[Region]) -> Json {
-    let regions = free.iter().map(|region| {
-        Json::Object(vec![("offset", region.offset.into()), ("size", region.size.into())])
-    });
-    Json::List(regions.collect())
+    Json::List(free.iter().map(|region| Json::Object(region_fields(region))).collect())
 }
 
 fn list_json(disc: &Disc) -> Json {

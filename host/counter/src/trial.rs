@@ -1,9 +1,9 @@
 //! An edit tried out before the image is written: the proved call runs on a mapping that is written in
 //! memory only. It refuses as it would, and what it changed there is what the edit will write.
 
-use crate::call::{CLUSTER, Call, Wish, refused};
+use crate::call::{Call, Wish, refused};
 use crate::change::Change;
-use crate::disc::{Disc, Kind, table_end};
+use crate::disc::{CLUSTER, Disc, Kind, table_end};
 use crate::failure::{Failure, INTERNAL, Outcome};
 use crate::image::{Desk, Image};
 use counter_sys as counter;

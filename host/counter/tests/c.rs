@@ -35,11 +35,9 @@ fn compile(compiler: &str, args: &[&str]) -> Option<()> {
     Some(())
 }
 
-#[test]
-fn the_worked_example_does_what_the_program_does() {
-    let temp = Temp::new();
-    let example = temp.at("example");
-    let source = include().join("example.c");
+/// A program over the library; None if there is no compiler.
+fn over_library(source: &Path, temp: &Temp) -> Option<PathBuf> {
+    let out = temp.at("program");
     let folder = library();
     let args = [
         "-std=c99",
@@ -48,11 +46,18 @@ fn the_worked_example_does_what_the_program_does() {
         folder.to_str().unwrap(),
         "-lcounter",
         "-o",
-        example.to_str().unwrap(),
+        out.to_str().unwrap(),
     ];
-    if compile("cc", &args).is_none() {
+    compile("cc", &args)?;
+    Some(out)
+}
+
+#[test]
+fn the_worked_example_does_what_the_program_does() {
+    let temp = Temp::new();
+    let Some(example) = over_library(&include().join("example.c"), &temp) else {
         return;
-    }
+    };
     let image = temp.write("disc.iso", &filled_master());
     let moved = temp.at("moved.iso");
     let run: Run = Command::new(&example)
@@ -85,6 +90,45 @@ fn the_worked_example_does_what_the_program_does() {
         .unwrap()
         .into();
     assert_eq!((run.status, run.err.as_str()), (1, "entries: refused 3: not GameCube magic\n"));
+}
+
+#[test]
+fn free_space_is_counted_in_clusters_from_c() {
+    let temp = Temp::new();
+    let text = r#"
+#include "counter.h"
+#include <stdio.h>
+static uint8_t image[0x18123];
+static uint32_t words[COUNTER_MOST_WORDS];
+static uint32_t list[COUNTER_CLUSTER_WORDS * COUNTER_MOST_REGIONS];
+int main(void)
+{
+    size_t len = fread(image, 1, sizeof image, stdin);
+    uint32_t count[1] = { 0 };
+    uint32_t number = counter_free_clusters(image, len, words, COUNTER_MOST_WORDS, list,
+        sizeof list / sizeof list[0], count);
+    uint32_t i;
+    for (i = 0; i < count[0]; i++) {
+        const uint32_t *region = list + COUNTER_CLUSTER_WORDS * i;
+        printf("%u + %u * %u + %u\n", (unsigned)region[0], (unsigned)COUNTER_CLUSTER_SIZE,
+            (unsigned)region[1], (unsigned)region[2]);
+    }
+    return (int)number;
+}
+"#;
+    let Some(program) = over_library(&temp.write("clusters.c", text.as_bytes()), &temp) else {
+        return;
+    };
+    // The small master with a longer disc: its second region is 0x600 to 0x18123.
+    let mut bytes = small_master();
+    bytes.resize(0x1_8123, 0);
+    let lines = "166 + 32768 * 0 + 0\n31232 + 32768 * 2 + 291\n";
+    for (disc_end, status, lines) in [(0x1_8123, 0, lines), (0x1_8124, 4, "")] {
+        put(&mut bytes, 0x434, disc_end);
+        let image = fs::File::open(temp.write("disc.iso", &bytes)).unwrap();
+        let run: Run = Command::new(&program).stdin(image).output().unwrap().into();
+        assert_eq!((run.status, run.out.as_str()), (status, lines));
+    }
 }
 
 #[test]

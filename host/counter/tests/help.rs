@@ -65,6 +65,7 @@ fn help_comes_in_every_way_and_is_about_its_command_alone() {
         "--dry-run",
         "--over-program",
         "--all",
+        "--clusters",
         "--demo",
         "--out",
         "--given",
@@ -155,6 +156,7 @@ fn bash_completes_commands_options_files_and_paths() {
     let offered = |words: &[&str]| offered(&temp, words).unwrap();
     assert_eq!(offered(&["counter", "comp"]), ["compare"]);
     assert_eq!(offered(&["counter", "compare", "--on"]), ["--only-differences"]);
+    assert_eq!(offered(&["counter", "free", "disc.iso", "--c"]), ["--clusters"]);
     assert_eq!(offered(&["counter", "list", "dis"]), ["disc.iso"]);
     assert_eq!(
         offered(&["counter", "compare", "before.iso", "disc.iso", "--given", "gi"]),

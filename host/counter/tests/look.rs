@@ -42,9 +42,10 @@ fn only_bare_commands_show_the_small_master() {
     // What a script says where its variable is empty.
     let other = temp.at("other.svg").display().to_string();
     let folder = temp.at("all").display().to_string();
-    let missing: [&[&str]; 16] = [
+    let missing: [&[&str]; 17] = [
         &["check"],
         &["free"],
+        &["free", "--clusters"],
         &["dol"],
         &["hash"],
         &["list", "--json"],
@@ -481,6 +482,192 @@ fn place_answers_as_the_paper_marks_it() {
     assert!(text.contains(&format!("offset            {at:#x} (")), "{text}");
 }
 
+/// Offset, size, bytes before the first multiple of 0x8000, whole clusters, rest.
+type InClusters = (u64, u64, u64, u64, u64);
+
+/// Wants these regions, this sum of whole clusters and this text below the columns' names.
+fn in_clusters(image: &std::path::Path, wanted: &[InClusters], sum: u64, text: &str) {
+    let table = Table::of(image);
+    let free: Vec<(u64, u64)> = wanted.iter().map(|region| (region.0, region.1)).collect();
+    assert_eq!(table.free(), free);
+    let told = json("free", image, &["--clusters"]);
+    let read = |region: &Json| {
+        let field = |name| region.at(name).number();
+        (field("offset"), field("size"), field("before"), field("clusters"), field("rest"))
+    };
+    let regions: Vec<InClusters> = told.at("regions").list().iter().map(read).collect();
+    assert_eq!(regions, wanted);
+    for (_, size, before, clusters, rest) in regions {
+        assert_eq!(before + 0x8000 * clusters + rest, size);
+    }
+    let bytes = free.iter().map(|region| region.1).sum();
+    for (name, value) in
+        [("disc_end", table.end), ("free", bytes), ("cluster_size", 0x8000), ("clusters", sum)]
+    {
+        assert_eq!(told.at(name).number(), value, "{name}");
+    }
+    let text = format!("    offset        size  before  clusters    rest\n{text}");
+    assert_eq!(done("free", image, &["--clusters"]), text);
+}
+
+#[test]
+fn free_space_of_the_small_master_in_clusters() {
+    let temp = Temp::new();
+    let image = temp.write("small.iso", &small_master());
+    // Both regions end before 0x8000.
+    let wanted = [(0x45A, 0xA6, 0xA6, 0, 0), (0x600, 0x1A00, 0x1A00, 0, 0)];
+    let text = "0x0000045a  0x000000a6     166         0       0\n\
+                0x00000600  0x00001a00   6,656         0       0\n\
+                0 whole clusters of 0x8000 bytes in 2 regions\n\
+                0x1aa6 (6,822 bytes, 6.66 KiB) free beside them\n";
+    in_clusters(&image, &wanted, 0, text);
+    // Without the option nothing is told of clusters.
+    let text = "    offset        size          bytes\n\
+                0x0000045a  0x000000a6            166  166 B\n\
+                0x00000600  0x00001a00          6,656  6.50 KiB\n\
+                0x1aa6 (6,822 bytes, 6.66 KiB) free of 8 KiB in 2 regions\n";
+    assert_eq!(done("free", &image, &[]), text);
+    let told = r#"{
+  "disc_end": 8192,
+  "free": 6822,
+  "regions": [
+    {"offset": 1114, "size": 166},
+    {"offset": 1536, "size": 6656}
+  ]
+}
+"#;
+    assert_eq!(done("free", &image, &["--json"]), told);
+}
+
+#[test]
+fn regions_in_clusters_at_every_boundary() {
+    let temp = Temp::new();
+    let image = temp.at("boundaries.iso");
+    // Ten entries and nine names of one letter: the table has 138 bytes and ends at 0x5008a.
+    let entries = [
+        file("a", 0x5_8000, 0x8000),
+        file("b", 0x6_8000, 0x8000),
+        file("c", 0x7_7FFF, 0x8001),
+        file("d", 0x8_8001, 0x8000),
+        file("e", 0xA_0000, 0x10),
+        file("f", 0xA_0030, 0x7FCF),
+        file("g", 0xA_8001, 0x7FFF),
+        file("h", 0xB_0001, 0x7FFE),
+        file("i", 0xB_8000, 0x123),
+    ];
+    sparse(&image, &entries, 0x10_0123);
+    let wanted = [
+        // The first multiple is the end.
+        (0x5_008A, 0x7F76, 0x7F76, 0, 0),
+        // From a multiple: exactly a cluster, a byte less, a byte more.
+        (0x6_0000, 0x8000, 0, 1, 0),
+        (0x7_0000, 0x7FFF, 0, 0, 0x7FFF),
+        (0x8_0000, 0x8001, 0, 1, 1),
+        // From a byte behind a multiple to a multiple.
+        (0x9_0001, 0xFFFF, 0x7FFF, 1, 0),
+        // The first multiple is past the end.
+        (0xA_0010, 0x20, 0x20, 0, 0),
+        // A byte on each side of a multiple; one byte from it on; one byte before it.
+        (0xA_7FFF, 2, 1, 0, 1),
+        (0xB_0000, 1, 0, 0, 1),
+        (0xB_7FFF, 1, 1, 0, 0),
+        // All three, cut at 0xc0000 and 0x100000.
+        (0xB_8123, 0x4_8000, 0x7EDD, 8, 0x123),
+    ];
+    let text = "0x0005008a  0x00007f76  32,630         0       0\n\
+                0x00060000  0x00008000       0         1       0\n\
+                0x00070000  0x00007fff       0         0  32,767\n\
+                0x00080000  0x00008001       0         1       1\n\
+                0x00090001  0x0000ffff  32,767         1       0\n\
+                0x000a0010  0x00000020      32         0       0\n\
+                0x000a7fff  0x00000002       1         0       1\n\
+                0x000b0000  0x00000001       0         0       1\n\
+                0x000b7fff  0x00000001       1         0       0\n\
+                0x000b8123  0x00048000  32,477         8     291\n\
+                11 whole clusters of 0x8000 bytes in 10 regions\n\
+                0x1ff99 (130,969 bytes, 127 KiB) free beside them\n";
+    in_clusters(&image, &wanted, 11, text);
+}
+
+#[test]
+fn no_free_space_and_one_cluster_of_it() {
+    let temp = Temp::new();
+    // Two entries and a name of one letter: the table has 26 bytes and ends at 0x5001a.
+    let image = temp.at("full.iso");
+    sparse(&image, &[file("a", 0x5_001A, 0xA_FFE6)], 0x10_0000);
+    let text = "0 whole clusters of 0x8000 bytes in 0 regions\n\
+                0x0 (0 bytes) free beside them\n";
+    in_clusters(&image, &[], 0, text);
+    let image = temp.at("one.iso");
+    sparse(&image, &[file("a", 0x5_001A, 0xA_7FE6)], 0x10_0000);
+    let text = "0x000f8000  0x00008000       0         1       0\n\
+                1 whole cluster of 0x8000 bytes in 1 region\n\
+                0x0 (0 bytes) free beside them\n";
+    in_clusters(&image, &[(0xF_8000, 0x8000, 0, 1, 0)], 1, text);
+}
+
+#[test]
+fn thousands_of_clusters_stay_in_their_columns() {
+    let temp = Temp::new();
+    let image = temp.at("retail.iso");
+    // Three entries and two names of eight letters: the table has 54 bytes and ends at 0x50036.
+    let entries = [file("film.thp", 0x10_0000, 0x1000_0001), file("last.bin", 0x5705_0010, 0x10)];
+    sparse(&image, &entries, 0x5705_8000);
+    // From 0x10108000 to 0x57050000 there are 0x46f48000 bytes, 2 * 0x46f5 - 1 clusters.
+    let wanted = [
+        (0x5_0036, 0xA_FFCA, 0x7FCA, 21, 0),
+        (0x1010_0001, 0x46F5_000F, 0x7FFF, 36_329, 0x10),
+        (0x5705_0020, 0x7FE0, 0x7FE0, 0, 0),
+    ];
+    let text = "0x00050036  0x000affca  32,714        21       0\n\
+                0x10100001  0x46f5000f  32,767    36,329      16\n\
+                0x57050020  0x00007fe0  32,736         0       0\n\
+                36,350 whole clusters of 0x8000 bytes in 3 regions\n\
+                0x17fb9 (98,233 bytes, 95.9 KiB) free beside them\n";
+    in_clusters(&image, &wanted, 36_350, text);
+}
+
+#[test]
+fn a_refused_image_is_refused_in_clusters_too() {
+    let temp = Temp::new();
+    type Case = (i32, fn(&mut Vec<u8>));
+    let cases: [Case; 5] = [
+        (1, |b| b.truncate(0x43F)),
+        (3, |b| put(b, 0x1C, 0)),
+        (9, |b| put(b, 0x448, 16_385)),
+        (12, |b| b[0x458] = 0x80),
+        (14, |b| put(b, 0x450, 0x459)),
+    ];
+    for (number, spoil) in cases {
+        let mut bytes = small_master();
+        spoil(&mut bytes);
+        let image = temp.write("spoiled.iso", &bytes);
+        for more in [&[][..], &["--json"]] {
+            let plain = on("free", &image, more);
+            let run = on("free", &image, &[more, &["--clusters"]].concat());
+            assert_eq!((run.status, run.out, run.err), (number, plain.out, plain.err));
+        }
+    }
+    let missing = on("free", &temp.at("nothing.iso"), &["--clusters"]);
+    assert_eq!((missing.status, missing.out.as_str()), (66, ""));
+}
+
+#[test]
+fn help_tells_of_clusters() {
+    let help = run(&["free", "--help"]).out;
+    for words in [
+        "counter free IMAGE [--clusters] [--json]",
+        "\n  --clusters  counts each free region in clusters of 0x8000 bytes",
+        "before + 0x8000 * clusters + rest = size",
+        "\n  counter free disc.iso --clusters\n",
+        "cluster_size",
+    ] {
+        assert!(help.contains(words), "{words}: {help}");
+    }
+    assert!(run(&["help"]).out.contains("counter free IMAGE [--clusters]"));
+    assert!(run(&["help", "man"]).out.contains("counter free disc.iso \\-\\-clusters"));
+}
+
 #[test]
 fn an_unwritable_standard_error_ends_nothing() {
     let temp = Temp::new();
@@ -686,13 +873,16 @@ fn an_image_that_is_being_edited_is_not_read() {
 
 #[test]
 fn wrong_usage_is_64() {
-    let cases: [&[&str]; 19] = [
+    let cases: [&[&str]; 22] = [
         &[],
         &["frobnicate"],
         &["list", "a", "b"],
         &["find"],
         &["list", "--dry-run"],
         &["list", "--jso"],
+        &["list", "image", "--clusters"],
+        &["place", "image", "1", "--clusters"],
+        &["free", "image", "--clusters=1"],
         &["extract", "x"],
         &["compare", "x"],
         &["compare", "x", "y", "--given"],
@@ -783,12 +973,13 @@ fn help_names_every_field_of_the_json() {
     let copy = temp.at("copy.iso");
     fs::copy(&image, &copy).unwrap();
     let copy = copy.to_str().unwrap();
-    let commands: [(&str, &[&str]); 18] = [
+    let commands: [(&str, &[&str]); 19] = [
         ("info", &[]),
         ("list", &[]),
         ("tree", &[]),
         ("find", &["opening.bnr"]),
         ("free", &[]),
+        ("free", &["--clusters"]),
         ("check", &[]),
         ("extract", &["opening.bnr", out.to_str().unwrap()]),
         ("cat", &["audio/se/se000.dsp"]),
@@ -856,6 +1047,7 @@ fn reading_leaves_the_file_as_it_was() {
         done(command, &image, &[]);
         json(command, &image, &[]);
     }
+    done("free", &image, &["--clusters"]);
     done("find", &image, &["audio"]);
     let copy = temp.at("copy.iso");
     fs::copy(&image, &copy).unwrap();

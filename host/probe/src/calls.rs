@@ -5,17 +5,47 @@
 use crate::language::{Answer, Stop};
 pub use counter_sys::ENTRY_WORDS;
 use counter_sys::guarded::{Element, Guarded};
-use counter_sys::{DOL_WORDS, HEADER_SIZE, call};
+use counter_sys::{CLUSTER_WORDS, DOL_WORDS, HEADER_SIZE, REGION_WORDS, call};
 
 /// Words of a list lent beyond what an answer takes.
 const SPARE: usize = 3;
+
+/// The most words of a list that `lend_list` lends, whatever it is told: no answer comes near it
+/// (16,384 regions of three words), so a longer list gives the same, and memory cannot hold 2^64.
+const LONGEST_LIST: usize = 1 << 20;
 
 pub struct Lender {
     pub image: Guarded<u8>,
     before: Vec<u8>,
     words: Guarded<u32>,
     bytes: Guarded<u8>,
+    /// Words of the list that the free regions are written to; none: long enough.
+    list: Option<usize>,
 }
+
+/// A call on the image and the working words that fills a list; how many regions goes into the slot.
+type Fill = fn(&[u8], &mut [u32], &mut [u32], &mut [u32; 1]) -> u32;
+
+/// A call that fills a list with so many words for each free region.
+#[derive(Clone, Copy)]
+pub struct PerRegion {
+    pub words: usize,
+    fill: Fill,
+}
+
+pub const REGIONS: PerRegion = PerRegion {
+    words: REGION_WORDS,
+    fill: |image, words, list, answer| unsafe {
+        call!(counter_free_regions(in image, mut words, mut list, = answer))
+    },
+};
+
+pub const CLUSTERS: PerRegion = PerRegion {
+    words: CLUSTER_WORDS,
+    fill: |image, words, list, answer| unsafe {
+        call!(counter_free_clusters(in image, mut words, mut list, = answer))
+    },
+};
 
 /// What a call does with the image.
 #[derive(Clone, Copy, PartialEq)]
@@ -41,12 +71,18 @@ impl Lender {
             before: vec![],
             words: Guarded::new(65_544),
             bytes: Guarded::new(2_097_152),
+            list: None,
         }
     }
 
     pub fn lend(&mut self, words: usize, bytes: usize) {
         self.words = Guarded::new(words);
         self.bytes = Guarded::new(bytes);
+    }
+
+    /// From here on `lent_regions` lends a list of `len` words; none: one that is long enough.
+    pub fn lend_list(&mut self, len: Option<usize>) {
+        self.list = len.map(|len| len.min(LONGEST_LIST));
     }
 
     /// One call on the image with `N` slots for its answer.
@@ -176,11 +212,9 @@ impl Lender {
         })
     }
 
-    fn fill_free_regions(&mut self, len: usize) -> Answer<(Vec<u32>, [u32; 1])> {
-        let used = |answer: &[u32; 1]| 2 * answer[0] as usize;
-        self.filled(len, used, |image, words, list, answer| unsafe {
-            call!(counter_free_regions(in image, mut words, mut list, = answer))
-        })
+    fn fill_regions(&mut self, each: PerRegion, len: usize) -> Answer<Vec<u32>> {
+        let used = |answer: &[u32; 1]| each.words * answer[0] as usize;
+        Ok(self.filled(len, used, each.fill)?.0)
     }
 
     /// Entries of the image, or some number if it does not open.
@@ -203,15 +237,24 @@ impl Lender {
         Ok(list)
     }
 
-    pub fn free_regions(&mut self) -> Answer<Vec<u32>> {
+    /// The same for what is told of the free regions.
+    pub fn regions(&mut self, each: PerRegion) -> Answer<Vec<u32>> {
         let count = self.entry_count()?;
-        let (list, _) = self.fill_free_regions(2 * (count + 1) + SPARE)?;
-        hold(self.fill_free_regions(list.len())?.0 == list, "free regions: exact list")?;
+        let list = self.fill_regions(each, each.words * (count + 1) + SPARE)?;
+        hold(self.fill_regions(each, list.len())? == list, "free regions: exact list")?;
         if !list.is_empty() {
-            let short = self.fill_free_regions(list.len() - 1);
+            let short = self.fill_regions(each, list.len() - 1);
             hold(matches!(short, Err(Stop::Refused(9))), "free regions: short list")?;
         }
         Ok(list)
+    }
+
+    /// What is told of the free regions, in a list as `lend_list` has it.
+    pub fn lent_regions(&mut self, each: PerRegion) -> Answer<Vec<u32>> {
+        match self.list {
+            Some(len) => self.fill_regions(each, len),
+            None => self.regions(each),
+        }
     }
 
     fn fill_text(&mut self, len: usize) -> Answer<Vec<u8>> {

@@ -24,7 +24,15 @@ impl<'a> Words<'a> {
     }
 
     pub fn size(&mut self) -> Answer<usize> {
-        Ok(usize::try_from(self.number()?).unwrap_or(usize::MAX))
+        size(self.text()?)
+    }
+
+    /// A size, or `-` where none is named.
+    pub fn size_or_none(&mut self) -> Answer<Option<usize>> {
+        match self.text()? {
+            "-" => Ok(None),
+            text => size(text).map(Some),
+        }
     }
 
     pub fn word(&mut self) -> Answer<u32> {
@@ -47,6 +55,10 @@ pub fn number(text: &str) -> Answer<u64> {
         None => text.parse(),
     }
     .map_err(|_| Stop::Usage("not a number"))
+}
+
+fn size(text: &str) -> Answer<usize> {
+    Ok(usize::try_from(number(text)?).unwrap_or(usize::MAX))
 }
 
 pub fn signed(text: &str) -> Answer<i64> {

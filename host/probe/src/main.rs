@@ -1,7 +1,14 @@
 //! Counter behind the oracle's command language: one command a line on standard input, one answer
-//! line each. The language is that of oracle/README.md; a refusal is `err N` with the number of its
-//! cause. `dirty WHAT` means that a call left working memory, or something beside what it was
-//! lent, in another state than it promises.
+//! line each. The language is that of oracle/README.md, with two commands more:
+//!
+//! - `clusters`: `ok` and, for each free region, rising, `BEFORE:CLUSTERS:REST`: the bytes before
+//!   its first multiple of 0x8000, the whole clusters from there on, the bytes behind them;
+//! - `lend_list N`: `ok`; from here on `free` and `clusters` lend a list of exactly N words (N of 64
+//!   bits), and `err 9` is a list that is too short. `lend_list -`, and so at the start: one that is
+//!   long enough, and it is held besides that the exact length does and a word less is 9.
+//!
+//! A refusal is `err N` with the number of its cause. `dirty WHAT` means that a call left working
+//! memory, or something beside what it was lent, in another state than it promises.
 
 mod calls;
 

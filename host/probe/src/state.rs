@@ -1,6 +1,6 @@
 //! The current image, and the commands.
 
-use crate::calls::{ENTRY_WORDS, Lender};
+use crate::calls::{CLUSTERS, ENTRY_WORDS, Lender, PerRegion, REGIONS};
 use crate::language::{Answer, FNV_START, Stop, Words, fnv, hex, number, signed};
 use counter_sys::ffi;
 use counter_sys::guarded::Guarded;
@@ -145,10 +145,17 @@ impl State {
                 words.end()?;
                 return Ok("ok".into());
             }
+            "lend_list" => {
+                let len = words.size_or_none()?;
+                words.end()?;
+                self.lender.lend_list(len);
+                return Ok("ok".into());
+            }
             "maxregion" | "alloc" => numbers = [words.word()?, words.word()?],
             "maxfile" | "entry" => numbers[0] = words.word()?,
             "lookup" => (numbers[0], path) = (words.word()?, words.bytes()?),
-            "header" | "open" | "list" | "listing" | "free" | "used" | "total" | "dol" => (),
+            "header" | "open" | "list" | "listing" | "free" | "clusters" | "used" | "total"
+            | "dol" => (),
             _ => return Err(Stop::Usage("no such command")),
         }
         words.end()?;
@@ -161,13 +168,8 @@ impl State {
             }
             "list" => self.list()?,
             "listing" => self.listing()?,
-            "free" => {
-                let mut out = String::from("ok");
-                for region in lender.free_regions()?.chunks(2) {
-                    write!(out, " {}:{}", region[0], region[1]).unwrap();
-                }
-                out
-            }
+            "free" => self.regions(REGIONS)?,
+            "clusters" => self.regions(CLUSTERS)?,
             "total" => format!("ok {}", lender.totals()?[0]),
             "used" => format!("ok {}", lender.totals()?[1]),
             "entry" => {
@@ -242,6 +244,16 @@ impl State {
         Ok(out)
     }
 
+    /// The free regions, rising: the numbers of each.
+    fn regions(&mut self, each: PerRegion) -> Answer<String> {
+        let mut out = String::from("ok");
+        for region in self.lender.lent_regions(each)?.chunks(each.words) {
+            let numbers: Vec<String> = region.iter().map(u32::to_string).collect();
+            write!(out, " {}", numbers.join(":")).unwrap();
+        }
+        Ok(out)
+    }
+
     /// Document 01's listing, built of what the other calls say; `counter_list` says the same.
     fn listing(&mut self) -> Answer<String> {
         let [_, _, total, _, used] = self.lender.open()?;
@@ -256,7 +268,7 @@ impl State {
             out.extend(&line.path);
             out.push(b'\n');
         }
-        for region in self.lender.free_regions()?.chunks(2) {
+        for region in self.lender.regions(REGIONS)?.chunks(REGIONS.words) {
             out.extend(format!("r {} {}\n", region[0], region[1]).bytes());
         }
         if self.lender.text(out.len())? != out {

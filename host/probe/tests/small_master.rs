@@ -1,5 +1,6 @@
 //! The probe on the scope paper's small master: its listing, P1 to P12, every refusal number once,
-//! lists of edits, and calls with too little memory. `dirty` is never an answer.
+//! free regions in clusters, lists of edits, and calls with too little memory or too short a list.
+//! `dirty` is never an answer.
 
 use std::io::{Read, Write};
 use std::process::{Command, Stdio};
@@ -21,8 +22,8 @@ fn hex(bytes: &[u8]) -> String {
     bytes.iter().map(|b| format!("{b:02x}")).collect()
 }
 
-/// The probe's answers to `commands`.
-fn answers(commands: &[String]) -> Vec<String> {
+/// The probe's answers to `commands`, whatever they are.
+fn said(commands: &[String]) -> Vec<String> {
     let mut probe = Command::new(env!("CARGO_BIN_EXE_probe"))
         .stdin(Stdio::piped())
         .stdout(Stdio::piped())
@@ -36,6 +37,12 @@ fn answers(commands: &[String]) -> Vec<String> {
     assert!(probe.wait().unwrap().success());
     let answers: Vec<String> = output.lines().map(String::from).collect();
     assert_eq!(answers.len(), commands.len());
+    answers
+}
+
+/// Its answers to commands that it knows and that leave nothing dirty.
+fn answers(commands: &[String]) -> Vec<String> {
+    let answers = said(commands);
     for (command, answer) in commands.iter().zip(&answers) {
         assert!(
             !answer.starts_with("dirty") && !answer.starts_with("usage"),
@@ -66,6 +73,7 @@ fn listing() {
         (&["listing"], &listing),
         (&["list"], "ok d:0:0:2:1:2f f:1:1280:256:2f61"),
         (&["free"], "ok 1114:166 1536:6656"),
+        (&["clusters"], "ok 166:0:0 6656:0:0"),
         (&["used"], "ok 1370"),
         (&["total"], "ok 8192"),
         (&["entry 0"], "ok d:0:0:2"),
@@ -129,6 +137,112 @@ fn every_refusal() {
     ]);
 }
 
+/// Regions that begin or end on a multiple of 0x8000 (32768), or a byte beside it.
+#[test]
+fn clusters() {
+    // Disc end, offset and size of `a`, answer. The table ends at 0x45a.
+    let cases = [
+        // The last region begins at 0x600: its first multiple is past its end, exactly its end,
+        // before it.
+        (0x7fff, 0x500, 0x100, "ok 166:0:0 31231:0:0"),
+        (0x8000, 0x500, 0x100, "ok 166:0:0 31232:0:0"),
+        (0x8001, 0x500, 0x100, "ok 166:0:0 31232:0:1"),
+        (0xffff, 0x500, 0x100, "ok 166:0:0 31232:0:32767"),
+        (0x10000, 0x500, 0x100, "ok 166:0:0 31232:1:0"),
+        (0x10001, 0x500, 0x100, "ok 166:0:0 31232:1:1"),
+        // It begins on a multiple; at 0x10000 it is exactly one cluster.
+        (0x8000, 0x7000, 0x1000, "ok 27558:0:0"),
+        (0x8001, 0x7000, 0x1000, "ok 27558:0:0 0:0:1"),
+        (0xffff, 0x7000, 0x1000, "ok 27558:0:0 0:0:32767"),
+        (0x10000, 0x7000, 0x1000, "ok 27558:0:0 0:1:0"),
+        (0x10001, 0x7000, 0x1000, "ok 27558:0:0 0:1:1"),
+        // The first region ends around a multiple, the last one begins there.
+        (0x28000, 0x7fff, 1, "ok 31653:0:0 0:4:0"),
+        (0x28000, 0x8000, 1, "ok 31654:0:0 32767:3:0"),
+        (0x28000, 0x8001, 1, "ok 31654:0:1 32766:3:0"),
+        (0x28000, 0xffff, 1, "ok 31654:0:32767 0:3:0"),
+        (0x28000, 0x10000, 0x8000, "ok 31654:1:0 0:2:0"),
+        (0x28000, 0x10001, 0x17fff, "ok 31654:1:1"),
+        // A cluster's size, and no whole cluster.
+        (0x28000, 0x845a, 0x1fba6, "ok 31654:0:1114"),
+    ];
+    let mut commands = vec![];
+    for (end, offset, size, _) in cases {
+        commands.extend(MASTER.map(String::from));
+        commands.push(format!("size {end}"));
+        commands.push(format!("patch 0x434 {end:08x}"));
+        commands.push(format!("patch 0x450 {offset:08x}{size:08x}"));
+        commands.push("clusters".into());
+    }
+    let answers = answers(&commands);
+    let lines = commands.len() / cases.len();
+    for (said, (end, offset, size, expected)) in answers.chunks(lines).zip(cases) {
+        assert_eq!(said[lines - 1], expected, "{end:#x} {offset:#x} {size:#x}");
+    }
+}
+
+/// One probe carries out all of these, so what `lend_list` names holds for the next image too.
+#[test]
+fn lists_of_a_named_length() {
+    let listing = format!("ok {}", hex(LISTING.as_bytes()));
+    let (free, clusters) = ("ok 1114:166 1536:6656", "ok 166:0:0 6656:0:0");
+    hold(&[
+        (&["lend_list 0"], "ok"),
+        (&["free"], "err 9"),
+        (&["clusters"], "err 9"),
+        (&["listing"], &listing),
+        (&["list"], "ok d:0:0:2:1:2f f:1:1280:256:2f61"),
+        (&["lend_list 3", "free"], "err 9"),
+        (&["lend_list 4", "free"], free),
+        (&["lend_list 5", "free"], free),
+        (&["clusters"], "err 9"),
+        (&["lend 65544 0", "save x", "load x", "clusters"], "err 9"),
+        (&["lend_list 6", "clusters"], clusters),
+        (&["lend_list 7", "clusters"], clusters),
+        (&["lend_list 0x100000", "clusters"], clusters),
+        (&["lend_list 4294967296", "clusters"], clusters),
+        (&["lend_list 18446744073709551615", "clusters"], clusters),
+        (&["free"], free),
+        // No free region: the disc ends with the table, and `a` is empty.
+        (&["lend_list 0", "patch 0x434 0000045a", "patch 0x454 00000000", "clusters"], "ok"),
+        (&["lend_list -", "patch 0x434 0000045a", "patch 0x454 00000000", "clusters"], "ok"),
+        (&["clusters"], clusters),
+        (&["free"], free),
+        // What opening refuses comes first.
+        (&["lend_list 0", "size 0", "clusters"], "err 1"),
+        (&["patch 0x1c 00", "clusters"], "err 3"),
+        (&["patch 0x450 00000459", "free"], "err 14"),
+        (&["lend_list -", "patch 0x450 00000459", "clusters"], "err 14"),
+        (&["lend 15 0", "clusters"], "err 9"),
+        (&["lend 16 0", "clusters"], clusters),
+    ]);
+}
+
+/// A line that is no command changes nothing.
+#[test]
+fn usage() {
+    let mut commands = MASTER.map(String::from).to_vec();
+    commands.push("lend_list 5".into());
+    let wrong = [
+        ("lend_list", "usage a word is missing"),
+        ("lend_list 6 7", "usage too many words"),
+        ("lend_list - -", "usage too many words"),
+        ("lend_list 18446744073709551616", "usage not a number"),
+        ("lend_list -1", "usage not a number"),
+        ("lend_list all", "usage not a number"),
+        ("clusters 1", "usage too many words"),
+        ("cluster", "usage no such command"),
+    ];
+    commands.extend(wrong.map(|(line, _)| line.into()));
+    commands.push("clusters".into());
+    let answers = said(&commands);
+    let from = MASTER.len() + 1;
+    for ((line, expected), answer) in wrong.iter().zip(&answers[from..]) {
+        assert_eq!(answer, expected, "{line}");
+    }
+    assert_eq!(answers.last().unwrap(), "err 9");
+}
+
 #[test]
 fn edits() {
     hold(&[
@@ -172,7 +286,11 @@ fn never_dirty() {
         for _ in 0..30 {
             let (entry, at, len) = (random(5), 0x440 + random(0x1c00), random(0x400));
             commands.push(format!("lend {} {}", random(80), random(160)));
-            commands.push(match random(13) {
+            commands.push(match random(3) {
+                0 => "lend_list -".into(),
+                _ => format!("lend_list {}", random(16)),
+            });
+            commands.push(match random(14) {
                 0 => format!("move {entry} {at}"),
                 1 => format!("resize {entry} {len}"),
                 2 => "rewrite".into(),
@@ -185,6 +303,7 @@ fn never_dirty() {
                 9 => format!("maxregion {at} {len}"),
                 10 => format!("alloc {len} {}", random(64)),
                 11 => format!("filewindow {entry} e:-1 r:4"),
+                12 => "clusters".into(),
                 _ => format!("patch {} {:02x}", 0x424 + random(0x40), random(4)),
             });
         }

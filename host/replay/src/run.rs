@@ -212,6 +212,7 @@ impl Stage {
             "lookup" => ask!(u32, 4, counter_lookup(, = a, in text)),
             "entries" => ask!(u32, 5, counter_entries(, mut list)),
             "free_regions" => ask!(u32, 1, counter_free_regions(, mut list)),
+            "free_clusters" => ask!(u32, 1, counter_free_clusters(, mut list)),
             "max_region_size" => ask!(u32, 1, counter_max_region_size(, = a, = b)),
             "max_file_size" => ask!(u32, 1, counter_max_file_size(, = a)),
             "allocate" => ask!(u32, 2, counter_allocate(, = a, = b)),
@@ -234,6 +235,7 @@ impl Stage {
         match name {
             "entries" => listed(&mut given, &l.list, 6, 4)?,
             "free_regions" => listed(&mut given, &l.list, 2, 1)?,
+            "free_clusters" => listed(&mut given, &l.list, 3, 1)?,
             "open_file" | "open_dol" if given[0] == 0 => {
                 self.window = [given[1], given[2], given[3]]
             }
@@ -293,7 +295,8 @@ fn header(image: &[u8]) -> Result<Given, String> {
 /// How many numbers a call takes.
 fn arity(name: &str) -> usize {
     match name {
-        "open" | "totals" | "entries" | "free_regions" | "open_dol" | "header" | "rewrite" => 0,
+        "open" | "totals" | "entries" | "free_regions" | "free_clusters" | "open_dol"
+        | "header" | "rewrite" => 0,
         "max_region_size" | "allocate" | "move_file" | "resize_file" => 2,
         _ => 1,
     }

@@ -15,7 +15,7 @@ fn every_call_of_every_script() {
         assert!(outcome.differ.is_empty(), "{}", outcome.differ.join("\n"));
         calls += outcome.calls;
     }
-    assert_eq!(calls, 5538, "all of them, so that none is lost");
+    assert_eq!(calls, 5561, "all of them, so that none is lost");
 }
 
 const MASTER: &str =
@@ -33,6 +33,7 @@ fn right_answers_of_the_paper() {
         "max_file_size 1 = 0 0x1b00",
         "allocate 0x100 0x100 = 0 0x600 0x1a00",
         "free_regions = 0 2 0x45a 0xa6 0x600 0x1a00",
+        "free_clusters = 0 2 0xa6 0 0 0x1a00 0 0",
         "lookup 0 \"a/\" = 17",
         "list 0x46 = 0 0x46 \"total 8192 used 1370\nd 0 0 2 /\nf 1 1280 256 /a\nr 1114 166\nr 1536 6656\n\"",
     ] {
@@ -52,6 +53,11 @@ fn a_wrong_answer_is_told() {
             "free_regions = 0 1 0x45a 0xa6",
             "s:7: free_regions: gave 0x0 0x2 0x45a 0xa6 0x600 0x1a00, has to give 0x0 0x1 0x45a 0xa6",
         ),
+        (
+            "free_clusters = 0 2 0xa6 0 0 0x1a00 0 1",
+            "s:7: free_clusters: gave 0x0 0x2 0xa6 0x0 0x0 0x1a00 0x0 0x0, has to give 0x0 0x2 0xa6 0x0 0x0 0x1a00 0x0 0x1",
+        ),
+        ("free_clusters 1 = 0 0", "s:7: free_clusters 1: a number too many or too few"),
         ("rewrite = 0 1", "s:7: rewrite: gave 0x0 0x203a64a4776abcd2, has to give 0x0 0x1"),
         ("read 2 = 0 0 0 \"\"", "s:7: read 2: gave 0x0 0x0 0x0 \"..\", has to give 0x0 0x0 0x0"),
         ("fly 1 = 0", "s:7: fly 1: `fly` is no call"),

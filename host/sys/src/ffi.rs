@@ -71,6 +71,15 @@ unsafe extern "C" {
         list_len: usize,
         answer: *mut [u32; 1],
     ) -> u32;
+    pub fn counter_free_clusters(
+        image: *const u8,
+        image_len: usize,
+        words: *mut u32,
+        words_len: usize,
+        list: *mut u32,
+        list_len: usize,
+        answer: *mut [u32; 1],
+    ) -> u32;
     pub fn counter_max_region_size(
         image: *const u8,
         image_len: usize,

@@ -56,6 +56,10 @@ pub struct Window {
 /// Words of one entry in the list that `entries` fills.
 pub const ENTRY_WORDS: usize = 6;
 
+/// Words of one region in the lists that `free_regions` and `free_clusters` fill.
+pub const REGION_WORDS: usize = 2;
+pub const CLUSTER_WORDS: usize = 3;
+
 /// Words of a DOL header.
 pub const DOL_WORDS: usize = 57;
 
@@ -163,6 +167,16 @@ pub fn free_regions(image: &[u8], memory: &mut Memory, list: &mut [u32]) -> Answ
     let mut answer = [0; 1];
     told(unsafe {
         call!(counter_free_regions(in image, mut memory.words, mut list, = &mut answer))
+    })?;
+    Ok(answer[0])
+}
+
+/// Of each free region in `list` the bytes before its first multiple of 0x8000, the whole clusters and
+/// the rest; the answer is how many regions there are.
+pub fn free_clusters(image: &[u8], memory: &mut Memory, list: &mut [u32]) -> Answer<u32> {
+    let mut answer = [0; 1];
+    told(unsafe {
+        call!(counter_free_clusters(in image, mut memory.words, mut list, = &mut answer))
     })?;
     Ok(answer[0])
 }

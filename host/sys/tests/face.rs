@@ -62,6 +62,11 @@ fn the_calls_on_slices() {
     let mut list = [5; 5];
     assert_eq!(counter_sys::free_regions(&image, &mut memory, &mut list), Ok(2));
     assert_eq!(list, [0x45a, 0xa6, 0x600, 0x1a00, 5]);
+    let mut list = [5; 7];
+    assert_eq!(counter_sys::free_clusters(&image, &mut memory, &mut list[..5]), Err(9));
+    assert_eq!(list, [5; 7]);
+    assert_eq!(counter_sys::free_clusters(&image, &mut memory, &mut list), Ok(2));
+    assert_eq!(list, [0xa6, 0, 0, 0x1a00, 0, 0, 5]);
     let mut text = [5; LISTING.len() + 1];
     assert_eq!(counter_sys::list(&image, &mut memory, &mut text), Ok(LISTING.len() as u64));
     assert_eq!((&text[..LISTING.len()], text[LISTING.len()]), (LISTING, 5));
@@ -102,6 +107,7 @@ fn an_empty_image() {
     assert_eq!(counter_sys::lookup(&image, m, 9, &[0; 1025]), Err(1));
     assert_eq!(counter_sys::entries(&image, m, &mut []), Err(1));
     assert_eq!(counter_sys::free_regions(&image, m, &mut []), Err(1));
+    assert_eq!(counter_sys::free_clusters(&image, m, &mut []), Err(1));
     assert_eq!(counter_sys::list(&image, m, &mut []), Err(1));
     assert_eq!(counter_sys::max_region_size(&image, m, 0, 0), Err(1));
     assert_eq!(counter_sys::max_file_size(&image, m, 9), Err(1));

@@ -1,4 +1,4 @@
--- The small master of document 01: its used total and free regions, P1 to P3, P5; and the cases in which a search goes wrong most easily.
+-- The small master of document 01: its used total and free regions, P1 to P3, P5; and the cases in which a search or a count goes wrong most easily.
 -- Assumes nothing.
 use Prim.Native.Nat.{ℕ}
 use mathlib.Core.Path.{_≡_, refl}
@@ -10,9 +10,12 @@ use Rattle.free_space.specs.declared.Allocation.the-variants.{Found, Ref
 use Rattle.space.specs.Used.{usesByte, nonempty, usedRegions, totalSize, usedTotal}
 use Rattle.space.specs.Layout.{disjoint, disjointFromAll, pairwiseDisjoint, endBy, disjointBelow, regionsVerdict}
 use Rattle.space.specs.Free.{runs, freeRegions}
+use Rattle.space.specs.Clusters.{bytesBefore, wholeClusters, exactRest}
+use Rattle.endian.specs.Bytes.{put}
 use Rattle.free_space.specs.MaxRegionSize.{besideFree, maxSizeFrom, maxRegionSize}
-use Rattle.free_space.specs.Allocate.{alignUp, betterOf, largest, powers, allocationOf}
-use Rattle.free_space.specs.Listing.{regionWords, listAfter}
+use Rattle.space.specs.Align.{alignUp}
+use Rattle.free_space.specs.Allocate.{betterOf, largest, powers, allocationOf}
+use Rattle.free_space.specs.Listing.{regionRow, clusterRow, rowsOf, listAfter}
 
 abbrev at : ℕ → ℕ → DiscRegion
 at o n = record { offset = o; size = n }
@@ -36,13 +39,49 @@ free : freeRegions 0x2000 master ≡ at 1114 166 ∷ at 1536 6656 ∷ []
 unfolding freeRegions runs usesByte nonempty
 free = refl
 
-list-written : listAfter (freeRegions 0x2000 master) (1 ∷ 2 ∷ 3 ∷ 4 ∷ 5 ∷ []) ≡ 1114 ∷ 166 ∷ 1536 ∷ 6656 ∷ 5 ∷ []
-unfolding regionWords
+list-written : listAfter regionRow (freeRegions 0x2000 master) (1 ∷ 2 ∷ 3 ∷ 4 ∷ 5 ∷ []) ≡ 1114 ∷ 166 ∷ 1536 ∷ 6656 ∷ 5 ∷ []
+unfolding rowsOf put
 list-written = rw free
 
-short : listAfter (freeRegions 0x2000 master) (1 ∷ 2 ∷ 3 ∷ []) ≡ 1 ∷ 2 ∷ 3 ∷ []
-unfolding regionWords
+short : listAfter regionRow (freeRegions 0x2000 master) (1 ∷ 2 ∷ 3 ∷ []) ≡ 1 ∷ 2 ∷ 3 ∷ []
+unfolding rowsOf
 short = rw free
+
+-- ---- clusters: before, clusters, rest
+
+in-clusters : rowsOf clusterRow (freeRegions 0x2000 master) ≡ 166 ∷ 0 ∷ 0 ∷ 6656 ∷ 0 ∷ 0 ∷ []
+unfolding rowsOf bytesBefore wholeClusters exactRest alignUp
+in-clusters = rw free
+
+begins-on-a-multiple : clusterRow (at 0x8000 0x9000) ≡ 0 ∷ 1 ∷ 0x1000 ∷ []
+unfolding bytesBefore wholeClusters exactRest alignUp
+begins-on-a-multiple = refl
+
+ends-on-a-multiple : clusterRow (at 0x7F00 0x10100) ≡ 0x100 ∷ 2 ∷ 0 ∷ []
+unfolding bytesBefore wholeClusters exactRest alignUp
+ends-on-a-multiple = refl
+
+one-cluster : clusterRow (at 0x10000 0x8000) ≡ 0 ∷ 1 ∷ 0 ∷ []
+unfolding bytesBefore wholeClusters exactRest alignUp
+one-cluster = refl
+
+-- its first multiple is exactly its end, and one byte behind it
+multiple-at-its-end : clusterRow (at 0x7F00 0x100) ≡ 0x100 ∷ 0 ∷ 0 ∷ []
+unfolding bytesBefore wholeClusters exactRest alignUp
+multiple-at-its-end = refl
+
+byte-behind-the-multiple : clusterRow (at 0x7F00 0x101) ≡ 0x100 ∷ 0 ∷ 1 ∷ []
+unfolding bytesBefore wholeClusters exactRest alignUp
+byte-behind-the-multiple = refl
+
+-- one byte short of a cluster, at both ends
+byte-short : clusterRow (at 0x8000 0x7FFF) ≡ 0 ∷ 0 ∷ 0x7FFF ∷ []
+unfolding bytesBefore wholeClusters exactRest alignUp
+byte-short = refl
+
+byte-late : clusterRow (at 0x8001 0xFFFE) ≡ 0x7FFF ∷ 0 ∷ 0x7FFF ∷ []
+unfolding bytesBefore wholeClusters exactRest alignUp
+byte-late = refl
 
 -- ---- max_region_size
 

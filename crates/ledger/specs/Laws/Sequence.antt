@@ -19,10 +19,10 @@ use Rattle.space.specs.Layout.{pairwiseDisjoint, endBy, disjointBelow}
 use Rattle.refusal.specs.Laws.Tests.{and-left}
 use Rattle.space.specs.Laws.FreeLaws.{region-ext}
 use Rattle.space.specs.Laws.LayoutLaws.{inside-from, inside-to}
-use Rattle.free_space.specs.Listing.{listingOf, listAfter}
+use Rattle.free_space.specs.Listing.{regionRow, listingOf, listAfter}
 use Rattle.opening.specs.Opening.{nodesIn, regionOf, usedIn, usedOf, freeOf, opening}
 use Rattle.opening.specs.Laws.OpeningLaws.{disc-filled}
-use Rattle.disc.specs.Calls.{totalsAnswer, freeRegionsAnswer, freeRegionsList}
+use Rattle.disc.specs.Calls.{totalsAnswer, freeAnswer, freeList, freeRegionsAnswer, freeRegionsList}
 use Rattle.disc.specs.declared.TotalsAnswer.the-variants.{Found}
 use Rattle.edits.specs.Edits.{imageAfter, verdictOf}
 use Rattle.ledger.specs.Ledger.{History, Ledger, filesBefore, newHistory, historyOf, firstLedger, entered, ledgerAfter}
@@ -74,12 +74,12 @@ module _ (w : ℕ) (image : List ℕ) (l : Ledger) (k : Kept w image l) where
   unfolding totalsAnswer usedOf
   used-reported = rw (k .opens)
 
-  pub free-reported : (room : ℕ) → freeRegionsAnswer image w room ≡ listingOf (freeOf image) room
-  unfolding freeRegionsAnswer
+  pub free-reported : (room : ℕ) → freeRegionsAnswer image w room ≡ listingOf regionRow (freeOf image) room
+  unfolding freeAnswer
   free-reported room = rw (k .opens)
 
-  pub free-listed : (list : List ℕ) → freeRegionsList image w list ≡ listAfter (freeOf image) list
-  unfolding freeRegionsList
+  pub free-listed : (list : List ℕ) → freeRegionsList image w list ≡ listAfter regionRow (freeOf image) list
+  unfolding freeList
   free-listed list = rw (k .opens)
 
   number : (n : ℕ) → filesBefore n (l .nodes) ≡ filesBefore n (nodesIn image)

@@ -5,7 +5,7 @@ use mathlib.Core.Path.{_≡_, refl}
 use mathlib.Core.List.{List, [], _∷_}
 use lib.IntN.{negsuc}
 use Rattle.endian.specs.Bytes.{be24, be32, put, sameBytes}
-use Rattle.refusal.specs.declared.Refusal.the-variants.{ExpectedDirectory, NotFound, OverlappingMove, NotEnoughSpace, InvalidSeek}
+use Rattle.refusal.specs.declared.Refusal.the-variants.{LimitOrMemory, ExpectedDirectory, NotFound, OverlappingMove, NotEnoughSpace, InvalidSeek}
 use Rattle.refusal.specs.declared.Verdict.the-variants as verdict
 use Rattle.refusal.specs.Refusal.{numberOf}
 use Rattle.header.specs.Fields.{fields}
@@ -25,15 +25,17 @@ use Rattle.free_space.specs.declared.Listing.the-variants as listing
 use Rattle.space.specs.Used.{usesByte, nonempty, totalSize}
 use Rattle.space.specs.Layout.{disjoint, disjointFromAll, pairwiseDisjoint, endBy, disjointBelow}
 use Rattle.space.specs.Free.{runs, freeRegions}
+use Rattle.space.specs.Clusters.{bytesBefore, wholeClusters, exactRest}
 use Rattle.free_space.specs.MaxRegionSize.{besideFree, maxSizeFrom}
-use Rattle.free_space.specs.Allocate.{alignUp, betterOf, largest, powers, allocationOf}
-use Rattle.free_space.specs.Listing.{regionWords}
+use Rattle.space.specs.Align.{alignUp}
+use Rattle.free_space.specs.Allocate.{betterOf, largest, powers, allocationOf}
+use Rattle.free_space.specs.Listing.{rowsOf}
 use Rattle.disc.specs.declared.TotalsAnswer.the-variants as totals
 use Rattle.answers.specs.declared.SizeAnswer.the-variants as size
 use Rattle.files.specs.declared.WindowAnswer.the-variants as window
 use Rattle.opening.specs.Opening.{tableOf, nodesIn, opening, freeOf, usedOf, usedIn}
 use Rattle.files.specs.Files.{entryAnswer, lookupAnswer, maxFileSizeAnswer, openFileAnswer}
-use Rattle.disc.specs.Calls.{totalsAnswer, freeRegionsAnswer, freeRegionsList, allocateAnswer}
+use Rattle.disc.specs.Calls.{totalsAnswer, freeAnswer, freeList, freeRegionsAnswer, freeRegionsList, freeClustersAnswer, freeClustersList, allocateAnswer}
 use Rattle.answers.specs.Answers.{maxRegionSizeAnswer}
 use Rattle.edits.specs.Change.{withTable, written, tableVerdict, placeVerdict}
 use Rattle.edits.specs.Edits.{moveFile, resizeFile, planMove, planResize, verdictOf, imageAfter}
@@ -81,7 +83,7 @@ abbrev four : List ℕ
 four = 0 ∷ 0 ∷ 0 ∷ 0 ∷ []
 
 moved : freeRegionsList (movedTo 0x600) masterWords four ≡ 0x45A ∷ 0x1A6 ∷ 0x700 ∷ 0x1900 ∷ []
-unfolding master put opening headerVerdict fieldsVerdict fieldVerdict fields boundsVerdict tableOf check nodesIn nodesOf nodesFrom nodeAt nameAt count entriesVerdict entryVerdict unended walk nameVerdict nextVerdict shut plain safe be24 be32 usedIn nonempty disjointBelow pairwiseDisjoint disjointFromAll disjoint endBy freeOf freeRegions runs usesByte freeRegionsList regionWords imageAfter verdictOf planMove tableVerdict placeVerdict limits shallow shallowFrom textsOf encode entriesBytes parentOf parentBelow setPlace written withTable maxSizeFrom besideFree
+unfolding master put opening headerVerdict fieldsVerdict fieldVerdict fields boundsVerdict tableOf check nodesIn nodesOf nodesFrom nodeAt nameAt count entriesVerdict entryVerdict unended walk nameVerdict nextVerdict shut plain safe be24 be32 usedIn nonempty disjointBelow pairwiseDisjoint disjointFromAll disjoint endBy freeOf freeRegions runs usesByte freeList rowsOf imageAfter verdictOf planMove tableVerdict placeVerdict limits shallow shallowFrom textsOf encode entriesBytes parentOf parentBelow setPlace written withTable maxSizeFrom besideFree
 moved = refl
 
 -- ---- the table, in the paper's order; `a` is entry 1. A refusal stands with its number
@@ -139,7 +141,7 @@ pub record Listed : Type 0 where
   pub list : freeRegionsList master masterWords four ≡ 1114 ∷ 166 ∷ 1536 ∷ 6656 ∷ []
 
 pub small-listing : Listed
-unfolding totalsAnswer entryAnswer freeRegionsAnswer freeRegionsList regionWords parentOf parentBelow usedOf totalSize
+unfolding totalsAnswer entryAnswer freeAnswer freeList rowsOf put parentOf parentBelow usedOf totalSize
 small-listing = record {
   totals = rw (opens, nodes, header .0, header .1, header .2);
   root = rw (opens, nodes);
@@ -147,3 +149,16 @@ small-listing = record {
   regions = rw (opens, free);
   list = rw (opens, free);
 }
+
+-- ---- document 02, Point 1: the same free regions in clusters, 166, 0, 0 and 6656, 0, 0
+
+pub record InClusters : Type 0 where
+  pub regions : freeClustersAnswer master masterWords 6 ≡ listing.Listed 2
+  pub list : freeClustersList master masterWords (0 ∷ 0 ∷ 0 ∷ 0 ∷ 0 ∷ 0 ∷ 7 ∷ []) ≡ 166 ∷ 0 ∷ 0 ∷ 6656 ∷ 0 ∷ 0 ∷ 7 ∷ []
+  -- a list of five words is short, and stays as it was
+  pub short : freeClustersAnswer master masterWords 5 ≡ listing.Refused LimitOrMemory
+  pub stays : freeClustersList master masterWords (1 ∷ 2 ∷ 3 ∷ 4 ∷ 5 ∷ []) ≡ 1 ∷ 2 ∷ 3 ∷ 4 ∷ 5 ∷ []
+
+pub small-clusters : InClusters
+unfolding freeAnswer freeList rowsOf put bytesBefore wholeClusters exactRest alignUp
+small-clusters = record { regions = rw (opens, free); list = rw (opens, free); short = rw (opens, free); stays = rw (opens, free) }

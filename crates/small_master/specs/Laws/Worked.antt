@@ -19,7 +19,8 @@ use Rattle.space.specs.Used.{usesByte, nonempty}
 use Rattle.space.specs.Layout.{disjoint, disjointFromAll, pairwiseDisjoint, endBy, disjointBelow}
 use Rattle.space.specs.Free.{runs, freeRegions}
 use Rattle.free_space.specs.MaxRegionSize.{besideFree, maxSizeFrom}
-use Rattle.free_space.specs.Allocate.{alignUp, betterOf, largest, powers, allocationOf}
+use Rattle.space.specs.Align.{alignUp}
+use Rattle.free_space.specs.Allocate.{betterOf, largest, powers, allocationOf}
 use Rattle.opening.specs.Opening.{tableOf, nodesIn, opening, freeOf, usedIn}
 use Rattle.edits.specs.Change.{withTable, written, tableVerdict, placeVerdict}
 use Rattle.edits.specs.Edits.{Edit, insertFile, insertDirectory, moveFile, resizeFile, rewrite, insertVerdict, planMove, planResize, verdictOf, imageAfter}

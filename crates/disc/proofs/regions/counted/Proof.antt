@@ -1,0 +1,40 @@
+-- `disc::regions::counted` meets its contract, by the two cases of a prepared image.
+-- Assumes nothing.
+use Rattle.answers.proofs.Prepared.{ready-opened, ready-used, ready-sorted}
+use Rattle.disc.proofs.Answers.{ready-listing, ready-list, refused-listing, refused-list}
+use borrow.Author.Needs.{needs}
+use Rattle.disc.proofs.regions.counted.Statement.{statement}
+use Rattle.disc.proofs.regions.counted.Tie as tie
+
+enum-known-prepared : tie.Need-enum-known-prepared
+enum-known-prepared c = search needs
+
+disc-of-requires : tie.Need-disc-of-requires
+disc-of-requires c κs = search (ready-opened, ready-used)
+
+free-clusters-requires : tie.Need-free-clusters-requires
+free-clusters-requires c κs = search ready-sorted
+
+enum-known-prepared-2 : tie.Need-enum-known-prepared-2
+enum-known-prepared-2 c = search needs
+
+same-length : tie.Need-same-length
+same-length c = search needs
+
+returns : tie.Need-returns
+returns c = search (ready-listing, ready-list)
+
+returns-2 : tie.Need-returns-2
+returns-2 c = search (refused-listing, refused-list)
+
+pub counted-spec : {M : Type 1} → statement M
+counted-spec =
+    tie.close
+    (tie.spec
+    enum-known-prepared
+    disc-of-requires
+    free-clusters-requires
+    enum-known-prepared-2
+    same-length
+    returns
+    returns-2)
