@@ -14,10 +14,10 @@ use refusal::Refusal;
 use space::DiscRegion;
 
 // A region in clusters: the bytes before its first multiple of 0x8000, the whole clusters from there on, and the rest.
-pub struct Clusters {
-    pub before: u32,
-    pub clusters: u32,
-    pub rest: u32,
+struct Clusters {
+    before: u32,
+    clusters: u32,
+    rest: u32,
 }
 
 const CLUSTER_SIZE: u32 = 0x8000;
