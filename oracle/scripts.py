@@ -6,7 +6,8 @@
 The calls stand below. An answer comes from the unchanged Rust, which carries out the same call, with the checksum of its image.
 Where document 01 says something else than the Rust, or has a limit that the Rust has not, the answer is written here by hand, with the
 reason; the script then insists that the Rust says something else (but for a listing, which the Rust has not, and a window that it cannot make).
-A call that document 02 adds is answered by hand too. Each call ends with a comment that says where its answer comes from.
+A call that document 02 adds or gives another meaning is answered by hand too. Where a program lies behind the table, the Rust's free list is
+taken with the program out of it, and nothing else of its space. Each call ends with a comment that says where its answer comes from.
 Nothing here comes from the program `replay` or from what it tests."""
 import os
 import subprocess
@@ -95,18 +96,19 @@ class Script:
 
     # ---- edits
 
-    def edit(self, name, *arguments, note="", paper=None, why="", image=None):
-        """An edit. `paper`: the answer by document 01, `ok`, `ok NUMBER` or the number of a refusal, and `why` the Rust's is not it.
-        `image`: where 01 accepts what the Rust refuses, a function that has the oracle make the image that 01 describes."""
+    def edit(self, name, *arguments, note="", paper=None, why="", image=None, of="01"):
+        """An edit. `paper`: the answer by document `of`, `ok`, `ok NUMBER` or the number of a refusal, and `why` the Rust's is not it.
+        `image`: where that document accepts what the Rust refuses or is not asked, a function that has the oracle make the image that it
+        describes."""
         line = " ".join([CALLS.get(name, name)] + [n(a) if isinstance(a, int) else text(a) for a in arguments])
         command = " ".join([COMMANDS.get(name, name)] + [str(a) if isinstance(a, int) else a.hex() or "-" for a in arguments])
         if paper is None:
             answer, source = as_answer(self.oracle(command), line), "Rust" + (f"; {note}" if note else "")
         else:
-            answer, source = self.by_hand(command, line, paper, image), f"01: {why}"
+            answer, source = self.by_hand(command, line, paper, image, of), f"{of}: {why}"
         self.call(line, [answer[0], int(self.oracle.checksum(), 16)] + answer[1:], source)
 
-    def by_hand(self, command, line, paper, image):
+    def by_hand(self, command, line, paper, image, of):
         answer = [paper] if isinstance(paper, int) else [0] + [int(word) for word in paper.split()[1:]]
         self.oracle.setting("save before")
         said = self.oracle(command)
@@ -115,21 +117,21 @@ class Script:
         if image:
             image()
         agrees = is_answer(said) and as_answer(said, line) == answer and image_said == self.oracle.checksum()
-        assert not agrees, (line, "the Rust agrees", said)
+        assert of == "02" or not agrees, (line, "the Rust agrees", said)
         return answer
 
     # ---- calls that read
 
-    def look(self, name, *arguments, note="", paper=None, why=""):
-        """A call that reads. `paper`: the answer by document 01, a number, or 0 and the words of the answer."""
+    def look(self, name, *arguments, note="", paper=None, why="", of="01"):
+        """A call that reads. `paper`: the answer by document `of`, a number, or 0 and the words of the answer."""
         line = " ".join([name] + [n(a) if isinstance(a, int) else text(a) for a in arguments])
         said = self.said(name, arguments)
         if paper is None:
             assert said, (line, "no answer by the Rust")
             return self.call(line, said, "Rust" + (f"; {note}" if note else ""))
         answer = [paper] if isinstance(paper, int) else list(paper)
-        assert said != answer, (line, "the Rust agrees", said)
-        return self.call(line, answer, f"01: {why}")
+        assert of == "02" or said != answer, (line, "the Rust agrees", said)
+        return self.call(line, answer, f"{of}: {why}")
 
     def said(self, name, arguments):
         """What the Rust says, in the form of a line; None where it says nothing that 01 knows."""
@@ -176,18 +178,44 @@ class Script:
         if isinstance(answer, int):
             return self.call("free_clusters", [answer], f"02: {why}")
         sizes = [before + 0x8000 * clusters + rest for before, clusters, rest in answer]
-        assert sizes == self.said("free_regions", ())[3::2], (why, sizes)
+        assert sizes == [size for _, size in self.free_said()], (why, sizes)
         return self.call("free_clusters", [0, len(answer)] + [number for region in answer for number in region], f"02: {why}")
 
-    def text(self, name, room, note="", paper=None, why=""):
+    def free_said(self):
+        """The Rust's free regions, without a program that lies behind the table."""
+        numbers = self.said("free_regions", ())[2:]
+        regions = list(zip(numbers[::2], numbers[1::2]))
+        at, length = self.program_said()
+        if at < int.from_bytes(self.bytes_at(0x424, 4), "big"):
+            return regions
+        parts = [part for offset, size in regions for part in
+                 ((offset, min(offset + size, at) - offset), (max(offset, at + length), offset + size - max(offset, at + length)))]
+        return [part for part in parts if part[1] > 0]
+
+    def program_said(self):
+        """DOL offset, and the larger of the Rust's file size and 0xE4; 0 and 0 where it names no program."""
+        at = int.from_bytes(self.bytes_at(0x420, 4), "big")
+        return (at, max(self.said("open_dol", ())[2], 0xE4)) if at else (0, 0)
+
+    def program(self, offset, size, why):
+        """`program`, which the Rust has not, by document 02; its header is read by the Rust."""
+        assert (offset, size) == self.program_said(), (why, self.program_said())
+        return self.call("program", [0, offset, size], f"02: {why}")
+
+    def free_regions(self):
+        """The Rust's free list after the program is taken out of it."""
+        regions = self.free_said()
+        return self.call("free_regions", [0, len(regions)] + [number for region in regions for number in region], "Rust; the program taken out")
+
+    def text(self, name, room, note="", paper=None, why="", of="01"):
         """`list` or `report` into a buffer of so many bytes; what a call does not write there are dots. `paper`: the number of a refusal, or
-        the text, by document 01."""
+        the text, by document `of`."""
         line = f"{name} {n(room)}"
         if paper is None:
             listing = self.listing_said()
             source = "Rust" + (f"; {note}" if note else "")
         else:
-            listing, source = paper, f"01: {why}"
+            listing, source = paper, f"{of}: {why}"
         if isinstance(listing, int):
             return self.call(line, [listing], source)
         assert len(listing) <= room <= 4096, (line, len(listing))
@@ -1168,30 +1196,301 @@ def reads(s):
     s.read(4, paper=[0, 4, 5, b"5678"], why="four bytes at 4 + 1")
 
 
+def put_program(s, at, text=(0, 0), data=(0, 0), until=None):
+    """A program at `at`: offset and size of its first text section and of its last data section, else zeros. `until`: where its header is cut."""
+    s.patch(0x420, word(at))
+    s.fill(at, until - at if until else 0xE4, b"\0")
+    for k, number in ((0, text[0]), (0x44, data[0]), (0x90, text[1]), (0xD4, data[1])):
+        if number:
+            s.patch(at + k, word(number))
+
+
+SUMS = "a sum above 2^32 - 1, at which the Rust stops"
+
+
 def executables(s):
     new_image(s, "an executable at 0x1000: its first text section and its last data section, and else zeros", 0x2000, A_AT_500, free=False)
-    s.patch(0x420, word(0x1000))
-    s.save()
-    sums = "a sum above 2^32 - 1, at which the Rust stops"
-    for text_offset, text_size, data_offset, data_size, paper in [
-            (0x100, 0x23, 0, 0, None), (0x100, 0x23, 0x1000, 2, None), (0x2000, 0x23, 0x1000, 2, None), (0xFFFFFFFE, 1, 0, 0, None),
-            (0xFFFFFFFF, 1, 0, 0, 24), (0, 0, 0xFFFFFFFF, 0, None), (0, 0, 0xFFFFFFFF, 1, 24), (0, 0, 0xFFFFFFFF, 0xFFFFFFFF, 24)]:
+    for text, data, number, why in [
+            ((0x100, 0x23), (0, 0), 0, ""), ((0x100, 0x23), (0xF00, 0x100), 0, ""), ((0, 0), (0xE3, 0), 0, ""), ((0, 0), (0, 0), 0, ""),
+            ((0x100, 0x23), (0xF00, 0x101), 14, "it passes the disc end by a byte"), ((0xFFFFFFFE, 1), (0, 0), 14, "it passes the disc end"),
+            ((0xFFFFFFFF, 1), (0, 0), 24, SUMS), ((0, 0), (0xFFFFFFFF, 0), 14, "it passes the disc end"), ((0, 0), (0xFFFFFFFF, 1), 24, SUMS),
+            ((0, 0), (0xFFFFFFFF, 0xFFFFFFFF), 24, SUMS)]:
         s.load()
-        s.patch(0x1000, word(text_offset))
-        s.patch(0x1044, word(data_offset))
-        s.patch(0x1090, word(text_size))
-        s.patch(0x10D4, word(data_size))
-        if paper:
-            s.look("open_dol", paper=paper, why=sums)
+        put_program(s, 0x1000, text, data)
+        if number:
+            s.look("open_dol", paper=number, why=why, of="02" if number == 14 else "01")
         else:
             s.dol_window()
-            s.read(0x1000, note="all that the image has")
+            s.read(max(sum(text), sum(data)) + 1, note="all of the window")
     s.load()
     s.patch(0x420, word(0x1F1C))
     s.dol_window(note="the header ends at the image's end")
     s.read(4)
     s.patch(0x420, word(0x1F1D))
     s.look("open_dol", note="it passes the image's end")
+    s.load()
+    s.heading("DOL offset 0, which names no program: the image's first bytes, read as one; the magic at 0x1c is a section's offset")
+    for at, offset, size, paper in [(0, 0, 0, None), (0, 0xFFFFFFFE, 1, None), (0, 0xFFFFFFFF, 1, 24), (0x44, 0xFFFFFFFF, 0, None),
+                                    (0x44, 0xFFFFFFFF, 1, 24), (0x44, 0xFFFFFFFF, 0xFFFFFFFF, 24)]:
+        s.load()
+        s.patch(at, word(offset))
+        s.patch(0x90 + at, word(size))
+        s.look("open", note="opening does not look at it")
+        if paper:
+            s.look("open_dol", paper=paper, why=SUMS)
+        else:
+            s.dol_window()
+            s.seek("start", 0x1FFC)
+            s.read(8, note="all that the image has from there on")
+
+
+# ---- the program: before the table, behind it, and where it may not lie
+
+
+BEHIND = "the program behind the table is used"
+
+
+def moved(s, from_, to, size):
+    """The image by hand, after a move of the only file of a table that stands at 0x440 as it is written."""
+    def make():
+        bytes_ = s.bytes_at(from_, size)
+        s.oracle.setting(f"patch {to} {bytes_.hex()}")
+        s.oracle.setting(f"patch {from_} {'00' * size}")
+        s.oracle.setting(f"patch 0x450 {word(to).hex()}")
+    return make
+
+
+def patched(s, *parts):
+    """The image by hand: these bytes at these offsets."""
+    def make():
+        for at, bytes_ in parts:
+            s.oracle.setting(f"patch {at} {bytes_.hex()}")
+    return make
+
+
+def none_named(s):
+    s.lend(0x10, 0x1000)
+    new_image(s, "small master: its DOL offset is 0", 0x2000, A_AT_500, free=False)
+    s.program(0, 0, "no program")
+    s.patch(0, word(0xFFFFFFFF))
+    s.patch(0x90, word(2))
+    s.look("open", note="what stands at 0 is no program's header")
+    s.call("program", [0, 0, 0], "02: no program")
+    s.look("totals")
+    s.look("free_regions")
+    s.look("open_dol", paper=24, why=SUMS)
+    s.load()
+    s.lend(0xF, 0)
+    s.look("program", paper=9, why="one working word too few", of="02")
+    s.lend(0x10, 0)
+    for number, note, change in [(1, "image of 0x43f bytes", lambda: s.size(0x43F)), (3, "no GameCube magic", lambda: s.patch(0x1C, word(0))),
+                                 (13, "name .", lambda: s.patch(0x458, b".")), (14, "file in the table", lambda: s.patch(0x450, word(0x459)))]:
+        s.load()
+        change()
+        s.look("program", paper=number, why=note, of="02")
+
+
+def before_table(s):
+    table = directory(0, 0, 2) + file(0, 0x800, 0x100) + b"a\0"
+    new_image(s, "a program between 0x440 and the table at 0x600: used bytes, free regions and edits are the Rust's", 0x2000, table, fst=0x600,
+              files=[(0x800, 0x100)])
+    s.lend(0x20, 0x100)
+    for at, size, why in [(0x440, 0x1C0, "all of it"), (0x440, 0, "its start; a program is at least as long as its header"),
+                          (0x440, 0xE3, "a byte less than a header"), (0x440, 0xE5, "a byte more than a header"), (0x51C, 0, "its end")]:
+        s.load()
+        put_program(s, at, (0, size))
+        s.program(at, max(size, 0xE4), why)
+        s.look("open")
+        s.look("totals")
+        s.look("free_regions")
+    s.load()
+    put_program(s, 0x440, (0x100, 0xC0))
+    s.save()
+    s.dol_window()
+    s.look("max_file_size", 1)
+    s.look("max_region_size", 0x61A, 1)
+    s.look("max_region_size", 0x440, 0x1DA)
+    s.look("allocate", 0x100, 0x100)
+    s.text("report", 0x80)
+    for name, arguments in [("insert_file", (0, b"b")), ("insert_directory", (0, b"c")), ("make_directories", (0, b"d/e")), ("rewrite", ()),
+                            ("move", (1, 0x440)), ("move", (1, 0x51C)), ("move", (1, 0x1000)), ("resize", (1, 0x1000)), ("resize", (1, 0x1001)),
+                            ("resize", (1, 0))]:
+        s.edit(name, *arguments)
+    s.call("program", [0, 0x440, 0x1C0], "02: as it was")
+    s.load()
+    for at, size, until, why in [
+            (0x440, 0x1C1, None, "a byte over the table's start"), (0x51D, 0, 0x600, "a byte over the table's start"),
+            (0x43F, 0, None, "a byte before 0x440"), (0x441, 0x1DA, None, "over the table and its end"),
+            (0x500, 0x300, None, "around the table"), (0x100, 0, None, "in the header")]:
+        s.load()
+        put_program(s, at, (0, size), until=until)
+        s.look("open", paper=14, why=why, of="02")
+        s.look("program", paper=14, why=why, of="02")
+        s.edit("move", 1, 0x1000, paper=14, why=why, of="02")
+    for at, why in [(0x600, "at the table's start"), (0x619, "a byte over the table's end")]:
+        s.load()
+        s.fill(0x61A, 0xE4, b"\0")
+        s.patch(0x420, word(at))
+        s.look("open", paper=14, why=why, of="02")
+        s.edit("rewrite", paper=14, why=why, of="02")
+    s.load()
+    put_program(s, 0x61A)
+    s.program(0x61A, 0xE4, "from the table's end on")
+    s.look("totals", paper=[0, 0x2000, 0x61A + 0x100 + 0xE4], why=BEHIND, of="02")
+
+
+A_AT_800 = directory(0, 0, 2) + file(0, 0x800, 0x100) + b"a\0"
+
+
+def behind_table(s):
+    new_image(s, "a program of 0x123 bytes at 0x1000, behind the table and file a at 0x800", 0x2000, A_AT_800, files=[(0x800, 0x100)])
+    put_program(s, 0x1000, (0x100, 0x23))
+    s.save()
+    s.lend(0x10, 0x1000, 6)
+    s.program(0x1000, 0x123, "as long as its file size")
+    used = 0x45A + 0x100 + 0x123
+    s.look("open", paper=[0, 0x440, 0x1A, 0x2000, 2, used], why=BEHIND, of="02")
+    s.look("totals", paper=[0, 0x2000, used], why=BEHIND, of="02")
+    s.free_regions()
+    s.lend(0x10, 0x1000, 5)
+    s.look("free_regions", paper=9, why="three regions of two entries: a list that is a word short", of="02")
+    s.lend(0x10, 0x1000, 9)
+    s.clusters([(0x3A6, 0, 0), (0x700, 0, 0), (0xEDD, 0, 0)], "three regions of two entries")
+    s.lend(0x10, 0x1000, 8)
+    s.clusters(9, "a list that is a word short")
+    s.lend(0xF, 0x1000)
+    s.look("open", paper=9, why="one working word too few", of="02")
+    s.lend(0x10, 0x1000)
+    s.dol_window()
+    s.read(0x123, note="all of the window")
+    listing = b"total 8192 used 1661\nd 0 0 2 /\nf 1 2048 256 /a\nr 1114 934\nr 2304 1792\nr 4387 3805\n"
+    s.text("report", 0x80, paper=listing, why=BEHIND, of="02")
+    s.look("max_file_size", 1, paper=[0, 0x800], why="up to the program", of="02")
+    for offset, size, most, why in [
+            (0x900, 1, 0x700, "a free region that ends at the program"), (0x901, 1, 0x6FF, "inside it"), (0xFFF, 1, 1, "its last byte"),
+            (0x1000, 0x123, 0x1000, "the program's own place, with what is free behind it"), (0x1000, 0x122, 0x122, "a byte less"),
+            (0x1122, 1, 0xEDE, "its last byte, with what is free behind it"), (0x1123, 1, 0xEDD, "the free region behind it")]:
+        s.look("max_region_size", offset, size, paper=[0, most], why=why, of="02")
+    for size, align, paper, why in [
+            (0x100, 0x100, [0, 0x1200, 0xE00], "the largest rest is behind the program"), (0xE00, 0x100, [0, 0x1200, 0xE00], "all of it"),
+            (0xE01, 0x100, 21, "a byte more"), (0xEDD, 1, [0, 0x1123, 0xEDD], "from its end on"), (0xEDE, 1, 21, "a byte more")]:
+        s.look("allocate", size, align, paper=paper, why=why, of="02")
+    for to, why in [(0xF01, "a byte over its start"), (0x1000, "its place"), (0x1010, "inside it"), (0x1122, "a byte over its end")]:
+        s.edit("move", 1, to, paper=21, why=why, of="02")
+    s.edit("move", 1, 0xF00, paper="ok", why="right before it", image=moved(s, 0x800, 0xF00, 0x100), of="02")
+    s.edit("move", 1, 0x1123, paper="ok", why="right behind it", image=moved(s, 0xF00, 0x1123, 0x100), of="02")
+    s.load()
+    s.edit("resize", 1, 0x801, paper=21, why="a byte into it, and no free multiple of 0x8000", of="02")
+    s.edit("resize", 1, 0x800, paper="ok", why="up to it", image=patched(s, (0x454, word(0x800))), of="02")
+    s.edit("resize", 1, 0x801, paper=21, why="a byte more", of="02")
+    s.free_regions()
+    s.program(0x1000, 0x123, "as it was")
+    for at, size, why in [(0x71C, 0, "it ends where the file begins"), (0x900, 0, "it begins where the file ends"),
+                          (0x45A, 0x3A6, "all between table and file"), (0x900, 0x1700, "up to the disc end"), (0x1F1C, 0, "a header at the disc end")]:
+        s.load()
+        put_program(s, at, (0, size))
+        s.program(at, max(size, 0xE4), why)
+        s.look("totals", paper=[0, 0x2000, 0x45A + 0x100 + max(size, 0xE4)], why=BEHIND, of="02")
+        s.free_regions()
+    for at, size, why in [(0x71D, 0, "a byte over the file's start"), (0x8FF, 0, "a byte over the file's end"), (0x80F, 0, "in the file"),
+                          (0x700, 0x300, "around the file"), (0x45A, 0x3A7, "a byte over the file's start"), (0x900, 0x1701, "a byte past the disc end")]:
+        s.load()
+        put_program(s, at, (0, size))
+        s.look("open", paper=14, why=why, of="02")
+        s.edit("rewrite", paper=14, why=why, of="02")
+    new_image(s, "three clusters, the program in the second: a file that has to move finds a place beside it", 0x18000,
+              directory(0, 0, 3) + file(0, 0x1000, 0x100) + file(2, 0x1100, 0x10) + b"a\0b\0", files=[(0x1000, 0x100), (0x1100, 0x10)])
+    put_program(s, 0x9000, (0, 0x800))
+    s.save()
+    s.lend(0x14, 0x28)
+    s.clusters([(0xB98, 0, 0), (0x6EF0, 0, 0x1000), (0x6800, 1, 0)], "0x1110 to the program, and behind it to the disc end")
+    s.look("allocate", 0x101, 0x8000, paper=[0, 0x10000, 0x8000], why="the larger rest is behind the program", of="02")
+    grown = patched(s, (0x10000, b"\xA1\x5A" * 0x80), (0x1000, bytes(0x100)), (0x450, word(0x10000)), (0x454, word(0x101)))
+    s.edit("resize", 1, 0x101, paper="ok", why="file b is right behind it; the larger rest", image=grown, of="02")
+    s.load()
+    s.edit("resize", 1, 0x8001, paper=21, why="a byte more than the larger rest has", of="02")
+
+
+def abutting(s):
+    new_image(s, "a program right behind the table, which ends at 0x45a: the table may not grow into it", 0x2000, A_AT_800, files=[(0x800, 0x100)])
+    s.lend(0x20, 0x100)
+    longer = directory(0, 0, 3) + file(0, 0x800, 0x100) + file(2, 0, 0) + b"a\0b\0"
+    for at, room in [(0x45A, 0), (0x467, 13), (0x468, 14)]:
+        s.load()
+        put_program(s, at)
+        s.save()
+        s.heading(f"{room} bytes between them; an entry with a name of one byte takes 14")
+        for name in ("insert_file", "insert_directory", "make_directories"):
+            s.edit(name, 0, b"bb", paper=21, why="15 bytes more", of="02")
+        if room < 14:
+            for name in ("insert_file", "insert_directory", "make_directories"):
+                s.edit(name, 0, b"b", paper=21, why="14 bytes more", of="02")
+        else:
+            grown = patched(s, (0x428, word(0x28)), (0x440, longer))
+            s.edit("insert_file", 0, b"b", paper="ok 2", why="14 bytes more", image=grown, of="02")
+            s.edit("insert_file", 0, b"c", paper=21, why="now they abut", of="02")
+            s.load()
+        s.edit("make_directories", 0, b".", paper="ok 0", why="a table of the same size", of="02")
+        s.edit("rewrite", paper="ok", why="a table of the same size", of="02")
+        s.edit("move", 1, 0x900, paper="ok", why="a table of the same size", image=moved(s, 0x800, 0x900, 0x100), of="02")
+        s.load()
+    table = directory(0, 0, 3) + file(0, 0x800, 0x10) + file(0, 0x900, 0x10) + b"a\0"
+    new_image(s, "two files share a text: the table ends at 0x466, and at 0x468 when it is written", 0x2000, table, files=[(0x800, 0x10), (0x900, 0x10)])
+    for at in (0x466, 0x467):
+        s.load()
+        put_program(s, at)
+        s.heading(f"the program at {at:#x}")
+        for name, arguments in [("rewrite", ()), ("move", (1, 0xA00)), ("resize", (1, 8)), ("resize", (1, 0x11)), ("make_directories", (0, b""))]:
+            s.edit(name, *arguments, paper=21, why="two bytes more", of="02")
+        s.edit("resize", 1, 0x10, paper="ok", why="the present size writes no table", of="02")
+        s.edit("move", 1, 0x808, paper=20, why="before the table's place", of="02")
+        s.lend(0x14, 0x27)
+        s.edit("rewrite", paper=9, why="one working byte too few, before the table's place", of="02")
+        s.lend(0x20, 0x100)
+    s.load()
+    put_program(s, 0x468)
+    written = directory(0, 0, 3) + file(0, 0x800, 0x10) + file(2, 0x900, 0x10) + b"a\0a\0"
+    s.edit("rewrite", paper="ok", why="two bytes more, right before the program", image=patched(s, (0x428, word(0x28)), (0x440, written)), of="02")
+    s.program(0x468, 0xE4, "as it was")
+
+
+def unread(s):
+    """24: after the walk, before 14, and only for a DOL offset other than 0."""
+    new_image(s, "programs whose header passes the image, or with a sum above 2^32 - 1; the image goes on behind the disc end", 0x2100, A_AT_500,
+              user=0x2000, free=False)
+    s.lend(0x10, 0x1000)
+    past = "the header passes the image"
+    for change, number, why in [
+            (lambda: s.patch(0x420, word(0x201D)), 24, past), (lambda: s.patch(0x420, word(0x2100)), 24, past),
+            (lambda: s.patch(0x420, word(0xFFFFFFFF)), 24, past), (lambda: put_program(s, 0x1000, (0xFFFFFFFF, 1)), 24, "a sum of 2^32"),
+            (lambda: put_program(s, 0x1000, (0, 0), (1, 0xFFFFFFFF)), 24, "a sum of 2^32 in the last section"),
+            (lambda: put_program(s, 0x2000, (0xFFFFFFFF, 1)), 24, "a sum of 2^32, before what is past the disc end"),
+            (lambda: put_program(s, 0x1000, (0xFFFFFFFE, 1)), 14, "a sum of 2^32 - 1, past the disc end"),
+            (lambda: s.patch(0x420, word(0x201C)), 14, "the header is in the image, and past the disc end"),
+            (lambda: s.patch(0x420, word(0x2000)), 14, "from the disc end on"), (lambda: s.patch(0x420, word(0x1F1D)), 14, "a byte past the disc end")]:
+        s.load()
+        change()
+        for name in ("open", "program", "free_regions", "open_dol"):
+            s.look(name, paper=number, why=why, of="02")
+        s.clusters(number, why)
+        s.edit("move", 1, 0x600, paper=number, why=why, of="02")
+        s.edit("insert_file", 0, b"b", paper=number, why=why, of="02")
+    for program, why in [(lambda: s.patch(0x420, word(0x201D)), past), (lambda: put_program(s, 0x1000, (0xFFFFFFFF, 1)), "a sum of 2^32")]:
+        for number, note, change in [
+                (4, "image of 0x1fff bytes", lambda: s.size(0x1FFF)), (5, "FST size 23", lambda: s.patch(0x428, word(23))),
+                (8, "FST size 25", lambda: s.patch(0x428, word(25))), (10, "count 0", lambda: s.patch(0x448, word(0))),
+                (11, "name offset 2", lambda: s.patch(0x44C, word(2))), (12, "name byte 0x1f", lambda: s.patch(0x458, b"\x1F")),
+                (13, "name .", lambda: s.patch(0x458, b".")), (24, "file in the table", lambda: s.patch(0x450, word(0x459))),
+                (24, "file past the disc end", lambda: s.patch(0x450, word(0x1F01)))]:
+            s.load()
+            program()
+            change()
+            s.look("open", paper=number, why=f"{note}, and {why}", of="02")
+        s.load()
+        program()
+        s.lend(0xF, 0)
+        s.look("open", paper=9, why=f"one working word too few, and {why}", of="02")
+        s.lend(0x10, 0x1000)
 
 
 # ---- tables written anew
@@ -1254,11 +1553,26 @@ def listings(s):
         change()
         s.text("report", 0x80, paper=refused(number), why=note)
         s.text("list", 0x80, paper=number, why=note)
+    for number, note, change in [
+            (24, "a program's header that passes the image", lambda: s.patch(0x420, word(0x1F1D))),
+            (24, "a program with a sum of 2^32", lambda: put_program(s, 0x1000, (0xFFFFFFFF, 1))),
+            (14, "a program over a file's end", lambda: put_program(s, 0x5FF))]:
+        s.load()
+        change()
+        s.text("report", 0x80, paper=refused(number), why=note, of="02")
+        s.text("list", 0x80, paper=number, why=note, of="02")
+    s.load()
+    put_program(s, 0x1000)
+    s.text("report", 0x80, paper=b"total 8192 used 1598\nd 0 0 2 /\nf 1 1280 256 /a\nr 1114 166\nr 1536 2560\nr 4324 3868\n",
+           why="a program of 0xe4 bytes at 0x1000 is used", of="02")
     s.load()
     table = (directory(0, 7, 7) + directory(0, 6, 5) + file(2, 0xFFFFFFFF, 0) + directory(0, 0, 5) + file(3, 0x600, 0x10) + file(2, 0x500, 0x100)
              + file(2, 0x441, 0) + b"d\0ab\0")
     new_image(s, "nested directories, equal names, empty files, stored parents that are wrong", 0x2000, table)
     s.text("report", 0x400)
+    new_image(s, "a program before the table, which is at 0x600", 0x2000, directory(0, 0, 2) + file(0, 0x800, 0x100) + b"a\0", fst=0x600)
+    put_program(s, 0x440, (0, 0x1C0))
+    s.text("report", 0x80)
     chain = directory(0, 0, 52) + directory(0, 0, 51) * 50 + file(2, 0x1000, 0x10) + b"d\0e\0"
     new_image(s, "50 directories one in the other: the path grows by two bytes an entry", 0x2000, chain)
     s.text("list", 0x1000)
@@ -1288,7 +1602,7 @@ def make(oracle):
             ("edits", (small_master, memory, places, spoiled_master, grown_over, half_done, empty_files, equal_rests, nested, disc_ends, far_table,
                        game_names, unopened, limits, inserts, names, made, deep, limits_of_inserts, chain)),
             ("reading", (with_changes, lookups, clusters, headers, fields)), ("windows", (windows, reads, executables)), ("tables", (tables,)),
-            ("listing", (listings,))]:
+            ("listing", (listings,)), ("program", (none_named, before_table, behind_table, abutting, unread))]:
         s.lines = []
         for part in parts:
             part(s)

@@ -14,6 +14,11 @@
  *
  * An entry is a file or a directory, with its number in the table; the root is entry 0. FST is the file table, DOL the program.
  *
+ * Used are the bytes from 0 up to the table's end, those of each file, and the program. A DOL offset other than 0 means a program from
+ * there on, as long as its file size and at least 0xE4. It lies wholly between 0x440 and the FST offset, where it counts with the bytes up
+ * to the table's end, or wholly from the table's end on, where it is a used region of its own. All else below the disc end is free. No edit
+ * alters the program.
+ *
  * words, and for edits bytes, are working memory. Whatever they held, they are zero afterwards, on refusals too. With too little the call
  * returns 9:
  *
@@ -24,13 +29,16 @@
  * Lists are sized by the number of entries n, which counter_open tells:
  *
  *     counter_entries        COUNTER_ENTRY_WORDS * n words
- *     counter_free_regions   COUNTER_REGION_WORDS * n words: there is at most one free region behind the table and one behind each file
- *     counter_free_clusters  COUNTER_CLUSTER_WORDS * n words
+ *     counter_free_regions   COUNTER_REGION_WORDS * (n + 1) words: there is at most one free region behind the table, one behind the
+ *                            program and one behind each file
+ *     counter_free_clusters  COUNTER_CLUSTER_WORDS * (n + 1) words
  *
  * Every call that takes words opens the image first, and refuses what opening refuses. Its tests, in this order: the header's fields (1),
  * Wii magic (2), GameCube magic (3); 4; the root (5, 6, 7); more entries than COUNTER_MOST_ENTRIES (9); each further entry in turn (5, 6);
  * 8; more bytes of names than COUNTER_MOST_TEXT (9); too few words (9); then each entry: 11, 12, 13 (not the root's), 10, a directory
- * deeper than COUNTER_MOST_LEVELS (9); then 14. The calls' own tests follow, in the order in which their comments give them.
+ * deeper than COUNTER_MOST_LEVELS (9); then 24, for a DOL offset other than 0: the program's header passes the image, or one of its sums of
+ * offset and size 2^32 - 1; then 14: two used regions overlap or one passes the disc end, or the program lies in neither of its places. The
+ * calls' own tests follow, in the order in which their comments give them.
  */
 #ifndef COUNTER_H
 #define COUNTER_H
@@ -47,6 +55,7 @@ extern "C" {
 #define COUNTER_HEADER_BYTES 0x440
 #define COUNTER_OPEN_SLOTS 5
 #define COUNTER_TOTALS_SLOTS 2
+#define COUNTER_PROGRAM_SLOTS 2
 #define COUNTER_ENTRY_SLOTS 4
 #define COUNTER_ENTRY_WORDS 6
 #define COUNTER_REGION_WORDS 2
@@ -62,7 +71,7 @@ extern "C" {
 #define COUNTER_MOST_TEXT 1048576  /* bytes of names, each with a zero byte behind it */
 #define COUNTER_MOST_LEVELS 64     /* directories below the root, one in another */
 #define COUNTER_MOST_PATH 1024     /* bytes of a path that is passed in */
-#define COUNTER_MOST_REGIONS COUNTER_MOST_ENTRIES
+#define COUNTER_MOST_REGIONS (COUNTER_MOST_ENTRIES + 1)
 #define COUNTER_MOST_WORDS (4 * (COUNTER_MOST_ENTRIES + 2))
 #define COUNTER_MOST_TABLE (12 * COUNTER_MOST_ENTRIES + COUNTER_MOST_TEXT)
 
@@ -112,6 +121,10 @@ uint32_t counter_open(const uint8_t *image, size_t image_len, uint32_t *words, s
 
 /* answer[2]: disc end, used total. */
 uint32_t counter_totals(const uint8_t *image, size_t image_len, uint32_t *words, size_t words_len, uint32_t answer[COUNTER_TOTALS_SLOTS]);
+
+/* The program's region, before the table or behind it. answer[2]: DOL offset, and the larger of the file size and 0xE4; both 0 where the
+ * DOL offset is 0. */
+uint32_t counter_program(const uint8_t *image, size_t image_len, uint32_t *words, size_t words_len, uint32_t answer[COUNTER_PROGRAM_SLOTS]);
 
 /* Entry `number`; 15 if there is none. answer[4]: number; kind, 0 a file and 1 a directory; a file's offset, or the directory that a
  * directory is nested in (the root: 0); a file's size, or the number after a directory's last entry. */
@@ -174,8 +187,9 @@ uint32_t counter_allocate(const uint8_t *image, size_t image_len, uint32_t *word
 uint32_t counter_open_file(const uint8_t *image, size_t image_len, uint32_t *words, size_t words_len, uint32_t number,
     uint64_t window[COUNTER_WINDOW_SLOTS]);
 
-/* The executable at the DOL offset: 24 if its header passes the image, or a sum of offset and size 2^32 - 1. header[57]: 7 text and 11 data
- * offsets, 7 and 11 addresses, 7 and 11 sizes, BSS address, BSS size, entry point. window[3]: DOL offset, file size, 0. */
+/* The executable at the DOL offset; at 0, which opening takes for no program, too: 24 if a sum of offset and size there passes 2^32 - 1.
+ * header[57]: 7 text and 11 data offsets, 7 and 11 addresses, 7 and 11 sizes, BSS address, BSS size, entry point. window[3]: DOL offset,
+ * file size (the largest sum; it may be below 0xE4), 0. */
 uint32_t counter_open_dol(const uint8_t *image, size_t image_len, uint32_t *words, size_t words_len, uint32_t header[COUNTER_DOL_SLOTS],
     uint64_t window[COUNTER_WINDOW_SLOTS]);
 

@@ -30,7 +30,7 @@ use Rattle.free_space.specs.MaxRegionSize.{maxRegionSize}
 use Rattle.space.specs.Free.{freeRegions}
 use Rattle.free_space.specs.Laws.GrowthLaws.{table-largest, place-free}
 use Rattle.free_space.specs.Laws.PassedLayout.{passes}
-use Rattle.opening.specs.Opening.{tableOf, nodesIn, regionOf, usedIn, freeOf, opening}
+use Rattle.opening.specs.Opening.{tableOf, nodesIn, regionOf, behindTable, usedIn, freeOf, opening}
 use Rattle.opening.specs.Laws.OpeningLaws.{OpenImage}
 use Rattle.edits.specs.Change.{tableVerdict, placeVerdict}
 use Rattle.edits.specs.Edits.{overlapsItself, relocateVerdict}
@@ -58,6 +58,10 @@ unfolding liesWithin
 lies t e x l z =
     ⊎-elim (λ q. absurd (omega (arith, eqb-true (x .size) 0 q))) (λ q. leb-true (endOf x) e (and-right (leb t (x .offset)) (leb (endOf x) e) q))
     (or-cases (eqb (x .size) 0) (leb t (x .offset) && leb (endOf x) e) l)
+
+within-rest : (t e : ℕ) (x : DiscRegion) (xs : List DiscRegion) → filesWithin t e (x ∷ xs) ≡ true → filesWithin t e xs ≡ true
+unfolding filesWithin
+within-rest t e x xs w = and-right (liesWithin t e x) (filesWithin t e xs) w
 
 within-at : (t e : ℕ) (xs : List Node) (k : ℕ) → filesWithin t e (map regionOf xs) ≡ true → 0 < regionOf (getD xs k none) .size → endOf (regionOf (getD xs k none)) ≤ e
 unfolding filesWithin
@@ -106,8 +110,8 @@ module _ (image : List ℕ) (words : ℕ) (known : OpenImage image words) where
   place-fits room size place e =
       let a = refuse-passed (ltb room size) LimitOrMemory _ e in
       let b = refuse-passed (ltb (maxRegionSize (fstOffset image) (fstSize image) (freeOf image)) size) NotEnoughSpace _ (a .1) in
-      let m : size ≤ maxRegionSize (fstOffset image) (fstSize image) (freeRegions (discEnd image) (usedRegions (tableEnd image) (map regionOf (nodesIn image)))) = ltb-false _ size (b .0) in
-      let l = table-largest (discEnd image) (tableEnd image) (map regionOf (nodesIn image)) (fstOffset image) (fstSize image) refl in
+      let m : size ≤ maxRegionSize (fstOffset image) (fstSize image) (freeRegions (discEnd image) (usedRegions (tableEnd image) (behindTable image))) = ltb-false _ size (b .0) in
+      let l = table-largest (discEnd image) (tableEnd image) (behindTable image) (fstOffset image) (fstSize image) refl in
       let k = known .reads .bounds in
       record {
         behind-header = k .after-header;
@@ -119,11 +123,11 @@ module _ (image : List ℕ) (words : ℕ) (known : OpenImage image words) where
 
   -- a file that is not empty ends by the disc end
   pub file-ends : (k : ℕ) → 0 < regionOf (getD (nodesIn image) k none) .size → endOf (regionOf (getD (nodesIn image) k none)) ≤ length image
-  unfolding usedIn
+  unfolding usedIn behindTable
   file-ends k z =
       let b = known .reads .bounds in
-      let p = passes (tableEnd image) (discEnd image) (map regionOf (nodesIn image)) (omega (arith, b .after-header)) (known .layout) in
-      omega (arith, within-at (tableEnd image) (discEnd image) (nodesIn image) k (p .within) z, b .image-holds)
+      let p = passes (tableEnd image) (discEnd image) (behindTable image) (omega (arith, b .after-header)) (known .layout) in
+      omega (arith, within-at (tableEnd image) (discEnd image) (nodesIn image) k (within-rest _ _ _ _ (p .within)) z, b .image-holds)
 
   -- a new place that is not empty lies on the disc
   pub new-place : (old new : DiscRegion) → relocateVerdict (freeOf image) old new ≡ Passed → 0 < new .size → endOf new ≤ length image

@@ -8,6 +8,8 @@ use Rattle.tree.specs.declared.Found.{Found}
 use Rattle.space.specs.declared.DiscRegion.{DiscRegion}
 use Rattle.free_space.specs.declared.Allocation.{Allocation}
 use Rattle.free_space.specs.declared.Allocation.the-variants as allocation
+use Rattle.program.specs.declared.Program.{Program}
+use Rattle.program.specs.declared.Program.the-variants as program
 use Rattle.free_space.specs.declared.Listing.{Listing}
 use Rattle.opening.specs.Opening.{zeros}
 use Rattle.answers.specs.declared.Opened.{Opened}
@@ -20,7 +22,7 @@ use Rattle.files.specs.declared.WindowAnswer.the-variants as window
 use Rattle.listing.specs.declared.Listed.{Listed}
 use Rattle.listing.specs.declared.Listed.the-variants as listed
 use Rattle.window.specs.declared.Window.{Window}
-use Rattle.counter.specs.Replies.{Reply, reply, Read, openedReply, foundReply, sizeReply, totalsReply, allocationReply, listingReply, listedReply, windowReply, windowWords}
+use Rattle.counter.specs.Replies.{Reply, reply, Read, openedReply, foundReply, sizeReply, totalsReply, programReply, allocationReply, listingReply, listedReply, windowReply, windowWords}
 
 -- ---- the answer is a, and g is its reply
 
@@ -48,6 +50,14 @@ module _ (before w w′ : List ℕ) (zeroed : w′ ≡ zeros w) where
   unfolding allocationReply
   allocation-found a b r e h = record { answered = rw (← e, h); words = zeroed }
 
+  pub program-at : (a b : Program) (r : DiscRegion) → b ≡ a → b ≡ program.At r → Read (programReply before a) (reply 0 (r .offset ∷ r .size ∷ [])) w w′
+  unfolding programReply
+  program-at a b r e h = record { answered = rw (← e, h); words = zeroed }
+
+  pub program-none : (a b : Program) → b ≡ a → b ≡ program.None → Read (programReply before a) (reply 0 (0 ∷ 0 ∷ [])) w w′
+  unfolding programReply
+  program-none a b e h = record { answered = rw (← e, h); words = zeroed }
+
   pub text-made : (a b : Listed) (n : ℕ) → b ≡ a → b ≡ listed.Text n → Read (listedReply before a) (reply 0 (n ∷ [])) w w′
   unfolding listedReply
   text-made a b n e h = record { answered = rw (← e, h); words = zeroed }
@@ -64,6 +74,10 @@ module _ (before w w′ : List ℕ) (zeroed : w′ ≡ zeros w) where
     pub allocation-refused : (a b : Allocation) → b ≡ a → b ≡ allocation.Refused c → Read (allocationReply before a) (reply r before) w w′
     unfolding allocationReply
     allocation-refused a b e h = record { answered = rw (← e, h, number); words = zeroed }
+
+    pub program-refused : (a b : Program) → b ≡ a → b ≡ program.Refused c → Read (programReply before a) (reply r before) w w′
+    unfolding programReply
+    program-refused a b e h = record { answered = rw (← e, h, number); words = zeroed }
 
     pub text-refused : (a b : Listed) → b ≡ a → b ≡ listed.Refused c → Read (listedReply before a) (reply r before) w w′
     unfolding listedReply

@@ -25,6 +25,8 @@ use Rattle.answers.specs.declared.Opened.{Opened}
 use Rattle.answers.specs.declared.Opened.the-variants as opened
 use Rattle.disc.specs.declared.TotalsAnswer.{TotalsAnswer}
 use Rattle.disc.specs.declared.TotalsAnswer.the-variants as totaled
+use Rattle.program.specs.declared.Program.{Program}
+use Rattle.program.specs.declared.Program.the-variants as program
 use Rattle.answers.specs.declared.SizeAnswer.{SizeAnswer}
 use Rattle.answers.specs.declared.SizeAnswer.the-variants as size
 use Rattle.files.specs.declared.WindowAnswer.{WindowAnswer}
@@ -66,6 +68,12 @@ openedReply before (opened.Refused c) = refuses before c
 unfoldable pub totalsReply : List ℕ → TotalsAnswer → Reply
 totalsReply before (totaled.Found t) = accepts (t .«disc_end» ∷ t .used ∷ [])
 totalsReply before (totaled.Refused c) = refuses before c
+
+-- a program has at least 0xE4 bytes, so size 0 is none
+unfoldable pub programReply : List ℕ → Program → Reply
+programReply before (program.At r) = accepts (r .offset ∷ r .size ∷ [])
+programReply before program.None = accepts (0 ∷ 0 ∷ [])
+programReply before (program.Refused c) = refuses before c
 
 -- kind 0 with offset and size, kind 1 with parent and next
 abbrev pub entryWords : ℕ → Entry → List ℕ

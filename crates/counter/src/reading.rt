@@ -1,11 +1,12 @@
 // The calls that read an image.
 ghost use mathlib.Core.Path.{_≡_};
 ghost use lib.ListN.{length};
-ghost use Rattle.disc.specs.Calls.{openedOf, totalsAnswer};
+ghost use Rattle.disc.specs.Calls.{openedOf, totalsAnswer, programAnswer};
 ghost use Rattle.files.specs.Files.{entryAnswer, lookupAnswer, entriesAnswer, entriesList};
-ghost use Rattle.counter.specs.Replies.{Read, reply, openedReply, foundReply, totalsReply};
+ghost use Rattle.counter.specs.Replies.{Read, reply, openedReply, foundReply, totalsReply, programReply};
 use answers::Opened;
 use disc::TotalsAnswer;
+use program::Program;
 use tree::Entry;
 use tree::Found;
 
@@ -59,6 +60,25 @@ pub extern "C" fn counter_totals(image: &[u8], words: &mut [u32], answer: &mut [
             0
         }
         TotalsAnswer::Refused(cause) => cause.number(),
+    }
+}
+
+// Where the program lies; 0 and 0 where there is none.
+#[no_mangle]
+pub extern "C" fn counter_program(image: &[u8], words: &mut [u32], answer: &mut [u32; 2]) -> u32
+    ensures { λ r. ⌜ Read (programReply (now (answer .entry)) (programAnswer (now (image .entry)) (length (now (words .entry))))) (reply r (now (answer .exit))) (now (words .entry)) (now (words .exit)) ⌝ }
+{
+    let program = disc::program(image, words);
+    match program {
+        Program::At(region) => {
+            *answer = [region.offset, region.size];
+            0
+        }
+        Program::None => {
+            *answer = [0, 0];
+            0
+        }
+        Program::Refused(cause) => cause.number(),
     }
 }
 

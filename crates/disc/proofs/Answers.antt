@@ -25,9 +25,12 @@ use Rattle.free_space.specs.declared.Listing.{Listing}
 use Rattle.free_space.specs.declared.Listing.the-variants as listing
 use Rattle.free_space.specs.Listing.{listingOf, listAfter}
 use Rattle.free_space.specs.Allocate.{allocationOf}
+use Rattle.program.specs.declared.Program.{Program}
+use Rattle.program.specs.declared.Program.the-variants as program
+use Rattle.program.specs.Program.{programOf}
 use Rattle.disc.specs.declared.TotalsAnswer.{TotalsAnswer}
 use Rattle.disc.specs.declared.TotalsAnswer.the-variants as totals
-use Rattle.disc.specs.Calls.{openedOf, totalsAnswer, freeAnswer, freeList, allocateAnswer}
+use Rattle.disc.specs.Calls.{openedOf, totalsAnswer, programAnswer, freeAnswer, freeList, allocateAnswer}
 
 module _ (image : List ℕ) (n : ℕ) (w : List ℕ) (p : Prepared) (h : Prepares image n w p) where
   -- opening
@@ -48,6 +51,15 @@ module _ (image : List ℕ) (n : ℕ) (w : List ℕ) (p : Prepared) (h : Prepare
   pub refused-totals : (c : Refusal) → p ≡ Refused c → totals.Refused c ≡ totalsAnswer image n
   unfolding totalsAnswer
   refused-totals c r = refused-behind image n w p h totals.Refused _ c r
+
+  -- the program
+  pub ready-program : (m : ℕ) (a : Program) → p ≡ Ready m → a ≡ programOf image → a ≡ programAnswer image n
+  unfolding programAnswer
+  ready-program m a r e = e ∙ behind-passed (opening image n) program.Refused (programOf image) (ready-opened image n w p h m r)
+
+  pub refused-program : (c : Refusal) → p ≡ Refused c → program.Refused c ≡ programAnswer image n
+  unfolding programAnswer
+  refused-program c r = refused-behind image n w p h program.Refused (programOf image) c r
 
   -- the free regions, and the list of them
   pub ready-listing : (row : DiscRegion → List ℕ) (room m : ℕ) (d : Disc) (a : Listing) → p ≡ Ready m → d ≡ discOf image → a ≡ listingOf row (freeRegions (d .«disc_end») (regionsIn w 0 m)) room

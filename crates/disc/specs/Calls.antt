@@ -10,6 +10,9 @@ use Rattle.free_space.specs.declared.Listing.{Listing}
 use Rattle.free_space.specs.declared.Listing.the-variants as listing
 use Rattle.free_space.specs.Listing.{regionRow, clusterRow, listingOf, listAfter}
 use Rattle.free_space.specs.Allocate.{allocationOf}
+use Rattle.program.specs.declared.Program.{Program}
+use Rattle.program.specs.declared.Program.the-variants as program
+use Rattle.program.specs.Program.{programOf}
 use Rattle.disc.specs.declared.TotalsAnswer.{TotalsAnswer}
 use Rattle.disc.specs.declared.TotalsAnswer.the-variants as totaled
 use Rattle.answers.specs.declared.Opened.{Opened}
@@ -27,6 +30,10 @@ openedOf image words = behind (opening image words) opened.Refused (opened.Accep
 unfoldable pub totalsAnswer : List ℕ → ℕ → TotalsAnswer
 totalsAnswer image words =
     behind (opening image words) totaled.Refused (totaled.Found (record { «disc_end» = discEnd image; used = usedOf image }))
+
+-- document 02, Point 2: "a nonzero DOL offset means a program from there"; wherever it lies
+unfoldable pub programAnswer : List ℕ → ℕ → Program
+programAnswer image words = behind (opening image words) program.Refused (programOf image)
 
 -- the free regions in a result list, with the words of each as `row` has them
 unfoldable pub freeAnswer : (DiscRegion → List ℕ) → List ℕ → ℕ → ℕ → Listing

@@ -7,6 +7,7 @@ pub use regions::free_clusters;
 pub use regions::free_regions;
 pub use regions::max_region_size;
 pub use regions::open;
+pub use regions::program;
 pub use regions::totals;
 
 pub struct DiscTotals {

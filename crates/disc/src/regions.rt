@@ -1,9 +1,9 @@
-// What an image's header and its free regions say: opening, totals, free regions, clusters, the largest size of a region, allocation.
+// What an image's header and its regions say: opening, totals, the program, free regions, clusters, the largest size of a region, allocation.
 ghost use mathlib.Core.Path.{_≡_};
 ghost use lib.ListN.{length};
 ghost use Rattle.opening.specs.Opening.{zeros};
 ghost use Rattle.answers.specs.Answers.{maxRegionSizeAnswer};
-ghost use Rattle.disc.specs.Calls.{openedOf, totalsAnswer, freeRegionsAnswer, freeRegionsList, freeClustersAnswer, freeClustersList, allocateAnswer};
+ghost use Rattle.disc.specs.Calls.{openedOf, totalsAnswer, programAnswer, freeRegionsAnswer, freeRegionsList, freeClustersAnswer, freeClustersList, allocateAnswer};
 ghost use Rattle.opening.specs.Inner.Prepared.{Prepares};
 use crate::DiscTotals;
 use crate::TotalsAnswer;
@@ -12,6 +12,7 @@ use answers::SizeAnswer;
 use free_space::Allocation;
 use free_space::Listing;
 use opening::Prepared;
+use program::Program;
 
 // The answers, once the image is prepared.
 fn opened(image: &[u8], words: &[u32], prepared: Prepared) -> Opened
@@ -98,6 +99,18 @@ pub fn totals(image: &[u8], words: &mut [u32]) -> TotalsAnswer
     let answer = totaled(image, words, prepared);
     space::zero_words(words);
     answer
+}
+
+// Where the program lies, before the table or behind it.
+pub fn program(image: &[u8], words: &mut [u32]) -> Program
+    ensures { λ r. ⌜ (r ≡ programAnswer (now (image .entry)) (length (now (words .entry)))) × (now (words .exit) ≡ zeros (now (words .entry))) ⌝ }
+{
+    let prepared = opening::prepare(image, words);
+    space::zero_words(words);
+    match prepared {
+        Prepared::Ready(_) => program::read(image),
+        Prepared::Refused(cause) => Program::Refused(cause),
+    }
 }
 
 // The free regions, an offset and a size each, into `list`.

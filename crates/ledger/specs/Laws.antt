@@ -23,6 +23,8 @@ pub mod FilesTold
 pub mod InsertedTold
 pub mod NumbersAfter
 pub mod PlacesAfter
+pub mod ProgramAfter
+pub mod ProgramKept
 pub mod ToldLaws
 pub mod TreeAfter
 pub mod WorkedLedger

@@ -8,12 +8,13 @@ use mathlib.Core.List.{List, map}
 use lib.ListN.{length, getD, take}
 use Rattle.endian.specs.Bytes.{span, AllBytes}
 use Rattle.refusal.specs.declared.Verdict.the-variants.{Passed}
-use Rattle.header.specs.Verdicts.{tableEnd, discEnd}
+use Rattle.header.specs.Verdicts.{dolOffset, tableEnd, discEnd}
 use Rattle.tree.specs.Table.{file, none}
-use Rattle.space.specs.Used.{inside, totalSize}
+use Rattle.space.specs.Used.{endOf, inside, totalSize}
 use Rattle.free_space.specs.Listing.{regionRow, listingOf, listAfter}
+use Rattle.program.specs.Program.{programOf, programIn, programBehind}
 use Rattle.opening.specs.Opening.{nodesIn, regionOf, usedIn, freeOf, opening}
-use Rattle.disc.specs.Calls.{totalsAnswer, freeRegionsAnswer, freeRegionsList}
+use Rattle.disc.specs.Calls.{totalsAnswer, programAnswer, freeRegionsAnswer, freeRegionsList}
 use Rattle.disc.specs.declared.TotalsAnswer.the-variants.{Found}
 use Rattle.edits.specs.Edits.{noPlace}
 use Rattle.ledger.specs.Ledger.{Ledger, bare, filesBefore, historyOf, firstLedger, ledgerAfter}
@@ -30,19 +31,30 @@ pub record TrueTo (image : List ℕ) (l : Ledger) (k offset size : ℕ) : Type 0
   -- unnamed, it has its starting place, size and bytes
   pub unnamed : historyOf l k .named ≡ false → (offset ≡ historyOf l k .place) × (size ≡ length (historyOf l k .bytes)) × (span image offset size ≡ historyOf l k .bytes)
 
+-- the program of the first image, wherever it lies, as the last image has it (document 02, Point 2: "no edit alters its bytes")
+pub record SameProgram (first last : List ℕ) : Type 0 where
+  pub offset : dolOffset last ≡ dolOffset first
+  pub region : programIn last ≡ programIn first
+  -- all its bytes, the header's and the sections'; none of them is past the image
+  pub bytes : span last (programIn first .offset) (programIn first .size) ≡ span first (programIn first .offset) (programIn first .size)
+  pub whole : endOf (programIn first) ≤ length last
+
 -- of the image after a list of calls, and the list's ledger; w is the "same memory"
-pub record Demand3 (w : ℕ) (image : List ℕ) (l : Ledger) : Type 0 where
+pub record Demand3 (w : ℕ) (first image : List ℕ) (l : Ledger) : Type 0 where
   pub opens : opening image w ≡ Passed
   -- "After the list, opening reads the ledger's names, kinds, nesting, order and sizes"
   pub tree : map bare (nodesIn image) ≡ l .nodes
   -- no two used regions share a byte: used regions i and j that both have byte n are one
   pub apart : (i j n : ℕ) → inside (getD (usedIn image) i noPlace) n ≡ true → inside (getD (usedIn image) j noPlace) n ≡ true → i ≡ j
-  -- table end + all file sizes + free bytes = disc end; "Free bytes are the free regions' sizes together"
-  pub sum : tableEnd image + totalSize (map regionOf (nodesIn image)) + totalSize (freeOf image) ≡ discEnd image
+  -- table end + the program "where it lies past the table" + all file sizes + free bytes = disc end; "Free bytes are the free regions' sizes together"
+  pub sum : tableEnd image + programBehind image .size + totalSize (map regionOf (nodesIn image)) + totalSize (freeOf image) ≡ discEnd image
   -- "a used total or free region reported then is the one defined above"
-  pub used-reported : totalsAnswer image w ≡ Found (record { «disc_end» = discEnd image; used = tableEnd image + totalSize (map regionOf (nodesIn image)) })
+  pub used-reported : totalsAnswer image w ≡ Found (record { «disc_end» = discEnd image; used = tableEnd image + programBehind image .size + totalSize (map regionOf (nodesIn image)) })
   pub free-reported : (room : ℕ) → freeRegionsAnswer image w room ≡ listingOf regionRow (freeOf image) room
   pub free-listed : (list : List ℕ) → freeRegionsList image w list ≡ listAfter regionRow (freeOf image) list
+  -- the program is the first image's, and reported so
+  pub program : SameProgram first image
+  pub program-reported : programAnswer image w ≡ programOf first
   -- each file is true to its history
   pub files : (k : ℕ) (nm : List ℕ) (offset size : ℕ) → getD (nodesIn image) k none ≡ file nm offset size → TrueTo image l k offset size
 
@@ -51,7 +63,7 @@ pub record Demand3 (w : ℕ) (image : List ℕ) (l : Ledger) : Type 0 where
 abbrev pub AnyList : Type 0
 AnyList =
     (image : List ℕ) (w₀ w : ℕ) (calls : List Call) → AllBytes image → opening image w₀ ≡ Passed → w₀ ≤ w → AllWithin w calls →
-    Demand3 w (imageAfterAll calls image) (ledgerAfter (reportsOf calls image) (firstLedger image))
+    Demand3 w image (imageAfterAll calls image) (ledgerAfter (reportsOf calls image) (firstLedger image))
 
 -- ---- after any list, a file that no accepted edit named lies where it lay, byte for byte
 

@@ -2,7 +2,7 @@
 use Prim.Native.Nat.{ℕ, _+_, _-_, _*_, _^_, _<_, _≤_}
 use mathlib.Core.Path.{_≡_, sym, ap, _∙_}
 use mathlib.Core.Bool.{Bool, true, false}
-use mathlib.Core.List.{List, _∷_, map}
+use mathlib.Core.List.{List, _∷_, _++_}
 use native.Mathlib.Omega.{arith}
 use lib.ListN.{length, take, drop}
 use Rattle.endian.specs.Bytes.{be32}
@@ -15,17 +15,22 @@ use Rattle.refusal.specs.Laws.Chains.{not-refused, first-passed}
 use Rattle.header.specs.Laws.FieldTests.{Bounded, bounds-passed}
 use Rattle.header.specs.Verdicts.{headerVerdict, boundsVerdict, fstOffset, fstSize, discEnd, tableEnd}
 use Rattle.tree.specs.Table.{count, check}
-use Rattle.space.specs.Used.{totalSize, usedRegions}
+use Rattle.space.specs.declared.DiscRegion.{DiscRegion}
+use Rattle.space.specs.Used.{nonempty, totalSize}
 use Rattle.space.specs.Inner.Words.{AllNonempty}
 use Rattle.space.specs.Laws.UsedLaws.{nonempty-all}
 use Rattle.space.specs.Laws.TotalLaws.{total-used}
 use Rattle.space.specs.Inner.Sort.{regionsIn}
 use Rattle.space.specs.Inner.Words.{Checked}
-use Rattle.space.specs.Layout.{regionsVerdict}
-use Rattle.opening.specs.Opening.{tableOf, nodesIn, regionOf, usedIn, usedOf, freeOf, opening}
-use Rattle.opening.specs.Inner.Prepared.{verdictBefore14, entryRegions, UsedWords}
-use Rattle.opening.specs.Laws.OpeningLaws.{Readable, opening-split, stopped, went-on}
-use Rattle.opening.proofs.UsedRegions.{used-of-tree}
+use Rattle.space.specs.Layout.{disjointBelow, regionsVerdict}
+use Rattle.space.specs.Free.{freeRegions}
+use Rattle.space.specs.Laws.MiddleLaws.{below-middle, free-middle, total-front, used-middle-same}
+use Rattle.program.specs.declared.Program.{Program}
+use Rattle.program.specs.Program.{programOf, programVerdict, placeOf, programIn, ownRegion, programBehind}
+use Rattle.opening.specs.Opening.{tableOf, nodesIn, behindTable, usedIn, usedOf, freeOf, layoutVerdict, opening}
+use Rattle.opening.specs.Inner.Prepared.{verdictBefore24, entryRegions, CollectedUsed, SameUse, UsedWords}
+use Rattle.opening.specs.Laws.OpeningLaws.{Readable, opening-split, program-first, stopped, went-on}
+use Rattle.opening.proofs.UsedRegions.{regions-of-tree}
 
 -- the slice that is passed on is the table
 pub part-table : (image : List ℕ) (from to : ℕ) → from ≡ fstOffset image → to ≡ tableEnd image → take (to - from) (drop from image) ≡ tableOf image
@@ -34,24 +39,27 @@ part-table image from to e f =
     let n : to - from ≡ fstSize image = omega arith in
     rw (n, e)
 
--- ---- the tests before 14, one after another
+pub part-holds : (image : List ℕ) (from to n : ℕ) → from ≡ fstOffset image → to ≡ tableEnd image → n ≤ length (tableOf image) → n ≤ length (take (to - from) (drop from image))
+part-holds image from to n e f h = rw (part-table image from to e f) h
+
+-- ---- the tests before 24, one after another
 
 module _ (image : List ℕ) (v : Verdict) (b : Bool) (first-two : v ≡ first (headerVerdict image) (boundsVerdict image)) (asked : b ≡ isRefused v) where
-  pub stopped-before : (words : ℕ) → b ≡ true → v ≡ verdictBefore14 image words
+  pub stopped-before : (words : ℕ) → b ≡ true → v ≡ verdictBefore24 image words
   stopped-before words t = stopped v (headerVerdict image) (boundsVerdict image) (check (tableOf image) words) first-two (sym asked ∙ t)
 
   pub bounds-before : b ≡ false → Bounded image
   bounds-before f = bounds-passed image (first-passed (headerVerdict image) (boundsVerdict image) (sym first-two ∙ not-refused v (sym asked ∙ f)) .1)
 
-  pub went-on-before : (words from to : ℕ) (r : Verdict) → b ≡ false → from ≡ fstOffset image → to ≡ tableEnd image → r ≡ check (take (to - from) (drop from image)) words → r ≡ verdictBefore14 image words
+  pub went-on-before : (words from to : ℕ) (r : Verdict) → b ≡ false → from ≡ fstOffset image → to ≡ tableEnd image → r ≡ check (take (to - from) (drop from image)) words → r ≡ verdictBefore24 image words
   went-on-before words from to r f p q e =
       (e ∙ ap (λ (l : List ℕ). check l words) (part-table image from to p q)) ∙ went-on v (headerVerdict image) (boundsVerdict image) (check (tableOf image) words) first-two (sym asked ∙ f)
 
-module _ (image : List ℕ) (words : ℕ) (v : Verdict) (e : v ≡ verdictBefore14 image words) where
+module _ (image : List ℕ) (words : ℕ) (v : Verdict) (e : v ≡ verdictBefore24 image words) where
   pub refused-before : (c : Refusal) → v ≡ Refused c → opening image words ≡ Refused c
-  refused-before c r = opening-split image words ∙ ap (λ (a : Verdict). first a (regionsVerdict (discEnd image) (usedIn image))) (sym e ∙ r)
+  refused-before c r = opening-split image words ∙ ap (λ (a : Verdict). first a (layoutVerdict image)) (sym e ∙ r)
 
-  pub passed-before : v ≡ Passed → verdictBefore14 image words ≡ Passed
+  pub passed-before : v ≡ Passed → verdictBefore24 image words ≡ Passed
   passed-before p = sym e ∙ p
 
 -- ---- the table in the image
@@ -62,7 +70,7 @@ table-inside image to b e = omega (arith, b .table, b .image-holds)
 -- the bounds of an image that opened
 pub opened-bounds : (image : List ℕ) (n : ℕ) → opening image n ≡ Passed → Bounded image
 opened-bounds image n e =
-    bounds-passed image (first-passed (boundsVerdict image) _ (first-passed (headerVerdict image) _ (first-passed (verdictBefore14 image n) _ (sym (opening-split image n) ∙ e) .0) .1) .0)
+    bounds-passed image (first-passed (boundsVerdict image) _ (first-passed (headerVerdict image) _ (first-passed (verdictBefore24 image n) _ (sym (opening-split image n) ∙ e) .0) .1) .0)
 
 pub table-below : (image : List ℕ) (from : ℕ) (tab : List ℕ) → Bounded image → from ≡ fstOffset image → tab ≡ tableOf image → from + length tab < 2 ^ 32
 unfolding tableOf
@@ -84,38 +92,65 @@ pub count-is : (image : List ℕ) (n from r : ℕ) → Readable image n → from
 count-is image n from r k e f = f ∙ ap (λ (a : ℕ). be32 image (a + 8)) e ∙ k .next
 
 -- what `collect` asks
-pub collect-asks : (image : List ℕ) (n from to c : ℕ) → Readable image n → from ≡ fstOffset image → to ≡ tableEnd image → c ≡ count (tableOf image)
-    → (0 < c) × (12 * c ≤ length (take (to - from) (drop from image))) × (2 * (c + 1) ≤ n) × (0 < to)
-unfolding count
-collect-asks image n from to c k e f g =
-    (omega arith, rw (part-table image from to e f) (omega (arith, k .table .fits)), omega (arith, k .table .room), omega (arith, k .bounds .after-header))
+module _ (image : List ℕ) (n c : ℕ) (k : Readable image n) (g : c ≡ count (tableOf image)) where
+  pub some-entry : 0 < c
+  unfolding count
+  some-entry = omega arith
 
--- what `collect` gives is what is used
-pub used-words : (image w : List ℕ) (m to c : ℕ) (tab : List ℕ) → tab ≡ tableOf image → to ≡ tableEnd image → c ≡ count (tableOf image)
-    → regionsIn w 0 m ≡ usedRegions to (entryRegions tab 1 (c - 1)) → regionsIn w 0 m ≡ usedIn image
-unfolding usedIn nodesIn
-used-words image w m to c tab e f g h = rw (e, f, g) at h ∙ sym (used-of-tree (tableOf image) (tableEnd image))
+  pub entries-inside : 12 * c ≤ length (tableOf image)
+  entries-inside = omega (arith, k .table .fits)
 
-pub regions-full : (image w : List ℕ) (m : ℕ) → regionsIn w 0 m ≡ usedIn image → AllNonempty (regionsIn w 0 m)
-unfolding usedIn
-regions-full image w m e = rw e (nonempty-all (_ ∷ map regionOf (nodesIn image)))
+  pub words-enough : 2 * (c + 1) ≤ n
+  words-enough = omega (arith, k .table .room)
+
+-- what `collect` gives comes to what is used
+module _ (image w : List ℕ) (m to c : ℕ) (tab : List ℕ) (program : DiscRegion) (e : tab ≡ tableOf image) (f : to ≡ tableEnd image) (g : c ≡ count (tableOf image)) (p : program ≡ programBehind image)
+    (k : CollectedUsed tab c to program w m) where
+  told : {A : Type 0} (h : List DiscRegion → A) → ((x : DiscRegion) (ys xs : List DiscRegion) → h (xs ++ (x ∷ ys)) ≡ h (x ∷ (xs ++ ys))) → h (regionsIn w 0 m) ≡ h (usedIn image)
+  unfolding usedIn behindTable nodesIn nonempty
+  told h s =
+      ap h (k .list) ∙ used-middle-same h s to program (entryRegions tab (k .turn) (c - k .turn)) (entryRegions tab 1 (k .turn - 1))
+      ∙ rw (e, f, p, g, ← regions-of-tree (tableOf image) (k .turn) (k .from) (omega (arith, k .to)))
+
+  pub used-words : SameUse (discEnd image) (regionsIn w 0 m) (usedIn image)
+  used-words = record {
+    below = told (disjointBelow (discEnd image)) (λ x ys xs. below-middle x ys (discEnd image) xs);
+    free = told (freeRegions (discEnd image)) (λ x ys xs. free-middle x ys (discEnd image) xs);
+    total = told totalSize (λ x ys xs. total-front x ys xs);
+  }
+
+  pub regions-full : AllNonempty (regionsIn w 0 m)
+  regions-full = rw (k .list) (nonempty-all (record { offset = 0; size = to } ∷ (entryRegions tab 1 (k .turn - 1) ++ (program ∷ entryRegions tab (k .turn) (c - k .turn)))))
 
 used-total : (image : List ℕ) → totalSize (usedIn image) ≡ usedOf image
 unfolding usedIn usedOf
-used-total image = total-used (tableEnd image) (map regionOf (nodesIn image))
+used-total image = total-used (tableEnd image) (behindTable image)
 
 -- what the test of the regions asks, after `collect`
-pub regions-room : (image : List ℕ) (n n′ m c : ℕ) → Readable image n → c ≡ count (tableOf image) → m ≤ c → n′ ≡ n → 2 * (c + 2 + m) ≤ n′
+pub regions-room : (image : List ℕ) (n n′ m c : ℕ) → Readable image n → c ≡ count (tableOf image) → m ≤ c + 1 → n′ ≡ n → 2 * (c + 2 + m) ≤ n′
 regions-room image n n′ m c k e b l = omega (arith, k .table .room)
 
+-- test 24, after the others passed
+module _ (image : List ℕ) (words : ℕ) (p : Program) (v : Verdict) (read : p ≡ programOf image) (asked : v ≡ programVerdict p) where
+  pub refused-24 : (c : Refusal) → verdictBefore24 image words ≡ Passed → v ≡ Refused c → opening image words ≡ Refused c
+  refused-24 c before h = opening-split image words ∙ rw before (program-first image c (rw (← read) (sym asked ∙ h)))
+
+  pub passed-24 : v ≡ Passed → programVerdict (programOf image) ≡ Passed
+  passed-24 h = rw (← read) (sym asked ∙ h)
+
+pub own-is : (image : List ℕ) (p : Program) (fst : ℕ) (r : DiscRegion) → p ≡ programOf image → fst ≡ fstOffset image → r ≡ ownRegion fst (placeOf p) → r ≡ programBehind image
+unfolding programIn
+own-is image p fst r e f h = rw (← e, ← f) h
+
 -- the test of the regions, after the others passed
-module _ (image w w′ : List ℕ) (words buf m e : ℕ) (v : Verdict) (before : verdictBefore14 image words ≡ Passed) (used : regionsIn w 0 m ≡ usedIn image) (end : e ≡ discEnd image)
+module _ (image w w′ : List ℕ) (words buf m e : ℕ) (v : Verdict) (before : verdictBefore24 image words ≡ Passed) (program : programVerdict (programOf image) ≡ Passed) (used : SameUse (discEnd image) (regionsIn w 0 m) (usedIn image)) (end : e ≡ discEnd image)
     (k : Checked w w′ buf m e v) where
   verdict : v ≡ regionsVerdict (discEnd image) (usedIn image)
-  verdict = rw (used, end) at (k .answer)
+  verdict = rw (end, used .below) at (k .answer)
 
   all : (u : Verdict) → v ≡ u → opening image words ≡ u
-  all u h = opening-split image words ∙ ap (λ (a : Verdict). first a (regionsVerdict (discEnd image) (usedIn image))) before ∙ sym verdict ∙ h
+  unfolding layoutVerdict
+  all u h = opening-split image words ∙ rw (before, program) (sym verdict ∙ h)
 
   pub left-refused : (c : Refusal) → v ≡ Refused c → opening image words ≡ Refused c
   left-refused c h = all (Refused c) h
@@ -123,7 +158,7 @@ module _ (image w w′ : List ℕ) (words buf m e : ℕ) (v : Verdict) (before :
   pub left-passed : v ≡ Passed → opening image words ≡ Passed
   left-passed h = all Passed h
 
-pub left-words : (image w w′ : List ℕ) (buf m e : ℕ) (v : Verdict) → Checked w w′ buf m e v → v ≡ Passed → e ≡ discEnd image → regionsIn w 0 m ≡ usedIn image → UsedWords image w′ m
+pub left-words : (image w w′ : List ℕ) (buf m e : ℕ) (v : Verdict) → Checked w w′ buf m e v → v ≡ Passed → e ≡ discEnd image → SameUse (discEnd image) (regionsIn w 0 m) (usedIn image) → UsedWords image w′ m
 unfolding freeOf
 left-words image w w′ buf m e v k h end used =
-    record { sorted = rw (← end) (k .ready h); free = rw (used, end) at (k .free); total = k .total ∙ rw used (used-total image) }
+    record { sorted = rw (← end) (k .ready h); free = rw end at (k .free) ∙ used .free; total = k .total ∙ used .total ∙ used-total image }

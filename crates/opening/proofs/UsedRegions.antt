@@ -1,7 +1,7 @@
 -- The used regions collected: one turn of the loop over the entries, and what stands in the words after it. Assumes nothing.
-use Prim.Native.Nat.{ℕ, zero, suc, _+_, _-_, _≤_}
+use Prim.Native.Nat.{ℕ, zero, suc, _+_, _-_, _^_, _<_, _≤_}
 use mathlib.Core.Path.{_≡_, refl, sym, ap, _∙_}
-use mathlib.Core.List.{List, [], _∷_, _++_, append-nil, map}
+use mathlib.Core.List.{List, [], _∷_, _++_, append-nil, append-assoc, map}
 use native.Mathlib.Omega.{arith}
 use native.Mathlib.Nat.{add-zero}
 use Rattle.tree.specs.Table.{nodeWith, nodeAt, nodesFrom, nodesOf, count, kind, offsetOrParent, sizeOrNext}
@@ -11,7 +11,7 @@ use Rattle.space.specs.Laws.UsedLaws.{nonempty-append}
 use Rattle.space.specs.Inner.Sort.{regionsIn}
 use Rattle.space.specs.Inner.Words.{Added}
 use Rattle.opening.specs.Opening.{regionOf}
-use Rattle.opening.specs.Inner.Prepared.{entryRegion, entryRegions, AddedEntry}
+use Rattle.opening.specs.Inner.Prepared.{entryRegion, entryRegions, AddedEntry, CollectedTo, CollectedUsed}
 
 -- ---- one entry
 
@@ -39,24 +39,52 @@ entries-snoc tab k (suc n) =
     let e : k + suc n ≡ suc k + n = omega arith in
     rw e (ap (λ (l : List DiscRegion). entryRegion tab k ∷ l) (entries-snoc tab (suc k) n))
 
-used-snoc : (t : ℕ) (fs : List DiscRegion) (x : DiscRegion) → usedRegions t (fs ++ (x ∷ [])) ≡ usedRegions t fs ++ nonempty (x ∷ [])
-used-snoc t fs x = nonempty-append (record { offset = 0; size = t } ∷ fs) (x ∷ [])
+pub collected-start : (tab w : List ℕ) (k m : ℕ) → CollectedTo tab k m w w k m
+unfolding entryRegions nonempty
+collected-start tab w k m =
+    let z : k - k ≡ 0 = omega arith in
+    record { list = rw z (sym (append-nil (regionsIn w 0 m))); from = omega arith; bound = omega arith }
 
-pub collect-start : (tab w w′ : List ℕ) (t r : ℕ) → Added w w′ 0 0 t r → regionsIn w′ 0 r ≡ usedRegions t (entryRegions tab 1 (1 - 1))
-unfolding entryRegions regionsIn
-collect-start tab w w′ t r a = a .list
+pub collected-turn : (tab w₀ w w′ : List ℕ) (k m k′ m′ r : ℕ) → CollectedTo tab k m w₀ w k′ m′ → AddedEntry tab k′ w w′ m′ r → CollectedTo tab k m w₀ w′ (k′ + 1) r
+collected-turn tab w₀ w w′ k m k′ m′ r c a =
+    let p : k′ + 1 - k ≡ suc (k′ - k) = omega (arith, c .from) in
+    let q : k + (k′ - k) ≡ k′ = omega (arith, c .from) in
+    record {
+      list = rw (p, entries-snoc tab k (k′ - k), q, nonempty-append (entryRegions tab k (k′ - k)) (entryRegion tab k′ ∷ []), ← append-assoc (regionsIn w₀ 0 m) (nonempty (entryRegions tab k (k′ - k))) (nonempty (entryRegion tab k′ ∷ [])), ← c .list) (a .list);
+      from = omega (arith, c .from);
+      bound = omega (arith, c .from, c .bound, a .bound);
+    }
 
-pub collect-turn : (tab w w′ : List ℕ) (t k m r : ℕ) → 1 ≤ k → regionsIn w 0 m ≡ usedRegions t (entryRegions tab 1 (k - 1)) → AddedEntry tab k w w′ m r
-    → regionsIn w′ 0 r ≡ usedRegions t (entryRegions tab 1 (k + 1 - 1))
-collect-turn tab w w′ t k m r h e a =
-    let p : k + 1 - 1 ≡ suc (k - 1) = omega arith in
-    let q : 1 + (k - 1) ≡ k = omega arith in
-    rw (p, entries-snoc tab 1 (k - 1), q, used-snoc t (entryRegions tab 1 (k - 1)) (entryRegion tab k), ← e) (a .list)
+-- an entry whose place is a number of 32 bits is never at 2^32 or behind it
+pub not-past : (below place k n : ℕ) → below ≤ place → place < 2 ^ 32 → below ≡ 2 ^ 32 → k ≡ n
+not-past below place k n h l e = absurd (omega arith)
 
-pub collect-end : (tab w : List ℕ) (t k n m : ℕ) → k ≤ n → n ≤ k → regionsIn w 0 m ≡ usedRegions t (entryRegions tab 1 (k - 1)) → regionsIn w 0 m ≡ usedRegions t (entryRegions tab 1 (n - 1))
-collect-end tab w t k n m a b h =
-    let e : k ≡ n = omega arith in
-    rw e at h
+pub all-passed : (below k n : ℕ) → k ≤ n → n ≤ k → below ≡ 2 ^ 32 → k ≡ n
+all-passed below k n h l e = omega arith
+
+-- the table, entries, the program, entries
+pub used-collected : (tab w w₁ w₂ w₃ w₄ : List ℕ) (program : DiscRegion) (n t m₁ k m₂ m₃ k₄ m₄ below : ℕ) → Added w w₁ 0 0 t m₁ → CollectedTo tab 1 m₁ w₁ w₂ k m₂ → k ≤ n → Added w₂ w₃ m₂ (program .offset) (program .size) m₃ → CollectedTo tab k m₃ w₃ w₄ k₄ m₄ → (below ≡ 2 ^ 32 → k₄ ≡ n) → below ≡ 2 ^ 32 →
+    CollectedUsed tab n t program w₄ m₄
+unfolding regionsIn
+used-collected tab w w₁ w₂ w₃ w₄ program n t m₁ k m₂ m₃ k₄ m₄ below a c l b d e q =
+    let table : List DiscRegion = record { offset = 0; size = t } ∷ [] in
+    let one : List DiscRegion = program ∷ [] in
+    let early : List DiscRegion = entryRegions tab 1 (k - 1) in
+    let late : List DiscRegion = entryRegions tab k (n - k) in
+    let whole : usedRegions t (early ++ (program ∷ late)) ≡ nonempty table ++ (nonempty early ++ (nonempty one ++ nonempty late)) =
+    nonempty-append table (early ++ (one ++ late)) ∙ ap (λ (x : List DiscRegion). nonempty table ++ x) (nonempty-append early (one ++ late) ∙ ap (λ (x : List DiscRegion). nonempty early ++ x) (nonempty-append one late)) in
+    let last : regionsIn w₄ 0 m₄ ≡ regionsIn w₃ 0 m₃ ++ nonempty late = rw (e q) at (d .list) in
+    record {
+      turn = k;
+      from = c .from;
+      to = l;
+      list = last
+          ∙ ap (λ (x : List DiscRegion). x ++ nonempty late) (b .list ∙ ap (λ (x : List DiscRegion). x ++ nonempty one) (c .list ∙ ap (λ (x : List DiscRegion). x ++ nonempty early) (a .list)))
+          ∙ append-assoc (nonempty table ++ nonempty early) (nonempty one) (nonempty late)
+          ∙ append-assoc (nonempty table) (nonempty early) (nonempty one ++ nonempty late)
+          ∙ sym whole;
+      bound = omega (arith, a .bound, c .from, c .bound, b .bound, d .from, d .bound, e q);
+    }
 
 -- ---- the entries' regions are those of the tree
 
@@ -69,6 +97,18 @@ unfolding nodesFrom entryRegions nodeAt
 regions-from tab c k zero = refl
 regions-from tab c k (suc n) = rw (region-named (kind tab k) _ (offsetOrParent tab k) (sizeOrNext tab k), regions-from tab c (suc k) n)
 
-pub used-of-tree : (tab : List ℕ) (t : ℕ) → usedRegions t (map regionOf (nodesOf tab)) ≡ usedRegions t (entryRegions tab 1 (count tab - 1))
+-- cut in two
+entries-cut : (tab : List ℕ) (k n n′ : ℕ) → entryRegions tab k (n + n′) ≡ entryRegions tab k n ++ entryRegions tab (k + n) n′
+unfolding entryRegions
+entries-cut tab k zero n′ = let z : 0 + n′ ≡ n′ = omega arith in rw (z, add-zero k)
+entries-cut tab k (suc n) n′ =
+    let e : k + suc n ≡ suc k + n = omega arith in
+    let f : suc n + n′ ≡ suc (n + n′) = omega arith in
+    rw (e, f, entries-cut tab (suc k) n n′)
+
+pub regions-of-tree : (tab : List ℕ) (k : ℕ) → 1 ≤ k → k ≤ count tab → nonempty (map regionOf (nodesOf tab)) ≡ nonempty (entryRegions tab 1 (k - 1) ++ entryRegions tab k (count tab - k))
 unfolding nodesOf nonempty
-used-of-tree tab t = rw (regions-from tab (count tab) 1 (count tab - 1))
+regions-of-tree tab k h l =
+    let e : count tab - 1 ≡ k - 1 + (count tab - k) = omega arith in
+    let f : 1 + (k - 1) ≡ k = omega arith in
+    rw (regions-from tab (count tab) 1 (count tab - 1), e, entries-cut tab 1 (k - 1) (count tab - k), f)

@@ -2,3 +2,4 @@
 pub mod Marked
 pub mod MasterListing
 pub mod Worked
+pub mod Programs

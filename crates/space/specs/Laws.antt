@@ -5,3 +5,4 @@ pub mod RunLaws
 pub mod TotalLaws
 pub mod UsedLaws
 pub mod ClusterLaws
+pub mod MiddleLaws

@@ -106,11 +106,6 @@ const DRY: Flag = Flag {
     value: None,
     words: "works on a private copy in memory, tells what would happen, touches nothing",
 };
-const OVER: Flag = Flag {
-    name: "--over-program",
-    value: None,
-    words: "lets an edit write where a program lies behind the table",
-};
 const AS_IS: Flag = Flag {
     name: "--as-is",
     value: None,
@@ -151,7 +146,7 @@ const MAP: Flag = Flag {
 };
 
 const LOOK: &[&Flag] = &[&JSON, &WAIT, &AS_IS];
-const EDIT: &[&Flag] = &[&DRY, &OVER, &JSON, &WAIT];
+const EDIT: &[&Flag] = &[&DRY, &JSON, &WAIT];
 
 const fn look(
     name: &'static str,
@@ -175,7 +170,7 @@ pub const FORMS: &[Form] = &[
     look(
         "info",
         &[&BARE],
-        "the header's fields and the totals",
+        "the header's fields, the totals and where the program lies",
         &["counter info disc.iso", "counter info"],
     ),
     look(
@@ -340,6 +335,7 @@ pub const FORMS: &[Form] = &[
 ];
 
 const FREE: &str = "\
+A program (main.dol) behind the table is not free; the last line tells where it lies.
 With --clusters each region is told as the bytes before its first multiple of 0x8000, the whole \
 clusters from there on, and the rest: before + 0x8000 * clusters + rest = size. A region whose first \
 multiple of 0x8000 is at or past its end is all \"before\".";
@@ -385,7 +381,6 @@ pub struct Args {
     pub json: bool,
     pub wait: bool,
     pub dry: bool,
-    pub over_program: bool,
     pub only_differences: bool,
     pub as_is: bool,
     pub anyway: bool,
@@ -421,7 +416,6 @@ impl Args {
             json: false,
             wait: false,
             dry: false,
-            over_program: false,
             only_differences: false,
             as_is: false,
             anyway: false,
@@ -467,7 +461,6 @@ impl Args {
             "--json" => self.json = true,
             "--wait" => self.wait = true,
             "--dry-run" => self.dry = true,
-            "--over-program" => self.over_program = true,
             "--only-differences" => self.only_differences = true,
             "--as-is" => self.as_is = true,
             "--anyway" => self.anyway = true,

@@ -14,6 +14,7 @@ use crate::progress::Progress;
 use crate::save::{save, vacant};
 use crate::sha256::Sum;
 use crate::text::{counted, grouped, one_line};
+use counter_sys::Region;
 use std::collections::{HashMap, HashSet};
 use std::fmt::Write;
 use std::os::unix::fs::MetadataExt;
@@ -373,7 +374,7 @@ impl Pair {
         let total = rows.iter().map(Row::common).sum::<u64>()
             + u64::from(old.fst.0)
             + shared.iter().map(|(start, end)| end - start).sum::<u64>()
-            + old.program.filter(|_| old.program_behind).map_or(0, |(_, size)| size.into())
+            + old.behind().map_or(0, |program| program.size.into())
             + tail.1;
         let progress = Progress::start("comparing", total);
         let bytes = Bytes { a: image.bytes(), b: self.image.bytes(), progress: &progress };
@@ -390,7 +391,7 @@ impl Pair {
                 .iter()
                 .all(|&(_, at, size)| bytes.equal(at.into(), at.into(), size.into()));
         areas.push(Area { name: SYSTEM, changed: !system });
-        if let Some((at, size)) = old.program.filter(|_| old.program_behind) {
+        if let Some(Region { offset: at, size }) = old.behind() {
             let same = bytes.equal(at.into(), at.into(), size.into());
             areas.push(Area { name: PROGRAM, changed: !same });
         }
@@ -438,7 +439,7 @@ impl Pair {
         };
         let system = old.fst.0 == new.fst.0 && old.system().iter().all(|(name, ..)| named(name));
         let mut areas = vec![Area { name: SYSTEM, changed: !system }];
-        if old.program_behind {
+        if old.behind().is_some() {
             areas.push(Area { name: PROGRAM, changed: !named(PROGRAM) });
         }
         let tail = old.tail() == new.tail() && named(TAIL);

@@ -12,6 +12,9 @@ use std::path::Path;
 /// Most entries of a table that opens.
 const MOST_ENTRIES: usize = 16_384;
 
+/// Most free regions: one behind the table, one behind the program and one behind each file.
+const MOST_REGIONS: usize = MOST_ENTRIES + 1;
+
 /// Most bytes that all paths of an image may take to be kept. Names can share one long text, so that
 /// 16,384 paths of 64 MiB each are possible; those of a real disc take some hundred KiB.
 const MOST_PATHS: u64 = 64 << 20;
@@ -120,7 +123,7 @@ fn of_each_region<const WORDS: usize>(
     desk: &mut Desk,
     call: fn(&[u8], &mut Memory, &mut [u32]) -> Answer<u32>,
 ) -> Outcome<Vec<[u32; WORDS]>> {
-    let mut list = vec![[0; WORDS]; MOST_ENTRIES + 1];
+    let mut list = vec![[0; WORDS]; MOST_REGIONS];
     let count = call(image.bytes(), &mut desk.lend(), list.as_flattened_mut())
         .map_err(|number| not_opened(image, number))?;
     list.truncate(count as usize);

@@ -1,19 +1,16 @@
-//! `dol`: the program, and where it lies.
+//! `dol`: the program's header, and the program itself.
 
 use crate::args::Args;
-use crate::disc::{not_opened, table_end};
-use crate::failure::{Failure, Outcome};
+use crate::disc::not_opened;
+use crate::failure::Outcome;
 use crate::image::{Desk, Image};
 use crate::json::Json;
 use crate::out::say;
 use crate::progress::Progress;
 use crate::save::save_window;
-use crate::text::{both, hex, human, line, size};
-use counter_sys::{self as counter, DOL_WORDS, Opened};
+use crate::text::{both, hex, human, line, section, size};
+use counter_sys::{self as counter, DOL_WORDS};
 use std::fmt::Write;
-
-/// Bytes of a program's header.
-const DOL_HEADER: u64 = 0xE4;
 
 /// The program's header, taken apart.
 pub struct Dol {
@@ -34,30 +31,18 @@ impl Dol {
         let mut found = Vec::new();
         for i in 0..18 {
             let (offset, address, size) = (self.words[i], self.words[18 + i], self.words[36 + i]);
-            let name = if i < 7 { format!("text{i}") } else { format!("data{}", i - 7) };
             if size != 0 {
-                found.push((name, offset, address, size));
+                found.push((section(i), offset, address, size));
             }
         }
         found
     }
 }
 
-/// The program's place, if the image has one that lies behind the table.
-pub fn program_behind(image: &Image, desk: &mut Desk, opened: &Opened) -> Option<(u32, u32)> {
-    let dol = Dol::read(image, desk).ok()?;
-    let left = (image.bytes().len() as u64).saturating_sub(dol.start.into());
-    let size = dol.size.max(DOL_HEADER).min(left);
-    (u64::from(dol.start) >= table_end(opened)).then_some((dol.start, size as u32))
-}
-
 pub fn dol(args: &Args) -> Outcome<()> {
     let image = Image::read(args.image.as_deref())?;
     let mut desk = Desk::new();
-    let dol = Dol::read(&image, &mut desk).map_err(|number| match number {
-        24 => Failure::refused(number, format!("{}: the program", image.name)),
-        _ => not_opened(&image, number),
-    })?;
+    let dol = Dol::read(&image, &mut desk).map_err(|number| not_opened(&image, number))?;
     if let Some(out) = &args.out {
         let progress = Progress::start("dol", dol.window.length);
         save_window(&image, dol.window, out, &progress)?;

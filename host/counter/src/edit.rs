@@ -6,8 +6,7 @@ use crate::call::{Call, Wish};
 use crate::change::Change;
 use crate::disc::Disc;
 use crate::disk::{self, Watch};
-use crate::dol::program_behind;
-use crate::failure::{CANNOT_CREATE, DATA, Failure, INPUT_OUTPUT, INTERNAL, Outcome};
+use crate::failure::{CANNOT_CREATE, Failure, INPUT_OUTPUT, INTERNAL, Outcome};
 use crate::image::{Desk, Image};
 use crate::journal::{self, Journal, Owner, Record};
 use crate::out::say;
@@ -31,9 +30,6 @@ pub fn edit(args: &Args) -> Outcome<()> {
     let progress = Progress::start("trying", 0);
     let trial = try_out(&wish, &call, &image, &mut desk, &before)?;
     drop(progress);
-    if !args.over_program {
-        spare_program(&image, &mut desk, &before, &trial)?;
-    }
     let text = report(&wish, &call, &before, &trial);
     let nothing = trial.change.is_nothing();
     let told = args.json.then(|| {
@@ -69,25 +65,6 @@ fn open(path: &Path, dry: bool) -> Outcome<Image> {
 }
 
 // Before anything is written --------------------------------------------------------------
-
-/// The library takes a program behind the table for free space; here it is kept.
-fn spare_program(image: &Image, desk: &mut Desk, disc: &Disc, trial: &Trial) -> Outcome<()> {
-    let Some((start, size)) = program_behind(image, desk, &disc.opened) else {
-        return Ok(());
-    };
-    let (start, end) = (u64::from(start), u64::from(start) + u64::from(size));
-    for span in [trial.change.table_span(), trial.place.clone(), trial.change.lost.clone()] {
-        if !span.is_empty() && span.start < end && start < span.end {
-            let text = format!(
-                "{}: the program lies at {start:#x} to {end:#x}, behind the table, and the edit would \
-                 write there; nothing was written (--over-program does it all the same)",
-                image.name
-            );
-            return Err(Failure::error(DATA, text));
-        }
-    }
-    Ok(())
-}
 
 /// Bytes of a block of most disks, and what the disk may want besides for its own books.
 const BLOCK: u64 = 0x1000;

@@ -144,14 +144,18 @@ const FIELDS: &[(&str, &str)] = &[
         "image image_bytes game_code maker game_name disc version audio_streaming stream_buffer wii_magic \
          gamecube_magic debug_offset debug_address dol_offset fst_offset fst_size fst_maximum \
          user_position user_size disc_size unused_43c disc_end table_end entries files directories used \
-         free free_regions largest_free program_behind_table",
+         free free_regions largest_free program_behind_table program{offset size behind_table}",
     ),
     ("list", "total used entries[ENTRY] free[offset size]"),
-    ("tree", "ENTRY with name for path; a directory's also with bytes files children[...]"),
+    (
+        "tree",
+        "ENTRY with name for path; a directory's also with bytes files children[...]; the root's also \
+         with program{offset size behind_table}",
+    ),
     (
         "free",
-        "disc_end free regions[offset size]; with --clusters disc_end free cluster_size clusters \
-         regions[offset size before clusters rest]",
+        "disc_end free program{offset size behind_table} regions[offset size]; with --clusters also \
+         cluster_size clusters, and regions[offset size before clusters rest]",
     ),
     ("find", "ENTRY with largest_size (null for a directory)"),
     ("place", "size align offset room; room: the free bytes from offset on"),
@@ -191,6 +195,9 @@ fn json(forms: &[Form]) -> String {
     if forms.iter().any(|form| ["list", "tree", "find"].contains(&form.name)) {
         out.push_str("  ENTRY    number kind parent path, and offset size (kind file) or next (kind directory)\n");
     }
+    if forms.iter().any(|form| ["info", "tree", "free"].contains(&form.name)) {
+        out.push_str("  program: null where the image names none\n");
+    }
     out.push_str("  A refusal: status refused cause about detail. Another error: status error.\n");
     out
 }
@@ -214,8 +221,8 @@ Safety
     the image, rename the journal with it.
   - Every signal that comes during an edit (Ctrl-C, a hang-up, a kill and all others but SIGKILL)
     waits until it is done and synced; the program then says so and ends by the signal.
-  - A program (main.dol) that lies behind the table counts as free space in `free` and `list`. An
-    edit that would write there is stopped before it begins (65); --over-program lets it pass.
+  - A program (main.dol) that lies behind the table is used like a file, and no edit writes there.
+    `info` and `free` tell where it lies.
   - Holes of a sparse image, blocks that a reflink copy shares and, on a copy-on-write disk (btrfs,
     ZFS), all blocks take new room when they are written. It is looked for first; if there is too
     little, nothing is written (74). If room fails in the midst of an edit all the same, the edit is
@@ -235,8 +242,7 @@ fn statuses() -> String {
     out.push_str(
         "  64  wrong usage\n\
          \x20 65  compare, report: an image too short for a header, a LIST or a manifest that is wrong;\n\
-         \x20     an edit: a program would be written over; a command that shows every path: more than\n\
-         \x20     64 MiB of them\n\
+         \x20     a command that shows every path: more than 64 MiB of them\n\
          \x20 66  no such image, or a folder or special file in its place\n\
          \x20 70  the library answered what it never should\n\
          \x20 73  an output or a journal cannot be created, or is there already\n\

@@ -1,10 +1,10 @@
 //! How a disc is laid out, from an image or from a manifest: what is compared, and what maps show.
 
-use crate::disc::{Disc, Kind, not_opened, table_end};
-use crate::dol::{Dol, program_behind};
+use crate::disc::{Disc, Kind, not_opened};
 use crate::failure::Outcome;
 use crate::header::Header;
 use crate::image::{Desk, Image};
+use crate::program::Program;
 use crate::sha256::Sum;
 use crate::text::{one_line, shown};
 use counter_sys::Region;
@@ -36,9 +36,7 @@ pub struct Layout {
     pub bytes: u64,
     pub disc_end: u32,
     pub fst: (u32, u32),
-    /// The program, as far as it lies on the disc, and whether it lies behind the table.
-    pub program: Option<(u32, u32)>,
-    pub program_behind: bool,
+    pub program: Option<Program>,
     pub free: Vec<Region>,
     pub records: Vec<Record>,
 }
@@ -46,7 +44,6 @@ pub struct Layout {
 impl Layout {
     pub fn of(image: &Image, desk: &mut Desk, disc: &Disc) -> Outcome<Layout> {
         let header = Header::read(image.bytes()).map_err(|n| not_opened(image, n))?;
-        let behind = program_behind(image, desk, &disc.opened);
         let records = disc.nodes.iter().map(|node| Record {
             number: node.number,
             parent: node.parent,
@@ -65,8 +62,7 @@ impl Layout {
             bytes: image.bytes().len() as u64,
             disc_end: disc.opened.disc_end,
             fst: (disc.opened.fst_offset, disc.opened.fst_size),
-            program: behind.or_else(|| program_in_front(image, desk, disc, &header)),
-            program_behind: behind.is_some(),
+            program: Program::read(image, desk, &disc.opened)?,
             free: disc.free.clone(),
             records: records.collect(),
         })
@@ -74,6 +70,11 @@ impl Layout {
 
     pub fn table_end(&self) -> u64 {
         u64::from(self.fst.0) + u64::from(self.fst.1)
+    }
+
+    /// The program, where it lies behind the table.
+    pub fn behind(&self) -> Option<Region> {
+        self.program.filter(|program| program.behind).map(|program| program.place)
     }
 
     pub fn files(&self) -> impl Iterator<Item = &Record> {
@@ -84,8 +85,7 @@ impl Layout {
         self.free.iter().map(|region| u64::from(region.size)).sum()
     }
 
-    /// Header, system area and program in one: all before the table but for the table's size, which
-    /// edits write.
+    /// All before the table, a program there too, but for the table's size, which edits write.
     pub fn system(&self) -> [(&'static str, u32, u32); 3] {
         let fst = self.fst.0;
         [
@@ -100,19 +100,4 @@ impl Layout {
         let end = u64::from(self.disc_end);
         (end, self.bytes.saturating_sub(end))
     }
-}
-
-/// A program before the table: as far as it can be read, and up to the table.
-fn program_in_front(
-    image: &Image,
-    desk: &mut Desk,
-    disc: &Disc,
-    header: &Header,
-) -> Option<(u32, u32)> {
-    if header.word(0x420) == 0 {
-        return None;
-    }
-    let dol = Dol::read(image, desk).ok()?;
-    let left = table_end(&disc.opened).saturating_sub(dol.start.into());
-    Some((dol.start, dol.size.min(left) as u32))
 }

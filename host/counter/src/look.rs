@@ -4,12 +4,12 @@ use crate::args::Args;
 use crate::disc::{
     CLUSTER, Clusters, Kind, Space, free_clusters, not_opened, opened, space, table_end,
 };
-use crate::dol::program_behind;
 use crate::failure::{Failure, Outcome};
 use crate::header::Header;
 use crate::image::Image;
 use crate::json::{Json, latin};
 use crate::out::say;
+use crate::program::Program;
 use crate::text::{both, counted, grouped, hex, human, line, number, shown, size};
 use crate::tree::{free_json, node_json, region_fields, weights};
 use counter_sys as counter;
@@ -44,23 +44,16 @@ const SMALL: [(&str, &str, usize); 4] = [
 pub fn info(args: &Args) -> Outcome<()> {
     let (image, mut desk, disc) = space(args.image.as_deref())?;
     let header = Header::read(image.bytes()).map_err(|n| not_opened(&image, n))?;
-    let behind = program_behind(&image, &mut desk, &disc.opened);
-    match args.json {
-        true => {
-            let mut fields = info_fields(&image, &header, &disc);
-            fields.push(("program_behind_table", behind.is_some().into()));
-            say(Json::Object(fields).document().as_bytes())
-        }
-        false => {
-            let mut text = info_text(&image, &header, &disc);
-            if let Some((start, size)) = behind {
-                let what =
-                    format!("{} bytes at {start:#x}, behind the table", grouped(size.into()));
-                line(&mut text, "program", format!("{what}, where the totals count free space"));
-            }
-            say(text.as_bytes())
-        }
+    let program = Program::read(&image, &mut desk, &disc.opened)?;
+    if args.json {
+        let mut fields = info_fields(&image, &header, &disc);
+        fields.push(("program_behind_table", program.is_some_and(|at| at.behind).into()));
+        fields.push(("program", program.into()));
+        return say(Json::Object(fields).document().as_bytes());
     }
+    let mut text = info_text(&image, &header, &disc);
+    line(&mut text, "program", program.map_or("none".into(), |program| program.words()));
+    say(text.as_bytes())
 }
 
 fn info_fields(image: &Image, header: &Header, disc: &Space) -> Vec<(&'static str, Json)> {
@@ -117,19 +110,27 @@ fn info_text(image: &Image, header: &Header, disc: &Space) -> String {
 pub fn free(args: &Args) -> Outcome<()> {
     let (image, mut desk, disc) = space(args.image.as_deref())?;
     let clusters = args.clusters.then(|| free_clusters(&image, &mut desk)).transpose()?;
+    let program = Program::read(&image, &mut desk, &disc.opened)?;
     if args.json {
-        let mut fields =
-            vec![("disc_end", disc.opened.disc_end.into()), ("free", disc.free_bytes().into())];
+        let mut fields = vec![
+            ("disc_end", disc.opened.disc_end.into()),
+            ("free", disc.free_bytes().into()),
+            ("program", program.into()),
+        ];
         fields.extend(match &clusters {
             Some(clusters) => clusters_fields(&disc, clusters),
             None => vec![("regions", free_json(&disc.free))],
         });
         return say(Json::Object(fields).document().as_bytes());
     }
-    let text = match &clusters {
+    let mut text = match &clusters {
         Some(clusters) => clusters_text(&disc, clusters),
         None => free_text(&disc),
     };
+    // What no file holds and is not free.
+    if let Some(program) = program.filter(|program| program.behind) {
+        let _ = writeln!(text, "not free: the program, {}", program.words());
+    }
     say(text.as_bytes())
 }
 
@@ -243,7 +244,7 @@ pub fn place(args: &Args) -> Outcome<()> {
     let wish = number(&args.bytes(0)).map_err(Failure::usage)?;
     let align = args.optional(1).map(|text| number(&text)).transpose().map_err(Failure::usage)?;
     let align = align.unwrap_or(CLUSTER);
-    let (image, mut desk, disc) = space(args.image.as_deref())?;
+    let (image, mut desk, _) = space(args.image.as_deref())?;
     let found =
         counter::allocate(image.bytes(), &mut desk.lend(), wish, align).map_err(|number| {
             let what = format!("{} bytes on a multiple of {align:#x}", grouped(wish.into()));
@@ -262,13 +263,6 @@ pub fn place(args: &Args) -> Outcome<()> {
     let mut out = String::new();
     line(&mut out, "offset", both(found.offset));
     line(&mut out, "room", size(found.size.into()));
-    let end = u64::from(found.offset) + u64::from(wish);
-    if let Some((start, bytes)) = program_behind(&image, &mut desk, &disc.opened)
-        && u64::from(start) < end
-        && u64::from(found.offset) < u64::from(start) + u64::from(bytes)
-    {
-        line(&mut out, "note", "the program lies there, behind the table; an edit stops before it");
-    }
     say(out.as_bytes())
 }
 

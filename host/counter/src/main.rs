@@ -28,6 +28,7 @@ mod manifest;
 mod map;
 mod os;
 mod pages;
+mod program;
 mod progress;
 mod recover;
 mod redo;

@@ -6,6 +6,7 @@ use crate::failure::{DATA, Failure, INPUT_OUTPUT, Outcome};
 use crate::image::Image;
 use crate::layout::{Layout, Record};
 use crate::out::say;
+use crate::program::Program;
 use crate::progress::Progress;
 use crate::sha256::{Sha256, Sum, hex};
 use counter_sys::Region;
@@ -101,8 +102,8 @@ impl Manifest {
         for (name, offset, size) in layout.system() {
             named.push((name.into(), wide((offset, size))));
         }
-        if let Some(place) = layout.program {
-            named.push((PROGRAM.into(), wide(place)));
+        if let Some(program) = layout.program {
+            named.push((PROGRAM.into(), wide((program.place.offset, program.place.size))));
         }
         named.push((TAIL.into(), layout.tail()));
         let parts = named.len();
@@ -258,7 +259,6 @@ impl Reader {
             disc_end: 0,
             fst: (0, 0),
             program: None,
-            program_behind: false,
             free: Vec::new(),
             records: vec![root],
         };
@@ -299,16 +299,17 @@ impl Reader {
         let (offset, size) = (number(&mut rest)?, number(&mut rest)?);
         let part = Part { name: rest.to_string(), offset, size, sum };
         let layout = &mut self.manifest.layout;
-        let place = || Some((u32::try_from(offset).ok()?, u32::try_from(size).ok()?));
+        let place = || {
+            let (offset, size) = (u32::try_from(offset).ok()?, u32::try_from(size).ok()?);
+            Some(Region { offset, size })
+        };
         match rest {
             FREE => {
-                let (offset, size) = place()?;
-                layout.free.push(Region { offset, size });
+                layout.free.push(place()?);
                 self.manifest.free.push(part);
             }
             PROGRAM => {
-                layout.program = Some(place()?);
-                layout.program_behind = offset >= layout.table_end();
+                layout.program = Some(Program::at(place()?, layout.table_end()));
                 self.manifest.parts.push(part);
             }
             _ => self.manifest.parts.push(part),

@@ -197,7 +197,7 @@ fn ink(colour: &str) -> &'static str {
     if light > 140.0 { "#212529" } else { "#ffffff" }
 }
 
-/// All pieces that have bytes. None but a program in a file covers another.
+/// All pieces that have bytes. None covers another.
 fn pieces(layout: &Layout, folders: &Folders, marked: &HashSet<u32>) -> Vec<Piece> {
     let mut pieces = Vec::new();
     let mut add = |what, name: &str, start: u64, size: u64, colour: &str, marked| {
@@ -206,22 +206,8 @@ fn pieces(layout: &Layout, folders: &Folders, marked: &HashSet<u32>) -> Vec<Piec
             pieces.push(Piece { what, name, start, size, colour, marked });
         }
     };
-    let program = layout.program.map_or((0, 0), |(at, size)| (at.into(), u64::from(size)));
-    // A span without what the program takes of it.
-    let around = |start: u64, end: u64| {
-        let (from, until) = (program.0, program.0 + program.1);
-        match program.1 == 0 || until <= start || end <= from {
-            true => [(start, end - start), (0, 0)],
-            false => {
-                [(start, from.saturating_sub(start)), (until.min(end), end.saturating_sub(until))]
-            }
-        }
-    };
     for region in &layout.free {
-        let start = u64::from(region.offset);
-        for (at, size) in around(start, start + u64::from(region.size)) {
-            add(What::Free, "free", at, size, FREE, false);
-        }
+        add(What::Free, "free", region.offset.into(), region.size.into(), FREE, false);
     }
     let colours = of_root_folders(layout);
     let known: BTreeMap<&str, &str> = folders.named().collect();
@@ -232,10 +218,15 @@ fn pieces(layout: &Layout, folders: &Folders, marked: &HashSet<u32>) -> Vec<Piec
         add(What::File, &record.path, offset.into(), size.into(), colour, marked);
     }
     add(What::System, "header", 0, 0x440, HEADER, false);
-    for (at, size) in around(0x440, u64::from(layout.fst.0).max(0x440)) {
-        add(What::System, "system area", at, size, SYSTEM, false);
-    }
-    add(What::Program, "program", program.0, program.1, PROGRAM, false);
+    // The system area lies around a program before the table.
+    let fst = u64::from(layout.fst.0).max(0x440);
+    let (start, size) = layout
+        .program
+        .map_or((fst, 0), |program| (program.place.offset.into(), u64::from(program.place.size)));
+    let (from, until) = (start.clamp(0x440, fst), (start + size).clamp(0x440, fst));
+    add(What::System, "system area", 0x440, from - 0x440, SYSTEM, false);
+    add(What::System, "system area", until, fst - until, SYSTEM, false);
+    add(What::Program, "program", start, size, PROGRAM, false);
     add(What::Table, "table", layout.fst.0.into(), layout.fst.1.into(), TABLE, false);
     pieces
 }
@@ -401,17 +392,14 @@ impl<'a> Picture<'a> {
     fn totals(&mut self) {
         let end = u64::from(self.layout.disc_end).max(1);
         let files: u64 = self.layout.files().map(|file| u64::from(file.place.1)).sum();
-        let behind = match self.layout.program {
-            Some((_, size)) if self.layout.program_behind => u64::from(size),
-            _ => 0,
-        };
+        let behind = self.layout.behind().map_or(0, |program| u64::from(program.size));
         let system = u64::from(self.layout.fst.0);
         let parts = [
             ("before the table", system, SYSTEM),
             ("table", self.layout.fst.1.into(), TABLE),
             ("program", behind, PROGRAM),
             ("files", files, self.folders.0[0].1.as_str()),
-            ("free", self.layout.free_bytes().saturating_sub(behind), FREE),
+            ("free", self.layout.free_bytes(), FREE),
         ];
         let parts: Vec<_> =
             parts.into_iter().filter(|part| part.1 > 0 || part.0 != "program").collect();

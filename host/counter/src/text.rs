@@ -55,6 +55,11 @@ pub fn size(bytes: u64) -> String {
     }
 }
 
+/// How the i-th section of a program is called.
+pub fn section(i: usize) -> String {
+    if i < 7 { format!("text{i}") } else { format!("data{}", i - 7) }
+}
+
 /// `one` or `many` after the number.
 pub fn counted(number: usize, one: &str, many: &str) -> String {
     format!("{} {}", grouped(number as u64), if number == 1 { one } else { many })

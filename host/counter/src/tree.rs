@@ -6,6 +6,7 @@ use crate::failure::{Failure, Outcome};
 use crate::image::{Desk, Image};
 use crate::json::Json;
 use crate::out::say;
+use crate::program::Program;
 use crate::text::{counted, human};
 use counter_sys::{self as counter, Region};
 use std::fmt::Write;
@@ -123,13 +124,17 @@ pub fn weights(disc: &Disc) -> Vec<(u64, usize)> {
 }
 
 pub fn tree(args: &Args) -> Outcome<()> {
-    let (_, _, disc) = opened(args.image.as_deref())?;
+    let (image, mut desk, disc) = opened(args.image.as_deref())?;
     let disc = disc.with_paths()?;
     let weights = weights(&disc);
-    match args.json {
-        true => say(branch_json(&disc, &weights, 0).document().as_bytes()),
-        false => say(tree_text(&disc, &weights).as_bytes()),
+    if !args.json {
+        return say(tree_text(&disc, &weights).as_bytes());
     }
+    let Json::Object(mut fields) = branch_json(&disc, &weights, 0) else {
+        unreachable!("the root is an object")
+    };
+    fields.push(("program", Program::read(&image, &mut desk, &disc.opened)?.into()));
+    say(Json::Object(fields).document().as_bytes())
 }
 
 /// The numbers of a directory's own entries.

@@ -14,8 +14,6 @@ pub struct Trial {
     pub found: Option<u32>,
     pub after: Disc,
     pub change: Change,
-    /// The file's place afterwards, if it is another one or a longer one.
-    pub place: Range<u64>,
 }
 
 pub fn try_out(
@@ -43,26 +41,22 @@ pub fn try_out(
         kept: 0,
         lost: 0..0,
     };
-    let place = match *call {
-        Call::Move(at, _) | Call::Resize(at, _) => {
-            let at = at as usize;
-            place_file(&mut change, before.nodes[at].kind, after.nodes[at].kind)
-        }
-        _ => 0..0,
-    };
+    if let Call::Move(at, _) | Call::Resize(at, _) = *call {
+        let at = at as usize;
+        place_file(&mut change, before.nodes[at].kind, after.nodes[at].kind);
+    }
     if !change.is_sound(image.bytes().len() as u64) {
         let text = format!("{}: libcounter would write where no edit writes", image.name);
         return Err(Failure::error(INTERNAL, text));
     }
-    Ok(Trial { found, after, change, place })
+    Ok(Trial { found, after, change })
 }
 
-/// What the edit does to the file's bytes, told by its place before and after. The answer is its place
-/// afterwards, if it is another one or a longer one.
-fn place_file(change: &mut Change, before: Kind, after: Kind) -> Range<u64> {
+/// What the edit does to the file's bytes, told by its place before and after.
+fn place_file(change: &mut Change, before: Kind, after: Kind) {
     let (Kind::File { offset, size }, Kind::File { offset: to, size: now }) = (before, after)
     else {
-        return 0..0;
+        return;
     };
     let (from, size, now) = (u64::from(offset), u64::from(size), u64::from(now));
     let to = u64::from(to);
@@ -71,10 +65,6 @@ fn place_file(change: &mut Change, before: Kind, after: Kind) -> Range<u64> {
         change.lost = from..from + size;
     } else if now < size {
         change.lost = from + now..from + size;
-    }
-    match from != to || now > size {
-        true => to..to + now,
-        false => 0..0,
     }
 }
 

@@ -1,8 +1,8 @@
 //! More words for a refusal of opening: which entry it is, and with what. The library says the
-//! number; this looks at the table once more, and is silent where it finds no such trouble.
+//! number; this looks at table and program once more, and is silent where it finds no such trouble.
 
 use crate::header::Header;
-use crate::text::shown;
+use crate::text::{section, shown};
 use counter_sys::HEADER_SIZE;
 
 /// What is wrong, if the refusal `number` can be told in more words.
@@ -15,6 +15,7 @@ pub fn words(image: &[u8], number: u32) -> Option<String> {
         3 => Some("this is no GameCube disc image".into()),
         4 => bounds(image),
         9 => Some("more than 16,384 entries, 1,048,576 bytes of names or 64 levels".into()),
+        24 => program(image),
         _ => Table::read(image)?.words(number),
     }
 }
@@ -37,6 +38,51 @@ fn bounds(image: &[u8]) -> Option<String> {
     })
 }
 
+fn word(bytes: &[u8], at: usize) -> u32 {
+    u32::from_be_bytes(bytes[at..at + 4].try_into().expect("four bytes"))
+}
+
+/// The program's header, as it stands at an offset of the image.
+struct Dol<'a>(&'a [u8]);
+
+impl<'a> Dol<'a> {
+    const SIZE: u64 = 0xE4;
+
+    /// None where it passes the image.
+    fn at(image: &'a [u8], offset: u32) -> Option<Dol<'a>> {
+        image.get(offset as usize..)?.get(..Self::SIZE as usize).map(Dol)
+    }
+
+    /// Offset and size of each section.
+    fn sections(&self) -> impl Iterator<Item = (u32, u32)> {
+        (0..18).map(|i| (word(self.0, 4 * i), word(self.0, 0x90 + 4 * i)))
+    }
+
+    /// How many bytes the program takes.
+    fn length(&self) -> u64 {
+        self.sections().map(sum).max().unwrap_or(0).max(Self::SIZE)
+    }
+}
+
+fn sum((offset, size): (u32, u32)) -> u64 {
+    u64::from(offset) + u64::from(size)
+}
+
+/// Which of the two parts of 24 it is. `dol` reads a program at 0, too, where opening takes it for none.
+fn program(image: &[u8]) -> Option<String> {
+    let at = Header::read(image).ok()?.word(0x420);
+    let Some(dol) = Dol::at(image, at) else {
+        let (end, have) = (u64::from(at) + Dol::SIZE, image.len());
+        return Some(format!(
+            "the program's header {at:#x} to {end:#x}, the file has {have} bytes"
+        ));
+    };
+    let past = |section: &(usize, (u32, u32))| sum(section.1) > u64::from(u32::MAX);
+    let (i, (offset, size)) = dol.sections().enumerate().find(past)?;
+    let name = section(i);
+    Some(format!("the program at {at:#x}: {name} has offset {offset:#x} and size {size:#x}"))
+}
+
 /// The start of a name, which may be long.
 fn short(name: &[u8]) -> String {
     match name.len() {
@@ -45,12 +91,23 @@ fn short(name: &[u8]) -> String {
     }
 }
 
+/// What a used region holds.
+#[derive(Clone, Copy, PartialEq, Eq, PartialOrd, Ord)]
+enum Used {
+    Table,
+    Program,
+    Entry(usize),
+}
+
 /// The table as it stands, whatever it holds.
 struct Table<'a> {
     bytes: &'a [u8],
     count: usize,
+    fst: u64,
     table_end: u64,
     disc_end: u64,
+    /// Where the program begins and ends.
+    program: Option<(u64, u64)>,
 }
 
 impl<'a> Table<'a> {
@@ -59,13 +116,17 @@ impl<'a> Table<'a> {
         let (fst, size) = (header.word(0x424) as usize, header.word(0x428) as usize);
         let bytes = image.get(fst..)?.get(..size)?;
         let count = u32::from_be_bytes(bytes.get(8..12)?.try_into().ok()?) as usize;
-        let table_end = (fst + size) as u64;
-        Some(Table { bytes, count: count.max(1), table_end, disc_end: header.disc_end() })
+        let (fst, table_end) = (fst as u64, (fst + size) as u64);
+        let program = match header.word(0x420) {
+            0 => None,
+            at => Dol::at(image, at).map(|dol| (at.into(), u64::from(at) + dol.length())),
+        };
+        let (count, disc_end) = (count.max(1), header.disc_end());
+        Some(Table { bytes, count, fst, table_end, disc_end, program })
     }
 
     fn word(&self, k: usize, i: usize) -> u32 {
-        let at = 12 * k + 4 * i;
-        u32::from_be_bytes(self.bytes[at..at + 4].try_into().expect("four bytes"))
+        word(self.bytes, 12 * k + 4 * i)
     }
 
     fn kind(&self, k: usize) -> u8 {
@@ -109,7 +170,7 @@ impl<'a> Table<'a> {
                 let k = self.name(number)?;
                 Some(format!("entry {k} is called \"{}\"", self.called(k)))
             }
-            14 => self.overlap(),
+            14 => self.misplaced().or_else(|| self.overlap()),
             _ => None,
         }
     }
@@ -158,19 +219,35 @@ impl<'a> Table<'a> {
         })
     }
 
+    /// A program that lies neither between header and table nor behind the table.
+    fn misplaced(&self) -> Option<String> {
+        let (start, end) = self.program?;
+        let other = if start < HEADER_SIZE as u64 {
+            format!("the header 0x0 to {HEADER_SIZE:#x}")
+        } else if start < self.table_end && self.fst < end {
+            format!("the table {:#x} to {:#x}", self.fst, self.table_end)
+        } else {
+            return None;
+        };
+        Some(format!("{other} and the program {start:#x} to {end:#x}"))
+    }
+
     /// The first two used regions that overlap, or the one that passes the disc end.
     fn overlap(&self) -> Option<String> {
-        let mut used = vec![(0, self.table_end, 0)];
+        let mut used = vec![(0, self.table_end, Used::Table)];
+        let behind = |&(start, _): &(u64, u64)| start >= self.table_end;
+        used.extend(self.program.filter(behind).map(|(start, end)| (start, end, Used::Program)));
         for k in 1..self.count {
             let (start, size) = (u64::from(self.word(k, 1)), u64::from(self.word(k, 2)));
             if self.kind(k) == 0 && size > 0 {
-                used.push((start, start + size, k));
+                used.push((start, start + size, Used::Entry(k)));
             }
         }
         used.sort();
-        let told = |&(start, end, k): &(u64, u64, usize)| match k {
-            0 => format!("the table {start:#x} to {end:#x}"),
-            _ => format!("entry {k} \"{}\" {start:#x} to {end:#x}", self.called(k)),
+        let told = |&(start, end, what): &(u64, u64, Used)| match what {
+            Used::Table => format!("the table {start:#x} to {end:#x}"),
+            Used::Program => format!("the program {start:#x} to {end:#x}"),
+            Used::Entry(k) => format!("entry {k} \"{}\" {start:#x} to {end:#x}", self.called(k)),
         };
         if let Some(pair) = used.windows(2).find(|pair| pair[1].0 < pair[0].1) {
             return Some(format!("{} and {}", told(&pair[0]), told(&pair[1])));

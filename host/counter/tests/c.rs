@@ -132,6 +132,53 @@ int main(void)
 }
 
 #[test]
+fn the_programs_region_is_told_from_c() {
+    let temp = Temp::new();
+    let text = r#"
+#include "counter.h"
+#include <stdio.h>
+static uint8_t image[0x2000];
+static uint32_t words[COUNTER_MOST_WORDS];
+static uint32_t list[COUNTER_REGION_WORDS * COUNTER_MOST_REGIONS];
+int main(void)
+{
+    size_t len = fread(image, 1, sizeof image, stdin);
+    uint32_t program[COUNTER_PROGRAM_SLOTS] = { 7, 7 };
+    uint32_t opened[COUNTER_OPEN_SLOTS] = { 0 };
+    uint32_t count[1] = { 0 };
+    uint32_t number = counter_program(image, len, words, COUNTER_MOST_WORDS, program);
+    printf("%u bytes at %u\n", (unsigned)program[1], (unsigned)program[0]);
+    if (number == 0 && counter_open(image, len, words, COUNTER_MOST_WORDS, opened) == 0
+        && counter_free_regions(image, len, words, COUNTER_MOST_WORDS, list,
+               COUNTER_REGION_WORDS * (opened[3] + 1), count) == 0)
+        printf("%u used, %u free regions of %u entries\n", (unsigned)opened[4], (unsigned)count[0],
+            (unsigned)opened[3]);
+    return (int)number;
+}
+"#;
+    let Some(program) = over_library(&temp.write("program.c", text.as_bytes()), &temp) else {
+        return;
+    };
+    let told = |bytes: &[u8]| -> (i32, String) {
+        let image = fs::File::open(temp.write("disc.iso", bytes)).unwrap();
+        let run: Run = Command::new(&program).stdin(image).output().unwrap().into();
+        (run.status, run.out)
+    };
+    let mut bytes = small_master();
+    let lines = "0 bytes at 0\n1370 used, 2 free regions of 2 entries\n";
+    assert_eq!(told(&bytes), (0, lines.into()));
+    // At least as long as its header.
+    put_program(&mut bytes, 0x1000, 0, 1);
+    let lines = "228 bytes at 4096\n1598 used, 3 free regions of 2 entries\n";
+    assert_eq!(told(&bytes), (0, lines.into()));
+    // A refusal leaves the slots as they were.
+    put_program(&mut bytes, 0x1000, 0, 0x1001);
+    assert_eq!(told(&bytes), (14, "7 bytes at 7\n".into()));
+    put_program(&mut bytes, 0x1000, 1, 0xFFFF_FFFF);
+    assert_eq!(told(&bytes), (24, "7 bytes at 7\n".into()));
+}
+
+#[test]
 fn the_header_compiles_alone_as_c_and_as_c_plus_plus() {
     let temp = Temp::new();
     let text = "#include \"counter.h\"\n#include \"counter.h\"\n\
@@ -170,6 +217,7 @@ fn causes_and_limits_are_those_of_the_paper() {
         "#define COUNTER_MOST_TEXT 1048576 ",
         "#define COUNTER_MOST_LEVELS 64 ",
         "#define COUNTER_MOST_PATH 1024 ",
+        "#define COUNTER_MOST_REGIONS (COUNTER_MOST_ENTRIES + 1)\n",
         "#define COUNTER_MOST_WORDS (4 * (COUNTER_MOST_ENTRIES + 2))\n",
         "#define COUNTER_MOST_TABLE (12 * COUNTER_MOST_ENTRIES + COUNTER_MOST_TEXT)\n",
     ] {

@@ -192,40 +192,40 @@ fn header_program_and_tail_are_watched() {
 #[test]
 fn a_program_behind_the_table_is_watched() {
     let pair = pair();
-    let at = 0x18_0000u32;
+    let (start, end) = (0x18_0000, 0x18_0000 + DOL_SIZE as u64);
     for path in [&pair.before, &pair.after] {
-        let mut bytes = fs::read(path).unwrap();
-        bytes.copy_within(DOL..DOL + 0x2_C000, at as usize);
-        put(&mut bytes, 0x420, at);
-        fs::write(path, bytes).unwrap();
+        program_to(path, start as u32);
     }
-    assert_eq!(pair.compare(&[]).status, 0);
-    // For the library this is free space: a file moved there would write over the program.
-    let time = modified(&pair.after);
-    for dry in [&["opening.bnr", "0x181000"][..], &["opening.bnr", "0x181000", "--dry-run"]] {
-        let run = on("move", &pair.after, dry);
-        assert_eq!(run.status, 65, "{}", run.err);
-        assert!(run.err.contains("the program lies at 0x180000 to 0x1ac000"), "{}", run.err);
+    let sums = pair.temp.write("before.sums", done("hash", &pair.before, &[]).as_bytes());
+    let verdicts = |list: &str| {
+        let list = pair.temp.write("list.txt", list.as_bytes());
+        let args = [pair.after.to_str().unwrap(), "--given", list.to_str().unwrap()];
+        [&pair.before, &sums].map(|before| on("compare", before, &args))
+    };
+    // Edits beside it leave it as it was.
+    pair.edit(&["move", "opening.bnr", "0x17e6a0"]);
+    pair.edit(&["move", "audio/theme.adp", "0x1ac000"]);
+    for run in verdicts("opening.bnr\naudio/theme.adp\n") {
+        assert_eq!(run.status, 0, "{}", run.out);
+        assert!(run.out.contains("unchanged        (program)"), "{}", run.out);
     }
-    // Growing into it is taking it too; growing up to it is not.
-    pair.edit(&["move", "opening.bnr", "0x17c000", "--dry-run"]);
-    assert_eq!(on("resize", &pair.after, &["movie/intro.thp", "0x80001"]).status, 65);
-    assert_eq!(modified(&pair.after), time);
-    pair.edit(&["resize", "movie/intro.thp", "0x80000", "--dry-run"]);
-    assert!(done("info", &pair.after, &[]).contains("180,224 bytes at 0x180000, behind the table"));
-    assert!(json("info", &pair.after, &[]).at("program_behind_table").flag());
-    // A file that holds the program does not leave it behind as zeros.
-    let inside = pair.temp.at("inside.iso");
-    let mut bytes = fs::read(&pair.before).unwrap();
-    put(&mut bytes, 0x420, 0x10_0000);
-    bytes[0x10_0000..0x10_00E4].fill(0);
-    fs::write(&inside, bytes).unwrap();
-    assert_eq!(on("move", &inside, &["movie/intro.thp", "0x1a0000"]).status, 65);
-    assert_eq!(on("move", &inside, &["opening.bnr", "0x1a0000"]).status, 0);
-    pair.edit(&["move", "opening.bnr", "0x181000", "--over-program"]);
-    let run = pair.given("opening.bnr\n");
-    assert_eq!(run.status, 1);
-    assert!(run.out.contains("changed          (program)"), "{}", run.out);
+    // A byte of its header (an address), one in the midst and its last; no list gives leave for that.
+    for at in [start + 0x48, start + 0x1000, end - 1] {
+        pair.spoil(at);
+        for run in verdicts("/\n") {
+            assert_eq!(run.status, 1, "{at:#x}: {}", run.out);
+            assert!(run.out.contains("changed          (program)"), "{at:#x}: {}", run.out);
+            assert!(run.out.contains("FAILED: 1 difference not on the list"), "{}", run.out);
+        }
+        pair.spoil(at);
+    }
+    // What is free before it and behind it is none of its bytes.
+    pair.spoil(start - 0x1960 - 1);
+    pair.spoil(end + 0x8123);
+    for run in verdicts("opening.bnr\naudio/theme.adp\n") {
+        assert_eq!(run.status, 0, "{}", run.out);
+        assert!(run.out.contains("unchanged        (program)"), "{}", run.out);
+    }
 }
 
 #[test]

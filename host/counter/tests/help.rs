@@ -63,7 +63,6 @@ fn help_comes_in_every_way_and_is_about_its_command_alone() {
         "--json",
         "--wait",
         "--dry-run",
-        "--over-program",
         "--all",
         "--clusters",
         "--demo",

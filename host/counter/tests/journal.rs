@@ -25,7 +25,7 @@ fn master() -> Vec<u8> {
     pattern(&mut image, 78);
     image[..0x440].fill(0);
     put(&mut image, 0x1C, 0xC233_9F3D);
-    put(&mut image, 0x420, 0x500);
+    put_program(&mut image, 0x600, 0, 0);
     put(&mut image, 0x424, 0x440);
     put(&mut image, 0x428, table.len() as u32);
     put(&mut image, 0x434, END);

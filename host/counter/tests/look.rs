@@ -530,6 +530,7 @@ fn free_space_of_the_small_master_in_clusters() {
     let told = r#"{
   "disc_end": 8192,
   "free": 6822,
+  "program": null,
   "regions": [
     {"offset": 1114, "size": 166},
     {"offset": 1536, "size": 6656}
@@ -889,7 +890,7 @@ fn wrong_usage_is_64() {
         &["rewrite"],
         &["move", "x", "y"],
         &["mkdir", "image"],
-        &["rewrite", "image", "--over"],
+        &["rewrite", "image", "--over-program"],
         &["hash", "image", "--json"],
         &["place", "image"],
         &["place", "image", "1", "2", "3"],

@@ -11,7 +11,7 @@ use counter_sys::{CLUSTER_WORDS, DOL_WORDS, HEADER_SIZE, REGION_WORDS, call};
 const SPARE: usize = 3;
 
 /// The most words of a list that `lend_list` lends, whatever it is told: no answer comes near it
-/// (16,384 regions of three words), so a longer list gives the same, and memory cannot hold 2^64.
+/// (16,385 regions of three words), so a longer list gives the same, and memory cannot hold 2^64.
 const LONGEST_LIST: usize = 1 << 20;
 
 pub struct Lender {

@@ -1,5 +1,6 @@
 //! The probe on the scope paper's small master: its listing, P1 to P12, every refusal number once,
-//! free regions in clusters, lists of edits, and calls with too little memory or too short a list.
+//! free regions in clusters, a program behind the table or before it, lists of edits, and calls with
+//! too little memory or too short a list.
 //! `dirty` is never an answer.
 
 use std::io::{Read, Write};
@@ -181,6 +182,112 @@ fn clusters() {
     }
 }
 
+/// A program of 0xe4 bytes at 0x1000, behind the table: its header is all zero.
+#[test]
+fn program_behind_the_table() {
+    const AT: &str = "patch 0x420 00001000";
+    let listing = "total 8192 used 1598\nd 0 0 2 /\nf 1 1280 256 /a\nr 1114 166\nr 1536 2560\n\
+                   r 4324 3868\n";
+    let listing = format!("ok {}", hex(listing.as_bytes()));
+    hold(&[
+        (&[AT, "open"], "ok"),
+        (&[AT, "used"], "ok 1598"),
+        (&[AT, "total"], "ok 8192"),
+        (&[AT, "free"], "ok 1114:166 1536:2560 4324:3868"),
+        (&[AT, "clusters"], "ok 166:0:0 2560:0:0 3868:0:0"),
+        (&[AT, "listing"], &listing),
+        // The window is as long as the file size, the program at least as its header.
+        (&[AT, "dol"], "ok 0 0 0 cbf29ce484222325"),
+        (&[AT, "patch 0x1090 000000e4", "dolwindow e:0"], "ok e=228"),
+        (&[AT, "patch 0x1090 000000e3", "used"], "ok 1598"),
+        (&[AT, "patch 0x1090 000000e5", "used"], "ok 1599"),
+        // Three regions of two entries.
+        (&[AT, "lend_list 5", "free"], "err 9"),
+        (&[AT, "lend_list 6", "free"], "ok 1114:166 1536:2560 4324:3868"),
+        (&[AT, "lend_list 8", "clusters"], "err 9"),
+        (&[AT, "lend_list 9", "clusters"], "ok 166:0:0 2560:0:0 3868:0:0"),
+        (&[AT, "lend_list -", "lend 15 0", "free"], "err 9"),
+        (&[AT, "lend 16 0", "free"], "ok 1114:166 1536:2560 4324:3868"),
+        (&[AT, "lend 65544 2097152", "maxfile 1"], "ok 2816"),
+        (&[AT, "maxregion 0x600 1"], "ok 2560"),
+        (&[AT, "maxregion 0x10e4 1"], "ok 3868"),
+        (&[AT, "alloc 0xa00 1"], "ok 4324 3868"),
+        (&[AT, "alloc 0xf1c 4"], "ok 4324 3868"),
+        (&[AT, "alloc 0xf1d 1"], "err 21"),
+        // Edits up to it, and not into it.
+        (&[AT, "move 1 0xf01"], "err 21"),
+        (&[AT, "move 1 0x1000"], "err 21"),
+        (&[AT, "move 1 0x10e3"], "err 21"),
+        (&[AT, "move 1 0xf00", "free"], "ok 1114:2726 4324:3868"),
+        (&[AT, "move 1 0x10e4", "free"], "ok 1114:2982 4580:3612"),
+        (&[AT, "resize 1 0xb01"], "err 21"),
+        (&[AT, "resize 1 0xb00", "free"], "ok 1114:166 4324:3868"),
+        (&[AT, "patch 0x10e3 07", "move 1 0x10e4", "peek 0x10e3 2"], "ok 0700"),
+        // The table ends at 0x45a; with an entry called `b` at 0x468.
+        (&["patch 0x450 00000600", "patch 0x420 0000045a", "insert_file 0 62"], "err 21"),
+        (&["patch 0x450 00000600", "patch 0x420 00000467", "insert_file 0 62"], "err 21"),
+        (&["patch 0x450 00000600", "patch 0x420 00000467", "insert_dir 0 62"], "err 21"),
+        (&["patch 0x450 00000600", "patch 0x420 00000467", "mkdirs 0 62"], "err 21"),
+        (&["patch 0x450 00000600", "patch 0x420 0000045a", "rewrite"], "ok"),
+        (&["patch 0x450 00000600", "patch 0x420 00000468", "insert_file 0 62"], "ok 2"),
+    ]);
+}
+
+/// The table at 0x600, `a` at 0x800: between 0x440 and 0x600 there is room for a program.
+#[test]
+fn program_before_the_table() {
+    const TABLE: [&str; 3] = [
+        "patch 0x600 0100000000000000000000020000000000000800000001006100",
+        "patch 0x440 0000000000000000000000000000000000000000000000000000",
+        "patch 0x424 000006000000001a",
+    ];
+    let cases: [(&[&str], &str); 12] = [
+        (&["free"], "ok 1562:486 2304:5888"),
+        (&["patch 0x420 00000440", "free"], "ok 1562:486 2304:5888"),
+        (&["patch 0x420 00000440", "used"], "ok 1818"),
+        (&["patch 0x420 0000051c", "used"], "ok 1818"),
+        (&["patch 0x420 00000440", "patch 0x4d0 000001c0", "used"], "ok 1818"),
+        (&["patch 0x420 00000440", "patch 0x4d0 000001c0", "insert_file 0 62"], "ok 2"),
+        // A byte over the table, from before 0x440, over the table's end; then from its end on.
+        (&["patch 0x420 00000440", "patch 0x4d0 000001c1", "open"], "err 14"),
+        (&["patch 0x420 0000051d", "open"], "err 14"),
+        (&["patch 0x420 0000043f", "open"], "err 14"),
+        (&["patch 0x420 00000600", "open"], "err 14"),
+        (&["patch 0x420 00000619", "open"], "err 14"),
+        (&["patch 0x420 0000061a", "used"], "ok 2046"),
+    ];
+    let lists: Vec<Vec<&str>> =
+        cases.iter().map(|(lines, _)| [&TABLE[..], lines].concat()).collect();
+    let cases: Vec<(&[&str], &str)> =
+        lists.iter().zip(cases).map(|(list, (_, said))| (&list[..], said)).collect();
+    hold(&cases);
+}
+
+/// 24 comes after the walk and before 14, and only for a DOL offset other than 0.
+#[test]
+fn program_that_cannot_be_read() {
+    hold(&[
+        (&["patch 0x420 00001f1d", "open"], "err 24"),
+        (&["patch 0x420 ffffffff", "open"], "err 24"),
+        (&["patch 0x420 ffffffffffff0440", "open"], "err 4"),
+        (&["patch 0x420 00001000", "patch 0x1000 ffffffff", "open"], "err 14"),
+        (&["patch 0x420 00001000", "patch 0x1000 ffffffff", "patch 0x1093 01", "open"], "err 24"),
+        (&["patch 0x420 00001000", "patch 0x1044 ffffffff", "patch 0x10d7 01", "open"], "err 24"),
+        (&["patch 0x420 00001f1d", "patch 0x458 3a", "open"], "err 13"),
+        (&["patch 0x420 00001f1d", "patch 0x458 80", "open"], "err 12"),
+        (&["patch 0x420 00001f1d", "patch 0x450 00000459", "open"], "err 24"),
+        (&["patch 0x420 00001f1d", "lend 15 0", "open"], "err 9"),
+        (&["patch 0x420 00001f1d", "lend 16 0", "rewrite"], "err 24"),
+        // The image goes on behind the disc end: the header is there, the program is not on the disc.
+        (&["size 0x3000", "patch 0x420 00002000", "open"], "err 14"),
+        (&["size 0x3000", "patch 0x420 00001f1d", "open"], "err 14"),
+        // At 0 nothing is tested by opening; `dol` reads there.
+        (&["patch 0 ffffffff", "patch 0x90 00000001", "open"], "ok"),
+        (&["patch 0 ffffffff", "patch 0x90 00000001", "used"], "ok 1370"),
+        (&["patch 0 ffffffff", "patch 0x90 00000001", "dol"], "err 24"),
+    ]);
+}
+
 /// One probe carries out all of these, so what `lend_list` names holds for the next image too.
 #[test]
 fn lists_of_a_named_length() {
@@ -304,7 +411,7 @@ fn never_dirty() {
                 10 => format!("alloc {len} {}", random(64)),
                 11 => format!("filewindow {entry} e:-1 r:4"),
                 12 => "clusters".into(),
-                _ => format!("patch {} {:02x}", 0x424 + random(0x40), random(4)),
+                _ => format!("patch {} {:02x}", 0x420 + random(0x44), random(4)),
             });
         }
     }

@@ -208,6 +208,7 @@ impl Stage {
         let mut given = match name {
             "open" => ask!(u32, 5, counter_open()),
             "totals" => ask!(u32, 2, counter_totals()),
+            "program" => ask!(u32, 2, counter_program()),
             "entry" => ask!(u32, 4, counter_entry(, = a)),
             "lookup" => ask!(u32, 4, counter_lookup(, = a, in text)),
             "entries" => ask!(u32, 5, counter_entries(, mut list)),
@@ -295,8 +296,8 @@ fn header(image: &[u8]) -> Result<Given, String> {
 /// How many numbers a call takes.
 fn arity(name: &str) -> usize {
     match name {
-        "open" | "totals" | "entries" | "free_regions" | "free_clusters" | "open_dol"
-        | "header" | "rewrite" => 0,
+        "open" | "totals" | "program" | "entries" | "free_regions" | "free_clusters"
+        | "open_dol" | "header" | "rewrite" => 0,
         "max_region_size" | "allocate" | "move_file" | "resize_file" => 2,
         _ => 1,
     }

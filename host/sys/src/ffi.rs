@@ -17,6 +17,13 @@ unsafe extern "C" {
         words_len: usize,
         answer: *mut [u32; 2],
     ) -> u32;
+    pub fn counter_program(
+        image: *const u8,
+        image_len: usize,
+        words: *mut u32,
+        words_len: usize,
+        answer: *mut [u32; 2],
+    ) -> u32;
     pub fn counter_entry(
         image: *const u8,
         image_len: usize,

@@ -126,6 +126,14 @@ pub fn totals(image: &[u8], memory: &mut Memory) -> Answer<(u32, u32)> {
     Ok((answer[0], answer[1]))
 }
 
+/// The program's region, before the table or behind it; none where the DOL offset is 0.
+pub fn program(image: &[u8], memory: &mut Memory) -> Answer<Option<Region>> {
+    let mut answer = [0; 2];
+    told(unsafe { call!(counter_program(in image, mut memory.words, = &mut answer)) })?;
+    let [offset, size] = answer;
+    Ok((offset != 0).then_some(Region { offset, size }))
+}
+
 pub fn entry_at(image: &[u8], memory: &mut Memory, number: u32) -> Answer<Entry> {
     let mut answer = [0; 4];
     told(unsafe { call!(counter_entry(in image, mut memory.words, = number, = &mut answer)) })?;

@@ -1,5 +1,5 @@
-//! What the probe's language does not reach: windows that no call gives; each call on slices; an
-//! image with nothing in it.
+//! What the probe's language does not reach: windows that no call gives; each call on slices; the
+//! program's region; an image with nothing in it.
 
 use counter_sys::{Entry, Memory, Opened, Region, Window};
 
@@ -51,6 +51,7 @@ fn the_calls_on_slices() {
     assert_eq!(counter_sys::open(&image, &mut memory), Ok(opened));
     assert_eq!(counter_sys::header(&image).unwrap()[..], image[..0x440]);
     assert_eq!(counter_sys::totals(&image, &mut memory), Ok((0x2000, 1370)));
+    assert_eq!(counter_sys::program(&image, &mut memory), Ok(None));
     let a = Entry::File { number: 1, offset: 0x500, size: 0x100 };
     assert_eq!(counter_sys::entry_at(&image, &mut memory, 1), Ok(a));
     assert_eq!(counter_sys::lookup(&image, &mut memory, 0, b"./a"), Ok(a));
@@ -93,6 +94,64 @@ fn the_calls_on_slices() {
     assert!(words == [0; 28] && bytes == [0; 68]);
 }
 
+/// A program is at least as long as its header; its window is not. Behind the table it is used, and there
+/// is a free region more than entries.
+#[test]
+fn a_program_behind_the_table() {
+    let mut image = small_master();
+    image[0x420..0x424].copy_from_slice(&[0, 0, 0x10, 0]);
+    let mut words = [9; 16];
+    let mut memory = Memory { words: &mut words, bytes: &mut [] };
+    let m = &mut memory;
+    let program = Region { offset: 0x1000, size: 0xe4 };
+    assert_eq!(counter_sys::program(&image, m), Ok(Some(program)));
+    assert_eq!(counter_sys::totals(&image, m), Ok((0x2000, 1370 + 0xe4)));
+    let mut list = [5; 7];
+    assert_eq!(counter_sys::free_regions(&image, m, &mut list[..5]), Err(9));
+    assert_eq!(counter_sys::free_regions(&image, m, &mut list), Ok(3));
+    assert_eq!(list, [0x45a, 0xa6, 0x600, 0xa00, 0x10e4, 0xf1c, 5]);
+    let mut list = [5; 9];
+    assert_eq!(counter_sys::free_clusters(&image, m, &mut list[..8]), Err(9));
+    assert_eq!(counter_sys::free_clusters(&image, m, &mut list), Ok(3));
+    assert_eq!(list, [0xa6, 0, 0, 0xa00, 0, 0, 0xf1c, 0, 0]);
+    assert_eq!(counter_sys::open_dol(&image, m).unwrap().1.length, 0);
+    // The first text section: 0x23 bytes from 0x100 on.
+    image[0x1002] = 1;
+    image[0x1093] = 0x23;
+    let program = Region { offset: 0x1000, size: 0x123 };
+    assert_eq!(counter_sys::program(&image, m), Ok(Some(program)));
+    assert_eq!(counter_sys::open_dol(&image, m).unwrap().1.length, 0x123);
+    assert_eq!(counter_sys::max_file_size(&image, m, 1), Ok(0xb00));
+    assert_eq!(words, [0; 16]);
+}
+
+/// Between the header and the table it is among the bytes up to the table's end.
+#[test]
+fn a_program_before_the_table() {
+    let mut image = small_master();
+    image.copy_within(0x440..0x45a, 0x524);
+    image[0x440..0x524].fill(0);
+    image[0x420..0x428].copy_from_slice(&[0, 0, 4, 0x40, 0, 0, 5, 0x24]);
+    image[0x536] = 6; // `a` lies at 0x600
+    let mut words = [9; 16];
+    let mut memory = Memory { words: &mut words, bytes: &mut [] };
+    let m = &mut memory;
+    let program = Region { offset: 0x440, size: 0xe4 };
+    assert_eq!(counter_sys::program(&image, m), Ok(Some(program)));
+    assert_eq!(counter_sys::totals(&image, m), Ok((0x2000, 0x53e + 0x100)));
+    let mut list = [5; 6];
+    assert_eq!(counter_sys::free_regions(&image, m, &mut list), Ok(2));
+    assert_eq!(list, [0x53e, 0xc2, 0x700, 0x1900, 5, 5]);
+    // A byte longer it reaches into the table: text section 0 is 0xe5 bytes from 0 on.
+    image[0x4d3] = 0xe5;
+    assert_eq!(counter_sys::program(&image, m), Err(14));
+    // Its sum is 2^32.
+    image[0x440..0x444].fill(0xff);
+    image[0x4d3] = 1;
+    assert_eq!(counter_sys::program(&image, m), Err(24));
+    assert_eq!(words, [0; 16]);
+}
+
 /// "header field past the image" comes before every other cause, whatever is lent.
 #[test]
 fn an_empty_image() {
@@ -103,6 +162,7 @@ fn an_empty_image() {
     assert_eq!(counter_sys::header(&image), Err(1));
     assert_eq!(counter_sys::open(&image, m), Err(1));
     assert_eq!(counter_sys::totals(&image, m), Err(1));
+    assert_eq!(counter_sys::program(&image, m), Err(1));
     assert_eq!(counter_sys::entry_at(&image, m, 9), Err(1));
     assert_eq!(counter_sys::lookup(&image, m, 9, &[0; 1025]), Err(1));
     assert_eq!(counter_sys::entries(&image, m, &mut []), Err(1));

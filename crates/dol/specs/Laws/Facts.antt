@@ -8,8 +8,15 @@ use native.Mathlib.Nat.{add-zero}
 use lib.ListN.{length, getD}
 use Rattle.dol.specs.declared.DolHeader.{DolHeader}
 use Rattle.endian.specs.Bytes.{be32}
+use Rattle.endian.specs.Laws.Stored.{Same, be32-same}
+use Rattle.refusal.specs.declared.Verdict.{Verdict}
+use Rattle.refusal.specs.declared.Verdict.the-variants.{Passed, Refused}
 use Rattle.window.specs.Window.{newWindow, countOf}
-use Rattle.dol.specs.Dol.{wordsAt, dolHeaderOf, largestOf, fileSizeOf}
+use Rattle.dol.specs.Dol.{wordsAt, dolHeaderOf, largestOf, fileSizeOf, dolAnswered}
+
+-- the same bytes, from a later place on
+same-later : (s s′ : List ℕ) (at k n : ℕ) → Same s s′ at n → (i : ℕ) → k + i < n → getD s (at + k + i) 0 ≡ getD s′ (at + k + i) 0
+same-later s s′ at k n h i l = let e : at + k + i ≡ at + (k + i) = omega arith in rw e (h (k + i) l)
 
 pub length-words : (s : List ℕ) (at n : ℕ) → length (wordsAt s at n) ≡ n
 unfolding wordsAt
@@ -22,6 +29,32 @@ unfolding wordsAt
 getD-words s at zero i h = absurd (omega arith)
 getD-words s at (suc n) zero h = let e : at + 4 * zero ≡ at = omega arith in rw e
 getD-words s at (suc n) (suc i) h = let e : at + 4 + 4 * i ≡ at + 4 * suc i = omega arith in rw e at (getD-words s (at + 4) n i (omega arith))
+
+-- a header is its 0xE4 bytes
+words-same : (s s′ : List ℕ) (at n : ℕ) → Same s s′ at (4 * n) → wordsAt s at n ≡ wordsAt s′ at n
+unfolding wordsAt
+words-same s s′ at zero h = refl
+words-same s s′ at (suc n) h =
+    rw (be32-same s s′ at (λ i l. h i (omega arith)), words-same s s′ (at + 4) n (λ i l. same-later s s′ at 4 (4 * suc n) h i (omega arith)))
+
+pub header-same : (s s′ : List ℕ) (at : ℕ) → Same s s′ at 0xE4 → dolHeaderOf s at ≡ dolHeaderOf s′ at
+header-same s s′ at h =
+    rw (
+      words-same s s′ at 7 (λ i l. h i (omega arith)),
+      words-same s s′ (at + 0x1C) 11 (λ i l. same-later s s′ at 0x1C 0xE4 h i (omega arith)),
+      words-same s s′ (at + 0x48) 7 (λ i l. same-later s s′ at 0x48 0xE4 h i (omega arith)),
+      words-same s s′ (at + 0x64) 11 (λ i l. same-later s s′ at 0x64 0xE4 h i (omega arith)),
+      words-same s s′ (at + 0x90) 7 (λ i l. same-later s s′ at 0x90 0xE4 h i (omega arith)),
+      words-same s s′ (at + 0xAC) 11 (λ i l. same-later s s′ at 0xAC 0xE4 h i (omega arith)),
+      be32-same s s′ (at + 0xD8) (λ i l. same-later s s′ at 0xD8 0xE4 h i (omega arith)),
+      be32-same s s′ (at + 0xDC) (λ i l. same-later s s′ at 0xDC 0xE4 h i (omega arith)),
+      be32-same s s′ (at + 0xE0) (λ i l. same-later s s′ at 0xE0 0xE4 h i (omega arith)),
+    )
+
+-- the verdict of an answer
+pub answered-verdict : (v : Verdict) (h : DolHeader) → dolAnswered v h .verdict ≡ v
+answered-verdict Passed h = refl
+answered-verdict (Refused c) h = refl
 
 -- no sum passes the largest, and it passes no number that every sum keeps to
 pub sum-le-largest : (os ss : List ℕ) (i : ℕ) → i < length os → i < length ss → getD os i 0 + getD ss i 0 ≤ largestOf os ss

@@ -9,13 +9,18 @@ use Rattle.ledger.specs.Spared.{numberAfter}
 use Rattle.ledger.specs.Laws.SparedLaws.{spared, begins}
 use Rattle.ledger.specs.Laws.Kept.{Kept}
 use Rattle.ledger.specs.Laws.Sequence.{start, along, no-byte-twice, sum, used-reported, free-reported, free-listed, entry-least, entry-known, entry-first, entry-place, still-there}
+use Rattle.ledger.specs.Laws.Opened.{opened}
+use Rattle.ledger.specs.Laws.ProgramKept.{ProgramKept}
+use Rattle.ledger.specs.Laws.ProgramAfter.{program-along, same-program, program-reported}
 use Rattle.ledger.specs.Theorem.{Demand3, AnyList, UnnamedStays}
 
 pub demand-3 : AnyList
-demand-3 image w₀ w calls b e h a = claim (imageAfterAll calls image) (ledgerAfter (reportsOf calls image) (firstLedger image)) (along w calls image (firstLedger image) a (start image w₀ w h b e))
+demand-3 image w₀ w calls b e h a =
+    let k : Kept w image (firstLedger image) = start image w₀ w h b e in
+    claim (imageAfterAll calls image) (ledgerAfter (reportsOf calls image) (firstLedger image)) (along w calls image (firstLedger image) a k) (program-along w calls image (firstLedger image) a k)
   where
-    claim : (last : List ℕ) (l : Ledger) → Kept w last l → Demand3 w last l
-    claim last l k = record {
+    claim : (last : List ℕ) (l : Ledger) → Kept w last l → ProgramKept image last → Demand3 w image last l
+    claim last l k p = record {
       opens = k .opens;
       tree = k .shape;
       apart = no-byte-twice w last l k;
@@ -23,6 +28,8 @@ demand-3 image w₀ w calls b e h a = claim (imageAfterAll calls image) (ledgerA
       used-reported = used-reported w last l k;
       free-reported = free-reported w last l k;
       free-listed = free-listed w last l k;
+      program = same-program image last (opened image w₀ e b) p;
+      program-reported = program-reported w image last (k .opens) p;
       files = λ n nm offset size q. record {
         m-size = entry-least w last l k n nm offset size q;
         m-bytes = entry-known w last l k n nm offset size q;

@@ -11,7 +11,8 @@ use Rattle.tree.specs.Lookup.{isDirectory, nextOf}
 use Rattle.tree.specs.Insert.{later, splice, insertAt, placed, setPlace}
 use Rattle.space.specs.declared.DiscRegion.{DiscRegion}
 use Rattle.space.specs.Used.{nonempty, usedRegions}
-use Rattle.opening.specs.Opening.{regionOf}
+use Rattle.program.specs.Program.{programBehind}
+use Rattle.opening.specs.Opening.{nodesIn, regionOf}
 use Rattle.edits.specs.Edits.{noPlace}
 use Rattle.ledger.specs.Ledger.{bare, filesBefore, putIn}
 
@@ -39,10 +40,17 @@ nonempty-files [] = refl
 nonempty-files (file nm offset size ∷ xs) = rw (nonempty-files xs)
 nonempty-files (directory nm next ∷ xs) = nonempty-files xs
 
--- LAW: the used regions of a tree are those of its files
-pub used-files : (t : ℕ) (xs : List Node) → usedRegions t (map regionOf xs) ≡ usedRegions t (filesOf xs)
+-- LAW: the used regions of a tree are those of its files, whatever else is used
+pub used-files : (t : ℕ) (p : DiscRegion) (xs : List Node) → usedRegions t (p ∷ map regionOf xs) ≡ usedRegions t (p ∷ filesOf xs)
 unfolding nonempty
-used-files t xs = rw (nonempty-files xs)
+used-files t p xs = rw (nonempty-files xs)
+
+-- the files of an image as regions, and what lies behind its table: the program, which is number 0, and the files
+abbrev pub filesIn : List ℕ → List DiscRegion
+filesIn image = filesOf (nodesIn image)
+
+abbrev pub placesIn : List ℕ → List DiscRegion
+placesIn image = programBehind image ∷ filesIn image
 
 -- ---- an entry put in
 
@@ -82,9 +90,9 @@ nonempty-put-in zero a fs = refl
 nonempty-put-in (suc j) a [] = refl
 nonempty-put-in (suc j) a (x ∷ fs) = rw (nonempty-put-in j a fs)
 
-pub used-put-in : (t j a : ℕ) (fs : List DiscRegion) → usedRegions t (putIn j (record { offset = a; size = 0 }) fs) ≡ usedRegions t fs
+pub used-put-in : (t j a : ℕ) (p : DiscRegion) (fs : List DiscRegion) → usedRegions t (p ∷ putIn j (record { offset = a; size = 0 }) fs) ≡ usedRegions t (p ∷ fs)
 unfolding nonempty
-used-put-in t j a fs = rw (nonempty-put-in j a fs)
+used-put-in t j a p fs = rw (nonempty-put-in j a fs)
 
 -- ---- a file's place
 

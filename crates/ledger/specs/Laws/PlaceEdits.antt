@@ -25,14 +25,14 @@ use Rattle.opening.specs.Opening.{nodesIn, freeOf, regionOf}
 use Rattle.edits.specs.Change.{Change, written, tableVerdict, Plan, nothing, change}
 use Rattle.edits.specs.Edits.{moveFile, resizeFile, noPlace, fileVerdict, relocated, relocateVerdict, planMove, resized, planElsewhere, planResize}
 use Rattle.ledger.specs.Ledger.{History, Ledger, filesBefore, newHistory, marked, lowered, entered}
-use Rattle.ledger.specs.Laws.Files.{files-at, files-count}
+use Rattle.ledger.specs.Laws.Files.{filesIn, files-at, files-count}
 use Rattle.ledger.specs.Laws.Apart.{region}
 use Rattle.ledger.specs.Laws.Histories.{True, trues-at, true-lowered, trues-set}
 use Rattle.ledger.specs.Laws.Bare.{before-bare, setPlace-bare, move-bare}
 use Rattle.ledger.specs.Laws.Opened.{Opened}
-use Rattle.ledger.specs.Laws.Room.{filesIn, room, Placeable, elsewhere, in-place}
+use Rattle.ledger.specs.Laws.Room.{room, Placeable, elsewhere, in-place}
 use Rattle.ledger.specs.Laws.Kept.{Kept, opened-kept}
-use Rattle.ledger.specs.Laws.Placed.{placeIn, numberIn, Placed, placed-opens, placed-tree, placed-trues, placed-true, placed-bytes, relocated-placed, resized-placed}
+use Rattle.ledger.specs.Laws.Placed.{placeIn, numberIn, placeNumber, Placed, placed-opens, placed-tree, placed-trues, placed-true, placed-bytes, relocated-placed, resized-placed}
 use Rattle.ledger.specs.Laws.Plans.{Good, good-planned, good-refused, good-cond}
 
 -- ---- a file's tests
@@ -68,7 +68,7 @@ module _ (w : ℕ) (image : List ℕ) (l : Ledger) (K : Kept w image l) (words b
     old-true = rw (files-at k (nodesIn image) isFile) at (trues-at image (filesIn image) (l .histories) (numberIn image k) (K .trues) (files-count k (nodesIn image) isFile))
 
     -- resized in some way
-    resized-kept : (c : Change) (new : DiscRegion) (free : Placeable image (numberIn image k) new) →
+    resized-kept : (c : Change) (new : DiscRegion) (free : Placeable image (placeNumber image k) new) →
         Placed w image l K words lent k isFile new free c → Kept w (written c image) (entered (resizeFile k (new .size)) l)
     resized-kept c new free p = record {
       bytes = placed-bytes w image l K words lent k isFile new free c p;
@@ -79,7 +79,7 @@ module _ (w : ℕ) (image : List ℕ) (l : Ledger) (K : Kept w image l) (words b
     }
 
     -- moved to a place of the same size
-    moved-kept : (c : Change) (to : ℕ) (free : Placeable image (numberIn image k) (record { offset = to; size = placeIn image k .size })) →
+    moved-kept : (c : Change) (to : ℕ) (free : Placeable image (placeNumber image k) (record { offset = to; size = placeIn image k .size })) →
         Placed w image l K words lent k isFile (record { offset = to; size = placeIn image k .size }) free c →
         Kept w (written c image) (entered (moveFile k to) l)
     moved-kept c to free p =
@@ -95,7 +95,7 @@ module _ (w : ℕ) (image : List ℕ) (l : Ledger) (K : Kept w image l) (words b
         }
 
     -- elsewhere
-    pub free-else : (new : DiscRegion) → relocateVerdict (freeOf image) (placeIn image k) new ≡ Passed → Placeable image (numberIn image k) new
+    pub free-else : (new : DiscRegion) → relocateVerdict (freeOf image) (placeIn image k) new ≡ Passed → Placeable image (placeNumber image k) new
     free-else new v i h = let f = elsewhere image o (placeIn image k) new v i h in (f .0, f .1, λ j d. f .2 j)
 
     pub put-else : (new : DiscRegion) (v : relocateVerdict (freeOf image) (placeIn image k) new ≡ Passed) → new .offset < 2 ^ 32 → new .size < 2 ^ 32 →
@@ -103,13 +103,13 @@ module _ (w : ℕ) (image : List ℕ) (l : Ledger) (K : Kept w image l) (words b
         Placed w image l K words lent k isFile new (free-else new v) (relocated (nodesIn image) k (placeIn image k) new)
     put-else new v ho hn u =
         relocated-placed w image l K words lent k isFile new (free-else new v)
-        (λ i h g. elsewhere image o (placeIn image k) new v i h .2 (numberIn image k) (rw (files-at k (nodesIn image) isFile) g)) ho hn
+        (λ i h g. elsewhere image o (placeIn image k) new v i h .2 (placeNumber image k) (rw (files-at k (nodesIn image) isFile) g)) ho hn
         (room (relocated (nodesIn image) k (placeIn image k) new) image words bytes o u)
 
     -- the file's size, and where it is resized in place its offset, have 32 bits
     pub small-size : placeIn image k .size < 2 ^ 32
     small-size =
-        ⊎-elim (λ z. omega (arith, o .bounds .small, o .files .lie (numberIn image k) (placeIn image k .offset + placeIn image k .size - 1) (rw (files-at k (nodesIn image) isFile) (omega arith, omega arith)) .1))
+        ⊎-elim (λ z. omega (arith, o .bounds .small, o .places .lie (placeNumber image k) (placeIn image k .offset + placeIn image k .size - 1) (rw (files-at k (nodesIn image) isFile) (omega arith, omega arith)) .1))
         (λ z. omega arith) (lt-or-le 0 (placeIn image k .size))
 
     -- resized to the present size: nothing is written
@@ -130,16 +130,16 @@ module _ (w : ℕ) (image : List ℕ) (l : Ledger) (K : Kept w image l) (words b
 
     -- in place
     pub free-here : (n : ℕ) → (leb n (placeIn image k .size) || leb n (maxRegionSize (placeIn image k .offset) (placeIn image k .size) (freeOf image))) ≡ true →
-        Placeable image (numberIn image k) (record { offset = placeIn image k .offset; size = n })
+        Placeable image (placeNumber image k) (record { offset = placeIn image k .offset; size = n })
     free-here n v =
         let f = files-at k (nodesIn image) isFile in
-        rw f at (in-place image o (numberIn image k) n (files-count k (nodesIn image) isFile) (rw f v))
+        rw f at (in-place image o (placeNumber image k) n (omega (arith, files-count k (nodesIn image) isFile)) (rw f v))
 
-    pub small-offset : (n : ℕ) → Placeable image (numberIn image k) (record { offset = placeIn image k .offset; size = n }) →
+    pub small-offset : (n : ℕ) → Placeable image (placeNumber image k) (record { offset = placeIn image k .offset; size = n }) →
         (n ≡ placeIn image k .size → ⊥) → placeIn image k .offset < 2 ^ 32
     small-offset n free d =
         ⊎-elim (λ z. omega (arith, o .bounds .small, free (placeIn image k .offset) (omega arith, omega arith) .1))
-        (λ z. ⊎-elim (λ y. omega (arith, o .bounds .small, o .files .lie (numberIn image k) (placeIn image k .offset) (rw (files-at k (nodesIn image) isFile) (omega arith, omega arith)) .1))
+        (λ z. ⊎-elim (λ y. omega (arith, o .bounds .small, o .places .lie (placeNumber image k) (placeIn image k .offset) (rw (files-at k (nodesIn image) isFile) (omega arith, omega arith)) .1))
         (λ y. absurd (d (omega arith))) (lt-or-le 0 (placeIn image k .size))) (lt-or-le 0 n)
 
     here : (n : ℕ) → n < 2 ^ 32 → (n ≡ placeIn image k .size → ⊥) →

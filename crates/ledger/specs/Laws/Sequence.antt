@@ -1,5 +1,5 @@
 -- What holds at the start, along a list of calls, and what it comes to for the image at its end. Assumes nothing.
-use Prim.Native.Nat.{ℕ, _+_, _-_, _<_, _≤_}
+use Prim.Native.Nat.{ℕ, suc, _+_, _-_, _<_, _≤_}
 use mathlib.Core.Path.{_≡_, refl, sym, ap, _∙_}
 use mathlib.Core.Bool.{true, false, cond, not}
 use mathlib.Core.List.{List, [], _∷_, map}
@@ -20,7 +20,8 @@ use Rattle.refusal.specs.Laws.Tests.{and-left}
 use Rattle.space.specs.Laws.FreeLaws.{region-ext}
 use Rattle.space.specs.Laws.LayoutLaws.{inside-from, inside-to}
 use Rattle.free_space.specs.Listing.{regionRow, listingOf, listAfter}
-use Rattle.opening.specs.Opening.{nodesIn, regionOf, usedIn, usedOf, freeOf, opening}
+use Rattle.program.specs.Program.{programBehind}
+use Rattle.opening.specs.Opening.{nodesIn, regionOf, behindTable, usedIn, usedOf, freeOf, opening}
 use Rattle.opening.specs.Laws.OpeningLaws.{disc-filled}
 use Rattle.disc.specs.Calls.{totalsAnswer, freeAnswer, freeList, freeRegionsAnswer, freeRegionsList}
 use Rattle.disc.specs.declared.TotalsAnswer.the-variants.{Found}
@@ -28,12 +29,11 @@ use Rattle.edits.specs.Edits.{imageAfter, verdictOf}
 use Rattle.ledger.specs.Ledger.{History, Ledger, filesBefore, newHistory, historyOf, firstLedger, entered, ledgerAfter}
 use Rattle.ledger.specs.Runs.{Call, imageAfterAll, reportsOf, AllWithin}
 use Rattle.ledger.specs.Laws.Puts.{Fits, span-length}
-use Rattle.ledger.specs.Laws.Files.{namesOf, names-bare, files-at, files-count, entry-of}
+use Rattle.ledger.specs.Laws.Files.{filesIn, namesOf, names-bare, files-at, files-count, entry-of}
 use Rattle.ledger.specs.Laws.Apart.{region, apart-of}
 use Rattle.ledger.specs.Laws.Histories.{True, trues-at, trues-length, starts}
 use Rattle.ledger.specs.Laws.Bare.{before-bare}
 use Rattle.ledger.specs.Laws.Opened.{Opened, opened, more-words}
-use Rattle.ledger.specs.Laws.Room.{filesIn}
 use Rattle.ledger.specs.Laws.Kept.{Kept}
 use Rattle.ledger.specs.Laws.Steps.{step}
 
@@ -41,7 +41,7 @@ use Rattle.ledger.specs.Laws.Steps.{step}
 pub region-fits : (image : List ℕ) → Opened image → (k : ℕ) → Fits image (region (filesIn image) k .offset) (region (filesIn image) k .size)
 region-fits image o k z =
     let r : DiscRegion = region (filesIn image) k in
-    omega (arith, o .bounds .image-holds, o .files .lie k (r .offset + r .size - 1) (omega arith, omega arith) .1)
+    omega (arith, o .bounds .image-holds, o .places .lie (suc k) (r .offset + r .size - 1) (omega arith, omega arith) .1)
 
 pub start : (image : List ℕ) (w₀ w : ℕ) → w₀ ≤ w → AllBytes image → opening image w₀ ≡ Passed → Kept w image (firstLedger image)
 start image w₀ w h b e =
@@ -66,13 +66,17 @@ module _ (w : ℕ) (image : List ℕ) (l : Ledger) (k : Kept w image l) where
       apart-of (usedIn image) (and-left (pairwiseDisjoint (usedIn image)) (endBy (discEnd image) (usedIn image)) (o .regions)) i j n
       (inside-from (region (usedIn image) i) n a, inside-to (region (usedIn image) i) n a) (inside-from (region (usedIn image) j) n b, inside-to (region (usedIn image) j) n b)
 
-  pub sum : tableEnd image + totalSize (map regionOf (nodesIn image)) + totalSize (freeOf image) ≡ discEnd image
-  unfolding usedOf freeOf
-  sum = disc-filled image w (k .bytes) (k .opens)
+  used-is : usedOf image ≡ tableEnd image + programBehind image .size + totalSize (map regionOf (nodesIn image))
+  unfolding usedOf behindTable totalSize
+  used-is = omega arith
 
-  pub used-reported : totalsAnswer image w ≡ Found (record { «disc_end» = discEnd image; used = tableEnd image + totalSize (map regionOf (nodesIn image)) })
-  unfolding totalsAnswer usedOf
-  used-reported = rw (k .opens)
+  pub sum : tableEnd image + programBehind image .size + totalSize (map regionOf (nodesIn image)) + totalSize (freeOf image) ≡ discEnd image
+  unfolding freeOf
+  sum = rw (← used-is) (disc-filled image w (k .bytes) (k .opens))
+
+  pub used-reported : totalsAnswer image w ≡ Found (record { «disc_end» = discEnd image; used = tableEnd image + programBehind image .size + totalSize (map regionOf (nodesIn image)) })
+  unfolding totalsAnswer
+  used-reported = rw (k .opens, used-is)
 
   pub free-reported : (room : ℕ) → freeRegionsAnswer image w room ≡ listingOf regionRow (freeOf image) room
   unfolding freeAnswer

@@ -2,7 +2,7 @@
 use Prim.Native.Nat.{ℕ, suc, _<_, _≤_}
 use mathlib.Core.Path.{_≡_, refl, sym, _∙_}
 use mathlib.Core.Bool.{true, false, not}
-use mathlib.Core.List.{List, [], map}
+use mathlib.Core.List.{List, [], _∷_, map}
 use native.Mathlib.Omega.{arith}
 use borrow.Author.Tests.{leb-false, not-false}
 use lib.ListN.{length, getD}
@@ -17,17 +17,18 @@ use Rattle.tree.specs.Lookup.{isDirectory, components, childOf}
 use Rattle.tree.specs.Insert.{insertAt, emptyFile, emptyDirectory}
 use Rattle.tree.specs.Laws.InsertLaws.{Fresh, insert-sound}
 use Rattle.space.specs.Used.{usedRegions}
+use Rattle.program.specs.Program.{programBehind}
 use Rattle.opening.specs.Opening.{nodesIn}
 use Rattle.edits.specs.Change.{written, tableVerdict, change}
 use Rattle.edits.specs.Edits.{insertFile, insertDirectory, makeDirectories, tableOnly, newNumber, isFound, insertVerdict, planInsert, Made, stopped, made, make, planMade, planMakeDirectories}
 use Rattle.ledger.specs.Ledger.{Ledger, bare, filesBefore, newHistory, putIn, madeNodes, entered}
 use Rattle.ledger.specs.Laws.Written.{newEnd}
-use Rattle.ledger.specs.Laws.Files.{placeOf, filesOf, used-put-in, insert-directory, insert-file}
+use Rattle.ledger.specs.Laws.Files.{placeOf, filesOf, filesIn, placesIn, used-put-in, insert-directory, insert-file}
 use Rattle.ledger.specs.Laws.Histories.{trues-put-in, true-new}
 use Rattle.ledger.specs.Laws.Bare.{before-bare, next-bare, insert-bare, made-bare}
 use Rattle.ledger.specs.Laws.Making.{directory-of, made-same, made-good}
 use Rattle.ledger.specs.Laws.Opened.{Opened}
-use Rattle.ledger.specs.Laws.Room.{filesIn, room}
+use Rattle.ledger.specs.Laws.Room.{room}
 use Rattle.ledger.specs.Laws.Kept.{Kept, opened-kept, Tabled, tabled}
 use Rattle.ledger.specs.Laws.Plans.{Good, good-planned, good-refused}
 
@@ -64,7 +65,7 @@ module _ (w : ℕ) (image : List ℕ) (l : Ledger) (K : Kept w image l) (words b
   o = opened-kept w image l K
 
   on-table : (new : List Node) → WellFormed new → tableVerdict (tableOnly new) image words bytes ≡ Passed →
-      usedRegions (newEnd (tableOnly new) image) (filesOf new) ≡ usedRegions (newEnd (tableOnly new) image) (filesIn image) → Tabled w image new (l .histories) (written (tableOnly new) image)
+      usedRegions (newEnd (tableOnly new) image) (programBehind image ∷ filesOf new) ≡ usedRegions (newEnd (tableOnly new) image) (placesIn image) → Tabled w image new (l .histories) (written (tableOnly new) image)
   on-table new wf v same = tabled w image l K words lent new wf (room (tableOnly new) image words bytes o v) same
 
   -- the files stay as they are
@@ -97,7 +98,7 @@ module _ (w : ℕ) (image : List ℕ) (l : Ledger) (K : Kept w image l) (words b
       let new : List Node = insertAt p (emptyFile nm) (nodesIn image) in
       let wf : WellFormed new = inserted-well (nodesIn image) p nm (o .well) i (emptyFile nm) (omega arith, omega arith) refl in
       let f : filesOf new ≡ putIn (filesBefore q (nodesIn image)) (record { offset = 0; size = 0 }) (filesIn image) = insert-file placeOf p nm 0 0 (nodesIn image) in
-      let t = on-table new wf u (rw f (used-put-in (newEnd (tableOnly new) image) (filesBefore q (nodesIn image)) 0 (filesIn image))) in
+      let t = on-table new wf u (rw f (used-put-in (newEnd (tableOnly new) image) (filesBefore q (nodesIn image)) 0 (programBehind image) (filesIn image))) in
       let n : filesBefore (newNumber (l .nodes) p) (l .nodes) ≡ filesBefore q (nodesIn image) = rw (next-is p, ← K .shape) (before-bare q (nodesIn image)) in
       record {
         bytes = t .bytes;

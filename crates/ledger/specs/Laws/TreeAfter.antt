@@ -1,4 +1,5 @@
--- Of every edit: if it is accepted, the tree read from the image afterwards is the one that it planned, offsets included. Assumes nothing.
+-- Of every edit: if it is accepted, the tree read from the image afterwards is the one that it planned, offsets included, and the program is the
+-- same, byte for byte. Assumes nothing.
 use Prim.Native.Nat.{ℕ, _^_, _<_, _≤_}
 use mathlib.Core.Path.{_≡_, refl}
 use mathlib.Core.Bool.{Bool, true, false, cond, _||_}
@@ -9,10 +10,10 @@ use lib.ListN.{length, getD}
 use lib.Dec.{ltb, leb, eqb}
 use Rattle.endian.specs.Bytes.{AllBytes}
 use Rattle.refusal.specs.declared.Refusal.{Refusal}
-use Rattle.refusal.specs.declared.Refusal.the-variants.{LimitOrMemory, NoSuchEntry}
+use Rattle.refusal.specs.declared.Refusal.the-variants.{LimitOrMemory, InvalidNameByte, NoSuchEntry}
 use Rattle.refusal.specs.declared.Verdict.{Verdict}
 use Rattle.refusal.specs.declared.Verdict.the-variants.{Passed, Refused}
-use Rattle.refusal.specs.Refusal.{refuse, first}
+use Rattle.refusal.specs.Refusal.{refuse, first, isRefused}
 use Rattle.refusal.specs.Laws.Chains.{refuse-passed, first-passed}
 use Rattle.refusal.specs.Laws.Tests.{or-false}
 use Rattle.tree.specs.Table.{Node, none}
@@ -31,8 +32,9 @@ use Rattle.ledger.specs.Ledger.{firstLedger}
 use Rattle.ledger.specs.Runs.{Passable}
 use Rattle.ledger.specs.Laws.Opened.{Opened, opened, nodes-written}
 use Rattle.ledger.specs.Laws.Room.{room}
-use Rattle.ledger.specs.Laws.Kept.{Kept, table-safe}
-use Rattle.ledger.specs.Laws.Placed.{placeIn, resized-placed}
+use Rattle.ledger.specs.Laws.Kept.{Kept, table-safe, table-spares}
+use Rattle.ledger.specs.Laws.ProgramKept.{ProgramKept, program-kept}
+use Rattle.ledger.specs.Laws.Placed.{placeIn, resized-placed, placed-tree, placed-program}
 use Rattle.ledger.specs.Laws.Making.{made-good}
 use Rattle.ledger.specs.Laws.TableEdits.{insertable, inserted-well}
 use Rattle.ledger.specs.Laws.PlaceEdits.{is-file, free-else, put-else, small-size, free-here, small-offset}
@@ -45,12 +47,15 @@ planTree nothing nodes = nodes
 planTree (change k c) nodes = c .nodes
 
 module _ (image : List ℕ) (words bytes : ℕ) where
-  -- a plan that passes its tests leaves its tree in the image
+  -- a plan that passes its tests leaves its tree in the image, and the program as it was
   abbrev Arrives : Plan → Type 0
-  Arrives p = planVerdict p image words bytes ≡ Passed → nodesIn (planImage p image) ≡ planTree p (nodesIn image)
+  Arrives p = planVerdict p image words bytes ≡ Passed → (nodesIn (planImage p image) ≡ planTree p (nodesIn image)) × ProgramKept image (planImage p image)
+
+  nothing-done : ProgramKept image image
+  nothing-done = record { len = refl; offset = refl; program = refl; bytes = λ i h. refl }
 
   arrives-refused : (c : Refusal) → Arrives (refused (Refused c))
-  arrives-refused c e = refl
+  arrives-refused c e = (refl, nothing-done)
 
   arrives-planned : (v : Verdict) (p : Plan) → (v ≡ Passed → Arrives p) → Arrives (planned v p)
   arrives-planned Passed p f = f refl
@@ -75,7 +80,8 @@ module _ (image : List ℕ) (words bytes : ℕ) where
     on-table : (new : List Node) → WellFormed new → (number : ℕ) → Arrives (change number (tableOnly new))
     on-table new wf number v =
         let r = room (tableOnly new) image words bytes o v in
-        nodes-written (tableOnly new) image (table-safe words image (firstLedger image) K words same new wf r) words words same (r .within)
+        let s = table-safe words image (firstLedger image) K words same new wf r in
+        (nodes-written (tableOnly new) image s words words same (r .within), program-kept (tableOnly new) image o s (table-spares words image (firstLedger image) K words same new wf r 0))
 
     insert-file : (p : ℕ) (nm : List ℕ) → Arrives (planInsert (λ q. emptyFile nm) (nodesIn image) p nm)
     insert-file p nm =
@@ -98,7 +104,7 @@ module _ (image : List ℕ) (words bytes : ℕ) where
       where
         go : (m : Made) → make (nodesIn image) [] from false (components path) ≡ m → from < length (nodesIn image) → Arrives (planMade m)
         go (stopped c) q h = arrives-refused c
-        go (made new k true) q h = λ z. refl
+        go (made new k true) q h = arrives-refused InvalidNameByte
         go (made new k false) q h = on-table new (made-good (nodesIn image) from (components path) new k (o .well) h q) k
 
     -- ---- a file's place is changed
@@ -107,7 +113,7 @@ module _ (image : List ℕ) (words bytes : ℕ) where
       move-to : (new : DiscRegion) → relocateVerdict (freeOf image) (placeIn image k) new ≡ Passed → new .offset < 2 ^ 32 → new .size < 2 ^ 32 → Arrives (change k (relocated (nodesIn image) k (placeIn image k) new))
       move-to new v ho hn u =
           let p = put-else words image (firstLedger image) K words bytes same k isFile new v ho hn u in
-          nodes-written (relocated (nodesIn image) k (placeIn image k) new) image (p .safe) words words same (p .room .within)
+          (placed-tree words image (firstLedger image) K words same k isFile new (free-else words image (firstLedger image) K words bytes same k isFile new v) _ p, placed-program words image (firstLedger image) K words same k isFile new (free-else words image (firstLedger image) K words bytes same k isFile new v) _ p)
 
       stay : (n : ℕ) → n < 2 ^ 32 → (n ≡ placeIn image k .size → ⊥) → (leb n (placeIn image k .size) || leb n (maxRegionSize (placeIn image k .offset) (placeIn image k .size) (freeOf image))) ≡ true →
           Arrives (change k (resized (nodesIn image) k (placeIn image k) n))
@@ -116,7 +122,7 @@ module _ (image : List ℕ) (words bytes : ℕ) where
           let free = free-here words image (firstLedger image) K words bytes same k isFile n v in
           let c : Change = resized (nodesIn image) k (placeIn image k) n in
           let p = resized-placed words image (firstLedger image) K words same k isFile new free refl (small-offset words image (firstLedger image) K words bytes same k isFile n free d) hn (room c image words bytes o u) in
-          nodes-written c image (p .safe) words words same (p .room .within)
+          (placed-tree words image (firstLedger image) K words same k isFile new free c p, placed-program words image (firstLedger image) K words same k isFile new free c p)
 
       elsewhere : (n : ℕ) → n < 2 ^ 32 → placeIn image k .size < n → (a : Allocation) → Arrives (planElsewhere (nodesIn image) (freeOf image) k (placeIn image k) n a)
       elsewhere n hn d (allocation.Refused c) = arrives-refused c
@@ -143,7 +149,7 @@ module _ (image : List ℕ) (words bytes : ℕ) where
         let in₂ : Plan = planElsewhere (nodesIn image) (freeOf image) k old n (allocationOf 0x8000 n (freeOf image)) in
         arrives-planned (fileVerdict (nodesIn image) k) _ (λ v.
         let isFile = is-file (nodesIn image) k v in
-        arrives-cond (eqb n (old .size)) nothing (cond t in₁ in₂) (λ q u. refl)
+        arrives-cond (eqb n (old .size)) nothing (cond t in₁ in₂) (λ q u. (refl, nothing-done))
         (λ q. arrives-cond t in₁ in₂ (stay k isFile n h (eqb-false n (old .size) q))
         (λ g. elsewhere k isFile n h (leb-false n (old .size) (or-false (leb n (old .size)) _ g .0)) (allocationOf 0x8000 n (freeOf image)))))
 
@@ -155,13 +161,24 @@ module _ (image : List ℕ) (words bytes : ℕ) where
     arrives (resizeFile k n) h = resize k n h
     arrives rewrite h = on-table (nodesIn image) (o .well) 0
 
--- THEOREM: of every edit: if it is accepted, the tree read from the image afterwards is the planned one
-pub tree-after : (ed : Edit) (image : List ℕ) (words bytes : ℕ) → AllBytes image → Passable ed → verdictOf ed image words bytes ≡ Passed →
-    nodesIn (imageAfter ed image words bytes) ≡ planTree (planOf ed image) (nodesIn image)
-unfolding imageAfter verdictOf
-tree-after ed image words bytes b h v =
-    let v′ = first-passed (opening image words) _ v in
-    rw v (arrives image words bytes b (v′ .0) ed h (v′ .1))
+module _ (ed : Edit) (image : List ℕ) (words bytes : ℕ) (b : AllBytes image) (h : Passable ed) where
+  after : verdictOf ed image words bytes ≡ Passed → (nodesIn (planImage (planOf ed image) image) ≡ planTree (planOf ed image) (nodesIn image)) × ProgramKept image (planImage (planOf ed image) image)
+  unfolding verdictOf
+  after v = let v′ = first-passed (opening image words) _ v in arrives image words bytes b (v′ .0) ed h (v′ .1)
+
+  -- THEOREM: of every edit: if it is accepted, the tree read from the image afterwards is the planned one
+  pub tree-after : verdictOf ed image words bytes ≡ Passed → nodesIn (imageAfter ed image words bytes) ≡ planTree (planOf ed image) (nodesIn image)
+  unfolding imageAfter
+  tree-after v = rw v (after v .0)
+
+  -- THEOREM: "no edit alters its bytes": accepted or refused, it leaves the program as it was
+  pub program-after : ProgramKept image (imageAfter ed image words bytes)
+  unfolding imageAfter
+  program-after = go (verdictOf ed image words bytes) refl
+    where
+      go : (v : Verdict) → verdictOf ed image words bytes ≡ v → ProgramKept image (cond (isRefused v) image (planImage (planOf ed image) image))
+      go Passed e = after e .1
+      go (Refused c) e = nothing-done image words bytes
 
 -- THEOREM: a rewrite leaves the tree as it is
 pub rewritten : (image : List ℕ) (words bytes : ℕ) → AllBytes image → verdictOf rewrite image words bytes ≡ Passed → nodesIn (imageAfter rewrite image words bytes) ≡ nodesIn image

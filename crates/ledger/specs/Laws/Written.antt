@@ -138,16 +138,15 @@ module _ (c : Change) (image : List ℕ) (s : Safe c image) where
       let l : i < fstOffset image = omega (arith, s .bounds .after-header) in
       at₄ i (not-zeroed i (omega arith)) ∙ below₃ i h ∙ below₂ i l ∙ at₁ i (not-copied i l)
 
-  header-high : (i : ℕ) → 0x42C ≤ i → i < 0x440 → getD (written c image) i 0 ≡ getD image i 0
-  header-high i h k =
-      let l : i < fstOffset image = omega (arith, s .bounds .after-header) in
-      at₄ i (not-zeroed i (omega arith)) ∙ behind₃ i h ∙ below₂ i l ∙ at₁ i (not-copied i l)
+  -- and what lies between it and the table
+  pub system-written : (i : ℕ) → 0x42C ≤ i → i < fstOffset image → getD (written c image) i 0 ≡ getD image i 0
+  system-written i h l = at₄ i (not-zeroed i (omega arith)) ∙ behind₃ i h ∙ below₂ i l ∙ at₁ i (not-copied i l)
 
   pub field-low : (at : ℕ) → at + 4 ≤ 0x428 → be32 (written c image) at ≡ be32 image at
   field-low at h = be32-same (written c image) image at (λ i l. header-low (at + i) (omega arith))
 
   pub field-high : (at : ℕ) → 0x42C ≤ at → at + 4 ≤ 0x440 → be32 (written c image) at ≡ be32 image at
-  field-high at h k = be32-same (written c image) image at (λ i l. header-high (at + i) (omega arith) (omega arith))
+  field-high at h k = be32-same (written c image) image at (λ i l. system-written (at + i) (omega arith) (omega (arith, s .bounds .after-header)))
 
   pub fst-offset-written : fstOffset (written c image) ≡ fstOffset image
   fst-offset-written = field-low 0x424 (omega arith)

@@ -5,14 +5,14 @@ use native.Mathlib.Omega.{arith}
 use denote.Ref.{now}
 use lib.ListN.{length}
 use Rattle.tree.specs.Table.{count}
-use Prim.Native.Nat.{_+_, _*_, _≤_}
-use Rattle.header.specs.Verdicts.{fstSize}
+use Prim.Native.Nat.{_+_, _*_, _<_, _≤_}
+use Rattle.header.specs.Verdicts.{fstSize, discEnd}
 use Rattle.header.specs.Laws.FieldTests.{Bounded}
 use Rattle.opening.specs.Opening.{tableOf, usedIn}
 use Rattle.refusal.specs.declared.Verdict.the-variants.{Passed}
-use Rattle.opening.specs.Inner.Prepared.{UsedWords}
+use Rattle.opening.specs.Inner.Prepared.{SameUse, UsedWords}
 use Rattle.opening.specs.Laws.OpeningLaws.{Readable, readable}
-use Rattle.opening.proofs.Tests.{part-table, count-is, collect-asks, used-words, end-fits, root-inside, table-end-fits, table-inside, regions-room, regions-full, left-passed, left-words, left-refused}
+use Rattle.opening.proofs.Tests.{part-table, part-holds, count-is, some-entry, entries-inside, words-enough, used-words, end-fits, root-inside, table-end-fits, table-inside, regions-room, regions-full, left-passed, left-words, left-refused}
 use Rattle.space.specs.Inner.Words.{AllNonempty}
 use Rattle.space.specs.Inner.Sort.{regionsIn}
 use borrow.Author.Needs.{needs}
@@ -39,18 +39,30 @@ start c = search
 counted : (c : tie.After-read-u32) → c .read-u32 .result ≡ count (tableOf (now (start c .args .image)))
 counted c = count-is _ _ _ _ (known (search)) (search) (c .read-u32 .ensures)
 
+some : (c : tie.After-read-u32) → 0 < c .read-u32 .result
+some c = some-entry _ _ _ (known (search)) (counted c)
+
+inside : (c : tie.After-read-u32) → 12 * c .read-u32 .result ≤ length (tableOf (now (start c .args .image)))
+inside c = entries-inside _ _ _ (known (search)) (counted c)
+
+enough : (c : tie.After-read-u32) → 2 * (c .read-u32 .result + 1) ≤ length (now (start c .args .words))
+enough c = words-enough _ _ _ (known (search)) (counted c)
+
 -- the regions that were collected
 abbrev read : tie.After-collect → tie.After-read-u32
 read c = search
 
-used : (c : tie.After-collect) → regionsIn (c .collect .last .1 .0) 0 (c .collect .result) ≡ usedIn (now (start (read c) .args .image))
-used c = used-words _ _ _ _ _ _ (search part-table) (search) (counted (read c)) (c .collect .ensures .0)
+used : (c : tie.After-collect) → SameUse (discEnd (now (start (read c) .args .image))) (regionsIn (c .collect .last .1 .0) 0 (c .collect .result)) (usedIn (now (start (read c) .args .image)))
+used c = used-words _ _ _ _ _ _ _ (search part-table) (search) (counted (read c)) (search) (c .collect .ensures)
+
+few : (c : tie.After-collect) → c .collect .result ≤ read c .read-u32 .result + 2
+few c = omega (arith, c .collect .ensures .bound)
 
 room : (c : tie.After-collect) → 2 * (read c .read-u32 .result + 2 + c .collect .result) ≤ length (c .collect .last .1 .0)
-room c = regions-room _ _ _ _ _ (known (search)) (counted (read c)) (c .collect .ensures .1) (c .collect .kept .1 .0)
+room c = regions-room _ _ _ _ _ (known (search)) (counted (read c)) (c .collect .ensures .bound) (c .collect .kept .1 .0)
 
 filled : (c : tie.After-collect) → AllNonempty (regionsIn (c .collect .last .1 .0) 0 (c .collect .result))
-filled c = regions-full _ _ _ (used c)
+filled c = regions-full _ _ _ _ _ _ _ (search part-table) (search) (counted (read c)) (search) (c .collect .ensures)
 
 -- the regions in order, once the test passed
 abbrev collected : tie.After-check-regions → tie.After-collect
@@ -96,13 +108,13 @@ cast-collect : tie.Need-cast-collect
 cast-collect c = search (table-end-fits, bounded)
 
 collect-requires : tie.Need-collect-requires
-collect-requires c κs = collect-asks _ _ _ _ _ (search known) (search) (search) (search counted)
+collect-requires c κs = (search some, search (part-holds, inside), search enough)
 
 add-check-regions : tie.Need-add-check-regions
 add-check-regions c = search needs
 
 check-regions-requires : tie.Need-check-regions-requires
-check-regions-requires c κs = (omega arith, search room, search filled)
+check-regions-requires c κs = (search few, search room, search filled)
 
 enum-told : tie.Need-enum-told
 enum-told c = search needs

@@ -1,58 +1,54 @@
--- `opening::collect` meets its contract. The invariant of its loop: the words hold the regions of the table and of the entries passed.
--- Assumes nothing.
-use mathlib.Core.Path.{_≡_}
-use Prim.Native.Nat.{_-_, _≤_}
-use native.Mathlib.Omega.{arith}
-use lib.ListN.{length}
+-- `opening::collect` meets its contract: the table, the entries before the program's turn, the program, the other entries. Assumes nothing.
+use mathlib.Core.Path.{refl}
+use Rattle.opening.proofs.UsedRegions.{used-collected}
 use borrow.Author.Needs.{needs}
-use Rattle.space.specs.Inner.Sort.{regionsIn}
-use Rattle.space.specs.Used.{usedRegions}
-use Rattle.opening.specs.Inner.Prepared.{entryRegions}
-use Rattle.opening.proofs.UsedRegions.{collect-start, collect-turn, collect-end}
 use Rattle.opening.proofs.collect.Statement.{statement}
 use Rattle.opening.proofs.collect.Tie as tie
 
-abbrev Inv-loop : tie.InvT-loop
-Inv-loop table words₀ count table-end m₀ k₀ words m k = (1 ≤ k) × (k ≤ count) × (m ≤ k) × (length words ≡ length words₀) × (regionsIn words 0 m ≡ usedRegions table-end (entryRegions table 1 (k - 1)))
+add-region-requires : tie.Need-add-region-requires
+add-region-requires c κs = search needs
 
-abbrev μ-loop : tie.MeasureT-loop
-μ-loop table words₀ count table-end m₀ k₀ words m k = count - k
+wide-requires : tie.Need-wide-requires
+wide-requires c κs = search needs
 
-add-region-requires : tie.Need-add-region-requires Inv-loop μ-loop
-add-region-requires c κs = omega arith
+collect-below-requires : tie.Need-collect-below-requires
+collect-below-requires c κs = search needs
 
-loop-holds : tie.Need-loop-holds Inv-loop μ-loop
-loop-holds c = (omega arith, omega arith, omega arith, search needs, search collect-start)
+add-region-requires-2 : tie.Need-add-region-requires-2
+add-region-requires-2 c κs = search needs
 
-add-entry-requires : tie.Need-add-entry-requires Inv-loop μ-loop
-add-entry-requires c κs = omega arith
+collect-below-requires-2 : tie.Need-collect-below-requires-2
+collect-below-requires-2 c κs = search needs
 
-add-k : tie.Need-add-k Inv-loop μ-loop
-add-k c = omega arith
-
-loop-less : tie.Need-loop-less Inv-loop μ-loop
-loop-less c = omega arith
-
-loop-again : tie.Need-loop-again Inv-loop μ-loop
-loop-again c = (omega arith, omega arith, omega arith, search needs, search collect-turn)
-
-same-length : tie.Need-same-length Inv-loop μ-loop
+same-length : tie.Need-same-length
 same-length c = search needs
 
-returns : tie.Need-returns Inv-loop μ-loop
-returns c = (search collect-end, omega arith)
+-- after each of the four steps
+abbrev table : tie.After-slice-known5 → tie.After-add-region
+table c = search
+
+abbrev early : tie.After-slice-known5 → tie.After-collect-below
+early c = search
+
+abbrev program : tie.After-slice-known5 → tie.After-add-region2
+program c = search
+
+abbrev late : tie.After-slice-known5 → tie.After-collect-below2
+late c = search
+
+returns : tie.Need-returns
+returns c =
+    used-collected _ _ _ _ _ _ _ _ _ _ _ _ _ _ _ _ (table c .add-region .ensures) (early c .collect-below .ensures .0 .0) (early c .collect-below .ensures .0 .1) (program c .add-region2 .ensures)
+    (late c .collect-below2 .ensures .0 .0) (late c .collect-below2 .ensures .1) refl
 
 pub collect-spec : {M : Type 1} → statement M
 collect-spec =
     tie.close
     (tie.spec
-    Inv-loop
-    μ-loop
     add-region-requires
-    loop-holds
-    add-entry-requires
-    add-k
-    loop-less
-    loop-again
+    wide-requires
+    collect-below-requires
+    add-region-requires-2
+    collect-below-requires-2
     same-length
     returns)

@@ -1,4 +1,4 @@
--- `opening::prepare` meets its contract: a refusal before 14 is opening's, and otherwise `check_used` gives the answer.
+-- `opening::prepare` meets its contract: a refusal before 24 is opening's, and otherwise `check_program` gives the answer.
 -- Assumes nothing.
 use Rattle.opening.proofs.Tests.{refused-before, passed-before}
 use borrow.Author.Needs.{needs}
@@ -17,8 +17,8 @@ returns c = search refused-before
 enum-told : tie.Need-enum-told
 enum-told c = search needs
 
-check-used-requires : tie.Need-check-used-requires
-check-used-requires c κs = search passed-before
+check-program-requires : tie.Need-check-program-requires
+check-program-requires c κs = search passed-before
 
 same-length : tie.Need-same-length
 same-length c = search needs
@@ -34,6 +34,6 @@ prepare-spec =
     enum-known-verdict
     returns
     enum-told
-    check-used-requires
+    check-program-requires
     same-length
     returns-2)

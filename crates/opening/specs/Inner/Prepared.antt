@@ -1,5 +1,5 @@
 -- What the calls work on once the image is open: its used regions, in order, in the working words. Assumes nothing: these are definitions.
-use Prim.Native.Nat.{ℕ, zero, suc, _+_, _≤_}
+use Prim.Native.Nat.{ℕ, zero, suc, _+_, _-_, _≤_}
 use mathlib.Core.Path.{_≡_}
 use mathlib.Core.List.{List, [], _∷_, _++_}
 use lib.ListN.{length}
@@ -9,7 +9,8 @@ use Rattle.refusal.specs.Refusal.{first}
 use Rattle.header.specs.Verdicts.{headerVerdict, boundsVerdict, discEnd}
 use Rattle.tree.specs.Table.{nodeWith, kind, offsetOrParent, sizeOrNext, check}
 use Rattle.space.specs.declared.DiscRegion.{DiscRegion}
-use Rattle.space.specs.Used.{nonempty, totalSize}
+use Rattle.space.specs.Used.{nonempty, usedRegions, totalSize}
+use Rattle.space.specs.Layout.{disjointBelow}
 use Rattle.space.specs.Free.{freeRegions}
 use Rattle.space.specs.Inner.Sort.{regionsIn}
 use Rattle.space.specs.Inner.Words.{SortedDisjoint}
@@ -18,9 +19,9 @@ use Rattle.opening.specs.declared.Prepared.the-variants.{Ready, Refused}
 use Rattle.opening.specs.Opening.{tableOf, regionOf, opening, freeOf, usedOf}
 use Rattle.refusal.specs.declared.Verdict.the-variants.{Passed, Refused}
 
--- the tests before 14
-abbrev pub verdictBefore14 : List ℕ → ℕ → Verdict
-verdictBefore14 image words = first (headerVerdict image) (first (boundsVerdict image) (check (tableOf image) words))
+-- the tests before 24 and 14
+abbrev pub verdictBefore24 : List ℕ → ℕ → Verdict
+verdictBefore24 image words = first (headerVerdict image) (first (boundsVerdict image) (check (tableOf image) words))
 
 -- the region of entry k, whatever its name
 abbrev pub entryRegion : List ℕ → ℕ → DiscRegion
@@ -35,6 +36,26 @@ entryRegions tab k (suc n) = entryRegion tab k ∷ entryRegions tab (suc k) n
 pub record AddedEntry (tab : List ℕ) (k : ℕ) (w w′ : List ℕ) (m r : ℕ) : Type 0 where
   pub list : regionsIn w′ 0 r ≡ regionsIn w 0 m ++ nonempty (entryRegion tab k ∷ [])
   pub bound : r ≤ m + 1
+
+-- the regions of the entries from k on, those before k′, stand after m others
+pub record CollectedTo (tab : List ℕ) (k m : ℕ) (w w′ : List ℕ) (k′ m′ : ℕ) : Type 0 where
+  pub list : regionsIn w′ 0 m′ ≡ regionsIn w 0 m ++ nonempty (entryRegions tab k (k′ - k))
+  pub from : k ≤ k′
+  pub bound : m′ ≤ m + (k′ - k)
+
+-- the used regions of a table of n entries that ends at t, and of a program: its place among them is free
+pub record CollectedUsed (tab : List ℕ) (n t : ℕ) (program : DiscRegion) (w : List ℕ) (m : ℕ) : Type 0 where
+  pub turn : ℕ
+  pub from : 1 ≤ turn
+  pub to : turn ≤ n
+  pub list : regionsIn w 0 m ≡ usedRegions t (entryRegions tab 1 (turn - 1) ++ (program ∷ entryRegions tab turn (n - turn)))
+  pub bound : m ≤ n + 1
+
+-- lists of regions that come to the same on a disc that ends at e
+pub record SameUse (e : ℕ) (xs ys : List DiscRegion) : Type 0 where
+  pub below : disjointBelow e xs ≡ disjointBelow e ys
+  pub free : freeRegions e xs ≡ freeRegions e ys
+  pub total : totalSize xs ≡ totalSize ys
 
 -- the used regions of the image stand in the words, in order: m of them
 pub record UsedWords (image w : List ℕ) (m : ℕ) : Type 0 where

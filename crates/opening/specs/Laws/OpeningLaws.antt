@@ -3,7 +3,7 @@ use Prim.Native.Nat.{ℕ, _+_, _≤_}
 use mathlib.Core.Path.{_≡_, refl, sym, ap, _∙_}
 use mathlib.Core.Logic.{⊎-elim}
 use mathlib.Core.Bool.{true, false, not}
-use mathlib.Core.List.{List, map}
+use mathlib.Core.List.{List}
 use native.Mathlib.Omega.{arith}
 use native.Mathlib.Nat.{add-assoc}
 use borrow.Author.Tests.{not-false}
@@ -12,6 +12,7 @@ use Rattle.endian.specs.Bytes.{be32, span, AllBytes}
 use Rattle.endian.specs.Laws.Stored.{length-span, getD-span}
 use Rattle.refusal.specs.Laws.Tests.{lt-or-le}
 use Rattle.refusal.specs.declared.Refusal.the-variants.{OverlappingRegions}
+use Rattle.refusal.specs.declared.Refusal.{Refusal}
 use Rattle.refusal.specs.declared.Verdict.{Verdict}
 use Rattle.refusal.specs.declared.Verdict.the-variants.{Passed, Refused}
 use Rattle.refusal.specs.Refusal.{first, isRefused}
@@ -21,10 +22,11 @@ use Rattle.header.specs.Laws.FieldTests.{GoodHeader, header-passed, Bounded, bo
 use Rattle.tree.specs.Table.{count, check}
 use Rattle.tree.specs.Laws.Accepted.{Accepted, accepted}
 use Rattle.space.specs.Laws.TotalLaws.{freeBytes}
-use Rattle.space.specs.Layout.{disjointBelow, regionsVerdict}
+use Rattle.space.specs.Layout.{disjointBelow}
 use Rattle.space.specs.Laws.TotalLaws.{used-and-free}
-use Rattle.opening.specs.Opening.{tableOf, nodesIn, regionOf, usedIn, usedOf, opening}
-use Rattle.opening.specs.Inner.Prepared.{verdictBefore14}
+use Rattle.program.specs.Program.{programOf, programVerdict}
+use Rattle.opening.specs.Opening.{tableOf, behindTable, usedIn, usedOf, layoutVerdict, opening}
+use Rattle.opening.specs.Inner.Prepared.{verdictBefore24}
 
 -- ---- chains
 
@@ -59,7 +61,7 @@ be32-span s at n i h =
       add-assoc at i 3,
     )
 
--- ---- what the tests before 14 give
+-- ---- what the tests before 24 give
 
 pub record Readable (image : List ℕ) (words : ℕ) : Type 0 where
   pub header : GoodHeader image
@@ -69,7 +71,7 @@ pub record Readable (image : List ℕ) (words : ℕ) : Type 0 where
   pub table : Accepted (tableOf image) words
   pub next : be32 image (fstOffset image + 8) ≡ count (tableOf image)
 
-pub readable : (image : List ℕ) (words : ℕ) → AllBytes image → verdictBefore14 image words ≡ Passed → Readable image words
+pub readable : (image : List ℕ) (words : ℕ) → AllBytes image → verdictBefore24 image words ≡ Passed → Readable image words
 unfolding tableOf count
 readable image words bytes e =
     let p = first-passed (headerVerdict image) _ e in
@@ -89,30 +91,39 @@ readable image words bytes e =
 
 -- ---- the whole of opening
 
--- opening is the tests before 14, then 14
-pub opening-split : (image : List ℕ) (words : ℕ) → opening image words ≡ first (verdictBefore14 image words) (regionsVerdict (discEnd image) (usedIn image))
+-- opening is the tests before 24, then 24 and 14
+pub opening-split : (image : List ℕ) (words : ℕ) → opening image words ≡ first (verdictBefore24 image words) (layoutVerdict image)
 unfolding opening
-opening-split image words = go (headerVerdict image) (boundsVerdict image) (check (tableOf image) words) (regionsVerdict (discEnd image) (usedIn image))
+opening-split image words = go (headerVerdict image) (boundsVerdict image) (check (tableOf image) words) (layoutVerdict image)
   where
     go : (a b c d : Verdict) → first a (first b (first c d)) ≡ first (first a (first b c)) d
     go a b c d = sym (first-assoc a (first b c) d ∙ ap (first a) (first-assoc b c d))
 
+-- LAW: 24 comes before 14
+pub program-first : (image : List ℕ) (c : Refusal) → programVerdict (programOf image) ≡ Refused c → layoutVerdict image ≡ Refused c
+unfolding layoutVerdict
+program-first image c e = rw e
+
 pub record OpenImage (image : List ℕ) (words : ℕ) : Type 0 where
   pub reads : Readable image words
+  pub program : programVerdict (programOf image) ≡ Passed
   pub layout : disjointBelow (discEnd image) (usedIn image) ≡ true
 
 pub opens : (image : List ℕ) (words : ℕ) → AllBytes image → opening image words ≡ Passed → OpenImage image words
+unfolding layoutVerdict
 opens image words bytes e =
-    let p = first-passed (verdictBefore14 image words) _ (sym (opening-split image words) ∙ e) in
+    let p = first-passed (verdictBefore24 image words) _ (sym (opening-split image words) ∙ e) in
+    let q = first-passed (programVerdict (programOf image)) _ (p .1) in
     record {
       reads = readable image words bytes (p .0);
-      layout = not-false (disjointBelow (discEnd image) (usedIn image)) (refuse-passed (not (disjointBelow (discEnd image) (usedIn image))) OverlappingRegions Passed (p .1) .0);
+      program = q .0;
+      layout = not-false (disjointBelow (discEnd image) (usedIn image)) (refuse-passed (not (disjointBelow (discEnd image) (usedIn image))) OverlappingRegions Passed (q .1) .0);
     }
 
--- "table end + file sizes + free bytes = disc end", on every image that opens
+-- "table end + file sizes + free bytes = disc end", and the program where it lies past the table, on every image that opens
 pub disc-filled : (image : List ℕ) (words : ℕ) → AllBytes image → opening image words ≡ Passed → usedOf image + freeBytes (discEnd image) (usedIn image) ≡ discEnd image
 unfolding usedOf usedIn
-disc-filled image words bytes e = used-and-free (tableEnd image) (discEnd image) (map regionOf (nodesIn image)) (opens image words bytes e .layout)
+disc-filled image words bytes e = used-and-free (tableEnd image) (discEnd image) (behindTable image) (opens image words bytes e .layout)
 
 -- the table of an image that opens is accepted
 pub table-accepted : (image : List ℕ) (words : ℕ) → opening image words ≡ Passed → check (tableOf image) words ≡ Passed

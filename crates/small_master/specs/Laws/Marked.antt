@@ -33,7 +33,9 @@ use Rattle.free_space.specs.Listing.{rowsOf}
 use Rattle.disc.specs.declared.TotalsAnswer.the-variants as totals
 use Rattle.answers.specs.declared.SizeAnswer.the-variants as size
 use Rattle.files.specs.declared.WindowAnswer.the-variants as window
-use Rattle.opening.specs.Opening.{tableOf, nodesIn, opening, freeOf, usedOf, usedIn}
+use Rattle.program.specs.declared.Program.the-variants.{None}
+use Rattle.program.specs.Program.{programOf, programIn, ownRegion}
+use Rattle.opening.specs.Opening.{tableOf, nodesIn, opening, freeOf, usedOf, usedIn, behindTable, layoutVerdict}
 use Rattle.files.specs.Files.{entryAnswer, lookupAnswer, maxFileSizeAnswer, openFileAnswer}
 use Rattle.disc.specs.Calls.{totalsAnswer, freeAnswer, freeList, freeRegionsAnswer, freeRegionsList, freeClustersAnswer, freeClustersList, allocateAnswer}
 use Rattle.answers.specs.Answers.{maxRegionSizeAnswer}
@@ -44,12 +46,17 @@ use Rattle.small_master.specs.Image.{master, masterWords, masterBytes}
 -- ---- the image opens, and what it reads as
 
 pub opens : opening master masterWords ≡ verdict.Passed
-unfolding master put opening headerVerdict fieldsVerdict fieldVerdict fields boundsVerdict tableOf check nodesIn nodesOf nodesFrom nodeAt nameAt count entriesVerdict entryVerdict unended walk nameVerdict nextVerdict shut plain safe be24 be32 usedIn nonempty disjointBelow pairwiseDisjoint disjointFromAll disjoint endBy
+unfolding master put opening layoutVerdict headerVerdict fieldsVerdict fieldVerdict fields boundsVerdict tableOf check nodesIn nodesOf nodesFrom nodeAt nameAt count entriesVerdict entryVerdict unended walk nameVerdict nextVerdict shut plain safe be24 be32 usedIn behindTable programOf programIn ownRegion nonempty disjointBelow pairwiseDisjoint disjointFromAll disjoint endBy
 opens = refl
 
 pub nodes : nodesIn master ≡ directory [] 2 ∷ file (0x61 ∷ []) 0x500 0x100 ∷ []
 unfolding master put tableOf nodesIn nodesOf nodesFrom nodeAt nameAt count be24 be32
 nodes = refl
+
+-- "DOL offset 0": there is no program
+pub no-program : programOf master ≡ None
+unfolding master put be32 programOf
+no-program = refl
 
 -- the table's own place, and the disc end
 pub header : (fstOffset master ≡ 0x440) × (fstSize master ≡ 0x1A) × (discEnd master ≡ 0x2000)
@@ -60,7 +67,7 @@ abbrev at : ℕ → ℕ → DiscRegion
 at o n = record { offset = o; size = n }
 
 pub free : freeOf master ≡ at 1114 166 ∷ at 1536 6656 ∷ []
-unfolding master put tableOf nodesIn nodesOf nodesFrom nodeAt nameAt count be24 be32 freeOf usedIn freeRegions runs usesByte nonempty
+unfolding master put tableOf nodesIn nodesOf nodesFrom nodeAt nameAt count be24 be32 freeOf usedIn behindTable programOf programIn ownRegion freeRegions runs usesByte nonempty
 free = refl
 
 -- the paths `a/` and `..`
@@ -83,7 +90,7 @@ abbrev four : List ℕ
 four = 0 ∷ 0 ∷ 0 ∷ 0 ∷ []
 
 moved : freeRegionsList (movedTo 0x600) masterWords four ≡ 0x45A ∷ 0x1A6 ∷ 0x700 ∷ 0x1900 ∷ []
-unfolding master put opening headerVerdict fieldsVerdict fieldVerdict fields boundsVerdict tableOf check nodesIn nodesOf nodesFrom nodeAt nameAt count entriesVerdict entryVerdict unended walk nameVerdict nextVerdict shut plain safe be24 be32 usedIn nonempty disjointBelow pairwiseDisjoint disjointFromAll disjoint endBy freeOf freeRegions runs usesByte freeList rowsOf imageAfter verdictOf planMove tableVerdict placeVerdict limits shallow shallowFrom textsOf encode entriesBytes parentOf parentBelow setPlace written withTable maxSizeFrom besideFree
+unfolding master put opening layoutVerdict headerVerdict fieldsVerdict fieldVerdict fields boundsVerdict tableOf check nodesIn nodesOf nodesFrom nodeAt nameAt count entriesVerdict entryVerdict unended walk nameVerdict nextVerdict shut plain safe be24 be32 usedIn behindTable programOf programIn ownRegion nonempty disjointBelow pairwiseDisjoint disjointFromAll disjoint endBy freeOf freeRegions runs usesByte freeList rowsOf imageAfter verdictOf planMove tableVerdict placeVerdict limits shallow shallowFrom textsOf encode entriesBytes parentOf parentBelow setPlace written withTable maxSizeFrom besideFree
 moved = refl
 
 -- ---- the table, in the paper's order; `a` is entry 1. A refusal stands with its number
@@ -141,9 +148,9 @@ pub record Listed : Type 0 where
   pub list : freeRegionsList master masterWords four ≡ 1114 ∷ 166 ∷ 1536 ∷ 6656 ∷ []
 
 pub small-listing : Listed
-unfolding totalsAnswer entryAnswer freeAnswer freeList rowsOf put parentOf parentBelow usedOf totalSize
+unfolding totalsAnswer entryAnswer freeAnswer freeList rowsOf put parentOf parentBelow usedOf behindTable programIn ownRegion totalSize
 small-listing = record {
-  totals = rw (opens, nodes, header .0, header .1, header .2);
+  totals = rw (opens, nodes, no-program, header .0, header .1, header .2);
   root = rw (opens, nodes);
   a = rw (opens, nodes);
   regions = rw (opens, free);

@@ -7,7 +7,8 @@ use Rattle.endian.specs.Bytes.{be24, be32, put}
 use Rattle.tree.specs.Table.{Node, file, directory, count, nameAt, nodeAt, nodesFrom, nodesOf, parentBelow, parentOf}
 use Rattle.space.specs.declared.DiscRegion.{DiscRegion}
 use Rattle.space.specs.Used.{totalSize}
-use Rattle.opening.specs.Opening.{tableOf, nodesIn, usedOf}
+use Rattle.program.specs.Program.{programOf, programIn, ownRegion}
+use Rattle.opening.specs.Opening.{tableOf, nodesIn, usedOf, behindTable}
 use Rattle.listing.specs.declared.Listed.the-variants.{Text}
 use Rattle.listing_text.specs.Lines.{totalsLine, pathWithin, entryLine, entryLines, regionLines}
 use Rattle.text_buffer.specs.Decimal.{digits}
@@ -39,7 +40,7 @@ abbrev pub listing : List ℕ
 listing = totals ++ (root ++ (fileA ++ (before ++ behindA)))
 
 used : usedOf master ≡ 1370
-unfolding master put tableOf nodesIn nodesOf nodesFrom nodeAt nameAt count be24 be32 usedOf totalSize
+unfolding master put tableOf nodesIn nodesOf nodesFrom nodeAt nameAt count be24 be32 usedOf behindTable programOf programIn ownRegion totalSize
 used = refl
 
 -- the entries and the free regions

@@ -21,7 +21,8 @@ use Rattle.space.specs.Free.{runs, freeRegions}
 use Rattle.free_space.specs.MaxRegionSize.{besideFree, maxSizeFrom}
 use Rattle.space.specs.Align.{alignUp}
 use Rattle.free_space.specs.Allocate.{betterOf, largest, powers, allocationOf}
-use Rattle.opening.specs.Opening.{tableOf, nodesIn, opening, freeOf, usedIn}
+use Rattle.program.specs.Program.{programOf, programIn, ownRegion}
+use Rattle.opening.specs.Opening.{tableOf, nodesIn, opening, freeOf, usedIn, behindTable, layoutVerdict}
 use Rattle.edits.specs.Change.{withTable, written, tableVerdict, placeVerdict}
 use Rattle.edits.specs.Edits.{Edit, insertFile, insertDirectory, moveFile, resizeFile, rewrite, insertVerdict, planMove, planResize, verdictOf, imageAfter}
 
@@ -70,7 +71,7 @@ pub record Worked : Type 0 where
   pub exists : (verdictOn (insertFile 0 (0x62 ∷ [])) small ≡ verdict.Refused AlreadyExists) × (verdictOn (insertDirectory 0 (0x62 ∷ [])) small ≡ verdict.Refused AlreadyExists) × (numberOf AlreadyExists ≡ 19)
 
 pub worked : Worked
-unfolding small planMove planResize insertVerdict childOf firstChild sameBytes put opening headerVerdict fieldsVerdict fieldVerdict fields boundsVerdict tableOf check nodesIn nodesOf nodesFrom nodeAt nameAt count entriesVerdict entryVerdict unended walk nameVerdict nextVerdict shut plain safe be24 be32 usedIn nonempty disjointBelow pairwiseDisjoint disjointFromAll disjoint endBy freeOf freeRegions runs usesByte imageAfter verdictOf tableVerdict placeVerdict limits shallow shallowFrom textsOf encode entriesBytes parentOf parentBelow setPlace written withTable maxSizeFrom besideFree
+unfolding small planMove planResize insertVerdict childOf firstChild sameBytes put opening layoutVerdict headerVerdict fieldsVerdict fieldVerdict fields boundsVerdict tableOf check nodesIn nodesOf nodesFrom nodeAt nameAt count entriesVerdict entryVerdict unended walk nameVerdict nextVerdict shut plain safe be24 be32 usedIn behindTable programOf programIn ownRegion nonempty disjointBelow pairwiseDisjoint disjointFromAll disjoint endBy freeOf freeRegions runs usesByte imageAfter verdictOf tableVerdict placeVerdict limits shallow shallowFrom textsOf encode entriesBytes parentOf parentBelow setPlace written withTable maxSizeFrom besideFree
 worked = record {
   moved = (refl, refl, refl);
   rewritten = (refl, refl, refl, refl);
@@ -87,7 +88,7 @@ abbrev at : ℕ → ℕ → DiscRegion
 at o n = record { offset = o; size = n }
 
 large-opens : opening large 20 ≡ verdict.Passed
-unfolding large put opening headerVerdict fieldsVerdict fieldVerdict fields boundsVerdict tableOf check nodesIn nodesOf nodesFrom nodeAt nameAt count entriesVerdict entryVerdict unended walk nameVerdict nextVerdict shut plain safe be24 be32 usedIn nonempty disjointBelow pairwiseDisjoint disjointFromAll disjoint endBy
+unfolding large put opening layoutVerdict headerVerdict fieldsVerdict fieldVerdict fields boundsVerdict tableOf check nodesIn nodesOf nodesFrom nodeAt nameAt count entriesVerdict entryVerdict unended walk nameVerdict nextVerdict shut plain safe be24 be32 usedIn behindTable programOf programIn ownRegion nonempty disjointBelow pairwiseDisjoint disjointFromAll disjoint endBy
 large-opens = refl
 
 large-nodes : nodesIn large ≡ directory [] 3 ∷ file (0x61 ∷ []) 0x500 8 ∷ file (0x62 ∷ []) 0x508 4 ∷ []
@@ -95,7 +96,7 @@ unfolding large put tableOf nodesIn nodesOf nodesFrom nodeAt nameAt count be24 b
 large-nodes = refl
 
 large-free : freeOf large ≡ at 0x46B 0x95 ∷ at 0x50C 0x7B34 ∷ []
-unfolding large put tableOf nodesIn nodesOf nodesFrom nodeAt nameAt count be24 be32 freeOf usedIn freeRegions runs usesByte nonempty
+unfolding large put tableOf nodesIn nodesOf nodesFrom nodeAt nameAt count be24 be32 freeOf usedIn behindTable programOf programIn ownRegion freeRegions runs usesByte nonempty
 large-free = refl
 
 large-header : (fstOffset large ≡ 0x440) × (fstSize large ≡ 43)

@@ -248,6 +248,24 @@ pub const APPLOADER: usize = 0x2440;
 pub const DOL: usize = 0x1E800;
 pub const FST: usize = 0x50000;
 
+/// How long its program is.
+pub const DOL_SIZE: usize = 0x2_C000;
+
+/// Copies the program of a realistic master to `at`, where the header now finds it.
+pub fn program_to(path: &Path, at: u32) {
+    let file = OpenOptions::new().write(true).open(path).unwrap();
+    file.write_all_at(&span(path, DOL as u64, DOL_SIZE as u64), at.into()).unwrap();
+    file.write_all_at(&at.to_be_bytes(), 0x420).unwrap();
+}
+
+/// A program at `at` with one section, the first text: its offset in the program, and its size.
+pub fn put_program(image: &mut [u8], at: usize, offset: u32, size: u32) {
+    put(image, 0x420, at as u32);
+    image[at..at + 0xE4].fill(0);
+    put(image, at, offset);
+    put(image, at + 0x90, size);
+}
+
 /// The start of a realistic master up to the end of its table, which ends at `end`.
 pub fn start_of_disc(entries: &[Wish], end: u32) -> Vec<u8> {
     let table = table(entries);
@@ -266,12 +284,12 @@ pub fn start_of_disc(entries: &[Wish], end: u32) -> Vec<u8> {
     put(&mut image, 0x438, 0x10_0000);
     image[APPLOADER..APPLOADER + 10].copy_from_slice(b"2004/02/01");
     pattern(&mut image[APPLOADER + 0x20..APPLOADER + 0x4000], 1);
-    dol(&mut image[DOL..DOL + 0x3_0000]);
+    dol(&mut image[DOL..DOL + DOL_SIZE]);
     image[FST..].copy_from_slice(&table);
     image
 }
 
-/// A program of 0x2C000 bytes: two texts, one data.
+/// A program of `DOL_SIZE` bytes: two texts, one data.
 fn dol(image: &mut [u8]) {
     let sections: [(usize, u32, u32, u32); 3] = [
         (0, 0x100, 0x8000_3100, 0x2000),
@@ -286,7 +304,7 @@ fn dol(image: &mut [u8]) {
     put(image, 0xD8, 0x8003_0000);
     put(image, 0xDC, 0x4_0000);
     put(image, 0xE0, 0x8000_3154);
-    pattern(&mut image[0x100..0x2_C000], 2);
+    pattern(&mut image[0x100..], 2);
 }
 
 /// Bytes that say where they are from.
@@ -366,6 +384,8 @@ pub struct Table {
     pub end: u64,
     pub table_end: u64,
     pub entries: Vec<Entry>,
+    /// Where a program behind the table starts and ends.
+    pub program: Option<(u64, u64)>,
 }
 
 pub fn read_table(file: &File) -> Table {
@@ -378,7 +398,14 @@ pub fn read_table(file: &File) -> Table {
     let mut table = vec![0; size as usize];
     file.read_exact_at(&mut table, fst).unwrap();
     let end = u64::from(word(0x434)) + u64::from(word(0x438));
-    Table { end, table_end: fst + size, entries: read_entries(&table) }
+    let table_end = fst + size;
+    let dol = u64::from(word(0x420));
+    // As long as its file size, and at least as its header.
+    let program = (dol >= table_end).then(|| {
+        let sum = |i: u64| u64::from(word(dol + 4 * i)) + u64::from(word(dol + 0x90 + 4 * i));
+        (dol, dol + (0..18).map(sum).max().unwrap().max(0xE4))
+    });
+    Table { end, table_end, entries: read_entries(&table), program }
 }
 
 fn read_entries(table: &[u8]) -> Vec<Entry> {
@@ -418,6 +445,7 @@ impl Table {
     /// The free regions, byte by byte of their definition: what no used region covers.
     pub fn free(&self) -> Vec<(u64, u64)> {
         let mut used: Vec<(u64, u64)> = vec![(0, self.table_end)];
+        used.extend(self.program);
         for entry in self.entries.iter().filter(|entry| !entry.folder && entry.size > 0) {
             used.push((entry.offset.into(), u64::from(entry.offset) + u64::from(entry.size)));
         }
@@ -439,7 +467,8 @@ impl Table {
     /// The scope paper's listing of it.
     pub fn listing(&self) -> String {
         let files: u64 = self.entries.iter().filter(|e| !e.folder).map(|e| u64::from(e.size)).sum();
-        let mut out = format!("total {} used {}\n", self.end, self.table_end + files);
+        let program = self.program.map_or(0, |(start, end)| end - start);
+        let mut out = format!("total {} used {}\n", self.end, self.table_end + files + program);
         for (i, e) in self.entries.iter().enumerate() {
             out.push_str(&match e.folder {
                 true => format!("d {i} {} {} {}/\n", e.parent, e.size, e.path),

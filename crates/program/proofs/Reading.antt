@@ -1,0 +1,67 @@
+-- The program by the cases of its header, and its own region by where it lies. Assumes nothing.
+use Prim.Native.Nat.{ℕ, _+_, _<_, _≤_, max}
+use mathlib.Core.Path.{_≡_, sym, ap, _∙_}
+use mathlib.Core.List.{List}
+use borrow.Author.Tests.{eq-eqb, ne-eqb, le-leb, lt-leb}
+use Rattle.refusal.specs.declared.Refusal.{Refusal}
+use Rattle.refusal.specs.declared.Verdict.{Verdict}
+use Rattle.refusal.specs.declared.Verdict.the-variants as verdict
+use Rattle.header.specs.Verdicts.{dolOffset}
+use Rattle.space.specs.declared.DiscRegion.{DiscRegion}
+use Rattle.dol.specs.declared.DolAnswer.{DolAnswer}
+use Rattle.dol.specs.Laws.Facts.{answered-verdict}
+use Rattle.dol.specs.Dol.{dolHeaderOf, fileSizeOf, dolVerdictOf, dolAnswered, dolAnswerOf}
+use Rattle.program.specs.declared.Program.{Program}
+use Rattle.program.specs.declared.Program.the-variants.{At, None, Refused}
+use Rattle.program.specs.Program.{programFrom, programAs, programOf, programVerdict, nowhere, placeOf, ownRegion}
+
+-- ---- read
+
+module _ (image : List ℕ) (at : ℕ) (here : at ≡ dolOffset image) where
+  pub no-program : at ≡ 0 → None ≡ programOf image
+  unfolding programOf
+  no-program z = rw (← here, eq-eqb at 0 z)
+
+  module _ (some : at ≡ 0 → ⊥) (a : DolAnswer) (read : a ≡ dolAnswerOf image at) where
+    by-verdict : (v : Verdict) → a .verdict ≡ v → programOf image ≡ programAs v (programFrom image at)
+    unfolding programOf
+    by-verdict v e =
+        let d : dolVerdictOf image at ≡ v = sym (answered-verdict (dolVerdictOf image at) (dolHeaderOf image at)) ∙ sym (ap (λ (x : DolAnswer). x .verdict) read) ∙ e in
+        rw (← here, ne-eqb at 0 some, d)
+
+    size-is : a .verdict ≡ verdict.Passed → a .size ≡ fileSizeOf (dolHeaderOf image at)
+    size-is e =
+        let d : dolVerdictOf image at ≡ verdict.Passed = sym (answered-verdict (dolVerdictOf image at) (dolHeaderOf image at)) ∙ sym (ap (λ (x : DolAnswer). x .verdict) read) ∙ e in
+        ap (λ (x : DolAnswer). x .size) read ∙ ap (λ (v : Verdict). dolAnswered v (dolHeaderOf image at) .size) d
+
+    pub a-program : (n : ℕ) → a .verdict ≡ verdict.Passed → n ≡ max (a .size) 0xE4 → At (record { offset = at; size = n }) ≡ programOf image
+    a-program n e m =
+        sym (by-verdict verdict.Passed e ∙ ap (λ (k : ℕ). At (record { offset = at; size = k })) (ap (λ (k : ℕ). max k 0xE4) (sym (size-is e)) ∙ sym m))
+
+    pub no-header : (c : Refusal) → a .verdict ≡ verdict.Refused c → Refused c ≡ programOf image
+    no-header c e = sym (by-verdict (verdict.Refused c) e)
+
+pub verdict-refused : (p : Program) (c : Refusal) → p ≡ Refused c → verdict.Refused c ≡ programVerdict p
+verdict-refused p c e = rw e
+
+-- ---- the region
+
+pub place-none : (p : Program) → p ≡ None → nowhere ≡ placeOf p
+place-none p e = rw e
+
+pub place-refused : (p : Program) (c : Refusal) → p ≡ Refused c → nowhere ≡ placeOf p
+place-refused p c e = rw e
+
+module _ (r x : DiscRegion) (fst : ℕ) (e : r ≡ x) where
+  pub own-low : r .offset < 0x440 → r ≡ ownRegion fst x
+  unfolding ownRegion
+  own-low h = rw (← e, lt-leb 0x440 (r .offset) h)
+
+  module _ (a n : ℕ) (from : a ≡ r .offset) (many : n ≡ r .size) (low : 0x440 ≤ r .offset) where
+    pub own-before : a + n ≤ fst → nowhere ≡ ownRegion fst x
+    unfolding ownRegion
+    own-before h = rw (← e, le-leb 0x440 (r .offset) low, ← from, ← many, le-leb (a + n) fst h)
+
+    pub own-behind : fst < a + n → r ≡ ownRegion fst x
+    unfolding ownRegion
+    own-behind h = rw (← e, le-leb 0x440 (r .offset) low, ← from, ← many, lt-leb (a + n) fst h)
