@@ -420,10 +420,11 @@ fn look(command: &str, mut words: Words, image: &[u8]) -> Answer<String> {
 fn edit(command: &str, mut words: Words, image: &mut Vec<u8>) -> Answer<String> {
     // All words are read before the image is opened, as the original's caller has them then.
     let target = if command == "rewrite" { 0 } else { words.number()? };
-    let (mut name, mut number, mut bytes) = (String::new(), 0, vec![]);
+    let (mut name, mut number, mut size, mut bytes) = (String::new(), 0, 0, vec![]);
     match command {
         "insert_file" | "insert_dir" | "mkdirs" => name = words.utf8()?,
         "move" | "resize" => number = words.word()?,
+        "place" => (number, size) = (words.word()?, words.word()?),
         "replace" => bytes = words.bytes()?,
         _ => (),
     }
@@ -447,6 +448,7 @@ fn edit(command: &str, mut words: Words, image: &mut Vec<u8>) -> Answer<String> 
     match command {
         "move" => disc.move_file(id, number)?,
         "resize" => disc.resize_file(id, number)?,
+        "place" => disc.move_and_resize_file(id, number, size)?,
         "replace" => disc.replace_file(id, Cursor::new(bytes))?,
         _ => disc.commit_file_tree()?,
     }
@@ -538,7 +540,7 @@ impl State {
             "image" | "dump" | "size" | "patch" | "peek" | "save" | "load" | "hash" => {
                 (Ok(self.bytes(command, words)), "")
             }
-            "insert_file" | "insert_dir" | "mkdirs" | "move" | "resize" | "rewrite"
+            "insert_file" | "insert_dir" | "mkdirs" | "move" | "resize" | "place" | "rewrite"
             | "replace" => {
                 let mut work = self.image.clone();
                 let result = catch_unwind(AssertUnwindSafe(|| edit(command, words, &mut work)));

@@ -1,5 +1,5 @@
 -- One turn of each loop: one word more, and one sum more. Assumes nothing.
-use Prim.Native.Nat.{ℕ, zero, suc, _+_, _*_, _≤_, _<_, max}
+use Prim.Native.Nat.{ℕ, zero, suc, _+_, _-_, _*_, _≤_, _<_, max}
 use mathlib.Core.Path.{_≡_, sym, ap, _∙_}
 use mathlib.Core.List.{List, [], _∷_, _++_}
 use native.Mathlib.Omega.{arith}
@@ -32,3 +32,35 @@ largest-turn os ss i top e h l =
 pub largest-end : (os ss : List ℕ) (i top : ℕ) → largestOf os ss ≡ max top (largestOf (drop i os) (drop i ss)) → length os ≤ i → top ≡ largestOf os ss
 unfolding largestOf
 largest-end os ss i top e h = let z : largestOf (drop i os) (drop i ss) ≡ 0 = rw (drop-of-length-le os {i = i} h) in omega arith
+
+-- the same over words that are read as the loop goes
+
+module _ (s : List ℕ) (at n : ℕ) where
+  abbrev pub left : ℕ → ℕ
+  left i = largestOf (wordsAt s (at + 4 * i) (n - i)) (wordsAt s (at + 0x90 + 4 * i) (n - i))
+
+  pub at-start : left 0 ≡ max 0 (left 0)
+  at-start = omega arith
+
+  next : (i : ℕ) → i < n → left i ≡ max (be32 s (at + 4 * i) + be32 s (at + 4 * i + 0x90)) (left (i + 1))
+  unfolding wordsAt largestOf
+  next i h =
+      let m : n - i ≡ suc (n - (i + 1)) = omega arith in
+      let x : at + 4 * i + 4 ≡ at + 4 * (i + 1) = omega arith in
+      let y : at + 0x90 + 4 * i + 4 ≡ at + 0x90 + 4 * (i + 1) = omega arith in
+      let z : at + 0x90 + 4 * i ≡ at + 4 * i + 0x90 = omega arith in
+      rw (← x, ← y, m, z)
+
+  pub at-turn : (i top offset size a b v : ℕ) → left 0 ≡ max top (left i) → i < n → offset ≡ be32 s (at + 4 * i) → size ≡ be32 s (at + 4 * i + 0x90) → a ≡ offset → b ≡ size → v ≡ max top (a + b) → left 0 ≡ max v (left (i + 1))
+  at-turn i top offset size a b v e h p q x y r = omega (arith, next i h)
+
+  pub at-end : (i top : ℕ) → left 0 ≡ max top (left i) → i ≤ n → n ≤ i → top ≡ largestOf (wordsAt s at n) (wordsAt s (at + 0x90) n)
+  unfolding wordsAt largestOf
+  at-end i top e h l =
+      let m : n - i ≡ 0 = omega arith in
+      let z : left i ≡ 0 = rw m in
+      let a : at + 4 * 0 ≡ at = omega arith in
+      let b : at + 0x90 + 4 * 0 ≡ at + 0x90 = omega arith in
+      let c : n - 0 ≡ n = omega arith in
+      let t : top ≡ left 0 = omega (arith, z) in
+      rw (a, b, c) at t

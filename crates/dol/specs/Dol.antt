@@ -12,6 +12,8 @@ use Rattle.refusal.specs.declared.Verdict.the-variants.{Passed, Refused}
 use Rattle.refusal.specs.Refusal.{refuse}
 use Rattle.dol.specs.declared.DolHeader.{DolHeader}
 use Rattle.dol.specs.declared.DolAnswer.{DolAnswer}
+use Rattle.dol.specs.declared.DolSize.{DolSize}
+use Rattle.dol.specs.declared.DolSize.the-variants as size
 
 -- the n fields of 4 bytes from `at` on
 unfoldable pub wordsAt : List ℕ → ℕ → ℕ → List ℕ
@@ -67,3 +69,11 @@ dolAnswered (Refused c) h = record { verdict = Refused c; header = newHeader; si
 
 abbrev pub dolAnswerOf : List ℕ → ℕ → DolAnswer
 dolAnswerOf s at = dolAnswered (dolVerdictOf s at) (dolHeaderOf s at)
+
+-- the file size alone, by the same verdict
+abbrev pub dolSized : Verdict → ℕ → DolSize
+dolSized Passed n = size.Bytes n
+dolSized (Refused c) n = size.Refused c
+
+abbrev pub dolSizeOf : List ℕ → ℕ → DolSize
+dolSizeOf s at = dolSized (dolVerdictOf s at) (fileSizeOf (dolHeaderOf s at))

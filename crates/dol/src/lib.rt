@@ -8,7 +8,7 @@ ghost use mathlib.Core.Path.{_≡_};
 ghost use Prim.Native.Nat.{_+_, _*_, _≤_, _<_, max};
 ghost use lib.ListN.{length};
 ghost use Rattle.window.specs.Window.{newWindow};
-ghost use Rattle.dol.specs.Dol.{wordsAt, largestOf, newHeader, dolHeaderOf, fileSizeOf, dolAnswerOf};
+ghost use Rattle.dol.specs.Dol.{wordsAt, largestOf, newHeader, dolHeaderOf, fileSizeOf, dolAnswerOf, dolSizeOf};
 ghost use Rattle.dol.specs.Inner.Refused.{refusedAnswer};
 
 pub struct DolHeader {
@@ -27,6 +27,11 @@ pub struct DolAnswer {
     pub verdict: Verdict,
     pub header: DolHeader,
     pub size: u32,
+}
+
+pub enum DolSize {
+    Bytes(u32),
+    Refused(Refusal),
 }
 
 fn larger(a: u64, b: u64) -> u64
@@ -172,6 +177,41 @@ pub fn read(image: &[u8], at: usize) -> DolAnswer
         header,
         size: size as u32,
     }
+}
+
+// The largest offset + size of n sections, where they stand: the sizes lie 0x90 bytes behind the offsets.
+fn largest_at(s: &[u8], at: usize, n: usize) -> u64
+    requires { ⌜ at + 0x90 + 4 * n ≤ length (now s) ⌝ }
+    ensures { λ r. ⌜ r ≡ largestOf (wordsAt (now (s .entry)) at n) (wordsAt (now (s .entry)) (at + 0x90) n) ⌝ }
+{
+    let mut top = 0;
+    let mut i = 0;
+    while i < n {
+        let offset = endian::read_u32(s, at + 4 * i);
+        let size = endian::read_u32(s, at + 4 * i + 0x90);
+        top = larger(top, wide(offset) + wide(size));
+        i += 1;
+    }
+    top
+}
+
+// The file size alone, for whoever opens an image: the header is read in place, and not made.
+pub fn size(image: &[u8], at: usize) -> DolSize
+    ensures { λ r. ⌜ r ≡ dolSizeOf (now (image .entry)) at ⌝ }
+{
+    if image.len() < 0xE4 {
+        return DolSize::Refused(Refusal::InvalidDol);
+    }
+    if image.len() - 0xE4 < at {
+        return DolSize::Refused(Refusal::InvalidDol);
+    }
+    let text = largest_at(image, at, 7);
+    let data = largest_at(image, at + 0x1C, 11);
+    let size = larger(text, data);
+    if 0xFFFF_FFFF < size {
+        return DolSize::Refused(Refusal::InvalidDol);
+    }
+    DolSize::Bytes(size as u32)
 }
 
 impl DolAnswer {

@@ -1,18 +1,22 @@
 -- The answer of the executable from that of its header. Assumes nothing.
 use Prim.Native.Nat.{ℕ}
-use mathlib.Core.Path.{_≡_, sym, ap, _∙_}
+use mathlib.Core.Path.{_≡_, refl, sym, ap, _∙_}
 use mathlib.Core.List.{List, []}
 use Rattle.refusal.specs.declared.Refusal.{Refusal}
 use Rattle.refusal.specs.declared.Verdict.{Verdict}
 use Rattle.refusal.specs.declared.Verdict.the-variants.{Passed, Refused}
 use Rattle.window.specs.declared.Window.{Window}
 use Rattle.window.specs.Window.{newWindow}
+use Rattle.dol.specs.declared.DolHeader.{DolHeader}
 use Rattle.dol.specs.declared.DolAnswer.{DolAnswer}
-use Rattle.dol.specs.Laws.Facts.{answered-verdict}
 use Rattle.dol.specs.Dol.{dolHeaderOf, dolVerdictOf, dolAnswered, dolAnswerOf}
 use Rattle.header.specs.Verdicts.{dolOffset}
 use Rattle.files.specs.declared.DolFile.{DolFile}
 use Rattle.files.specs.Files.{dolAs}
+
+answered-verdict : (v : Verdict) (h : DolHeader) → dolAnswered v h .verdict ≡ v
+answered-verdict Passed h = refl
+answered-verdict (Refused c) h = refl
 
 module _ (image : List ℕ) (at : ℕ) (a : DolAnswer) (e : a ≡ dolAnswerOf image at) (o : at ≡ dolOffset image) where
   -- the verdict that the header's answer has

@@ -1,5 +1,5 @@
 -- The used regions collected: one turn of the loop over the entries, and what stands in the words after it. Assumes nothing.
-use Prim.Native.Nat.{ℕ, zero, suc, _+_, _-_, _^_, _<_, _≤_}
+use Prim.Native.Nat.{ℕ, zero, suc, _+_, _-_, _≤_}
 use mathlib.Core.Path.{_≡_, refl, sym, ap, _∙_}
 use mathlib.Core.List.{List, [], _∷_, _++_, append-nil, append-assoc, map}
 use native.Mathlib.Omega.{arith}
@@ -55,35 +55,32 @@ collected-turn tab w₀ w w′ k m k′ m′ r c a =
       bound = omega (arith, c .from, c .bound, a .bound);
     }
 
--- an entry whose place is a number of 32 bits is never at 2^32 or behind it
-pub not-past : (below place k n : ℕ) → below ≤ place → place < 2 ^ 32 → below ≡ 2 ^ 32 → k ≡ n
-not-past below place k n h l e = absurd (omega arith)
-
-pub all-passed : (below k n : ℕ) → k ≤ n → n ≤ k → below ≡ 2 ^ 32 → k ≡ n
-all-passed below k n h l e = omega arith
+pub collected-end : (tab w₀ w : List ℕ) (k m k′ n to : ℕ) → CollectedTo tab k m w₀ w k′ n → k′ ≤ to → to ≤ k′ → CollectedTo tab k m w₀ w to n
+collected-end tab w₀ w k m k′ n to c h l =
+    let e : k′ ≡ to = omega arith in
+    rw e at c
 
 -- the table, entries, the program, entries
-pub used-collected : (tab w w₁ w₂ w₃ w₄ : List ℕ) (program : DiscRegion) (n t m₁ k m₂ m₃ k₄ m₄ below : ℕ) → Added w w₁ 0 0 t m₁ → CollectedTo tab 1 m₁ w₁ w₂ k m₂ → k ≤ n → Added w₂ w₃ m₂ (program .offset) (program .size) m₃ → CollectedTo tab k m₃ w₃ w₄ k₄ m₄ → (below ≡ 2 ^ 32 → k₄ ≡ n) → below ≡ 2 ^ 32 →
+pub used-collected : (tab w w₁ w₂ w₃ w₄ : List ℕ) (program : DiscRegion) (n t m₁ k m₂ m₃ m₄ : ℕ) → 1 ≤ k → k ≤ n → Added w w₁ 0 0 t m₁ → CollectedTo tab 1 m₁ w₁ w₂ k m₂ → Added w₂ w₃ m₂ (program .offset) (program .size) m₃ → CollectedTo tab k m₃ w₃ w₄ n m₄ →
     CollectedUsed tab n t program w₄ m₄
 unfolding regionsIn
-used-collected tab w w₁ w₂ w₃ w₄ program n t m₁ k m₂ m₃ k₄ m₄ below a c l b d e q =
+used-collected tab w w₁ w₂ w₃ w₄ program n t m₁ k m₂ m₃ m₄ f l a c b d =
     let table : List DiscRegion = record { offset = 0; size = t } ∷ [] in
     let one : List DiscRegion = program ∷ [] in
     let early : List DiscRegion = entryRegions tab 1 (k - 1) in
     let late : List DiscRegion = entryRegions tab k (n - k) in
     let whole : usedRegions t (early ++ (program ∷ late)) ≡ nonempty table ++ (nonempty early ++ (nonempty one ++ nonempty late)) =
     nonempty-append table (early ++ (one ++ late)) ∙ ap (λ (x : List DiscRegion). nonempty table ++ x) (nonempty-append early (one ++ late) ∙ ap (λ (x : List DiscRegion). nonempty early ++ x) (nonempty-append one late)) in
-    let last : regionsIn w₄ 0 m₄ ≡ regionsIn w₃ 0 m₃ ++ nonempty late = rw (e q) at (d .list) in
     record {
       turn = k;
-      from = c .from;
+      from = f;
       to = l;
-      list = last
+      list = d .list
           ∙ ap (λ (x : List DiscRegion). x ++ nonempty late) (b .list ∙ ap (λ (x : List DiscRegion). x ++ nonempty one) (c .list ∙ ap (λ (x : List DiscRegion). x ++ nonempty early) (a .list)))
           ∙ append-assoc (nonempty table ++ nonempty early) (nonempty one) (nonempty late)
           ∙ append-assoc (nonempty table) (nonempty early) (nonempty one ++ nonempty late)
           ∙ sym whole;
-      bound = omega (arith, a .bound, c .from, c .bound, b .bound, d .from, d .bound, e q);
+      bound = omega (arith, a .bound, c .from, c .bound, b .bound, d .from, d .bound);
     }
 
 -- ---- the entries' regions are those of the tree

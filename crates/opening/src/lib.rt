@@ -1,10 +1,9 @@
 // Opening an image: every test, and then its used regions in the lent words, for the calls and the edits above.
-use endian::wide;
 use refusal::Refusal;
 use refusal::Verdict;
 use space::DiscRegion;
 ghost use mathlib.Core.Path.{_≡_};
-ghost use Prim.Native.Nat.{_+_, _-_, _*_, _^_, _≤_, _<_};
+ghost use Prim.Native.Nat.{_+_, _-_, _*_, _≤_, _<_};
 ghost use lib.ListN.{length};
 ghost use Rattle.program.specs.Program.{programOf, programVerdict, programBehind};
 ghost use Rattle.refusal.specs.declared.Verdict.the-variants.{Passed};
@@ -29,44 +28,63 @@ fn add_entry(table: &[u8], words: &mut [u32], m: usize, k: usize) -> usize
     m
 }
 
-// How far the entries are collected: the next of them, and how many regions the words hold.
-struct Collected {
-    entry: usize,
-    regions: usize,
-}
-
-// Adds the regions of the entries from `at` on, up to the first whose place is at `below` or behind it.
-fn collect_below(
-    table: &[u8],
-    words: &mut [u32],
-    count: usize,
-    at: Collected,
-    below: u64,
-) -> Collected
-    requires { ⌜ (at .entry ≤ count) × (12 * count ≤ length (now table)) × (2 * (at .regions + (count - at .entry)) ≤ length (now words)) ⌝ }
-    ensures { λ r. ⌜ CollectedTo (now (table .entry)) (at .entry) (at .regions) (now (words .entry)) (now (words .exit)) (r .entry) (r .regions) × (r .entry ≤ count) ⌝ }
-    ensures all { λ r. ⌜ (below ≡ 2 ^ 32 → r .entry ≡ count) ⌝ }
+// Adds the regions of the entries from `from` up to `to`, after the m that the words hold.
+fn collect_entries(table: &[u8], words: &mut [u32], m: usize, from: usize, to: usize) -> usize
+    requires { ⌜ (from ≤ to) × (12 * to ≤ length (now table)) × (2 * (m + (to - from)) ≤ length (now words)) ⌝ }
+    ensures { λ r. ⌜ CollectedTo (now (table .entry)) from m (now (words .entry)) (now (words .exit)) to r ⌝ }
 {
-    let mut m = at.regions;
-    let mut k = at.entry;
-    while k < count {
-        if below <= wide(endian::read_u32(table, 12 * k + 4)) {
-            return Collected {
-                entry: k,
-                regions: m,
-            };
-        }
-        m = add_entry(table, words, m, k);
+    let mut n = m;
+    let mut k = from;
+    while k < to {
+        n = add_entry(table, words, n, k);
         k += 1;
     }
-    Collected {
-        entry: k,
-        regions: m,
-    }
+    n
 }
 
-// The used regions: the bytes up to the table's end, each file that is not empty, and the program, which takes its turn among the files: so what
-// is in order without it is in order with it, and no sort is needed.
+// The first file from entry k on that is not empty, or `end`.
+fn next_file(table: &[u8], k: usize, end: usize) -> usize
+    requires { ⌜ (k ≤ end) × (12 * end ≤ length (now table)) ⌝ }
+    ensures { λ r. ⌜ (k ≤ r) × (r ≤ end) ⌝ }
+{
+    let mut i = k;
+    while i < end {
+        if endian::read_u8(table, 12 * i) == 0 {
+            if endian::read_u32(table, 12 * i + 8) != 0 {
+                return i;
+            }
+        }
+        i += 1;
+    }
+    i
+}
+
+// The entry before which the program has its turn: where the files are in order, the first that lies behind it. Any turn is right; with this
+// one, what is in order without the program is in order with it, and no sort is needed.
+fn turn_of(table: &[u8], count: usize, program: DiscRegion) -> usize
+    requires { ⌜ (0 < count) × (12 * count ≤ length (now table)) ⌝ }
+    ensures { λ r. ⌜ (1 ≤ r) × (r ≤ count) ⌝ }
+{
+    if program.size == 0 {
+        return 1;
+    }
+    let mut low = 1;
+    let mut high = count;
+    while low < high {
+        let middle = low + (high - low) / 2;
+        let k = next_file(table, middle, high);
+        if k == high {
+            high = middle;
+        } else if endian::read_u32(table, 12 * k + 4) < program.offset {
+            low = k + 1;
+        } else {
+            high = middle;
+        }
+    }
+    low
+}
+
+// The used regions: the bytes up to the table's end, each file that is not empty, and the program.
 fn collect(
     table: &[u8],
     words: &mut [u32],
@@ -77,19 +95,11 @@ fn collect(
     requires { ⌜ (0 < count) × (12 * count ≤ length (now table)) × (2 * (count + 1) ≤ length (now words)) ⌝ }
     ensures { λ r. ⌜ CollectedUsed (now (table .entry)) count «table_end» program (now (words .exit)) r ⌝ }
 {
+    let turn = turn_of(table, count, program);
     let m = space::add_region(words, 0, 0, table_end);
-    let first = Collected {
-        entry: 1,
-        regions: m,
-    };
-    let turn = collect_below(table, words, count, first, wide(program.offset));
-    let n = space::add_region(words, turn.regions, program.offset, program.size);
-    let rest = Collected {
-        entry: turn.entry,
-        regions: n,
-    };
-    let all = collect_below(table, words, count, rest, 0x1_0000_0000);
-    all.regions
+    let early = collect_entries(table, words, m, 1, turn);
+    let n = space::add_region(words, early, program.offset, program.size);
+    collect_entries(table, words, n, turn, count)
 }
 
 // The tests 1 to 13.

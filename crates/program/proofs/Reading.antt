@@ -1,16 +1,17 @@
 -- The program by the cases of its header, and its own region by where it lies. Assumes nothing.
 use Prim.Native.Nat.{ℕ, _+_, _<_, _≤_, max}
-use mathlib.Core.Path.{_≡_, sym, ap, _∙_}
+use mathlib.Core.Path.{_≡_, refl, sym, ap, _∙_}
 use mathlib.Core.List.{List}
+use native.Mathlib.Omega.{arith}
 use borrow.Author.Tests.{eq-eqb, ne-eqb, le-leb, lt-leb}
 use Rattle.refusal.specs.declared.Refusal.{Refusal}
 use Rattle.refusal.specs.declared.Verdict.{Verdict}
 use Rattle.refusal.specs.declared.Verdict.the-variants as verdict
 use Rattle.header.specs.Verdicts.{dolOffset}
 use Rattle.space.specs.declared.DiscRegion.{DiscRegion}
-use Rattle.dol.specs.declared.DolAnswer.{DolAnswer}
-use Rattle.dol.specs.Laws.Facts.{answered-verdict}
-use Rattle.dol.specs.Dol.{dolHeaderOf, fileSizeOf, dolVerdictOf, dolAnswered, dolAnswerOf}
+use Rattle.dol.specs.declared.DolSize.{DolSize}
+use Rattle.dol.specs.declared.DolSize.the-variants as size
+use Rattle.dol.specs.Dol.{dolHeaderOf, fileSizeOf, dolVerdictOf, dolSized, dolSizeOf}
 use Rattle.program.specs.declared.Program.{Program}
 use Rattle.program.specs.declared.Program.the-variants.{At, None, Refused}
 use Rattle.program.specs.Program.{programFrom, programAs, programOf, programVerdict, nowhere, placeOf, ownRegion}
@@ -22,24 +23,33 @@ module _ (image : List ℕ) (at : ℕ) (here : at ≡ dolOffset image) where
   unfolding programOf
   no-program z = rw (← here, eq-eqb at 0 z)
 
-  module _ (some : at ≡ 0 → ⊥) (a : DolAnswer) (read : a ≡ dolAnswerOf image at) where
-    by-verdict : (v : Verdict) → a .verdict ≡ v → programOf image ≡ programAs v (programFrom image at)
+  module _ (some : at ≡ 0 → ⊥) (a : DolSize) (read : a ≡ dolSizeOf image at) where
+    by-verdict : (v : Verdict) → dolVerdictOf image at ≡ v → programOf image ≡ programAs v (programFrom image at)
     unfolding programOf
-    by-verdict v e =
-        let d : dolVerdictOf image at ≡ v = sym (answered-verdict (dolVerdictOf image at) (dolHeaderOf image at)) ∙ sym (ap (λ (x : DolAnswer). x .verdict) read) ∙ e in
-        rw (← here, ne-eqb at 0 some, d)
+    by-verdict v e = rw (← here, ne-eqb at 0 some, e)
 
-    size-is : a .verdict ≡ verdict.Passed → a .size ≡ fileSizeOf (dolHeaderOf image at)
-    size-is e =
-        let d : dolVerdictOf image at ≡ verdict.Passed = sym (answered-verdict (dolVerdictOf image at) (dolHeaderOf image at)) ∙ sym (ap (λ (x : DolAnswer). x .verdict) read) ∙ e in
-        ap (λ (x : DolAnswer). x .size) read ∙ ap (λ (v : Verdict). dolAnswered v (dolHeaderOf image at) .size) d
+    pub a-program : (m n : ℕ) → a ≡ size.Bytes m → n ≡ max m 0xE4 → At (record { offset = at; size = n }) ≡ programOf image
+    a-program m n e f = go (dolVerdictOf image at) refl
+      where
+        told : (v : Verdict) → dolVerdictOf image at ≡ v → size.Bytes m ≡ dolSized v (fileSizeOf (dolHeaderOf image at))
+        told v q = sym e ∙ read ∙ ap (λ (u : Verdict). dolSized u (fileSizeOf (dolHeaderOf image at))) q
 
-    pub a-program : (n : ℕ) → a .verdict ≡ verdict.Passed → n ≡ max (a .size) 0xE4 → At (record { offset = at; size = n }) ≡ programOf image
-    a-program n e m =
-        sym (by-verdict verdict.Passed e ∙ ap (λ (k : ℕ). At (record { offset = at; size = k })) (ap (λ (k : ℕ). max k 0xE4) (sym (size-is e)) ∙ sym m))
+        go : (v : Verdict) → dolVerdictOf image at ≡ v → At (record { offset = at; size = n }) ≡ programOf image
+        go verdict.Passed q =
+            let t = told verdict.Passed q in
+            let k : m ≡ fileSizeOf (dolHeaderOf image at) = cc in
+            sym (by-verdict verdict.Passed q ∙ ap (λ (x : ℕ). At (record { offset = at; size = x })) (ap (λ (x : ℕ). max x 0xE4) (sym k) ∙ sym f))
+        go (verdict.Refused c) q = let t = told (verdict.Refused c) q in let z : _≡_ {A = ℕ} 0 1 = cc in absurd (omega arith)
 
-    pub no-header : (c : Refusal) → a .verdict ≡ verdict.Refused c → Refused c ≡ programOf image
-    no-header c e = sym (by-verdict (verdict.Refused c) e)
+    pub no-header : (c : Refusal) → a ≡ size.Refused c → Refused c ≡ programOf image
+    no-header c e = go (dolVerdictOf image at) refl
+      where
+        told : (v : Verdict) → dolVerdictOf image at ≡ v → size.Refused c ≡ dolSized v (fileSizeOf (dolHeaderOf image at))
+        told v q = sym e ∙ read ∙ ap (λ (u : Verdict). dolSized u (fileSizeOf (dolHeaderOf image at))) q
+
+        go : (v : Verdict) → dolVerdictOf image at ≡ v → Refused c ≡ programOf image
+        go verdict.Passed q = let t = told verdict.Passed q in let z : _≡_ {A = ℕ} 0 1 = cc in absurd (omega arith)
+        go (verdict.Refused d) q = let t = told (verdict.Refused d) q in let k : c ≡ d = cc in rw k (sym (by-verdict (verdict.Refused d) q))
 
 pub verdict-refused : (p : Program) (c : Refusal) → p ≡ Refused c → verdict.Refused c ≡ programVerdict p
 verdict-refused p c e = rw e

@@ -1,4 +1,5 @@
 // The program that a nonzero DOL offset means, and what it takes of the space behind the table.
+use dol::DolSize;
 use refusal::Refusal;
 use refusal::Verdict;
 use space::DiscRegion;
@@ -26,14 +27,13 @@ pub fn read(image: &[u8]) -> Program
     if at == 0 {
         return Program::None;
     }
-    let answer = dol::read(image, at as usize);
-    let verdict = answer.verdict;
-    match verdict {
-        Verdict::Passed => Program::At(DiscRegion {
+    let size = dol::size(image, at as usize);
+    match size {
+        DolSize::Bytes(n) => Program::At(DiscRegion {
             offset: at,
-            size: larger(answer.size, 0xE4),
+            size: larger(n, 0xE4),
         }),
-        Verdict::Refused(cause) => Program::Refused(cause),
+        DolSize::Refused(cause) => Program::Refused(cause),
     }
 }
 

@@ -20,6 +20,7 @@ fn cases(plan: &Plan, size: u32) -> Vec<(&'static str, Call, u32, u32)> {
         ("lookup of the last entry", Call::Lookup(last), 0, 64),
         ("free regions", Call::FreeRegions, 0, 64),
         ("free clusters", Call::FreeClusters, 0, 64),
+        ("program", Call::Program, 0, 64),
         ("allocate", Call::Allocate(0x40, 0x20), 0, 64),
         ("max file size", Call::MaxFileSize(file), file, 64),
         ("move, 1 byte", Call::Move(file, free), file, 1),
@@ -126,7 +127,11 @@ pub fn run(misses: &mut Vec<String>) {
                 );
                 let plan = if grows { &smaller } else { &whole };
                 let (name, call, entry, _) = cases(plan, size).swap_remove(i);
-                let times = measure(&call, plan, &mut images::image(plan), entry, NEW);
+                let mut image = images::image(plan);
+                if let Call::Program = call {
+                    images::put_program(&mut image, images::behind(plan));
+                }
+                let times = measure(&call, plan, &mut image, entry, NEW);
                 table.add(name, times);
             }
         }

@@ -47,6 +47,8 @@ pub struct Plan {
     pub file: u32,
     /// A free place of the file's size and more, behind all files.
     pub free: u32,
+    /// A free place between two files in the middle of all, of the size that was asked for.
+    pub gap: u32,
     pub disc_end: u32,
 }
 
@@ -122,6 +124,11 @@ fn up(n: usize, align: usize) -> usize {
 /// A master of `n` entries. Files are of 32 to 95 bytes, about half of them with free bytes behind; one in the middle of the table has
 /// `size` bytes. Their places rise with their numbers, or are in no order.
 pub fn plan(n: usize, sorted: bool, size: u32) -> Plan {
+    plan_with_gap(n, sorted, size, 0)
+}
+
+/// The same, and `gap` bytes free between two files in the middle of all.
+pub fn plan_with_gap(n: usize, sorted: bool, size: u32, gap: usize) -> Plan {
     let mut random = Random::new(n as u64);
     let mut nodes = tree(n, &mut random);
     let files: Vec<usize> = (0..n).filter(|&i| !nodes[i].is_directory).collect();
@@ -133,7 +140,12 @@ pub fn plan(n: usize, sorted: bool, size: u32) -> Plan {
         }
     }
     let mut at = up(FST_OFFSET + table_of(&nodes).len() + TABLE_SLACK, 0x8000);
-    for i in order {
+    let (middle, mut gap_at) = (order.len() / 2, 0);
+    for (k, i) in order.into_iter().enumerate() {
+        if k == middle {
+            gap_at = at;
+            at += gap;
+        }
         let length = if i == file { size as usize } else { 32 + random.below(64) };
         nodes[i].first = at as u32;
         nodes[i].second = length as u32;
@@ -145,7 +157,8 @@ pub fn plan(n: usize, sorted: bool, size: u32) -> Plan {
     let free = up(at, 0x8000);
     let disc_end = up(free + size as usize + 0x20000, 0x8000);
     let path_of = paths(&nodes);
-    Plan { nodes, path_of, file: file as u32, free: free as u32, disc_end: disc_end as u32 }
+    let [file, free, gap, disc_end] = [file, free, gap_at, disc_end].map(|n| n as u32);
+    Plan { nodes, path_of, file, free, gap, disc_end }
 }
 
 pub fn write_header(image: &mut [u8], fst_size: usize, disc_end: u32) {
@@ -176,4 +189,31 @@ pub fn image(plan: &Plan) -> Vec<u8> {
     let mut image = vec![0; plan.disc_end as usize];
     write(plan, &mut image);
     image
+}
+
+/// Bytes of a program, its header of 0x100 bytes included.
+pub const PROGRAM: usize = 0x800;
+
+/// A place for a program: behind the table and before all files.
+pub fn behind(plan: &Plan) -> usize {
+    up(FST_OFFSET + table_of(&plan.nodes).len(), 0x100)
+}
+
+/// A program of two text and three data sections, at a place that is free.
+pub fn put_program(image: &mut [u8], at: usize) {
+    let mut put = |at: usize, word: usize| {
+        image[at..at + 4].copy_from_slice(&(word as u32).to_be_bytes());
+    };
+    put(0x420, at);
+    let size = (PROGRAM - 0x100) / 5 / 4 * 4;
+    for (k, section) in [0, 1, 7, 8, 9].into_iter().enumerate() {
+        let end = if k == 4 { PROGRAM } else { 0x100 + (k + 1) * size };
+        put(at + 4 * section, 0x100 + k * size);
+        put(at + 0x48 + 4 * section, 0x8000_3100 + k * size);
+        put(at + 0x90 + 4 * section, end - (0x100 + k * size));
+    }
+    put(at + 0xe0, 0x8000_3100);
+    for (i, byte) in image[at + 0x100..at + PROGRAM].iter_mut().enumerate() {
+        *byte = (i % 251) as u8;
+    }
 }

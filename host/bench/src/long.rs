@@ -22,7 +22,7 @@ pub fn plan(n: usize) -> Plan {
     nodes.push(node("z", true, end - 2, end));
     let table = images::table_of(&nodes).len();
     let disc_end = (FST_OFFSET + table + 0x20000).next_multiple_of(0x8000) as u32;
-    Plan { nodes, path_of: vec![], file: 3, free: 0, disc_end }
+    Plan { nodes, path_of: vec![], file: 3, free: 0, gap: 0, disc_end }
 }
 
 /// `z/../z/../z`, up to 1,024 bytes.

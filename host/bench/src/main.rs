@@ -25,10 +25,16 @@ mod growth;
 mod images;
 mod long;
 mod measure;
+mod program;
 mod sides;
 
 fn main() {
     let wanted: Vec<String> = std::env::args().skip(1).collect();
+    if let [word, folder] = &wanted[..]
+        && word == "write"
+    {
+        return program::write(folder.as_ref()).unwrap();
+    }
     let runs = |name: &str| wanted.is_empty() || wanted.iter().any(|w| w == name);
     let mut misses = vec![];
     if runs("calls") {
@@ -43,6 +49,9 @@ fn main() {
     }
     if runs("adversarial") {
         adversarial::run(&mut misses);
+    }
+    if runs("program") {
+        program::run(&mut misses);
     }
     if runs("giant") {
         giant::run(&mut misses);

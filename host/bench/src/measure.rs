@@ -21,6 +21,25 @@ pub fn shortest<const N: usize>(mut round: impl FnMut(usize) -> Duration) -> [Du
     best
 }
 
+/// For where a few percent count: as many rounds as there is time for, and of each contender the time that nine runs of ten take at
+/// least, which neither others at work nor a clock that is set make another.
+pub fn tenth<const N: usize>(
+    budget: Duration,
+    mut round: impl FnMut(usize) -> Duration,
+) -> [Duration; N] {
+    let mut times = [const { vec![] }; N];
+    let start = Instant::now();
+    while times[0].len() < LEAST || start.elapsed() < budget {
+        for (side, times) in times.iter_mut().enumerate() {
+            times.push(round(side));
+        }
+    }
+    times.map(|mut times| {
+        times.sort();
+        times[times.len() / 10]
+    })
+}
+
 #[repr(C)]
 struct Timespec {
     seconds: i64,

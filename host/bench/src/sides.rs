@@ -15,6 +15,7 @@ pub enum Call {
     Lookup(Vec<u8>),
     FreeRegions,
     FreeClusters,
+    Program,
     Allocate(u32, u32),
     MaxFileSize(u32),
     InsertFile(u32, Vec<u8>),
@@ -30,7 +31,7 @@ impl Call {
         use Call::*;
         !matches!(
             self,
-            Open | Lookup(_) | FreeRegions | FreeClusters | Allocate(..) | MaxFileSize(_)
+            Open | Lookup(_) | FreeRegions | FreeClusters | Program | Allocate(..) | MaxFileSize(_)
         )
     }
 }
@@ -70,6 +71,14 @@ impl Lent {
                 let found = counter::free_clusters(image, memory, &mut self.list);
                 let time = start.elapsed();
                 return (time, found.map(|n| self.list[..CLUSTER_WORDS * n as usize].to_vec()));
+            }
+            Call::Program => {
+                let found = counter::program(image, memory);
+                let time = start.elapsed();
+                return (
+                    time,
+                    found.map(|program| program.map_or(vec![], |r| vec![r.offset, r.size])),
+                );
             }
             Call::Allocate(size, align) => {
                 counter::allocate(image, memory, *size, *align).map(|r| vec![r.offset, r.size])
@@ -120,7 +129,7 @@ fn in_clusters(region: &DiscRegion) -> [u32; CLUSTER_WORDS] {
 
 pub fn rust_reads(call: &Call, image: &[u8], id: EntryId) -> Timed {
     let start = Watch::start();
-    let disc = DiscStream::open(Cursor::new(image)).unwrap();
+    let mut disc = DiscStream::open(Cursor::new(image)).unwrap();
     match call {
         Call::Open => {
             let answer = black_box([disc.total_size(), disc.used_size()]);
@@ -137,6 +146,12 @@ pub fn rust_reads(call: &Call, image: &[u8], id: EntryId) -> Timed {
         Call::FreeClusters => {
             let each: Vec<_> = black_box(disc.free_regions().iter().map(in_clusters).collect());
             (start.elapsed(), each.concat())
+        }
+        // What document 02 asks of a program, which the Rust has no call for: the DOL header read, and at least as long as it.
+        Call::Program => {
+            let size = black_box(disc.open_dol().unwrap().0.file_size().max(0xe4));
+            let time = start.elapsed();
+            (time, vec![u32::from_be_bytes(image[0x420..0x424].try_into().unwrap()), size])
         }
         Call::Allocate(size, align) => {
             let region = black_box(disc.allocate(*size, *align).unwrap());

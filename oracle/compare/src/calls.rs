@@ -209,6 +209,9 @@ fn marks(tree: &Tree) -> Vec<u64> {
     for entry in tree.entries.iter().filter(|e| !e.directory) {
         marks.extend([entry.offset as u64, entry.offset as u64 + entry.size as u64]);
     }
+    if let Some((offset, size)) = tree.program {
+        marks.extend([offset, offset + size / 2, offset + size]);
+    }
     marks
 }
 

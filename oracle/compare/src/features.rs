@@ -2,7 +2,57 @@
 
 use crate::calls::Call;
 use crate::judge::{New, new_place};
-use crate::paper::{self, Tree};
+use crate::paper::{self, Refusal, Tree, word};
+
+/// What stands out about the program of an image that opens, or that only its program keeps from it.
+pub fn of_program(image: &[u8], opened: &Result<Tree, Refusal>) -> Vec<&'static str> {
+    let number = opened.as_ref().map_or_else(|refusal| refusal.number, |_| 0);
+    if !matches!(number, 0 | 14 | 24) || number == 14 && paper::files_are_bad(image) {
+        return vec![];
+    }
+    let at = word(image, 0x420) as u64;
+    if at == 0 {
+        return vec!["program: none"];
+    }
+    let length = image.len() as u64;
+    let Some(size) = paper::dol_size(image, at) else {
+        let by_one = at + paper::DOL_HEADER == length + 1;
+        return if by_one { vec!["program: its header one byte past the image"] } else { vec![] };
+    };
+    let (fst_offset, fst_size) = (word(image, 0x424) as u64, word(image, 0x428) as u64);
+    let disc_end = word(image, 0x434) as u64 + word(image, 0x438) as u64;
+    let (table_end, end) = (fst_offset + fst_size, at + size.max(paper::DOL_HEADER));
+    let (before, behind) = (at >= 0x440 && end <= fst_offset, at >= table_end);
+    let files = paper::files_of(image);
+    let starts = |at: u64| files.iter().any(|(start, _)| *start == at);
+    let ends = |at: u64| files.iter().any(|(start, size)| start + size == at);
+    let met: &[(bool, &str)] = match number {
+        0 => &[
+            (before, "program: before the table"),
+            (before && at == 0x440, "program: before the table, from 0x440 on"),
+            (before && end == fst_offset, "program: before the table, up to it"),
+            (behind, "program: behind the table"),
+            (at == table_end, "program: behind the table, right behind it"),
+            (behind && starts(end), "program: right before a file"),
+            (behind && ends(at), "program: right behind a file"),
+            (end == disc_end, "program: up to the disc end"),
+            (at + paper::DOL_HEADER == length, "program: its header up to the image's end"),
+            (size < paper::DOL_HEADER, "program: file size below 0xE4"),
+        ],
+        14 => &[
+            (at + 1 == 0x440 && end <= fst_offset, "program: one byte below 0x440"),
+            (at >= 0x440 && end == fst_offset + 1, "program: one byte over the table's start"),
+            (at + 1 == table_end, "program: one byte over the table's end"),
+            (behind && starts(end - 1), "program: one byte over a file's start"),
+            (behind && ends(at + 1), "program: one byte over a file's end"),
+            (at < disc_end && end == disc_end + 1, "program: one byte past the disc end"),
+            (at >= disc_end, "program: behind the disc end, its header in the image"),
+            (size == u32::MAX as u64, "program: a sum of 2^32 - 1"),
+        ],
+        _ => &[(size == 1 << 32, "program: a sum of 2^32")],
+    };
+    met.iter().filter(|(met, _)| *met).map(|(_, feature)| *feature).collect()
+}
 
 /// What stands out about a call on `tree` that is answered `expected`, with the memory lent.
 pub fn features(
@@ -18,6 +68,12 @@ pub fn features(
     let least = 4 * (tree.entries.len() + 2);
     if accepted && !call.edits() && words == least {
         met.push("memory: exactly the words that opening wants");
+        if *call == Call::Open && tree.behind().is_some() {
+            met.push("memory: exactly the words, and a program behind the table");
+        }
+    }
+    if *call == Call::Free && tree.free.len() > tree.entries.len() {
+        met.push("free regions: one more than entries");
     }
     match call {
         Call::Alloc(size, align) if align.is_power_of_two() => {
@@ -111,6 +167,13 @@ fn of_edit(
         }
         if accepted && here && size > old && size == tree.most(file.offset as u64, old) {
             met.push("resize: exactly as far as it goes");
+            if tree.behind().is_some_and(|(at, _)| file.offset as u64 + size == at) {
+                met.push("resize: exactly up to the program");
+            }
+        }
+        let past = |(at, _): (u64, u64)| size == old + 1 && file.offset as u64 + old == at;
+        if old > 0 && !here && tree.behind().is_some_and(past) {
+            met.push("resize: one byte more, and the program lies right behind");
         }
     }
     if let (Call::Move(_, offset), Some(file)) = (call, file.filter(|file| !file.directory)) {
@@ -123,6 +186,17 @@ fn of_edit(
         }
         if accepted && size > 0 && tree.most(*offset as u64, 0) == size {
             met.push("move: up to the end of a free region");
+        }
+        if let Some((program, length)) = tree.behind().filter(|_| size > 0) {
+            let (to, end) = (*offset as u64, *offset as u64 + size);
+            let beside = end == program || to == program + length;
+            let into = to < program && end == program + 1 || to + 1 == program + length;
+            if accepted && beside {
+                met.push("move: right beside the program");
+            }
+            if expected == "err 21" && into {
+                met.push("move: one byte into the program");
+            }
         }
     }
     if !writes {
@@ -156,6 +230,15 @@ fn of_edit(
     }
     if expected == "err 21" && place.is_some() && new.size() == room + 1 {
         met.push("table: one byte too long for the room behind it");
+    }
+    if let Some((program, _)) = tree.behind().filter(|(at, _)| tree.fst_offset + room == *at) {
+        let end = tree.fst_offset + new.size();
+        if accepted && end == program {
+            met.push("table: grows exactly up to the program, or abuts it");
+        }
+        if expected == "err 21" && place.is_some() && end == program + 1 {
+            met.push("table: one byte over the program");
+        }
     }
     if let Some((offset, size)) = place
         && size > 0

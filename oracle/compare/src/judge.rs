@@ -1,7 +1,7 @@
-//! What Counter has to answer, from the original's answer and document 01, and which entry of
-//! docs/DIFFERENCES.md the two differ under.
+//! What Counter has to answer, from the original's answer and documents 01 and 02, and which entry
+//! of docs/DIFFERENCES.md the two differ under.
 
-use crate::calls::{Call, hex};
+use crate::calls::{Call, hex, unhex};
 use crate::paper::{self, Bound, Refusal, Tree, word};
 use std::fmt::Write as _;
 
@@ -25,16 +25,21 @@ pub enum Class {
     HalfDone,
     TableOverFile,
     DolSum,
+    ProgramHeader,
+    ProgramPlace,
+    ProgramFree,
+    ProgramSpace,
+    ProgramEdits,
 }
 
-pub const CLASSES: [(Class, &str); 17] = [
+pub const CLASSES: [(Class, &str); 22] = [
     (Class::NameWithoutZero, "Game name without a zero byte"),
     (Class::NameBehindZero, "Game name with bytes behind its first zero byte"),
     (Class::Bounds, "FST offset below 0x440; image shorter than the disc end"),
     (Class::Sums, "Disc end or table end above 2^32 - 1"),
     (Class::TableEnd, "Table end past the disc end"),
     (Class::Regions, "Files that overlap, pass the disc end or lie in the table"),
-    (Class::RegionsFirst, "Such files together with a cause of the walk (9 to 13)"),
+    (Class::RegionsFirst, "Such files together with a cause that comes before 14 (9 to 13, 24)"),
     (Class::NestedNext, "A nested next past its parent's"),
     (Class::CutEntry, "An entry that the table cuts off, with an unknown kind"),
     (Class::NameBytes, "Names with bytes below 0x20 or above 0x7E"),
@@ -55,6 +60,14 @@ pub const CLASSES: [(Class, &str); 17] = [
         "A table that grows over the place a file was just moved to, or grown in",
     ),
     (Class::DolSum, "DOL sum above 2^32 - 1"),
+    (
+        Class::ProgramHeader,
+        "A program whose header passes the image, or with a sum above 2^32 - 1, at opening",
+    ),
+    (Class::ProgramPlace, "A program across the table, over a file or past the disc end"),
+    (Class::ProgramFree, "Free regions and used total with a program behind the table"),
+    (Class::ProgramSpace, "Largest sizes and allocation with a program behind the table"),
+    (Class::ProgramEdits, "Edits that would take some of a program behind the table"),
 ];
 
 /// A call and what it is made on.
@@ -167,15 +180,19 @@ fn refused(number: u32) -> String {
     format!("err {number}")
 }
 
-/// The entry for an image that 01 refuses, where the original answers `answer`.
-fn class_of_refusal(image: &[u8], refusal: Refusal, answer: &str) -> Option<Class> {
+/// The entry for an image that 01 refuses, where the original answers `answer` to `call`.
+fn class_of_refusal(image: &[u8], refusal: Refusal, call: &Call, answer: &str) -> Option<Class> {
     if answer == "err Text:NoNulTerminator" {
         return (odd_name(image) == Some(Class::NameWithoutZero)).then_some(Class::NameWithoutZero);
     }
     let entry = refusal.entry;
-    if matches!(refusal.number, 9..=13) && answer == "panic" && paper::regions_are_bad(image) {
+    let files_are_bad = || paper::files_are_bad(image);
+    if matches!(refusal.number, 9..=13 | 24) && answer == "panic" && files_are_bad() {
         return Some(Class::RegionsFirst);
     }
+    // The original opens whatever the program is; these calls panic on an image that it opens.
+    let opened =
+        opens(answer) || answer == "panic" && matches!(call, Call::Alloc(..) | Call::MaxRegion(..));
     match refusal.number {
         4 => Some(match paper::bounds(image).unwrap() {
             Bound::FstOffset | Bound::ImageShort => Class::Bounds,
@@ -193,7 +210,12 @@ fn class_of_refusal(image: &[u8], refusal: Refusal, answer: &str) -> Option<Clas
         9 => Some(Class::Limits),
         10 => refusal.past_parent.then_some(Class::NestedNext),
         12 => Some(Class::NameBytes),
-        14 => (answer == "panic" || opens(answer)).then_some(Class::Regions),
+        14 if files_are_bad() => (answer == "panic" || opened).then_some(Class::Regions),
+        14 => opened.then_some(Class::ProgramPlace),
+        24 if answer == "panic" && matches!(call, Call::Dol | Call::DolWindow(_)) => {
+            Some(Class::DolSum)
+        }
+        24 => opened.then_some(Class::ProgramHeader),
         _ => None,
     }
 }
@@ -301,6 +323,59 @@ pub fn new_place(tree: &Tree, call: &Call) -> Option<(u64, u64)> {
     }
 }
 
+/// A growth that finds another place, on an image with a program behind its table: the original
+/// would grow over the program, or look for a place in it, so it is told the place that 02 leaves.
+pub fn told_where(tree: &Tree, call: &Call) -> Option<String> {
+    let Call::Resize(number, _) = call else { return None };
+    tree.behind()?;
+    let file = tree.entries.get(*number as usize).filter(|entry| !entry.directory)?;
+    let (place, size) = new_place(tree, call)?;
+    let (offset, old) = (file.offset as u64, file.size as u64);
+    let stays = size <= old || size <= tree.most(offset, old);
+    (!stays).then(|| format!("place {number} {place} {size}"))
+}
+
+/// An edit of an image with a program behind its table, which the original takes for free space:
+/// places and the table's room are judged here, all else by the original. `answer` is the original's
+/// on the place that it was told, if it was told one.
+fn judge_beside_program(tree: &Tree, given: &Given, answer: &str) -> Result<Verdict, String> {
+    let told = mapped(answer);
+    let same = |expected: String| Ok(Verdict { expected, class: None });
+    let place = new_place(tree, given.call);
+    // A growth without a place is 21 before 20.
+    let nowhere = place.is_none() && matches!(given.call, Call::Resize(..)) && told == "err 20";
+    if told.starts_with("err ") && told != "err 21" && !nowhere {
+        return match answer.ends_with("changed") {
+            true => Err("refused by its own number, and the image changed".into()),
+            false => same(told),
+        };
+    }
+    if let Call::Resize(number, size) = given.call
+        && tree.entries.get(*number as usize).is_some_and(|e| !e.directory && e.size == *size)
+    {
+        return same(told);
+    }
+    let new = New::of(tree, given.call).ok_or("a path with trouble, and accepted or 21")?;
+    if place.is_some() && new.past_limits(given) {
+        return Ok(Verdict { expected: refused(9), class: Some(Class::Limits) });
+    }
+    let fits = new.size() <= tree.most(tree.fst_offset, tree.fst_size);
+    let over = place.is_some_and(|(at, size)| size > 0 && tree.fst_offset + new.size() > at);
+    if place.is_some() && fits && !over {
+        return match told.starts_with("ok") {
+            true => same(told),
+            false => Err("no space, though place and table have it".into()),
+        };
+    }
+    let class = match told.as_str() {
+        "err 21" => answer.ends_with("changed").then_some(Class::HalfDone),
+        "panic" if over => Some(Class::TableOverFile),
+        "panic" if place.is_some() => return Err("a panic that is on no list".into()),
+        _ => Some(Class::ProgramEdits),
+    };
+    Ok(Verdict { expected: refused(21), class })
+}
+
 /// An edit of an image that opens. The original's answer says too whether its refusal left the
 /// image changed.
 fn judge_edit(tree: &Tree, given: &Given, answer: &str) -> Result<Verdict, String> {
@@ -352,6 +427,109 @@ fn judge_edit(tree: &Tree, given: &Given, answer: &str) -> Result<Verdict, Strin
     Ok(Verdict { expected: told, class })
 }
 
+type Regions = Vec<(u64, u64)>;
+
+/// The original's free regions after the program is taken out of them.
+fn without(mut regions: Regions, (at, size): (u64, u64)) -> Result<Regions, String> {
+    let end = at + size;
+    let holds = |(start, len): &(u64, u64)| *start <= at && end <= start + len;
+    let i =
+        regions.iter().position(holds).ok_or("the program is not in the original's free list")?;
+    let (start, len) = regions[i];
+    let parts = [(start, at - start), (end, start + len - end)];
+    regions.splice(i..=i, parts.into_iter().filter(|(_, size)| *size > 0));
+    Ok(regions)
+}
+
+/// The original's listing after the program is taken out of it: the used total, and the regions.
+fn listing_without(listing: &[u8], program: (u64, u64)) -> Result<Vec<u8>, String> {
+    let text = String::from_utf8_lossy(listing);
+    let number = |word: Option<&str>| -> Result<u64, String> {
+        word.and_then(|word| word.parse().ok()).ok_or_else(|| "a listing".into())
+    };
+    let (mut out, mut regions) = (String::new(), vec![]);
+    for line in text.lines() {
+        let mut words = line.split(' ');
+        match words.next() {
+            Some("total") => {
+                let (total, used) = (number(words.next())?, number(words.nth(1))?);
+                writeln!(out, "total {total} used {}", used + program.1).unwrap();
+            }
+            Some("r") => regions.push((number(words.next())?, number(words.next())?)),
+            _ => writeln!(out, "{line}").unwrap(),
+        }
+    }
+    for (at, size) in without(regions, program)? {
+        writeln!(out, "r {at} {size}").unwrap();
+    }
+    Ok(out.into_bytes())
+}
+
+/// The listing that Counter has to give after an edit, from the original's answer.
+pub fn listing_after(answer: &str, image_after: &Tree) -> Result<String, String> {
+    match (image_after.behind(), answer.strip_prefix("ok ")) {
+        (Some(program), Some(text)) => {
+            Ok(format!("ok {}", hex(&listing_without(&unhex(text), program)?)))
+        }
+        _ => Ok(answer.into()),
+    }
+}
+
+/// What the original says of free space, on an image with a program behind its table. 02: "The
+/// Rust's free list is compared after the program is taken out of it, and its largest sizes,
+/// allocations and edits only on images whose program lies before the table or is absent."
+fn judge_space(
+    tree: &Tree,
+    given: &Given,
+    told: &str,
+    program: (u64, u64),
+) -> Result<Option<Verdict>, String> {
+    if told == "panic" || told.starts_with("err") && told != "err 21" {
+        return Ok(None);
+    }
+    let numbers = || told.split([' ', ':']).skip(1).map(|n| n.parse::<u64>().unwrap());
+    let differs = |expected: String, class| {
+        let class = (expected != told).then_some(class);
+        Ok(Some(Verdict { expected, class }))
+    };
+    match given.call {
+        Call::Free => {
+            let words: Vec<u64> = numbers().collect();
+            let regions = without(words.chunks(2).map(|c| (c[0], c[1])).collect(), program)?;
+            if regions != tree.free {
+                return Err("the original's free list without the program".into());
+            }
+            let words: Vec<String> = regions.iter().map(|(at, n)| format!(" {at}:{n}")).collect();
+            differs(format!("ok{}", words.concat()), Class::ProgramFree)
+        }
+        Call::Used => {
+            let used = numbers().sum::<u64>() + program.1;
+            if used != tree.used() {
+                return Err("the original's used total and the program".into());
+            }
+            differs(format!("ok {used}"), Class::ProgramFree)
+        }
+        Call::Listing => differs(listing_after(told, tree)?, Class::ProgramFree),
+        Call::MaxRegion(offset, size) => {
+            let most = tree.most(*offset as u64, *size as u64);
+            differs(format!("ok {most}"), Class::ProgramSpace)
+        }
+        Call::MaxFile(number) => {
+            let file = &tree.entries[*number as usize];
+            let most = tree.most(file.offset as u64, file.size as u64);
+            differs(format!("ok {most}"), Class::ProgramSpace)
+        }
+        Call::Alloc(size, align) => differs(
+            match tree.place(*size as u64, *align as u64) {
+                Some((offset, rest)) => format!("ok {offset} {rest}"),
+                None => refused(21),
+            },
+            Class::ProgramSpace,
+        ),
+        _ => Ok(None),
+    }
+}
+
 fn judge_look(tree: &Tree, given: &Given, answer: &str) -> Result<Verdict, String> {
     let told = mapped(answer);
     let differs = |expected: String, class| Ok(Verdict { expected, class: Some(class) });
@@ -393,6 +571,11 @@ fn judge_look(tree: &Tree, given: &Given, answer: &str) -> Result<Verdict, Strin
     if told == "panic" || told == "huge" || told.starts_with("usage") {
         return Err("an answer that is on no list".into());
     }
+    if let Some(program) = tree.behind()
+        && let Some(verdict) = judge_space(tree, given, &told, program)?
+    {
+        return Ok(verdict);
+    }
     Ok(Verdict { expected: told, class: None })
 }
 
@@ -422,7 +605,7 @@ pub fn judge(given: &Given, answer: &str, twin: Option<&str>) -> Result<Verdict,
                 let class = (answer == "skip").then_some(Class::NotUtf8);
                 return Ok(Verdict { expected, class });
             }
-            let class = class_of_refusal(given.image, *refusal, &told);
+            let class = class_of_refusal(given.image, *refusal, given.call, &told);
             let class = class.ok_or_else(|| format!("01 refuses with {refusal:?}"))?;
             return Ok(Verdict { expected, class: Some(class) });
         }
@@ -435,6 +618,7 @@ pub fn judge(given: &Given, answer: &str, twin: Option<&str>) -> Result<Verdict,
         return Ok(Verdict { expected: refused(9), class: Some(Class::Limits) });
     }
     let by = |answer: &str| match given.call.edits() {
+        true if tree.behind().is_some() => judge_beside_program(tree, given, answer),
         true => judge_edit(tree, given, answer),
         false => judge_look(tree, given, answer),
     };
@@ -442,6 +626,11 @@ pub fn judge(given: &Given, answer: &str, twin: Option<&str>) -> Result<Verdict,
     let mut verdict = by(twin)?;
     if answer == "skip" {
         verdict.class = Some(Class::NotUtf8);
+    } else if let Call::Resize(..) = given.call {
+        // Told where to go, since it takes the program for free space.
+        if told != verdict.expected && verdict.class.is_none() {
+            verdict.class = Some(Class::ProgramEdits);
+        }
     } else if told != mapped(twin) {
         verdict.class = Some(Class::NameBytes);
     }

@@ -9,6 +9,7 @@ mod features;
 mod judge;
 mod masters;
 mod paper;
+mod programs;
 mod random;
 mod run;
 mod sample;
@@ -20,12 +21,15 @@ use sample::Sample;
 use std::process::exit;
 use std::time::Instant;
 
+const SUITES: [&str; 6] = ["limits", "numbers", "programs", "tables", "trees", "random"];
+
 struct Options {
     probe: String,
     oracle: String,
     list: String,
     seed: u64,
     images: u64,
+    faults: usize,
     suites: Vec<String>,
     inserts: bool,
     sample: Option<String>,
@@ -38,6 +42,7 @@ fn options() -> Options {
         list: "docs/DIFFERENCES.md".into(),
         seed: 1,
         images: 100_000,
+        faults: run::FAULTS,
         suites: vec![],
         inserts: true,
         sample: None,
@@ -51,15 +56,15 @@ fn options() -> Options {
             "--list" => options.list = value(),
             "--seed" => options.seed = value().parse().unwrap_or_else(|_| usage()),
             "--images" => options.images = value().parse().unwrap_or_else(|_| usage()),
+            "--faults" => options.faults = value().parse().unwrap_or_else(|_| usage()),
             "--sample" => options.sample = Some(value()),
             "--no-inserts" => options.inserts = false,
-            "random" | "tables" | "trees" | "numbers" | "limits" => options.suites.push(word),
+            name if SUITES.contains(&name) => options.suites.push(word),
             _ => usage(),
         }
     }
     if options.suites.is_empty() {
-        let all = ["limits", "numbers", "tables", "trees", "random"];
-        options.suites = all.map(String::from).to_vec();
+        options.suites = SUITES.map(String::from).to_vec();
     }
     options
 }
@@ -67,8 +72,9 @@ fn options() -> Options {
 fn usage() -> ! {
     eprintln!(
         "compare [--probe PROGRAM] [--oracle PROGRAM] [--list DIFFERENCES.md] [--seed N] \
-         [--images N] [limits] [numbers] [tables] [trees] [random]\n\
-         compare [--oracle PROGRAM] [--seed N] [--images N] --sample FILE"
+         [--images N] [--faults N] [{}]\n\
+         compare [--oracle PROGRAM] [--seed N] [--images N] --sample FILE",
+        SUITES.join("] [")
     );
     exit(2)
 }
@@ -114,6 +120,12 @@ fn report(counts: &Counts) {
             of.iter().map(|((_, call), count)| format!("`{call}` {count}")).collect();
         println!("| {entry} | {total} | {} |", calls.join(", "));
     }
+    if !counts.wrong.is_empty() {
+        println!("\n| Fault | Met |\n|---|---|");
+    }
+    for (what, count) in &counts.wrong {
+        println!("| {what} | {count} |");
+    }
 }
 
 /// Writes a sample of the original's answers for host/replay.
@@ -150,6 +162,7 @@ fn main() {
         eprintln!("{} or {}: {error}", options.probe, options.oracle);
         exit(2)
     });
+    run.faults = options.faults;
     for suite in &options.suites {
         if run.over() {
             break;
@@ -158,6 +171,7 @@ fn main() {
         match suite.as_str() {
             "limits" => suites::limits(&mut run),
             "numbers" => suites::numbers(&mut run),
+            "programs" => programs::programs(&mut run),
             "tables" => suites::tables(&mut run),
             "trees" => suites::trees(&mut run),
             _ => run.random(options.seed, options.images, 14, 9),

@@ -113,19 +113,58 @@ fn texts(r: &mut Random, records: &mut [Record]) -> (Vec<u8>, Vec<usize>) {
     (texts, places)
 }
 
-/// Places and sizes of the files; the answer is the end of the last one.
-fn layout(r: &mut Random, records: &mut [Record], table_end: u64, growth: u64) -> u64 {
+/// A program of document 02: its offset, the file size that its header tells, and its length.
+#[derive(Clone, Copy)]
+struct Program {
+    at: u64,
+    size: u64,
+}
+
+impl Program {
+    fn length(&self) -> u64 {
+        self.size.max(paper::DOL_HEADER)
+    }
+}
+
+fn program(r: &mut Random) -> Program {
+    let size = match r.below(8) {
+        0 => 0,
+        1 => r.within(1, 0xe2),
+        2 => 0xe3,
+        3 => 0xe4,
+        4 => 0xe5,
+        5 => 0x100,
+        _ => r.within(0xe4, 0x400),
+    };
+    Program { at: 0, size: size as u64 }
+}
+
+/// Places and sizes of the files, and a place for the program between them; the answer is the end of
+/// the last one.
+fn layout(
+    r: &mut Random,
+    records: &mut [Record],
+    mut program: Option<&mut Program>,
+    table_end: u64,
+    growth: u64,
+) -> u64 {
     let mut files: Vec<usize> = (0..records.len()).filter(|k| !records[*k].directory).collect();
     for i in (1..files.len()).rev() {
         files.swap(i, r.below(i + 1));
+    }
+    // The number behind all entries stands for the program.
+    let mut order = files.clone();
+    if program.is_some() {
+        order.insert(r.below(order.len() + 1), records.len());
     }
     let tight = r.chance(30);
     // Gaps of one size, for largest rests that occur twice.
     let even = r.chance(20).then_some(r.within(1, 40) as u64);
     let (mut end, mut first) = (table_end, true);
     let mut marks = vec![0, 0x440, table_end - 1, table_end, u32::MAX as u64];
-    for k in &files {
-        if r.chance(25) {
+    for k in order {
+        let is_program = k == records.len();
+        if !is_program && r.chance(25) {
             continue; // empty: placed below
         }
         let gap = match r.below(if tight { 4 } else { 10 }) {
@@ -153,7 +192,16 @@ fn layout(r: &mut Random, records: &mut [Record], table_end: u64, growth: u64) -
             6 => r.within(0x80, 0x200),
             _ => r.within(1, 8),
         } as u64;
-        (records[*k].offset, records[*k].size) = (end + gap, size);
+        let size = match program.as_deref_mut().filter(|_| is_program) {
+            Some(program) => {
+                program.at = end + gap;
+                program.length()
+            }
+            None => {
+                (records[k].offset, records[k].size) = (end + gap, size);
+                size
+            }
+        };
         marks.extend([end, end + gap, end + gap + size / 2]);
         end += gap + size;
     }
@@ -170,11 +218,20 @@ fn layout(r: &mut Random, records: &mut [Record], table_end: u64, growth: u64) -
 }
 
 /// Up to three files more, each ending at a multiple of the alignment that growth looks for, so
-/// that the places it finds are alike; and empty files inside such places.
-fn spread(r: &mut Random, records: &mut [Record], end: u64) -> u64 {
+/// that the places it finds are alike; empty files inside such places, and perhaps the program.
+fn spread(r: &mut Random, records: &mut [Record], program: Option<&mut Program>, end: u64) -> u64 {
     let mut at = end.next_multiple_of(paper::ALIGN);
     let size = r.within(1, 0x40) as u64;
     let mut left = r.within(1, 3);
+    if let Some(program) = program
+        && r.chance(60)
+    {
+        let length = program.length();
+        let before = at.checked_sub(length).filter(|start| *start >= end);
+        let inside = at + r.within(1, 0x4000) as u64;
+        program.at = *r.pick(&[before.unwrap_or(at), at, inside]);
+        at = (program.at + length).next_multiple_of(paper::ALIGN) + paper::ALIGN;
+    }
     for record in records.iter_mut().filter(|record| !record.directory && record.size == 0) {
         if left > 0 && r.chance(70) {
             (record.offset, record.size) = (at - size, size);
@@ -190,17 +247,33 @@ fn spread(r: &mut Random, records: &mut [Record], end: u64) -> u64 {
     (at - if r.chance(50) { size } else { r.below(0x40) as u64 }).max(end)
 }
 
-fn dol_header(r: &mut Random, image: &mut [u8]) {
-    for i in 0..57 {
-        let small = r.below(4 * image.len().min(0x400)) as u32;
-        let value = if r.chance(50) { 0 } else { small };
-        set_word(image, 4 * i, value);
+/// A sum of the DOL header: offset and size of section `i` of 18.
+fn set_sum(r: &mut Random, dol: &mut [u8], i: usize, sum: u64) {
+    let least = sum.saturating_sub(u32::MAX as u64);
+    let offset = match r.below(4) {
+        0 => least,
+        1 => sum - least,
+        _ => least + r.next() % (sum - 2 * least + 1),
+    };
+    set_word(dol, 4 * i, offset as u32);
+    set_word(dol, 4 * (36 + i), (sum - offset) as u32);
+}
+
+/// A DOL header that tells this file size; what else it holds is any number.
+fn dol_header(r: &mut Random, dol: &mut [u8], size: u64) {
+    let largest = r.below(18);
+    for i in 0..18 {
+        let sum = match r.below(4) {
+            _ if i == largest => size,
+            0 => size,
+            1 => 0,
+            _ => r.next() % (size + 1),
+        };
+        set_sum(r, dol, i, sum);
+        set_word(dol, 4 * (18 + i), r.next() as u32);
     }
-    if r.chance(10) {
-        let i = r.below(18);
-        let at = *r.pick(&[u32::MAX, u32::MAX - 1, 0x8000_0000]);
-        set_word(image, 4 * i, at);
-        set_word(image, 4 * (36 + i), (u32::MAX - at).wrapping_add(r.below(2) as u32));
+    for i in 54..57 {
+        set_word(dol, 4 * i, r.next() as u32);
     }
 }
 
@@ -232,17 +305,28 @@ pub fn master(r: &mut Random) -> Vec<u8> {
     };
     let mut records = nesting(r, n);
     let (texts, places) = texts(r, &mut records);
-    let fst_offset = match r.below(10) {
-        0..=6 => 0x440,
-        7 | 8 => r.within(0x441, 0x480),
-        _ => r.within(0x481, 0x640),
-    } as u64;
+    // No program, one before the table, one behind it.
+    let (mut before, mut behind) = match r.below(10) {
+        0..=3 => (None, None),
+        4 | 5 => (Some(program(r)), None),
+        _ => (None, Some(program(r))),
+    };
+    let fst_offset = match (r.below(10), &mut before) {
+        (k, Some(program)) => {
+            program.at = 0x440 + if k < 4 { 0 } else { r.within(1, 0x40) as u64 };
+            let end = program.at + program.length();
+            end + if r.chance(40) { 0 } else { r.within(1, 0x40) as u64 }
+        }
+        (0..=6, None) => 0x440,
+        (7 | 8, None) => r.within(0x441, 0x480) as u64,
+        _ => r.within(0x481, 0x640) as u64,
+    };
     let fst_size = 12 * n as u64 + texts.len() as u64;
     let written: u64 = records.iter().map(|record| 13 + record.name.len() as u64).sum::<u64>() - 1;
     let growth = written.saturating_sub(fst_size);
-    let end = layout(r, &mut records, fst_offset + fst_size, growth);
+    let end = layout(r, &mut records, behind.as_mut(), fst_offset + fst_size, growth);
     let wide = r.chance(5);
-    let end = if wide { spread(r, &mut records, end) } else { end };
+    let end = if wide { spread(r, &mut records, behind.as_mut(), end) } else { end };
     let disc_end = match r.below(20) {
         _ if wide => end,
         0..=4 => end,
@@ -270,18 +354,10 @@ pub fn master(r: &mut Random) -> Vec<u8> {
     };
     set_word(&mut image, 0x434, user as u32);
     set_word(&mut image, 0x438, (disc_end - user) as u32);
-    let table_end = (fst_offset + fst_size) as usize;
-    let last = image.len() as i64 - 0xe4;
-    let dol_offset = match r.below(10) {
-        0 | 1 => 0,
-        2 => last + 1,
-        3 => last,
-        4 => r.next() as u32 as i64,
-        _ => r.below(image.len()) as i64,
-    };
-    set_word(&mut image, 0x420, dol_offset.max(0) as u32);
-    if dol_offset as usize >= table_end && dol_offset <= last && r.chance(80) {
-        dol_header(r, &mut image[dol_offset as usize..]);
+    set_word(&mut image, 0x420, 0);
+    if let Some(program) = before.or(behind) {
+        set_word(&mut image, 0x420, program.at as u32);
+        dol_header(r, &mut image[program.at as usize..], program.size);
     }
     write_table(r, &mut image[fst_offset as usize..], &records, &places, &texts);
     image
@@ -375,6 +451,9 @@ fn damage_once(r: &mut Random, image: &mut Vec<u8>) {
     };
     let at = fst_offset as usize;
     let table = image.get(at..at.saturating_add(fst_size as usize)).map_or(0, |t| t.len());
+    if table >= 12 && r.chance(25) {
+        return damage_program(r, image);
+    }
     match r.below(if table >= 12 { 20 } else { 7 }) {
         0 => {
             let to = *r.pick(&[
@@ -447,6 +526,53 @@ fn damage_once(r: &mut Random, image: &mut Vec<u8>) {
         }
         10 => image[at + r.below(table)] = r.byte(),
         _ => damage_record(r, &mut image[at..at + table]),
+    }
+}
+
+/// The DOL offset or a sum of the DOL header, such that the program passes something by a byte or
+/// two, or just does not.
+fn damage_program(r: &mut Random, image: &mut [u8]) {
+    let (fst_offset, fst_size) = (word(image, 0x424) as u64, word(image, 0x428) as u64);
+    let disc_end = word(image, 0x434) as u64 + word(image, 0x438) as u64;
+    let at = word(image, 0x420) as u64;
+    let size = paper::dol_size(image, at).unwrap_or(0);
+    let mut files = paper::files_of(image);
+    files.push((0, fst_offset + fst_size));
+    let (start, len) = *r.pick(&files);
+    // What a program may come to: the start of something, or its end.
+    let (starts, ends) =
+        ([fst_offset, start, disc_end, image.len() as u64], [0x440, start + len, disc_end]);
+    if at != 0 && r.chance(50) {
+        let (start, end) = (*r.pick(&starts), image.len() as u64);
+        if let Some(dol) = image.get_mut(at as usize..(at + paper::DOL_HEADER).min(end) as usize)
+            && dol.len() as u64 == paper::DOL_HEADER
+        {
+            let i = r.below(18);
+            let sum = match r.below(6) {
+                0 => u32::MAX as u64,
+                1 => u32::MAX as u64 + 1,
+                2 => r.next() as u32 as u64,
+                _ => (start + r.below(3) as u64).saturating_sub(at + 1),
+            };
+            set_sum(r, dol, i, sum);
+        }
+        return;
+    }
+    let length = size.max(paper::DOL_HEADER);
+    let to = match r.below(10) {
+        0 => r.next() as u32 as u64,
+        1 => r.below(image.len()) as u64,
+        2 => (image.len() as u64 + r.below(3) as u64).saturating_sub(paper::DOL_HEADER + 1),
+        3..=6 => (*r.pick(&starts) + r.below(3) as u64).saturating_sub(length + 1),
+        _ => (*r.pick(&ends) + r.below(3) as u64).saturating_sub(1),
+    };
+    set_word(image, 0x420, to.min(u32::MAX as u64) as u32);
+    // Mostly the header goes with it, where it stays off the disc header and the table.
+    let table = fst_offset..fst_offset + fst_size;
+    let end = to + paper::DOL_HEADER;
+    let apart = to >= 0x440 && (end <= table.start || to >= table.end);
+    if apart && end <= image.len() as u64 && r.chance(85) {
+        dol_header(r, &mut image[to as usize..], size.min(0x1000));
     }
 }
 

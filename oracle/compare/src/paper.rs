@@ -1,12 +1,13 @@
-//! Document 01's opening, and the few sums that the sorting of differences needs, written down
-//! here a second time and from the paper alone, so that a difference is sorted by what the paper
-//! says of its input and not by what either side answers.
+//! Document 01's opening with the program of document 02, and the few sums that the sorting of
+//! differences needs, written down here a second time and from the papers alone, so that a
+//! difference is sorted by what they say of its input and not by what either side answers.
 
 pub const ENTRIES: usize = 16_384;
 pub const TEXTS: usize = 1_048_576;
 pub const DEPTH: usize = 64;
 pub const PATH: usize = 1_024;
 pub const ALIGN: u64 = 0x8000;
+pub const DOL_HEADER: u64 = 0xe4;
 
 pub const WII: u32 = 0x5d1c_9ea3;
 pub const GAMECUBE: u32 = 0xc233_9f3d;
@@ -37,6 +38,8 @@ pub struct Tree {
     pub fst_offset: u64,
     pub fst_size: u64,
     pub disc_end: u64,
+    /// The program, before the table or behind it: offset and size.
+    pub program: Option<(u64, u64)>,
     /// Free regions: offset and size.
     pub free: Vec<(u64, u64)>,
 }
@@ -97,6 +100,41 @@ fn files(table: &[u8], count: usize) -> Vec<(u64, u64)> {
         .collect()
 }
 
+/// The largest of the 18 sums in the DOL header at `at`; none if it is not all in the image.
+pub fn dol_size(image: &[u8], at: u64) -> Option<u64> {
+    let header = image.get(at as usize..(at + DOL_HEADER) as usize)?;
+    let sum = |i: usize| word(header, 4 * i) as u64 + word(header, 4 * (36 + i)) as u64;
+    (0..18).map(sum).max()
+}
+
+/// 02: "a nonzero DOL offset means a program from there, as long as the DOL's file size and at
+/// least 0xE4"; or 24.
+fn program(image: &[u8]) -> Result<Option<(u64, u64)>, u32> {
+    let at = word(image, 0x420) as u64;
+    if at == 0 {
+        return Ok(None);
+    }
+    match dol_size(image, at) {
+        Some(size) if size <= u32::MAX as u64 => Ok(Some((at, size.max(DOL_HEADER)))),
+        _ => Err(24),
+    }
+}
+
+/// What a program adds to the used regions. "It must lie wholly between 0x440 and the FST offset,
+/// as part of the used bytes 0 up to the table end, or wholly from the table end on, as a used
+/// region of its own; otherwise .. 14."
+fn beside_the_table(
+    program: Option<(u64, u64)>,
+    fst_offset: u64,
+    table_end: u64,
+) -> Result<Option<(u64, u64)>, u32> {
+    match program {
+        Some((at, _)) if at >= table_end => Ok(program),
+        Some((at, size)) if at < 0x440 || at + size > fst_offset => Err(14),
+        _ => Ok(None),
+    }
+}
+
 /// The free regions, or 14.
 fn free(mut used: Vec<(u64, u64)>, table_end: u64, disc_end: u64) -> Result<Vec<(u64, u64)>, u32> {
     used.push((0, table_end));
@@ -118,14 +156,18 @@ fn free(mut used: Vec<(u64, u64)>, table_end: u64, disc_end: u64) -> Result<Vec<
     Ok(free)
 }
 
-/// Whether used regions overlap or pass the disc end, whatever the walk would say. Only for a
-/// table whose records are all there.
-pub fn regions_are_bad(image: &[u8]) -> bool {
+/// The nonempty files of a table whose records are all there, whatever the walk would say.
+pub fn files_of(image: &[u8]) -> Vec<(u64, u64)> {
     let table = table(image);
-    let count = (word(table, 8) as usize).max(1).min(table.len() / 12);
+    files(table, (word(table, 8) as usize).max(1).min(table.len() / 12))
+}
+
+/// Whether files overlap, pass the disc end or lie in the table; the program plays no part. Only
+/// for a table whose records are all there.
+pub fn files_are_bad(image: &[u8]) -> bool {
     let table_end = word(image, 0x424) as u64 + word(image, 0x428) as u64;
     let disc_end = word(image, 0x434) as u64 + word(image, 0x438) as u64;
-    free(files(table, count), table_end, disc_end).is_err()
+    free(files_of(image), table_end, disc_end).is_err()
 }
 
 pub fn fit(byte: u8) -> bool {
@@ -189,10 +231,14 @@ pub fn open(image: &[u8], words: usize) -> Result<Tree, Refusal> {
     }
     let entries = walk(table, texts, count)?;
     let (fst_offset, fst_size) = (word(image, 0x424) as u64, word(image, 0x428) as u64);
-    let disc_end = word(image, 0x434) as u64 + word(image, 0x438) as u64;
-    let free = free(files(table, n), fst_offset + fst_size, disc_end)
-        .map_err(|number| refusal(number, 0))?;
-    Ok(Tree { entries, fst_offset, fst_size, disc_end, free })
+    let (table_end, disc_end) =
+        (fst_offset + fst_size, word(image, 0x434) as u64 + word(image, 0x438) as u64);
+    let number = |number| refusal(number, 0);
+    let program = program(image).map_err(number)?;
+    let mut used = files(table, n);
+    used.extend(beside_the_table(program, fst_offset, table_end).map_err(number)?);
+    let free = free(used, table_end, disc_end).map_err(number)?;
+    Ok(Tree { entries, fst_offset, fst_size, disc_end, program, free })
 }
 
 fn walk(table: &[u8], texts: &[u8], count: usize) -> Result<Vec<Entry>, Refusal> {
@@ -239,6 +285,17 @@ fn walk(table: &[u8], texts: &[u8], count: usize) -> Result<Vec<Entry>, Refusal>
 impl Tree {
     pub fn table_end(&self) -> u64 {
         self.fst_offset + self.fst_size
+    }
+
+    /// The program where it lies behind the table.
+    pub fn behind(&self) -> Option<(u64, u64)> {
+        self.program.filter(|(at, _)| *at >= self.table_end())
+    }
+
+    /// Table end, all files, and the program where it lies behind the table.
+    pub fn used(&self) -> u64 {
+        let files = self.entries.iter().filter(|e| !e.directory).map(|e| e.size as u64);
+        self.table_end() + files.sum::<u64>() + self.behind().map_or(0, |(_, size)| size)
     }
 
     /// Texts of the table written anew.

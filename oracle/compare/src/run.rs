@@ -3,8 +3,8 @@
 
 use crate::calls::{self, Call, hex, unhex};
 use crate::child::{Side, batch};
-use crate::features::features;
-use crate::judge::{Class, Given, New, Verdict, judge, odd_name};
+use crate::features::{features, of_program};
+use crate::judge::{Class, Given, New, Verdict, judge, listing_after, odd_name, told_where};
 use crate::masters;
 use crate::paper::{self, Refusal, Tree};
 use crate::random::Random;
@@ -15,8 +15,8 @@ use std::path::{Path, PathBuf};
 /// Images that are under way at a time.
 const WAVE: usize = 96;
 
-/// Faults after which a run ends.
-const FAULTS: usize = 8;
+/// Faults that are printed with a replay, and after which a run ends unless it is told to go on.
+pub const FAULTS: usize = 8;
 
 #[derive(Default)]
 pub struct Counts {
@@ -32,6 +32,8 @@ pub struct Counts {
     /// By entry and command: differences.
     pub differences: BTreeMap<(Class, &'static str), u64>,
     pub faults: usize,
+    /// By what is wrong: faults.
+    pub wrong: BTreeMap<String, u64>,
 }
 
 impl Counts {
@@ -47,6 +49,8 @@ pub struct Run {
     place: PathBuf,
     /// Whether the library has insert and make-directories.
     pub inserts: bool,
+    /// Faults after which the run ends.
+    pub faults: usize,
 }
 
 /// One image under way.
@@ -57,13 +61,26 @@ struct Case {
     opened: Result<Tree, Refusal>,
     odd: Option<Class>,
     name: String,
+    /// The program as it was at first: its offset and its bytes.
+    program: Option<(usize, Vec<u8>)>,
 }
 
 impl Case {
     fn new(r: Random, image: Vec<u8>, name: String) -> Self {
         let opened = paper::open(&image, usize::MAX);
         let odd = odd_name(&image);
-        Self { r, image, opened, odd, name }
+        let program = opened.as_ref().ok().and_then(|tree| tree.program);
+        let program = program.map(|(at, size)| (at as usize, size as usize));
+        let program = program.map(|(at, size)| (at, image[at..at + size].to_vec()));
+        Self { r, image, opened, odd, name, program }
+    }
+
+    /// The image that an accepted edit left: `head` is what it now begins with.
+    fn edited(&self, head: &str) -> (Vec<u8>, Result<Tree, Refusal>) {
+        let (mut image, head) = (self.image.clone(), unhex(head.strip_prefix("ok ").unwrap()));
+        image[..head.len()].copy_from_slice(&head);
+        let opened = paper::open(&image, usize::MAX);
+        (image, opened)
     }
 
     fn opened_with(&self, words: usize) -> Result<Tree, Refusal> {
@@ -121,11 +138,23 @@ struct Asked {
     probe: usize,
     oracle: usize,
     twin: Option<usize>,
+    /// The original's hash after an edit that it was not told a place for.
+    alone: Option<usize>,
     /// Hashes after an edit: Counter's; the original's, as it is and with the game name put back.
     hashes: Option<(usize, usize, usize)>,
     peek: usize,
     /// The listing afterwards, on both sides.
     listing: Option<(usize, usize)>,
+    /// Counter's answers after an edit of an image with a program.
+    program: Option<Program>,
+}
+
+/// Where in the batch these are: total, used total, free regions, and the program's bytes.
+struct Program {
+    total: usize,
+    used: usize,
+    free: usize,
+    bytes: usize,
 }
 
 #[derive(Default)]
@@ -163,6 +192,7 @@ impl Run {
             counts: Counts::default(),
             place: place.into(),
             inserts,
+            faults: FAULTS,
         })
     }
 
@@ -173,7 +203,7 @@ impl Run {
     }
 
     pub fn over(&self) -> bool {
-        self.counts.faults >= FAULTS
+        self.counts.faults >= self.faults
     }
 
     fn count(&mut self, call: &Call, verdict: &Verdict) {
@@ -285,10 +315,8 @@ impl Run {
             {
                 self.counts.states += 1;
                 let case = &mut cases[asked.case];
-                let head = unhex(probe[asked.peek].strip_prefix("ok ").unwrap());
-                case.image[..head.len()].copy_from_slice(&head);
+                (case.image, case.opened) = case.edited(&probe[asked.peek]);
                 case.name = other(&case.name);
-                case.opened = paper::open(&case.image, usize::MAX);
                 if case.opened.is_err() {
                     let what = "an accepted edit left an image that does not open";
                     self.fault(what, &[], &asked.call.line(), "", "", "");
@@ -303,14 +331,22 @@ impl Run {
             Ok(verdict) => {
                 self.count(&asked.call, &verdict);
                 self.count_afterwards(asked, probe, oracle);
-                if let Ok(tree) = &case.opened_with(asked.words) {
+                let opened = case.opened_with(asked.words);
+                if let Ok(tree) = &opened {
                     let (words, bytes) = (asked.words, asked.bytes);
-                    let met = features(tree, &asked.call, &verdict.expected, words, bytes);
-                    for feature in met {
-                        *self.counts.features.entry(feature).or_default() += 1;
-                    }
+                    self.met(features(tree, &asked.call, &verdict.expected, words, bytes));
+                }
+                if asked.call == Call::Open {
+                    self.met(of_program(&case.image, &opened));
+                }
+                if asked.program.is_some() && probe[asked.probe].starts_with("ok") {
+                    self.met(vec!["program: held to its bytes and the totals after an edit"]);
                 }
                 true
+            }
+            Err((what, _)) if self.counts.faults >= FAULTS => {
+                self.fault(&what, &[], "", "", "", "");
+                false
             }
             Err((what, expected)) => {
                 let (lines, ours) = (self.replay(case, asked, &what), &probe[asked.probe]);
@@ -322,6 +358,12 @@ impl Run {
         }
     }
 
+    fn met(&mut self, features: Vec<&'static str>) {
+        for feature in features {
+            *self.counts.features.entry(feature).or_default() += 1;
+        }
+    }
+
     fn count_afterwards(&mut self, asked: &Asked, probe: &[String], oracle: &[String]) {
         if !both_accept(asked, probe, oracle) {
             return;
@@ -330,6 +372,15 @@ impl Run {
             && probe[ours] != oracle[theirs]
         {
             let key = (Class::NameBehindZero, asked.call.name());
+            *self.counts.differences.entry(key).or_default() += 1;
+        }
+        // Both accept, and the original by itself takes some of the program.
+        if let (Some(alone), Some(told), Some((_, theirs, _))) =
+            (asked.alone, asked.twin, asked.hashes)
+            && oracle[asked.oracle] == oracle[told]
+            && oracle[alone] != oracle[theirs]
+        {
+            let key = (Class::ProgramEdits, asked.call.name());
             *self.counts.differences.entry(key).or_default() += 1;
         }
         if asked.listing.is_some() {
@@ -349,6 +400,10 @@ impl Run {
         expected: &str,
     ) {
         self.counts.faults += 1;
+        *self.counts.wrong.entry(what.into()).or_default() += 1;
+        if self.counts.faults > FAULTS {
+            return;
+        }
         println!("\nFAULT: {what}");
         println!("  the original: {}", cut(theirs));
         println!("  Counter:      {}", cut(ours));
@@ -442,23 +497,25 @@ impl Run {
         }
     }
 
-    /// `open`, `list` and `free` on each image; each is given by the bytes from 0x428 on that
-    /// differ from those of `base`.
-    pub fn tables(&mut self, base: &[u8], tables: &[Vec<u8>]) {
+    /// `open` on each image, and `calls` on each that opens; each is given by the bytes, with their
+    /// offsets, that differ from those of `base`.
+    pub fn variants(&mut self, base: &[u8], variants: &[Vec<(usize, Vec<u8>)>], calls: &[Call]) {
         let path = self.place.join("base");
         fs::write(&path, base).unwrap();
-        for part in tables.chunks(2048) {
+        for part in variants.chunks(2048) {
             let (mut lines, mut asked, mut cases) = (Batch::default(), vec![], vec![]);
-            for (i, table) in part.iter().enumerate() {
+            for (i, patches) in part.iter().enumerate() {
                 let mut image = base.to_vec();
-                image[0x428..0x428 + table.len()].copy_from_slice(table);
                 lines.both(format!("image {}", path.display()));
-                lines.both(format!("patch 0x428 {}", hex(table)));
+                for (at, bytes) in patches {
+                    image[*at..at + bytes.len()].copy_from_slice(bytes);
+                    lines.both(format!("patch {at:#x} {}", hex(bytes)));
+                }
                 let case = Case::new(Random::new(0), image, String::new());
-                for call in [Call::Open, Call::List, Call::Free] {
-                    if call == Call::Open || case.opened.is_ok() {
-                        asked.push(ask_look_with(&mut lines, i, call, 64, 0));
-                    }
+                asked.push(ask_look_with(&mut lines, i, Call::Open, 64, 0));
+                if case.opened.is_ok() {
+                    let more = calls.iter().cloned();
+                    asked.extend(more.map(|call| ask_look_with(&mut lines, i, call, 64, 0)));
                 }
                 self.counts.images += 1;
                 self.counts.refused_images += u64::from(case.opened.is_err());
@@ -467,7 +524,7 @@ impl Run {
             let (probe, oracle) = self.ask(&lines);
             for asked in &asked {
                 if !self.over() {
-                    self.hold_table(&cases[asked.case], asked, &probe, &oracle);
+                    self.hold_variant(&cases[asked.case], asked, &probe, &oracle);
                 }
             }
             if self.over() {
@@ -476,9 +533,14 @@ impl Run {
         }
     }
 
-    fn hold_table(&mut self, case: &Case, asked: &Asked, probe: &[String], oracle: &[String]) {
+    fn hold_variant(&mut self, case: &Case, asked: &Asked, probe: &[String], oracle: &[String]) {
         match trouble(case, asked, probe, oracle) {
-            Ok(verdict) => self.count(&asked.call, &verdict),
+            Ok(verdict) => {
+                self.count(&asked.call, &verdict);
+                if asked.call == Call::Open {
+                    self.met(of_program(&case.image, &case.opened));
+                }
+            }
             Err((what, expected)) => {
                 let mut lines = image_lines(&case.image);
                 lines.push(format!("lend {} {}", asked.words, asked.bytes));
@@ -520,15 +582,46 @@ fn trouble(
     if verdict.expected != probe[asked.probe] {
         return wrong("Counter's answer");
     }
-    if both_accept(asked, probe, oracle) {
-        if asked.hashes.is_some_and(|(ours, _, theirs)| probe[ours] != oracle[theirs]) {
-            return wrong("the image afterwards");
+    if !both_accept(asked, probe, oracle) || !asked.call.edits() {
+        return Ok(verdict);
+    }
+    if asked.hashes.is_some_and(|(ours, _, theirs)| probe[ours] != oracle[theirs]) {
+        return wrong("the image afterwards");
+    }
+    let Ok(after) = case.edited(&probe[asked.peek]).1 else {
+        return wrong("the image afterwards does not open");
+    };
+    if let Some((ours, theirs)) = asked.listing
+        && listing_after(&oracle[theirs], &after).as_ref() != Ok(&probe[ours])
+    {
+        return wrong("the listing afterwards");
+    }
+    if let (Some(told), Some((_, bytes))) = (&asked.program, &case.program) {
+        let answer = |at: usize| probe[at].as_str();
+        if answer(told.bytes) != format!("ok {}", hex(bytes)) {
+            return wrong("the program's bytes afterwards");
         }
-        if asked.listing.is_some_and(|(ours, theirs)| probe[ours] != oracle[theirs]) {
-            return wrong("the listing afterwards");
+        let free: Vec<String> =
+            after.free.iter().map(|(at, size)| format!(" {at}:{size}")).collect();
+        if answer(told.total) != format!("ok {}", after.disc_end)
+            || answer(told.used) != format!("ok {}", after.used())
+            || answer(told.free) != format!("ok{}", free.concat())
+        {
+            return wrong("the totals or the free regions afterwards");
+        }
+        // "The sum that must equal the disc end", from Counter's own numbers.
+        let numbers = |at| numbers_of(answer(at));
+        let free: u64 = numbers(told.free).iter().skip(1).step_by(2).sum();
+        if numbers(told.used)[0] + free != numbers(told.total)[0] {
+            return wrong("used total and free regions together");
         }
     }
     Ok(verdict)
+}
+
+/// The numbers of an answer.
+fn numbers_of(answer: &str) -> Vec<u64> {
+    answer.split([' ', ':']).filter_map(|word| word.parse().ok()).collect()
 }
 
 /// Commands that make an image.
@@ -583,7 +676,21 @@ fn ask_look_with(lines: &mut Batch, case: usize, call: Call, words: usize, bytes
     // An edit of an image that 01 refuses is held to opening.
     let oracle = lines.oracle(if call.edits() { "open".into() } else { call.line() });
     let twin = if call.edits() { None } else { call.twin() }.map(|twin| lines.oracle(twin));
-    Asked { case, call, words, bytes, probe, oracle, twin, hashes: None, peek: 0, listing: None }
+    let (alone, hashes, listing, program) = (None, None, None, None);
+    Asked {
+        case,
+        call,
+        words,
+        bytes,
+        probe,
+        oracle,
+        twin,
+        alone,
+        hashes,
+        peek: 0,
+        listing,
+        program,
+    }
 }
 
 fn ask_edit(lines: &mut Batch, i: usize, case: &mut Case, call: Call) -> Asked {
@@ -605,8 +712,10 @@ fn ask_edit_with(
     let probe = lines.probe(call.line());
     let ours = lines.probe("hash".into());
     lines.probe(format!("save {to}"));
-    // What the next edits are made up from: header and table.
-    let end = case.opened.as_ref().map_or(0, |tree| tree.table_end() as usize) + 0x4000;
+    // What the next edits are made up from: header and table, however far it grows.
+    let written = |tree: &Tree| tree.fst_offset as usize + 12 * tree.entries.len() + tree.texts();
+    let end = case.opened.as_ref().map_or(0, |tree| written(tree).max(tree.table_end() as usize));
+    let end = end + 0x4000;
     let peek = lines.probe(format!("peek 0 {}", end.min(case.image.len())));
     let begin = |lines: &mut Batch| {
         lines.oracle(format!("load {from}"));
@@ -616,7 +725,9 @@ fn ask_edit_with(
     };
     begin(lines);
     let oracle = lines.oracle(call.line());
-    let twin = call.twin().map(|twin| {
+    let told = case.opened.as_ref().ok().and_then(|tree| told_where(tree, &call));
+    let alone = told.is_some().then(|| lines.oracle("hash".into()));
+    let twin = call.twin().or(told).map(|twin| {
         begin(lines);
         lines.oracle(twin)
     });
@@ -638,5 +749,24 @@ fn ask_edit_with(
     }
     lines.oracle(format!("save {to}"));
     let hashes = Some((ours, theirs, repaired));
-    Asked { case: i, call, words, bytes, probe, oracle, twin, hashes, peek, listing }
+    let program = case.program.as_ref().map(|(at, bytes)| {
+        let words = case.opened.as_ref().map_or(0, |tree| 4 * tree.entries.len()) + 0x1000;
+        lines.probe(format!("lend {words} 0"));
+        let [total, used, free] = ["total", "used", "free"].map(|line| lines.probe(line.into()));
+        Program { total, used, free, bytes: lines.probe(format!("peek {at} {}", bytes.len())) }
+    });
+    Asked {
+        case: i,
+        call,
+        words,
+        bytes,
+        probe,
+        oracle,
+        twin,
+        alone,
+        hashes,
+        peek,
+        listing,
+        program,
+    }
 }

@@ -1,10 +1,10 @@
 //! A fixed sample of the original's answers, as a script of host/replay: images of many shapes,
 //! calls that look at them and lists of edits. Each expected answer is the original's, or, where the
-//! two differ by an entry of docs/DIFFERENCES.md, 01's number.
+//! two differ by an entry of docs/DIFFERENCES.md, 01's or 02's.
 
 use crate::calls::{self, Call, hex, unhex};
 use crate::child::Side;
-use crate::judge::{Given, New, judge};
+use crate::judge::{Given, New, judge, told_where};
 use crate::masters;
 use crate::paper::{self, Refusal, Tree, word};
 use crate::random::Random;
@@ -126,7 +126,8 @@ impl Sample {
                 kept.push((at, end));
             }
             let dol = word(&image, 0x420) as usize;
-            if r.chance(15) && dol >= end && dol + 0xe4 <= image.len() {
+            let apart = dol >= end || dol >= 0x440 && dol + 0xe4 <= at;
+            if apart && dol + 0xe4 <= image.len() && r.chance(95) {
                 kept.push((dol, dol + 0xe4));
             }
         }
@@ -188,7 +189,8 @@ impl Sample {
     fn expected(&mut self, call: &Call) -> Option<String> {
         self.oracle.ask(&["save before".into()]);
         let answer = self.ask(call.line());
-        let twin = call.twin().map(|twin| {
+        let told = self.opened.as_ref().ok().and_then(|tree| told_where(tree, call));
+        let twin = call.twin().or(told).map(|twin| {
             self.oracle.ask(&["load before".into()]);
             self.ask(twin)
         });
@@ -321,10 +323,12 @@ impl Sample {
         [told[0], kind, told[1], told[2]].into_iter().map(u64::from).collect()
     }
 
-    /// FST offset and size, disc end, entries, used total.
+    /// FST offset and size, disc end, entries, used total: the original's and, as 02 has it, the
+    /// program where it lies behind the table.
     fn opened_words(&mut self) -> [u64; 5] {
         let total = numbers(&self.ask("total".into()))[0];
-        let used = numbers(&self.ask("used".into()))[0];
+        let behind = self.opened.as_ref().ok().and_then(|tree| tree.behind());
+        let used = numbers(&self.ask("used".into()))[0] + behind.map_or(0, |(_, size)| size) as u32;
         let entries = self.ask("list".into()).split(' ').count() as u32 - 1;
         [word(&self.image, 0x424), word(&self.image, 0x428), total, entries, used].map(u64::from)
     }

@@ -11,7 +11,7 @@ const WORDS: usize = 65_544;
 const BYTES: usize = 2_097_152;
 
 /// Document 01's small master, with bytes in place of zeros behind the table.
-fn small_master() -> Vec<u8> {
+pub fn small_master() -> Vec<u8> {
     let mut image = vec![0; 0x2000];
     for (i, byte) in image.iter_mut().enumerate().skip(0x45a) {
         *byte = (i % 251) as u8 + 1;
@@ -157,7 +157,7 @@ pub fn tables(run: &mut Run) {
                 tables.push(table);
             }
         }
-        run.tables(&base, &tables);
+        open_tables(run, &base, tables);
         if run.over() {
             return;
         }
@@ -172,7 +172,13 @@ pub fn tables(run: &mut Run) {
             tables.push(table);
         }
     }
-    run.tables(&base, &tables);
+    open_tables(run, &base, tables);
+}
+
+/// FST size and table in the place of those of `base`: opened, listed, and their free regions.
+fn open_tables(run: &mut Run, base: &[u8], tables: Vec<Vec<u8>>) {
+    let variants: Vec<_> = tables.into_iter().map(|table| vec![(0x428, table)]).collect();
+    run.variants(base, &variants, &[Call::List, Call::Free]);
 }
 
 /// Calls at the limits of 01: entries, texts, depth, memory.

@@ -9,10 +9,8 @@ use lib.ListN.{length, getD}
 use Rattle.dol.specs.declared.DolHeader.{DolHeader}
 use Rattle.endian.specs.Bytes.{be32}
 use Rattle.endian.specs.Laws.Stored.{Same, be32-same}
-use Rattle.refusal.specs.declared.Verdict.{Verdict}
-use Rattle.refusal.specs.declared.Verdict.the-variants.{Passed, Refused}
 use Rattle.window.specs.Window.{newWindow, countOf}
-use Rattle.dol.specs.Dol.{wordsAt, dolHeaderOf, largestOf, fileSizeOf, dolAnswered}
+use Rattle.dol.specs.Dol.{wordsAt, dolHeaderOf, largestOf, fileSizeOf}
 
 -- the same bytes, from a later place on
 same-later : (s s′ : List ℕ) (at k n : ℕ) → Same s s′ at n → (i : ℕ) → k + i < n → getD s (at + k + i) 0 ≡ getD s′ (at + k + i) 0
@@ -50,11 +48,6 @@ header-same s s′ at h =
       be32-same s s′ (at + 0xDC) (λ i l. same-later s s′ at 0xDC 0xE4 h i (omega arith)),
       be32-same s s′ (at + 0xE0) (λ i l. same-later s s′ at 0xE0 0xE4 h i (omega arith)),
     )
-
--- the verdict of an answer
-pub answered-verdict : (v : Verdict) (h : DolHeader) → dolAnswered v h .verdict ≡ v
-answered-verdict Passed h = refl
-answered-verdict (Refused c) h = refl
 
 -- no sum passes the largest, and it passes no number that every sum keeps to
 pub sum-le-largest : (os ss : List ℕ) (i : ℕ) → i < length os → i < length ss → getD os i 0 + getD ss i 0 ≤ largestOf os ss

@@ -1,4 +1,4 @@
--- `program::read` meets its contract: by the DOL offset, then by the verdict on the header there. Assumes nothing.
+-- `program::read` meets its contract: by the DOL offset, then by the file size that its header says. Assumes nothing.
 use Rattle.program.proofs.Reading.{no-program, a-program, no-header}
 use borrow.Author.Needs.{needs}
 use Rattle.program.proofs.read.Statement.{statement}
@@ -10,20 +10,20 @@ dol-offset-requires c κs = search needs
 returns : tie.Need-returns
 returns c = search no-program
 
-cast-read : tie.Need-cast-read
-cast-read c = search needs
+cast-size : tie.Need-cast-size
+cast-size c = search needs
 
-read-requires : tie.Need-read-requires
-read-requires c κs = search needs
+size-requires : tie.Need-size-requires
+size-requires c κs = search needs
 
-enum-told : tie.Need-enum-told
-enum-told c = search needs
+enum-known-size : tie.Need-enum-known-size
+enum-known-size c = search needs
 
 larger-requires : tie.Need-larger-requires
 larger-requires c κs = search needs
 
-enum-known-verdict : tie.Need-enum-known-verdict
-enum-known-verdict c = search needs
+enum-known-size-2 : tie.Need-enum-known-size-2
+enum-known-size-2 c = search needs
 
 returns-2 : tie.Need-returns-2
 returns-2 c = search a-program
@@ -37,10 +37,10 @@ read-spec =
     (tie.spec
     dol-offset-requires
     returns
-    cast-read
-    read-requires
-    enum-told
+    cast-size
+    size-requires
+    enum-known-size
     larger-requires
-    enum-known-verdict
+    enum-known-size-2
     returns-2
     returns-3)
