@@ -28,28 +28,25 @@ module _ (image : List ℕ) (at : ℕ) (here : at ≡ dolOffset image) where
     unfolding programOf
     by-verdict v e = rw (← here, ne-eqb at 0 some, e)
 
+    told : (x : DolSize) → a ≡ x → (v : Verdict) → dolVerdictOf image at ≡ v → x ≡ dolSized v (fileSizeOf (dolHeaderOf image at))
+    told x e v q = sym e ∙ read ∙ ap (λ (u : Verdict). dolSized u (fileSizeOf (dolHeaderOf image at))) q
+
     pub a-program : (m n : ℕ) → a ≡ size.Bytes m → n ≡ max m 0xE4 → At (record { offset = at; size = n }) ≡ programOf image
     a-program m n e f = go (dolVerdictOf image at) refl
       where
-        told : (v : Verdict) → dolVerdictOf image at ≡ v → size.Bytes m ≡ dolSized v (fileSizeOf (dolHeaderOf image at))
-        told v q = sym e ∙ read ∙ ap (λ (u : Verdict). dolSized u (fileSizeOf (dolHeaderOf image at))) q
-
         go : (v : Verdict) → dolVerdictOf image at ≡ v → At (record { offset = at; size = n }) ≡ programOf image
         go verdict.Passed q =
-            let t = told verdict.Passed q in
+            let t = told (size.Bytes m) e verdict.Passed q in
             let k : m ≡ fileSizeOf (dolHeaderOf image at) = cc in
             sym (by-verdict verdict.Passed q ∙ ap (λ (x : ℕ). At (record { offset = at; size = x })) (ap (λ (x : ℕ). max x 0xE4) (sym k) ∙ sym f))
-        go (verdict.Refused c) q = let t = told (verdict.Refused c) q in let z : _≡_ {A = ℕ} 0 1 = cc in absurd (omega arith)
+        go (verdict.Refused c) q = let t = told (size.Bytes m) e (verdict.Refused c) q in let z : _≡_ {A = ℕ} 0 1 = cc in absurd (omega arith)
 
     pub no-header : (c : Refusal) → a ≡ size.Refused c → Refused c ≡ programOf image
     no-header c e = go (dolVerdictOf image at) refl
       where
-        told : (v : Verdict) → dolVerdictOf image at ≡ v → size.Refused c ≡ dolSized v (fileSizeOf (dolHeaderOf image at))
-        told v q = sym e ∙ read ∙ ap (λ (u : Verdict). dolSized u (fileSizeOf (dolHeaderOf image at))) q
-
         go : (v : Verdict) → dolVerdictOf image at ≡ v → Refused c ≡ programOf image
-        go verdict.Passed q = let t = told verdict.Passed q in let z : _≡_ {A = ℕ} 0 1 = cc in absurd (omega arith)
-        go (verdict.Refused d) q = let t = told (verdict.Refused d) q in let k : c ≡ d = cc in rw k (sym (by-verdict (verdict.Refused d) q))
+        go verdict.Passed q = let t = told (size.Refused c) e verdict.Passed q in let z : _≡_ {A = ℕ} 0 1 = cc in absurd (omega arith)
+        go (verdict.Refused d) q = let t = told (size.Refused c) e (verdict.Refused d) q in let k : c ≡ d = cc in rw k (sym (by-verdict (verdict.Refused d) q))
 
 pub verdict-refused : (p : Program) (c : Refusal) → p ≡ Refused c → verdict.Refused c ≡ programVerdict p
 verdict-refused p c e = rw e
