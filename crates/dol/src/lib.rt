@@ -207,11 +207,11 @@ pub fn size(image: &[u8], at: usize) -> DolSize
     }
     let text = largest_at(image, at, 7);
     let data = largest_at(image, at + 0x1C, 11);
-    let size = larger(text, data);
-    if 0xFFFF_FFFF < size {
+    let most = larger(text, data);
+    if 0xFFFF_FFFF < most {
         return DolSize::Refused(Refusal::InvalidDol);
     }
-    DolSize::Bytes(size as u32)
+    DolSize::Bytes(most as u32)
 }
 
 impl DolAnswer {
