@@ -158,27 +158,6 @@ fn refused() -> DolAnswer
     }
 }
 
-pub fn read(image: &[u8], at: usize) -> DolAnswer
-    ensures { λ r. ⌜ r ≡ dolAnswerOf (now (image .entry)) at ⌝ }
-{
-    if image.len() < 0xE4 {
-        return refused();
-    }
-    if image.len() - 0xE4 < at {
-        return refused();
-    }
-    let header = header_at(image, at);
-    let size = header.file_size();
-    if 0xFFFF_FFFF < size {
-        return refused();
-    }
-    DolAnswer {
-        verdict: Verdict::Passed,
-        header,
-        size: size as u32,
-    }
-}
-
 // The largest offset + size of n sections, where they stand: the sizes lie 0x90 bytes behind the offsets.
 fn largest_at(s: &[u8], at: usize, n: usize) -> u64
     requires { ⌜ at + 0x90 + 4 * n ≤ length (now s) ⌝ }
@@ -212,6 +191,23 @@ pub fn size(image: &[u8], at: usize) -> DolSize
         return DolSize::Refused(Refusal::InvalidDol);
     }
     DolSize::Bytes(most as u32)
+}
+
+pub fn read(image: &[u8], at: usize) -> DolAnswer
+    ensures { λ r. ⌜ r ≡ dolAnswerOf (now (image .entry)) at ⌝ }
+{
+    let size = size(image, at);
+    match size {
+        DolSize::Bytes(n) => {
+            let header = header_at(image, at);
+            DolAnswer {
+                verdict: Verdict::Passed,
+                header,
+                size: n,
+            }
+        }
+        DolSize::Refused(_) => refused(),
+    }
 }
 
 impl DolAnswer {

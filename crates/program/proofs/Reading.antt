@@ -1,8 +1,7 @@
 -- The program by the cases of its header, and its own region by where it lies. Assumes nothing.
 use Prim.Native.Nat.{ℕ, _+_, _<_, _≤_, max}
-use mathlib.Core.Path.{_≡_, refl, sym, ap, _∙_}
+use mathlib.Core.Path.{_≡_, sym, ap, _∙_}
 use mathlib.Core.List.{List}
-use native.Mathlib.Omega.{arith}
 use borrow.Author.Tests.{eq-eqb, ne-eqb, le-leb, lt-leb}
 use Rattle.refusal.specs.declared.Refusal.{Refusal}
 use Rattle.refusal.specs.declared.Verdict.{Verdict}
@@ -11,7 +10,8 @@ use Rattle.header.specs.Verdicts.{dolOffset}
 use Rattle.space.specs.declared.DiscRegion.{DiscRegion}
 use Rattle.dol.specs.declared.DolSize.{DolSize}
 use Rattle.dol.specs.declared.DolSize.the-variants as size
-use Rattle.dol.specs.Dol.{dolHeaderOf, fileSizeOf, dolVerdictOf, dolSized, dolSizeOf}
+use Rattle.dol.specs.Laws.Facts.{size-passed, size-refused}
+use Rattle.dol.specs.Dol.{dolVerdictOf, dolSizeOf}
 use Rattle.program.specs.declared.Program.{Program}
 use Rattle.program.specs.declared.Program.the-variants.{At, None, Refused}
 use Rattle.program.specs.Program.{programFrom, programAs, programOf, programVerdict, nowhere, placeOf, ownRegion}
@@ -28,25 +28,13 @@ module _ (image : List ℕ) (at : ℕ) (here : at ≡ dolOffset image) where
     unfolding programOf
     by-verdict v e = rw (← here, ne-eqb at 0 some, e)
 
-    told : (x : DolSize) → a ≡ x → (v : Verdict) → dolVerdictOf image at ≡ v → x ≡ dolSized v (fileSizeOf (dolHeaderOf image at))
-    told x e v q = sym e ∙ read ∙ ap (λ (u : Verdict). dolSized u (fileSizeOf (dolHeaderOf image at))) q
-
     pub a-program : (m n : ℕ) → a ≡ size.Bytes m → n ≡ max m 0xE4 → At (record { offset = at; size = n }) ≡ programOf image
-    a-program m n e f = go (dolVerdictOf image at) refl
-      where
-        go : (v : Verdict) → dolVerdictOf image at ≡ v → At (record { offset = at; size = n }) ≡ programOf image
-        go verdict.Passed q =
-            let t = told (size.Bytes m) e verdict.Passed q in
-            let k : m ≡ fileSizeOf (dolHeaderOf image at) = cc in
-            sym (by-verdict verdict.Passed q ∙ ap (λ (x : ℕ). At (record { offset = at; size = x })) (ap (λ (x : ℕ). max x 0xE4) (sym k) ∙ sym f))
-        go (verdict.Refused c) q = let t = told (size.Bytes m) e (verdict.Refused c) q in let z : _≡_ {A = ℕ} 0 1 = cc in absurd (omega arith)
+    a-program m n e f =
+        let t = size-passed image at m (sym read ∙ e) in
+        sym (by-verdict verdict.Passed (t .0) ∙ ap (λ (x : ℕ). At (record { offset = at; size = x })) (ap (λ (x : ℕ). max x 0xE4) (sym (t .1)) ∙ sym f))
 
     pub no-header : (c : Refusal) → a ≡ size.Refused c → Refused c ≡ programOf image
-    no-header c e = go (dolVerdictOf image at) refl
-      where
-        go : (v : Verdict) → dolVerdictOf image at ≡ v → Refused c ≡ programOf image
-        go verdict.Passed q = let t = told (size.Refused c) e verdict.Passed q in let z : _≡_ {A = ℕ} 0 1 = cc in absurd (omega arith)
-        go (verdict.Refused d) q = let t = told (size.Refused c) e (verdict.Refused d) q in let k : c ≡ d = cc in rw k (sym (by-verdict (verdict.Refused d) q))
+    no-header c e = sym (by-verdict (verdict.Refused c) (size-refused image at c (sym read ∙ e)))
 
 pub verdict-refused : (p : Program) (c : Refusal) → p ≡ Refused c → verdict.Refused c ≡ programVerdict p
 verdict-refused p c e = rw e

@@ -1,7 +1,7 @@
 -- What the definitions of `Dol` say: the words by index, and the largest sum as the least number that no sum passes.
 -- Assumes nothing.
 use Prim.Native.Nat.{ℕ, zero, suc, _+_, _-_, _*_, _≤_, _<_, _^_, min}
-use mathlib.Core.Path.{_≡_, refl, ap}
+use mathlib.Core.Path.{_≡_, refl, ap, _∙_}
 use mathlib.Core.List.{List, [], _∷_}
 use native.Mathlib.Omega.{arith}
 use native.Mathlib.Nat.{add-zero}
@@ -9,8 +9,12 @@ use lib.ListN.{length, getD}
 use Rattle.dol.specs.declared.DolHeader.{DolHeader}
 use Rattle.endian.specs.Bytes.{be32}
 use Rattle.endian.specs.Laws.Stored.{Same, be32-same}
+use Rattle.refusal.specs.declared.Refusal.{Refusal}
+use Rattle.refusal.specs.declared.Verdict.{Verdict}
+use Rattle.refusal.specs.declared.Verdict.the-variants as verdict
+use Rattle.dol.specs.declared.DolSize.the-variants as size
 use Rattle.window.specs.Window.{newWindow, countOf}
-use Rattle.dol.specs.Dol.{wordsAt, dolHeaderOf, largestOf, fileSizeOf}
+use Rattle.dol.specs.Dol.{wordsAt, dolHeaderOf, largestOf, fileSizeOf, dolVerdictOf, dolSized, dolSizeOf}
 
 -- the same bytes, from a later place on
 same-later : (s s′ : List ℕ) (at k n : ℕ) → Same s s′ at n → (i : ℕ) → k + i < n → getD s (at + k + i) 0 ≡ getD s′ (at + k + i) 0
@@ -48,6 +52,25 @@ header-same s s′ at h =
       be32-same s s′ (at + 0xDC) (λ i l. same-later s s′ at 0xDC 0xE4 h i (omega arith)),
       be32-same s s′ (at + 0xE0) (λ i l. same-later s s′ at 0xE0 0xE4 h i (omega arith)),
     )
+
+-- the file size alone tells the verdict
+module _ (s : List ℕ) (at n : ℕ) where
+  by-verdict : (v : Verdict) → dolVerdictOf s at ≡ v → dolSizeOf s at ≡ dolSized v (fileSizeOf (dolHeaderOf s at))
+  by-verdict v e = ap (λ (u : Verdict). dolSized u (fileSizeOf (dolHeaderOf s at))) e
+
+  pub size-passed : dolSizeOf s at ≡ size.Bytes n → (dolVerdictOf s at ≡ verdict.Passed) × (n ≡ fileSizeOf (dolHeaderOf s at))
+  size-passed e = go (dolVerdictOf s at) refl
+    where
+      go : (v : Verdict) → dolVerdictOf s at ≡ v → (dolVerdictOf s at ≡ verdict.Passed) × (n ≡ fileSizeOf (dolHeaderOf s at))
+      go verdict.Passed q = let t = by-verdict verdict.Passed q in let k : n ≡ fileSizeOf (dolHeaderOf s at) = cc in (q, k)
+      go (verdict.Refused c) q = let t = by-verdict (verdict.Refused c) q in let z : _≡_ {A = ℕ} 0 1 = cc in absurd (omega arith)
+
+pub size-refused : (s : List ℕ) (at : ℕ) (c : Refusal) → dolSizeOf s at ≡ size.Refused c → dolVerdictOf s at ≡ verdict.Refused c
+size-refused s at c e = go (dolVerdictOf s at) refl
+  where
+    go : (v : Verdict) → dolVerdictOf s at ≡ v → dolVerdictOf s at ≡ verdict.Refused c
+    go verdict.Passed q = let t = by-verdict s at 0 verdict.Passed q in let z : _≡_ {A = ℕ} 0 1 = cc in absurd (omega arith)
+    go (verdict.Refused d) q = let t = by-verdict s at 0 (verdict.Refused d) q in let k : d ≡ c = cc in q ∙ ap verdict.Refused k
 
 -- no sum passes the largest, and it passes no number that every sum keeps to
 pub sum-le-largest : (os ss : List ℕ) (i : ℕ) → i < length os → i < length ss → getD os i 0 + getD ss i 0 ≤ largestOf os ss
