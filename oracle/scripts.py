@@ -1497,7 +1497,7 @@ def unread(s):
 
 
 def tables(s):
-    """An image whose table is each of these, written anew, and every entry read back."""
+    """An image whose table is each of these, written anew, and every entry read back; and with just as many working bytes as that takes."""
     shared = (directory(0, 7, 8) + directory(1, 5, 5) + file(1, 0x10000, 0x10) + directory(3, 0, 5) + file(4, 0x10100, 0x20) + file(6, 0x10200, 0x30)
               + directory(8, 6, 7) + file(0, 0x2FFFFFFF, 0) + b"xdata\0file\0slack\0")
     ends = directory(0, 0, 21) + b"".join(file(k, 0x10000 + 0x20 * k, k) for k in range(20)) + b"abcdefghijklmnopqrst\0"
@@ -1511,9 +1511,16 @@ def tables(s):
             ("20 names that are ends of one text", ends)]:
         new_image(s, "a table written anew: " + heading, 0x11000, table)
         s.edit("rewrite")
-        s.peek(0x440, int.from_bytes(s.bytes_at(0x428, 4), "big"))
+        size = int.from_bytes(s.bytes_at(0x428, 4), "big")
+        s.peek(0x440, size)
         for k in range(len(s.oracle.setting("list").split())):
             s.look("entry", k)
+        s.load()
+        s.lend(0x1000, size - 1)
+        s.edit("rewrite", paper=9, why="one working byte too few")
+        s.lend(0x1000, size)
+        s.edit("rewrite", note="just enough working bytes")
+        s.lend(0x1000, 0x1000)
 
 
 # ---- listings

@@ -1,6 +1,6 @@
-// The original's files, byte for byte, into OUT_DIR: the oracle's own script. And `counter_open` of libcounter.a four times, 16 bytes
-// further on each time, and the same of an earlier library where COUNTER_BEFORE names its folder: where a loop comes to lie in memory
-// makes a tenth of its time, so that a few percent can be told only over several places.
+// The original's files, byte for byte, into OUT_DIR: the oracle's own script. And some calls of libcounter.a four times, 16 bytes further
+// on each time, and the same of an earlier library where COUNTER_BEFORE names its folder: where a loop comes to lie in memory makes a
+// tenth of its time, so that a few percent can be told only over several places.
 
 mod original {
     include!("../../oracle/build.rs");
@@ -17,6 +17,9 @@ use std::process::Command;
 
 /// Where a function may begin: at these multiples of 16 behind a multiple of 64.
 const PLACES: usize = 4;
+
+/// The calls that an earlier library is held against.
+const CALLS: [&str; 2] = ["open", "rewrite"];
 
 fn main() {
     original::copy();
@@ -36,7 +39,7 @@ fn run(program: &str, args: &[&OsStr]) {
     assert!(done.is_ok_and(|status| status.success()), "{program} {args:?}");
 }
 
-/// Links in `NAME_0` to `NAME_3`: `counter_open` of the library in `folder`.
+/// Links in `NAME_CALL_0` to `NAME_CALL_3`: `counter_CALL` of the library in `folder`.
 fn four_times(name: &str, folder: &OsStr) {
     let out = env::var("OUT_DIR").unwrap();
     let from = Path::new(folder).join("libcounter.a");
@@ -52,10 +55,13 @@ fn four_times(name: &str, folder: &OsStr) {
         let (object, library) = (object.as_os_str(), library.as_os_str());
         let whole = [word("-r"), word("--whole-archive"), from.as_os_str()];
         run("ld", &[&whole[..], &[word("-T"), script.as_os_str(), word("-o"), object]].concat());
-        let rename = format!("--redefine-sym=counter_open={symbol}");
-        let keep = format!("--keep-global-symbol={symbol}");
-        let align = word("--set-section-alignment=.text=64");
-        run("objcopy", &[align, rename.as_ref(), keep.as_ref(), object]);
+        let mut words = vec!["--set-section-alignment=.text=64".to_string()];
+        for call in CALLS {
+            words.push(format!("--redefine-sym=counter_{call}={name}_{call}_{place}"));
+            words.push(format!("--keep-global-symbol={name}_{call}_{place}"));
+        }
+        let words: Vec<&OsStr> = words.iter().map(OsStr::new).collect();
+        run("objcopy", &[&words[..], &[object]].concat());
         run("ar", &[word("rcs"), library, object]);
         println!("cargo:rustc-link-lib=static={symbol}");
     }

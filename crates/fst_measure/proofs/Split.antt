@@ -1,6 +1,6 @@
 -- Entries written in two goes are those entries written in one.
 -- Assumes nothing.
-use mathlib.Core.Path.{_≡_, _∙_}
+use mathlib.Core.Path.{_≡_}
 use mathlib.Core.List.{List}
 use Prim.Native.Nat.{ℕ, zero, suc, _+_, _-_, _≤_}
 use native.Mathlib.Nat.{zero-add, add-zero, suc-add}
@@ -65,6 +65,3 @@ module _ (tab : List ℕ) (n : ℕ) where
 
   pub text-up : (a b t : ℕ) → t ≤ textTo tab n a b t
   text-up a b t = text-grows (b - a) a t
-
-  pub text-next : (a k t : ℕ) → a ≤ k → textTo tab n a (k + 1) t ≡ textTo tab n a k t + nameSize tab n k + 1
-  text-next a k t h = text-split a k (k + 1) t h (omega arith) ∙ text-one k (textTo tab n a k t)

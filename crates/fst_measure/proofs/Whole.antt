@@ -1,15 +1,17 @@
 -- The entries written one after another, with the root before them, are `encode` of the table's entries.
 -- Assumes nothing.
 use Prim.Native.Nat.{ℕ, zero, suc, _+_, _-_, _*_, _≤_, _^_}
-use mathlib.Core.Path.{_≡_, refl, sym, ap, _∙_}
-use mathlib.Core.List.{List, [], _∷_, _++_, append-assoc}
+use mathlib.Core.Path.{_≡_, refl, sym, _∙_}
+use mathlib.Core.List.{List, [], _∷_, _++_, tail, append-assoc}
 use native.Mathlib.Omega.{arith}
 use native.Mathlib.Numerals.{add-one}
 use lib.ListN.{length, length-append}
 use lib.Seq.{append-snoc}
 use Rattle.endian.specs.Bytes.{put}
 use Rattle.endian.specs.Laws.Stored.{length-put, put-none}
-use Rattle.tree.specs.Table.{Node, file, directory, nameOf, kind, nameOffset, sizeOrNext, nameAt, nodeWith, nodeAt, nodesFrom, nodesOf, parentOf, nodeBytes, entriesBytes, textsOf, encode}
+use Rattle.tree.specs.Table.{Node, directory, nameOf, kind, nameOffset, sizeOrNext, nameAt, nodeWith, nodeAt, nodesFrom, nodesOf, parentOf, nodeBytes, entriesBytes, textsOf, encode}
+use Rattle.tree.specs.Laws.Accepted.{length-nodesFrom, length-nodesOf}
+use Rattle.tree.specs.Laws.WrittenEntries.{length-nodeBytes, length-entriesBytes, length-encode}
 use Rattle.fst_measure.specs.Inner.Valid.{Valid, nameSize}
 use Rattle.fst_measure.specs.Inner.Flat.{recordAt, putText, textFlat, writeFlat, textTo, writeTo, rootAt, Room}
 use Rattle.fst_measure.proofs.Puts.{put-append, put-swap}
@@ -22,26 +24,6 @@ name-with (suc t) nm a b = refl
 pub name-is : (tab : List ℕ) (n k : ℕ) → nameOf (nodeAt tab n k) ≡ nameAt tab n (nameOffset tab k)
 unfolding nodeAt
 name-is tab n k = name-with (kind tab k) _ _ _
-
-pub length-node : (p o : ℕ) (x : Node) → length (nodeBytes p o x) ≡ 12
-length-node p o (file nm a b) = refl
-length-node p o (directory nm b) = refl
-
-pub length-entries : (nodes : List Node) (k o : ℕ) (xs : List Node) → length (entriesBytes nodes k o xs) ≡ 12 * length xs
-unfolding entriesBytes
-length-entries nodes k o [] = refl
-length-entries nodes k o (x ∷ xs) =
-    omega (
-      arith,
-      length-append (nodeBytes (parentOf nodes k) o x) (entriesBytes nodes (suc k) (o + suc (length (nameOf x))) xs),
-      length-node (parentOf nodes k) o x,
-      length-entries nodes (suc k) (o + suc (length (nameOf x))) xs,
-    )
-
-pub length-from : (tab : List ℕ) (c k m : ℕ) → length (nodesFrom tab c k m) ≡ m
-unfolding nodesFrom
-length-from tab c k zero = refl
-length-from tab c k (suc m) = ap suc (length-from tab c (suc k) m)
 
 -- the name of one more entry, and its zero byte
 text-next : (tab : List ℕ) (n k m : ℕ) → length (textsOf (nodesFrom tab n k (suc m))) ≡ nameSize tab n k + 1 + length (textsOf (nodesFrom tab n (k + 1) m))
@@ -80,7 +62,7 @@ written-length tab n k text out h f =
     let p : ℕ = parentOf (nodesOf tab) k in
     let R : List ℕ = nodeBytes p (text - 12 * n) (nodeAt tab n k) in
     let nm : List ℕ = nameAt tab n (nameOffset tab k) in
-    let r : length R ≡ 12 = length-node p (text - 12 * n) (nodeAt tab n k) in
+    let r : length R ≡ 12 = length-nodeBytes p (text - 12 * n) (nodeAt tab n k) in
     let l : length (put out (12 * k) R) ≡ length out = length-put out (12 * k) R (omega arith) in
     let a : length (nm ++ (0 ∷ [])) ≡ length nm + 1 = length-append nm (0 ∷ []) in
     length-put (put out (12 * k) R) text (nm ++ (0 ∷ [])) (omega arith) ∙ l
@@ -96,9 +78,9 @@ module _ (tab : List ℕ) (n m k text : ℕ) (out : List ℕ) (past : 12 * n ≤
       let R : List ℕ = nodeBytes p (text - 12 * n) (nodeAt tab n k) in
       let o : text + length nm + 1 - 12 * n ≡ text - 12 * n + suc (length nm) = omega arith in
       let E : List ℕ = entriesBytes (nodesOf tab) (suc k) (text - 12 * n + suc (length nm)) xs in
-      let r : length R ≡ 12 = length-node p (text - 12 * n) (nodeAt tab n k) in
-      let e : length E ≡ 12 * length xs = length-entries (nodesOf tab) (suc k) (text - 12 * n + suc (length nm)) xs in
-      let l : length xs ≡ m = length-from tab n (suc k) m in
+      let r : length R ≡ 12 = length-nodeBytes p (text - 12 * n) (nodeAt tab n k) in
+      let e : length E ≡ 12 * length xs = length-entriesBytes (nodesOf tab) (suc k) (text - 12 * n + suc (length nm)) xs in
+      let l : length xs ≡ m = length-nodesFrom tab n (suc k) m in
       let a : length (nm ++ (0 ∷ [])) ≡ length nm + 1 = length-append nm (0 ∷ []) in
       rw (name-is tab n k, o, ← append-snoc nm 0 (textsOf xs))
       (two-parts out R E (nm ++ (0 ∷ [])) (textsOf xs) (12 * k) (12 * suc k) text (text + length nm + 1) (omega arith) (omega arith) (omega arith) (omega arith))
@@ -122,13 +104,10 @@ root-length n out h = length-put out 0 (nodeBytes 0 0 (directory [] n)) h
 
 module _ (tab : List ℕ) (n : ℕ) (v : Valid tab n) where
   pub encode-size : length (encode (nodesOf tab)) ≡ 12 * n + length (textsOf (nodesFrom tab n 1 (n - 1)))
-  unfolding encode nodesOf
+  unfolding nodesOf
   encode-size =
-      let xs : List Node = nodesFrom tab n 1 (n - 1) in
-      let R : List ℕ = nodeBytes 0 0 (directory [] n) in
-      let E : List ℕ = entriesBytes (directory [] n ∷ xs) 1 0 xs in
-      rw (count-is tab n v)
-      (omega (arith, v .some, length-append R (E ++ textsOf xs), length-append E (textsOf xs), length-entries (directory [] n ∷ xs) 1 0 xs, length-from tab n 1 (n - 1)))
+      let t : length (textsOf (tail (nodesOf tab))) ≡ length (textsOf (nodesFrom tab n 1 (n - 1))) = rw (count-is tab n v) in
+      omega (arith, length-encode (nodesOf tab), length-nodesOf tab, count-is tab n v)
 
   pub whole-size : textTo tab n 1 n (12 * n) ≡ length (encode (nodesOf tab))
   whole-size = text-end tab n (n - 1) 1 (12 * n) ∙ sym encode-size
@@ -141,8 +120,8 @@ module _ (tab : List ℕ) (n : ℕ) (v : Valid tab n) where
       let E : List ℕ = entriesBytes (directory [] n ∷ xs) 1 0 xs in
       let z : 12 * n - 12 * n ≡ 0 = omega arith in
       let s = encode-size in
-      let e : length E ≡ 12 * length xs = length-entries (directory [] n ∷ xs) 1 0 xs in
-      let l : length xs ≡ n - 1 = length-from tab n 1 (n - 1) in
+      let e : length E ≡ 12 * length xs = length-entriesBytes (directory [] n ∷ xs) 1 0 xs in
+      let l : length xs ≡ n - 1 = length-nodesFrom tab n 1 (n - 1) in
       let re : length (R ++ E) ≡ 12 + length E = length-append R E in
       let some = v .some in
       rw (count-is tab n v, z, put-append out 0 R 12 E refl (omega arith), put-append out 0 (R ++ E) (12 * n) (textsOf xs) (omega arith) (omega arith), append-assoc R E (textsOf xs))

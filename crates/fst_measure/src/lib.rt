@@ -1,11 +1,11 @@
-// The size of the file table written anew, by a walk down the tree.
+// The size of the file table written anew: 12 for the root, and for each further entry 12, its name and one.
 ghost use mathlib.Core.Path.{_≡_};
-ghost use Prim.Native.Nat.{_+_, _-_, _*_, _≤_, _<_};
+ghost use Prim.Native.Nat.{_+_, _*_, _≤_, _<_};
 ghost use lib.ListN.{length, drop};
-ghost use Rattle.tree.specs.Table.{kind, sizeOrNext, upTo0, count};
+ghost use Rattle.tree.specs.Table.{upTo0, count};
 ghost use Rattle.fst_measure.specs.Inner.Valid.{Valid, nameSize};
-ghost use Rattle.fst_measure.specs.Inner.Measure.{measureOf, capped};
-ghost use Rattle.fst_measure.specs.Inner.Flat.{afterIn, textTo};
+ghost use Rattle.fst_measure.specs.Inner.Measure.{measureOf};
+ghost use Rattle.fst_measure.specs.Inner.Flat.{afterIn};
 
 // More bytes of texts than this are refused (document 01: "texts over 1,048,576 bytes (9)").
 pub const TEXTS_LIMIT: usize = 1048576;
@@ -28,7 +28,7 @@ pub fn name_len(table: &[u8], at: usize) -> usize
     i
 }
 
-// The entry after k in its directory.
+// The entry after k in its directory, where the writers go on.
 pub fn after(table: &[u8], k: usize) -> usize
     requires { ⌜ 12 * k + 12 ≤ length (now table) ⌝ }
     ensures { λ r. ⌜ r ≡ afterIn (now (table .entry)) k ⌝ }
@@ -49,60 +49,22 @@ fn name_size(table: &[u8], count: usize, k: usize) -> usize
     name_len(table, from)
 }
 
-// The texts so far and the name of entry k with its zero byte.
-fn measure_name(table: &[u8], count: usize, k: usize, texts: usize) -> usize
-    requires { ⌜ Valid (now table) count × (0 < k) × (k < count) × (texts ≤ 1048576) ⌝ }
-    ensures { λ r. ⌜ r ≡ capped (textTo (now (table .entry)) count k (k + 1) texts) ⌝ }
-{
-    let n = name_size(table, count, k);
-    if TEXTS_LIMIT - texts <= n {
-        TEXTS_LIMIT + 1
-    } else {
-        texts + n + 1
-    }
-}
-
-// The texts so far and those of entry k, and if it is a directory of all that is in it.
-fn measure_entry(table: &[u8], count: usize, k: usize, texts: usize) -> usize
-    requires { ⌜ Valid (now table) count × (0 < k) × (k < count) × (texts ≤ 1048576) ⌝ }
-    ensures { λ r. ⌜ r ≡ capped (textTo (now (table .entry)) count k (afterIn (now (table .entry)) k) texts) ⌝ }
-{
-    let next_texts = measure_name(table, count, k, texts);
-    if table[12 * k] == 1 {
-        measure_directory(table, count, k, next_texts)
-    } else {
-        next_texts
-    }
-}
-
-// The texts so far and those of all that is in directory k. Stops once the limit is passed.
-fn measure_directory(table: &[u8], count: usize, k: usize, texts: usize) -> usize
-    requires { ⌜ Valid (now table) count × (k < count) × (kind (now table) k ≡ 1) × (texts ≤ 1048577) ⌝ }
-    ensures { λ r. ⌜ r ≡ capped (textTo (now (table .entry)) count (k + 1) (sizeOrNext (now (table .entry)) k) texts) ⌝ }
-{
-    let stop = endian::read_u32(table, 12 * k + 8) as usize;
-    let mut sum = texts;
-    let mut c = k + 1;
-    while c < stop {
-        if TEXTS_LIMIT < sum {
-            return sum;
-        }
-        sum = measure_entry(table, count, c, sum);
-        c = after(table, c);
-    }
-    sum
-}
-
 // The size of what `write_table` writes, or that its texts pass the limit.
 pub fn measure(table: &[u8]) -> Measured
     requires { ⌜ Valid (now table) (count (now table)) ⌝ }
     ensures { λ r. ⌜ r ≡ measureOf (now (table .entry)) ⌝ }
 {
     let count = endian::read_u32(table, 8) as usize;
-    let texts = measure_directory(table, count, 0, 0);
-    if TEXTS_LIMIT < texts {
-        Measured::PastLimit
-    } else {
-        Measured::Size(12 * count + texts)
+    let mut size = 12;
+    let mut k = 1;
+    while k < count {
+        let name = name_size(table, count, k);
+        // The texts so far are what is measured but for k records.
+        if TEXTS_LIMIT - (size - 12 * k) <= name {
+            return Measured::PastLimit;
+        }
+        size += 12 + name + 1;
+        k += 1;
     }
+    Measured::Size(size)
 }

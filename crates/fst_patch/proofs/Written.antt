@@ -3,23 +3,24 @@
 use Prim.Native.Nat.{ℕ, zero, suc, _+_, _*_, _≤_, _<_, _^_}
 use mathlib.Core.Path.{_≡_, refl, ap, _∙_}
 use mathlib.Core.Bool.{Bool, true, false}
-use mathlib.Core.List.{List, [], _∷_, _++_, tail, append-assoc}
+use mathlib.Core.List.{List, [], _++_, tail, append-assoc}
 use native.Mathlib.Omega.{arith}
 use native.Mathlib.Nat.{zero-add}
-use lib.ListN.{length, getD, take, drop, length-append, take-append-drop}
+use lib.ListN.{length, getD, take, drop}
 use lib.Seq.{take-append-le, drop-append-le}
 use Rattle.endian.specs.Bytes.{put, be32Bytes}
 use Rattle.endian.specs.Laws.Stored.{length-put, put-in, drop-put}
-use Rattle.tree.specs.Table.{Node, file, directory, nameOf, none, nameOffset, sizeOrNext, parentBelow, parentOf, textsOf, encode}
+use Rattle.tree.specs.Table.{Node, file, directory, none, nameOffset, sizeOrNext, parentBelow, parentOf, textsOf, encode}
 use Rattle.tree.specs.Inner.WellFormed.{WellFormed}
 use Rattle.tree.specs.Laws.WrittenEntries.{length-encode}
 use Rattle.tree.specs.Laws.Nesting.{parent-before}
 use Rattle.tree.specs.Laws.WellNested.{root-is, next-bounds}
 use Rattle.tree.specs.Insert.{insertAt, setPlace}
-use Rattle.tree.specs.Laws.InsertLaws.{Fresh, length-insert}
+use Rattle.tree.specs.Laws.InsertLaws.{Fresh}
 use Rattle.tree.specs.Laws.Writing.{textStart, start-most, Fields, written-fields}
 use Rattle.tree.specs.Inner.Patch.{insertPatch}
-use Rattle.tree.specs.Laws.PatchLaws.{place-patched, insert-patched, texts-insert}
+use Rattle.tree.specs.Laws.PatchLaws.{place-patched, insert-patched}
+use Rattle.tree.specs.Laws.Size.{size-insert}
 use Rattle.fst_raise.specs.Inner.Inserting.{newNode, Raisable, Insertable}
 use Rattle.fst_measure.proofs.Puts.{take-put}
 use Rattle.fst_raise.proofs.Patches.{SameEntry, same-entry, raisable-same, new-name}
@@ -140,20 +141,8 @@ module _ (b : List ℕ) (nodes : List Node) (p q : ℕ) (pm : List ℕ) (d : Boo
         names = λ k h. rw root-next (names k (omega (arith, root-next)));
       }
 
-  texts-grown : length (textsOf (tail (insertAt p (newNode d nm q) nodes))) ≡ length (textsOf (tail nodes)) + length nm + 1
-  texts-grown =
-      let t : List ℕ = textsOf (tail nodes) in
-      let a : ℕ = textStart nodes q in
-      let n : List ℕ = nameOf (newNode d nm q) in
-      let e : length (textsOf (tail (insertAt p (newNode d nm q) nodes))) ≡ length (take a t) + (length n + suc (length (drop a t))) =
-      ap length (texts-insert nodes p q pm (newNode d nm q) w here p<c (fresh-new d nm q) (omega arith) short)
-      ∙ length-append (take a t) (n ++ (0 ∷ drop a t)) ∙ ap (λ (m : ℕ). length (take a t) + m) (length-append n (0 ∷ drop a t)) in
-      omega (arith, ap length (take-append-drop a t), length-append (take a t) (drop a t), ap length (new-name d nm q))
-
   pub grown : length (encode (insertAt p (newNode d nm q) nodes)) ≡ length tab + 12 + length nm + 1
-  grown =
-      let N : List Node = insertAt p (newNode d nm q) nodes in
-      omega (arith, length-encode N, length-encode nodes, length-insert nodes p q pm (newNode d nm q) w here p<c, texts-grown)
+  grown = omega (arith, size-insert nodes p q pm (newNode d nm q) w here p<c, ap length (new-name d nm q))
 
   pub insert-written : put s 0 (insertPatch (take (length tab) s) (sizeOrNext s 0) p (newNode d nm (sizeOrNext s p))) ≡ put b 0 (encode (insertAt p (newNode d nm q) nodes))
   insert-written =

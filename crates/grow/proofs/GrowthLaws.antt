@@ -17,12 +17,13 @@ use Rattle.refusal.specs.Refusal.{refuse}
 use Rattle.tree.specs.Table.{Node, nameOf, none, sizeOrNext, textsOf, encode, limits}
 use Rattle.tree.specs.Inner.WellFormed.{GoodName, WellFormed}
 use Rattle.tree.specs.Lookup.{nextOf}
-use Rattle.tree.specs.Laws.InsertLaws.{Fresh, length-insert}
+use Rattle.tree.specs.Laws.InsertLaws.{Fresh}
 use Rattle.tree.specs.Laws.InsertWalk.{depthOk}
 use Rattle.tree.specs.Inner.Depths.{depthOf}
 use Rattle.tree.specs.Inner.Patch.{insertPatch}
 use Rattle.tree.specs.Laws.Depth.{limits-insert}
-use Rattle.tree.specs.Laws.Growing.{Bigger, texts-grow, bigger-insert, limits-either}
+use Rattle.tree.specs.Laws.Growing.{Bigger, bigger-insert, limits-either}
+use Rattle.tree.specs.Laws.Size.{size-insert}
 use Rattle.tree.specs.Laws.RoundTrip.{Within, within-limits}
 use Rattle.tree.specs.Laws.WrittenEntries.{length-encode}
 use Rattle.fst_raise.specs.Inner.Inserting.{newNode, Insertable}
@@ -78,7 +79,7 @@ module _ (M : List Node) (d : Bool) (p : ℕ) (nm : List ℕ) (w : WellFormed M)
       (refuse (not (depthAllows d (depthOf M p))) LimitOrMemory Passed)))
   limits-added words i =
       let x = is-directory (getD M p none) (dir .kind) in
-      limits-insert M p (nextOf (getD M p none)) (x .0) new words w (x .1) (dir .inside) named (fresh-new d nm (nextOf (getD M p none))) (omega (arith, i .few)) (omega (arith, i .texts))
+      limits-insert M p (nextOf (getD M p none)) (x .0) new words w (x .1) (dir .inside) named (fresh-new d nm (nextOf (getD M p none)))
       ∙ rw (name-new d nm (nextOf (getD M p none)), depth-new d nm (nextOf (getD M p none)) (depthOf M p), i .depth, and-true (depthAllows d (depthOf M p)))
     where
       and-true : (t : Bool) → (t && true) ≡ t
@@ -140,15 +141,7 @@ module _ (s : List ℕ) (size words : ℕ) (st : Stands s size words) (d : Bool)
   grown-size =
       let x = is-directory (getD T p none) (dir .kind) in
       let new : Node = newNode d nm (nextOf (getD T p none)) in
-      omega (
-        arith,
-        size-is s size words st,
-        length-encode T,
-        length-encode G,
-        length-insert T p (nextOf (getD T p none)) (x .0) new well (x .1) (dir .inside),
-        texts-grow T p (nextOf (getD T p none)) (x .0) new well (x .1) (dir .inside),
-        ap length (name-new d nm (nextOf (getD T p none))),
-      )
+      omega (arith, size-is s size words st, size-insert T p (nextOf (getD T p none)) (x .0) new well (x .1) (dir .inside), ap length (name-new d nm (nextOf (getD T p none))))
 
   pub grown-small : limits G words ≡ Passed → size + 12 + length nm + 1 ≤ 2 ^ 24
   grown-small e = let w = within-limits G words e in omega (arith, grown-size, length-encode G, w .few, w .texts)

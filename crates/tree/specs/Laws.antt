@@ -12,6 +12,7 @@ pub mod PatchLaws
 pub mod PlaceLaws
 pub mod Records
 pub mod RoundTrip
+pub mod Size
 pub mod Steps
 pub mod Texts
 pub mod Vectors

@@ -25,6 +25,8 @@ mod growth;
 mod images;
 mod long;
 mod measure;
+mod measuring;
+mod places;
 mod program;
 mod sides;
 
@@ -33,7 +35,8 @@ fn main() {
     if let [word, folder] = &wanted[..]
         && word == "write"
     {
-        return program::write(folder.as_ref()).unwrap();
+        program::write(folder.as_ref()).unwrap();
+        return measuring::write(folder.as_ref()).unwrap();
     }
     let runs = |name: &str| wanted.is_empty() || wanted.iter().any(|w| w == name);
     let mut misses = vec![];
@@ -52,6 +55,9 @@ fn main() {
     }
     if runs("program") {
         program::run(&mut misses);
+    }
+    if runs("measuring") {
+        measuring::run(&mut misses);
     }
     if runs("giant") {
         giant::run(&mut misses);

@@ -1,7 +1,8 @@
 //! Opening an image with a program, wherever it lies, against the same image with a DOL offset of 0, and against an earlier library.
 
 use crate::images::{self, PROGRAM, Plan};
-use crate::measure::{Watch, micros, ratio, tenth};
+use crate::measure::{micros, ratio, tenth};
+use crate::places::{OPEN, OPEN_BEFORE, time_open};
 use crate::sides::{Call, Lent};
 use std::fs;
 use std::path::Path;
@@ -31,50 +32,17 @@ fn plan(entries: usize, sorted: bool) -> Plan {
     images::plan_with_gap(entries, sorted, 64, PROGRAM)
 }
 
-/// `counter_open`.
-type Open = unsafe extern "C" fn(*const u8, usize, *mut u32, usize, *mut u32) -> u32;
-
-/// The library's `counter_open` at four places in memory (build.rs).
-macro_rules! at_four_places {
-    ($name:ident: $($symbol:ident)*) => {
-        const $name: [Open; 4] = {
-            unsafe extern "C" {
-                $(fn $symbol(image: *const u8, n: usize, words: *mut u32, m: usize, disc: *mut u32) -> u32;)*
-            }
-            [$($symbol),*]
-        };
-    };
-}
-
-at_four_places!(NOW: now_0 now_1 now_2 now_3);
-
-#[cfg(before)]
-at_four_places!(BEFORE: before_0 before_1 before_2 before_3);
-
-/// Without an earlier library the bar is the time without a program, by the same library.
-#[cfg(not(before))]
-const BEFORE: [Open; 4] = NOW;
-
-fn time(open: Open, image: &[u8], words: &mut [u32]) -> Duration {
-    let mut disc = [0; 5];
-    let (at, len) = (words.as_mut_ptr(), words.len());
-    let start = Watch::start();
-    let number = unsafe { open(image.as_ptr(), image.len(), at, len, disc.as_mut_ptr()) };
-    let time = start.elapsed();
-    assert_eq!(number, 0);
-    time
-}
-
 /// For each image the time before and now, each at the best of its four places in memory. Another image is opened before each run: a
-/// processor that has learnt the files' order takes half the time to sort them, and which contender it learns from is chance.
+/// processor that has learnt the files' order takes half the time to sort them, and which contender it learns from is chance. Without
+/// an earlier library the bar is the time without a program, by this one.
 fn times(images: &[Vec<u8>; 5], other: &[u8], entries: usize) -> [[Duration; 2]; 5] {
     let mut words = vec![0; 4 * (entries + 2)];
     let all: [Duration; 40] = tenth(BUDGET, |side| {
         let (image, place, is_now) = (side / 8, side % 4, side / 4 % 2 == 1);
-        let open = if is_now { NOW[place] } else { BEFORE[place] };
+        let open = if is_now { OPEN[place] } else { OPEN_BEFORE[place] };
         let image = if is_now || cfg!(before) { &images[image] } else { &images[0] };
-        time(open, other, &mut words);
-        time(open, image, &mut words)
+        time_open(open, other, &mut words);
+        time_open(open, image, &mut words)
     });
     let best = |side: usize| *all[side..side + 4].iter().min().unwrap();
     std::array::from_fn(|image| [best(8 * image), best(8 * image + 4)])

@@ -431,6 +431,22 @@ pub fn crowd(count: usize, length: usize, texts: usize, room: usize) -> Vec<u8> 
     image
 }
 
+/// The same count of entries and names of one byte, but 64 deep: directories each in the one before
+/// it, with an empty file in the last, again and again.
+pub fn deep_crowd(count: usize, room: usize) -> Vec<u8> {
+    let mut image = crowd(count, 1, 2, room);
+    for start in (1..count).step_by(65) {
+        let end = count.min(start + 65);
+        for k in start..end - 1 {
+            let parent = if k == start { 0 } else { k - 1 };
+            set_word(&mut image, 0x440 + 12 * k, 1 << 24);
+            set_word(&mut image, 0x444 + 12 * k, parent as u32);
+            set_word(&mut image, 0x448 + 12 * k, end as u32);
+        }
+    }
+    image
+}
+
 /// A change of one of the places that opening looks at.
 fn damage_once(r: &mut Random, image: &mut Vec<u8>) {
     if image.len() < 0x440 {

@@ -2,7 +2,7 @@
 //! the limits.
 
 use crate::calls::Call;
-use crate::masters::{chain, crowd};
+use crate::masters::{chain, crowd, deep_crowd};
 use crate::paper::{GAMECUBE, set_word};
 use crate::run::Run;
 
@@ -243,6 +243,28 @@ pub fn limits(run: &mut Run) {
         with.extend(calls.iter().map(|call| (call.clone(), 4 * (count + 2), 12 * count + texts)));
         with.push((Call::Open, 4 * (count + 2) - 1, 0));
         run.each(crowd(count, length, texts, room), &with);
+    }
+    // The new table's size to the byte: each name is read from the one text and written for itself.
+    for (image, count) in [
+        (chain(64, false), 65),
+        (chain(64, true), 66),
+        (crowd(16_383, 1, 2, 0x40_000), 16_383),
+        (deep_crowd(16_383, 0x40_000), 16_383),
+        (deep_crowd(16_384, 0x40_000), 16_384),
+    ] {
+        let size = 12 * count + 2 * (count - 1);
+        let with: Vec<_> = edits(run)
+            .into_iter()
+            .flat_map(|call| {
+                let new = match &call {
+                    Call::InsertFile(..) | Call::InsertDirectory(..) => 14,
+                    Call::MakeDirectories(_, path) if !path.is_empty() => 28,
+                    _ => 0,
+                };
+                [1, 0].map(|less| (call.clone(), WORDS, size + new - less))
+            })
+            .collect();
+        run.each(image, &with);
     }
 }
 

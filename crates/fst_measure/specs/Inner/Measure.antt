@@ -1,6 +1,7 @@
--- The size of a table as it will be written (document 01: "Before that its size is measured by a walk down the tree"; "texts over 1,048,576
--- bytes (9)"; the texts are the written ones, no name shared). Assumes nothing: these are definitions.
-use Prim.Native.Nat.{ℕ, min}
+-- The size of a table as it will be written, no name shared: its length, which is "12 for the root, and for each further entry 12, its name and
+-- one" (document 02; the law is `Size` of tree), or that its texts pass the limit (document 01: "texts over 1,048,576 bytes (9)").
+-- Assumes nothing: these are definitions.
+use Prim.Native.Nat.{ℕ}
 use mathlib.Core.Bool.{cond}
 use mathlib.Core.List.{List, tail}
 use lib.ListN.{length}
@@ -11,7 +12,3 @@ use Rattle.fst_measure.specs.declared.Measured.the-variants.{Size, PastL
 
 unfoldable pub measureOf : List ℕ → Measured
 measureOf tab = cond (ltb 1048576 (length (textsOf (tail (nodesOf tab))))) PastLimit (Size (length (encode (nodesOf tab))))
-
--- a sum of texts that stops once it has passed the limit
-abbrev pub capped : ℕ → ℕ
-capped texts = min 1048577 texts

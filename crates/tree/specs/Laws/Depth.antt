@@ -1,11 +1,11 @@
 -- The depth of an entry, counted from parent to parent, and the limits of a tree with one entry more. Assumes nothing.
-use Prim.Native.Nat.{ℕ, zero, suc, _+_, _*_, _^_, _<_, _≤_}
-use mathlib.Core.Path.{_≡_, refl, sym, ap, _∙_}
+use Prim.Native.Nat.{ℕ, zero, suc, _+_, _*_, _<_, _≤_}
+use mathlib.Core.Path.{_≡_, refl, ap, _∙_}
 use mathlib.Core.Bool.{Bool, true, false, cond, not, _&&_}
-use mathlib.Core.List.{List, _∷_, _++_, tail}
+use mathlib.Core.List.{List, _∷_, tail}
 use native.Mathlib.Omega.{arith}
 use borrow.Author.Tests.{ltb-true, ltb-false, lt-ltb, le-ltb}
-use lib.ListN.{length, getD, take, drop, length-append, take-append-drop}
+use lib.ListN.{length, getD}
 use lib.Dec.{ltb}
 use Rattle.refusal.specs.declared.Verdict.the-variants.{Passed}
 use Rattle.refusal.specs.declared.Refusal.the-variants.{LimitOrMemory}
@@ -19,8 +19,7 @@ use Rattle.tree.specs.Inner.Depths.{openDirs, depthOf}
 use Rattle.tree.specs.Insert.{insertAt}
 use Rattle.tree.specs.Laws.InsertLaws.{Fresh, length-insert, insert-shallow}
 use Rattle.tree.specs.Laws.InsertWalk.{depthOk}
-use Rattle.tree.specs.Laws.Writing.{textStart}
-use Rattle.tree.specs.Laws.PatchLaws.{texts-insert}
+use Rattle.tree.specs.Laws.Size.{texts-grow}
 
 pub depth-root : (nodes : List Node) → depthOf nodes 0 ≡ 0
 unfolding openDirs
@@ -80,21 +79,12 @@ depth-parent nodes k w h l = go (getD nodes (parentOf nodes k) none) refl (paren
 
 -- ---- the limits of a tree with one entry more
 
-pub texts-insert-length : (nodes : List Node) (p q : ℕ) (nm : List ℕ) (new : Node) (w : WellFormed nodes) (here : getD nodes p none ≡ directory nm q) (p<n : p < length nodes) (fresh : Fresh q new)
-    (few : length nodes < 2 ^ 32) (short : length (textsOf (tail nodes)) < 2 ^ 24) → length (textsOf (tail (insertAt p new nodes))) ≡ length (textsOf (tail nodes)) + suc (length (nameOf new))
-texts-insert-length nodes p q nm new w here p<n fresh few short =
-    let t : List ℕ = textsOf (tail nodes) in
-    let s : ℕ = textStart nodes q in
-    let e : length (take s t) + length (drop s t) ≡ length t = sym (length-append (take s t) (drop s t)) ∙ ap length (take-append-drop s t) in
-    rw (texts-insert nodes p q nm new w here p<n fresh few short, length-append (take s t) (nameOf new ++ (0 ∷ drop s t)), length-append (nameOf new) (0 ∷ drop s t)) (omega arith)
-
 pub limits-insert : (nodes : List Node) (p q : ℕ) (nm : List ℕ) (new : Node) (words : ℕ) → WellFormed nodes → getD nodes p none ≡ directory nm q → p < length nodes → GoodName (nameOf new) → Fresh q new →
-    length nodes < 2 ^ 32 → length (textsOf (tail nodes)) < 2 ^ 24 →
     limits (insertAt p new nodes) words ≡
     refuse (ltb 16384 (suc (length nodes))) LimitOrMemory
     (refuse (ltb 1048576 (length (textsOf (tail nodes)) + suc (length (nameOf new)))) LimitOrMemory
     (refuse (ltb words (4 * (suc (length nodes) + 2))) LimitOrMemory
     (refuse (not (depthOk (suc (depthOf nodes p)) new && shallow nodes)) LimitOrMemory Passed)))
 unfolding limits
-limits-insert nodes p q nm new words w here p<n named fresh few short =
-    rw (length-insert nodes p q nm new w here p<n, texts-insert-length nodes p q nm new w here p<n fresh few short, insert-shallow nodes p q nm new w here p<n named fresh)
+limits-insert nodes p q nm new words w here p<n named fresh =
+    rw (length-insert nodes p q nm new w here p<n, texts-grow nodes p q nm new w here p<n, insert-shallow nodes p q nm new w here p<n named fresh)

@@ -1,42 +1,25 @@
 -- A tree that grows by inserts passes no limit that it passed before: what is too large on the way is too large at the end. Assumes nothing.
-use Prim.Native.Nat.{ℕ, suc, _+_, _-_, _*_, _<_, _≤_}
-use mathlib.Core.Path.{_≡_, refl, sym, ap, _∙_}
+use Prim.Native.Nat.{ℕ, suc, _+_, _*_, _<_, _≤_}
+use mathlib.Core.Path.{_≡_, refl, sym, _∙_}
 use mathlib.Core.Logic.{_⊎_, inl, inr}
 use mathlib.Core.Bool.{Bool, true, false, not}
-use mathlib.Core.List.{List, _∷_, _++_, tail}
+use mathlib.Core.List.{List, tail}
 use native.Mathlib.Omega.{arith}
-use lib.ListN.{length, getD, take, drop, length-append, take-append-drop}
+use lib.ListN.{length, getD}
 use lib.Dec.{ltb}
 use Rattle.refusal.specs.declared.Verdict.the-variants.{Passed, Refused}
 use Rattle.refusal.specs.declared.Refusal.the-variants.{LimitOrMemory}
 use Rattle.refusal.specs.Refusal.{refuse}
 use Rattle.tree.specs.Table.{Node, directory, nameOf, none, textsOf, encode, shallow, limits}
 use Rattle.tree.specs.Inner.WellFormed.{GoodName, WellFormed}
-use Rattle.tree.specs.Laws.WellNested.{next-bounds}
-use Rattle.tree.specs.Insert.{splice, insertAt}
+use Rattle.tree.specs.Insert.{insertAt}
 use Rattle.tree.specs.Laws.InsertLaws.{Fresh, length-insert, insert-sound, insert-shallow}
 use Rattle.tree.specs.Laws.InsertWalk.{depthOk}
 use Rattle.tree.specs.Inner.Depths.{depthOf}
 use Rattle.refusal.specs.Laws.Tests.{and-right}
 use Rattle.tree.specs.Laws.RoundTrip.{Within, within-limits, limits-within}
 use Rattle.tree.specs.Laws.WrittenEntries.{length-encode}
-use Rattle.tree.specs.Laws.Writing.{texts-append}
-use Rattle.tree.specs.Laws.PatchLaws.{texts-splice, tail-splice, length-tail}
-
-module _ (nodes : List Node) (p q : ℕ) (nm : List ℕ) (new : Node) (w : WellFormed nodes) (dir : getD nodes p none ≡ directory nm q) (p<n : p < length nodes) where
-  tail-is : tail (insertAt p new nodes) ≡ splice p new 1 (q - 1) (tail nodes)
-  unfolding insertAt
-  tail-is = let b = next-bounds nodes p q nm w dir p<n in rw dir (tail-splice p new q nodes (omega arith) (b .1))
-
-  pub texts-grow : length (textsOf (tail (insertAt p new nodes))) ≡ length (textsOf (tail nodes)) + suc (length (nameOf new))
-  texts-grow =
-      let b = next-bounds nodes p q nm w dir p<n in
-      let xs : List Node = tail nodes in
-      let j : ℕ = q - 1 in
-      let l : suc (length xs) ≡ length nodes = length-tail nodes (omega arith) in
-      let e : length (textsOf xs) ≡ length (textsOf (take j xs)) + length (textsOf (drop j xs)) =
-      ap length (ap textsOf (sym (take-append-drop j xs)) ∙ texts-append (take j xs) (drop j xs)) ∙ length-append (textsOf (take j xs)) (textsOf (drop j xs)) in
-      rw (tail-is, texts-splice p new 1 j xs (omega arith), length-append (textsOf (take j xs)) (nameOf new ++ (0 ∷ textsOf (drop j xs))), length-append (nameOf new) (0 ∷ textsOf (drop j xs))) (omega arith)
+use Rattle.tree.specs.Laws.Size.{texts-grow}
 
 -- F is a tree that M grew into
 pub record Bigger (M F : List Node) : Type 0 where

@@ -167,7 +167,7 @@ module _ (nodes : List Node) (p q : ℕ) (nm : List ℕ) (new : Node) (w : WellF
   inside : q - 1 ≤ length (tail nodes)
   inside = omega (arith, length-tail nodes (omega (arith, p<n)), q≤n)
 
-  pub texts-insert : textsOf (tail N) ≡ take (textStart nodes q) (textsOf (tail nodes)) ++ (nameOf new ++ (0 ∷ drop (textStart nodes q) (textsOf (tail nodes))))
+  texts-insert : textsOf (tail N) ≡ take (textStart nodes q) (textsOf (tail nodes)) ++ (nameOf new ++ (0 ∷ drop (textStart nodes q) (textsOf (tail nodes))))
   unfolding textStart
   texts-insert =
       let xs : List Node = tail nodes in

@@ -15,7 +15,7 @@ use Rattle.tree.specs.Inner.Patch.{records, recordBefore, recordAfter, p
 
 -- ---- "A small master": `01000000 00000000 00000002 00000000 00000500 00000100 6100`
 
-abbrev master : List ℕ
+abbrev pub master : List ℕ
 master = 1 ∷ 0 ∷ 0 ∷ 0 ∷ 0 ∷ 0 ∷ 0 ∷ 0 ∷ 0 ∷ 0 ∷ 0 ∷ 2 ∷ 0 ∷ 0 ∷ 0 ∷ 0 ∷ 0 ∷ 0 ∷ 5 ∷ 0 ∷ 0 ∷ 0 ∷ 1 ∷ 0 ∷ 0x61 ∷ 0 ∷ []
 
 abbrev tree : List Node
@@ -58,7 +58,7 @@ refusals = (refl, refl, refl, refl, refl, refl, refl, refl, refl, refl, refl, re
 
 -- ---- a directory `d` with a file `b` in it, then a file `b` beside it; both files have the one text `b`, and the stored parents are wrong
 
-abbrev shared : List ℕ
+abbrev pub shared : List ℕ
 shared =
     (1 ∷ 0 ∷ 0 ∷ 0 ∷ be32Bytes 0 ++ be32Bytes 4) ++ ((1 ∷ 0 ∷ 0 ∷ 0 ∷ be32Bytes 7 ++ be32Bytes 3) ++ ((0 ∷ 0 ∷ 0 ∷ 2 ∷ be32Bytes 9 ++ be32Bytes 8) ++ ((0 ∷ 0 ∷ 0 ∷ 2 ∷ be32Bytes 6 ++ be32Bytes 5) ++ (0x64 ∷ 0 ∷ 0x62 ∷ 0 ∷ []))))
 
@@ -88,7 +88,7 @@ grown-patched = refl
 abbrev deep : List Node
 deep = directory [] 7 ∷ directory (0x64 ∷ []) 6 ∷ file (0x78 ∷ []) 0x500 0x10 ∷ directory (0x65 ∷ []) 6 ∷ directory (0x67 ∷ []) 6 ∷ file (0x79 ∷ []) 0x600 0x20 ∷ directory (0x66 ∷ []) 7 ∷ []
 
-abbrev deepBytes : List ℕ
+abbrev pub deepBytes : List ℕ
 deepBytes =
     1 ∷ 0 ∷ 0 ∷ 0 ∷ 0 ∷ 0 ∷ 0 ∷ 0 ∷ 0 ∷ 0 ∷ 0 ∷ 7 ∷
     1 ∷ 0 ∷ 0 ∷ 0 ∷ 0 ∷ 0 ∷ 0 ∷ 0 ∷ 0 ∷ 0 ∷ 0 ∷ 6 ∷
