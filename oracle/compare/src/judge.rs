@@ -289,6 +289,7 @@ impl New {
         Some(new)
     }
 
+    /// 12 for the root, and for each further entry 12, its name and one.
     pub fn size(&self) -> u64 {
         (12 * self.entries + self.texts) as u64
     }
