@@ -1,8 +1,12 @@
 -- The program by the cases of its header, and its own region by where it lies. Assumes nothing.
 use Prim.Native.Nat.{ℕ, _+_, _<_, _≤_, max}
-use mathlib.Core.Path.{_≡_, sym, ap, _∙_}
+use mathlib.Core.Path.{_≡_, refl, sym, ap, _∙_}
+use mathlib.Core.Bool.{Bool, true, false, cond}
 use mathlib.Core.List.{List}
-use borrow.Author.Tests.{eq-eqb, ne-eqb, le-leb, lt-leb}
+use native.Mathlib.Omega.{arith}
+use borrow.Author.Tests.{eq-eqb, ne-eqb, le-leb, lt-leb, leb-true}
+use lib.Dec.{leb}
+use Rattle.refusal.specs.Laws.Tests.{and-right}
 use Rattle.refusal.specs.declared.Refusal.{Refusal}
 use Rattle.refusal.specs.declared.Verdict.{Verdict}
 use Rattle.refusal.specs.declared.Verdict.the-variants as verdict
@@ -14,7 +18,7 @@ use Rattle.dol.specs.Laws.Facts.{size-passed, size-refused}
 use Rattle.dol.specs.Dol.{dolVerdictOf, dolSizeOf}
 use Rattle.program.specs.declared.Program.{Program}
 use Rattle.program.specs.declared.Program.the-variants.{At, None, Refused}
-use Rattle.program.specs.Program.{programFrom, programAs, programOf, programVerdict, nowhere, placeOf, ownRegion}
+use Rattle.program.specs.Program.{programFrom, programAs, programOf, programVerdict, nowhere, placeOf, beforeTable, ownRegion}
 
 -- ---- read
 
@@ -53,10 +57,14 @@ module _ (r x : DiscRegion) (fst : ℕ) (e : r ≡ x) where
   own-low h = rw (← e, lt-leb 0x440 (r .offset) h)
 
   module _ (a n : ℕ) (from : a ≡ r .offset) (many : n ≡ r .size) (low : 0x440 ≤ r .offset) where
+    pub own-behind : fst < a + n → r ≡ ownRegion fst x
+    unfolding ownRegion
+    own-behind h = rw (← e) (go (beforeTable fst r) refl)
+      where
+        go : (t : Bool) → beforeTable fst r ≡ t → r ≡ cond t nowhere r
+        go true b = absurd (omega (arith, leb-true (r .offset + r .size) fst (and-right (leb 0x440 (r .offset)) (leb (r .offset + r .size) fst) b)))
+        go false b = refl
+
     pub own-before : a + n ≤ fst → nowhere ≡ ownRegion fst x
     unfolding ownRegion
     own-before h = rw (← e, le-leb 0x440 (r .offset) low, ← from, ← many, le-leb (a + n) fst h)
-
-    pub own-behind : fst < a + n → r ≡ ownRegion fst x
-    unfolding ownRegion
-    own-behind h = rw (← e, le-leb 0x440 (r .offset) low, ← from, ← many, lt-leb (a + n) fst h)
