@@ -19,6 +19,12 @@ impl<'a> Words<'a> {
         self.0.next().ok_or(Stop::Usage("a word is missing"))
     }
 
+    /// A word behind which there is none.
+    pub fn last(&mut self) -> Answer<&'a str> {
+        let text = self.text()?;
+        self.end().map(|()| text)
+    }
+
     pub fn number(&mut self) -> Answer<u64> {
         number(self.text()?)
     }

@@ -87,15 +87,17 @@ impl State {
         let image = &mut self.lender.image;
         match command {
             "image" => {
-                let bytes = fs::read(words.text()?).map_err(|_| Stop::Usage("cannot be read"))?;
+                let path = words.last()?;
+                let bytes = fs::read(path).map_err(|_| Stop::Usage("cannot be read"))?;
                 *image = Guarded::of(&bytes);
             }
             "dump" => {
-                fs::write(words.text()?, image.slice())
+                fs::write(words.last()?, image.slice())
                     .map_err(|_| Stop::Usage("cannot be written"))?;
             }
             "size" => {
                 let len = words.size()?;
+                words.end()?;
                 if len > MAX_IMAGE {
                     return Err(Stop::Usage("too long"));
                 }
@@ -107,6 +109,7 @@ impl State {
             }
             "patch" => {
                 let (at, bytes) = (words.size()?, words.bytes()?);
+                words.end()?;
                 let place = image.slice_mut().get_mut(at..at.saturating_add(bytes.len()));
                 place.ok_or(Stop::Usage("past the image"))?.copy_from_slice(&bytes);
             }
@@ -117,12 +120,12 @@ impl State {
                 return Ok(format!("ok {}", hex(place.ok_or(Stop::Usage("past the image"))?)));
             }
             "save" => {
-                let saved = self.saved.entry(words.text()?.into()).or_default();
+                let saved = self.saved.entry(words.last()?.into()).or_default();
                 saved.clear();
                 saved.extend_from_slice(image.slice());
             }
             "load" => {
-                let saved = self.saved.get(words.text()?).ok_or(Stop::Usage("not saved"))?;
+                let saved = self.saved.get(words.last()?).ok_or(Stop::Usage("not saved"))?;
                 *image = Guarded::of(saved);
             }
             _ => {
@@ -131,7 +134,6 @@ impl State {
                 return Ok(format!("ok {hash:016x} {}", image.len()));
             }
         }
-        words.end()?;
         self.length()
     }
 
@@ -141,8 +143,12 @@ impl State {
         let (mut numbers, mut path) = ([0; 2], vec![]);
         match command {
             "lend" => {
-                self.lender.lend(words.size()?, words.size()?);
+                let (count, bytes) = (words.size()?, words.size()?);
                 words.end()?;
+                if count > MAX_IMAGE / 4 || bytes > MAX_IMAGE {
+                    return Err(Stop::Usage("too long"));
+                }
+                self.lender.lend(count, bytes);
                 return Ok("ok".into());
             }
             "lend_list" => {

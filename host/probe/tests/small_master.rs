@@ -329,8 +329,17 @@ fn lists_of_a_named_length() {
 #[test]
 fn usage() {
     let mut commands = MASTER.map(String::from).to_vec();
-    commands.push("lend_list 5".into());
+    commands.extend(["lend_list 5", "lend 16 0x1a", "save here", "hash"].map(String::from));
     let wrong = [
+        ("lend 16", "usage a word is missing"),
+        ("lend 15 0 0", "usage too many words"),
+        ("lend 18446744073709551615 0", "usage too long"),
+        ("lend 0 18446744073709551615", "usage too long"),
+        ("size 0 0", "usage too many words"),
+        ("patch 0x1c 00 00", "usage too many words"),
+        ("save there too", "usage too many words"),
+        ("load there", "usage not saved"),
+        ("load here too", "usage too many words"),
         ("lend_list", "usage a word is missing"),
         ("lend_list 6 7", "usage too many words"),
         ("lend_list - -", "usage too many words"),
@@ -341,13 +350,15 @@ fn usage() {
         ("cluster", "usage no such command"),
     ];
     commands.extend(wrong.map(|(line, _)| line.into()));
-    commands.push("clusters".into());
+    commands.extend(["hash", "rewrite", "clusters"].map(String::from));
     let answers = said(&commands);
-    let from = MASTER.len() + 1;
+    let from = MASTER.len() + 4;
     for ((line, expected), answer) in wrong.iter().zip(&answers[from..]) {
         assert_eq!(answer, expected, "{line}");
     }
-    assert_eq!(answers.last().unwrap(), "err 9");
+    let end = from + wrong.len();
+    assert_eq!(answers[from - 1], answers[end], "the image");
+    assert_eq!(answers[end + 1..], ["ok", "err 9"], "the memory and the list");
 }
 
 #[test]
