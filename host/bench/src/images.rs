@@ -121,6 +121,13 @@ fn up(n: usize, align: usize) -> usize {
     n.div_ceil(align) * align
 }
 
+/// The plan of a master whose files are all empty.
+pub fn plan_of_empty_files(nodes: Vec<Node>) -> Plan {
+    let table = table_of(&nodes).len();
+    let disc_end = up(FST_OFFSET + table + 0x20000, 0x8000) as u32;
+    Plan { nodes, path_of: vec![], file: 0, free: 0, gap: 0, disc_end }
+}
+
 /// A master of `n` entries. Files are of 32 to 95 bytes, about half of them with free bytes behind; one in the middle of the table has
 /// `size` bytes. Their places rise with their numbers, or are in no order.
 pub fn plan(n: usize, sorted: bool, size: u32) -> Plan {

@@ -1,6 +1,6 @@
 //! Paths as long as they may be: steps down and back, and as many new directories as fit.
 
-use crate::images::{self, FST_OFFSET, Node, Plan};
+use crate::images::{self, Node, Plan};
 use crate::sides::Call;
 
 /// An empty directory, one of files, and behind it an empty one in another: the farthest that a directory can be from the one it is in,
@@ -20,9 +20,7 @@ pub fn plan(n: usize) -> Plan {
     }
     nodes.push(node("z", true, 0, end));
     nodes.push(node("z", true, end - 2, end));
-    let table = images::table_of(&nodes).len();
-    let disc_end = (FST_OFFSET + table + 0x20000).next_multiple_of(0x8000) as u32;
-    Plan { nodes, path_of: vec![], file: 3, free: 0, gap: 0, disc_end }
+    images::plan_of_empty_files(nodes)
 }
 
 /// `z/../z/../z`, up to 1,024 bytes.

@@ -149,6 +149,33 @@ struct Asked {
     program: Option<Program>,
 }
 
+impl Asked {
+    /// With the words and bytes lent, the answers of probe and oracle, and nothing that is asked of an edit only.
+    fn new(
+        case: usize,
+        call: Call,
+        [words, bytes]: [usize; 2],
+        [probe, oracle]: [usize; 2],
+        twin: Option<usize>,
+    ) -> Self {
+        let (alone, hashes, listing, program) = (None, None, None, None);
+        Self {
+            case,
+            call,
+            words,
+            bytes,
+            probe,
+            oracle,
+            twin,
+            alone,
+            hashes,
+            peek: 0,
+            listing,
+            program,
+        }
+    }
+}
+
 /// Where in the batch these are: total, used total, free regions, and the program's bytes.
 struct Program {
     total: usize,
@@ -676,21 +703,7 @@ fn ask_look_with(lines: &mut Batch, case: usize, call: Call, words: usize, bytes
     // An edit of an image that 01 refuses is held to opening.
     let oracle = lines.oracle(if call.edits() { "open".into() } else { call.line() });
     let twin = if call.edits() { None } else { call.twin() }.map(|twin| lines.oracle(twin));
-    let (alone, hashes, listing, program) = (None, None, None, None);
-    Asked {
-        case,
-        call,
-        words,
-        bytes,
-        probe,
-        oracle,
-        twin,
-        alone,
-        hashes,
-        peek: 0,
-        listing,
-        program,
-    }
+    Asked::new(case, call, [words, bytes], [probe, oracle], twin)
 }
 
 fn ask_edit(lines: &mut Batch, i: usize, case: &mut Case, call: Call) -> Asked {
@@ -755,18 +768,6 @@ fn ask_edit_with(
         let [total, used, free] = ["total", "used", "free"].map(|line| lines.probe(line.into()));
         Program { total, used, free, bytes: lines.probe(format!("peek {at} {}", bytes.len())) }
     });
-    Asked {
-        case: i,
-        call,
-        words,
-        bytes,
-        probe,
-        oracle,
-        twin,
-        alone,
-        hashes,
-        peek,
-        listing,
-        program,
-    }
+    let asked = Asked::new(i, call, [words, bytes], [probe, oracle], twin);
+    Asked { alone, hashes, peek, listing, program, ..asked }
 }
