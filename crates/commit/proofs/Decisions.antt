@@ -20,8 +20,9 @@ use Rattle.commit.specs.declared.Writing.{Writing}
 use Rattle.commit.specs.declared.Decision.{Decision}
 use Rattle.commit.specs.declared.Decision.the-variants as decision
 use Rattle.commit.specs.declared.TableSize.the-variants as table
-use Rattle.edits.specs.Change.{written, tableVerdict, Plan, change, placeVerdict}
+use Rattle.edits.specs.Change.{written, tableVerdict, Plan, refused, change, placeVerdict}
 use Rattle.edits.specs.Edits.{Edit, planned, planOf, planVerdict, planImage, verdictOf, imageAfter}
+use Rattle.edits.specs.Laws.Behind as behind
 use Rattle.opening.specs.declared.Prepared.{Prepared}
 use Rattle.opening.specs.declared.Prepared.the-variants as prepared
 use Rattle.opening.specs.Inner.Prepared.{Prepares, IsOpen}
@@ -48,17 +49,16 @@ module _ (image : List ℕ) (words room : ℕ) (bytes : List ℕ) where
   pub refused-decided : (p : Plan) (c : Refusal) → planVerdict p image words room ≡ Refused c → Decided p image words room bytes (decision.Refused c)
   refused-decided p c e = record {
     fits = tt;
+    carries = tt;
     answer = sym e;
     after = sym (ap (λ (v : Verdict). cond (isRefused v) image (planImage p image)) e);
   }
 
   pub behind-passed : (v : Verdict) (p : Plan) (d : Decision) → v ≡ Passed → Decided p image words room bytes d → Decided (planned v p) image words room bytes d
-  behind-passed Passed p d e h = h
-  behind-passed (Refused c) p d e h = let z : _≡_ {A = ℕ} 0 1 = cc in absurd (omega arith)
+  behind-passed v p d e h = rw (behind.behind-passed v p e) h
 
   pub behind-refused : (v : Verdict) (p : Plan) (c : Refusal) → v ≡ Refused c → Decided (planned v p) image words room bytes (decision.Refused c)
-  behind-refused Passed p c e = let z : _≡_ {A = ℕ} 0 1 = cc in absurd (omega arith)
-  behind-refused (Refused d) p c e = refused-decided (planned (Refused d) p) c e
+  behind-refused v p c e = rw (behind.behind-refused v p c e) (refused-decided (refused (Refused c)) c refl)
 
   -- opening and the plan are the whole edit
   pub edit-decided : (ed : Edit) (d : Decision) → Decided (planned (opening image words) (planOf ed image)) image words room bytes d →
@@ -76,6 +76,7 @@ module _ (image : List ℕ) (words room : ℕ) (bytes : List ℕ) where
       Decided (change k (changeWith nodes w)) image words room bytes (decision.Write size w)
   write-decided k nodes size w f e s = record {
     fits = f;
+    carries = (s, refl);
     answer = sym e;
     after = ap (λ (t : List ℕ). writtenWith w t image) s ∙ written-same image nodes w ∙ sym (ap (λ (v : Verdict). cond (isRefused v) image (written (changeWith nodes w) image)) e);
   }
@@ -99,14 +100,16 @@ is-open image w w′ r m p e l =
     let q : Prepares image (length w) w′ (prepared.Ready m) = rw e at p in
     record { passed = rw l (q .0); used = q .1 }
 
+pub opened : (image w w′ : List ℕ) (r : Prepared) (m : ℕ) → Prepares image (length w) w′ r → r ≡ prepared.Ready m → opening image (length w) ≡ Passed
+opened image w w′ r m q e = let o : Prepares image (length w) w′ (prepared.Ready m) = rw e at q in o .0
+
+pub unopened : (image w w′ : List ℕ) (r : Prepared) (c : Refusal) → Prepares image (length w) w′ r → r ≡ prepared.Refused c → opening image (length w) ≡ Refused c
+unopened image w w′ r c q e = rw e at q
+
 pub open-decided : (image w w′ : List ℕ) (r : Prepared) (m room : ℕ) (bytes : List ℕ) (p : Plan) (d : Decision) → Prepares image (length w) w′ r → r ≡ prepared.Ready m → length w′ ≡ length w →
     Decided p image (length w′) room bytes d → Decided (planned (opening image (length w)) p) image (length w) room bytes d
-open-decided image w w′ r m room bytes p d q e l h =
-    let o : Prepares image (length w) w′ (prepared.Ready m) = rw e at q in
-    behind-passed image (length w) room bytes (opening image (length w)) p d (o .0) (rw l at h)
+open-decided image w w′ r m room bytes p d q e l h = behind-passed image (length w) room bytes (opening image (length w)) p d (opened image w w′ r m q e) (rw l at h)
 
 pub unopened-decided : (image w w′ : List ℕ) (r : Prepared) (c : Refusal) (room : ℕ) (bytes : List ℕ) (p : Plan) → Prepares image (length w) w′ r → r ≡ prepared.Refused c →
     Decided (planned (opening image (length w)) p) image (length w) room bytes (decision.Refused c)
-unopened-decided image w w′ r c room bytes p q e =
-    let o : Prepares image (length w) w′ (prepared.Refused c) = rw e at q in
-    behind-refused image (length w) room bytes (opening image (length w)) p c o
+unopened-decided image w w′ r c room bytes p q e = behind-refused image (length w) room bytes (opening image (length w)) p c (unopened image w w′ r c q e)

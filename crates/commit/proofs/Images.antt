@@ -34,6 +34,7 @@ use Rattle.opening.specs.Opening.{tableOf, nodesIn, regionOf, behindTable, used
 use Rattle.opening.specs.Laws.OpeningLaws.{OpenImage}
 use Rattle.edits.specs.Change.{tableVerdict, placeVerdict}
 use Rattle.edits.specs.Edits.{overlapsItself, relocateVerdict}
+use Rattle.edits.specs.Laws.PlaceTests.{place-passed, free-byte}
 use Rattle.space.specs.Inner.Sort.{regionsIn}
 use Rattle.opening.specs.Inner.Prepared.{UsedWords}
 use Rattle.commit.specs.declared.TableSize.{TableSize}
@@ -51,19 +52,20 @@ checked image words e =
 pub table-valid : (image : List ℕ) (words : ℕ) → opening image words ≡ Passed → Valid (tableOf image) (count (tableOf image))
 table-valid image words e = accepted-valid (tableOf image) words (checked image words e)
 
--- ---- a file that is not empty lies on the disc
+-- ---- a file that is not empty lies behind the table and on the disc
 
-lies : (t e : ℕ) (x : DiscRegion) → liesWithin t e x ≡ true → 0 < x .size → endOf x ≤ e
+lies : (t e : ℕ) (x : DiscRegion) → liesWithin t e x ≡ true → 0 < x .size → (t ≤ x .offset) × (endOf x ≤ e)
 unfolding liesWithin
 lies t e x l z =
-    ⊎-elim (λ q. absurd (omega (arith, eqb-true (x .size) 0 q))) (λ q. leb-true (endOf x) e (and-right (leb t (x .offset)) (leb (endOf x) e) q))
+    ⊎-elim (λ q. absurd (omega (arith, eqb-true (x .size) 0 q)))
+    (λ q. (leb-true t (x .offset) (and-left (leb t (x .offset)) (leb (endOf x) e) q), leb-true (endOf x) e (and-right (leb t (x .offset)) (leb (endOf x) e) q)))
     (or-cases (eqb (x .size) 0) (leb t (x .offset) && leb (endOf x) e) l)
 
 within-rest : (t e : ℕ) (x : DiscRegion) (xs : List DiscRegion) → filesWithin t e (x ∷ xs) ≡ true → filesWithin t e xs ≡ true
 unfolding filesWithin
 within-rest t e x xs w = and-right (liesWithin t e x) (filesWithin t e xs) w
 
-within-at : (t e : ℕ) (xs : List Node) (k : ℕ) → filesWithin t e (map regionOf xs) ≡ true → 0 < regionOf (getD xs k none) .size → endOf (regionOf (getD xs k none)) ≤ e
+within-at : (t e : ℕ) (xs : List Node) (k : ℕ) → filesWithin t e (map regionOf xs) ≡ true → 0 < regionOf (getD xs k none) .size → (t ≤ regionOf (getD xs k none) .offset) × (endOf (regionOf (getD xs k none)) ≤ e)
 unfolding filesWithin
 within-at t e [] k w z = absurd (omega arith)
 within-at t e (x ∷ xs) zero w z = lies t e (regionOf x) (and-left (liesWithin t e (regionOf x)) (filesWithin t e (map regionOf xs)) w) z
@@ -106,37 +108,43 @@ module _ (image : List ℕ) (words : ℕ) (known : OpenImage image words) where
   -- ---- where the table and the files lie
 
   pub place-fits : (room size : ℕ) (place : DiscRegion) → placeVerdict image room size place ≡ Passed → TableFits (length image) room (fstOffset image) (fstSize image) size
-  unfolding placeVerdict freeOf usedIn
+  unfolding freeOf usedIn
   place-fits room size place e =
-      let a = refuse-passed (ltb room size) LimitOrMemory _ e in
-      let b = refuse-passed (ltb (maxRegionSize (fstOffset image) (fstSize image) (freeOf image)) size) NotEnoughSpace _ (a .1) in
-      let m : size ≤ maxRegionSize (fstOffset image) (fstSize image) (freeRegions (discEnd image) (usedRegions (tableEnd image) (behindTable image))) = ltb-false _ size (b .0) in
+      let p = place-passed image room size place e in
+      let m : size ≤ maxRegionSize (fstOffset image) (fstSize image) (freeRegions (discEnd image) (usedRegions (tableEnd image) (behindTable image))) = p .grows in
       let l = table-largest (discEnd image) (tableEnd image) (behindTable image) (fstOffset image) (fstSize image) refl in
       let k = known .reads .bounds in
       record {
         behind-header = k .after-header;
         old = omega (arith, k .table, k .image-holds);
         into = omega (arith, l .below, k .table, k .image-holds);
-        held = ltb-false room size (a .0);
+        held = p .held;
         small = omega (arith, l .below, k .table, k .small);
       }
 
-  -- a file that is not empty ends by the disc end
-  pub file-ends : (k : ℕ) → 0 < regionOf (getD (nodesIn image) k none) .size → endOf (regionOf (getD (nodesIn image) k none)) ≤ length image
+  -- a file that is not empty lies behind the table, and ends by the disc end
+  pub file-lies : (k : ℕ) → 0 < regionOf (getD (nodesIn image) k none) .size → (tableEnd image ≤ regionOf (getD (nodesIn image) k none) .offset) × (endOf (regionOf (getD (nodesIn image) k none)) ≤ length image)
   unfolding usedIn behindTable
-  file-ends k z =
+  file-lies k z =
       let b = known .reads .bounds in
       let p = passes (tableEnd image) (discEnd image) (behindTable image) (omega (arith, b .after-header)) (known .layout) in
-      omega (arith, within-at (tableEnd image) (discEnd image) (nodesIn image) k (within-rest _ _ _ _ (p .within)) z, b .image-holds)
+      let l = within-at (tableEnd image) (discEnd image) (nodesIn image) k (within-rest _ _ _ _ (p .within)) z in
+      (l .0, omega (arith, l .1, b .image-holds))
 
-  -- a new place that is not empty lies on the disc
-  pub new-place : (old new : DiscRegion) → relocateVerdict (freeOf image) old new ≡ Passed → 0 < new .size → endOf new ≤ length image
-  unfolding freeOf
+  -- n bytes that are free
+  pub place-lies : (o n : ℕ) → n ≤ maxRegionSize o 0 (freeOf image) → 0 < n → (tableEnd image ≤ o) × (o + n ≤ length image)
+  unfolding freeOf usedIn
+  place-lies o n m z =
+      let p = place-free (discEnd image) (usedIn image) o n z m in
+      let e : o + 0 ≡ o = omega arith in
+      (free-byte (tableEnd image) (behindTable image) o (rw e at (p .1 0 z)) .0, omega (arith, p .0, known .reads .bounds .image-holds))
+
+  -- a new place that is not empty
+  pub new-place : (old new : DiscRegion) → relocateVerdict (freeOf image) old new ≡ Passed → 0 < new .size → (tableEnd image ≤ new .offset) × (endOf new ≤ length image)
   new-place old new e z =
       let a = refuse-passed (overlapsItself old new) OverlappingMove _ e in
       let b = refuse-passed (ltb (maxRegionSize (new .offset) 0 (freeOf image)) (new .size)) NotEnoughSpace _ (a .1) in
-      let m : new .size ≤ maxRegionSize (new .offset) 0 (freeRegions (discEnd image) (usedIn image)) = ltb-false _ (new .size) (b .0) in
-      omega (arith, place-free (discEnd image) (usedIn image) (new .offset) (new .size) z m .0, known .reads .bounds .image-holds)
+      place-lies (new .offset) (new .size) (ltb-false _ (new .size) (b .0)) z
 
 -- the tests of a table: the limits, then its place
 pub table-tests : (nodes : List Node) (place : DiscRegion) (image : List ℕ) (words room : ℕ) →

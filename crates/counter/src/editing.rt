@@ -44,6 +44,20 @@ pub extern "C" fn counter_resize_file(
 }
 
 #[no_mangle]
+pub extern "C" fn counter_fill_file(
+    image: &mut [u8],
+    words: &mut [u32],
+    bytes: &mut [u8],
+    number: u32,
+    clip: &[u8],
+) -> u32
+    ensures { λ r. ⌜ Edited done (edits.fillFile number (now (clip .entry))) (lent (now (image .entry)) (now (words .entry)) (now (bytes .entry))) (lent (now (image .exit)) (now (words .exit)) (now (bytes .exit))) r ⌝ }
+{
+    let verdict = fill::fill_file(image, words, bytes, number, clip);
+    number_of(verdict)
+}
+
+#[no_mangle]
 pub extern "C" fn counter_rewrite(image: &mut [u8], words: &mut [u32], bytes: &mut [u8]) -> u32
     ensures { λ r. ⌜ Edited done edits.rewrite (lent (now (image .entry)) (now (words .entry)) (now (bytes .entry))) (lent (now (image .exit)) (now (words .exit)) (now (bytes .exit))) r ⌝ }
 {

@@ -7,6 +7,7 @@ mod regions;
 mod text;
 mod windows;
 
+pub use editing::counter_fill_file;
 pub use editing::counter_insert_directory;
 pub use editing::counter_insert_file;
 pub use editing::counter_make_directories;

@@ -43,7 +43,7 @@ use Rattle.decide.specs.Inner.Files.{IsFile, fileOf, fileAs}
 use Rattle.commit.specs.Inner.Decision.{InImage, Decided}
 use Rattle.commit.proofs.Puts.{put-inside}
 use Rattle.commit.proofs.Decisions.{planned-first, refused-decided, behind-passed, behind-refused}
-use Rattle.commit.proofs.Images.{file-ends, new-place}
+use Rattle.commit.proofs.Images.{file-lies, new-place}
 
 -- ---- found by its number
 
@@ -124,14 +124,14 @@ relocate-verdict free old new t most p q =
 
 module _ (image : List ℕ) (words : ℕ) (known : OpenImage image words) (k : ℕ) (old : DiscRegion) (here : regionOf (getD (nodesIn image) k none) ≡ old) where
   ends : 0 < old .size → old .offset + old .size ≤ length image
-  ends z = rw here at (file-ends image words known k (rw here z))
+  ends z = rw here at (file-lies image words known k (rw here z) .1)
 
   pub relocate-inside : (new : DiscRegion) (kept : ℕ) → relocateVerdict (freeOf image) old new ≡ Passed → kept ≡ min (old .size) (new .size) →
       InImage (length image) (record { place = new; source = old .offset; kept = kept; lost = old .offset; «lost_size» = old .size })
   relocate-inside new kept p e = record {
     copied = record {
       from = λ z. omega (arith, ends (omega arith));
-      into = λ z. omega (arith, new-place image words known old new p (omega arith));
+      into = λ z. omega (arith, new-place image words known old new p (omega arith) .1);
     };
     zeroed = record { into = ends };
   }
@@ -177,7 +177,7 @@ module _ (image : List ℕ) (words room : ℕ) (bytes : List ℕ) (free : List D
 
   module _ (old : DiscRegion) (n : ℕ) where
     pub size-kept : n ≡ old .size → Decided (planSized free nodes k old n) image words room bytes decision.Nothing
-    size-kept e = rw (eq-eqb n (old .size) e) (record { fits = tt; answer = refl; after = refl })
+    size-kept e = rw (eq-eqb n (old .size) e) (record { fits = tt; carries = tt; answer = refl; after = refl })
 
     pub size-in-place : (d : Decision) → (n ≡ old .size → ⊥) → (leb n (old .size) || leb n (maxRegionSize (old .offset) (old .size) free)) ≡ true →
         Decided (change k (resized nodes k old n)) image words room bytes d → Decided (planSized free nodes k old n) image words room bytes d

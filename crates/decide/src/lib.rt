@@ -1,7 +1,9 @@
 // What a rewrite, a move and a resize decide on, once the image is open.
 mod opened;
 
+pub use opened::file_at;
 pub use opened::move_file;
+pub use opened::resize;
 pub use opened::resize_file;
 pub use opened::rewrite;
 use refusal::Refusal;

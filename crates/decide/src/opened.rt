@@ -89,7 +89,7 @@ fn file_of(entry: Entry) -> FileAt
 }
 
 // The place of a file: 15, then 16.
-fn file_at(image: &[u8], number: u32) -> FileAt
+pub fn file_at(image: &[u8], number: u32) -> FileAt
     requires { ⌜ OpensImage (now image) ⌝ }
     ensures { λ r. ⌜ r ≡ fileAs (fileVerdict (nodesIn (now (image .entry))) number) (regionOf (getD (nodesIn (now (image .entry))) number none)) ⌝ }
 {
@@ -263,7 +263,8 @@ fn grow_elsewhere(
     }
 }
 
-fn resize(
+// The file that lies at `old` gets another size.
+pub fn resize(
     image: &[u8],
     words: &[u32],
     m: usize,

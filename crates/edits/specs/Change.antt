@@ -55,9 +55,10 @@ placeVerdict image room size place =
 unfoldable pub tableVerdict : Change → List ℕ → ℕ → ℕ → Verdict
 tableVerdict c image words bytes = first (limits (c .nodes) words) (placeVerdict image bytes (length (encode (c .nodes))) (c .place))
 
--- what an edit comes to once the image is open: refused by its own tests, accepted with nothing to write, or a change to be written.
--- An edit that gives an entry's number carries it
+-- what an edit comes to once the image is open: refused by its own tests, accepted with nothing to write, a change to be written, or
+-- one of these and then a clip written over a file. An edit that gives an entry's number carries it
 pub data Plan : Type 0 where
   refused : Verdict → Plan
   nothing : Plan
   change : ℕ → Change → Plan
+  filled : ℕ → List ℕ → Plan → Plan

@@ -1,10 +1,11 @@
 -- The edits (document 01, "Edits"; the orders of their refusals: "Calls go on: .. insert 15, 13, 17, 19, 12; move 20, 21; resize 21, 20 .."
--- and "Make-directories gives the first trouble along the path, 12 last"). Assumes nothing: these are definitions.
+-- and "Make-directories gives the first trouble along the path, 12 last"; document 02, Point 4). Assumes nothing: these are definitions.
 use Prim.Native.Nat.{ℕ, _+_, _-_, min}
 use mathlib.Core.Bool.{Bool, true, false, cond, not, _&&_, _||_}
 use mathlib.Core.List.{List, [], _∷_}
 use lib.Dec.{ltb, leb, eqb}
 use lib.ListN.{length, getD}
+use Rattle.endian.specs.Bytes.{put}
 use Rattle.refusal.specs.declared.Refusal.{Refusal}
 use Rattle.refusal.specs.declared.Refusal.the-variants.{LimitOrMemory, InvalidNameByte, UnsafeName, NoSuchEntry, ExpectedFile, ExpectedDirectory, NotFound, AlreadyExists, OverlappingMove, NotEnoughSpace}
 use Rattle.refusal.specs.declared.Verdict.{Verdict}
@@ -21,15 +22,16 @@ use Rattle.free_space.specs.declared.Allocation.the-variants as allocation
 use Rattle.free_space.specs.MaxRegionSize.{maxRegionSize}
 use Rattle.free_space.specs.Allocate.{allocationOf}
 use Rattle.opening.specs.Opening.{opening, nodesIn, freeOf, regionOf}
-use Rattle.edits.specs.Change.{Change, written, tableVerdict, Plan, refused, nothing, change}
+use Rattle.edits.specs.Change.{Change, written, tableVerdict, Plan, refused, nothing, change, filled}
 
--- an edit, with its numbers and its name or path
+-- an edit, with its numbers and its name, path or clip
 pub data Edit : Type 0 where
   insertFile : ℕ → List ℕ → Edit
   insertDirectory : ℕ → List ℕ → Edit
   makeDirectories : ℕ → List ℕ → Edit
   moveFile : ℕ → ℕ → Edit
   resizeFile : ℕ → ℕ → Edit
+  fillFile : ℕ → List ℕ → Edit
   rewrite : Edit
 
 abbrev pub noPlace : DiscRegion
@@ -173,6 +175,15 @@ planSized free nodes k old n =
 unfoldable pub planResize : List DiscRegion → List Node → ℕ → ℕ → Plan
 planResize free nodes k n = planned (fileVerdict nodes k) (planSized free nodes k (regionOf (getD nodes k none)) n)
 
+-- ---- "Fill a file from given bytes": "Resize the file to the clip, then write it; a refused resize writes nothing."
+
+-- 15, 16, then "A clip above 2^32 - 1 bytes finds no place and is 21."
+abbrev pub clipVerdict : List Node → ℕ → ℕ → Verdict
+clipVerdict nodes k n = first (fileVerdict nodes k) (refuse (ltb 0xFFFFFFFF n) NotEnoughSpace Passed)
+
+unfoldable pub planFill : List DiscRegion → List Node → ℕ → List ℕ → Plan
+planFill free nodes k clip = planned (clipVerdict nodes k (length clip)) (filled k clip (planResize free nodes k (length clip)))
+
 -- ---- the whole of an edit
 
 abbrev pub planOf : Edit → List ℕ → Plan
@@ -181,21 +192,32 @@ planOf (insertDirectory p nm) image = planInsert (emptyDirectory nm) (nodesIn im
 planOf (makeDirectories start path) image = planMakeDirectories (nodesIn image) start path
 planOf (moveFile k to) image = planMove (freeOf image) (nodesIn image) k to
 planOf (resizeFile k n) image = planResize (freeOf image) (nodesIn image) k n
+planOf (fillFile k clip) image = planFill (freeOf image) (nodesIn image) k clip
 planOf rewrite image = change 0 (tableOnly (nodesIn image))
 
 abbrev pub planVerdict : Plan → List ℕ → ℕ → ℕ → Verdict
 planVerdict (refused v) image words bytes = v
 planVerdict nothing image words bytes = Passed
 planVerdict (change k c) image words bytes = tableVerdict c image words bytes
+planVerdict (filled k clip p) image words bytes = planVerdict p image words bytes
 
 -- the verdict on an edit of an image, with so many working words and bytes lent: opening, the edit's own tests, the table's
 unfoldable pub verdictOf : Edit → List ℕ → ℕ → ℕ → Verdict
 verdictOf ed image words bytes = first (opening image words) (planVerdict (planOf ed image) image words bytes)
 
+-- the tree that a plan comes to
+abbrev pub planTree : Plan → List Node → List Node
+planTree (refused v) nodes = nodes
+planTree nothing nodes = nodes
+planTree (change k c) nodes = c .nodes
+planTree (filled k clip p) nodes = planTree p nodes
+
+-- the clip goes where the file lies in the tree that the plan before it comes to
 abbrev pub planImage : Plan → List ℕ → List ℕ
 planImage (refused v) image = image
 planImage nothing image = image
 planImage (change k c) image = written c image
+planImage (filled k clip p) image = put (planImage p image) (regionOf (getD (planTree p (nodesIn image)) k none) .offset) clip
 
 -- the image afterwards: a refused edit leaves it as it is
 unfoldable pub imageAfter : Edit → List ℕ → ℕ → ℕ → List ℕ
@@ -206,6 +228,7 @@ abbrev pub planNumber : Plan → ℕ
 planNumber (refused v) = 0
 planNumber nothing = 0
 planNumber (change k c) = k
+planNumber (filled k clip p) = k
 
 abbrev pub numberedAs : Verdict → ℕ → Located
 numberedAs Passed k = located.At k

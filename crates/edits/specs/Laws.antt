@@ -1,4 +1,8 @@
 -- What follows from the definitions.
+pub mod Behind
+pub mod PlaceTests
+pub mod Puts
+pub mod Fills
 pub mod MadeTree
 pub mod Troubles
 pub mod Making

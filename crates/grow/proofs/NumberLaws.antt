@@ -69,9 +69,9 @@ module _ (image : List ℕ) (words room : ℕ) (bytes : List ℕ) where
 
   -- a change, with the number that was found for it
   pub change-numbered : (k n : ℕ) (c : Change) (r : TableSize) → n ≡ k → Decided (change 0 c) image words room bytes (tableDecision r) → Numbered (change k c) image words room bytes (grownAs r n)
-  change-numbered k n c (table.Bytes size) e d = record { decided = record { fits = d .fits; answer = d .answer; after = d .after }; numbered = λ h. e }
+  change-numbered k n c (table.Bytes size) e d = record { decided = record { fits = d .fits; carries = d .carries; answer = d .answer; after = d .after }; numbered = λ h. e }
   change-numbered k n c (table.Refused cause) e d = record {
-    decided = record { fits = d .fits; answer = d .answer; after = d .after };
+    decided = record { fits = d .fits; carries = d .carries; answer = d .answer; after = d .after };
     numbered = λ h. let z : Refused cause ≡ Passed = d .answer ∙ h in absurd (no-path cc);
   }
 

@@ -1,7 +1,11 @@
 -- What follows from the definitions.
 pub mod Apart
+pub mod Arrives
 pub mod Bare
+pub mod Clipped
 pub mod Files
+pub mod FillEdits
+pub mod FillReads
 pub mod Histories
 pub mod Kept
 pub mod Making
@@ -9,7 +13,6 @@ pub mod Opened
 pub mod PlaceEdits
 pub mod Placed
 pub mod Plans
-pub mod Puts
 pub mod Room
 pub mod Sequence
 pub mod SparedLaws

@@ -1,15 +1,15 @@
 -- The ledger (document 01, "The ledger of demand 3"): "Beyond the first image it is fed only each call's kind, its numbers and name or
--- path, and whether it was accepted." Assumes nothing: these are definitions.
+-- path, and whether it was accepted."; document 02, Point 4: it is "given the clip too". Assumes nothing: these are definitions.
 use Prim.Native.Nat.{ℕ, zero, suc, min}
 use mathlib.Core.Bool.{Bool, true, false, cond}
 use mathlib.Core.List.{List, [], _∷_, map}
-use lib.ListN.{getD, set}
+use lib.ListN.{length, getD, set}
 use Rattle.endian.specs.Bytes.{span}
 use Rattle.tree.specs.Table.{Node, file, directory}
 use Rattle.tree.specs.Lookup.{components}
 use Rattle.tree.specs.Insert.{insertAt, setPlace, emptyFile, emptyDirectory}
 use Rattle.opening.specs.Opening.{nodesIn}
-use Rattle.edits.specs.Edits.{Edit, insertFile, insertDirectory, makeDirectories, moveFile, resizeFile, rewrite, newNumber, Made, stopped, made, make}
+use Rattle.edits.specs.Edits.{Edit, insertFile, insertDirectory, makeDirectories, moveFile, resizeFile, fillFile, rewrite, newNumber, Made, stopped, made, make}
 
 -- of a file: "starting place and bytes, m, and whether it was named"
 pub record History : Type 0 where
@@ -71,6 +71,10 @@ marked h = record { place = h .place; bytes = h .bytes; m = h .m; named = true }
 abbrev pub lowered : ℕ → History → History
 lowered n h = record { place = h .place; bytes = h .bytes; m = min (h .m) n; named = true }
 
+-- "marks the file named, with the clip as its starting bytes and its length as size and m"
+abbrev pub refilled : List ℕ → History → History
+refilled clip h = record { place = h .place; bytes = clip; m = length clip; named = true }
+
 -- the histories with that of file k put through f
 abbrev pub onHistory : ℕ → (History → History) → Ledger → List History
 onHistory k f l = set (l .histories) (filesBefore k (l .nodes)) (f (historyOf l k))
@@ -98,6 +102,8 @@ entered (makeDirectories start path) l = record {
 -- "An accepted move marks its file named; an accepted resize does too, sets the size and lowers m to it if it is less."
 entered (moveFile k to) l = record { nodes = l .nodes; histories = onHistory k marked l }
 entered (resizeFile k n) l = record { nodes = setPlace k 0 n (l .nodes); histories = onHistory k (lowered n) l }
+-- "A fill is one edit and joins demand 3's list"
+entered (fillFile k clip) l = record { nodes = setPlace k 0 (length clip) (l .nodes); histories = onHistory k (refilled clip) l }
 -- "Rewrites and refused calls change nothing."
 entered rewrite l = l
 

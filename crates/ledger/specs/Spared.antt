@@ -6,16 +6,17 @@ use mathlib.Core.Bool.{Bool, true, false, cond}
 use mathlib.Core.List.{List, [], _∷_}
 use lib.Dec.{eqb}
 use Rattle.tree.specs.Insert.{shifted}
-use Rattle.edits.specs.Edits.{Edit, insertFile, insertDirectory, makeDirectories, moveFile, resizeFile, rewrite, newNumber}
+use Rattle.edits.specs.Edits.{Edit, insertFile, insertDirectory, makeDirectories, moveFile, resizeFile, fillFile, rewrite, newNumber}
 use Rattle.ledger.specs.Ledger.{Ledger, filesBefore, entered, Report}
 
--- an accepted edit names the file it moves or resizes
+-- an accepted edit names the file it moves, resizes or fills
 abbrev pub names : Edit → Ledger → ℕ → Bool
 names (insertFile p nm) l f = false
 names (insertDirectory p nm) l f = false
 names (makeDirectories start path) l f = false
 names (moveFile k to) l f = eqb f (filesBefore k (l .nodes))
 names (resizeFile k n) l f = eqb f (filesBefore k (l .nodes))
+names (fillFile k clip) l f = eqb f (filesBefore k (l .nodes))
 names rewrite l f = false
 
 -- the number that file f has after an accepted edit
@@ -25,6 +26,7 @@ shiftedBy (insertDirectory p nm) l f = f
 shiftedBy (makeDirectories start path) l f = f
 shiftedBy (moveFile k to) l f = f
 shiftedBy (resizeFile k n) l f = f
+shiftedBy (fillFile k clip) l f = f
 shiftedBy rewrite l f = f
 
 abbrev pub ledgerNext : Report → Ledger → Ledger

@@ -1,12 +1,12 @@
 -- Demand 3, "a single claim about the list and not one for each call": what holds of the image after any list of calls, by the ledger of the
--- list. Beside it, what it comes to for a file that no accepted edit named. Both are proved: `demand-3` and `unnamed-stays` of Laws/Demand3.
--- Assumes nothing: these are definitions.
+-- list. Beside it, what it comes to for a file that no accepted edit named, and for one that was just filled. All are proved: `demand-3` and
+-- `unnamed-stays` of Laws/Demand3, `fill-reads` of Laws/FillReads. Assumes nothing: these are definitions.
 use Prim.Native.Nat.{ℕ, _+_, _≤_}
 use mathlib.Core.Path.{_≡_}
 use mathlib.Core.Bool.{true, false}
 use mathlib.Core.List.{List, map}
 use lib.ListN.{length, getD, take}
-use Rattle.endian.specs.Bytes.{span, AllBytes}
+use Rattle.endian.specs.Bytes.{put, span, AllBytes}
 use Rattle.refusal.specs.declared.Verdict.the-variants.{Passed}
 use Rattle.header.specs.Verdicts.{dolOffset, tableEnd, discEnd}
 use Rattle.tree.specs.Table.{file, none}
@@ -16,7 +16,10 @@ use Rattle.program.specs.Program.{programOf, programIn, programBehind}
 use Rattle.opening.specs.Opening.{nodesIn, regionOf, usedIn, freeOf, opening}
 use Rattle.disc.specs.Calls.{totalsAnswer, programAnswer, freeRegionsAnswer, freeRegionsList}
 use Rattle.disc.specs.declared.TotalsAnswer.the-variants.{Found}
-use Rattle.edits.specs.Edits.{noPlace}
+use Rattle.window.specs.Window.{newWindow, countOf, bufferOf}
+use Rattle.files.specs.Files.{openFileAnswer}
+use Rattle.files.specs.declared.WindowAnswer.the-variants as window
+use Rattle.edits.specs.Edits.{fillFile, noPlace, verdictOf, imageAfter}
 use Rattle.ledger.specs.Ledger.{Ledger, bare, filesBefore, historyOf, firstLedger, ledgerAfter}
 use Rattle.ledger.specs.Runs.{Call, imageAfterAll, reportsOf, AllWithin}
 use Rattle.ledger.specs.Spared.{numberAfter, Spared}
@@ -81,3 +84,18 @@ UnnamedStays =
     (image : List ℕ) (w₀ w : ℕ) (calls : List Call) → AllBytes image → opening image w₀ ≡ Passed → w₀ ≤ w → AllWithin w calls →
     (k : ℕ) (nm : List ℕ) (offset size : ℕ) → getD (nodesIn image) k none ≡ file nm offset size → Spared (reportsOf calls image) (firstLedger image) (filesBefore k (nodesIn image)) →
     StillThere image (imageAfterAll calls image) (numberAfter (reportsOf calls image) (firstLedger image) (filesBefore k (nodesIn image))) nm offset size
+
+-- ---- "Afterwards the file is exactly the clip." (document 02, Point 4)
+
+-- file k as its window shows it: as long as the clip, and a read into a buffer that is long enough gives the clip and no more
+pub record ShowsClip (image : List ℕ) (w k : ℕ) (clip : List ℕ) : Type 0 where
+  pub offset : ℕ
+  pub window : openFileAnswer image w k ≡ window.Opened (newWindow offset (length clip))
+  pub count : (asked : ℕ) → length clip ≤ asked → countOf (newWindow offset (length clip)) (length image) asked ≡ length clip
+  pub bytes : (buffer : List ℕ) → length clip ≤ length buffer → bufferOf (newWindow offset (length clip)) image buffer ≡ put buffer 0 clip
+
+-- THEOREM: an accepted fill, and w words, which are no fewer than it was lent
+abbrev pub FillReads : Type 0
+FillReads =
+    (image clip : List ℕ) (k words bytes w : ℕ) → AllBytes image → AllBytes clip → words ≤ w → verdictOf (fillFile k clip) image words bytes ≡ Passed →
+    ShowsClip (imageAfter (fillFile k clip) image words bytes) w k clip

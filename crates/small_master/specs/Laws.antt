@@ -2,4 +2,5 @@
 pub mod Marked
 pub mod MasterListing
 pub mod Worked
+pub mod Fills
 pub mod Programs

@@ -198,6 +198,17 @@ unsafe extern "C" {
         number: u32,
         new_size: u32,
     ) -> u32;
+    pub fn counter_fill_file(
+        image: *mut u8,
+        image_len: usize,
+        words: *mut u32,
+        words_len: usize,
+        bytes: *mut u8,
+        bytes_len: usize,
+        number: u32,
+        clip: *const u8,
+        clip_len: usize,
+    ) -> u32;
     pub fn counter_rewrite(
         image: *mut u8,
         image_len: usize,

@@ -338,6 +338,20 @@ pub fn resize_file(
     })
 }
 
+/// Afterwards the file is exactly the clip.
+pub fn fill_file(
+    image: &mut [u8],
+    memory: &mut Memory,
+    number: u32,
+    clip: &[u8],
+) -> Answer<()> {
+    told(unsafe {
+        call!(counter_fill_file(
+            mut image, mut memory.words, mut memory.bytes, = number, in clip
+        ))
+    })
+}
+
 /// Writes the table anew.
 pub fn rewrite(image: &mut [u8], memory: &mut Memory) -> Answer<()> {
     told(unsafe { call!(counter_rewrite(mut image, mut memory.words, mut memory.bytes)) })

@@ -89,9 +89,43 @@ fn the_calls_on_slices() {
     assert_eq!(counter_sys::make_directories(&mut image, &mut memory, 3, b"d"), Ok(4));
     assert_eq!(counter_sys::move_file(&mut image, &mut memory, 1, 0x600), Ok(()));
     assert_eq!(counter_sys::resize_file(&mut image, &mut memory, 1, 0x10), Ok(()));
+    assert_eq!(counter_sys::fill_file(&mut image, &mut memory, 1, b"the clip"), Ok(()));
+    assert_eq!(&image[0x600..0x610], b"the clip\0\0\0\0\0\0\0\0");
     assert_eq!(counter_sys::rewrite(&mut image, &mut memory), Ok(()));
     assert_eq!(counter_sys::insert_file(&mut image, &mut memory, 0, b"e"), Err(9));
     assert!(words == [0; 28] && bytes == [0; 68]);
+}
+
+/// The file is the clip afterwards, and what it loses is zero. A clip of its own size wants no bytes.
+#[test]
+fn a_file_filled_with_a_clip() {
+    let fill = |image: &mut [u8], bytes: usize, number, clip: &[u8]| {
+        let (mut words, mut bytes) = ([9; 16], vec![9; bytes]);
+        let mut memory = Memory { words: &mut words, bytes: &mut bytes };
+        let got = counter_sys::fill_file(image, &mut memory, number, clip);
+        assert!(words == [0; 16] && bytes.iter().all(|&b| b == 0));
+        got
+    };
+    let mut image = small_master();
+    image[0x500..0x600].fill(3);
+    let mut wanted = image.clone();
+    assert_eq!(fill(&mut image, 26, 0, &[7; 0x1b01]), Err(16));
+    assert_eq!(fill(&mut image, 26, 2, &[7; 0x1b01]), Err(15));
+    assert_eq!(fill(&mut image, 26, 1, &[7; 0x1b01]), Err(21));
+    assert_eq!(fill(&mut image, 25, 1, &[7; 0xff]), Err(9));
+    assert_eq!(fill(&mut image[..0x1fff], 26, 1, &[7; 0xff]), Err(4));
+    assert!(image == wanted);
+    let lengths = [0x100, 0x10, 0, 0x1b00, 1];
+    for (len, byte) in lengths.into_iter().zip(7..) {
+        assert_eq!(fill(&mut image, 26, 1, &vec![byte; len]), Ok(()));
+        wanted[0x500..].fill(0);
+        wanted[0x500..0x500 + len].fill(byte);
+        wanted[0x454..0x458].copy_from_slice(&(len as u32).to_be_bytes());
+        assert!(image == wanted, "{len:#x}");
+    }
+    assert_eq!(fill(&mut image, 0, 1, b"x"), Ok(()));
+    wanted[0x500] = b'x';
+    assert!(image == wanted);
 }
 
 /// A program is at least as long as its header; its window is not. Behind the table it is used, and there
@@ -179,6 +213,7 @@ fn an_empty_image() {
     assert_eq!(counter_sys::make_directories(&mut image, m, 9, &[0; 1025]), Err(1));
     assert_eq!(counter_sys::move_file(&mut image, m, 9, 0), Err(1));
     assert_eq!(counter_sys::resize_file(&mut image, m, 9, 0), Err(1));
+    assert_eq!(counter_sys::fill_file(&mut image, m, 9, b""), Err(1));
     assert_eq!(counter_sys::rewrite(&mut image, m), Err(1));
     assert_eq!((words, bytes), ([0; 2], [0; 2]));
 }

@@ -10,14 +10,14 @@ use Rattle.refusal.specs.declared.Verdict.{Verdict}
 use Rattle.refusal.specs.declared.Verdict.the-variants.{Passed, Refused}
 use Rattle.refusal.specs.Refusal.{isRefused}
 use Rattle.header.specs.Verdicts.{fstOffset, fstSize}
-use Rattle.tree.specs.Table.{Node}
+use Rattle.tree.specs.Table.{Node, encode}
 use Rattle.space.specs.declared.DiscRegion.{DiscRegion}
 use Rattle.commit.specs.declared.Writing.{Writing}
 use Rattle.commit.specs.declared.Decision.{Decision}
 use Rattle.commit.specs.declared.Decision.the-variants as decision
 use Rattle.commit.specs.declared.TableSize.{TableSize}
 use Rattle.commit.specs.declared.TableSize.the-variants as table
-use Rattle.edits.specs.Change.{Change, withTable, Plan}
+use Rattle.edits.specs.Change.{Change, withTable, Plan, refused, nothing, change, filled}
 use Rattle.edits.specs.Edits.{noPlace, planVerdict, planImage}
 
 -- ---- the numbers of a change
@@ -81,8 +81,21 @@ carriedImage (decision.Refused c) bytes image = image
 carriedImage decision.Nothing bytes image = image
 carriedImage (decision.Write size w) bytes image = writtenWith w (span bytes 0 size) image
 
+-- what is written is the plan's change, and the table in the working bytes that of its tree
+abbrev pub Carries : Decision → List ℕ → Plan → Type 0
+Carries (decision.Refused c) bytes p = Unit {0}
+Carries decision.Nothing bytes nothing = Unit {0}
+Carries decision.Nothing bytes (refused v) = ⊥
+Carries decision.Nothing bytes (change k c) = ⊥
+Carries decision.Nothing bytes (filled k clip p) = ⊥
+Carries (decision.Write size w) bytes (change k c) = (span bytes 0 size ≡ encode (c .nodes)) × (c ≡ changeWith (c .nodes) w)
+Carries (decision.Write size w) bytes (refused v) = ⊥
+Carries (decision.Write size w) bytes nothing = ⊥
+Carries (decision.Write size w) bytes (filled k clip p) = ⊥
+
 -- d, with these working bytes, is what the plan comes to
 pub record Decided (p : Plan) (image : List ℕ) (words room : ℕ) (bytes : List ℕ) (d : Decision) : Type 0 where
   pub fits : CanCarry image room d
+  pub carries : Carries d bytes p
   pub answer : carriedVerdict d ≡ planVerdict p image words room
   pub after : carriedImage d bytes image ≡ cond (isRefused (planVerdict p image words room)) image (planImage p image)

@@ -3,22 +3,22 @@
 use Prim.Native.Nat.{ℕ, zero, suc, _+_, _-_, _<_, _≤_}
 use mathlib.Core.Path.{_≡_, refl, sym, ap, _∙_}
 use mathlib.Core.Logic.{_⊎_, inl, inr, ⊎-elim}
-use mathlib.Core.Bool.{Bool, true, false, not, _&&_, _||_, false≢true}
+use mathlib.Core.Bool.{Bool, true, false, _&&_, _||_, false≢true}
 use mathlib.Core.List.{List, [], _∷_}
 use native.Mathlib.Omega.{arith}
-use borrow.Author.Tests.{leb-true, ltb-false, eqb-true, eqb-false, le-leb}
+use borrow.Author.Tests.{leb-true, eqb-true, eqb-false, le-leb}
 use lib.ListN.{length, getD, set}
 use lib.Seq.{getD-set-same, getD-set-other}
-use lib.Dec.{leb, ltb, eqb}
+use lib.Dec.{leb, eqb}
 use Rattle.space.specs.declared.DiscRegion.{DiscRegion}
 use Rattle.space.specs.Used.{endOf, inside, usesByte, usedRegions}
-use Rattle.space.specs.Laws.UsedLaws.{used}
 use Rattle.space.specs.Layout.{disjointFromAll, pairwiseDisjoint, disjointBelow}
 use Rattle.space.specs.Free.{freeIn}
-use Rattle.refusal.specs.Laws.Tests.{lt-or-le, and-left, and-right, and-both, or-cases, or-left, or-right, or-false, is-false, never-both}
-use Rattle.space.specs.Laws.UsedLaws.{inside-in, liesWithin, filesWithin, disjoint-below-used, used-is}
+use Rattle.refusal.specs.Laws.Tests.{lt-or-le, and-left, and-right, and-both, or-cases, or-left, or-right, is-false, never-both}
+use Rattle.space.specs.Laws.UsedLaws.{inside-in, liesWithin, filesWithin, disjoint-below-used}
 use Rattle.space.specs.Laws.LayoutLaws.{inside-from, inside-to, from-all-free, free-from-all}
 use Rattle.edits.specs.Edits.{noPlace}
+use Rattle.edits.specs.Laws.PlaceTests.{free-byte}
 
 -- byte i is one of the region's
 abbrev pub Has : DiscRegion → ℕ → Type 0
@@ -50,14 +50,7 @@ used-some (x ∷ fs) i u =
 
 -- a free byte is behind the table and in no file
 pub free-clear : (t : ℕ) (fs : List DiscRegion) (i : ℕ) → freeIn (usedRegions t fs) i ≡ true → (t ≤ i) × ((k : ℕ) → Has (region fs k) i → ⊥)
-free-clear t fs i f =
-    let u : used t fs i ≡ false = sym (used-is t fs i) ∙ go (usesByte (usedRegions t fs) i) f in
-    let o = or-false (ltb i t) (usesByte fs i) u in
-    (ltb-false i t (o .0), λ k h. never-both (usesByte fs i) (some-used fs k i h) (o .1))
-  where
-    go : (a : Bool) → not a ≡ true → a ≡ false
-    go true e = absurd (false≢true e)
-    go false e = refl
+free-clear t fs i f = let o = free-byte t fs i f in (o .0, λ k h. never-both (usesByte fs i) (some-used fs k i h) (o .1))
 
 -- ---- the test of opening
 

@@ -1,11 +1,11 @@
--- What the reports of any list of calls tell holds of every file of the first image: accepted moves and resizes have numbers of files.
+-- What the reports of any list of calls tell holds of every file of the first image: accepted moves, resizes and fills have numbers of files.
 -- Assumes nothing.
 use Prim.Native.Nat.{ℕ, _≤_}
 use mathlib.Core.Path.{_≡_, refl, _∙_}
 use mathlib.Core.Bool.{true, false, cond, not}
 use mathlib.Core.List.{List, [], _∷_}
 use native.Mathlib.Omega.{arith}
-use lib.ListN.{getD}
+use lib.ListN.{length, getD}
 use Rattle.endian.specs.Bytes.{span, AllBytes}
 use Rattle.refusal.specs.declared.Verdict.{Verdict}
 use Rattle.refusal.specs.declared.Verdict.the-variants.{Passed, Refused}
@@ -15,7 +15,7 @@ use Rattle.tree.specs.Table.{file, none}
 use Rattle.tree.specs.Lookup.{isDirectory}
 use Rattle.space.specs.declared.DiscRegion.{DiscRegion}
 use Rattle.opening.specs.Opening.{nodesIn, freeOf, opening}
-use Rattle.edits.specs.Edits.{Edit, insertFile, insertDirectory, makeDirectories, moveFile, resizeFile, rewrite, fileVerdict, relocateVerdict, planMove, planResize, verdictOf, imageAfter}
+use Rattle.edits.specs.Edits.{Edit, insertFile, insertDirectory, makeDirectories, moveFile, resizeFile, fillFile, rewrite, fileVerdict, relocateVerdict, clipVerdict, planMove, planResize, planFill, verdictOf, imageAfter}
 use Rattle.ledger.specs.Ledger.{Ledger, filesBefore, firstLedger, entered, Report, ledgerAfter}
 use Rattle.ledger.specs.Runs.{Call, reportsOf, AllWithin}
 use Rattle.ledger.specs.Laws.Bare.{kind-bare}
@@ -26,7 +26,7 @@ use Rattle.ledger.specs.Laws.Steps.{step}
 use Rattle.ledger.specs.Laws.Sequence.{start}
 use Rattle.ledger.specs.Laws.PlacesAfter.{passed-plan}
 use Rattle.ledger.specs.Spared.{numberAfter}
-use Rattle.ledger.specs.Inner.Told.{namedIn, sizesIn, leastOf, lastOf, ofFile, OfFiles}
+use Rattle.ledger.specs.Inner.Told.{namedIn, Given, givenIn, leastOf, lastOf, startOf, ofFile, OfFiles}
 use Rattle.ledger.specs.Laws.FilesTold.{FileIs, first-told}
 
 accepted-passed : (v : Verdict) → not (isRefused v) ≡ true → v ≡ Passed
@@ -39,7 +39,7 @@ module _ (w : ℕ) (image : List ℕ) (l : Ledger) (K : Kept w image l) (words b
 
   -- "file wanted" is 16
   of-file : (ed : Edit) → verdictOf ed image words bytes ≡ Passed → ofFile ed l
-  unfolding verdictOf planMove planResize
+  unfolding verdictOf planMove planResize planFill
   of-file (insertFile p nm) v = tt
   of-file (insertDirectory p nm) v = tt
   of-file (makeDirectories from path) v = tt
@@ -48,6 +48,9 @@ module _ (w : ℕ) (image : List ℕ) (l : Ledger) (K : Kept w image l) (words b
       let t = passed-plan (first (fileVerdict (nodesIn image) k) (relocateVerdict (freeOf image) (placeIn image k) new)) _ image words bytes (first-passed (opening image words) _ v .1) in
       kind-is k (first-passed (fileVerdict (nodesIn image) k) _ (t .0) .0)
   of-file (resizeFile k n) v = kind-is k (passed-plan (fileVerdict (nodesIn image) k) _ image words bytes (first-passed (opening image words) _ v .1) .0)
+  of-file (fillFile k clip) v =
+      let t = passed-plan (clipVerdict (nodesIn image) k (length clip)) _ image words bytes (first-passed (opening image words) _ v .1) in
+      kind-is k (first-passed (fileVerdict (nodesIn image) k) _ (t .0) .0)
   of-file rewrite v = tt
 
 of-files : (w : ℕ) (calls : List Call) (image : List ℕ) (l : Ledger) → AllWithin w calls → Kept w image l → OfFiles (reportsOf calls image) l
@@ -69,7 +72,7 @@ pub calls-told : (image : List ℕ) (w₀ w : ℕ) (calls : List Call) → AllBy
     let l : Ledger = firstLedger image in
     let f : ℕ = filesBefore k (nodesIn image) in
     let reports : List Report = reportsOf calls image in
-    let sizes : List ℕ = sizesIn reports l f in
-    FileIs (ledgerAfter reports l) (numberAfter reports l f) nm (lastOf size sizes)
-    (record { place = offset; bytes = span image offset size; m = leastOf size sizes; named = namedIn reports l f })
+    let gs : List Given = givenIn reports l f in
+    FileIs (ledgerAfter reports l) (numberAfter reports l f) nm (lastOf size gs)
+    (record { place = offset; bytes = startOf (span image offset size) gs; m = leastOf size gs; named = namedIn reports l f })
 calls-told image w₀ w calls b e h a k nm offset size q = first-told image (reportsOf calls image) k nm offset size q (calls-of-files image w₀ w calls b e h a)

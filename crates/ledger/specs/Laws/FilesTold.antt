@@ -1,6 +1,6 @@
--- A file's history after any list of reports, by what the reports tell of it alone: its name, starting place and starting bytes are those it
--- began with, m is the least of its first m and the sizes that it was given, its size is the last of them, and it is named exactly if an
--- accepted edit named it. Assumes nothing.
+-- A file's history after any list of reports, by what the reports tell of it alone: its name and starting place are those it began with; its
+-- starting bytes are the last clip that it was filled with, or those it began with; m is the least of their length and the sizes that it was
+-- given since, its size the last of them all; and it is named exactly if an accepted edit named it. Assumes nothing.
 use Prim.Native.Nat.{ℕ, zero, suc, _<_}
 use mathlib.Core.Path.{_≡_, refl, sym, ap, _∙_}
 use mathlib.Core.Bool.{Bool, true, false, cond, _&&_, _||_}
@@ -13,13 +13,13 @@ use Rattle.tree.specs.Lookup.{isDirectory}
 use Rattle.space.specs.declared.DiscRegion.{DiscRegion}
 use Rattle.opening.specs.Opening.{nodesIn}
 use Rattle.refusal.specs.Laws.Tests.{or-false}
-use Rattle.edits.specs.Edits.{Edit, insertFile, insertDirectory, makeDirectories, moveFile, resizeFile, rewrite, noPlace}
+use Rattle.edits.specs.Edits.{Edit, insertFile, insertDirectory, makeDirectories, moveFile, resizeFile, fillFile, rewrite, noPlace}
 use Rattle.ledger.specs.Ledger.{History, Ledger, bare, filesBefore, historyOf, firstLedger, Report, ledgerAfter}
 use Rattle.ledger.specs.Laws.Files.{filesOf, files-at, files-count, entry-of}
 use Rattle.ledger.specs.Laws.Bare.{before-bare}
 use Rattle.ledger.specs.Spared.{names, ledgerNext, numberNext, numberAfter}
 use Rattle.ledger.specs.Laws.SparedLaws.{begins}
-use Rattle.ledger.specs.Inner.Told.{namedIn, sizeGiven, sizesIn, leastOf, lastOf, historyAt, nameAt, sizeAt, OfFiles}
+use Rattle.ledger.specs.Inner.Told.{namedIn, Given, given, givenIn, leastOf, lastOf, startOf, historyAt, nameAt, sizeAt, OfFiles}
 use Rattle.ledger.specs.Laws.ToldLaws.{or-none, Exists, goes}
 
 -- file f of a ledger has this name, size and history
@@ -56,41 +56,42 @@ file-is l f nm size h x n s q =
       history = rw (e .1) q;
     }
 
--- THEOREM: file f of any ledger, after any list of reports whose accepted moves and resizes have numbers of files
+-- THEOREM: file f of any ledger, after any list of reports whose accepted moves, resizes and fills have numbers of files
 pub told : (reports : List Report) (l : Ledger) (f : ℕ) → OfFiles reports l → Exists l f →
     let h : History = historyAt l f in
-    let sizes : List ℕ = sizesIn reports l f in
-    FileIs (ledgerAfter reports l) (numberAfter reports l f) (nameAt l f) (lastOf (sizeAt l f) sizes)
-    (record { place = h .place; bytes = h .bytes; m = leastOf (h .m) sizes; named = h .named || namedIn reports l f })
+    let gs : List Given = givenIn reports l f in
+    FileIs (ledgerAfter reports l) (numberAfter reports l f) (nameAt l f) (lastOf (sizeAt l f) gs)
+    (record { place = h .place; bytes = startOf (h .bytes) gs; m = leastOf (h .m) gs; named = h .named || namedIn reports l f })
 told reports l f o x = let g = goes reports l f o x in file-is (ledgerAfter reports l) (numberAfter reports l f) _ _ _ (g .exists) (g .name) (g .size) (g .history)
 
 -- ---- a file that no accepted edit named
 
-not-sized : (ed : Edit) (l : Ledger) (f : ℕ) → names ed l f ≡ false → sizeGiven ed l f ≡ []
-not-sized (insertFile p nm) l f e = refl
-not-sized (insertDirectory p nm) l f e = refl
-not-sized (makeDirectories start path) l f e = refl
-not-sized (moveFile k to) l f e = refl
-not-sized (resizeFile k n) l f e = rw e
-not-sized rewrite l f e = refl
+not-given : (ed : Edit) (l : Ledger) (f : ℕ) → names ed l f ≡ false → given ed l f ≡ []
+not-given (insertFile p nm) l f e = refl
+not-given (insertDirectory p nm) l f e = refl
+not-given (makeDirectories start path) l f e = refl
+not-given (moveFile k to) l f e = refl
+not-given (resizeFile k n) l f e = rw e
+not-given (fillFile k clip) l f e = rw e
+not-given rewrite l f e = refl
 
--- LAW: it was given no size
-pub unnamed-unsized : (reports : List Report) (l : Ledger) (f : ℕ) → namedIn reports l f ≡ false → sizesIn reports l f ≡ []
-unfolding namedIn sizesIn
-unnamed-unsized [] l f e = refl
-unnamed-unsized (r ∷ reports) l f e =
+-- LAW: it was given nothing
+pub unnamed-ungiven : (reports : List Report) (l : Ledger) (f : ℕ) → namedIn reports l f ≡ false → givenIn reports l f ≡ []
+unfolding namedIn givenIn
+unnamed-ungiven [] l f e = refl
+unnamed-ungiven (r ∷ reports) l f e =
     let o = or-false (r .accepted && names (r .edit) l f) _ e in
-    rw (unnamed-unsized reports (ledgerNext r l) (numberNext r l f) (o .1), here (r .accepted) (o .0))
+    rw (unnamed-ungiven reports (ledgerNext r l) (numberNext r l f) (o .1), here (r .accepted) (o .0))
   where
-    here : (a : Bool) → (a && names (r .edit) l f) ≡ false → cond a (sizeGiven (r .edit) l f) [] ≡ []
-    here true q = not-sized (r .edit) l f q
+    here : (a : Bool) → (a && names (r .edit) l f) ≡ false → cond a (given (r .edit) l f) [] ≡ []
+    here true q = not-given (r .edit) l f q
     here false q = refl
 
 -- THEOREM: so its name, size and whole history are those it began with
 pub unnamed-told : (reports : List Report) (l : Ledger) (f : ℕ) → OfFiles reports l → Exists l f → namedIn reports l f ≡ false →
     FileIs (ledgerAfter reports l) (numberAfter reports l f) (nameAt l f) (sizeAt l f) (historyAt l f)
-unfolding leastOf lastOf
-unnamed-told reports l f o x e = rw (unnamed-unsized reports l f e, e, or-none (historyAt l f .named)) at (told reports l f o x)
+unfolding leastOf lastOf startOf
+unnamed-told reports l f o x e = rw (unnamed-ungiven reports l f e, e, or-none (historyAt l f .named)) at (told reports l f o x)
 
 -- ---- a file of the first image
 
@@ -112,9 +113,9 @@ first-exists image k nm offset size e =
 pub first-told : (image : List ℕ) (reports : List Report) (k : ℕ) (nm : List ℕ) (offset size : ℕ) → getD (nodesIn image) k none ≡ file nm offset size → OfFiles reports (firstLedger image) →
     let l : Ledger = firstLedger image in
     let f : ℕ = filesBefore k (nodesIn image) in
-    let sizes : List ℕ = sizesIn reports l f in
-    FileIs (ledgerAfter reports l) (numberAfter reports l f) nm (lastOf size sizes)
-    (record { place = offset; bytes = span image offset size; m = leastOf size sizes; named = namedIn reports l f })
+    let gs : List Given = givenIn reports l f in
+    FileIs (ledgerAfter reports l) (numberAfter reports l f) nm (lastOf size gs)
+    (record { place = offset; bytes = startOf (span image offset size) gs; m = leastOf size gs; named = namedIn reports l f })
 first-told image reports k nm offset size e o =
     let g = begins image k nm offset size e in
     let x = first-exists image k nm offset size e in

@@ -11,7 +11,7 @@ use Rattle.tree.specs.Table.{Node, file, directory}
 use Rattle.space.specs.declared.DiscRegion.{DiscRegion}
 use Rattle.edits.specs.Edits.{noPlace}
 use Rattle.ledger.specs.Ledger.{History, newHistory, lowered, putIn, firstHistories}
-use Rattle.ledger.specs.Laws.Puts.{span-length}
+use Rattle.edits.specs.Laws.Puts.{span-length}
 use Rattle.ledger.specs.Laws.Files.{pick, filesOf}
 use Rattle.ledger.specs.Laws.Apart.{Has, region}
 

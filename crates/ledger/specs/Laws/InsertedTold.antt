@@ -1,6 +1,6 @@
 -- An inserted file's history after any list, by what the reports after the insert tell of it alone: "a file begins with place 0, size 0,
 -- no bytes, m 0, unnamed", and m stays 0. Assumes nothing.
-use Prim.Native.Nat.{ℕ, zero, suc, _≤_, min}
+use Prim.Native.Nat.{ℕ, zero, suc, _≤_}
 use mathlib.Core.Path.{_≡_, refl, sym, ap, _∙_}
 use mathlib.Core.Bool.{Bool, true, false, cond}
 use mathlib.Core.List.{List, [], _∷_, _++_}
@@ -10,13 +10,13 @@ use Rattle.tree.specs.Table.{Node, file, directory}
 use Rattle.tree.specs.Lookup.{components}
 use Rattle.space.specs.declared.DiscRegion.{DiscRegion}
 use Rattle.opening.specs.Opening.{nodesIn}
-use Rattle.edits.specs.Edits.{Edit, insertFile, insertDirectory, makeDirectories, moveFile, resizeFile, rewrite, newNumber, noPlace}
+use Rattle.edits.specs.Edits.{Edit, insertFile, insertDirectory, makeDirectories, moveFile, resizeFile, fillFile, rewrite, newNumber, noPlace}
 use Rattle.ledger.specs.Ledger.{Ledger, filesBefore, newHistory, firstHistories, firstLedger, putIn, entered, Report, ledgerAfter}
 use Rattle.ledger.specs.Laws.Files.{pick, placeOf, filesOf, ownName, namesOf, insert-directory, insert-file, names-setPlace, names-bare}
 use Rattle.ledger.specs.Laws.Making.{made-same}
 use Rattle.ledger.specs.Spared.{ledgerNext, numberAfter}
 use Rattle.ledger.specs.Laws.SparedLaws.{Holds}
-use Rattle.ledger.specs.Inner.Told.{namedIn, sizesIn, leastOf, lastOf, historyAt, nameAt, sizeAt, OfFiles}
+use Rattle.ledger.specs.Inner.Told.{namedIn, givenIn, leastOf, lastOf, startOf, historyAt, nameAt, sizeAt, OfFiles}
 use Rattle.ledger.specs.Laws.ToldLaws.{Exists}
 use Rattle.ledger.specs.Laws.FilesTold.{FileIs, told}
 
@@ -39,6 +39,7 @@ matched-entered (insertDirectory p nm) l m = rw (insert-directory ownName p nm (
 matched-entered (makeDirectories start path) l m = rw (made-same ownName (l .nodes) start (components path)) m
 matched-entered (moveFile k to) l m = length-set (l .histories) (filesBefore k (l .nodes)) _ ∙ m
 matched-entered (resizeFile k n) l m = rw (names-setPlace 0 n k (l .nodes)) (length-set (l .histories) (filesBefore k (l .nodes)) _ ∙ m)
+matched-entered (fillFile k clip) l m = rw (names-setPlace 0 (length clip) k (l .nodes)) (length-set (l .histories) (filesBefore k (l .nodes)) _ ∙ m)
 matched-entered rewrite l m = m
 
 matched-next : (a : Bool) (ed : Edit) (l : Ledger) → Matched l → Matched (cond a (entered ed l) l)
@@ -101,11 +102,6 @@ new-file l p nm m =
 
 -- ---- the list
 
-least-zero : (xs : List ℕ) → leastOf 0 xs ≡ 0
-unfolding leastOf
-least-zero [] = refl
-least-zero (x ∷ xs) = let z : min 0 x ≡ 0 = omega arith in rw z (least-zero xs)
-
 ledger-then : (xs ys : List Report) (l : Ledger) → ledgerAfter (xs ++ ys) l ≡ ledgerAfter ys (ledgerAfter xs l)
 unfolding ledgerAfter
 ledger-then [] ys l = refl
@@ -121,11 +117,11 @@ pub inserted-told : (before after : List Report) (l : Ledger) (p : ℕ) (nm : Li
     let l₁ : Ledger = ledgerNext (inserting p nm) l₀ in
     let f : ℕ = newFile l₀ p in
     OfFiles after l₁ →
-    FileIs (ledgerAfter (before ++ (inserting p nm ∷ after)) l) (numberAfter after l₁ f) nm (lastOf 0 (sizesIn after l₁ f)) (record { place = 0; bytes = []; m = 0; named = namedIn after l₁ f })
+    FileIs (ledgerAfter (before ++ (inserting p nm ∷ after)) l) (numberAfter after l₁ f) nm (lastOf 0 (givenIn after l₁ f)) (record { place = 0; bytes = startOf [] (givenIn after l₁ f); m = leastOf 0 (givenIn after l₁ f); named = namedIn after l₁ f })
 unfolding ledgerAfter
 inserted-told before after l p nm m o =
     let l₁ : Ledger = ledgerNext (inserting p nm) (ledgerAfter before l) in
     let f : ℕ = newFile (ledgerAfter before l) p in
     let n = new-file (ledgerAfter before l) p nm (matched-after before l m) in
     let t = told after l₁ f o (n .exists) in
-    rw (ledger-then before (inserting p nm ∷ after) l) (rw (n .history, n .name, n .size, least-zero (sizesIn after l₁ f)) at t)
+    rw (ledger-then before (inserting p nm ∷ after) l) (rw (n .history, n .name, n .size) at t)

@@ -21,10 +21,10 @@ use Rattle.tree.specs.Insert.{insertAt, emptyFile, emptyDirectory}
 use Rattle.tree.specs.Laws.InsertedList.{Nested, Fresh, well-nested}
 use Rattle.opening.specs.Opening.{nodesIn, opening}
 use Rattle.edits.specs.Change.{Plan, change}
-use Rattle.edits.specs.Edits.{insertFile, insertDirectory, makeDirectories, tableOnly, newNumber, insertVerdict, Made, stopped, made, make, planMade, planMakeDirectories, planVerdict, verdictOf, imageAfter, planNumber, planOf, numberedAs, Edit}
+use Rattle.edits.specs.Edits.{insertFile, insertDirectory, makeDirectories, tableOnly, newNumber, insertVerdict, Made, stopped, made, make, planMade, planMakeDirectories, planVerdict, planTree, verdictOf, imageAfter, planNumber, planOf, numberedAs, Edit}
 use Rattle.ledger.specs.Ledger.{madeNodes}
 use Rattle.ledger.specs.Laws.Opened.{opened}
-use Rattle.ledger.specs.Laws.TreeAfter.{planTree, tree-after}
+use Rattle.ledger.specs.Laws.TreeAfter.{tree-after}
 use Rattle.ledger.specs.Laws.PlacesAfter.{passed-plan}
 use Rattle.edits.specs.Laws.MakeNumber.{made-found}
 use Rattle.edits.specs.Laws.InsertNumber.{new-entry, new-found, new-from-root}

@@ -41,7 +41,7 @@ pub is-file : (nodes : List Node) (k : ℕ) → fileVerdict nodes k ≡ Passed �
 is-file nodes k v =
     refuse-passed (isDirectory (getD nodes k none)) ExpectedFile Passed (refuse-passed (leb (length nodes) k) NoSuchEntry _ v .1) .0
 
-file-of : (x : Node) → isDirectory x ≡ false → (nm : List ℕ) × (x ≡ file nm (regionOf x .offset) (regionOf x .size))
+pub file-of : (x : Node) → isDirectory x ≡ false → (nm : List ℕ) × (x ≡ file nm (regionOf x .offset) (regionOf x .size))
 file-of (file nm offset size) e = (nm, refl)
 file-of (directory nm next) e = ([], absurd (true≢false e))
 

@@ -1,5 +1,5 @@
--- A move puts its file at the offset asked for, a resize gives it the size asked for, and every other entry stays, in the tree read from the
--- image afterwards; growth that does not fit where the file is goes where allocation finds room, to a multiple of 0x8000. Assumes nothing.
+-- A move puts its file at the offset asked for, a resize gives it the size asked for, a fill that of its clip, and every other entry stays, in
+-- the tree read from the image afterwards; growth that does not fit where the file is goes where allocation finds room, to a multiple of 0x8000. Assumes nothing.
 use Prim.Native.Nat.{ℕ, _*_, _^_, _<_, _≤_}
 use mathlib.Core.Path.{_≡_, refl, sym, ap, _∙_}
 use mathlib.Core.Logic.{⊎-elim}
@@ -28,9 +28,9 @@ use Rattle.free_space.specs.Allocate.{allocationOf}
 use Rattle.free_space.specs.Laws.AllocateLaws.{found-region}
 use Rattle.header.specs.Verdicts.{discEnd}
 use Rattle.opening.specs.Opening.{nodesIn, usedIn, freeOf, regionOf, opening}
-use Rattle.edits.specs.Change.{Plan, nothing, change}
-use Rattle.edits.specs.Edits.{moveFile, resizeFile, planned, fileVerdict, relocated, relocateVerdict, planMove, resized, planElsewhere, planResize, planVerdict, verdictOf, imageAfter}
-use Rattle.ledger.specs.Laws.TreeAfter.{planTree, tree-after}
+use Rattle.edits.specs.Change.{Plan, nothing, change, filled}
+use Rattle.edits.specs.Edits.{moveFile, resizeFile, fillFile, planned, fileVerdict, relocated, relocateVerdict, planMove, resized, planElsewhere, clipVerdict, planResize, planFill, planVerdict, planTree, verdictOf, imageAfter}
+use Rattle.ledger.specs.Laws.TreeAfter.{tree-after}
 
 -- entry k of the tree afterwards is a file at this place, and every other entry is as it was
 pub record PlacedAt (image after : List ℕ) (k : ℕ) (nm : List ℕ) (offset size : ℕ) : Type 0 where
@@ -135,5 +135,17 @@ module _ (image : List ℕ) (words bytes : ℕ) (b : AllBytes image) (k : ℕ) (
       let after : List ℕ = imageAfter (resizeFile k n) image words bytes in
       let p = passed-plan (fileVerdict (nodesIn image) k) _ image words bytes (first-passed (opening image words) _ v .1) in
       let t = tree-after (resizeFile k n) image words bytes b h v ∙ ap (λ (x : Plan). planTree x (nodesIn image)) (p .2) in
+      by-cases n after (file-number (nodesIn image) k (p .0)) (eqb n size) refl (leb n size || leb n (maxRegionSize offset size (freeOf image))) refl (allocationOf 0x8000 n (freeOf image)) refl
+      (rw place-is at (p .1)) (rw place-is at t)
+
+  -- THEOREM: an accepted fill of the file: it lies where a resize to the clip's length would leave it
+  pub filled-to : (clip : List ℕ) → AllBytes clip → verdictOf (fillFile k clip) image words bytes ≡ Passed → ResizedTo image (imageAfter (fillFile k clip) image words bytes) k nm offset size (length clip)
+  unfolding verdictOf planResize planFill
+  filled-to clip c v =
+      let n : ℕ = length clip in
+      let after : List ℕ = imageAfter (fillFile k clip) image words bytes in
+      let f = passed-plan (clipVerdict (nodesIn image) k n) (filled k clip (planResize (freeOf image) (nodesIn image) k n)) image words bytes (first-passed (opening image words) _ v .1) in
+      let p = passed-plan (fileVerdict (nodesIn image) k) _ image words bytes (f .1) in
+      let t = tree-after (fillFile k clip) image words bytes b c v ∙ ap (λ (x : Plan). planTree x (nodesIn image)) (f .2) ∙ ap (λ (x : Plan). planTree x (nodesIn image)) (p .2) in
       by-cases n after (file-number (nodesIn image) k (p .0)) (eqb n size) refl (leb n size || leb n (maxRegionSize offset size (freeOf image))) refl (allocationOf 0x8000 n (freeOf image)) refl
       (rw place-is at (p .1)) (rw place-is at t)

@@ -1,6 +1,6 @@
 -- After any list of calls the program is that of the first image: its offset, its region and every byte of it. Assumes nothing.
 use Prim.Native.Nat.{ℕ, _+_, _-_, _<_, _≤_}
-use mathlib.Core.Path.{_≡_, refl, sym, ap, _∙_}
+use mathlib.Core.Path.{_≡_, sym, _∙_}
 use mathlib.Core.Logic.{⊎-elim}
 use mathlib.Core.Bool.{cond, not}
 use mathlib.Core.List.{List, [], _∷_}
@@ -14,7 +14,7 @@ use Rattle.refusal.specs.Refusal.{isRefused}
 use Rattle.header.specs.Verdicts.{fstOffset}
 use Rattle.space.specs.declared.DiscRegion.{DiscRegion}
 use Rattle.space.specs.Used.{endOf}
-use Rattle.program.specs.Program.{programOf, placeOf, programIn}
+use Rattle.program.specs.Program.{programOf, programIn}
 use Rattle.program.specs.Laws.ProgramLaws.{Accepted, absent, present, accepted, own-cases}
 use Rattle.opening.specs.Opening.{opening}
 use Rattle.disc.specs.Calls.{programAnswer}
@@ -25,24 +25,12 @@ use Rattle.ledger.specs.Theorem.{SameProgram}
 use Rattle.ledger.specs.Laws.Opened.{Opened}
 use Rattle.ledger.specs.Laws.Kept.{Kept}
 use Rattle.ledger.specs.Laws.Steps.{step}
-use Rattle.ledger.specs.Laws.ProgramKept.{ProgramKept}
+use Rattle.ledger.specs.Laws.ProgramKept.{ProgramKept, nothing-done, same-place, kept-trans}
 use Rattle.ledger.specs.Laws.TreeAfter.{program-after}
-
-same-place : (image image′ : List ℕ) → programOf image′ ≡ programOf image → programIn image′ ≡ programIn image
-unfolding programIn
-same-place image image′ e = ap placeOf e
-
-kept-trans : (a b c : List ℕ) → ProgramKept a b → ProgramKept b c → ProgramKept a c
-kept-trans a b c p q = record {
-  len = q .len ∙ p .len;
-  offset = q .offset ∙ p .offset;
-  program = q .program ∙ p .program;
-  bytes = λ i h. q .bytes i (rw (same-place a b (p .program)) h) ∙ p .bytes i h;
-}
 
 pub program-along : (w : ℕ) (calls : List Call) (image : List ℕ) (l : Ledger) → AllWithin w calls → Kept w image l → ProgramKept image (imageAfterAll calls image)
 unfolding imageAfterAll
-program-along w [] image l a k = record { len = refl; offset = refl; program = refl; bytes = λ i h. refl }
+program-along w [] image l a k = nothing-done image
 program-along w (c ∷ calls) image l a k =
     let next : List ℕ = imageAfter (c .edit) image (c .words) (c .bytes) in
     kept-trans image next (imageAfterAll calls next) (program-after (c .edit) image (c .words) (c .bytes) (k .bytes) (a .1))

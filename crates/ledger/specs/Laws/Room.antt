@@ -2,16 +2,15 @@
 use Prim.Native.Nat.{ℕ, zero, suc, _+_, _-_, _<_, _≤_}
 use mathlib.Core.Path.{_≡_, refl}
 use mathlib.Core.Logic.{inl, inr, ⊎-elim}
-use mathlib.Core.Bool.{true, _&&_, _||_}
+use mathlib.Core.Bool.{true, _||_}
 use mathlib.Core.List.{List, [], _∷_}
 use native.Mathlib.Omega.{arith}
-use borrow.Author.Tests.{ltb-false, leb-true, lt-ltb}
+use borrow.Author.Tests.{ltb-false, leb-true}
 use lib.ListN.{length}
 use lib.Dec.{ltb, leb}
 use Rattle.endian.specs.Laws.Stored.{Outside}
 use Rattle.refusal.specs.declared.Verdict.the-variants.{Passed}
-use Rattle.refusal.specs.declared.Refusal.the-variants.{LimitOrMemory, OverlappingMove, NotEnoughSpace}
-use Rattle.refusal.specs.Refusal.{refuse}
+use Rattle.refusal.specs.declared.Refusal.the-variants.{OverlappingMove, NotEnoughSpace}
 use Rattle.refusal.specs.Laws.Chains.{refuse-passed, first-passed}
 use Rattle.header.specs.Verdicts.{fstOffset, fstSize, discEnd, tableEnd}
 use Rattle.tree.specs.Table.{encode, limits}
@@ -24,8 +23,9 @@ use Rattle.space.specs.Laws.FreeLaws.{In}
 use Rattle.free_space.specs.Laws.GrowthLaws.{LargestSize, table-largest, file-largest, place-free}
 use Rattle.program.specs.Program.{programBehind}
 use Rattle.opening.specs.Opening.{nodesIn, behindTable, usedIn, freeOf}
-use Rattle.edits.specs.Change.{Change, tableVerdict, placeVerdict}
+use Rattle.edits.specs.Change.{Change, tableVerdict}
 use Rattle.edits.specs.Edits.{relocateVerdict, overlapsItself}
+use Rattle.edits.specs.Laws.PlaceTests.{PlacePassed, place-passed}
 use Rattle.ledger.specs.Laws.Written.{newEnd}
 use Rattle.ledger.specs.Laws.Files.{placesIn, used-files}
 use Rattle.ledger.specs.Laws.Apart.{Has, region, free-clear}
@@ -49,38 +49,28 @@ pub record TableRoom (c : Change) (image : List ℕ) (words : ℕ) : Type 0 wher
 
 module _ (c : Change) (image : List ℕ) (words bytes : ℕ) (o : Opened image) (v : tableVerdict c image words bytes ≡ Passed) where
   within-ok : limits (c .nodes) words ≡ Passed
-  unfolding tableVerdict placeVerdict
+  unfolding tableVerdict
   within-ok = first-passed (limits (c .nodes) words) _ v .0
 
-  place-tests : refuse (ltb (maxRegionSize (fstOffset image) (fstSize image) (freeOf image)) (length (encode (c .nodes)))) NotEnoughSpace
-      (refuse (ltb 0 (c .place .size) && ltb (c .place .offset) (newEnd c image)) NotEnoughSpace Passed) ≡ Passed
-  unfolding tableVerdict placeVerdict
-  place-tests = refuse-passed (ltb bytes (length (encode (c .nodes)))) LimitOrMemory _ (first-passed (limits (c .nodes) words) _ v .1) .1
+  tests : PlacePassed image bytes (length (encode (c .nodes))) (c .place)
+  unfolding tableVerdict
+  tests = place-passed image bytes (length (encode (c .nodes))) (c .place) (first-passed (limits (c .nodes) words) _ v .1)
 
   largest : LargestSize (freeIn (usedRegions (tableEnd image) (placesIn image))) (discEnd image) (fstOffset image) (fstSize image) (maxRegionSize (fstOffset image) (fstSize image) (freeOf image))
   largest = rw (free-places image) (table-largest (discEnd image) (tableEnd image) (placesIn image) (fstOffset image) (fstSize image) refl)
-
-  fits : length (encode (c .nodes)) ≤ maxRegionSize (fstOffset image) (fstSize image) (freeOf image)
-  fits = ltb-false _ _ (refuse-passed (ltb (maxRegionSize (fstOffset image) (fstSize image) (freeOf image)) (length (encode (c .nodes)))) NotEnoughSpace _ place-tests .0)
-
-  before-place : 0 < c .place .size → newEnd c image ≤ c .place .offset
-  before-place z =
-      let t = refuse-passed (ltb (maxRegionSize (fstOffset image) (fstSize image) (freeOf image)) (length (encode (c .nodes)))) NotEnoughSpace _ place-tests .1 in
-      let f = refuse-passed (ltb 0 (c .place .size) && ltb (c .place .offset) (newEnd c image)) NotEnoughSpace Passed t .0 in
-      ltb-false (c .place .offset) (newEnd c image) (rw (lt-ltb 0 (c .place .size) z) at f)
 
   -- LAW: a new table is within the limits, ends on the disc, and covers no byte of the program or of a file, nor of the edited file's new place
   pub room : TableRoom c image words
   room = record {
     within = within-ok;
-    end = omega (arith, largest .below, fits, o .bounds .table);
+    end = omega (arith, largest .below, tests .grows, o .bounds .table);
     clear = λ k i h. ⊎-elim (λ l. absurd (not-grown k i h l)) (λ l. l) (lt-or-le i (newEnd c image));
-    place = before-place;
+    place = tests .before;
   }
     where
       not-grown : (k i : ℕ) → Has (region (placesIn image) k) i → i < newEnd c image → ⊥
       not-grown k i h l =
-          free-clear (tableEnd image) (placesIn image) i (largest .pass i (o .places .lie k i h .0) (omega (arith, fits))) .1 k h
+          free-clear (tableEnd image) (placesIn image) i (largest .pass i (o .places .lie k i h .0) (omega (arith, tests .grows))) .1 k h
 
 -- ---- a file's new place
 

@@ -28,7 +28,7 @@ use Rattle.disc.specs.declared.TotalsAnswer.the-variants.{Found}
 use Rattle.edits.specs.Edits.{imageAfter, verdictOf}
 use Rattle.ledger.specs.Ledger.{History, Ledger, filesBefore, newHistory, historyOf, firstLedger, entered, ledgerAfter}
 use Rattle.ledger.specs.Runs.{Call, imageAfterAll, reportsOf, AllWithin}
-use Rattle.ledger.specs.Laws.Puts.{Fits, span-length}
+use Rattle.edits.specs.Laws.Puts.{Fits, span-length}
 use Rattle.ledger.specs.Laws.Files.{filesIn, namesOf, names-bare, files-at, files-count, entry-of}
 use Rattle.ledger.specs.Laws.Apart.{region, apart-of}
 use Rattle.ledger.specs.Laws.Histories.{True, trues-at, trues-length, starts}

@@ -14,7 +14,7 @@ use Rattle.tree.specs.Lookup.{components}
 use Rattle.tree.specs.Insert.{shifted}
 use Rattle.tree.specs.Laws.InsertLaws.{shifted-min}
 use Rattle.opening.specs.Opening.{nodesIn}
-use Rattle.edits.specs.Edits.{Edit, insertFile, insertDirectory, makeDirectories, moveFile, resizeFile, rewrite, newNumber}
+use Rattle.edits.specs.Edits.{Edit, insertFile, insertDirectory, makeDirectories, moveFile, resizeFile, fillFile, rewrite, newNumber}
 use Rattle.ledger.specs.Ledger.{History, Ledger, filesBefore, newHistory, putIn, entered, Report, ledgerAfter, firstHistories, firstLedger}
 use Rattle.ledger.specs.Laws.Files.{ownName, namesOf, insert-directory, insert-file, names-at, names-setPlace, names-bare}
 use Rattle.ledger.specs.Laws.Making.{made-same}
@@ -55,6 +55,7 @@ spared-entered (insertDirectory p new) l f g nm e b = (b .0, rw (insert-director
 spared-entered (makeDirectories start path) l f g nm e b = (b .0, rw (made-same ownName (l .nodes) start (components path)) (b .1))
 spared-entered (moveFile k to) l f g nm e b = (set-holds (l .histories) f (filesBefore k (l .nodes)) g _ e (b .0), b .1)
 spared-entered (resizeFile k n) l f g nm e b = (set-holds (l .histories) f (filesBefore k (l .nodes)) g _ e (b .0), rw (names-setPlace 0 n k (l .nodes)) (b .1))
+spared-entered (fillFile k clip) l f g nm e b = (set-holds (l .histories) f (filesBefore k (l .nodes)) g _ e (b .0), rw (names-setPlace 0 (length clip) k (l .nodes)) (b .1))
 spared-entered rewrite l f g nm e b = b
 
 spared-next : (r : Report) (l : Ledger) (f : ℕ) (g : History) (nm : List ℕ) → (r .accepted ≡ true → names (r .edit) l f ≡ false) → Begun l f g nm → Begun (ledgerNext r l) (numberNext r l f) g nm

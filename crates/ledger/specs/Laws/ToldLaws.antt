@@ -7,21 +7,23 @@ use borrow.Author.Tests.{eqb-true, eqb-false}
 use lib.ListN.{length, getD, set, length-set}
 use lib.Seq.{getD-set-same, getD-set-other}
 use lib.Dec.{eqb}
-use Rattle.tree.specs.Lookup.{components}
+use Rattle.tree.specs.Table.{none}
+use Rattle.tree.specs.Lookup.{components, isDirectory}
+use Rattle.tree.specs.Insert.{setPlace}
 use Rattle.space.specs.declared.DiscRegion.{DiscRegion}
-use Rattle.edits.specs.Edits.{Edit, insertFile, insertDirectory, makeDirectories, moveFile, resizeFile, rewrite, newNumber, noPlace}
-use Rattle.ledger.specs.Ledger.{History, Ledger, filesBefore, newHistory, marked, lowered, entered, Report, ledgerAfter}
+use Rattle.edits.specs.Edits.{Edit, insertFile, insertDirectory, makeDirectories, moveFile, resizeFile, fillFile, rewrite, newNumber, noPlace}
+use Rattle.ledger.specs.Ledger.{History, Ledger, filesBefore, newHistory, marked, lowered, refilled, entered, Report, ledgerAfter}
 use Rattle.ledger.specs.Laws.Files.{placeOf, filesOf, ownName, namesOf, insert-directory, insert-file, names-setPlace, files-setPlace}
 use Rattle.ledger.specs.Laws.Making.{made-same}
 use Rattle.ledger.specs.Spared.{names, shiftedBy, ledgerNext, numberNext, numberAfter}
 use Rattle.ledger.specs.Laws.SparedLaws.{Holds, put-in-holds}
-use Rattle.ledger.specs.Inner.Told.{namedIn, sizeGiven, sizesIn, leastOf, lastOf, historyAt, nameAt, sizeAt, ofFile, OfFiles}
+use Rattle.ledger.specs.Inner.Told.{namedIn, Given, sized, clipped, given, givenIn, leastOf, lastOf, startOf, historyAt, nameAt, sizeAt, ofFile, OfFiles}
 
 -- ---- the history
 
--- a history, once the file was named so and given these sizes
-abbrev pub changed : Bool → List ℕ → History → History
-changed named sizes h = record { place = h .place; bytes = h .bytes; m = leastOf (h .m) sizes; named = h .named || named }
+-- a history, once the file was named so and given these sizes and clips
+abbrev pub changed : Bool → List Given → History → History
+changed named gs h = record { place = h .place; bytes = startOf (h .bytes) gs; m = leastOf (h .m) gs; named = h .named || named }
 
 pub or-none : (a : Bool) → (a || false) ≡ a
 or-none true = refl
@@ -35,22 +37,30 @@ or-then : (a b c : Bool) → ((a || b) || c) ≡ (a || (b || c))
 or-then true b c = refl
 or-then false b c = refl
 
-least-then : (m : ℕ) (xs ys : List ℕ) → leastOf (leastOf m xs) ys ≡ leastOf m (xs ++ ys)
+least-then : (m : ℕ) (xs ys : List Given) → leastOf (leastOf m xs) ys ≡ leastOf m (xs ++ ys)
 unfolding leastOf
 least-then m [] ys = refl
-least-then m (x ∷ xs) ys = least-then (min m x) xs ys
+least-then m (sized n ∷ xs) ys = least-then (min m n) xs ys
+least-then m (clipped clip ∷ xs) ys = least-then (length clip) xs ys
 
-last-then : (n : ℕ) (xs ys : List ℕ) → lastOf (lastOf n xs) ys ≡ lastOf n (xs ++ ys)
+last-then : (n : ℕ) (xs ys : List Given) → lastOf (lastOf n xs) ys ≡ lastOf n (xs ++ ys)
 unfolding lastOf
 last-then n [] ys = refl
-last-then n (x ∷ xs) ys = last-then x xs ys
+last-then n (sized x ∷ xs) ys = last-then x xs ys
+last-then n (clipped clip ∷ xs) ys = last-then (length clip) xs ys
+
+start-then : (bs : List ℕ) (xs ys : List Given) → startOf (startOf bs xs) ys ≡ startOf bs (xs ++ ys)
+unfolding startOf
+start-then bs [] ys = refl
+start-then bs (sized n ∷ xs) ys = start-then bs xs ys
+start-then bs (clipped clip ∷ xs) ys = start-then clip xs ys
 
 changed-none : (h : History) → h ≡ changed false [] h
-unfolding leastOf
+unfolding leastOf startOf
 changed-none h = rw (or-none (h .named))
 
-changed-then : (a b : Bool) (xs ys : List ℕ) (h : History) → changed b ys (changed a xs h) ≡ changed (a || b) (xs ++ ys) h
-changed-then a b xs ys h = rw (least-then (h .m) xs ys, or-then (h .named) a b)
+changed-then : (a b : Bool) (xs ys : List Given) (h : History) → changed b ys (changed a xs h) ≡ changed (a || b) (xs ++ ys) h
+changed-then a b xs ys h = rw (least-then (h .m) xs ys, start-then (h .bytes) xs ys, or-then (h .named) a b)
 
 -- one history is set: that of file f, or another
 set-same : (hs : List History) (f k : ℕ) (x y : History) → f < length hs → f ≡ k → x ≡ y → Holds newHistory (set hs k x) f y
@@ -60,7 +70,7 @@ set-other : (hs : List History) (f k : ℕ) (x : History) → f < length hs → 
 set-other hs f k x h d = (rw (length-set hs k x) h, getD-set-other hs k f x newHistory d ∙ changed-none (getD hs f newHistory))
 
 -- an accepted edit
-history-entered : (ed : Edit) (l : Ledger) (f : ℕ) → f < length (l .histories) → Holds newHistory (entered ed l .histories) (shiftedBy ed l f) (changed (names ed l f) (sizeGiven ed l f) (historyAt l f))
+history-entered : (ed : Edit) (l : Ledger) (f : ℕ) → f < length (l .histories) → Holds newHistory (entered ed l .histories) (shiftedBy ed l f) (changed (names ed l f) (given ed l f) (historyAt l f))
 history-entered (insertFile p nm) l f h =
     put-in-holds newHistory (filesBefore (newNumber (l .nodes) p) (l .nodes)) newHistory (l .histories) f _ (h, changed-none (historyAt l f))
 history-entered (insertDirectory p nm) l f h = (h, changed-none (historyAt l f))
@@ -68,7 +78,7 @@ history-entered (makeDirectories start path) l f h = (h, changed-none (historyAt
 history-entered (moveFile k to) l f h = go (eqb f (filesBefore k (l .nodes))) refl
   where
     same : f ≡ filesBefore k (l .nodes) → marked (historyAt l (filesBefore k (l .nodes))) ≡ changed true [] (historyAt l f)
-    same e = unfold leastOf in rw (← e, or-some (historyAt l f .named))
+    same e = unfold leastOf startOf in rw (← e, or-some (historyAt l f .named))
 
     go : (t : Bool) → eqb f (filesBefore k (l .nodes)) ≡ t →
         Holds newHistory (set (l .histories) (filesBefore k (l .nodes)) (marked (historyAt l (filesBefore k (l .nodes))))) f (changed t [] (historyAt l f))
@@ -76,11 +86,20 @@ history-entered (moveFile k to) l f h = go (eqb f (filesBefore k (l .nodes))) re
     go false e = set-other (l .histories) f _ _ h (eqb-false _ _ e)
 history-entered (resizeFile k n) l f h = go (eqb f (filesBefore k (l .nodes))) refl
   where
-    same : f ≡ filesBefore k (l .nodes) → lowered n (historyAt l (filesBefore k (l .nodes))) ≡ changed true (n ∷ []) (historyAt l f)
-    same e = unfold leastOf in rw (← e, or-some (historyAt l f .named))
+    same : f ≡ filesBefore k (l .nodes) → lowered n (historyAt l (filesBefore k (l .nodes))) ≡ changed true (sized n ∷ []) (historyAt l f)
+    same e = unfold leastOf startOf in rw (← e, or-some (historyAt l f .named))
 
     go : (t : Bool) → eqb f (filesBefore k (l .nodes)) ≡ t →
-        Holds newHistory (set (l .histories) (filesBefore k (l .nodes)) (lowered n (historyAt l (filesBefore k (l .nodes))))) f (changed t (cond t (n ∷ []) []) (historyAt l f))
+        Holds newHistory (set (l .histories) (filesBefore k (l .nodes)) (lowered n (historyAt l (filesBefore k (l .nodes))))) f (changed t (cond t (sized n ∷ []) []) (historyAt l f))
+    go true e = let e′ : f ≡ filesBefore k (l .nodes) = eqb-true _ _ e in set-same (l .histories) f _ _ _ h e′ (same e′)
+    go false e = set-other (l .histories) f _ _ h (eqb-false _ _ e)
+history-entered (fillFile k clip) l f h = go (eqb f (filesBefore k (l .nodes))) refl
+  where
+    same : f ≡ filesBefore k (l .nodes) → refilled clip (historyAt l (filesBefore k (l .nodes))) ≡ changed true (clipped clip ∷ []) (historyAt l f)
+    same e = unfold leastOf startOf in rw (← e, or-some (historyAt l f .named))
+
+    go : (t : Bool) → eqb f (filesBefore k (l .nodes)) ≡ t →
+        Holds newHistory (set (l .histories) (filesBefore k (l .nodes)) (refilled clip (historyAt l (filesBefore k (l .nodes))))) f (changed t (cond t (clipped clip ∷ []) []) (historyAt l f))
     go true e = let e′ : f ≡ filesBefore k (l .nodes) = eqb-true _ _ e in set-same (l .histories) f _ _ _ h e′ (same e′)
     go false e = set-other (l .histories) f _ _ h (eqb-false _ _ e)
 history-entered rewrite l f h = (h, changed-none (historyAt l f))
@@ -94,6 +113,7 @@ name-entered (insertDirectory p new) l f nm h = rw (insert-directory ownName p n
 name-entered (makeDirectories start path) l f nm h = rw (made-same ownName (l .nodes) start (components path)) h
 name-entered (moveFile k to) l f nm h = h
 name-entered (resizeFile k n) l f nm h = rw (names-setPlace 0 n k (l .nodes)) h
+name-entered (fillFile k clip) l f nm h = rw (names-setPlace 0 (length clip) k (l .nodes)) h
 name-entered rewrite l f nm h = h
 
 -- ---- the size
@@ -102,15 +122,10 @@ name-entered rewrite l f nm h = h
 abbrev HasSize : List DiscRegion → ℕ → ℕ → Type 0
 HasSize rs f n = (f < length rs) × (getD rs f noPlace .size ≡ n)
 
-size-entered : (ed : Edit) (l : Ledger) (f : ℕ) → ofFile ed l → f < length (filesOf (l .nodes)) → HasSize (filesOf (entered ed l .nodes)) (shiftedBy ed l f) (lastOf (sizeAt l f) (sizeGiven ed l f))
-unfolding lastOf
-size-entered (insertFile p nm) l f o h =
-    let t = put-in-holds noPlace (filesBefore (newNumber (l .nodes) p) (l .nodes)) noPlace (filesOf (l .nodes)) f _ (h, refl) in
-    rw (insert-file placeOf p nm 0 0 (l .nodes)) (t .0, ap (λ (r : DiscRegion). r .size) (t .1))
-size-entered (insertDirectory p nm) l f o h = rw (insert-directory placeOf p nm (suc (newNumber (l .nodes) p)) (l .nodes)) (h, refl)
-size-entered (makeDirectories start path) l f o h = rw (made-same placeOf (l .nodes) start (components path)) (h, refl)
-size-entered (moveFile k to) l f o h = (h, refl)
-size-entered (resizeFile k n) l f o h = rw (files-setPlace 0 n k (l .nodes) o) (go (eqb f (filesBefore k (l .nodes))) refl)
+-- the size of file k set
+set-size : (k n : ℕ) (l : Ledger) (f : ℕ) (gs : List Given) → lastOf (sizeAt l f) gs ≡ n → isDirectory (getD (l .nodes) k none) ≡ false → f < length (filesOf (l .nodes)) →
+    HasSize (filesOf (setPlace k 0 n (l .nodes))) f (lastOf (sizeAt l f) (cond (eqb f (filesBefore k (l .nodes))) gs []))
+set-size k n l f gs g o h = rw (files-setPlace 0 n k (l .nodes) o) (go (eqb f r) refl)
   where
     new : DiscRegion
     new = record { offset = 0; size = n }
@@ -121,9 +136,20 @@ size-entered (resizeFile k n) l f o h = rw (files-setPlace 0 n k (l .nodes) o) (
     r : ℕ
     r = filesBefore k (l .nodes)
 
-    go : (t : Bool) → eqb f r ≡ t → HasSize (set rs r new) f (lastOf (sizeAt l f) (cond t (n ∷ []) []))
-    go true e = let e′ : f ≡ r = eqb-true f r e in (rw (length-set rs r new) h, rw (← e′, getD-set-same rs f new noPlace h))
-    go false e = (rw (length-set rs r new) h, rw (getD-set-other rs r f new noPlace (eqb-false f r e)))
+    go : (t : Bool) → eqb f r ≡ t → HasSize (set rs r new) f (lastOf (sizeAt l f) (cond t gs []))
+    go true e = let e′ : f ≡ r = eqb-true f r e in (rw (length-set rs r new) h, rw (g, ← e′, getD-set-same rs f new noPlace h))
+    go false e = unfold lastOf in (rw (length-set rs r new) h, rw (getD-set-other rs r f new noPlace (eqb-false f r e)))
+
+size-entered : (ed : Edit) (l : Ledger) (f : ℕ) → ofFile ed l → f < length (filesOf (l .nodes)) → HasSize (filesOf (entered ed l .nodes)) (shiftedBy ed l f) (lastOf (sizeAt l f) (given ed l f))
+unfolding lastOf
+size-entered (insertFile p nm) l f o h =
+    let t = put-in-holds noPlace (filesBefore (newNumber (l .nodes) p) (l .nodes)) noPlace (filesOf (l .nodes)) f _ (h, refl) in
+    rw (insert-file placeOf p nm 0 0 (l .nodes)) (t .0, ap (λ (r : DiscRegion). r .size) (t .1))
+size-entered (insertDirectory p nm) l f o h = rw (insert-directory placeOf p nm (suc (newNumber (l .nodes) p)) (l .nodes)) (h, refl)
+size-entered (makeDirectories start path) l f o h = rw (made-same placeOf (l .nodes) start (components path)) (h, refl)
+size-entered (moveFile k to) l f o h = (h, refl)
+size-entered (resizeFile k n) l f o h = set-size k n l f (sized n ∷ []) refl o h
+size-entered (fillFile k clip) l f o h = set-size k (length clip) l f (clipped clip ∷ []) refl o h
 size-entered rewrite l f o h = (h, refl)
 
 -- ---- a report, and a list of them
@@ -132,22 +158,22 @@ size-entered rewrite l f o h = (h, refl)
 abbrev pub Exists : Ledger → ℕ → Type 0
 Exists l f = (f < length (l .histories)) × (f < length (namesOf (l .nodes))) × (f < length (filesOf (l .nodes)))
 
--- file f of l is file f′ of l′, after a list in which it was named so and given these sizes
-pub record Goes (l l′ : Ledger) (f f′ : ℕ) (named : Bool) (sizes : List ℕ) : Type 0 where
+-- file f of l is file f′ of l′, after a list in which it was named so and given these sizes and clips
+pub record Goes (l l′ : Ledger) (f f′ : ℕ) (named : Bool) (gs : List Given) : Type 0 where
   pub exists : Exists l′ f′
-  pub history : historyAt l′ f′ ≡ changed named sizes (historyAt l f)
+  pub history : historyAt l′ f′ ≡ changed named gs (historyAt l f)
   pub name : nameAt l′ f′ ≡ nameAt l f
-  pub size : sizeAt l′ f′ ≡ lastOf (sizeAt l f) sizes
+  pub size : sizeAt l′ f′ ≡ lastOf (sizeAt l f) gs
 
 goes-nowhere : (l : Ledger) (f : ℕ) → Exists l f → Goes l l f f false []
 unfolding lastOf
 goes-nowhere l f x = record { exists = x; history = changed-none (historyAt l f); name = refl; size = refl }
 
 goes-next : (r : Report) (l : Ledger) (f : ℕ) → (r .accepted ≡ true → ofFile (r .edit) l) → Exists l f →
-    Goes l (ledgerNext r l) f (numberNext r l f) (r .accepted && names (r .edit) l f) (cond (r .accepted) (sizeGiven (r .edit) l f) [])
+    Goes l (ledgerNext r l) f (numberNext r l f) (r .accepted && names (r .edit) l f) (cond (r .accepted) (given (r .edit) l f) [])
 goes-next r l f o x = go (r .accepted) refl
   where
-    go : (a : Bool) → r .accepted ≡ a → Goes l (cond a (entered (r .edit) l) l) f (cond a (shiftedBy (r .edit) l f) f) (a && names (r .edit) l f) (cond a (sizeGiven (r .edit) l f) [])
+    go : (a : Bool) → r .accepted ≡ a → Goes l (cond a (entered (r .edit) l) l) f (cond a (shiftedBy (r .edit) l f) f) (a && names (r .edit) l f) (cond a (given (r .edit) l f) [])
     go true e =
         let h = history-entered (r .edit) l f (x .0) in
         let n = name-entered (r .edit) l f _ (x .1, refl) in
@@ -155,7 +181,7 @@ goes-next r l f o x = go (r .accepted) refl
         record { exists = (h .0, n .0, s .0); history = h .1; name = n .1; size = s .1 }
     go false e = goes-nowhere l f x
 
-goes-then : (l l′ l″ : Ledger) (f f′ f″ : ℕ) (a b : Bool) (xs ys : List ℕ) → Goes l l′ f f′ a xs → Goes l′ l″ f′ f″ b ys → Goes l l″ f f″ (a || b) (xs ++ ys)
+goes-then : (l l′ l″ : Ledger) (f f′ f″ : ℕ) (a b : Bool) (xs ys : List Given) → Goes l l′ f f′ a xs → Goes l′ l″ f′ f″ b ys → Goes l l″ f f″ (a || b) (xs ++ ys)
 goes-then l l′ l″ f f′ f″ a b xs ys g h = record {
   exists = h .exists;
   history = h .history ∙ ap (changed b ys) (g .history) ∙ changed-then a b xs ys (historyAt l f);
@@ -164,8 +190,8 @@ goes-then l l′ l″ f f′ f″ a b xs ys g h = record {
 }
 
 -- LAW: any list of reports
-pub goes : (reports : List Report) (l : Ledger) (f : ℕ) → OfFiles reports l → Exists l f → Goes l (ledgerAfter reports l) f (numberAfter reports l f) (namedIn reports l f) (sizesIn reports l f)
-unfolding ledgerAfter numberAfter namedIn sizesIn
+pub goes : (reports : List Report) (l : Ledger) (f : ℕ) → OfFiles reports l → Exists l f → Goes l (ledgerAfter reports l) f (numberAfter reports l f) (namedIn reports l f) (givenIn reports l f)
+unfolding ledgerAfter numberAfter namedIn givenIn
 goes [] l f o x = goes-nowhere l f x
 goes (r ∷ reports) l f o x =
     let g = goes-next r l f (o .0) x in

@@ -1,165 +1,41 @@
 -- Of every edit: if it is accepted, the tree read from the image afterwards is the one that it planned, offsets included, and the program is the
 -- same, byte for byte. Assumes nothing.
-use Prim.Native.Nat.{ℕ, _^_, _<_, _≤_}
+use Prim.Native.Nat.{ℕ, _≤_}
 use mathlib.Core.Path.{_≡_, refl}
-use mathlib.Core.Bool.{Bool, true, false, cond, _||_}
-use mathlib.Core.List.{List, []}
+use mathlib.Core.Bool.{cond}
+use mathlib.Core.List.{List}
 use native.Mathlib.Omega.{arith}
-use borrow.Author.Tests.{leb-false, eqb-false}
-use lib.ListN.{length, getD}
-use lib.Dec.{ltb, leb, eqb}
 use Rattle.endian.specs.Bytes.{AllBytes}
-use Rattle.refusal.specs.declared.Refusal.{Refusal}
-use Rattle.refusal.specs.declared.Refusal.the-variants.{LimitOrMemory, InvalidNameByte, NoSuchEntry}
 use Rattle.refusal.specs.declared.Verdict.{Verdict}
 use Rattle.refusal.specs.declared.Verdict.the-variants.{Passed, Refused}
-use Rattle.refusal.specs.Refusal.{refuse, first, isRefused}
-use Rattle.refusal.specs.Laws.Chains.{refuse-passed, first-passed}
-use Rattle.refusal.specs.Laws.Tests.{or-false}
-use Rattle.tree.specs.Table.{Node, none}
-use Rattle.tree.specs.Inner.WellFormed.{WellFormed}
-use Rattle.tree.specs.Lookup.{isDirectory, components}
-use Rattle.tree.specs.Insert.{insertAt, emptyFile, emptyDirectory}
-use Rattle.space.specs.declared.DiscRegion.{DiscRegion}
-use Rattle.free_space.specs.declared.Allocation.{Allocation}
-use Rattle.free_space.specs.declared.Allocation.the-variants as allocation
-use Rattle.free_space.specs.MaxRegionSize.{maxRegionSize}
-use Rattle.free_space.specs.Allocate.{allocationOf}
-use Rattle.opening.specs.Opening.{nodesIn, freeOf, opening}
-use Rattle.edits.specs.Change.{Change, Plan, refused, nothing, change}
-use Rattle.edits.specs.Edits.{Edit, insertFile, insertDirectory, makeDirectories, moveFile, resizeFile, rewrite, tableOnly, planned, newNumber, insertVerdict, planInsert, Made, stopped, made, make, planMade, planMakeDirectories, fileVerdict, relocated, relocateVerdict, planMove, resized, planElsewhere, planResize, planOf, planVerdict, verdictOf, planImage, imageAfter}
+use Rattle.refusal.specs.Refusal.{isRefused}
+use Rattle.refusal.specs.Laws.Chains.{first-passed}
+use Rattle.opening.specs.Opening.{nodesIn, opening}
+use Rattle.edits.specs.Edits.{Edit, insertFile, insertDirectory, makeDirectories, moveFile, resizeFile, fillFile, rewrite, planOf, verdictOf, planTree, planImage, imageAfter}
 use Rattle.ledger.specs.Ledger.{firstLedger}
 use Rattle.ledger.specs.Runs.{Passable}
-use Rattle.ledger.specs.Laws.Opened.{Opened, opened, nodes-written}
-use Rattle.ledger.specs.Laws.Room.{room}
-use Rattle.ledger.specs.Laws.Kept.{Kept, table-safe, table-spares}
-use Rattle.ledger.specs.Laws.ProgramKept.{ProgramKept, program-kept}
-use Rattle.ledger.specs.Laws.Placed.{placeIn, resized-placed, placed-tree, placed-program}
-use Rattle.ledger.specs.Laws.Making.{made-good}
-use Rattle.ledger.specs.Laws.TableEdits.{insertable, inserted-well}
-use Rattle.ledger.specs.Laws.PlaceEdits.{is-file, free-else, put-else, small-size, free-here, small-offset}
+use Rattle.ledger.specs.Laws.Opened.{opened}
+use Rattle.ledger.specs.Laws.Kept.{Kept}
+use Rattle.ledger.specs.Laws.ProgramKept.{ProgramKept, nothing-done}
+use Rattle.ledger.specs.Laws.Arrives.{Arrives, on-table, insert-file, insert-directory, make-directories, move, resize}
+use Rattle.ledger.specs.Laws.FillEdits.{fill}
 use Rattle.ledger.specs.Laws.Sequence.{start}
 
--- the tree that a plan comes to
-abbrev pub planTree : Plan → List Node → List Node
-planTree (refused v) nodes = nodes
-planTree nothing nodes = nodes
-planTree (change k c) nodes = c .nodes
+module _ (image : List ℕ) (words bytes : ℕ) (b : AllBytes image) (e : opening image words ≡ Passed) where
+  same : words ≤ words
+  same = omega arith
 
-module _ (image : List ℕ) (words bytes : ℕ) where
-  -- a plan that passes its tests leaves its tree in the image, and the program as it was
-  abbrev Arrives : Plan → Type 0
-  Arrives p = planVerdict p image words bytes ≡ Passed → (nodesIn (planImage p image) ≡ planTree p (nodesIn image)) × ProgramKept image (planImage p image)
+  K : Kept words image (firstLedger image)
+  K = start image words words same b e
 
-  nothing-done : ProgramKept image image
-  nothing-done = record { len = refl; offset = refl; program = refl; bytes = λ i h. refl }
-
-  arrives-refused : (c : Refusal) → Arrives (refused (Refused c))
-  arrives-refused c e = (refl, nothing-done)
-
-  arrives-planned : (v : Verdict) (p : Plan) → (v ≡ Passed → Arrives p) → Arrives (planned v p)
-  arrives-planned Passed p f = f refl
-  arrives-planned (Refused c) p f = arrives-refused c
-
-  arrives-cond : (a : Bool) (p q : Plan) → (a ≡ true → Arrives p) → (a ≡ false → Arrives q) → Arrives (cond a p q)
-  arrives-cond true p q f g = f refl
-  arrives-cond false p q f g = g refl
-
-  module _ (b : AllBytes image) (e : opening image words ≡ Passed) where
-    o : Opened image
-    o = opened image words e b
-
-    same : words ≤ words
-    same = omega arith
-
-    K : Kept words image (firstLedger image)
-    K = start image words words same b e
-
-    -- ---- only the table is written
-
-    on-table : (new : List Node) → WellFormed new → (number : ℕ) → Arrives (change number (tableOnly new))
-    on-table new wf number v =
-        let r = room (tableOnly new) image words bytes o v in
-        let s = table-safe words image (firstLedger image) K words same new wf r in
-        (nodes-written (tableOnly new) image s words words same (r .within), program-kept (tableOnly new) image o s (table-spares words image (firstLedger image) K words same new wf r 0))
-
-    insert-file : (p : ℕ) (nm : List ℕ) → Arrives (planInsert (λ q. emptyFile nm) (nodesIn image) p nm)
-    insert-file p nm =
-        arrives-planned (insertVerdict (nodesIn image) p nm) _ (λ v.
-        on-table (insertAt p (emptyFile nm) (nodesIn image)) (inserted-well (nodesIn image) p nm (o .well) (insertable (nodesIn image) p nm v) (emptyFile nm) (omega arith, omega arith) refl) (newNumber (nodesIn image) p))
-
-    insert-directory : (p : ℕ) (nm : List ℕ) → Arrives (planInsert (emptyDirectory nm) (nodesIn image) p nm)
-    insert-directory p nm =
-        let q : ℕ = newNumber (nodesIn image) p in
-        arrives-planned (insertVerdict (nodesIn image) p nm) _ (λ v.
-        on-table (insertAt p (emptyDirectory nm q) (nodesIn image)) (inserted-well (nodesIn image) p nm (o .well) (insertable (nodesIn image) p nm v) (emptyDirectory nm q) refl refl) q)
-
-    make-directories : (from : ℕ) (path : List ℕ) → Arrives (planMakeDirectories (nodesIn image) from path)
-    unfolding planMakeDirectories
-    make-directories from path =
-        arrives-planned (refuse (ltb 1024 (length path)) LimitOrMemory (refuse (leb (length (nodesIn image)) from) NoSuchEntry Passed)) _ (λ v.
-        let v₁ = refuse-passed (ltb 1024 (length path)) LimitOrMemory _ v in
-        let v₂ = refuse-passed (leb (length (nodesIn image)) from) NoSuchEntry Passed (v₁ .1) in
-        go (make (nodesIn image) [] from false (components path)) refl (leb-false _ _ (v₂ .0)))
-      where
-        go : (m : Made) → make (nodesIn image) [] from false (components path) ≡ m → from < length (nodesIn image) → Arrives (planMade m)
-        go (stopped c) q h = arrives-refused c
-        go (made new k true) q h = arrives-refused InvalidNameByte
-        go (made new k false) q h = on-table new (made-good (nodesIn image) from (components path) new k (o .well) h q) k
-
-    -- ---- a file's place is changed
-
-    module _ (k : ℕ) (isFile : isDirectory (getD (nodesIn image) k none) ≡ false) where
-      move-to : (new : DiscRegion) → relocateVerdict (freeOf image) (placeIn image k) new ≡ Passed → new .offset < 2 ^ 32 → new .size < 2 ^ 32 → Arrives (change k (relocated (nodesIn image) k (placeIn image k) new))
-      move-to new v ho hn u =
-          let p = put-else words image (firstLedger image) K words bytes same k isFile new v ho hn u in
-          (placed-tree words image (firstLedger image) K words same k isFile new (free-else words image (firstLedger image) K words bytes same k isFile new v) _ p, placed-program words image (firstLedger image) K words same k isFile new (free-else words image (firstLedger image) K words bytes same k isFile new v) _ p)
-
-      stay : (n : ℕ) → n < 2 ^ 32 → (n ≡ placeIn image k .size → ⊥) → (leb n (placeIn image k .size) || leb n (maxRegionSize (placeIn image k .offset) (placeIn image k .size) (freeOf image))) ≡ true →
-          Arrives (change k (resized (nodesIn image) k (placeIn image k) n))
-      stay n hn d v u =
-          let new : DiscRegion = record { offset = placeIn image k .offset; size = n } in
-          let free = free-here words image (firstLedger image) K words bytes same k isFile n v in
-          let c : Change = resized (nodesIn image) k (placeIn image k) n in
-          let p = resized-placed words image (firstLedger image) K words same k isFile new free refl (small-offset words image (firstLedger image) K words bytes same k isFile n free d) hn (room c image words bytes o u) in
-          (placed-tree words image (firstLedger image) K words same k isFile new free c p, placed-program words image (firstLedger image) K words same k isFile new free c p)
-
-      elsewhere : (n : ℕ) → n < 2 ^ 32 → placeIn image k .size < n → (a : Allocation) → Arrives (planElsewhere (nodesIn image) (freeOf image) k (placeIn image k) n a)
-      elsewhere n hn d (allocation.Refused c) = arrives-refused c
-      elsewhere n hn d (allocation.Found r) =
-          let new : DiscRegion = record { offset = r .offset; size = n } in
-          arrives-planned (relocateVerdict (freeOf image) (placeIn image k) new) _ (λ v.
-          move-to new v (omega (arith, o .bounds .small, free-else words image (firstLedger image) K words bytes same k isFile new v (r .offset) (omega arith, omega arith) .1)) hn)
-
-    move : (k to : ℕ) → to < 2 ^ 32 → Arrives (planMove (freeOf image) (nodesIn image) k to)
-    unfolding planMove
-    move k to h =
-        let new : DiscRegion = record { offset = to; size = placeIn image k .size } in
-        arrives-planned (first (fileVerdict (nodesIn image) k) (relocateVerdict (freeOf image) (placeIn image k) new)) _ (λ v.
-        let v₁ = first-passed (fileVerdict (nodesIn image) k) _ v in
-        let isFile = is-file (nodesIn image) k (v₁ .0) in
-        move-to k isFile new (v₁ .1) h (small-size words image (firstLedger image) K words bytes same k isFile))
-
-    resize : (k n : ℕ) → n < 2 ^ 32 → Arrives (planResize (freeOf image) (nodesIn image) k n)
-    unfolding planResize
-    resize k n h =
-        let old : DiscRegion = placeIn image k in
-        let t : Bool = leb n (old .size) || leb n (maxRegionSize (old .offset) (old .size) (freeOf image)) in
-        let in₁ : Plan = change k (resized (nodesIn image) k old n) in
-        let in₂ : Plan = planElsewhere (nodesIn image) (freeOf image) k old n (allocationOf 0x8000 n (freeOf image)) in
-        arrives-planned (fileVerdict (nodesIn image) k) _ (λ v.
-        let isFile = is-file (nodesIn image) k v in
-        arrives-cond (eqb n (old .size)) nothing (cond t in₁ in₂) (λ q u. (refl, nothing-done))
-        (λ q. arrives-cond t in₁ in₂ (stay k isFile n h (eqb-false n (old .size) q))
-        (λ g. elsewhere k isFile n h (leb-false n (old .size) (or-false (leb n (old .size)) _ g .0)) (allocationOf 0x8000 n (freeOf image)))))
-
-    arrives : (ed : Edit) → Passable ed → Arrives (planOf ed image)
-    arrives (insertFile p nm) h = insert-file p nm
-    arrives (insertDirectory p nm) h = insert-directory p nm
-    arrives (makeDirectories from path) h = make-directories from path
-    arrives (moveFile k to) h = move k to h
-    arrives (resizeFile k n) h = resize k n h
-    arrives rewrite h = on-table (nodesIn image) (o .well) 0
+  arrives : (ed : Edit) → Passable ed → Arrives image words bytes (planOf ed image)
+  arrives (insertFile p nm) h = insert-file image words bytes words (firstLedger image) K same p nm
+  arrives (insertDirectory p nm) h = insert-directory image words bytes words (firstLedger image) K same p nm
+  arrives (makeDirectories from path) h = make-directories image words bytes words (firstLedger image) K same from path
+  arrives (moveFile k to) h = move image words bytes words (firstLedger image) K same k to h
+  arrives (resizeFile k n) h = resize image words bytes words (firstLedger image) K same k n h
+  arrives (fillFile k clip) h = fill words image (firstLedger image) K words bytes same k clip h
+  arrives rewrite h = on-table image words bytes words (firstLedger image) K same (nodesIn image) (opened image words e b .well) 0
 
 module _ (ed : Edit) (image : List ℕ) (words bytes : ℕ) (b : AllBytes image) (h : Passable ed) where
   after : verdictOf ed image words bytes ≡ Passed → (nodesIn (planImage (planOf ed image) image) ≡ planTree (planOf ed image) (nodesIn image)) × ProgramKept image (planImage (planOf ed image) image)
@@ -178,7 +54,7 @@ module _ (ed : Edit) (image : List ℕ) (words bytes : ℕ) (b : AllBytes image)
     where
       go : (v : Verdict) → verdictOf ed image words bytes ≡ v → ProgramKept image (cond (isRefused v) image (planImage (planOf ed image) image))
       go Passed e = after e .1
-      go (Refused c) e = nothing-done image words bytes
+      go (Refused c) e = nothing-done image
 
 -- THEOREM: a rewrite leaves the tree as it is
 pub rewritten : (image : List ℕ) (words bytes : ℕ) → AllBytes image → verdictOf rewrite image words bytes ≡ Passed → nodesIn (imageAfter rewrite image words bytes) ≡ nodesIn image

@@ -1,5 +1,5 @@
 -- A worked ledger from a first image to its end, by computing: a file that has bytes moved, shrunk and grown, a file inserted and left alone,
--- one inserted and grown, refused calls, directories made; then every field of every file. Assumes nothing.
+-- one inserted and grown, one filled, refused calls, directories made; then every field of every file. Assumes nothing.
 use Prim.Native.Nat.{ℕ}
 use mathlib.Core.Path.{_≡_, refl, ap, _∙_}
 use mathlib.Core.Bool.{true, false}
@@ -11,7 +11,7 @@ use Rattle.tree.specs.Table.{file, directory, none, plain, safe, count, nameAt,
 use Rattle.tree.specs.Lookup.{components, firstChild, childOf}
 use Rattle.tree.specs.Insert.{bump, splice, insertAt, setPlace}
 use Rattle.opening.specs.Opening.{tableOf, nodesIn}
-use Rattle.edits.specs.Edits.{insertFile, makeDirectories, moveFile, resizeFile, rewrite, make}
+use Rattle.edits.specs.Edits.{insertFile, makeDirectories, moveFile, resizeFile, fillFile, rewrite, make}
 use Rattle.ledger.specs.Ledger.{Ledger, filesBefore, historyOf, firstHistories, firstLedger, putIn, Report, ledgerAfter}
 
 -- ---- the first image: a directory `d` with the file `x` in it, 4 bytes at 0x4B0, then the file `a`, 3 bytes at 0x4A0
@@ -61,6 +61,11 @@ list =
     -- file `c` into the root: entry 6; grown to 1 byte
     record { edit = insertFile 0 (0x63 ∷ []); accepted = true } ∷
     record { edit = resizeFile 6 1; accepted = true } ∷
+    -- file `f` into the root: entry 7; filled with 3 bytes, grown to 5; a refused fill of `x`
+    record { edit = insertFile 0 (0x66 ∷ []); accepted = true } ∷
+    record { edit = fillFile 7 (1 ∷ 2 ∷ 3 ∷ []); accepted = true } ∷
+    record { edit = resizeFile 7 5; accepted = true } ∷
+    record { edit = fillFile 2 (1 ∷ []); accepted = false } ∷
     record { edit = rewrite; accepted = true } ∷ []
 
 pub last : Ledger
@@ -69,7 +74,7 @@ last = ledgerAfter list (firstLedger image)
 -- ---- the end: each entry with its kind, name and size (a place is 0), what it is nested in, and each file's history
 
 pub record Worked : Type 0 where
-  pub root : getD (last .nodes) 0 none ≡ directory [] 7
+  pub root : getD (last .nodes) 0 none ≡ directory [] 8
   pub d : (getD (last .nodes) 1 none ≡ directory (0x64 ∷ []) 5) × (parentOf (last .nodes) 1 ≡ 0)
   -- no accepted call named `x`
   pub x : (getD (last .nodes) 2 none ≡ file (0x78 ∷ []) 0 4) × (parentOf (last .nodes) 2 ≡ 1)
@@ -84,17 +89,21 @@ pub record Worked : Type 0 where
   -- `c` was put in and grown
   pub c : (getD (last .nodes) 6 none ≡ file (0x63 ∷ []) 0 1) × (parentOf (last .nodes) 6 ≡ 0)
   pub c-history : historyOf last 6 ≡ record { place = 0; bytes = []; m = 0; named = true }
+  -- `f` was put in, filled and grown
+  pub f : (getD (last .nodes) 7 none ≡ file (0x66 ∷ []) 0 5) × (parentOf (last .nodes) 7 ≡ 0)
+  pub f-history : historyOf last 7 ≡ record { place = 0; bytes = 1 ∷ 2 ∷ 3 ∷ []; m = 3; named = true }
   -- and there is no more
-  pub whole : (length (last .nodes) ≡ 7) × (length (last .histories) ≡ 4)
+  pub whole : (length (last .nodes) ≡ 8) × (length (last .histories) ≡ 5)
 
 abbrev end : Ledger
 end = record {
-  nodes = directory [] 7 ∷ directory (0x64 ∷ []) 5 ∷ file (0x78 ∷ []) 0 4 ∷ file (0x62 ∷ []) 0 0 ∷ directory (0x65 ∷ []) 5 ∷ file (0x61 ∷ []) 0 5 ∷ file (0x63 ∷ []) 0 1 ∷ [];
+  nodes = directory [] 8 ∷ directory (0x64 ∷ []) 5 ∷ file (0x78 ∷ []) 0 4 ∷ file (0x62 ∷ []) 0 0 ∷ directory (0x65 ∷ []) 5 ∷ file (0x61 ∷ []) 0 5 ∷ file (0x63 ∷ []) 0 1 ∷ file (0x66 ∷ []) 0 5 ∷ [];
   histories =
       record { place = 0x4B0; bytes = 6 ∷ 5 ∷ 4 ∷ 3 ∷ []; m = 4; named = false } ∷
       record { place = 0; bytes = []; m = 0; named = false } ∷
       record { place = 0x4A0; bytes = 7 ∷ 8 ∷ 9 ∷ []; m = 2; named = true } ∷
-      record { place = 0; bytes = []; m = 0; named = true } ∷ [];
+      record { place = 0; bytes = []; m = 0; named = true } ∷
+      record { place = 0; bytes = 1 ∷ 2 ∷ 3 ∷ []; m = 3; named = true } ∷ [];
 }
 
 ends : ledgerAfter list first ≡ end
@@ -119,5 +128,7 @@ worked = record {
   a-history = rw after;
   c = (rw after, rw after);
   c-history = rw after;
+  f = (rw after, rw after);
+  f-history = rw after;
   whole = (rw after, rw after);
 }

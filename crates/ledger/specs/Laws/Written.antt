@@ -17,7 +17,7 @@ use Rattle.tree.specs.Laws.WrittenBytes.{encode-all, be32-all}
 use Rattle.opening.specs.Opening.{tableOf}
 use Rattle.opening.specs.Laws.OpeningLaws.{span-bytes}
 use Rattle.edits.specs.Change.{Change, padded, withTable, written}
-use Rattle.ledger.specs.Laws.Puts.{Fits, put-length, put-all, put-else, span-length, zeros-all, append-all}
+use Rattle.edits.specs.Laws.Puts.{Fits, put-length, put-all, put-else, span-length, zeros-all, append-all}
 
 -- the new table's end
 abbrev pub newEnd : Change → List ℕ → ℕ
@@ -133,7 +133,7 @@ module _ (c : Change) (image : List ℕ) (s : Safe c image) where
 
   -- ---- the header
 
-  header-low : (i : ℕ) → i < 0x428 → getD (written c image) i 0 ≡ getD image i 0
+  pub header-low : (i : ℕ) → i < 0x428 → getD (written c image) i 0 ≡ getD image i 0
   header-low i h =
       let l : i < fstOffset image = omega (arith, s .bounds .after-header) in
       at₄ i (not-zeroed i (omega arith)) ∙ below₃ i h ∙ below₂ i l ∙ at₁ i (not-copied i l)

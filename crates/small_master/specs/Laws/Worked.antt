@@ -41,7 +41,7 @@ lost = 0x7A ∷ 0x7A ∷ 0 ∷ []
 abbrev ofA : List ℕ
 ofA = 1 ∷ 2 ∷ 3 ∷ 4 ∷ 5 ∷ 6 ∷ 7 ∷ 8 ∷ []
 
-abbrev ofB : List ℕ
+abbrev pub ofB : List ℕ
 ofB = 0xB1 ∷ 0xB2 ∷ 0xB3 ∷ 0xB4 ∷ []
 
 abbrev imageTo : ℕ → List ℕ
@@ -84,22 +84,22 @@ worked = record {
 unfoldable pub large : List ℕ
 large = put (imageTo 0x8040) 0x8000 (replicate 16 0xEE)
 
-abbrev at : ℕ → ℕ → DiscRegion
+abbrev pub at : ℕ → ℕ → DiscRegion
 at o n = record { offset = o; size = n }
 
-large-opens : opening large 20 ≡ verdict.Passed
+pub large-opens : opening large 20 ≡ verdict.Passed
 unfolding large put opening layoutVerdict headerVerdict fieldsVerdict fieldVerdict fields boundsVerdict tableOf check nodesIn nodesOf nodesFrom nodeAt nameAt count entriesVerdict entryVerdict unended walk nameVerdict nextVerdict shut plain safe be24 be32 usedIn behindTable programOf programIn ownRegion nonempty disjointBelow pairwiseDisjoint disjointFromAll disjoint endBy
 large-opens = refl
 
-large-nodes : nodesIn large ≡ directory [] 3 ∷ file (0x61 ∷ []) 0x500 8 ∷ file (0x62 ∷ []) 0x508 4 ∷ []
+pub large-nodes : nodesIn large ≡ directory [] 3 ∷ file (0x61 ∷ []) 0x500 8 ∷ file (0x62 ∷ []) 0x508 4 ∷ []
 unfolding large put tableOf nodesIn nodesOf nodesFrom nodeAt nameAt count be24 be32
 large-nodes = refl
 
-large-free : freeOf large ≡ at 0x46B 0x95 ∷ at 0x50C 0x7B34 ∷ []
+pub large-free : freeOf large ≡ at 0x46B 0x95 ∷ at 0x50C 0x7B34 ∷ []
 unfolding large put tableOf nodesIn nodesOf nodesFrom nodeAt nameAt count be24 be32 freeOf usedIn behindTable programOf programIn ownRegion freeRegions runs usesByte nonempty
 large-free = refl
 
-large-header : (fstOffset large ≡ 0x440) × (fstSize large ≡ 43)
+pub large-header : (fstOffset large ≡ 0x440) × (fstSize large ≡ 43)
 unfolding large put be32
 large-header = (refl, refl)
 
@@ -108,7 +108,7 @@ unfolding verdictOf planResize maxSizeFrom besideFree allocationOf powers larges
 grows = rw (large-opens, large-nodes, large-free, large-header .0, large-header .1, large-free)
 
 -- what is written then
-abbrev grown : List ℕ
+abbrev pub grown : List ℕ
 grown = written (record {
   nodes = directory [] 3 ∷ file (0x61 ∷ []) 0x8000 12 ∷ file (0x62 ∷ []) 0x508 4 ∷ [];
   place = at 0x8000 12;

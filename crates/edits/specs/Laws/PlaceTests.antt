@@ -1,0 +1,44 @@
+-- What the tests of a new table's place say of it, if they pass; and that free bytes lie behind the table. Assumes nothing.
+use Prim.Native.Nat.{ℕ, _+_, _<_, _≤_}
+use mathlib.Core.Path.{_≡_, refl, sym, _∙_}
+use mathlib.Core.Bool.{Bool, true, false, not, _&&_, false≢true}
+use mathlib.Core.List.{List}
+use borrow.Author.Tests.{ltb-false, lt-ltb}
+use lib.Dec.{ltb}
+use Rattle.refusal.specs.declared.Refusal.the-variants.{LimitOrMemory, NotEnoughSpace}
+use Rattle.refusal.specs.declared.Verdict.the-variants.{Passed}
+use Rattle.refusal.specs.Laws.Chains.{refuse-passed}
+use Rattle.refusal.specs.Laws.Tests.{or-false}
+use Rattle.header.specs.Verdicts.{fstOffset, fstSize}
+use Rattle.space.specs.declared.DiscRegion.{DiscRegion}
+use Rattle.space.specs.Used.{usesByte, usedRegions}
+use Rattle.space.specs.Free.{freeIn}
+use Rattle.space.specs.Laws.UsedLaws.{used-is}
+use Rattle.free_space.specs.MaxRegionSize.{maxRegionSize}
+use Rattle.opening.specs.Opening.{freeOf}
+use Rattle.edits.specs.Change.{placeVerdict}
+
+pub record PlacePassed (image : List ℕ) (room size : ℕ) (place : DiscRegion) : Type 0 where
+  pub held : size ≤ room
+  pub grows : size ≤ maxRegionSize (fstOffset image) (fstSize image) (freeOf image)
+  pub before : 0 < place .size → fstOffset image + size ≤ place .offset
+
+pub place-passed : (image : List ℕ) (room size : ℕ) (place : DiscRegion) → placeVerdict image room size place ≡ Passed → PlacePassed image room size place
+unfolding placeVerdict
+place-passed image room size place e =
+    let a = refuse-passed (ltb room size) LimitOrMemory _ e in
+    let b = refuse-passed (ltb (maxRegionSize (fstOffset image) (fstSize image) (freeOf image)) size) NotEnoughSpace _ (a .1) in
+    let c = refuse-passed (ltb 0 (place .size) && ltb (place .offset) (fstOffset image + size)) NotEnoughSpace Passed (b .1) in
+    record {
+      held = ltb-false room size (a .0);
+      grows = ltb-false _ size (b .0);
+      before = λ z. ltb-false (place .offset) (fstOffset image + size) (rw (lt-ltb 0 (place .size) z) at (c .0));
+    }
+
+-- a free byte is behind the table, and none of what lies there
+pub free-byte : (t : ℕ) (fs : List DiscRegion) (i : ℕ) → freeIn (usedRegions t fs) i ≡ true → (t ≤ i) × (usesByte fs i ≡ false)
+free-byte t fs i f = let o = or-false (ltb i t) (usesByte fs i) (sym (used-is t fs i) ∙ not-true (usesByte (usedRegions t fs) i) f) in (ltb-false i t (o .0), o .1)
+  where
+    not-true : (a : Bool) → not a ≡ true → a ≡ false
+    not-true true e = absurd (false≢true e)
+    not-true false e = refl

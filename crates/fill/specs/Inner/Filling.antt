@@ -1,0 +1,85 @@
+-- What a fill decides on before it writes, and what it does to an image: the clip at the file's place, and then what a resize writes besides.
+-- Assumes nothing: these are definitions.
+use Prim.Native.Nat.{ℕ, _+_, _<_, _≤_}
+use mathlib.Core.Path.{_≡_}
+use mathlib.Core.Logic.{_⊎_}
+use mathlib.Core.Bool.{cond}
+use mathlib.Core.List.{List}
+use lib.ListN.{length}
+use Rattle.endian.specs.Bytes.{put, span}
+use Rattle.refusal.specs.declared.Verdict.{Verdict}
+use Rattle.refusal.specs.declared.Verdict.the-variants.{Passed, Refused}
+use Rattle.refusal.specs.Refusal.{isRefused}
+use Rattle.header.specs.Verdicts.{fstOffset, tableEnd}
+use Rattle.commit.specs.declared.Writing.{Writing}
+use Rattle.commit.specs.declared.Decision.{Decision}
+use Rattle.commit.specs.declared.Decision.the-variants as decision
+use Rattle.commit.specs.Inner.Decision.{Fits, writtenWith}
+use Rattle.edits.specs.Change.{Plan}
+use Rattle.edits.specs.Edits.{planVerdict, planImage}
+use Rattle.fill.specs.declared.Filling.{Filling}
+use Rattle.fill.specs.declared.Filling.the-variants as filling
+
+-- a resize's decision with the clip; where nothing is to be resized the file lies at `at`
+abbrev pub fillingOf : Decision → ℕ → Filling
+fillingOf (decision.Refused c) at = filling.Refused c
+fillingOf decision.Nothing at = filling.Clip at
+fillingOf (decision.Write size w) at = filling.Write size w
+
+-- ---- the clip written, and the rest
+
+-- n bytes at `at` lie in an image of that length; nothing is asked of a place where no byte is written
+abbrev pub Into : ℕ → ℕ → ℕ → Type 0
+Into long at n = 0 < n → at + n ≤ long
+
+abbrev pub ClipInto : ℕ → ℕ → Filling → Type 0
+ClipInto long n (filling.Refused c) = Unit {0}
+ClipInto long n (filling.Clip at) = Into long at n
+ClipInto long n (filling.Write size w) = Into long (w .place .offset) n
+
+abbrev pub clippedImage : Filling → List ℕ → List ℕ → List ℕ
+clippedImage (filling.Refused c) clip image = image
+clippedImage (filling.Clip at) clip image = put image at clip
+clippedImage (filling.Write size w) clip image = put image (w .place .offset) clip
+
+-- nothing is copied
+abbrev pub uncopied : Writing → Writing
+uncopied w = record { place = w .place; source = 0; kept = 0; lost = w .lost; «lost_size» = w .«lost_size» }
+
+abbrev pub restOf : Filling → Decision
+restOf (filling.Refused c) = decision.Refused c
+restOf (filling.Clip at) = decision.Nothing
+restOf (filling.Write size w) = decision.Write size (uncopied w)
+
+-- ---- the whole, as the definition of a fill has it: the resize, and then the clip
+
+abbrev pub filledVerdict : Filling → Verdict
+filledVerdict (filling.Refused c) = Refused c
+filledVerdict (filling.Clip at) = Passed
+filledVerdict (filling.Write size w) = Passed
+
+abbrev pub filledImage : Filling → List ℕ → List ℕ → List ℕ → List ℕ
+filledImage (filling.Refused c) bytes clip image = image
+filledImage (filling.Clip at) bytes clip image = put image at clip
+filledImage (filling.Write size w) bytes clip image = put (writtenWith w (span bytes 0 size) image) (w .place .offset) clip
+
+-- ---- where the clip goes: nothing is asked where it has no byte
+
+-- a clip of n bytes may be written first: its place lies behind both tables and apart from what is zeroed, and it covers what would be copied
+pub record Clear (image : List ℕ) (size : ℕ) (w : Writing) (n : ℕ) : Type 0 where
+  pub into : Into (length image) (w .place .offset) n
+  pub old-table : 0 < n → tableEnd image ≤ w .place .offset
+  pub new-table : 0 < n → fstOffset image + size ≤ w .place .offset
+  pub covers : w .kept ≤ n
+  pub apart : 0 < n → 0 < w .«lost_size» → (w .place .offset + n ≤ w .lost) ⊎ (w .lost + w .«lost_size» ≤ w .place .offset)
+
+abbrev pub CanFill : List ℕ → ℕ → ℕ → Filling → Type 0
+CanFill image room n (filling.Refused c) = Unit {0}
+CanFill image room n (filling.Clip at) = Into (length image) at n
+CanFill image room n (filling.Write size w) = Fits image room size w × Clear image size w n
+
+-- f, with these working bytes, is what the plan of a fill comes to
+pub record Filled (p : Plan) (image : List ℕ) (words room : ℕ) (bytes clip : List ℕ) (f : Filling) : Type 0 where
+  pub fits : CanFill image room (length clip) f
+  pub answer : filledVerdict f ≡ planVerdict p image words room
+  pub after : filledImage f bytes clip image ≡ cond (isRefused (planVerdict p image words room)) image (planImage p image)

@@ -1,0 +1,53 @@
+// A file filled from given bytes: resized to the clip, which is then the file. Each call opens the image, makes every test, builds the new
+// table in the working bytes, and only then writes the image: the clip, the table, the zeros.
+mod opened;
+mod written;
+
+use commit::Writing;
+use opening::Prepared;
+use refusal::Refusal;
+use refusal::Verdict;
+ghost use lib.ListN.{length};
+ghost use Rattle.opening.specs.Opening.{opening};
+ghost use Rattle.edits.specs.Edits.{fillFile, planned, planOf};
+ghost use Rattle.edits.specs.Promise.{lent, onlyVerdict, Edited};
+ghost use Rattle.fill.specs.Inner.Filling.{Filled};
+
+// What a fill decides on before it writes: refused, the clip alone at an offset, or a change with the clip at its place; its table of that
+// size stands in the working bytes.
+pub enum Filling {
+    Refused(Refusal),
+    Clip(u32),
+    Write(usize, Writing),
+}
+
+fn decide_fill(
+    image: &[u8],
+    words: &mut [u32],
+    bytes: &mut [u8],
+    number: u32,
+    clip: &[u8],
+) -> Filling
+    ensures { λ r. ⌜ Filled (planned (opening (now (image .entry)) (length (now (words .entry)))) (planOf (fillFile number (now (clip .entry))) (now (image .entry)))) (now (image .entry)) (length (now (words .entry))) (length (now (bytes .entry))) (now (bytes .exit)) (now (clip .entry)) r ⌝ }
+{
+    let prepared = opening::prepare(image, words);
+    match prepared {
+        Prepared::Refused(cause) => Filling::Refused(cause),
+        Prepared::Ready(m) => opened::fill(image, words, m, bytes, number, clip),
+    }
+}
+
+// Afterwards the file is the clip.
+pub fn fill_file(
+    image: &mut [u8],
+    words: &mut [u32],
+    bytes: &mut [u8],
+    number: u32,
+    clip: &[u8],
+) -> Verdict
+    ensures { λ r. ⌜ Edited onlyVerdict (fillFile number (now (clip .entry))) (lent (now (image .entry)) (now (words .entry)) (now (bytes .entry))) (lent (now (image .exit)) (now (words .exit)) (now (bytes .exit))) r ⌝ }
+{
+    let filling = decide_fill(image, words, bytes, number, clip);
+    let rest = written::write_clip(image, clip, filling);
+    commit::finish(image, words, bytes, rest)
+}

@@ -1,0 +1,140 @@
+-- A clip put over a file, as long as the file: the image opens with the same tree and program, every other file stays, and the file is the clip.
+-- Assumes nothing.
+use Prim.Native.Nat.{ℕ, suc, _+_, _-_, _<_, _≤_}
+use mathlib.Core.Path.{_≡_, refl, sym, ap, _∙_}
+use mathlib.Core.Bool.{false, true≢false}
+use mathlib.Core.List.{List, [], _∷_}
+use native.Mathlib.Omega.{arith}
+use lib.ListN.{length, getD, set}
+use lib.Seq.{set-getD}
+use Rattle.endian.specs.Bytes.{put, span, be32, AllBytes}
+use Rattle.endian.specs.Laws.Stored.{put-in, span-put, be32-same, span-ext}
+use Rattle.refusal.specs.declared.Verdict.the-variants.{Passed}
+use Rattle.header.specs.Verdicts.{fstOffset, fstSize, discEnd, tableEnd}
+use Rattle.header.specs.Laws.FieldTests.{GoodHeader, Bounded}
+use Rattle.tree.specs.Table.{none}
+use Rattle.tree.specs.Lookup.{isDirectory}
+use Rattle.program.specs.Program.{programIn}
+use Rattle.opening.specs.Opening.{tableOf, nodesIn, behindTable, usedIn, opening}
+use Rattle.opening.specs.Laws.OpeningLaws.{table-accepted}
+use Rattle.edits.specs.Edits.{noPlace}
+use Rattle.ledger.specs.Ledger.{History, Ledger, refilled}
+use Rattle.edits.specs.Laws.Puts.{Fits, put-length, put-all, put-else}
+use Rattle.ledger.specs.Laws.Files.{filesIn, placesIn, files-at}
+use Rattle.ledger.specs.Laws.Apart.{Has, region}
+use Rattle.ledger.specs.Laws.Histories.{True, SameIn, trues-set}
+use Rattle.ledger.specs.Laws.Opened.{Opened, opening-passes}
+use Rattle.ledger.specs.Laws.Room.{outside}
+use Rattle.ledger.specs.Laws.Kept.{Kept, opened-kept}
+use Rattle.ledger.specs.Laws.Placed.{placeIn, numberIn, placeNumber}
+use Rattle.ledger.specs.Laws.ProgramKept.{ProgramKept, program-spared}
+
+-- the image with the clip over file k
+abbrev pub withClip : List ℕ → ℕ → List ℕ → List ℕ
+withClip image k clip = put image (placeIn image k .offset) clip
+
+-- the bytes at `at` are the clip, all of them
+pub record Shown (image : List ℕ) (at : ℕ) (clip : List ℕ) : Type 0 where
+  pub inside : 0 < length clip → at + length clip ≤ length image
+  pub bytes : span image at (length clip) ≡ clip
+
+module _ (w : ℕ) (image : List ℕ) (l : Ledger) (K : Kept w image l) (k : ℕ) (isFile : isDirectory (getD (nodesIn image) k none) ≡ false) (clip : List ℕ) (bytes : AllBytes clip) (long : length clip ≡ placeIn image k .size) where
+  o : Opened image
+  o = opened-kept w image l K
+
+  place-is : region (placesIn image) (placeNumber image k) ≡ placeIn image k
+  place-is = files-at k (nodesIn image) isFile
+
+  lies : (i : ℕ) → Has (placeIn image k) i → (tableEnd image ≤ i) × (i < discEnd image)
+  lies i h = o .places .lie (placeNumber image k) i (rw place-is h)
+
+  fits : Fits image (placeIn image k .offset) (length clip)
+  fits z = omega (arith, o .bounds .image-holds, lies (placeIn image k .offset + length clip - 1) (omega arith, omega arith) .1)
+
+  pub length-clipped : length (withClip image k clip) ≡ length image
+  length-clipped = put-length image (placeIn image k .offset) clip fits
+
+  -- ---- byte by byte
+
+  else-same : (i : ℕ) → (Has (placeIn image k) i → ⊥) → getD (withClip image k clip) i 0 ≡ getD image i 0
+  else-same i h = put-else image (placeIn image k .offset) clip fits i (λ z. outside (placeIn image k) (length clip) i (omega arith) h)
+
+  low-same : (i : ℕ) → i < tableEnd image → getD (withClip image k clip) i 0 ≡ getD image i 0
+  low-same i h = else-same i (λ g. omega (arith, lies i g .0))
+
+  others-same : (j : ℕ) → (j ≡ placeNumber image k → ⊥) → SameIn image (withClip image k clip) (region (placesIn image) j)
+  others-same j d i h = else-same i (λ g. d (o .places .apart j (placeNumber image k) i h (rw place-is g)))
+
+  -- ---- the header, the table, the program
+
+  field-same : (at : ℕ) → at + 4 ≤ 0x440 → be32 (withClip image k clip) at ≡ be32 image at
+  field-same at h = be32-same (withClip image k clip) image at (λ i u. low-same (at + i) (omega (arith, o .bounds .after-header)))
+
+  table-same : tableOf (withClip image k clip) ≡ tableOf image
+  unfolding tableOf
+  table-same =
+      let e : fstOffset image + fstSize image ≤ length image = omega (arith, o .bounds .table, o .bounds .image-holds) in
+      rw (field-same 0x424 (omega arith), field-same 0x428 (omega arith))
+      (span-ext (withClip image k clip) image (fstOffset image) (fstSize image) (rw length-clipped e) e (λ i h. low-same (fstOffset image + i) (omega arith)))
+
+  pub tree-clipped : nodesIn (withClip image k clip) ≡ nodesIn image
+  unfolding nodesIn
+  tree-clipped = rw table-same
+
+  pub program-clipped : ProgramKept image (withClip image k clip)
+  program-clipped =
+      program-spared image (withClip image k clip) o length-clipped (λ i h. low-same i (omega (arith, o .bounds .after-header))) (λ i h g. low-same i (omega arith)) (others-same 0 (λ e. omega arith))
+
+  header-clipped : GoodHeader (withClip image k clip)
+  header-clipped = record {
+    whole = rw length-clipped (o .header .whole);
+    not-wii = λ e. o .header .not-wii (sym (field-same 0x18 (omega arith)) ∙ e);
+    is-gcn = field-same 0x1C (omega arith) ∙ o .header .is-gcn;
+  }
+
+  end-same : discEnd (withClip image k clip) ≡ discEnd image
+  end-same = rw (field-same 0x434 (omega arith), field-same 0x438 (omega arith))
+
+  bounds-clipped : Bounded (withClip image k clip)
+  bounds-clipped = record {
+    after-header = rw (field-same 0x424 (omega arith)) (o .bounds .after-header);
+    small = rw end-same (o .bounds .small);
+    table = rw (field-same 0x424 (omega arith), field-same 0x428 (omega arith), end-same) (o .bounds .table);
+    image-holds = rw (end-same, length-clipped) (o .bounds .image-holds);
+  }
+
+  opens-clipped : opening (withClip image k clip) w ≡ Passed
+  unfolding usedIn behindTable programIn
+  opens-clipped =
+      opening-passes (withClip image k clip) w header-clipped bounds-clipped (rw table-same (table-accepted image w (K .opens))) (rw (program-clipped .program) (o .program))
+      (rw (tree-clipped, field-same 0x424 (omega arith), field-same 0x428 (omega arith), end-same, program-clipped .program) (o .regions))
+
+  -- ---- the file
+
+  file-clipped : (h : History) → True (withClip image k clip) (placeIn image k) (refilled clip h)
+  file-clipped h = record {
+    least = omega arith;
+    known = omega arith;
+    same = λ i u. put-in image (placeIn image k .offset) clip (fits (omega arith)) i u;
+    unnamed = λ z. absurd (true≢false z);
+  }
+
+  pub clip-shown : Shown (withClip image k clip) (placeIn image k .offset) clip
+  clip-shown = record { inside = λ z. rw length-clipped (fits z); bytes = go clip refl }
+    where
+      go : (c : List ℕ) → clip ≡ c → span (put image (placeIn image k .offset) c) (placeIn image k .offset) (length c) ≡ c
+      go [] e = refl
+      go (x ∷ xs) e = let q : length clip ≡ length (x ∷ xs) = ap length e in span-put image (placeIn image k .offset) (x ∷ xs) (omega (arith, fits (omega arith)))
+
+  -- LAW: the image with the clip over file k
+  pub clipped-kept : (h : History) → Kept w (withClip image k clip) (record { nodes = l .nodes; histories = set (l .histories) (numberIn image k) (refilled clip h) })
+  clipped-kept h =
+      let r : ℕ = numberIn image k in
+      let p : region (filesIn image) r ≡ placeIn image k = place-is in
+      record {
+        bytes = put-all image (placeIn image k .offset) clip fits (K .bytes) bytes;
+        opens = opens-clipped;
+        shape = rw tree-clipped (K .shape);
+        trues = rw tree-clipped (rw (set-getD (filesIn image) r noPlace) at (trues-set image (withClip image k clip) r (region (filesIn image) r) (refilled clip h) (filesIn image) (l .histories)
+            (λ j d. others-same (suc j) (λ e. d (omega arith))) (rw p (file-clipped h)) (K .trues)));
+      }
