@@ -87,6 +87,8 @@ const SIZE: Operand = needed(
     Value::Number,
     "base ten or with 0x, with K, M or G for 2^10, 2^20, 2^30; below 2^32",
 );
+const CLIP: Operand =
+    needed("CLIP", Value::File, "the new bytes, a file of the system, or `-`: standard input");
 const ALIGN: Operand = Operand {
     name: "ALIGN",
     value: Value::Number,
@@ -317,6 +319,16 @@ pub const FORMS: &[Form] = &[
         &["counter resize disc.iso /text/en/msg.bin 8K"],
     ),
     edit(
+        "fill",
+        &[&IMAGE, &PATH, &CLIP],
+        "makes the file at PATH exactly the bytes of CLIP; what cannot grow where it lies goes to the \
+         largest free place on a multiple of 0x8000",
+        &[
+            "counter fill disc.iso /text/en/msg.bin msg.bin",
+            "counter cat before.iso /text/fr/msg.bin | counter fill disc.iso /text/fr/msg.bin -",
+        ],
+    ),
+    edit(
         "rewrite",
         &[&IMAGE],
         "writes the table anew, each name by itself",
@@ -367,7 +379,7 @@ and after, both maps, the sums of both images, this program's version and its li
 status is that of compare; the page is written in either case.";
 
 const RECOVER: &str = "\
-Where there is no journal, no edit was cut, and nothing is done. A journal that is torn, or of another \
+Where there is no journal, no edit was cut, and the image is not touched. A journal that is torn, or of another \
 image, or of one that was changed since, is not applied (78), and neither it nor the image is touched.";
 
 // The arguments ---------------------------------------------------------------------------

@@ -1,11 +1,13 @@
 //! The edits: what is asked on the command line, and the one call of the library that does it.
 
 use crate::args::Args;
+use crate::clip::Clip;
 use crate::disc::{CLUSTER, no_path};
 use crate::failure::{Failure, Outcome};
 use crate::image::{Desk, Image, shown};
 use crate::text::{grouped, number};
 use counter_sys::{self as counter, Memory};
+use std::path::Path;
 
 /// What was asked, in the words of the command line.
 pub enum Wish {
@@ -15,11 +17,12 @@ pub enum Wish {
     /// To a place that is found.
     MoveAway(Vec<u8>),
     Resize(Vec<u8>, u32),
+    Fill(Vec<u8>, Clip),
     Rewrite,
 }
 
 impl Wish {
-    pub fn read(args: &Args) -> Outcome<Wish> {
+    pub fn read(args: &Args, image: &Path) -> Outcome<Wish> {
         let wanted = || number(&args.bytes(1)).map_err(Failure::usage);
         Ok(match args.form.name {
             "mkdir" => Wish::MakeFolders(args.bytes(0)),
@@ -27,6 +30,7 @@ impl Wish {
             "move" if args.bytes(1) == b"auto" => Wish::MoveAway(args.bytes(0)),
             "move" => Wish::Move(args.bytes(0), wanted()?),
             "resize" => Wish::Resize(args.bytes(0), wanted()?),
+            "fill" => Wish::Fill(args.bytes(0), Clip::open(&args.path(1), image)?),
             _ => Wish::Rewrite,
         })
     }
@@ -41,17 +45,21 @@ impl Wish {
             Wish::Resize(path, to) => {
                 format!("resize {} to {} bytes", shown(path), grouped((*to).into()))
             }
+            Wish::Fill(path, clip) => format!("fill {} with {}", shown(path), clip.words()),
             Wish::Rewrite => "rewrite".into(),
         }
     }
 }
 
 /// The same with paths looked up: one call of the library.
+#[derive(Clone, Copy)]
 pub enum Call<'a> {
     MakeFolders(&'a [u8]),
     Insert(u32, &'a [u8]),
     Move(u32, u32),
     Resize(u32, u32),
+    /// With zeros in the place of the clip, until it is written.
+    Fill(u32, &'a [u8]),
     Rewrite,
 }
 
@@ -76,8 +84,25 @@ impl<'a> Call<'a> {
                 Call::Move(at, place)
             }
             Wish::Resize(path, to) => Call::Resize(find(path)?, *to),
+            Wish::Fill(path, clip) => Call::Fill(find(path)?, clip.zeros()),
             Wish::Rewrite => Call::Rewrite,
         })
+    }
+
+    /// The file whose place or bytes it changes, where it is about one.
+    pub fn file(&self) -> Option<u32> {
+        match *self {
+            Call::Move(at, _) | Call::Resize(at, _) | Call::Fill(at, _) => Some(at),
+            _ => None,
+        }
+    }
+
+    /// The same with the clip itself.
+    pub fn with_clip(self, clip: &'a [u8]) -> Call<'a> {
+        match self {
+            Call::Fill(at, _) => Call::Fill(at, clip),
+            other => other,
+        }
     }
 
     /// The entry's number in the new table, where the call gives one.
@@ -91,6 +116,7 @@ impl<'a> Call<'a> {
             }
             Call::Move(at, to) => counter::move_file(image, &mut memory, at, to).map(|()| None),
             Call::Resize(at, to) => counter::resize_file(image, &mut memory, at, to).map(|()| None),
+            Call::Fill(at, clip) => counter::fill_file(image, &mut memory, at, clip).map(|()| None),
             Call::Rewrite => counter::rewrite(image, &mut memory).map(|()| None),
         }
     }
@@ -114,7 +140,10 @@ pub fn refused(wish: &Wish, number: u32) -> Failure {
             "no free place on a multiple of 0x8000 is that long, or the table has no room; see \
              `counter free`",
         ),
-        (21, Wish::Resize(..)) => failure.because(
+        (21, Wish::Fill(_, clip)) if clip.len > u32::MAX.into() => {
+            failure.because("a file has at most 4,294,967,295 bytes")
+        }
+        (21, Wish::Resize(..) | Wish::Fill(..)) => failure.because(
             "it cannot grow where it lies, and no free place on a multiple of 0x8000 is that long, \
              or the table has no room; see `counter free`",
         ),

@@ -1,5 +1,5 @@
 //! All that one edit writes, known before it writes: the table in its place with its size in the
-//! header, a file's bytes to a new place, and zeros.
+//! header, a file's bytes to a new place or a clip's to the file's, and zeros.
 
 use std::ops::Range;
 
@@ -21,10 +21,12 @@ pub struct Change {
     /// The table's size before and after.
     pub old_size: u32,
     pub new_size: u32,
-    /// So many bytes are copied from one place to the other.
+    /// The file's place before and after, where the edit is about one.
     pub from: u64,
     pub to: u64,
-    pub kept: u64,
+    /// So many bytes are brought there: those at the place before, or else those of a clip.
+    pub brought: u64,
+    pub clip: bool,
     /// What is zeroed at the end.
     pub lost: Range<u64>,
 }
@@ -35,11 +37,17 @@ impl Change {
     }
 
     pub fn copy_span(&self) -> Range<u64> {
-        self.to..self.to + self.kept
+        self.to..self.to + self.brought
     }
 
+    /// Where the bytes that are brought lie in the image; a clip lies outside it.
     pub fn source_span(&self) -> Range<u64> {
-        self.from..self.from + self.kept
+        self.from..self.from + if self.clip { 0 } else { self.brought }
+    }
+
+    /// Whether bytes are brought to a place that was free: until the table is written, nothing is lost.
+    pub fn is_apart(&self) -> bool {
+        self.brought > 0 && self.from != self.to
     }
 
     /// Every byte that is written lies in one of these.
@@ -50,7 +58,7 @@ impl Change {
     pub fn is_nothing(&self) -> bool {
         self.old == self.new
             && self.old_size == self.new_size
-            && self.kept == 0
+            && self.brought == 0
             && self.lost.is_empty()
     }
 
@@ -75,6 +83,6 @@ impl Change {
             && apart(&copy, &lost)
             && apart(&source, &copy)
             && apart(&source, &table)
-            && (self.kept == 0 || source == self.lost)
+            && (source.is_empty() || source == self.lost)
     }
 }

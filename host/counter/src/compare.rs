@@ -4,7 +4,7 @@ use crate::args::Args;
 use crate::disc::Disc;
 use crate::failure::{DATA, Failure, Outcome};
 use crate::given::Given;
-use crate::image::{Desk, Image};
+use crate::image::{Desk, Image, same_file};
 use crate::json::Json;
 use crate::layout::{Layout, Record};
 use crate::manifest::{Manifest, PROGRAM, Part, TAIL, is_manifest, sums};
@@ -17,7 +17,6 @@ use crate::text::{counted, grouped, one_line};
 use counter_sys::Region;
 use std::collections::{HashMap, HashSet};
 use std::fmt::Write;
-use std::os::unix::fs::MetadataExt;
 use std::path::Path;
 
 const STEP: usize = 4 << 20;
@@ -78,7 +77,7 @@ impl Pair {
         let names = (path.display().to_string(), after.display().to_string());
         let (image, after) = opened(&after)?;
         if let Before::Image(old, _) = &before
-            && same_file(old, &image)
+            && agree_anyway(old, &image)
         {
             let text = format!("{} and {} are one and the same file", names.0, names.1);
             return Err(Failure::usage(text));
@@ -99,10 +98,10 @@ fn opened(path: &Path) -> Outcome<(Image, Layout)> {
     Ok((image, layout))
 }
 
-/// Whether two names lead to one file, which would agree with itself whatever it holds.
-fn same_file(a: &Image, b: &Image) -> bool {
+/// Whether they are one file, which agrees with itself whatever it holds.
+fn agree_anyway(a: &Image, b: &Image) -> bool {
     let told = |image: &Image| image.file().and_then(|file| file.metadata().ok());
-    matches!((told(a), told(b)), (Some(a), Some(b)) if (a.dev(), a.ino()) == (b.dev(), b.ino()))
+    matches!((told(a), told(b)), (Some(a), Some(b)) if same_file(&a, &b))
 }
 
 // Rows ------------------------------------------------------------------------------------

@@ -1,11 +1,13 @@
-//! The writes and syncs of an edit and of its journal: all of them pass here, so that a test can log
-//! them, or let one fail. (The proved call writes through a mapping; what it changed is found by
+//! The writes and syncs of an edit, of its journal and of its clip: all of them pass here, so that a test
+//! can log them, or let one fail. (The proved call writes through a mapping; what it changed is found by
 //! comparing.)
 //!
 //! COUNTER_LOG_WRITES names the file of the log. COUNTER_FULL_FROM=n lets the n-th step that takes room,
 //! and all after it, fail as on a full disk; COUNTER_ASSUME_ROOM lets an edit begin on a disk that is
 //! really full. They are for tests; without them nothing is kept.
 
+use crate::progress::Progress;
+use crate::sum::Sum;
 use crate::{os, signals};
 use std::env;
 use std::fs::{self, File, OpenOptions};
@@ -21,7 +23,11 @@ use std::sync::atomic::{AtomicU64, Ordering};
 pub enum On {
     Image,
     Journal,
+    Clip,
 }
+
+/// Bytes that are read or written at once: a multiple of 8, as the sum wants it.
+pub const PART: u64 = 1 << 20;
 
 /// A disk writes at least so many bytes at once, or none of them.
 const SECTOR: usize = 0x200;
@@ -33,11 +39,41 @@ pub fn is_full(error: &io::Error) -> bool {
     matches!(error.kind(), io::ErrorKind::StorageFull | io::ErrorKind::QuotaExceeded)
 }
 
+pub fn reason(why: &io::Error) -> String {
+    if is_full(why) { "the disk is full".into() } else { why.to_string() }
+}
+
 pub fn write_at(on: On, file: &File, at: u64, bytes: &[u8]) -> io::Result<()> {
     step()?;
     file.write_all_at(bytes, at)?;
     log(b'w', on, at, bytes);
     Ok(())
+}
+
+/// A span in parts: where each begins, and how long it is.
+pub fn parts(span: Range<u64>) -> impl Iterator<Item = (u64, usize)> {
+    let end = span.end;
+    span.step_by(PART as usize).map(move |at| (at, PART.min(end - at) as usize))
+}
+
+/// Copies `len` bytes from a place in one file to one in another; the answer is their sum.
+pub fn copy(
+    from: (&File, u64),
+    on: On,
+    to: (&File, u64),
+    len: u64,
+    progress: &Progress,
+) -> io::Result<u64> {
+    let mut sum = Sum::new();
+    let mut bytes = vec![0; PART as usize];
+    for (at, len) in parts(0..len) {
+        let part = &mut bytes[..len];
+        from.0.read_exact_at(part, from.1 + at)?;
+        sum.add(part);
+        write_at(on, to.0, to.1 + at, part)?;
+        progress.advance(len as u64);
+    }
+    Ok(sum.value())
 }
 
 pub fn sync(on: On, file: &File) -> io::Result<()> {
@@ -52,11 +88,11 @@ pub fn synced(on: On, work: impl FnOnce() -> io::Result<()>) -> io::Result<()> {
     Ok(())
 }
 
-/// A journal that is not there yet.
-pub fn create(path: &Path) -> io::Result<File> {
+/// A journal or a clip that is not there yet.
+pub fn create(on: On, path: &Path) -> io::Result<File> {
     step()?;
     let file = OpenOptions::new().read(true).write(true).create_new(true).open(path)?;
-    log(b'c', On::Journal, 0, &[]);
+    log(b'c', on, 0, &[]);
     Ok(file)
 }
 
@@ -67,10 +103,10 @@ pub fn rename(from: &Path, to: &Path) -> io::Result<()> {
     Ok(())
 }
 
-/// The journal goes.
-pub fn remove(path: &Path) -> io::Result<()> {
+/// The journal or the clip goes.
+pub fn remove(on: On, path: &Path) -> io::Result<()> {
     fs::remove_file(path)?;
-    log(b'd', On::Journal, 0, &[]);
+    log(b'd', on, 0, &[]);
     Ok(())
 }
 
@@ -146,7 +182,12 @@ fn log(what: u8, on: On, at: u64, bytes: &[u8]) {
     let Some(mut file) = the_log() else {
         return;
     };
-    let mut entry = vec![what, if let On::Image = on { b'i' } else { b'j' }];
+    let on = match on {
+        On::Image => b'i',
+        On::Journal => b'j',
+        On::Clip => b'c',
+    };
+    let mut entry = vec![what, on];
     entry.extend(at.to_le_bytes());
     entry.extend((bytes.len() as u64).to_le_bytes());
     entry.extend(bytes);

@@ -9,9 +9,10 @@ use crate::disk::{self, Watch};
 use crate::failure::{CANNOT_CREATE, Failure, INPUT_OUTPUT, INTERNAL, Outcome};
 use crate::image::{Desk, Image};
 use crate::journal::{self, Journal, Owner, Record};
+use crate::os::{Access, Mapping};
 use crate::out::say;
 use crate::progress::Progress;
-use crate::recover::{finish, given_up, put_right, reason, still_there, stuck};
+use crate::recover::{finish, given_up, put_right, still_there, stuck};
 use crate::text::human;
 use crate::told::report;
 use crate::trial::{Trial, try_out};
@@ -21,8 +22,8 @@ use std::io;
 use std::path::Path;
 
 pub fn edit(args: &Args) -> Outcome<()> {
-    let wish = Wish::read(args)?;
     let path = args.image.as_deref().expect("an edit has an image");
+    let wish = Wish::read(args, path)?;
     let mut image = open(path, args.dry)?;
     let mut desk = Desk::new();
     let before = Disc::read(&image, &mut desk)?;
@@ -32,9 +33,8 @@ pub fn edit(args: &Args) -> Outcome<()> {
     drop(progress);
     let text = report(&wish, &call, &before, &trial);
     let nothing = trial.change.is_nothing();
-    let told = args.json.then(|| {
-        edited::json(args, &before, &trial.after, &text, !args.dry && !nothing).document()
-    });
+    let told =
+        args.json.then(|| edited::json(args, &wish, &call, &before, &trial, &text).document());
     if args.dry {
         if let Some(told) = told {
             return say(told.as_bytes());
@@ -48,7 +48,7 @@ pub fn edit(args: &Args) -> Outcome<()> {
         return say(done("there was nothing to write").as_bytes());
     }
     enough_room(&image, &trial.change)?;
-    carry_out(args, &call, &mut image, &mut desk, trial)?;
+    carry_out(args, &wish, &call, &mut image, &mut desk, trial)?;
     finish(&done("written and synced"))
 }
 
@@ -72,7 +72,7 @@ const SLACK: u64 = 0x1_0000;
 const MORE_SLACK: u64 = 0x10_0000;
 
 /// Holes, blocks that a reflink copy shares, and every block of a copy-on-write disk take new room once
-/// they are written; without room nothing is begun.
+/// they are written, and so does the clip that is kept until then; without room nothing is begun.
 fn enough_room(image: &Image, change: &Change) -> Outcome<()> {
     let (Some(file), Some(left)) = (image.file(), image.file().and_then(room::left)) else {
         return Ok(());
@@ -89,18 +89,21 @@ fn enough_room(image: &Image, change: &Change) -> Outcome<()> {
         needed += if elsewhere { 0 } else { room::holes(file, span) };
     }
     needed += shared;
-    if elsewhere {
+    if elsewhere && change.is_apart() {
         // The copy is written twice, and the first one's room comes back late.
-        needed += change.kept;
+        needed += change.brought;
     }
+    let clip = if change.clip { change.brought.next_multiple_of(BLOCK) } else { 0 };
     let journal = 2 * change.new.len() as u64 + 2 * BLOCK;
     let slack = if shared > 0 { MORE_SLACK } else { SLACK };
-    if !disk::assumes_room() && needed > 0 && needed + needed / 64 + journal + slack > left {
+    // A clip that finds no room is told before the image is written; all else has to be sure.
+    let short = needed > 0 && needed + needed / 64 + clip + journal + slack > left;
+    if !disk::assumes_room() && (short || clip > left) {
         let text = format!(
-            "{}: the disk is full: the edit takes {} of new room (holes, blocks shared with a copy, or a \
-             copy-on-write disk), the disk has {} left; nothing was written",
+            "{}: the disk is full: the edit takes {} of new room (holes, blocks shared with a copy, a \
+             copy-on-write disk, or a clip), the disk has {} left; nothing was written",
             image.name,
-            human(needed),
+            human(needed + clip),
             human(left)
         );
         return Err(Failure::error(INPUT_OUTPUT, text));
@@ -110,9 +113,10 @@ fn enough_room(image: &Image, change: &Change) -> Outcome<()> {
 
 // The writing -----------------------------------------------------------------------------
 
-/// Journal, copy, the proved call, sync. What a cut leaves at any point, recovery finishes.
+/// Clip, journal, copy, the proved call, sync. What a cut leaves at any point, recovery finishes.
 fn carry_out(
     args: &Args,
+    wish: &Wish,
     call: &Call,
     image: &mut Image,
     desk: &mut Desk,
@@ -127,14 +131,10 @@ fn carry_out(
     };
     let (file, path) = (file.try_clone().map_err(failed)?, path.to_path_buf());
     let owner = Owner::new(&file.metadata().map_err(failed)?, image.bytes());
-    let copy = trial.change.copy_span();
-    let hole = trial.change.kept > 0 && room::holes(&file, copy) == trial.change.kept;
-    let record = Record { owner, change: trial.change, hole };
-    let mut journal = Journal::start(&path, record).map_err(|e| no_journal(&path, &e))?;
+    let mut journal = begin(wish, &file, &path, owner, trial.change, &progress)?;
     signals::rescue(&path, args.json);
-    if journal.record.change.kept > 0 {
-        redo::copy(&file, &journal.record.change, &progress)
-            .and_then(|sum| journal.mark_copied(sum))
+    if journal.record.change.is_apart() {
+        redo::bring(&file, &mut journal, &progress)
             .map_err(|e| stuck(&file, &path, &journal, &e))?;
     }
     write(call, image, desk, &journal, trial.found).inspect_err(|_| {
@@ -142,20 +142,33 @@ fn carry_out(
     })?;
     image
         .sync()
-        .or_else(|failed| once_more(&file, &journal.record.change, &failed))
+        .or_else(|failed| redo::once_more(&file, &mut journal, &failed, &progress))
         .map_err(|e| stuck(&file, &path, &journal, &e))?;
     journal.remove().map_err(|e| still_there(&journal, &e))
 }
 
-/// After a failed sync: the same without the mapping. A full disk has kept the copy.
-fn once_more(file: &File, change: &Change, failed: &io::Error) -> io::Result<()> {
-    if !disk::is_full(failed) {
-        redo::refresh(file, change)?;
-    }
-    redo::finish(file, change)
+/// Writes the clip, if there is one, and the journal. On an error there is neither.
+fn begin(
+    wish: &Wish,
+    file: &File,
+    path: &Path,
+    owner: Owner,
+    change: Change,
+    progress: &Progress,
+) -> Outcome<Journal> {
+    let hole = change.is_apart() && room::holes(file, change.copy_span()) == change.brought;
+    let (clip, clip_sum) = match wish {
+        Wish::Fill(_, clip) if change.clip => {
+            clip.keep(path, progress).map(|(file, sum)| (Some(file), sum))?
+        }
+        _ => (None, 0),
+    };
+    let record = Record { owner, change, hole, clip_sum };
+    Journal::start(path, record, clip).map_err(|e| no_journal(path, &e))
 }
 
-/// The proved call on the image itself. It was tried, so it is not refused now.
+/// The proved call on the image itself. It was tried, so it is not refused now. The clip is the one that
+/// is kept: whatever becomes of the other, the image holds what the journal's sum is of.
 fn write(
     call: &Call,
     image: &mut Image,
@@ -163,8 +176,14 @@ fn write(
     journal: &Journal,
     found: Option<u32>,
 ) -> Outcome<()> {
-    let watch = Watch::new(image.bytes(), &journal.record.change.spans());
-    let got = call.run(image.bytes_mut(), desk.lend());
+    let change = &journal.record.change;
+    let clip = match &journal.clip {
+        Some(file) => Mapping::new(file, change.brought as usize, Access::Read),
+        None => Mapping::zeros(0),
+    };
+    let clip = clip.map_err(|e| Failure::file(INPUT_OUTPUT, Path::new(&image.name), &e))?;
+    let watch = Watch::new(image.bytes(), &change.spans());
+    let got = call.with_clip(clip.bytes()).run(image.bytes_mut(), desk.lend());
     watch.done(image.bytes());
     match got == Ok(found) {
         true => Ok(()),
@@ -180,7 +199,7 @@ fn no_journal(path: &Path, why: &io::Error) -> Failure {
     let text = format!(
         "{}: the journal of the edit cannot be written: {}; nothing was written",
         journal::beside(path).display(),
-        reason(why)
+        disk::reason(why)
     );
     Failure::error(status, text)
 }

@@ -1,12 +1,48 @@
 //! What an edit did, as JSON.
 
 use crate::args::Args;
+use crate::call::{Call, Wish};
 use crate::disc::{Disc, Kind, Node};
 use crate::json::{Json, latin};
+use crate::trial::Trial;
 use std::collections::{HashMap, HashSet};
 
-/// `text` is what people are told; its notes are in the JSON too.
-pub fn json(args: &Args, before: &Disc, after: &Disc, text: &str, written: bool) -> Json {
+/// `trial` is the edit as it was tried; `text` is what people are told, and its notes are in the JSON too.
+pub fn json(
+    args: &Args,
+    wish: &Wish,
+    call: &Call,
+    before: &Disc,
+    trial: &Trial,
+    text: &str,
+) -> Json {
+    let (after, nothing) = (&trial.after, trial.change.is_nothing());
+    // A fill writes other bytes where the place may be the same.
+    let filled = call.file().filter(|_| trial.change.clip);
+    let notes = text.lines().filter_map(|line| line.strip_prefix("note: "));
+    let table = Json::Object(vec![
+        ("before", before.opened.fst_size.into()),
+        ("after", after.opened.fst_size.into()),
+    ]);
+    let mut fields = vec![
+        ("status", 0u32.into()),
+        ("edit", args.form.name.into()),
+        ("path", args.optional(0).map_or(Json::Null, |path| latin(&path))),
+        ("dry_run", args.dry.into()),
+        ("written", (!args.dry && !nothing).into()),
+        ("table", table),
+        ("entries", Json::List(entries(before, after, filled))),
+        ("notes", Json::List(notes.map(Json::from).collect())),
+    ];
+    if let Wish::Fill(_, clip) = wish {
+        let clip = vec![("name", clip.name.as_str().into()), ("size", clip.len.into())];
+        fields.push(("clip", Json::Object(clip)));
+    }
+    Json::Object(fields)
+}
+
+/// Those that are new, lie elsewhere or have another size, and the one that was filled.
+fn entries(before: &Disc, after: &Disc, filled: Option<u32>) -> Vec<Json> {
     let mut known: HashMap<&str, &Node> = HashMap::new();
     for node in &before.nodes {
         known.entry(&node.path).or_insert(node);
@@ -17,25 +53,11 @@ pub fn json(args: &Args, before: &Disc, after: &Disc, text: &str, written: bool)
         let was = known.get(node.path.as_str()).copied();
         // A path means the first entry that has it.
         let differs = was.is_none_or(|was| place(was) != place(node));
-        if seen.insert(&node.path) && differs {
+        if seen.insert(&node.path) && (differs || filled == Some(node.number)) {
             entries.push(entry(was, node));
         }
     }
-    let notes = text.lines().filter_map(|line| line.strip_prefix("note: "));
-    let table = Json::Object(vec![
-        ("before", before.opened.fst_size.into()),
-        ("after", after.opened.fst_size.into()),
-    ]);
-    Json::Object(vec![
-        ("status", 0u32.into()),
-        ("edit", args.form.name.into()),
-        ("path", args.optional(0).map_or(Json::Null, |path| latin(&path))),
-        ("dry_run", args.dry.into()),
-        ("written", written.into()),
-        ("table", table),
-        ("entries", Json::List(entries)),
-        ("notes", Json::List(notes.map(Json::from).collect())),
-    ])
+    entries
 }
 
 fn place(node: &Node) -> Option<(u32, u32)> {

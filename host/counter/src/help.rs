@@ -170,6 +170,7 @@ const FIELDS: &[(&str, &str)] = &[
     ("add", EDITED),
     ("move", EDITED),
     ("resize", EDITED),
+    ("fill", EDITED),
     ("rewrite", EDITED),
     ("recover", "status edit finished written; finished: the edit that was cut, or null"),
 ];
@@ -198,6 +199,11 @@ fn json(forms: &[Form]) -> String {
     if forms.iter().any(|form| ["info", "tree", "free"].contains(&form.name)) {
         out.push_str("  program: null where the image names none\n");
     }
+    if forms.iter().any(|form| form.name == "fill") {
+        out.push_str(
+            "  clip{name size}: of a fill; entries has the file that was filled in any case\n",
+        );
+    }
     out.push_str("  A refusal: status refused cause about detail. Another error: status error.\n");
     out
 }
@@ -215,10 +221,16 @@ Safety
     power cut, SIGKILL, a disk that fails or is full) is finished from it: `counter recover IMAGE`
     does it, and so does the next edit before it begins. Then the image is what the edit makes of
     it, every byte. Where a cut leaves no journal, the image is as it was, or the edit is done.
+  - A fill keeps its clip beside the image too, IMAGE.counter-clip: it is on the disk before the
+    journal is, goes after it, and takes the clip's room once more. A fill that is cut can leave the
+    file part old and part clip; no other file's bytes are written. Once it is finished, from the
+    clip that was kept, the file is exactly the clip. If that one is gone or spoiled and the file is
+    not whole yet, nothing is written, and what to do is told. One that a cut leaves without a
+    journal is of no use, and the next edit takes it away.
   - While there is a journal, commands that only read refuse (78), unless they are told --as-is.
   - A journal that is torn, or of another image, or of one that was changed since, is never applied;
     what to do is told. If you bring an image back from a copy, take its journal away; if you rename
-    the image, rename the journal with it.
+    the image, rename the journal with it, and the clip that is kept.
   - Every signal that comes during an edit (Ctrl-C, a hang-up, a kill and all others but SIGKILL)
     waits until it is done and synced; the program then says so and ends by the signal.
   - A program (main.dol) that lies behind the table is used like a file, and no edit writes there.
@@ -243,9 +255,9 @@ fn statuses() -> String {
         "  64  wrong usage\n\
          \x20 65  compare, report: an image too short for a header, a LIST or a manifest that is wrong;\n\
          \x20     a command that shows every path: more than 64 MiB of them\n\
-         \x20 66  no such image, or a folder or special file in its place\n\
+         \x20 66  no such image or clip, or a folder in its place, or a special file in the image's\n\
          \x20 70  the library answered what it never should\n\
-         \x20 73  an output or a journal cannot be created, or is there already\n\
+         \x20 73  an output, a journal or a clip that is kept cannot be created, or is there already\n\
          \x20 74  input/output error; the disk is full\n\
          \x20 75  another program is using the image\n\
          \x20 77  not allowed: a read-only file or disk, or no permission\n\

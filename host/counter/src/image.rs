@@ -9,7 +9,7 @@ use counter_sys::Memory;
 use std::fs::{self, File, Metadata, OpenOptions, TryLockError};
 use std::io;
 use std::ops::Range;
-use std::os::unix::fs::{OpenOptionsExt, PermissionsExt};
+use std::os::unix::fs::{MetadataExt, OpenOptionsExt, PermissionsExt};
 use std::path::{Path, PathBuf};
 use std::sync::atomic::{AtomicBool, Ordering};
 
@@ -154,7 +154,8 @@ fn open(path: &Path, access: Access) -> Outcome<File> {
         .map_err(|e| cannot_open(path, &e))
 }
 
-fn cannot_open(path: &Path, error: &io::Error) -> Failure {
+/// Why a file that is to be read or edited cannot be had.
+pub fn cannot_open(path: &Path, error: &io::Error) -> Failure {
     if error.raw_os_error() == Some(os::EROFS) {
         let text = format!("{}: the file is on a read-only disk", path.display());
         return Failure::error(NOT_ALLOWED, text);
@@ -167,13 +168,19 @@ fn cannot_open(path: &Path, error: &io::Error) -> Failure {
     Failure::file(status, path, error)
 }
 
-fn regular(path: &Path, told: io::Result<Metadata>) -> Outcome<Metadata> {
+/// What is told of the file at `path`, which has to be one that can be an image.
+pub fn regular(path: &Path, told: io::Result<Metadata>) -> Outcome<Metadata> {
     let told = told.map_err(|e| cannot_open(path, &e))?;
     if told.is_file() {
         return Ok(told);
     }
     let kind = if told.is_dir() { "a folder" } else { "a special file" };
     Err(Failure::error(NO_INPUT, format!("{}: {kind}, not an image", path.display())))
+}
+
+/// Whether two names lead to one file.
+pub fn same_file(a: &Metadata, b: &Metadata) -> bool {
+    (a.dev(), a.ino()) == (b.dev(), b.ino())
 }
 
 static WAIT: AtomicBool = AtomicBool::new(false);

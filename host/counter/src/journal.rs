@@ -1,9 +1,10 @@
 //! The journal of an edit: a file beside the image, there from before the first byte is written until
 //! the last is on the disk. It holds what the edit writes, so that an edit that was cut can be
-//! finished.
+//! finished. The clip of a fill is too long for it, and is a file of its own.
 //!
 //! It is written under another name, synced and then renamed, so a cut never leaves a torn one under
-//! its own name.
+//! its own name. The clip is on the disk before that, and goes after it: without a journal it is of no
+//! use.
 
 use crate::change::{Change, HEADER};
 use crate::disk::{self, On};
@@ -15,7 +16,8 @@ use std::os::unix::fs::MetadataExt;
 use std::path::{Path, PathBuf};
 
 const MAGIC: &[u8; 16] = b"counter journal\n";
-const VERSION: u64 = 1;
+/// The first had no clips.
+const VERSION: u64 = 2;
 const COPIED: &[u8; 8] = b"copied!\n";
 
 /// No journal is longer: two tables of the largest size, a header, and a few numbers.
@@ -44,9 +46,12 @@ pub struct Record {
     pub change: Change,
     /// Whether the file's new place was one hole, so that it can be made one again.
     pub hole: bool,
+    /// The sum of the clip; 0 without one.
+    pub clip_sum: u64,
 }
 
 pub struct Journal {
+    image: PathBuf,
     path: PathBuf,
     file: File,
     /// Where the first record ends.
@@ -56,11 +61,18 @@ pub struct Journal {
     pub copied: Option<u64>,
     /// Whether they were found spoiled there, and are to be copied again.
     pub spoiled: bool,
+    /// The clip of a fill, if it is there.
+    pub clip: Option<File>,
 }
 
 /// The name of the journal of the image at `path`, which is no link.
 pub fn beside(path: &Path) -> PathBuf {
     with(path, ".counter-journal")
+}
+
+/// The name of the clip of a fill, which is kept until the edit is done.
+pub fn clip_beside(path: &Path) -> PathBuf {
+    with(path, ".counter-clip")
 }
 
 fn with(path: &Path, end: &str) -> PathBuf {
@@ -96,18 +108,28 @@ fn read(path: &Path) -> io::Result<Option<Result<Vec<u8>, &'static str>>> {
     }))
 }
 
+/// The clip beside the image, if it is a file that can be read.
+fn clip_of(image: &Path) -> Option<File> {
+    let path = clip_beside(image);
+    let is_file = fs::symlink_metadata(&path).is_ok_and(|told| told.is_file());
+    is_file.then(|| File::open(path).ok()).flatten()
+}
+
 impl Journal {
-    /// Writes the journal of an edit that is about to begin. On an error there is none.
-    pub fn start(image: &Path, record: Record) -> io::Result<Journal> {
+    /// Writes the journal of an edit that is about to begin; its clip is there. On an error there is
+    /// neither.
+    pub fn start(image: &Path, record: Record, clip: Option<File>) -> io::Result<Journal> {
         let path = beside(image);
         let early = with(&path, ".new");
         let begun = begin(&early, &path, &encode(&record));
         if begun.is_err() {
             let _ = fs::remove_file(&early);
             let _ = fs::remove_file(&path);
+            let _ = fs::remove_file(clip_beside(image));
         }
         let (file, end) = begun?;
-        Ok(Journal { path, file, end, record, copied: None, spoiled: false })
+        let image = image.to_path_buf();
+        Ok(Journal { image, path, file, end, record, copied: None, spoiled: false, clip })
     }
 
     /// The journal beside the image: None, a whole one, or what is wrong with it. For whoever has the
@@ -119,14 +141,19 @@ impl Journal {
         let bytes = match read(&path)? {
             Some(Ok(bytes)) => bytes,
             Some(Err(why)) => return Ok(Some(Err(why))),
-            None => return Ok(None),
+            None => {
+                let _ = fs::remove_file(clip_beside(image));
+                return Ok(None);
+            }
         };
         let Some((record, end)) = decode(&bytes) else {
-            return Ok(Some(Err("it is torn, or no journal")));
+            return Ok(Some(Err(unfit(&bytes))));
         };
         let file = File::options().read(true).write(true).open(&path)?;
         let copied = decode_copied(&bytes, end);
-        Ok(Some(Ok(Journal { path, file, end: end as u64, record, copied, spoiled: false })))
+        let clip = if record.change.clip { clip_of(image) } else { None };
+        let (image, end) = (image.to_path_buf(), end as u64);
+        Ok(Some(Ok(Journal { image, path, file, end, record, copied, spoiled: false, clip })))
     }
 
     /// Notes that the file's bytes are on the disk at the new place.
@@ -141,8 +168,14 @@ impl Journal {
     }
 
     pub fn remove(&self) -> io::Result<()> {
-        disk::remove(&self.path)?;
-        disk::sync_folder(&self.path)
+        disk::remove(On::Journal, &self.path)?;
+        disk::sync_folder(&self.path)?;
+        if self.record.change.clip {
+            let clip = clip_beside(&self.image);
+            // If it stays, the next edit takes it away.
+            let _ = disk::remove(On::Clip, &clip).and_then(|()| disk::sync_folder(&clip));
+        }
+        Ok(())
     }
 
     pub fn path(&self) -> &Path {
@@ -151,7 +184,7 @@ impl Journal {
 }
 
 fn begin(early: &Path, path: &Path, bytes: &[u8]) -> io::Result<(File, u64)> {
-    let file = disk::create(early)?;
+    let file = disk::create(On::Journal, early)?;
     disk::write_at(On::Journal, &file, 0, bytes)?;
     disk::sync(On::Journal, &file)?;
     disk::rename(early, path)?;
@@ -162,7 +195,7 @@ fn begin(early: &Path, path: &Path, bytes: &[u8]) -> io::Result<(File, u64)> {
 // Its form --------------------------------------------------------------------------------
 
 fn encode(record: &Record) -> Vec<u8> {
-    let Record { owner, change, hole } = record;
+    let Record { owner, change, hole, clip_sum } = record;
     let mut out = MAGIC.to_vec();
     let numbers = [
         VERSION,
@@ -174,9 +207,11 @@ fn encode(record: &Record) -> Vec<u8> {
         change.new_size.into(),
         change.from,
         change.to,
-        change.kept,
+        change.brought,
         change.lost.start,
         change.lost.end,
+        change.clip.into(),
+        *clip_sum,
     ];
     out.extend(numbers.iter().flat_map(|number| number.to_le_bytes()));
     for part in [&owner.header, change.words.as_bytes(), &change.old, &change.new] {
@@ -210,16 +245,30 @@ impl<'a> Reader<'a> {
     }
 }
 
+/// What is wrong with bytes that are not decoded.
+fn unfit(bytes: &[u8]) -> &'static str {
+    let mut reader = Reader { bytes, at: 0 };
+    let begins = reader.take(16).is_some_and(|magic| magic == MAGIC);
+    match reader.number() {
+        Some(version) if begins && !(1..=VERSION).contains(&version) => {
+            "it is torn, or of a later version of counter"
+        }
+        _ => "it is torn, or no journal",
+    }
+}
+
 /// The record, and where it ends; None for anything that is not one, whole and sound.
 fn decode(bytes: &[u8]) -> Option<(Record, usize)> {
     let mut reader = Reader { bytes, at: 0 };
-    if reader.take(16)? != MAGIC || reader.number()? != VERSION {
+    if reader.take(16)? != MAGIC {
         return None;
     }
+    let version = reader.number().filter(|version| (1..=VERSION).contains(version))?;
     let mut number = || reader.number();
     let (inode, len, hole) = (number()?, number()?, number()? != 0);
     let (table, old_size, new_size) = (number()?, number()?, number()?);
-    let (from, to, kept, lost) = (number()?, number()?, number()?, number()?..number()?);
+    let (from, to, brought, lost) = (number()?, number()?, number()?, number()?..number()?);
+    let (clip, clip_sum) = if version == 1 { (false, 0) } else { (number()? != 0, number()?) };
     let header = reader.part()?.to_vec();
     let words = String::from_utf8(reader.part()?.to_vec()).ok()?;
     let (old, new) = (reader.part()?.to_vec(), reader.part()?.to_vec());
@@ -228,9 +277,10 @@ fn decode(bytes: &[u8]) -> Option<(Record, usize)> {
         return None;
     }
     let (old_size, new_size) = (old_size.try_into().ok()?, new_size.try_into().ok()?);
-    let change = Change { words, table, old, new, old_size, new_size, from, to, kept, lost };
+    let change =
+        Change { words, table, old, new, old_size, new_size, from, to, brought, clip, lost };
     let owner = Owner { inode, len, header };
-    let record = Record { owner, change, hole };
+    let record = Record { owner, change, hole, clip_sum };
     is_sound(&record).then_some((record, reader.at))
 }
 
@@ -238,7 +288,7 @@ fn decode(bytes: &[u8]) -> Option<(Record, usize)> {
 fn is_sound(record: &Record) -> bool {
     let Record { owner, change, .. } = record;
     let below = |span: Range<u64>| span.end < 1 << 33;
-    let numbers = [change.table, change.from, change.to, change.kept];
+    let numbers = [change.table, change.from, change.to, change.brought];
     owner.header.len() as u64 == HEADER
         && numbers.iter().all(|number| *number < 1 << 32)
         && below(change.lost.clone())

@@ -9,6 +9,7 @@ mod out;
 mod args;
 mod call;
 mod change;
+mod clip;
 mod compare;
 mod disc;
 mod disk;

@@ -19,6 +19,7 @@ const PROT_READ: i32 = 1;
 const PROT_WRITE: i32 = 2;
 const MAP_SHARED: i32 = 1;
 const MAP_PRIVATE: i32 = 2;
+const MAP_ANONYMOUS: i32 = 0x20;
 const MAP_NORESERVE: i32 = 0x4000;
 const MS_SYNC: i32 = 4;
 const MAP_FIXED: i32 = 0x10;
@@ -60,15 +61,25 @@ pub struct Mapping {
 
 impl Mapping {
     pub fn new(file: &File, len: usize, access: Access) -> io::Result<Mapping> {
-        if len == 0 {
-            return Ok(Mapping { start: ptr::null_mut(), len, access, relief: None });
-        }
         let (prot, flags) = match access {
             Access::Read => (PROT_READ, MAP_SHARED),
             Access::Private => (PROT_READ | PROT_WRITE, MAP_PRIVATE | MAP_NORESERVE),
             Access::Shared => (PROT_READ | PROT_WRITE, MAP_SHARED),
         };
-        let start = unsafe { mmap(ptr::null_mut(), len, prot, flags, file.as_raw_fd(), 0) };
+        Mapping::of(file.as_raw_fd(), len, access, prot, flags)
+    }
+
+    /// Zeros to be read, which take no memory.
+    pub fn zeros(len: usize) -> io::Result<Mapping> {
+        let flags = MAP_PRIVATE | MAP_ANONYMOUS | MAP_NORESERVE;
+        Mapping::of(-1, len, Access::Read, PROT_READ, flags)
+    }
+
+    fn of(fd: i32, len: usize, access: Access, prot: i32, flags: i32) -> io::Result<Mapping> {
+        if len == 0 {
+            return Ok(Mapping { start: ptr::null_mut(), len, access, relief: None });
+        }
+        let start = unsafe { mmap(ptr::null_mut(), len, prot, flags, fd, 0) };
         if start as isize == -1 {
             return Err(io::Error::last_os_error());
         }
@@ -119,7 +130,8 @@ impl Mapping {
             return Ok(());
         }
         // Without it the copy takes its memory.
-        let Some(memory) = memory() else {
+        let Ok(memory) = memory().and_then(|file| file.set_len(STAND_IN as u64).map(|()| file))
+        else {
             return Ok(());
         };
         let mut taken = Vec::new();
@@ -145,15 +157,12 @@ impl Mapping {
     }
 }
 
-/// A file in memory, as long as what stands in.
-fn memory() -> Option<File> {
-    let fd = unsafe { memfd_create(c"counter".as_ptr(), MFD_CLOEXEC) };
-    if fd < 0 {
-        return None;
+/// An empty file in memory.
+pub fn memory() -> io::Result<File> {
+    match unsafe { memfd_create(c"counter".as_ptr(), MFD_CLOEXEC) } {
+        fd if fd < 0 => Err(io::Error::last_os_error()),
+        fd => Ok(unsafe { File::from_raw_fd(fd) }),
     }
-    let memory = unsafe { File::from_raw_fd(fd) };
-    memory.set_len(STAND_IN as u64).ok()?;
-    Some(memory)
 }
 
 /// While pages that stand in are used, lets go of those that were: they are the same few, but the

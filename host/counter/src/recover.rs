@@ -1,7 +1,7 @@
 //! An edit that was cut is finished: by `recover`, and before the next edit.
 
 use crate::args::Args;
-use crate::disk;
+use crate::disk::{self, reason};
 use crate::failure::{CUT, Failure, INPUT_OUTPUT, Outcome, UNSAID};
 use crate::image::{Desk, Image};
 use crate::journal::{self, Journal};
@@ -70,8 +70,7 @@ pub fn put_right(image: &Image, anyway: bool) -> Outcome<Option<String>> {
     };
     may_be_applied(file, path, &mut journal, anyway)?;
     signals::begin_writing();
-    let kept = journal.record.change.kept;
-    let progress = Progress::start("recovering", kept);
+    let progress = Progress::start("recovering", journal.record.change.brought);
     let words = journal.record.change.words.clone();
     redo::redo(file, &mut journal, &progress).map_err(|why| stuck(file, path, &journal, &why))?;
     if let Err(number) = counter::open(image.bytes(), &mut Desk::new().lend()) {
@@ -89,9 +88,12 @@ fn may_be_applied(file: &File, path: &Path, journal: &mut Journal, anyway: bool)
         Owned::ByAnother if !anyway => return Err(doubtful(path)),
         _ => {}
     }
-    match redo::misfit(file, journal).map_err(unread)? {
-        None => Ok(()),
-        Some(why) => Err(changed(path, journal, why)),
+    if let Some(why) = redo::misfit(file, journal).map_err(unread)? {
+        return Err(changed(path, journal, why));
+    }
+    match redo::has_clip(file, journal).map_err(unread)? {
+        true => Ok(()),
+        false => Err(clip_lost(path, journal)),
     }
 }
 
@@ -151,11 +153,31 @@ fn changed(path: &Path, journal: &Journal, why: &str) -> Failure {
     ))
 }
 
+fn clip_lost(path: &Path, journal: &Journal) -> Failure {
+    let back = match only_free_space(journal) {
+        true => "or give it up, since nothing but free space was written so far:",
+        false => "or go back to your copy of the image, and",
+    };
+    cut(format!(
+        "{0}: an edit was cut ({1}), and its clip is not whole any more: {2} is missing, cannot be read or \
+         holds other bytes. Nothing was touched. Copy the same clip to that name, then `counter recover \
+         {0}` finishes the edit; {back} take {3} away",
+        path.display(),
+        journal.record.change.words,
+        journal::clip_beside(path).display(),
+        journal.path().display()
+    ))
+}
+
+fn only_free_space(journal: &Journal) -> bool {
+    journal.record.change.is_apart() && journal.copied.is_none()
+}
+
 /// The disk does not let the edit be finished. Where only free space was written so far, the edit is
 /// given up instead, and the image is as it was.
 pub fn stuck(file: &File, path: &Path, journal: &Journal, why: &io::Error) -> Failure {
     let change = &journal.record.change;
-    if change.kept > 0 && journal.copied.is_none() && given_up(file, journal) {
+    if only_free_space(journal) && given_up(file, journal) {
         let mut text = format!(
             "{}: {}: nothing was written to the header, the table and the files: they are as they were",
             path.display(),
@@ -165,7 +187,7 @@ pub fn stuck(file: &File, path: &Path, journal: &Journal, why: &io::Error) -> Fa
             text.push_str(&format!(
                 "; free space from {:#x} on, {} at most, may hold a part of a copy",
                 change.to,
-                human(change.kept)
+                human(change.brought)
             ));
         }
         return Failure::error(INPUT_OUTPUT, text);
@@ -187,10 +209,6 @@ pub fn still_there(journal: &Journal, why: &io::Error) -> Failure {
         journal.path().display(),
         reason(why)
     ))
-}
-
-pub fn reason(why: &io::Error) -> String {
-    if disk::is_full(why) { "the disk is full".into() } else { why.to_string() }
 }
 
 /// Takes an edit back that only wrote to free space.

@@ -2,8 +2,8 @@
 //! in the image, so it can be cut and done again as often as need be.
 
 use crate::change::{Change, FST_SIZE};
-use crate::disk::{self, On};
-use crate::journal::Journal;
+use crate::disk::{self, On, PART, parts};
+use crate::journal::{Journal, Record};
 use crate::progress::Progress;
 use crate::sum::Sum;
 use std::fs::File;
@@ -11,28 +11,23 @@ use std::io;
 use std::ops::Range;
 use std::os::unix::fs::{FileExt, MetadataExt};
 
-/// Bytes that are read or written at once: a multiple of 8, as the sum wants it.
-const PART: u64 = 1 << 20;
-
-fn parts(span: Range<u64>) -> impl Iterator<Item = (u64, usize)> {
-    let end = span.end;
-    span.step_by(PART as usize).map(move |at| (at, PART.min(end - at) as usize))
-}
-
-/// Copies the file's bytes to the new place, which is free, and waits until they are on the disk. The
-/// answer is their sum.
-pub fn copy(file: &File, change: &Change, progress: &Progress) -> io::Result<u64> {
-    let mut sum = Sum::new();
-    let mut bytes = vec![0; PART as usize];
-    for (at, len) in parts(change.source_span()) {
-        let part = &mut bytes[..len];
-        file.read_exact_at(part, at)?;
-        sum.add(part);
-        disk::write_at(On::Image, file, change.to + (at - change.from), part)?;
-        progress.advance(len as u64);
-    }
+/// Brings the file's bytes or the clip's to their place, and waits until they are on the disk. For a place
+/// that was free, that is marked in the journal. A clip that is gone lies there already.
+pub fn bring(file: &File, journal: &mut Journal, progress: &Progress) -> io::Result<()> {
+    let change = &journal.record.change;
+    let source = match change.clip {
+        true => journal.clip.as_ref().map(|clip| (clip, 0)),
+        false => Some((file, change.from)),
+    };
+    let sum = match source {
+        Some(from) => disk::copy(from, On::Image, (file, change.to), change.brought, progress)?,
+        None => journal.record.clip_sum,
+    };
     disk::sync(On::Image, file)?;
-    Ok(sum.value())
+    match change.is_apart() && journal.copied != Some(sum) {
+        true => journal.mark_copied(sum),
+        false => Ok(()),
+    }
 }
 
 /// Writes the table, its size and the zeros, and waits until they are on the disk.
@@ -53,9 +48,25 @@ pub fn finish(file: &File, change: &Change) -> io::Result<()> {
     disk::sync(On::Image, file)
 }
 
+/// After a failed sync: the same once more, without the mapping. A full disk has kept what is marked.
+pub fn once_more(
+    file: &File,
+    journal: &mut Journal,
+    failed: &io::Error,
+    progress: &Progress,
+) -> io::Result<()> {
+    let change = &journal.record.change;
+    match journal.copied.is_some() && disk::is_full(failed) {
+        true => {}
+        false if change.clip => bring(file, journal, progress)?,
+        false => refresh(file, change)?,
+    }
+    finish(file, &journal.record.change)
+}
+
 /// Writes the bytes at the new place once more, over themselves: after a failed sync the system may take
 /// for written what is not.
-pub fn refresh(file: &File, change: &Change) -> io::Result<()> {
+fn refresh(file: &File, change: &Change) -> io::Result<()> {
     let mut bytes = vec![0; PART as usize];
     for (at, len) in parts(change.copy_span()) {
         file.read_exact_at(&mut bytes[..len], at)?;
@@ -64,11 +75,12 @@ pub fn refresh(file: &File, change: &Change) -> io::Result<()> {
     Ok(())
 }
 
-/// Does all of it again that may be missing.
+/// Does all of it again that may be missing. The clip is brought in any case: where it was halfway, nothing
+/// says so.
 pub fn redo(file: &File, journal: &mut Journal, progress: &Progress) -> io::Result<()> {
-    if journal.record.change.kept > 0 && (journal.copied.is_none() || journal.spoiled) {
-        let sum = copy(file, &journal.record.change, progress)?;
-        journal.mark_copied(sum)?;
+    let change = &journal.record.change;
+    if change.clip || change.is_apart() && (journal.copied.is_none() || journal.spoiled) {
+        bring(file, journal, progress)?;
     }
     finish(file, &journal.record.change)
 }
@@ -112,12 +124,15 @@ pub fn misfit(file: &File, journal: &mut Journal) -> io::Result<Option<&'static 
         return Ok(Some("its table is neither the old nor the new one"));
     }
     let untouched = table == change.old && word == old;
-    if change.kept == 0 {
+    if !change.is_apart() {
         return Ok(None);
     }
     let Some(sum) = journal.copied else {
         return Ok((!untouched).then_some("its table is not the old one"));
     };
+    if change.clip {
+        return Ok(None);
+    }
     if sum_of(file, change.copy_span())? == sum {
         return Ok(
             (!copied_or_zero(file, change)?).then_some("the file's old place holds something else")
@@ -128,6 +143,25 @@ pub fn misfit(file: &File, journal: &mut Journal) -> io::Result<Option<&'static 
     }
     journal.spoiled = true;
     Ok(None)
+}
+
+/// Whether the clip of a fill is whole beside the image, or else in its place in it: the journal then
+/// knows of none, and the edit is finished without it. While it is written, its place holds any mix of
+/// what was there and the clip, which tells nothing of the image.
+pub fn has_clip(file: &File, journal: &mut Journal) -> io::Result<bool> {
+    let Record { change, clip_sum, .. } = &journal.record;
+    if !change.clip {
+        return Ok(true);
+    }
+    let whole = |clip: &File| {
+        clip.metadata().is_ok_and(|told| told.len() == change.brought)
+            && sum_of(clip, 0..change.brought).is_ok_and(|sum| sum == *clip_sum)
+    };
+    if journal.clip.as_ref().is_some_and(whole) {
+        return Ok(true);
+    }
+    journal.clip = None;
+    Ok(sum_of(file, change.copy_span())? == *clip_sum)
 }
 
 /// Whether each byte is one of the old bytes or of the new ones.

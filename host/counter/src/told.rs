@@ -17,8 +17,8 @@ pub fn report(wish: &Wish, call: &Call, before: &Disc, trial: &Trial) -> String 
             let number = found.unwrap_or(0);
             let _ = writeln!(out, "added {} as entry {number}", after.nodes[number as usize].path);
         }
-        Call::Move(at, _) | Call::Resize(at, _) => {
-            placed(&mut out, wish, &before.nodes[at as usize], &after.nodes[at as usize]);
+        Call::Move(at, _) | Call::Resize(at, _) | Call::Fill(at, _) => {
+            placed(&mut out, wish, &before.nodes[at as usize], &after.nodes[at as usize], nothing);
         }
         Call::Rewrite if nothing => out.push_str("the table is as a rewrite leaves it\n"),
         Call::Rewrite => out.push_str("the table was written anew\n"),
@@ -58,27 +58,31 @@ fn made(out: &mut String, before: &Disc, after: &Disc, nothing: bool) {
     }
 }
 
-fn placed(out: &mut String, wish: &Wish, before: &Node, after: &Node) {
+fn placed(out: &mut String, wish: &Wish, before: &Node, after: &Node, nothing: bool) {
     let (Kind::File { offset, size }, Kind::File { offset: to, size: now }) =
         (before.kind, after.kind)
     else {
         return;
     };
     let path = &after.path;
-    if let Wish::Resize(..) = wish {
-        let (old, new) = (grouped(size.into()), grouped(now.into()));
-        let _ = match size == now {
-            true => writeln!(out, "{path} has {new} bytes already"),
-            false => writeln!(out, "resized {path}: {old} -> {new} bytes"),
-        };
-    }
+    let (old, new) = (grouped(size.into()), grouped(now.into()));
+    let _ = match wish {
+        Wish::Resize(..) if size == now => writeln!(out, "{path} has {new} bytes already"),
+        Wish::Resize(..) => writeln!(out, "resized {path}: {old} -> {new} bytes"),
+        Wish::Fill(_, clip) if nothing => {
+            writeln!(out, "{path} holds {} already, byte for byte: {new} bytes", clip.name)
+        }
+        Wish::Fill(_, clip) => {
+            writeln!(out, "filled {path} with {}, byte for byte: {old} -> {new} bytes", clip.name)
+        }
+        _ => Ok(()),
+    };
     if offset != to {
-        let _ =
-            writeln!(out, "moved {path}: {offset:#x} -> {to:#x}, {} bytes", grouped(now.into()));
-    } else if let Wish::Move(..) | Wish::MoveAway(_) = wish {
+        let _ = writeln!(out, "moved {path}: {offset:#x} -> {to:#x}, {new} bytes");
+    } else if !matches!(wish, Wish::Resize(..)) {
         let _ = writeln!(out, "{path} stays at {to:#x}");
     }
-    if now > size {
+    if now > size && matches!(wish, Wish::Resize(..)) {
         let from = u64::from(to) + u64::from(size);
         let _ = writeln!(out, "its new bytes, from {from:#x} on, are what the free space held");
     }

@@ -3,6 +3,7 @@
 
 use crate::call::{Call, Wish, refused};
 use crate::change::Change;
+use crate::clip::Clip;
 use crate::disc::{CLUSTER, Disc, Kind, table_end};
 use crate::failure::{Failure, INTERNAL, Outcome};
 use crate::image::{Desk, Image};
@@ -38,12 +39,16 @@ pub fn try_out(
         new_size,
         from: 0,
         to: 0,
-        kept: 0,
+        brought: 0,
+        clip: false,
         lost: 0..0,
     };
-    if let Call::Move(at, _) | Call::Resize(at, _) = *call {
+    if let Some(at) = call.file() {
         let at = at as usize;
         place_file(&mut change, before.nodes[at].kind, after.nodes[at].kind);
+    }
+    if let Wish::Fill(_, clip) = wish {
+        bring_clip(&mut change, clip, image)?;
     }
     if !change.is_sound(image.bytes().len() as u64) {
         let text = format!("{}: libcounter would write where no edit writes", image.name);
@@ -59,33 +64,51 @@ fn place_file(change: &mut Change, before: Kind, after: Kind) {
         return;
     };
     let (from, size, now) = (u64::from(offset), u64::from(size), u64::from(now));
-    let to = u64::from(to);
-    if from != to {
-        (change.from, change.to, change.kept) = (from, to, size.min(now));
+    (change.from, change.to) = (from, to.into());
+    if change.from != change.to {
+        change.brought = size.min(now);
         change.lost = from..from + size;
     } else if now < size {
         change.lost = from + now..from + size;
     }
 }
 
-/// The parts of the image whose bytes the library copies or zeroes and never looks at: the file's place
-/// and, where it is free, the new one.
+/// A fill keeps nothing of what the file held; where the clip is all that is written, it may be there
+/// already.
+fn bring_clip(change: &mut Change, clip: &Clip, image: &Image) -> Outcome<()> {
+    change.brought = 0;
+    let place = change.to as usize..(change.to + clip.len) as usize;
+    let now = image.bytes().get(place).unwrap_or_default();
+    if !change.is_nothing() || !clip.is(now)? {
+        (change.brought, change.clip) = (clip.len, clip.len > 0);
+    }
+    Ok(())
+}
+
+/// The parts of the image whose bytes the library copies or writes over and never looks at: the file's
+/// place and, where they are free, those that it may get.
 fn stand_ins(call: &Call, image: &Image, desk: &mut Desk, disc: &Disc) -> Vec<Range<u64>> {
-    let (Call::Move(at, to) | Call::Resize(at, to)) = *call else {
-        return Vec::new();
-    };
-    let Kind::File { offset, size } = disc.nodes[at as usize].kind else {
+    let Some(Kind::File { offset, size }) = call.file().map(|at| disc.nodes[at as usize].kind)
+    else {
         return Vec::new();
     };
     let span = |at: u32, size: u32| u64::from(at)..u64::from(at) + u64::from(size);
-    let mut spans = vec![span(offset, size)];
-    let place = match call {
-        Call::Move(..) => Some(span(to, size)),
-        _ if to <= size => None,
-        _ => counter::allocate(image.bytes(), &mut desk.lend(), to, CLUSTER)
-            .ok()
-            .map(|found| span(found.offset, size)),
+    let mut found = |size: u32| {
+        let place = counter::allocate(image.bytes(), &mut desk.lend(), size, CLUSTER);
+        place.ok().map(|place| place.offset)
     };
+    let old = span(offset, size);
+    let mut places = Vec::new();
+    match *call {
+        Call::Move(_, to) => places.push(span(to, size)),
+        Call::Resize(_, to) if to > size => places.extend(found(to).map(|at| span(at, size))),
+        Call::Fill(_, clip) if clip.len() > size as usize => {
+            let len = u32::try_from(clip.len()).unwrap_or(u32::MAX);
+            places.push(old.end..old.start + u64::from(len));
+            places.extend(found(len).map(|at| span(at, len)));
+        }
+        _ => {}
+    }
     // A table that grows must find its own bytes behind it.
     let tables =
         table_end(&disc.opened).max(u64::from(disc.opened.fst_offset) + disc.written_size());
@@ -96,6 +119,7 @@ fn stand_ins(call: &Call, image: &Image, desk: &mut Desk, disc: &Disc) -> Vec<Ra
                 region.start <= place.start && place.end <= region.end
             })
     };
-    spans.extend(place.filter(free));
-    spans
+    places.retain(free);
+    places.push(old);
+    places
 }

@@ -10,6 +10,7 @@ mod support;
 use std::collections::HashSet;
 use std::fs::{self, File};
 use std::hash::{DefaultHasher, Hash, Hasher};
+use std::ops::Range;
 use std::os::unix::fs::FileExt;
 use std::path::{Path, PathBuf};
 use support::*;
@@ -22,10 +23,14 @@ const END: u32 = 0x4_0000;
 #[derive(Debug, Clone)]
 struct Step {
     what: u8,
-    image: bool,
+    on: u8,
     at: u64,
     bytes: Vec<u8>,
 }
+
+const IMAGE: u8 = b'i';
+const JOURNAL: u8 = b'j';
+const CLIP: u8 = b'c';
 
 fn read_log(path: &Path) -> Vec<Step> {
     let log = fs::read(path).unwrap_or_default();
@@ -35,7 +40,7 @@ fn read_log(path: &Path) -> Vec<Step> {
     while at < log.len() {
         let len = number(at + 10) as usize;
         let bytes = log[at + 18..at + 18 + len].to_vec();
-        steps.push(Step { what: log[at], image: log[at + 1] == b'i', at: number(at + 2), bytes });
+        steps.push(Step { what: log[at], on: log[at + 1], at: number(at + 2), bytes });
         at += 18 + len;
     }
     steps
@@ -51,12 +56,37 @@ enum Name {
     Own,
 }
 
+/// What changes in the folder.
+#[derive(Clone, Copy)]
+enum Change {
+    Journal(Name),
+    /// The clip's name comes, or goes.
+    Clip(bool),
+}
+
 /// A state that the disk can be found in.
 #[derive(Clone, PartialEq, Eq, Hash)]
 struct Found {
     image: Vec<u8>,
     name: Name,
     journal: Vec<u8>,
+    has_clip: bool,
+    clip: Vec<u8>,
+}
+
+impl Found {
+    /// As it is before an edit.
+    fn new(image: Vec<u8>) -> Found {
+        let (journal, clip) = (Vec::new(), Vec::new());
+        Found { image, name: Name::None, journal, has_clip: false, clip }
+    }
+
+    fn change(&mut self, change: Change) {
+        match change {
+            Change::Journal(name) => self.name = name,
+            Change::Clip(there) => self.has_clip = there,
+        }
+    }
 }
 
 /// The disk while the program runs: what is surely on it, and what may be.
@@ -65,38 +95,38 @@ struct Disk {
     sure: Found,
     image: Vec<(u64, Vec<u8>)>,
     journal: Vec<(u64, Vec<u8>)>,
-    names: Vec<Name>,
+    clip: Vec<(u64, Vec<u8>)>,
+    names: Vec<Change>,
 }
 
 impl Disk {
     fn new(sure: Found) -> Disk {
-        Disk { sure, image: Vec::new(), journal: Vec::new(), names: Vec::new() }
+        let (image, journal, clip) = (Vec::new(), Vec::new(), Vec::new());
+        Disk { sure, image, journal, clip, names: Vec::new() }
     }
 
     fn take(&mut self, step: &Step) {
-        match (step.what, step.image) {
-            (b'w', true) => self.image.extend(sectors(step.at, &step.bytes)),
-            (b'w', false) => self.journal.extend(sectors(step.at, &step.bytes)),
-            (b's', true) => {
-                for (at, bytes) in self.image.drain(..) {
-                    write(&mut self.sure.image, at, &bytes);
-                }
+        let (unsure, sure) = match step.on {
+            IMAGE => (&mut self.image, &mut self.sure.image),
+            JOURNAL => (&mut self.journal, &mut self.sure.journal),
+            CLIP => (&mut self.clip, &mut self.sure.clip),
+            other => panic!("a step on {other}"),
+        };
+        match (step.what, step.on) {
+            (b'w', _) => unsure.extend(sectors(step.at, &step.bytes)),
+            (b's', _) => unsure.drain(..).for_each(|(at, bytes)| write(sure, at, &bytes)),
+            (b'c', on) => {
+                assert!(unsure.is_empty());
+                sure.clear();
+                self.names.push(match on {
+                    CLIP => Change::Clip(true),
+                    _ => Change::Journal(Name::Early),
+                });
             }
-            (b's', false) => {
-                for (at, bytes) in self.journal.drain(..) {
-                    write(&mut self.sure.journal, at, &bytes);
-                }
-            }
-            (b'c', _) => {
-                assert!(self.journal.is_empty());
-                self.sure.journal.clear();
-                self.names.push(Name::Early);
-            }
-            (b'r', _) => self.names.push(Name::Own),
-            (b'd', _) => self.names.push(Name::None),
-            (b'f', _) => {
-                self.sure.name = self.names.drain(..).next_back().unwrap_or(self.sure.name)
-            }
+            (b'r', _) => self.names.push(Change::Journal(Name::Own)),
+            (b'd', CLIP) => self.names.push(Change::Clip(false)),
+            (b'd', _) => self.names.push(Change::Journal(Name::None)),
+            (b'f', _) => self.names.drain(..).for_each(|change| self.sure.change(change)),
             other => panic!("step {other:?}"),
         }
     }
@@ -108,23 +138,25 @@ impl Disk {
             let part = taken(bytes, pick(bytes.len()));
             write(&mut found.image, *at, &bytes[..part]);
         }
-        for (at, bytes) in &self.journal {
-            let part = taken(bytes, pick(bytes.len()));
-            write(&mut found.journal, *at, &bytes[..part]);
-            // The length may be there before the bytes.
-            if part == 0 && pick(2) == 1 {
-                write(&mut found.journal, *at, &vec![0; bytes.len()]);
+        for (unsure, file) in [(&self.clip, &mut found.clip), (&self.journal, &mut found.journal)] {
+            for (at, bytes) in unsure {
+                let part = taken(bytes, pick(bytes.len()));
+                write(file, *at, &bytes[..part]);
+                // The length may be there before the bytes.
+                if part == 0 && pick(2) == 1 {
+                    write(file, *at, &vec![0; bytes.len()]);
+                }
             }
         }
         let mut names = self.names.iter();
-        while let (Some(name), 1..) = (names.next(), pick(1)) {
-            found.name = *name;
+        while let (Some(change), 1..) = (names.next(), pick(1)) {
+            found.change(*change);
         }
         found
     }
 
     fn unsure(&self) -> usize {
-        self.image.len() + self.journal.len() + self.names.len()
+        self.image.len() + self.journal.len() + self.clip.len() + self.names.len()
     }
 }
 
@@ -272,11 +304,16 @@ impl Bench {
     }
 
     fn journal(&self) -> PathBuf {
-        self.temp.at("disc.iso.counter-journal")
+        journal_of(&self.image)
     }
 
     fn early(&self) -> PathBuf {
         self.temp.at("disc.iso.counter-journal.new")
+    }
+
+    /// A file outside the image to fill one with.
+    fn clip(&self, bytes: &[u8]) -> String {
+        self.temp.write("clip.bin", bytes).to_str().unwrap().to_string()
     }
 
     /// Lays the disk out as it was found; the image stays the same file.
@@ -294,6 +331,18 @@ impl Bench {
             Name::Early => fs::write(self.early(), &found.journal).unwrap(),
             Name::Own => fs::write(self.journal(), &found.journal).unwrap(),
         }
+        let _ = fs::remove_file(clip_of(&self.image));
+        if found.has_clip {
+            fs::write(clip_of(&self.image), &found.clip).unwrap();
+        }
+    }
+
+    /// Where the files lie that the edit does not name.
+    fn others(&self, args: &[&str]) -> Vec<Range<usize>> {
+        let named = args.get(1).map_or(String::new(), |path| format!("/{path}"));
+        let entries = Table::of(&self.temp.write("before.iso", &self.before)).entries;
+        let others = entries.into_iter().filter(|entry| !entry.folder && entry.path != named);
+        others.map(|file| file.offset as usize..(file.offset + file.size) as usize).collect()
     }
 
     /// Runs with the log on; the steps it logged.
@@ -314,6 +363,7 @@ impl Bench {
         let (old, new) = (now == self.before, now == self.after);
         assert!(old || new, "{what}, {:?}: {}", found.name, self.differences(&now));
         assert!(!self.journal().exists() && !self.early().exists(), "{what}");
+        assert!(!clip_of(&self.image).exists(), "{what}");
         if found.name == Name::Own {
             assert!(new, "{what}: a journal that is there is carried on");
             assert!(run.out.contains("finished an edit that was cut: "), "{what}: {}", run.out);
@@ -336,26 +386,47 @@ impl Bench {
 
 /// Cuts one edit everywhere.
 fn cut_everywhere(before: Vec<u8>, args: &[&str], seed: u64) {
-    let mut bench = Bench::new(before);
+    cut_on(Bench::new(before), args, seed);
+}
+
+/// The same for a fill, after which the file is the clip.
+fn cut_fill(before: Vec<u8>, path: &str, len: usize, seed: u64) {
+    let bench = Bench::new(before);
+    let bytes = clip(len, seed as u32);
+    let given = bench.clip(&bytes);
+    let image = bench.image.clone();
+    let bench = cut_on(bench, &["fill", path, &given], seed);
+    fs::write(&image, &bench.after).unwrap();
+    let entry = Table::of(&image).entry(&format!("/{path}")).clone();
+    assert!(span(&image, entry.offset.into(), entry.size.into()) == bytes, "{path}");
+}
+
+fn cut_on(mut bench: Bench, args: &[&str], seed: u64) -> Bench {
     let (run, steps) = bench.logged(args);
     assert_eq!(run.status, 0, "{args:?}: {}", run.err);
     bench.after = fs::read(&bench.image).unwrap();
     assert!(bench.after != bench.before, "{args:?}");
-    let start = Found { image: bench.before.clone(), name: Name::None, journal: Vec::new() };
+    let start = Found::new(bench.before.clone());
 
     // The log is true: all steps together give the image after the edit, and no journal.
     let mut disk = Disk::new(start.clone());
     steps.iter().for_each(|step| disk.take(step));
     assert_eq!(disk.unsure(), 0, "{args:?}: the last step is a sync");
     assert!(disk.sure.image == bench.after && disk.sure.name == Name::None, "{args:?}");
+    assert!(!disk.sure.has_clip, "{args:?}");
     // Before the journal is on the disk, the image is not touched.
-    let named = steps.iter().position(|step| step.what == b'f').unwrap();
-    assert!(steps[..named].iter().all(|step| !step.image), "{args:?}");
+    let own = steps.iter().position(|step| step.what == b'r').unwrap();
+    let named = own + steps[own..].iter().position(|step| step.what == b'f').unwrap();
+    assert!(steps[..named].iter().all(|step| step.on != IMAGE), "{args:?}");
 
     let mut random = Random(seed);
     let all = cuts(&start, &steps, &mut random);
+    let others = bench.others(args);
     let (mut old, mut new, mut again) = (0, 0, Vec::new());
     for found in &all {
+        // Even before it is recovered.
+        let whole = |span: &Range<usize>| found.image[span.clone()] == bench.before[span.clone()];
+        assert!(others.iter().all(whole), "{args:?}: a file that the edit does not name");
         match bench.recovered(found, &format!("{args:?}")) {
             true => new += 1,
             false => old += 1,
@@ -382,6 +453,7 @@ fn cut_everywhere(before: Vec<u8>, args: &[&str], seed: u64) {
         "{args:?}: {} steps; cut: {old} before, {new} after; recovery cut: {twice}",
         steps.len()
     );
+    bench
 }
 
 // The edits -------------------------------------------------------------------------------
@@ -426,6 +498,22 @@ fn growing_elsewhere_survives_a_power_cut() {
 }
 
 #[test]
+fn fills_where_the_file_lies_survive_a_power_cut() {
+    cut_fill(master(0), "film", 0x3210, 17);
+    cut_fill(master(0), "film", 0x1001, 18);
+    cut_fill(master(800), "far", 0x2345, 19);
+    cut_fill(master(0), "next", 0, 20);
+    cut_fill(master(0), "part07.bin", 0x87, 21);
+}
+
+#[test]
+fn fills_that_move_survive_a_power_cut() {
+    cut_fill(master(0), "film", 0x3211, 22);
+    cut_fill(master(1100), "next", 0x1432, 23);
+    cut_fill(master(0), "d/e/none", 0x777, 24);
+}
+
+#[test]
 fn a_rewrite_that_shrinks_the_table_survives_a_power_cut() {
     cut_everywhere(master(2000), &["rewrite"], 16);
 }
@@ -438,10 +526,11 @@ fn any_edits_survive_a_power_cut() {
     let mut bench = Bench::new(master(300));
     let (mut accepted, mut states) = (0, 0);
     for turn in 0..120 {
-        if accepted == 30 {
+        if accepted == 36 {
             break;
         }
-        let args = any_edit(&bench.image, turn, &mut random);
+        let given = bench.clip(&clip(random.below(0x3000), turn));
+        let args = any_edit(&bench.image, turn, given, &mut random);
         let args: Vec<&str> = args.iter().map(String::as_str).collect();
         let (run, steps) = bench.logged(&args);
         bench.after = fs::read(&bench.image).unwrap();
@@ -451,7 +540,7 @@ fn any_edits_survive_a_power_cut() {
         }
         assert_eq!(run.status, 0, "{args:?}: {}", run.err);
         accepted += 1;
-        let start = Found { image: bench.before.clone(), name: Name::None, journal: Vec::new() };
+        let start = Found::new(bench.before.clone());
         let found = cuts(&start, &steps, &mut random);
         let mut found: Vec<&Found> = found.iter().filter(|found| found.name == Name::Own).collect();
         // Those that differ most from both ends first.
@@ -471,7 +560,7 @@ fn any_edits_survive_a_power_cut() {
     assert!(accepted > 20 && states > 100, "{accepted} edits, {states} cuts");
 }
 
-fn any_edit(image: &Path, turn: u32, random: &mut Random) -> Vec<String> {
+fn any_edit(image: &Path, turn: u32, given: String, random: &mut Random) -> Vec<String> {
     let table = Table::of(image);
     let files: Vec<&Entry> = table.entries.iter().filter(|entry| !entry.folder).collect();
     let file = match random.below(3) {
@@ -480,7 +569,7 @@ fn any_edit(image: &Path, turn: u32, random: &mut Random) -> Vec<String> {
         _ => files.iter().max_by_key(|file| file.size ^ (random.below(0x4000) as u32)).unwrap(),
     };
     let behind = u64::from(file.offset) + u64::from(file.size);
-    let words: Vec<String> = match random.below(8) {
+    let words: Vec<String> = match random.below(10) {
         0 => vec!["add".into(), format!("new{turn}")],
         1 => vec!["mkdir".into(), format!("d/m{turn}/n")],
         2 => vec!["rewrite".into()],
@@ -488,6 +577,7 @@ fn any_edit(image: &Path, turn: u32, random: &mut Random) -> Vec<String> {
         4 => vec!["resize".into(), file.path.clone(), (file.size / 2).to_string()],
         5 => vec!["move".into(), file.path.clone(), table.table_end.to_string()],
         6 => vec!["move".into(), file.path.clone(), behind.to_string()],
+        7..=8 => vec!["fill".into(), file.path.clone(), given],
         _ => vec!["move".into(), file.path.clone(), random.below(END as usize).to_string()],
     };
     words

@@ -17,6 +17,7 @@ const END: u32 = 0x280_0000;
 const FROM: u32 = 0x10_0000;
 const TO: u32 = 0x180_0000;
 const SIZE: u32 = 0xC0_0000;
+const MOVE: [&str; 3] = ["move", "movie/intro.thp", "0x1800000"];
 
 /// A master with a film of 12 MiB, every byte of which says where it is from.
 struct Stage {
@@ -51,26 +52,26 @@ impl Stage {
         path
     }
 
-    fn start(&self, image: &Path) -> Child {
-        self.command(image).spawn().unwrap()
+    fn start(&self, image: &Path, args: &[&str]) -> Child {
+        self.command(image, args).spawn().unwrap()
     }
 
-    fn command(&self, image: &Path) -> Command {
+    fn command(&self, image: &Path, args: &[&str]) -> Command {
         let mut command = program();
-        command.arg("move").arg(image).args(["movie/intro.thp", &TO.to_string()]);
+        command.arg(args[0]).arg(image).args(&args[1..]);
         command.stdout(Stdio::piped()).stderr(Stdio::piped());
         command
     }
 
     /// The same edit, which logs what it writes to a pipe: it comes no further than the log is read.
-    fn start_slowly(&self, image: &Path) -> (Child, File) {
+    fn start_slowly(&self, image: &Path, args: &[&str]) -> (Child, File) {
         let pipe = self.temp.at("log");
         let _ = fs::remove_file(&pipe);
         assert!(Command::new("mkfifo").arg(&pipe).status().unwrap().success());
         let log = File::options().read(true).custom_flags(O_NONBLOCK).open(&pipe).unwrap();
         // If that is not allowed, it only takes longer.
         unsafe { fcntl(log.as_raw_fd(), F_SETPIPE_SZ, AT_ONCE) };
-        let child = self.command(image).env("COUNTER_LOG_WRITES", &pipe).spawn().unwrap();
+        let child = self.command(image, args).env("COUNTER_LOG_WRITES", &pipe).spawn().unwrap();
         (child, log)
     }
 
@@ -106,20 +107,27 @@ impl Stage {
     }
 }
 
-fn journal_of(image: &Path) -> PathBuf {
-    image.with_file_name("image.iso.counter-journal")
-}
-
-/// Waits until the file's bytes at `at` are, or are not, zero, or the time is over.
-fn wait_for(image: &Path, at: u64, zero: bool, child: &mut Child) {
+/// Waits until the image's bytes at `at` are so, or the edit ends, or the time is over.
+fn wait_for(image: &Path, at: u32, so: impl Fn([u8; 4]) -> bool, child: &mut Child) {
     let file = File::open(image).unwrap();
     let start = Instant::now();
     let mut word = [0; 4];
     while start.elapsed() < Duration::from_secs(20) {
-        file.read_exact_at(&mut word, at).unwrap();
-        if (word == [0; 4]) == zero || child.try_wait().unwrap().is_some() {
+        file.read_exact_at(&mut word, at.into()).unwrap();
+        if so(word) || child.try_wait().unwrap().is_some() {
             return;
         }
+    }
+}
+
+/// Another number in every run.
+fn random() -> impl FnMut(u32) -> u32 {
+    let mut random = std::process::id().wrapping_mul(0x9E37_79B9) | 1;
+    move |below| {
+        random ^= random << 13;
+        random ^= random >> 17;
+        random ^= random << 5;
+        random % below
     }
 }
 
@@ -156,23 +164,17 @@ fn a_killed_edit_is_finished_or_never_begun() {
     let stage = Stage::new();
     let moved = stage.moved();
     let mut seen: Vec<&str> = Vec::new();
-    let mut random = std::process::id().wrapping_mul(0x9E37_79B9) | 1;
-    let mut next = |below: u32| {
-        random ^= random << 13;
-        random ^= random >> 17;
-        random ^= random << 5;
-        random % below
-    };
+    let mut next = random();
     for turn in 0..18 {
         let image = stage.reset();
         let (mut child, mut log) = match turn % 3 {
-            2 => stage.start_slowly(&image),
-            _ => (stage.start(&image), File::open("/dev/null").unwrap()),
+            2 => stage.start_slowly(&image, &MOVE),
+            _ => (stage.start(&image, &MOVE), File::open("/dev/null").unwrap()),
         };
         match turn % 3 {
             // While the bytes are copied, while the old place is zeroed, at any step.
-            0 => wait_for(&image, u64::from(TO + next(SIZE - 4)), false, &mut child),
-            1 => wait_for(&image, u64::from(FROM + (next(SIZE - 4) & !3)), true, &mut child),
+            0 => wait_for(&image, TO + next(SIZE - 4), |word| word != [0; 4], &mut child),
+            1 => wait_for(&image, FROM + (next(SIZE - 4) & !3), |word| word == [0; 4], &mut child),
             // The log is longer: it has the copy, and then the zeros.
             _ => read_log(&mut log, next(2 * SIZE - 0x20_0000) as usize, &mut child),
         }
@@ -188,7 +190,7 @@ fn a_killed_edit_is_finished_or_never_begun() {
             done("recover", &image, &[]);
         } else {
             // The next edit does it first; the journal's own edit is not done twice.
-            let run = on("move", &image, &["movie/intro.thp", &TO.to_string()]);
+            let run = on(MOVE[0], &image, &MOVE[1..]);
             assert_eq!(
                 run.status,
                 if state == "as it was" { 0 } else { 20 },
@@ -205,15 +207,108 @@ fn a_killed_edit_is_finished_or_never_begun() {
     assert!(seen.iter().any(|state| *state != "all written"), "no kill came in time: {seen:?}");
 }
 
+/// How far a fill had come that was cut.
+fn judge_fill(stage: &Stage, image: &Path, wanted: &[u8]) -> &'static str {
+    let (clip, journal) = (clip_of(image).exists(), journal_of(image).exists());
+    let now = fs::read(image).unwrap();
+    // The clip is there before the journal, and goes after it.
+    assert!(clip || !journal);
+    match (now == stage.bytes, now == *wanted) {
+        (true, _) if journal => "only the journal",
+        (true, _) if clip => "only the clip",
+        (true, _) => "as it was",
+        (_, true) if journal => "all but the journal",
+        (_, true) => "all written",
+        _ => {
+            assert!(journal);
+            "a part"
+        }
+    }
+}
+
+#[test]
+fn a_killed_fill_is_finished_or_never_begun() {
+    let stage = Stage::new();
+    let mut next = random();
+    let mut seen: Vec<&str> = Vec::new();
+    // As long as the film, shorter, longer where it lies, and elsewhere.
+    let cases = [
+        ("movie/intro.thp", SIZE),
+        ("movie/intro.thp", SIZE - 0x12_3456),
+        ("movie/intro.thp", SIZE + 0x23_4567),
+        ("audio/se/se000.dsp", 0x76_5432),
+    ];
+    for turn in 0..24 {
+        let (path, len) = cases[turn % cases.len()];
+        let bytes = clip(len as usize, turn as u32);
+        let given = stage.temp.write("clip.bin", &bytes);
+        let image = stage.reset();
+        let entry = format!("/{path}");
+        let wanted = filled(&image, &entry, &bytes);
+        let to = Table::of(&stage.temp.write("wanted.iso", &wanted)).entry(&entry).offset;
+        let args = ["fill", path, given.to_str().unwrap()];
+        let (mut child, mut log) = match turn % 3 {
+            2 => stage.start_slowly(&image, &args),
+            _ => (stage.start(&image, &args), File::open("/dev/null").unwrap()),
+        };
+        match turn % 3 {
+            // While the clip is written, at any time, at any step.
+            0 => {
+                let at = next(len - 4) & !3;
+                let word = &bytes[at as usize..][..4];
+                wait_for(&image, to + at, |now| now == word, &mut child);
+            }
+            1 => thread::sleep(Duration::from_millis(next(60).into())),
+            _ => read_log(&mut log, next(2 * len - 0x20_0000) as usize, &mut child),
+        }
+        send(&child, SIGKILL);
+        finish(child);
+        let state = judge_fill(&stage, &image, &wanted);
+        seen.push(state);
+        let cut = journal_of(&image).exists();
+        assert_eq!(on("check", &image, &[]).status, if cut { 78 } else { 0 }, "{state}");
+        // Every other file is whole, before anything is finished.
+        for file in Table::of(&image).entries {
+            if !file.folder && file.path != entry {
+                let now = on("cat", &image, &[&file.path, "--as-is"]);
+                let before = &stage.bytes[file.offset as usize..][..file.size as usize];
+                assert!(now.status == 0 && now.bytes == before, "{state}: {}", file.path);
+            }
+        }
+        // The next command finishes it; where it was never begun, the same fill is done now.
+        if turn % 2 == 0 {
+            done("recover", &image, &[]);
+            let now = fs::read(&image).unwrap();
+            assert!(now == wanted || (now == stage.bytes && !cut), "{state}");
+            assert!(!clip_of(&image).exists(), "{state}");
+        }
+        let run = on(args[0], &image, &args[1..]);
+        assert_eq!(run.status, 0, "{state}: {}", run.err);
+        let told = run.err.contains("finished an edit that was cut: fill ");
+        assert_eq!(told, cut && turn % 2 == 1, "{state}: {}", run.err);
+        assert!(fs::read(&image).unwrap() == wanted, "{state}");
+        assert!(on("cat", &image, &[path]).bytes == bytes, "{state}");
+        assert!(!journal_of(&image).exists() && !clip_of(&image).exists(), "{state}");
+    }
+    println!("{seen:?}");
+    let in_time = |state: &&str| !["as it was", "all written"].contains(state);
+    assert!(seen.iter().any(in_time), "no kill came in time: {seen:?}");
+}
+
 #[test]
 fn a_signal_during_an_edit_waits_for_its_end() {
     let stage = Stage::new();
     // USR1, USR2, ALRM, VTALRM, PROF, IO, XCPU and a real-time one end a program too.
     let signals = [SIGTERM, SIGINT, 10, 12, 14, 26, 27, 29, 24, 40];
-    for (i, signal) in signals.into_iter().enumerate() {
+    let given = stage.temp.write("clip.bin", &clip(SIZE as usize, 1));
+    let fill = ["fill", "movie/intro.thp", given.to_str().unwrap()];
+    let filled = filled(&stage.reset(), "/movie/intro.thp", &clip(SIZE as usize, 1));
+    let moves = signals.into_iter().enumerate().map(|(i, signal)| (signal, i, &MOVE));
+    for (signal, i, args) in moves.chain([(SIGTERM, 0, &fill), (SIGINT, 7, &fill)]) {
         let image = stage.reset();
-        let (mut child, mut log) = stage.start_slowly(&image);
-        // The first one right after the journal was begun, the last while the old place is zeroed.
+        let (mut child, mut log) = stage.start_slowly(&image, args);
+        // The first one right after the journal or the clip was begun, the last while the old place is
+        // zeroed or the clip written.
         read_log(&mut log, 1 + i * 0x20_0000, &mut child);
         send(&child, signal);
         read_log(&mut log, usize::MAX, &mut child);
@@ -224,7 +319,9 @@ fn a_signal_during_an_edit_waits_for_its_end() {
             run.out,
             run.err
         );
-        assert_eq!(stage.judge(&image), "all written", "{signal}");
+        let wanted = if args == &MOVE { stage.moved() } else { filled.clone() };
+        assert!(fs::read(&image).unwrap() == wanted, "{signal}");
+        assert!(!journal_of(&image).exists() && !clip_of(&image).exists(), "{signal}");
         assert_eq!(run.signal, Some(signal), "{}", run.err);
         assert!(run.err.contains("came during the edit; the edit is done"), "{}", run.err);
     }
@@ -311,12 +408,20 @@ fn a_full_disk_is_told_before_anything_is_written() {
         test \"$time\" = \"$(stat -c %y \"$1/image.iso\")\"
         status2=0; \"$3\" extract \"$1/image.iso\" movie/intro.thp \"$1/film\" || status2=$?
         test ! -e \"$1/film\"
+        status3=0; \"$3\" fill \"$1/image.iso\" movie/intro.thp \"$4\" || status3=$?
+        test \"$sum\" = \"$(cksum < \"$1/image.iso\")\"
+        test ! -e \"$1/image.iso.counter-clip\"
+        COUNTER_ASSUME_ROOM=1 \"$3\" fill \"$1/image.iso\" movie/intro.thp \"$4\" && exit 1
+        test \"$sum\" = \"$(cksum < \"$1/image.iso\")\"
+        test ! -e \"$1/image.iso.counter-clip\"
         rm \"$1/copy\"; \"$3\" move \"$1/image.iso\" opening.bnr 0x1800000
-        echo \"statuses $status $status2\"";
+        echo \"statuses $status $status2 $status3\"";
+    let given = stage.temp.write("clip.bin", &clip(SIZE as usize, 1));
     let output = Command::new("unshare")
         .args(["-m", "sh", "-c", script, "sh"])
         .args([&small, &image])
         .arg(env!("CARGO_BIN_EXE_counter"))
+        .arg(&given)
         .output();
     let Ok(output) = output else {
         println!("not tried: no unshare here");
@@ -328,6 +433,8 @@ fn a_full_disk_is_told_before_anything_is_written() {
         return;
     }
     assert_eq!(run.status, 0, "{}{}", run.out, run.err);
-    assert!(run.out.contains("statuses 74 74"), "{}{}", run.out, run.err);
-    assert!(run.err.contains("the disk is full: the edit takes 12 MiB of new room"), "{}", run.err);
+    assert!(run.out.contains("statuses 74 74 74"), "{}{}", run.out, run.err);
+    let told = run.err.matches("the disk is full: the edit takes 12 MiB of new room").count();
+    assert_eq!(told, 2, "{}", run.err);
+    assert!(run.err.contains("the clip cannot be kept: the disk is full"), "{}", run.err);
 }

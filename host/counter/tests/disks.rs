@@ -13,11 +13,12 @@ const FROM: u32 = 0x10_0000;
 const SIZE: u32 = 0x40_0000;
 const TO: u32 = 0x80_0000;
 
-/// $1 file system, $2 folder with before.iso and after.iso, $3 program, $4 size, $5 new offset; then
-/// KiB left, with `!` behind for an edit that does not look for room first. Prints a line for each:
-/// left, status, state of the image, and the same after `recover`.
+/// $1 file system, $2 folder with before.iso and after.iso, $3 program, $4 size, $5 and $6 the edit of
+/// the film and what it takes; then KiB left, with `!` behind for an edit that does not look for room
+/// first. Prints a line for each: left, status, state of the image, the same after `recover`, and what
+/// is left beside the image.
 const SCRIPT: &str = r#"set -e
-fs=$1; dir=$2; counter=$3; size=$4; to=$5; shift 5
+fs=$1; dir=$2; counter=$3; size=$4; edit=$5; what=$6; shift 6
 truncate -s "$size" "$dir/$fs.img"
 case $fs in
     ext4) mkfs.ext4 -q -m 0 -F "$dir/$fs.img" ;;
@@ -33,7 +34,7 @@ state() {
     else echo other; fi
 }
 for left; do
-    rm -f -- *.iso *journal* filler; sync
+    rm -f -- *.iso *.counter-* filler; sync
     cp --sparse=never "$dir/before.iso" disc.iso
     if [ "$fs" != ext4 ]; then cp --reflink=always disc.iso copy.iso; fi
     sync
@@ -46,15 +47,16 @@ for left; do
     status=0
     unset COUNTER_ASSUME_ROOM
     case $left in *!) export COUNTER_ASSUME_ROOM=1 ;; esac
-    "$counter" move disc.iso movie/intro.thp "$to" > "$dir/said" 2>&1 || status=$?
+    "$counter" "$edit" disc.iso movie/intro.thp "$what" > "$dir/said" 2>&1 || status=$?
     sed "s/^/$fs $left: /" "$dir/said" >&2
     found=$(state)
     rm -f filler; sync
     again=0
     "$counter" recover disc.iso > "$dir/said" 2>&1 || again=$?
     sed "s/^/$fs $left: /" "$dir/said" >&2
-    journal=none; [ ! -e disc.iso.counter-journal ] || journal=left
-    echo "$left $status $found $again $(state) $journal"
+    beside=none
+    for name in journal clip; do [ ! -e "disc.iso.counter-$name" ] || beside=$name; done
+    echo "$left $status $found $again $(state) $beside"
 done
 cd /; umount "$dir/$fs"
 "#;
@@ -75,8 +77,12 @@ fn tried(command: &mut Command, fs: &str) -> Option<Run> {
     Some(run)
 }
 
-fn nearly_full(fs: &str, size: &str, left: &str) {
+fn nearly_full(fs: &str, size: &str, edit: &str, left: &str) {
     let temp = Temp::new();
+    let what = match edit {
+        "fill" => temp.write("clip.bin", &clip(SIZE as usize, 7)).to_str().unwrap().to_string(),
+        _ => TO.to_string(),
+    };
     let before = temp.at("before.iso");
     sparse(&before, &usual(FROM, SIZE), END);
     // No zeros and no holes: free space has its bytes too, as a real disc's.
@@ -84,21 +90,21 @@ fn nearly_full(fs: &str, size: &str, left: &str) {
     pattern(&mut bytes[0x10_0000..], 5);
     fs::write(&before, &bytes).unwrap();
     fs::copy(&before, temp.at("after.iso")).unwrap();
-    done("move", &temp.at("after.iso"), &["movie/intro.thp", &TO.to_string()]);
+    done(edit, &temp.at("after.iso"), &["movie/intro.thp", &what]);
 
     let mut command = Command::new("unshare");
     command.args(["-m", "sh", "-c", SCRIPT, "sh", fs]).arg(temp.at(""));
-    command.arg(env!("CARGO_BIN_EXE_counter")).args([size, &TO.to_string()]);
+    command.arg(env!("CARGO_BIN_EXE_counter")).args([size, edit, &what]);
     command.args(left.split(' '));
     let Some(run) = tried(&mut command, fs) else {
         return;
     };
-    println!("{fs}: left, status, image, recover, image, journal\n{}{}", run.out, run.err);
+    println!("{fs}: left, status, image, recover, image, beside\n{}{}", run.out, run.err);
     assert_eq!(run.status, 0, "{fs}: {}{}", run.out, run.err);
     assert_eq!(run.out.lines().count(), left.split(' ').count());
     for line in run.out.lines() {
         let words: Vec<&str> = line.split(' ').collect();
-        let [_, status, found, again, then, journal] = words[..] else { panic!("{line}") };
+        let [_, status, found, again, then, beside] = words[..] else { panic!("{line}") };
         match status {
             "0" => assert_eq!((found, again, then), ("after", "0", "after"), "{fs} {line}"),
             // A copy that found no room may have left a part of it in free space.
@@ -112,13 +118,14 @@ fn nearly_full(fs: &str, size: &str, left: &str) {
             "78" => assert_eq!((again, then), ("0", "after"), "{fs} {line}"),
             _ => panic!("{fs} {line}: {}", run.err),
         }
-        assert_eq!(journal, "none", "{fs} {line}");
+        assert_eq!(beside, "none", "{fs} {line}");
     }
 }
 
 #[test]
 fn a_nearly_full_ext4_is_no_danger() {
-    nearly_full("ext4", "64M", "0 0! 4! 16! 64! 4096");
+    nearly_full("ext4", "64M", "move", "0 0! 4! 16! 64! 4096");
+    nearly_full("ext4", "64M", "fill", "0 0! 64! 3000 3000! 4000! 4200 4200! 8192");
 }
 
 #[test]
@@ -126,8 +133,10 @@ fn a_nearly_full_xfs_with_a_reflink_copy_is_no_danger() {
     nearly_full(
         "xfs",
         "320M",
+        "move",
         "0 64 8192 8500 9300 12000 0! 64! 256! 1024! 3000! 4000! 4200! 4400! 5000! 6000! 8000! 8300!",
     );
+    nearly_full("xfs", "320M", "fill", "0 64 4200 9300 12000 0! 64! 4200! 5000! 8000! 8300! 9000!");
 }
 
 #[test]
@@ -135,8 +144,10 @@ fn a_nearly_full_btrfs_is_no_danger() {
     nearly_full(
         "btrfs",
         "160M",
+        "move",
         "0 64 8192 13000 14000 20000 0! 64! 256! 1024! 3000! 4000! 4200! 4400! 5000! 6000! 8000! 8300! 8500! 9000! 12000!",
     );
+    nearly_full("btrfs", "160M", "fill", "0 64 8192 14000 20000 0! 4200! 5000! 8000! 8500! 12000!");
 }
 
 // A power cut -----------------------------------------------------------------------------

@@ -8,60 +8,8 @@ use std::path::{Path, PathBuf};
 use std::process::Stdio;
 use support::*;
 
-const END: u32 = 0x20_0000;
-
 fn small(temp: &Temp) -> PathBuf {
     temp.write("small.iso", &filled_master())
-}
-
-fn usual_master(temp: &Temp) -> PathBuf {
-    let path = temp.at("usual.iso");
-    sparse(&path, &usual(0x10_0000, 0x4_5678), END);
-    path
-}
-
-/// Runs an edit that must be refused, dry and real, and leave the file as it was.
-fn refused(image: &Path, args: &[&str], number: i32) {
-    let before = State::of(image);
-    for dry in [true, false] {
-        let mut rest = args[1..].to_vec();
-        if dry {
-            rest.push("--dry-run");
-        }
-        let run = on(args[0], image, &rest);
-        assert_eq!(run.status, number, "{args:?}: {}{}", run.out, run.err);
-        assert!(run.err.contains(&format!("refused {number}: ")), "{args:?}: {}", run.err);
-        assert_eq!(run.out, "", "{args:?}");
-    }
-    assert_eq!(State::of(image), before, "{args:?}");
-    assert!(!journal_of(image).exists(), "{args:?}");
-}
-
-/// Runs an edit dry, which must leave the file as it was, then real.
-fn accepted(image: &Path, args: &[&str]) -> String {
-    let before = State::of(image);
-    let mut dry = args[1..].to_vec();
-    dry.push("--dry-run");
-    let told = done(args[0], image, &dry);
-    assert!(told.contains("nothing was written"), "{told}");
-    assert_eq!(State::of(image), before, "{args:?}");
-    let out = done(args[0], image, &args[1..]);
-    match State::of(image) == before {
-        true => assert!(out.ends_with("done: there was nothing to write\n"), "{out}"),
-        false => assert!(out.ends_with("done: written and synced\n"), "{out}"),
-    }
-    assert!(!journal_of(image).exists());
-    // The dry run said the same things.
-    let said = |text: &str| text.lines().rev().skip(1).map(str::to_string).collect::<Vec<_>>();
-    let dry: Vec<String> = said(&out).iter().map(|line| format!("dry run: {line}")).collect();
-    assert_eq!(said(&told), dry);
-    out
-}
-
-fn journal_of(image: &Path) -> PathBuf {
-    let mut name = image.as_os_str().to_os_string();
-    name.push(".counter-journal");
-    name.into()
 }
 
 fn free_of(image: &Path) -> Vec<(u64, u64)> {

@@ -8,9 +8,9 @@ use std::path::Path;
 use std::process::{Command, Stdio};
 use support::*;
 
-const COMMANDS: [&str; 20] = [
+const COMMANDS: [&str; 21] = [
     "info", "list", "tree", "free", "find", "place", "cat", "extract", "dol", "map", "check",
-    "compare", "hash", "report", "mkdir", "add", "move", "resize", "rewrite", "recover",
+    "compare", "hash", "report", "mkdir", "add", "move", "resize", "fill", "rewrite", "recover",
 ];
 
 /// A folder with the files that the examples name.
@@ -22,6 +22,7 @@ fn fixture() -> Temp {
     temp.write("before.sums", done("hash", &disc, &[]).as_bytes());
     done("move", &disc, &["audio/theme.adp", "0x190000"]);
     temp.write("given.txt", b"/audio/theme.adp\n");
+    temp.write("msg.bin", b"the new lines");
     temp
 }
 
@@ -90,7 +91,8 @@ fn help_comes_in_every_way_and_is_about_its_command_alone() {
         }
         assert!(usage.starts_with(&format!("  counter {command} ")), "{usage}");
         // What an edit promises is told of edits.
-        let edits = ["mkdir", "add", "move", "resize", "rewrite", "recover"].contains(&command);
+        let edits = COMMANDS.iter().position(|edit| *edit == "mkdir").unwrap();
+        let edits = COMMANDS[edits..].contains(&command);
         assert_eq!(help.contains("\nSafety\n"), edits, "{command}");
     }
     // After `--` it is an operand.
@@ -165,6 +167,7 @@ fn bash_completes_commands_options_files_and_paths() {
     let text = offered(&["counter", "move", "--dry-run", "disc.iso", "/text/"]);
     assert_eq!(text, ["/text/", "/text/en/", "/text/en/msg.bin", "/text/fr/", "/text/fr/msg.bin"]);
     assert_eq!(offered(&["counter", "move", "disc.iso", "/opening.bnr", ""]), [""; 0]);
+    assert_eq!(offered(&["counter", "fill", "disc.iso", "/opening.bnr", "ms"]), ["msg.bin"]);
     assert_eq!(offered(&["counter", "help", "saf"]), ["safety"]);
 }
 

@@ -4,6 +4,9 @@
 
 mod support;
 
+#[path = "../src/sum.rs"]
+mod sum;
+
 use std::fs::{self, File};
 use std::os::unix::fs::{FileExt, symlink};
 use std::path::{Path, PathBuf};
@@ -33,12 +36,6 @@ fn master() -> Vec<u8> {
     image
 }
 
-fn journal_of(image: &Path) -> PathBuf {
-    let mut name = image.as_os_str().to_os_string();
-    name.push(".counter-journal");
-    name.into()
-}
-
 /// Runs an edit on a disk that is full from the n-th step on.
 fn full_from(n: u32, image: &Path, args: &[&str]) -> Run {
     let mut command = program();
@@ -48,7 +45,17 @@ fn full_from(n: u32, image: &Path, args: &[&str]) -> Run {
 
 const MOVE: [&str; 3] = ["move", "film", "0x20000"];
 
-/// An image whose edit was cut when its table was written, with its journal, and as it is afterwards.
+/// The same words, with a clip of so many bytes in the place of its length.
+fn with_clip(temp: &Temp, args: &[&str]) -> Vec<String> {
+    let mut args: Vec<String> = args.iter().map(|word| word.to_string()).collect();
+    if args[0] == "fill" {
+        let clip = temp.write("clip.bin", &clip(args[2].parse().unwrap(), 7));
+        args[2] = clip.to_str().unwrap().into();
+    }
+    args
+}
+
+/// An image whose edit was cut, with its journal, and as it is afterwards.
 struct Cut {
     temp: Temp,
     image: PathBuf,
@@ -56,23 +63,58 @@ struct Cut {
 }
 
 impl Cut {
+    /// A move that was cut when its table was written.
     fn new() -> Cut {
+        // Journal: create, write, sync. Image: write, sync. Journal: write, sync. The call. Sync.
+        Cut::at(9, &MOVE)
+    }
+
+    /// A fill that was cut when all was written, where the file lies.
+    fn fill() -> Cut {
+        // Clip: create, write, sync. Journal: the same. The call. Sync.
+        Cut::at(8, &["fill", "d/song", "8000"])
+    }
+
+    /// The same elsewhere.
+    fn fill_elsewhere() -> Cut {
+        // Clip, journal. Image: write, sync. Journal: write, sync. The call. Sync.
+        Cut::at(12, &["fill", "film", "13000"])
+    }
+
+    fn at(n: u32, args: &[&str]) -> Cut {
         let temp = Temp::in_memory();
+        let args = with_clip(&temp, args);
+        let args: Vec<&str> = args.iter().map(String::as_str).collect();
         let whole = temp.write("whole.iso", &master());
-        done(MOVE[0], &whole, &MOVE[1..]);
+        done(args[0], &whole, &args[1..]);
         let after = fs::read(&whole).unwrap();
         let image = temp.write("disc.iso", &master());
-        // Journal: create, write, sync. Image: write, sync. Journal: write, sync. The call. Sync.
-        let run = full_from(9, &image, &MOVE);
+        let run = full_from(n, &image, &args);
         assert_eq!(run.status, 78, "{}", run.err);
         assert!(run.err.contains("the image holds a part of the edit"), "{}", run.err);
         assert!(run.err.contains("counter recover "), "{}", run.err);
         assert!(journal_of(&image).exists());
+        assert_eq!(clip_of(&image).exists(), args[0] == "fill");
         Cut { temp, image, after }
     }
 
-    fn state(&self) -> (State, Vec<u8>) {
-        (State::of(&self.image), fs::read(journal_of(&self.image)).unwrap())
+    fn state(&self) -> (State, Vec<u8>, Option<Vec<u8>>) {
+        let journal = fs::read(journal_of(&self.image)).unwrap();
+        (State::of(&self.image), journal, fs::read(clip_of(&self.image)).ok())
+    }
+
+    /// Changes one byte of the image.
+    fn spoil(&self, at: u64) {
+        let file = File::options().read(true).write(true).open(&self.image).unwrap();
+        let mut byte = [0];
+        file.read_exact_at(&mut byte, at).unwrap();
+        file.write_all_at(&[byte[0] ^ 0x5A], at).unwrap();
+    }
+
+    fn is_finished(&self) {
+        done("recover", &self.image, &[]);
+        assert!(fs::read(&self.image).unwrap() == self.after);
+        assert!(!journal_of(&self.image).exists() && !clip_of(&self.image).exists());
     }
 
     /// No command touches image or journal; all say why, and what to do.
@@ -192,7 +234,7 @@ fn a_torn_or_foreign_journal_is_never_applied() {
     let cut = Cut::new();
     let path = journal_of(&cut.image);
     let whole = fs::read(&path).unwrap();
-    let torn = "it is torn, or no journal";
+    let torn = "it is torn, or ";
     for len in [0, 1, 15, 16, 100, 0x440, whole.len() / 2, whole.len() - 25] {
         fs::write(&path, &whole[..len]).unwrap();
         cut.is_left_alone(torn);
@@ -214,9 +256,33 @@ fn a_torn_or_foreign_journal_is_never_applied() {
     fs::write(&path, vec![7; 6 << 20]).unwrap();
     cut.is_left_alone("it is too long");
 
+    // Of a version that is not known yet.
+    let mut bytes = whole.clone();
+    bytes[16] = 3;
+    fs::write(&path, &bytes).unwrap();
+    cut.is_left_alone("it is torn, or of a later version of counter");
+
     fs::write(&path, &whole).unwrap();
-    done("recover", &cut.image, &[]);
-    assert!(fs::read(&cut.image).unwrap() == cut.after);
+    cut.is_finished();
+}
+
+/// The first version had no clips: two numbers less.
+#[test]
+fn a_journal_of_the_first_version_is_carried_on() {
+    let cut = Cut::new();
+    let path = journal_of(&cut.image);
+    let whole = fs::read(&path).unwrap();
+    let end = whole.len() - 24;
+    let mut first = [&whole[..16 + 12 * 8], &whole[16 + 14 * 8..end - 8]].concat();
+    first[16] = 1;
+    first.extend(sum::of(&first).to_le_bytes());
+    let len = (first.len() as u64).to_le_bytes();
+    let mark = &whole[end..end + 16];
+    first.extend(mark);
+    first.extend(sum::of(&[&len, mark].concat()).to_le_bytes());
+    fs::write(&path, &first).unwrap();
+    assert!(on("list", &cut.image, &[]).err.contains("was cut (move film to 0x20000)"));
+    cut.is_finished();
 }
 
 #[test]
@@ -285,19 +351,90 @@ fn an_image_that_was_changed_since_is_left_alone() {
     ];
     for (at, why) in cases {
         let cut = Cut::new();
-        let file = File::options().read(true).write(true).open(&cut.image).unwrap();
-        let mut byte = [0];
-        file.read_exact_at(&mut byte, at).unwrap();
-        file.write_all_at(&[byte[0] ^ 0x5A], at).unwrap();
+        cut.spoil(at);
         cut.is_left_alone(why);
     }
     // The copy is spoiled, and the old place has zeros already.
     let cut = Cut::new();
-    let file = File::options().read(true).write(true).open(&cut.image).unwrap();
-    let mut byte = [0];
-    file.read_exact_at(&mut byte, 0x2_0100).unwrap();
-    file.write_all_at(&[!byte[0]], 0x2_0100).unwrap();
+    cut.spoil(0x2_0100);
     cut.is_left_alone("whole neither at its old nor at its new place");
+    for cut in [Cut::fill(), Cut::fill_elsewhere()] {
+        cut.spoil(0x445);
+        cut.is_left_alone("its table is neither the old nor the new one");
+    }
+}
+
+// Clips -----------------------------------------------------------------------------------
+
+#[test]
+fn a_cut_fill_is_told_and_finished_from_the_clip_that_was_kept() {
+    for (cut, place) in [(Cut::fill(), 0xC100), (Cut::fill_elsewhere(), 0x1_0100)] {
+        let run = on("check", &cut.image, &[]);
+        assert_eq!(run.status, 78, "{}", run.err);
+        assert!(
+            run.err.contains("clip.bin (") && run.err.contains("was cut (fill "),
+            "{}",
+            run.err
+        );
+        // Whatever its place holds, and whatever became of the clip that was given.
+        cut.spoil(place);
+        fs::remove_file(cut.temp.at("clip.bin")).unwrap();
+        let out = done("recover", &cut.image, &[]);
+        assert!(out.starts_with("finished an edit that was cut: fill "), "{out}");
+        assert!(fs::read(&cut.image).unwrap() == cut.after);
+        assert!(!journal_of(&cut.image).exists() && !clip_of(&cut.image).exists());
+    }
+}
+
+#[test]
+fn a_clip_that_is_spoiled_is_told_unless_the_file_has_it() {
+    for (cut, place) in [(Cut::fill(), 0xC100), (Cut::fill_elsewhere(), 0x1_0100)] {
+        let path = clip_of(&cut.image);
+        let whole = fs::read(&path).unwrap();
+        let mut other = whole.clone();
+        other[0x321] ^= 1;
+        cut.spoil(place);
+        for spoiled in [&other, &whole[1..], &[&whole[..], &[0]].concat(), &[]] {
+            fs::write(&path, spoiled).unwrap();
+            cut.is_left_alone("its clip is not whole any more");
+        }
+        fs::remove_file(&path).unwrap();
+        cut.is_left_alone("its clip is not whole any more");
+        // Through a link it may be anything.
+        symlink(cut.temp.at("clip.bin"), &path).unwrap();
+        cut.is_left_alone("its clip is not whole any more");
+        let run = on("recover", &cut.image, &[]);
+        assert!(run.err.contains("go back to your copy"), "{}", run.err);
+        // The same bytes once more, as is told.
+        fs::remove_file(&path).unwrap();
+        fs::copy(cut.temp.at("clip.bin"), &path).unwrap();
+        cut.is_finished();
+    }
+    // All of it is in its place, so that it is not wanted.
+    for cut in [Cut::fill(), Cut::fill_elsewhere()] {
+        fs::remove_file(clip_of(&cut.image)).unwrap();
+        cut.is_finished();
+    }
+}
+
+/// Until the mark is there, nothing but free space was written, and the edit may be given up.
+#[test]
+fn a_clip_that_is_lost_before_the_table_was_written_costs_nothing() {
+    let cut = Cut::fill_elsewhere();
+    let journal = journal_of(&cut.image);
+    let whole = fs::read(&journal).unwrap();
+    fs::write(&journal, &whole[..whole.len() - 24]).unwrap();
+    cut.is_left_alone("its table is not the old one");
+    let file = File::options().write(true).open(&cut.image).unwrap();
+    file.write_all_at(&master(), 0).unwrap();
+    let kept = fs::read(clip_of(&cut.image)).unwrap();
+    fs::remove_file(clip_of(&cut.image)).unwrap();
+    cut.is_left_alone("its clip is not whole any more");
+    let run = on("recover", &cut.image, &[]);
+    assert!(run.err.contains("nothing but free space was written"), "{}", run.err);
+    // With the clip in its place the rest is done without it.
+    file.write_all_at(&kept, 0x1_0000).unwrap();
+    cut.is_finished();
 }
 
 // Statuses --------------------------------------------------------------------------------
@@ -311,11 +448,16 @@ fn without(image: &[u8], place: std::ops::Range<usize>) -> Vec<u8> {
 
 #[test]
 fn each_status_says_what_the_image_is_when_the_disk_is_full() {
-    let edits: [(&[&str], std::ops::Range<usize>); 6] = [
+    let edits: [(&[&str], std::ops::Range<usize>); 11] = [
         (&MOVE, 0x2_0000..0x2_3210),
         (&["resize", "film", "0x5000"], 0x1_0000..0x1_5000),
         (&["resize", "film", "0x1001"], 0..0),
         (&["resize", "d/song", "0x2800"], 0..0),
+        (&["fill", "film", "12817"], 0x1_0000..0x1_3211),
+        (&["fill", "film", "12816"], 0..0),
+        (&["fill", "film", "1"], 0..0),
+        (&["fill", "d/song", "9000"], 0..0),
+        (&["fill", "next", "0"], 0..0),
         (&["mkdir", "d/x/y"], 0..0),
         (&["rewrite"], 0..0),
     ];
@@ -323,6 +465,8 @@ fn each_status_says_what_the_image_is_when_the_disk_is_full() {
     for (args, place) in edits {
         let temp = Temp::in_memory();
         let image = temp.write("whole.iso", &master());
+        let args = with_clip(&temp, args);
+        let args: &[&str] = &args.iter().map(String::as_str).collect::<Vec<_>>();
         done(args[0], &image, &args[1..]);
         let after = fs::read(&image).unwrap();
         let mut seen = Vec::new();
@@ -348,7 +492,7 @@ fn each_status_says_what_the_image_is_when_the_disk_is_full() {
                 }
                 _ => panic!("{what}"),
             }
-            assert!(!journal_of(&image).exists(), "{what}");
+            assert!(!journal_of(&image).exists() && !clip_of(&image).exists(), "{what}");
             if run.status == 0 && !run.err.contains("finished from the journal") {
                 break;
             }

@@ -2,7 +2,7 @@
 
 mod support;
 
-use std::fs;
+use std::fs::{self, File};
 use std::path::Path;
 use std::process::Stdio;
 use std::thread;
@@ -89,7 +89,17 @@ fn a_disc_of_real_size_is_read_edited_and_compared() {
     }
     done("move", &image, &["reel.thp", "0x56000000", "--dry-run"]);
     // The film's 256 MiB are not copied for it.
-    for args in [["move", film, "0x44000000"], ["resize", film, "1"], ["resize", film, "257M"]] {
+    let (long, as_long) = (temp.at("long.bin"), temp.at("as-long.bin"));
+    File::create_new(&long).unwrap().set_len(257 << 20).unwrap();
+    File::create_new(&as_long).unwrap().set_len(FILM.into()).unwrap();
+    for args in [
+        ["move", film, "0x44000000"],
+        ["resize", film, "1"],
+        ["resize", film, "257M"],
+        ["fill", film, long.to_str().unwrap()],
+        ["fill", film, as_long.to_str().unwrap()],
+        ["fill", "data/part0001.bin", long.to_str().unwrap()],
+    ] {
         let memory = memory_of(&image, &[args[0], args[1], args[2], "--dry-run"]);
         println!("{args:?}: {memory} KiB");
         assert!(memory < 64 << 10, "{args:?}: {memory} KiB");
@@ -103,6 +113,8 @@ fn a_disc_of_real_size_is_read_edited_and_compared() {
     done("add", &image, &["text/de/voice/line.bin"]);
     done("resize", &image, &["text/de/voice/line.bin", "64K"]);
     done("resize", &image, &["data/part0007.bin", "100"]);
+    let lines = temp.write("lines.bin", &clip(0x1008, 1));
+    done("fill", &image, &["data/part0008.bin", lines.to_str().unwrap()]);
     done("rewrite", &image, &[]);
 
     let table = Table::of(&image);
@@ -110,6 +122,7 @@ fn a_disc_of_real_size_is_read_edited_and_compared() {
     assert_eq!(table.entry("/audio/theme.adp").size, 9 << 20);
     assert_eq!(table.entry("/text/de/voice/line.bin").size, 0x1_0000);
     assert_eq!(table.entry("/data/part0007.bin").size, 100);
+    assert!(on("cat", &image, &["data/part0008.bin"]).bytes == clip(0x1008, 1));
     assert!(done("list", &image, &[]) == table.listing());
     assert!(span(&image, 0x5600_0000, REEL.into()) == span(&before, 0x3000_0000, REEL.into()));
     assert!(span(&image, 0x3000_0000, REEL.into()).iter().all(|&b| b == 0));
@@ -118,18 +131,20 @@ fn a_disc_of_real_size_is_read_edited_and_compared() {
     assert!(now < at_first + 2 * u64::from(REEL) + (2 << 20), "{at_first} -> {now}");
     assert_eq!(fs::metadata(&image).unwrap().len(), u64::from(DISC));
 
-    let named = ["/audio/theme.adp", "/data/part0007.bin", "/text/de/voice/line.bin"];
+    let named =
+        ["/audio/theme.adp", "/data/part0007.bin", "/data/part0008.bin", "/text/de/voice/line.bin"];
     let kept = |sums: &[(String, u64)]| {
         let kept = sums.iter().filter(|(path, _)| !named.contains(&path.as_str()));
         kept.cloned().collect::<Vec<_>>()
     };
     assert!(kept(&sums(&image)) == kept(&old_sums));
 
-    let list = temp.write("given.txt", b"reel.thp\naudio/theme.adp\ndata/part0007.bin\n");
+    let list = b"reel.thp\naudio/theme.adp\ndata/part0007.bin\ndata/part0008.bin\n";
+    let list = temp.write("given.txt", list);
     let run = compare(&before, &image, &list);
     let end = run.out.lines().rev().take(5).collect::<Vec<_>>();
     assert_eq!(run.status, 0, "{end:?}");
-    let counts = "2,010 files: 2,006 unchanged, 2 moved, 2 resized, 0 changed, 1 new, 0 gone";
+    let counts = "2,010 files: 2,005 unchanged, 2 moved, 2 resized, 1 changed, 1 new, 0 gone";
     assert!(end.contains(&counts), "{end:?}");
     let list = temp.write("less.txt", b"reel.thp\naudio/theme.adp\n");
     let run = compare(&before, &image, &list);

@@ -11,13 +11,6 @@ use support::*;
 
 const END: u32 = 0x20_0000;
 
-/// A realistic master of 2 MiB.
-fn usual_master(temp: &Temp) -> std::path::PathBuf {
-    let path = temp.at("usual.iso");
-    sparse(&path, &usual(0x10_0000, 0x4_5678), END);
-    path
-}
-
 #[test]
 fn built_in_small_master_is_listed_as_the_paper_has_it() {
     let listing = "total 8192 used 1370\nd 0 0 2 /\nf 1 1280 256 /a\nr 1114 166\nr 1536 6656\n";
@@ -911,7 +904,8 @@ fn help_documents_commands_statuses_and_safety() {
     assert_eq!(run_help.status, 0);
     let commands = [
         "info", "list", "tree", "free", "find", "place", "check", "extract", "cat", "dol", "map",
-        "compare", "hash", "report", "mkdir", "add", "move", "resize", "rewrite", "recover",
+        "compare", "hash", "report", "mkdir", "add", "move", "resize", "fill", "rewrite",
+        "recover",
     ];
     for command in commands {
         assert!(run_help.out.contains(&format!("counter {command} ")), "{command}");
@@ -974,7 +968,8 @@ fn help_names_every_field_of_the_json() {
     let copy = temp.at("copy.iso");
     fs::copy(&image, &copy).unwrap();
     let copy = copy.to_str().unwrap();
-    let commands: [(&str, &[&str]); 19] = [
+    let lines = temp.write("lines.bin", b"lines");
+    let commands: [(&str, &[&str]); 20] = [
         ("info", &[]),
         ("list", &[]),
         ("tree", &[]),
@@ -993,6 +988,7 @@ fn help_names_every_field_of_the_json() {
         ("add", &["new/file"]),
         ("move", &["opening.bnr", "0x190002"]),
         ("resize", &["opening.bnr", "0"]),
+        ("fill", &["opening.bnr", lines.to_str().unwrap()]),
         ("rewrite", &[]),
     ];
     for (command, rest) in commands {

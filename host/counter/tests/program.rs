@@ -31,17 +31,6 @@ fn told(program: &Json) -> (u64, u64, bool) {
     (number("offset"), number("size"), program.at("behind_table").flag())
 }
 
-/// Runs an edit that must be refused, dry and real, and leave the file as it was.
-fn refused(image: &Path, args: &[&str], number: i32) {
-    let before = State::of(image);
-    for more in [&["--dry-run"][..], &[]] {
-        let run = on(args[0], image, &[&args[1..], more].concat());
-        assert_eq!(run.status, number, "{args:?}: {}{}", run.out, run.err);
-        assert!(run.err.contains(&format!("refused {number}: ")), "{args:?}: {}", run.err);
-    }
-    assert_eq!(State::of(image), before, "{args:?}");
-}
-
 // What is told ----------------------------------------------------------------------------
 
 #[test]

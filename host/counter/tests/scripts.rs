@@ -2,14 +2,7 @@
 
 mod support;
 
-use std::path::PathBuf;
 use support::*;
-
-fn usual_master(temp: &Temp) -> PathBuf {
-    let path = temp.at("usual.iso");
-    sparse(&path, &usual(0x10_0000, 0x4_5678), 0x20_0000);
-    path
-}
 
 fn place(entry: &Json, side: &str) -> (u64, u64) {
     let place = entry.at(side);

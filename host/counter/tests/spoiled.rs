@@ -104,8 +104,14 @@ fn no_image_makes_the_program_fall_over() {
                 assert_eq!(run.status, 0, "turn {turn}: {}", run.out);
             }
         }
-        let edits: [&[&str]; 4] =
-            [&["move", "a", "0x2000"], &["resize", "d/b", "0x50"], &["mkdir", "d/n"], &["rewrite"]];
+        let given = temp.write("given", &clip(0x30 + turn, 1));
+        let edits: [&[&str]; 5] = [
+            &["move", "a", "0x2000"],
+            &["resize", "d/b", "0x50"],
+            &["mkdir", "d/n"],
+            &["rewrite"],
+            &["fill", "d/b", given.to_str().unwrap()],
+        ];
         let edit = edits[turn % edits.len()];
         let run = on(edit[0], &image, &edit[1..]);
         assert!(run.status <= 24, "turn {turn} {edit:?}: {}", run.err);

@@ -139,6 +139,61 @@ pub fn json(command: &str, image: &Path, rest: &[&str]) -> Json {
     Json::read(&done(command, image, &args))
 }
 
+// Edits -----------------------------------------------------------------------------------
+
+/// Runs an edit that must be refused, dry and real, and leave the file as it was.
+pub fn refused(image: &Path, args: &[&str], number: i32) {
+    let before = State::of(image);
+    for dry in [true, false] {
+        let mut rest = args[1..].to_vec();
+        if dry {
+            rest.push("--dry-run");
+        }
+        let run = on(args[0], image, &rest);
+        assert_eq!(run.status, number, "{args:?}: {}{}", run.out, run.err);
+        assert!(run.err.contains(&format!("refused {number}: ")), "{args:?}: {}", run.err);
+        assert_eq!(run.out, "", "{args:?}");
+    }
+    assert_eq!(State::of(image), before, "{args:?}");
+    assert!(!journal_of(image).exists() && !clip_of(image).exists(), "{args:?}");
+}
+
+/// Runs an edit dry, which must leave the file as it was, then real.
+pub fn accepted(image: &Path, args: &[&str]) -> String {
+    let before = State::of(image);
+    let mut dry = args[1..].to_vec();
+    dry.push("--dry-run");
+    let told = done(args[0], image, &dry);
+    assert!(told.contains("nothing was written"), "{told}");
+    assert_eq!(State::of(image), before, "{args:?}");
+    let out = done(args[0], image, &args[1..]);
+    match State::of(image) == before {
+        true => assert!(out.ends_with("done: there was nothing to write\n"), "{out}"),
+        false => assert!(out.ends_with("done: written and synced\n"), "{out}"),
+    }
+    assert!(!journal_of(image).exists() && !clip_of(image).exists(), "{args:?}");
+    // The dry run said the same things.
+    let said = |text: &str| text.lines().rev().skip(1).map(str::to_string).collect::<Vec<_>>();
+    let dry: Vec<String> = said(&out).iter().map(|line| format!("dry run: {line}")).collect();
+    assert_eq!(said(&told), dry);
+    out
+}
+
+/// The journal of an edit of this image, and the clip of a fill.
+pub fn journal_of(image: &Path) -> PathBuf {
+    beside(image, ".counter-journal")
+}
+
+pub fn clip_of(image: &Path) -> PathBuf {
+    beside(image, ".counter-clip")
+}
+
+fn beside(image: &Path, end: &str) -> PathBuf {
+    let mut name = image.as_os_str().to_os_string();
+    name.push(end);
+    name.into()
+}
+
 // A file's state --------------------------------------------------------------------------
 
 /// All that a refusal must leave alone.
@@ -345,6 +400,13 @@ pub fn usual(film_at: u32, film: u32) -> Vec<Wish> {
     ]
 }
 
+/// A realistic master of 2 MiB.
+pub fn usual_master(temp: &Temp) -> PathBuf {
+    let path = temp.at("usual.iso");
+    sparse(&path, &usual(0x10_0000, 0x4_5678), 0x20_0000);
+    path
+}
+
 /// A sparse image on the disk: the start, then each file with bytes at its start, middle and end.
 pub fn sparse(path: &Path, entries: &[Wish], end: u32) {
     let file = OpenOptions::new().read(true).write(true).create_new(true).open(path).unwrap();
@@ -480,6 +542,39 @@ impl Table {
         }
         out
     }
+}
+
+/// The image at `image` with the file at `path` filled, from the scope paper's words: the clip where the
+/// file lies, if there is room, or else at the largest free multiple of 0x8000, the last among equals;
+/// zeros where the file was and is no more; place and size in the table, which has no name shared.
+pub fn filled(image: &Path, path: &str, clip: &[u8]) -> Vec<u8> {
+    let table = Table::of(image);
+    let number = table.entries.iter().position(|entry| entry.path == path).unwrap();
+    let Entry { offset, size, .. } = table.entries[number];
+    let (from, old_end, len) = (u64::from(offset), u64::from(offset + size), clip.len() as u64);
+    // An empty file may lie in the midst of free space.
+    let behind = table.free().into_iter().map(|(start, room)| start..start + room);
+    let behind = behind.filter(|free| free.contains(&old_end)).map(|free| free.end - old_end);
+    let room = old_end - from + behind.sum::<u64>();
+    let rests = table.free().into_iter().filter_map(|(start, room)| {
+        let at = start.next_multiple_of(0x8000);
+        (at + len <= start + room).then(|| (start + room - at, at))
+    });
+    let to = if len <= room { from } else { rests.max().unwrap().1 };
+    let mut bytes = fs::read(image).unwrap();
+    bytes[from as usize..old_end as usize].fill(0);
+    bytes[to as usize..][..clip.len()].copy_from_slice(clip);
+    let record = get(&bytes, 0x424) as usize + 12 * number;
+    put(&mut bytes, record + 4, to as u32);
+    put(&mut bytes, record + 8, clip.len() as u32);
+    bytes
+}
+
+/// Bytes that no image has: each clip has its own.
+pub fn clip(len: usize, seed: u32) -> Vec<u8> {
+    let mut bytes = vec![0; len];
+    pattern(&mut bytes, seed ^ 0x5EED);
+    bytes
 }
 
 /// The bytes of a span of a file.
