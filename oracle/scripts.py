@@ -1,5 +1,5 @@
 #!/usr/bin/env python3
-"""Makes the scripts of host/replay (host/replay/scripts, format: host/replay/SOURCES.md), but for sampled.txt.
+"""Makes the scripts of host/replay (host/replay/scripts, format: host/replay/SOURCES.md), but for sampled.txt and sampled_fills.txt.
 
     oracle/scripts.py ORACLE    ORACLE: the program that oracle/build makes
 
@@ -100,7 +100,7 @@ class Script:
         """An edit. `paper`: the answer by document `of`, `ok`, `ok NUMBER` or the number of a refusal, and `why` the Rust's is not it.
         `image`: where that document accepts what the Rust refuses or is not asked, a function that has the oracle make the image that it
         describes."""
-        line = " ".join([CALLS.get(name, name)] + [n(a) if isinstance(a, int) else text(a) for a in arguments])
+        line = " ".join([CALLS.get(name, name)] + [shown(a) for a in arguments])
         command = " ".join([COMMANDS.get(name, name)] + [str(a) if isinstance(a, int) else a.hex() or "-" for a in arguments])
         if paper is None:
             answer, source = as_answer(self.oracle(command), line), "Rust" + (f"; {note}" if note else "")
@@ -265,7 +265,7 @@ class Script:
         return self.oracle.setting(" ".join([self.opener] + self.ops + ["c:0"])).split()[-1].split("=")[1]
 
 
-CALLS = {"move": "move_file", "resize": "resize_file"}
+CALLS = {"move": "move_file", "resize": "resize_file", "replace": "fill_file", "replace_zeros": "fill_zeros"}
 COMMANDS = {"insert_directory": "insert_dir", "make_directories": "mkdirs"}
 
 
@@ -278,6 +278,26 @@ def text(bytes_):
     if b'"' not in bytes_ and all(0x20 <= b <= 0x7E or b == 10 for b in bytes_):
         return '"' + bytes_.decode("ascii") + '"'
     return ":" + bytes_.hex()
+
+
+class Clip:
+    """So many bytes: a text time and again, each time larger by `step`."""
+
+    def __init__(self, count, text=b"\xC1\x11", step=7):
+        self.count, self.text, self.step = count, text, step
+
+    def bytes(self):
+        return bytes((self.text[k % len(self.text)] + k // len(self.text) * self.step) % 256 for k in range(self.count))
+
+    def hex(self):
+        return self.bytes().hex()
+
+
+def shown(argument):
+    """A number, a text or a clip as a line has it."""
+    if isinstance(argument, Clip):
+        return f"{n(argument.count)} {n(argument.step)} {text(argument.text)}"
+    return n(argument) if isinstance(argument, int) else text(argument)
 
 
 def fnv(bytes_):
@@ -1496,6 +1516,161 @@ def unread(s):
 # ---- tables written anew
 
 
+# ---- fills
+
+LONG = "a clip above 2^32 - 1 bytes finds no place; the Rust panics"
+
+
+def filled(s):
+    s.lend(0x1000, 0x1000)
+    new_image(s, "small master of document 01: its file filled", 0x2000, A_AT_500, free=False)
+    s.edit("replace", 1, Clip(0x100), note="its own size")
+    s.peek(0x4FE, 0x10)
+    s.edit("replace", 1, Clip(0x100, b"\0"), note="other bytes in their place")
+    s.edit("replace", 1, Clip(0x101), note="one more")
+    s.edit("replace", 1, Clip(0xFF, b"\x5A"), note="less")
+    s.edit("replace", 1, b"clip")
+    s.peek(0x500, 8)
+    s.edit("replace", 1, b"", note="nothing: as a resize to 0")
+    s.edit("replace", 1, b"", note="nothing, for an empty file")
+    s.edit("replace", 1, Clip(0x1B00), note="from empty, as far as it goes")
+    s.edit("replace", 1, Clip(0x1B01))
+    s.load()
+    s.edit("replace", 1, Clip(0x1B00), note="as far as it goes")
+    s.edit("replace", 1, Clip(0x1B01))
+    s.edit("replace_zeros", 1, 0x1B00, note="its own size")
+    s.load()
+    s.edit("replace", 1, Clip(0x1B01))
+    s.edit("replace", 2, b"clip")
+    s.edit("replace", 0, b"clip")
+    s.edit("replace", 0xFFFFFFFF, b"")
+    for length in (0x2000, 0x2001, 0xFFFFFFFF):
+        s.edit("replace_zeros", 1, length)
+        s.edit("replace_zeros", 0, length)
+        s.edit("replace_zeros", 2, length)
+    for length in (0x100000000, 0x100000100, 0x100001B00, 0x1FFFFFFFF, 0x200000000):
+        s.edit("replace_zeros", 1, length, paper=21, why=LONG, of="02")
+        s.edit("replace_zeros", 0, length, paper=16, why="before the clip's 21; the Rust panics", of="02")
+        s.edit("replace_zeros", 9, length)
+    s.edit("rewrite", note="nothing was written")
+
+
+def memory_of_fills(s):
+    new_image(s, "the same with bytes that are not zero: how much memory a fill needs", 0x2000, A_AT_500, files=[(0x500, 0x100)])
+    short, few = "one working word too few", "one working byte too few"
+    s.lend(0x10, 0x1A)
+    s.edit("replace", 1, Clip(0x80), note="words and bytes exactly enough")
+    s.load()
+    s.lend(0x10, 0x19)
+    for length in (0, 1, 0xFF, 0x101, 0x1B00):
+        s.edit("replace", 1, Clip(length), paper=9, why=few)
+    s.edit("replace", 1, Clip(0x100), note="its own size: no working bytes")
+    s.lend(0x10, 0)
+    s.edit("replace", 1, Clip(0x100, b"\x77"), note="its own size: no working bytes")
+    s.edit("replace", 1, Clip(0x1B01), note="21 before memory")
+    s.edit("replace_zeros", 1, 0x100000000, paper=21, why=LONG, of="02")
+    s.edit("replace", 2, b"")
+    s.edit("replace", 0, b"")
+    s.edit("replace", 1, b"", paper=9, why="no working byte")
+    s.lend(0xF, 0x1A)
+    s.edit("replace", 1, Clip(0x100), paper=9, why=short + ", even for its own size")
+    s.edit("replace", 7, b"", paper=9, why=short + ", before 15")
+    s.edit("replace_zeros", 1, 0x100000000, paper=9, why=short + ", before the clip's 21")
+    s.lend(0x1000, 0x1000)
+
+
+def fills_elsewhere(s):
+    table = directory(0, 0, 4) + file(0, 0x500, 0x100) + file(2, 0x600, 0x10) + file(4, 0x8801, 0) + b"a\0b\0c\0"
+    new_image(s, "file b right behind file a, one multiple of 0x8000 with the empty file c in its place, an image longer than its disc", 0x9100,
+              table, user=0x9000, files=[(0x500, 0x100), (0x600, 0x10)])
+    s.edit("replace", 1, Clip(0x101), note="it has to move; zeros where it was")
+    s.peek(0x4FE, 0x10)
+    s.peek(0x80FC, 8)
+    s.edit("replace", 1, Clip(0x80), note="there it stays")
+    s.load()
+    s.edit("replace", 1, Clip(0x1000), note="exactly fits there")
+    s.load()
+    s.edit("replace", 1, Clip(0x1001))
+    s.edit("replace", 2, Clip(0x8A00), note="where it is, up to the disc end")
+    s.load()
+    s.edit("replace", 2, Clip(0x8A01))
+    for length, note in ((0x7FF, "where it is"), (0x800, "elsewhere"), (0x801, "elsewhere, up to where it was")):
+        s.edit("replace", 3, Clip(length), note=note)
+        s.load()
+    s.edit("replace", 3, Clip(0x802), note="the place found holds the file itself")
+    s.edit("replace", 3, Clip(0x1000))
+    s.edit("replace", 3, Clip(0x1001))
+    s.heading("a list: filled, moved, cut, grown, filled again")
+    for name, arguments in [("replace", (1, Clip(0x200))), ("move", (1, 0x700)), ("resize", (1, 0x180)), ("resize", (1, 0x200)),
+                            ("replace", (2, b"dubbed")), ("insert_file", (0, b"new")), ("move", (4, 0x1000)), ("replace", (4, Clip(0x300))),
+                            ("replace", (1, Clip(0x201))), ("make_directories", (0, b"d/e")), ("replace", (5, b"")), ("replace", (4, b"")),
+                            ("replace", (3, Clip(3))), ("rewrite", ()), ("replace_zeros", (1, 0x201)), ("replace", (2, Clip(0x10)))]:
+        s.edit(name, *arguments)
+
+
+def fills_and_the_table(s):
+    table = directory(0, 0, 4) + file(0, 0x500, 0x10) + file(0, 0x472, 0) + file(0, 0x474, 0) + b"a\0"
+    new_image(s, "three files share a text, two of them empty and near the table's end", 0x2000, table, files=[(0x500, 0x10)])
+    s.edit("replace", 2, b"1", paper=21, why=GROWN)
+    s.edit("replace", 3, Clip(0x80), paper=21, why=GROWN)
+    s.edit("replace", 2, b"", note="its own size writes no table")
+    s.edit("replace", 1, Clip(0x11))
+    s.edit("replace", 2, b"1", note="in the table now: no place but another")
+    table = directory(0, 0, 4) + file(0, 0x500, 0x100) + file(0, 0x474, 2) + file(0, 0x600, 2) + b"a\0"
+    new_image(s, "a file right behind the table: no table can be written", 0x9000, table, files=[(0x500, 0x100), (0x474, 2), (0x600, 2)])
+    s.edit("replace", 1, Clip(0x101), paper=21, why=HALF)
+    s.edit("replace", 1, Clip(0xFF))
+    s.edit("replace", 1, b"")
+    s.edit("replace", 1, Clip(0x100), note="its own size writes no table")
+    s.edit("replace", 2, b"12")
+    s.edit("replace", 2, b"123")
+
+
+def fills_of_unopened(s):
+    new_image(s, "images that do not open: the small master with another word or byte", 0x2000, A_AT_500, files=[(0x500, 0x100)])
+    for text, change, number, why in [
+            ("of 0x43f bytes", lambda: s.size(0x43F), None, ""),
+            ("of 0x1fff bytes", lambda: s.size(0x1FFF), 4, "bounds that the Rust does not test"),
+            ("name `.`", lambda: s.patch(0x458, b"."), None, ""),
+            ("file in the table", lambda: s.patch(0x450, word(0x459)), 14, "the Rust panics")]:
+        s.load()
+        s.heading(text)
+        change()
+        s.edit("replace", 1, Clip(0x100), paper=number, why=why)
+        s.edit("replace", 9, b"", paper=number, why=why)
+        s.edit("replace_zeros", 0, 0x200000000, paper=number, why=why)
+
+
+def fills_beside_the_program(s):
+    new_image(s, "a program of 0x123 bytes at 0x1000, behind the table and file a at 0x800", 0x2000, A_AT_800, files=[(0x800, 0x100)])
+    put_program(s, 0x1000, (0x100, 0x23))
+    s.save()
+    s.lend(0x10, 0x1A)
+
+    def image(at, clip, *more):
+        return patched(s, (at, clip.bytes()), *more)
+    s.edit("replace", 1, Clip(0x100), note="its own size")
+    s.edit("replace", 1, Clip(0x801), paper=21, why="a byte into the program, and no free multiple of 0x8000", of="02")
+    s.edit("replace", 1, Clip(0x800), paper="ok", why="up to the program", image=image(0x800, Clip(0x800), (0x454, word(0x800))), of="02")
+    s.edit("replace", 1, Clip(0x801), paper=21, why="a byte more", of="02")
+    s.program(0x1000, 0x123, "as it was")
+    s.free_regions()
+    new_image(s, "three clusters, the program in the second: a file that has to move finds a place beside it", 0x18000,
+              directory(0, 0, 3) + file(0, 0x1000, 0x100) + file(2, 0x1100, 0x10) + b"a\0b\0", files=[(0x1000, 0x100), (0x1100, 0x10)])
+    put_program(s, 0x9000, (0, 0x800))
+    s.save()
+    s.lend(0x14, 0x28)
+    for length, why in [(0x101, "file b is right behind it; the larger rest"), (0x8000, "exactly fits there")]:
+        moved_ = image(0x10000, Clip(length), (0x1000, bytes(0x100)), (0x450, word(0x10000)), (0x454, word(length)))
+        s.edit("replace", 1, Clip(length), paper="ok", why=why, image=moved_, of="02")
+        s.load()
+    s.edit("replace", 1, Clip(0x8001), paper=21, why="a byte more than the larger rest has", of="02")
+    s.lend(0x14, 0x27)
+    s.edit("replace", 1, Clip(0x101), paper=9, why="one working byte too few", of="02")
+    s.edit("replace", 1, Clip(0x8001), paper=21, why="before memory", of="02")
+    s.lend(0x1000, 0x1000)
+
+
 def tables(s):
     """An image whose table is each of these, written anew, and every entry read back; and with just as many working bytes as that takes."""
     shared = (directory(0, 7, 8) + directory(1, 5, 5) + file(1, 0x10000, 0x10) + directory(3, 0, 5) + file(4, 0x10100, 0x20) + file(6, 0x10200, 0x30)
@@ -1609,7 +1784,8 @@ def make(oracle):
             ("edits", (small_master, memory, places, spoiled_master, grown_over, half_done, empty_files, equal_rests, nested, disc_ends, far_table,
                        game_names, unopened, limits, inserts, names, made, deep, limits_of_inserts, chain)),
             ("reading", (with_changes, lookups, clusters, headers, fields)), ("windows", (windows, reads, executables)), ("tables", (tables,)),
-            ("listing", (listings,)), ("program", (none_named, before_table, behind_table, abutting, unread))]:
+            ("listing", (listings,)), ("program", (none_named, before_table, behind_table, abutting, unread)),
+            ("fills", (filled, memory_of_fills, fills_elsewhere, fills_and_the_table, fills_of_unopened, fills_beside_the_program))]:
         s.lines = []
         for part in parts:
             part(s)

@@ -417,18 +417,52 @@ fn look(command: &str, mut words: Words, image: &[u8]) -> Answer<String> {
 
 // Commands that edit ----------------------------------------------------------------------
 
+const MAX_CLIP: u64 = 1 << 33;
+
+/// So many zero bytes to be read, without memory for them.
+struct Zeros {
+    len: u64,
+    at: u64,
+}
+
+impl Read for Zeros {
+    fn read(&mut self, buf: &mut [u8]) -> io::Result<usize> {
+        let count = (buf.len() as u64).min(self.len.saturating_sub(self.at));
+        buf[..count as usize].fill(0);
+        self.at += count;
+        Ok(count as usize)
+    }
+}
+
+impl Seek for Zeros {
+    fn seek(&mut self, pos: SeekFrom) -> io::Result<u64> {
+        let at = match pos {
+            SeekFrom::Start(at) => Some(at),
+            SeekFrom::Current(by) => self.at.checked_add_signed(by),
+            SeekFrom::End(by) => self.len.checked_add_signed(by),
+        };
+        self.at = at.ok_or(io::ErrorKind::InvalidInput)?;
+        Ok(self.at)
+    }
+}
+
 fn edit(command: &str, mut words: Words, image: &mut Vec<u8>) -> Answer<String> {
     // All words are read before the image is opened, as the original's caller has them then.
     let target = if command == "rewrite" { 0 } else { words.number()? };
     let (mut name, mut number, mut size, mut bytes) = (String::new(), 0, 0, vec![]);
+    let mut zeros = Zeros { len: 0, at: 0 };
     match command {
         "insert_file" | "insert_dir" | "mkdirs" => name = words.utf8()?,
         "move" | "resize" => number = words.word()?,
         "place" => (number, size) = (words.word()?, words.word()?),
         "replace" => bytes = words.bytes()?,
+        "replace_zeros" => zeros.len = words.number()?,
         _ => (),
     }
     words.end()?;
+    if zeros.len > MAX_CLIP {
+        return Err(Stop::Usage("too long"));
+    }
 
     if guard::tree_is_huge(image) {
         return Err(Stop::Huge);
@@ -450,6 +484,7 @@ fn edit(command: &str, mut words: Words, image: &mut Vec<u8>) -> Answer<String> 
         "resize" => disc.resize_file(id, number)?,
         "place" => disc.move_and_resize_file(id, number, size)?,
         "replace" => disc.replace_file(id, Cursor::new(bytes))?,
+        "replace_zeros" => disc.replace_file(id, zeros)?,
         _ => disc.commit_file_tree()?,
     }
     Ok(match made {
@@ -541,7 +576,7 @@ impl State {
                 (Ok(self.bytes(command, words)), "")
             }
             "insert_file" | "insert_dir" | "mkdirs" | "move" | "resize" | "place" | "rewrite"
-            | "replace" => {
+            | "replace" | "replace_zeros" => {
                 let mut work = self.image.clone();
                 let result = catch_unwind(AssertUnwindSafe(|| edit(command, words, &mut work)));
                 let kept = if work == self.image { " same" } else { " changed" };

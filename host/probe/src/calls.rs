@@ -3,6 +3,7 @@
 //! past the answer, and on a refusal all slots and lists, as they were.
 
 use crate::language::{Answer, Stop};
+use crate::zeros::Zeros;
 pub use counter_sys::ENTRY_WORDS;
 use counter_sys::guarded::{Element, Guarded};
 use counter_sys::{CLUSTER_WORDS, DOL_WORDS, HEADER_SIZE, REGION_WORDS, call};
@@ -402,6 +403,40 @@ impl Lender {
             call!(counter_resize_file(mut image, mut words, mut bytes, = number, = new_size))
         })?;
         Ok(())
+    }
+
+    fn fill_with(&mut self, number: u32, clip: &[u8]) -> Answer<()> {
+        let [] = self.edit(|image, words, bytes, _| unsafe {
+            call!(counter_fill_file(mut image, mut words, mut bytes, = number, in clip))
+        })?;
+        Ok(())
+    }
+
+    /// The bytes of a file.
+    fn file(&mut self, number: u32) -> Answer<&[u8]> {
+        let [_, _, offset, size] = self.entry(number)?.map(|word| word as usize);
+        if size == 0 {
+            return Ok(&[]);
+        }
+        self.image.slice().get(offset..offset + size).ok_or(Stop::Dirty("file: past the image"))
+    }
+
+    /// The clip stays, and an accepted fill makes the file exactly the clip.
+    pub fn fill_file(&mut self, number: u32, clip: &[u8]) -> Answer<()> {
+        let lent = Guarded::of(clip);
+        let result = self.fill_with(number, lent.slice());
+        hold(lent.margins_stay(), "beside clip")?;
+        hold(lent.slice() == clip, "clip")?;
+        result?;
+        hold(self.file(number)? == clip, "file: not the clip")
+    }
+
+    /// The same with zeros. Only the library reads them, and nobody can write to them.
+    pub fn fill_with_zeros(&mut self, number: u32, clip: &Zeros) -> Answer<()> {
+        self.fill_with(number, clip.slice())?;
+        let file = self.file(number)?;
+        let same = file.len() == clip.slice().len() && file.iter().all(|byte| *byte == 0);
+        hold(same, "file: not the clip")
     }
 
     pub fn rewrite(&mut self) -> Answer<()> {

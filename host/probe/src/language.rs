@@ -50,6 +50,11 @@ impl<'a> Words<'a> {
         unhex(self.0.next().unwrap_or("-"))
     }
 
+    /// The same where a word has to be there: `-` stands for none.
+    pub fn named_bytes(&mut self) -> Answer<Vec<u8>> {
+        unhex(self.text()?)
+    }
+
     pub fn end(&mut self) -> Answer<()> {
         if self.0.next().is_none() { Ok(()) } else { Err(Stop::Usage("too many words")) }
     }

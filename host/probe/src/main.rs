@@ -14,6 +14,7 @@ mod calls;
 
 mod language;
 mod state;
+mod zeros;
 
 use state::State;
 use std::io::{self, BufRead, BufReader, BufWriter, Write};

@@ -2,6 +2,7 @@
 
 use crate::calls::{CLUSTERS, ENTRY_WORDS, Lender, PerRegion, REGIONS};
 use crate::language::{Answer, FNV_START, Stop, Words, fnv, hex, number, signed};
+use crate::zeros::Zeros;
 use counter_sys::ffi;
 use counter_sys::guarded::Guarded;
 use std::collections::HashMap;
@@ -34,6 +35,7 @@ const FIELDS: [(&str, usize, usize, bool); 21] = [
 ];
 
 const MAX_IMAGE: usize = 1 << 33;
+const MAX_CLIP: usize = 1 << 33;
 const MAX_READ: u64 = 1 << 24;
 
 pub struct State {
@@ -64,9 +66,8 @@ impl State {
                 self.bytes(command, words)
             }
             "window" | "filewindow" | "dolwindow" => self.window(command, words),
-            "insert_file" | "insert_dir" | "mkdirs" | "move" | "resize" | "rewrite" => {
-                self.edit(command, words)
-            }
+            "insert_file" | "insert_dir" | "mkdirs" | "move" | "resize" | "replace"
+            | "replace_zeros" | "rewrite" => self.edit(command, words),
             _ => self.look(command, words),
         };
         match result {
@@ -346,13 +347,18 @@ impl State {
 
     fn edit(&mut self, command: &str, mut words: Words) -> Answer<String> {
         let target = if command == "rewrite" { 0 } else { words.word()? };
-        let (mut name, mut number) = (vec![], 0);
+        let (mut name, mut number, mut length) = (vec![], 0, 0);
         match command {
             "move" | "resize" => number = words.word()?,
+            "replace" => name = words.named_bytes()?,
+            "replace_zeros" => length = words.size()?,
             "rewrite" => (),
             _ => name = words.bytes()?,
         }
         words.end()?;
+        if length > MAX_CLIP {
+            return Err(Stop::Usage("too long"));
+        }
         let lender = &mut self.lender;
         Ok(match command {
             "insert_file" => format!("ok {}", lender.insert_file(target, &name)?),
@@ -364,6 +370,15 @@ impl State {
             }
             "resize" => {
                 lender.resize_file(target, number)?;
+                "ok".into()
+            }
+            "replace" => {
+                lender.fill_file(target, &name)?;
+                "ok".into()
+            }
+            "replace_zeros" => {
+                let zeros = Zeros::new(length).ok_or(Stop::Usage("cannot be reserved"))?;
+                lender.fill_with_zeros(target, &zeros)?;
                 "ok".into()
             }
             _ => {

@@ -1,6 +1,6 @@
 //! The probe on the scope paper's small master: its listing, P1 to P12, every refusal number once,
-//! free regions in clusters, a program behind the table or before it, lists of edits, and calls with
-//! too little memory or too short a list.
+//! free regions in clusters, a program behind the table or before it, lists of edits, files filled
+//! from given bytes, and calls with too little memory or too short a list.
 //! `dirty` is never an answer.
 
 use std::io::{Read, Write};
@@ -20,6 +20,9 @@ const MASTER: [&str; 6] = [
 ];
 
 fn hex(bytes: &[u8]) -> String {
+    if bytes.is_empty() {
+        return "-".into();
+    }
     bytes.iter().map(|b| format!("{b:02x}")).collect()
 }
 
@@ -348,6 +351,19 @@ fn usage() {
         ("lend_list all", "usage not a number"),
         ("clusters 1", "usage too many words"),
         ("cluster", "usage no such command"),
+        ("replace", "usage a word is missing"),
+        ("replace 1", "usage a word is missing"),
+        ("replace 1 0", "usage odd hexadecimal"),
+        ("replace 1 0g", "usage not hexadecimal"),
+        ("replace 1 00 00", "usage too many words"),
+        ("replace 4294967296 00", "usage above 32 bits"),
+        ("replace_zeros 1", "usage a word is missing"),
+        ("replace_zeros 1 1 1", "usage too many words"),
+        ("replace_zeros 4294967296 1", "usage above 32 bits"),
+        ("replace_zeros 1 -", "usage not a number"),
+        ("replace_zeros 1 8589934593", "usage too long"),
+        ("replace_zeros 1 18446744073709551615", "usage too long"),
+        ("replace_zeros 1 18446744073709551616", "usage not a number"),
     ];
     commands.extend(wrong.map(|(line, _)| line.into()));
     commands.extend(["hash", "rewrite", "clusters"].map(String::from));
@@ -390,6 +406,96 @@ fn edits() {
     ]);
 }
 
+/// A file filled from given bytes is exactly these; all else is as a resize leaves it.
+#[test]
+fn fills() {
+    let bytes = |length: usize| hex(&(0..length).map(|i| (i % 251) as u8 + 1).collect::<Vec<_>>());
+    let [same, longer] = [0x100, 0x101].map(|length| format!("replace 1 {}", bytes(length)));
+    let (same, longer) = (same.as_str(), longer.as_str());
+    // All of `a`, and a byte on either side of it.
+    let [own, grown] = [0x100, 0x101].map(|length| format!("ok ee{}ee", bytes(length)));
+    let (before, behind) = ("patch 0x4ff ee", "patch 0x600 eeee");
+    hold(&[
+        // Its own size: no table is written, and no working byte is wanted.
+        (&["lend 16 0", before, behind, same, "peek 0x4ff 0x102"], &own),
+        (&["lend 15 0", same], "err 9"),
+        // A byte more, and what stood there is gone; the table's size in bytes, and one less.
+        (&["lend 16 0x1a", before, behind, longer, "peek 0x4ff 0x103"], &grown),
+        (&[longer, "list"], "ok d:0:0:2:1:2f f:1:1280:257:2f61"),
+        (&["lend 16 0x19", longer], "err 9"),
+        (&["replace 1 aa"], "err 9"),
+        (&["lend 15 0x1a", longer], "err 9"),
+        // Shorter: the lost end is zeroed. Nothing at all: as a resize to 0.
+        (&["lend 65544 2097152", same, "replace 1 aabb", "peek 0x500 4"], "ok aabb0000"),
+        (&[same, "replace 1 aabb", "peek 0x5fe 2"], "ok 0000"),
+        (&[same, "replace 1 -", "list"], "ok d:0:0:2:1:2f f:1:1280:0:2f61"),
+        (&[same, "replace 1 -", "peek 0x500 2"], "ok 0000"),
+        (&["lend 16 0", "patch 0x454 00000000", "replace 1 -"], "ok"),
+        // As far as it goes, and a byte more.
+        (&["lend 65544 2097152", "replace_zeros 1 0x1b00", "free"], "ok 1114:166"),
+        (&[same, "replace_zeros 1 0x1b00", "filewindow 1 r:4"], "ok r=4:00000000"),
+        (&["replace_zeros 1 0x1b01"], "err 21"),
+        (&["insert_file 0 62", "replace 2 aa"], "err 21"),
+        (&["insert_file 0 62", "move 2 0x1fff", "replace 2 aa", "peek 0x1ffe 2"], "ok 00aa"),
+        (&["insert_file 0 62", "move 2 0x1fff", "replace 2 aabb"], "err 21"),
+    ]);
+}
+
+/// `b` lies right behind `a`, and the disc has a multiple of 0x8000.
+#[test]
+fn fills_that_move_the_file() {
+    const TWO: [&str; 6] = [
+        "size 0x9000",
+        "patch 0x434 00009000",
+        "patch 0x428 00000028",
+        "patch 0x440 010000000000000000000003000000000000050000000100",
+        "patch 0x458 00000002000006000000001061006200",
+        "patch 0x5ff ee11",
+    ];
+    let clip = "c7".repeat(0x101);
+    let fill = format!("replace 1 {clip}");
+    let there = format!("ok {clip}00");
+    let cases: [(&[&str], &str); 8] = [
+        (&[&fill, "list"], "ok d:0:0:3:2:2f f:1:32768:257:2f61 f:2:1536:16:2f62"),
+        (&[&fill, "peek 0x8000 0x102"], &there),
+        (&[&fill, "peek 0x5ff 2"], "ok 0011"),
+        (&["replace_zeros 1 0x1000", "free"], "ok 1128:408 1552:31216"),
+        (&["replace_zeros 1 0x1001"], "err 21"),
+        (&["lend 20 0x27", "replace_zeros 1 0x1001"], "err 21"),
+        (&["replace_zeros 1 0x1000"], "err 9"),
+        (&["lend 20 0x28", "replace_zeros 1 0x1000"], "ok"),
+    ];
+    let lists: Vec<Vec<&str>> = cases.iter().map(|(lines, _)| [&TWO[..], lines].concat()).collect();
+    let cases: Vec<(&[&str], &str)> =
+        lists.iter().zip(cases).map(|(list, (_, said))| (&list[..], said)).collect();
+    hold(&cases);
+}
+
+/// Opening; 15; 16; a clip above 2^32 - 1 bytes 21; then as a resize.
+#[test]
+fn fills_refused() {
+    hold(&[
+        (&["replace_zeros 1 4294967295"], "err 21"),
+        (&["replace_zeros 1 4294967296"], "err 21"),
+        (&["replace_zeros 1 4294967552"], "err 21"),
+        (&["replace_zeros 1 8589934592"], "err 21"),
+        (&["replace_zeros 0 4294967296"], "err 16"),
+        (&["replace_zeros 9 8589934592"], "err 15"),
+        (&["replace 2 00"], "err 15"),
+        (&["replace 4294967295 -"], "err 15"),
+        (&["replace 0 00"], "err 16"),
+        (&["size 0x43f", "replace_zeros 1 8589934592"], "err 1"),
+        (&["patch 0x450 00000459", "replace_zeros 9 8589934592"], "err 14"),
+        (&["lend 16 0", "replace_zeros 1 4294967296"], "err 21"),
+        (&["replace_zeros 1 0x1b01"], "err 21"),
+        (&["replace 2 00"], "err 15"),
+        (&["replace 0 00"], "err 16"),
+        (&["replace 1 00"], "err 9"),
+        (&["lend 15 0", "replace_zeros 1 4294967296"], "err 9"),
+        (&["replace 2 00"], "err 9"),
+    ]);
+}
+
 /// A list of calls made up by a small generator: nothing is ever left dirty.
 #[test]
 fn never_dirty() {
@@ -408,7 +514,7 @@ fn never_dirty() {
                 0 => "lend_list -".into(),
                 _ => format!("lend_list {}", random(16)),
             });
-            commands.push(match random(14) {
+            commands.push(match random(17) {
                 0 => format!("move {entry} {at}"),
                 1 => format!("resize {entry} {len}"),
                 2 => "rewrite".into(),
@@ -422,6 +528,10 @@ fn never_dirty() {
                 10 => format!("alloc {len} {}", random(64)),
                 11 => format!("filewindow {entry} e:-1 r:4"),
                 12 => "clusters".into(),
+                13 | 14 => {
+                    format!("replace {entry} {}", hex(&vec![random(256) as u8; len as usize]))
+                }
+                15 => format!("replace_zeros {entry} {}", len << random(24)),
                 _ => format!("patch {} {:02x}", 0x420 + random(0x44), random(4)),
             });
         }

@@ -2,6 +2,8 @@
 
 pub mod run;
 pub mod script;
+#[path = "../../probe/src/zeros.rs"]
+mod zeros;
 
 use run::Stage;
 

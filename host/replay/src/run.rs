@@ -1,6 +1,7 @@
 //! A script carried out: the image, what is lent and the window from line to line, and what a call gives.
 
 use crate::script::Part;
+use crate::zeros::Zeros;
 use counter_sys::guarded::{Element, Guarded};
 use counter_sys::{DOL_WORDS, HEADER_SIZE, call};
 
@@ -52,6 +53,16 @@ pub fn checksum(bytes: &[u8]) -> u64 {
     bytes
         .iter()
         .fold(0xcbf2_9ce4_8422_2325, |sum, b| (sum ^ u64::from(*b)).wrapping_mul(0x0100_0000_01b3))
+}
+
+/// The text time and again, each time larger by `step`.
+fn turned(part: &mut [u8], step: usize, text: &[u8]) -> Result<(), String> {
+    holds(part.is_empty() || !text.is_empty(), "a text is missing")?;
+    for (i, byte) in part.iter_mut().enumerate() {
+        let turn = (i / text.len()).wrapping_mul(step) as u8;
+        *byte = text[i % text.len()].wrapping_add(turn);
+    }
+    Ok(())
 }
 
 fn holds(promise: bool, broken: &str) -> Result<(), String> {
@@ -121,23 +132,19 @@ impl Stage {
         Ok(true)
     }
 
-    /// `count` bytes: the text time and again, each time larger by `step`.
+    /// `count` bytes of the image, as `turned` has them.
     fn fill(&mut self, at: usize, count: usize, step: usize, text: &[u8]) -> Result<(), String> {
-        holds(count == 0 || !text.is_empty(), "a text is missing")?;
         let end = at.saturating_add(count);
         let part = self.image.get_mut(at..end).ok_or("bytes past the image's end")?;
-        for (i, byte) in part.iter_mut().enumerate() {
-            let turn = (i / text.len()).wrapping_mul(step) as u8;
-            *byte = text[i % text.len()].wrapping_add(turn);
-        }
-        Ok(())
+        turned(part, step, text)
     }
 
     /// Carries out a call of the C face.
     pub fn call(&mut self, line: &Part) -> Result<Given, String> {
         let name = line.words[0].as_str();
         let numbers = line.numbers(1)?;
-        holds(numbers.len() == arity(name), "a number too many or too few")?;
+        let clip_in_short = name == "fill_file" && numbers.len() == 3;
+        holds(numbers.len() == arity(name) || clip_in_short, "a number too many or too few")?;
         let mut lent = Lent::of(self);
         let given = match name {
             "seek_start" | "seek_current" | "seek_end" | "read" => {
@@ -147,6 +154,7 @@ impl Stage {
             | "resize_file" | "rewrite" => {
                 self.edit(name, words(&numbers)?, &line.text, &mut lent)?
             }
+            "fill_file" | "fill_zeros" => self.fill_file(name, &numbers, &line.text, &mut lent)?,
             _ => self.look(name, words(&numbers)?, &line.text, &mut lent)?,
         };
         holds(lent.margins_stay(), "something beside what was lent was written")?;
@@ -180,6 +188,7 @@ impl Stage {
             "make_directories" => insert!(counter_make_directories),
             "move_file" => change!(counter_move_file(, = a, = b)),
             "resize_file" => change!(counter_resize_file(, = a, = b)),
+            "fill_file" => change!(counter_fill_file(, = a, in text)),
             _ => change!(counter_rewrite()),
         };
         holds(l.words.is_zero() && l.bytes.is_zero(), "working memory is not zero")?;
@@ -187,6 +196,31 @@ impl Stage {
         self.image.copy_from_slice(l.image.slice());
         numbers.insert(1, checksum(&self.image));
         Ok(Given { numbers, text: vec![] })
+    }
+
+    /// The clip is the text, or as many bytes as `turned` makes of it, or zeros, which nobody can write to.
+    fn fill_file(
+        &mut self,
+        name: &str,
+        numbers: &[u64],
+        text: &[u8],
+        l: &mut Lent,
+    ) -> Result<Given, String> {
+        let target = words(&numbers[..1])?;
+        if name == "fill_zeros" {
+            let zeros =
+                Zeros::new(numbers[1] as usize).ok_or("so many zeros cannot be reserved")?;
+            return self.edit("fill_file", target, zeros.slice(), l);
+        }
+        let mut clip = text.to_vec();
+        if let [_, count, step] = numbers {
+            clip.resize(*count as usize, 0);
+            turned(&mut clip, *step as usize, text)?;
+        }
+        let lent = Guarded::of(&clip);
+        let given = self.edit("fill_file", target, lent.slice(), l)?;
+        holds(lent.margins_stay() && lent.slice() == clip, "the clip was written to")?;
+        Ok(given)
     }
 
     fn look(
@@ -298,7 +332,7 @@ fn arity(name: &str) -> usize {
     match name {
         "open" | "totals" | "program" | "entries" | "free_regions" | "free_clusters"
         | "open_dol" | "header" | "rewrite" => 0,
-        "max_region_size" | "allocate" | "move_file" | "resize_file" => 2,
+        "max_region_size" | "allocate" | "move_file" | "resize_file" | "fill_zeros" => 2,
         _ => 1,
     }
 }

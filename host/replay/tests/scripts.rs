@@ -15,7 +15,7 @@ fn every_call_of_every_script() {
         assert!(outcome.differ.is_empty(), "{}", outcome.differ.join("\n"));
         calls += outcome.calls;
     }
-    assert_eq!(calls, 5827, "all of them, so that none is lost");
+    assert_eq!(calls, 6869, "all of them, so that none is lost");
 }
 
 const MASTER: &str =
@@ -37,6 +37,12 @@ fn right_answers_of_the_paper() {
         "program = 0 0 0",
         "patch 0x420 :00001000\nprogram = 0 0x1000 0xe4",
         "lookup 0 \"a/\" = 17",
+        // Fills that leave the image as it is.
+        "fill_zeros 1 0x100 = 0 0x203a64a4776abcd2",
+        "fill_file 1 0x100 0 :00 = 0 0x203a64a4776abcd2",
+        "fill_file 0 :00 = 16 0x203a64a4776abcd2",
+        "fill_zeros 1 0x1b01 = 21 0x203a64a4776abcd2",
+        "fill_zeros 1 0x100000000 = 21 0x203a64a4776abcd2",
         "list 0x46 = 0 0x46 \"total 8192 used 1370\nd 0 0 2 /\nf 1 1280 256 /a\nr 1114 166\nr 1536 6656\n\"",
     ] {
         assert_eq!(of(line), [""; 0], "{line}");
@@ -60,6 +66,13 @@ fn a_wrong_answer_is_told() {
             "s:7: free_clusters: gave 0x0 0x2 0xa6 0x0 0x0 0x1a00 0x0 0x0, has to give 0x0 0x2 0xa6 0x0 0x0 0x1a00 0x0 0x1",
         ),
         ("free_clusters 1 = 0 0", "s:7: free_clusters 1: a number too many or too few"),
+        ("fill_file 1 2 :00 = 0", "s:7: fill_file 1 2: a number too many or too few"),
+        ("fill_file 1 2 0 = 0", "s:7: fill_file 1 2 0: a text is missing"),
+        ("fill_zeros 1 = 0", "s:7: fill_zeros 1: a number too many or too few"),
+        (
+            "fill_zeros 1 0x100 = 0 1",
+            "s:7: fill_zeros 1 0x100: gave 0x0 0x203a64a4776abcd2, has to give 0x0 0x1",
+        ),
         ("rewrite = 0 1", "s:7: rewrite: gave 0x0 0x203a64a4776abcd2, has to give 0x0 0x1"),
         ("read 2 = 0 0 0 \"\"", "s:7: read 2: gave 0x0 0x0 0x0 \"..\", has to give 0x0 0x0 0x0"),
         ("fly 1 = 0", "s:7: fly 1: `fly` is no call"),

@@ -26,6 +26,9 @@ pub enum Call {
     MakeDirectories(u32, Vec<u8>),
     Move(u32, u32),
     Resize(u32, u32),
+    Fill(u32, Vec<u8>),
+    /// With so many zero bytes.
+    FillZeros(u32, u64),
     Rewrite,
 }
 
@@ -75,6 +78,8 @@ impl Call {
             Call::MakeDirectories(..) => "mkdirs",
             Call::Move(..) => "move",
             Call::Resize(..) => "resize",
+            Call::Fill(..) => "replace",
+            Call::FillZeros(..) => "replace_zeros",
             Call::Rewrite => "rewrite",
         }
     }
@@ -87,8 +92,24 @@ impl Call {
                 | Call::MakeDirectories(..)
                 | Call::Move(..)
                 | Call::Resize(..)
+                | Call::Fill(..)
+                | Call::FillZeros(..)
                 | Call::Rewrite
         )
+    }
+
+    pub fn fills(&self) -> bool {
+        matches!(self, Call::Fill(..) | Call::FillZeros(..))
+    }
+
+    /// The entry and the new size of an edit that resizes; a fill does, to the clip's length.
+    pub fn resizes(&self) -> Option<(u32, u64)> {
+        match self {
+            Call::Resize(number, size) => Some((*number, *size as u64)),
+            Call::Fill(number, clip) => Some((*number, clip.len() as u64)),
+            Call::FillZeros(number, length) => Some((*number, *length)),
+            _ => None,
+        }
     }
 
     /// The entry that an edit names.
@@ -97,9 +118,8 @@ impl Call {
             Call::InsertFile(number, _)
             | Call::InsertDirectory(number, _)
             | Call::MakeDirectories(number, _)
-            | Call::Move(number, _)
-            | Call::Resize(number, _) => Some(*number),
-            _ => None,
+            | Call::Move(number, _) => Some(*number),
+            _ => self.resizes().map(|(number, _)| number),
         }
     }
 
@@ -125,6 +145,8 @@ impl Call {
             Call::MaxRegion(a, b) | Call::Alloc(a, b) | Call::Move(a, b) | Call::Resize(a, b) => {
                 format!("{name} {a} {b}")
             }
+            Call::Fill(n, clip) => format!("{name} {n} {}", hex(clip)),
+            Call::FillZeros(n, length) => format!("{name} {n} {length}"),
             Call::Window(start, length, ops) => {
                 format!("{name} {start} {length} {}", ops.join(" "))
             }
@@ -454,7 +476,42 @@ fn resize_file(r: &mut Random, tree: &Tree) -> Call {
     Call::Resize(number, near(r, to))
 }
 
-/// A call that edits.
+/// A fill, of a length that just fits or just does not; `image`: the image's length.
+pub fn fill(r: &mut Random, tree: &Tree, image: usize) -> Call {
+    let number = file(r, tree);
+    let entry = tree.entries.get(number as usize);
+    let (at, size) = entry.map_or((0, 0), |e| (e.offset as u64, e.size as u64));
+    let most = tree.most(at, size);
+    let place = tree.place(0, paper::ALIGN).map_or(most, |(_, rest)| rest);
+    let length = match r.below(16) {
+        0 | 1 => size,
+        2 => 0,
+        3 => size + 1,
+        4 => size.saturating_sub(1),
+        5 => r.below(size.max(1) as usize) as u64,
+        6 => size + r.below(0x20) as u64,
+        7 | 8 => most,
+        9 | 10 => most + 1 + r.below(16) as u64,
+        11 => place,
+        12 => place + 1,
+        13 => (image + r.below(0x20)) as u64,
+        14 => r.next() >> r.within(31, 63),
+        _ => (1 << 32) - 1 + r.below(3) as u64,
+    };
+    // Long ones are mostly zeros, which need not be written out.
+    let written = length <= 0x800 || length <= 0xa000 && r.chance(25);
+    if !written || r.chance(5) {
+        return Call::FillZeros(number, length);
+    }
+    let mut clip = vec![0; length as usize];
+    for chunk in clip.chunks_mut(8) {
+        let bytes = r.next().to_be_bytes();
+        chunk.copy_from_slice(&bytes[..chunk.len()]);
+    }
+    Call::Fill(number, clip)
+}
+
+/// A call that edits, and is no fill.
 pub fn edit(r: &mut Random, tree: &Tree, inserts: bool) -> Call {
     match r.below(if inserts { 20 } else { 12 }) {
         0..=5 => move_file(r, tree),

@@ -2,7 +2,7 @@
 
 use crate::calls::Call;
 use crate::judge::{New, new_place};
-use crate::paper::{self, Refusal, Tree, word};
+use crate::paper::{self, Entry, Refusal, Tree, word};
 
 /// What stands out about the program of an image that opens, or that only its program keeps from it.
 pub fn of_program(image: &[u8], opened: &Result<Tree, Refusal>) -> Vec<&'static str> {
@@ -123,6 +123,81 @@ pub fn features(
     met
 }
 
+/// An edit that gives `file` the size `size`.
+fn of_size(
+    met: &mut Vec<&'static str>,
+    tree: &Tree,
+    file: &Entry,
+    size: u64,
+    fills: bool,
+    accepted: bool,
+) {
+    let named = |resize, fill| if fills { fill } else { resize };
+    let old = file.size as u64;
+    let here = size <= old || size <= tree.most(file.offset as u64, old);
+    if accepted {
+        met.push(match size {
+            size if size == old => named("resize: to the present size", "fill: of the file's size"),
+            0 => named("resize: to nothing", "fill: with nothing"),
+            size if size < old => named("resize: a shrink", "fill: shorter than the file"),
+            _ if old == 0 && here => named(
+                "resize: an empty file grows where it is",
+                "fill: an empty file grows where it is",
+            ),
+            _ if old == 0 => named(
+                "resize: an empty file grows elsewhere",
+                "fill: an empty file grows elsewhere",
+            ),
+            _ if here => named("resize: growth where it is", "fill: growth where it is"),
+            _ => named("resize: growth elsewhere", "fill: growth elsewhere"),
+        });
+    }
+    let places = |rest: u64| {
+        let rest_of =
+            |(at, len): &(u64, u64)| (at + len).checked_sub(at.next_multiple_of(paper::ALIGN));
+        tree.free.iter().filter(|region| rest_of(region) == Some(rest)).count()
+    };
+    if accepted && !here && tree.place(size, paper::ALIGN).is_some_and(|(_, rest)| places(rest) > 1)
+    {
+        met.push(named(
+            "resize: growth elsewhere, and the largest place occurs twice",
+            "fill: growth elsewhere, and the largest place occurs twice",
+        ));
+    }
+    if accepted && here && size > old && size == tree.most(file.offset as u64, old) {
+        met.push(named("resize: exactly as far as it goes", "fill: exactly as far as it goes"));
+        if tree.behind().is_some_and(|(at, _)| file.offset as u64 + size == at) {
+            met.push(named("resize: exactly up to the program", "fill: exactly up to the program"));
+        }
+    }
+    let past = |(at, _): (u64, u64)| size == old + 1 && file.offset as u64 + old == at;
+    if old > 0 && !here && tree.behind().is_some_and(past) {
+        met.push(named(
+            "resize: one byte more, and the program lies right behind",
+            "fill: one byte more, and the program lies right behind",
+        ));
+    }
+}
+
+/// A clip of `size` bytes for `file`.
+fn of_clip(met: &mut Vec<&'static str>, tree: &Tree, file: &Entry, size: u64, expected: &str) {
+    let (old, most) = (file.size as u64, tree.most(file.offset as u64, file.size as u64));
+    let rest = tree.place(0, paper::ALIGN).map_or(0, |(_, rest)| rest);
+    let (accepted, no_space) = (expected.starts_with("ok"), expected == "err 21");
+    let cases = [
+        (accepted && size == old + 1, "fill: one byte more than the file has"),
+        (accepted && size + 1 == old, "fill: one byte less than the file has"),
+        (accepted && size > old && size == most + 1, "fill: one byte more than it can grow"),
+        (accepted && size > most && size == rest, "fill: exactly as long as the largest place"),
+        (no_space && size > most && size == rest + 1, "fill: one byte more than any place has"),
+        (no_space && size >= tree.disc_end, "fill: as long as the disc, or longer"),
+        (no_space && size == u32::MAX as u64, "fill: of 2^32 - 1 bytes"),
+        (no_space && size == 1 << 32, "fill: of 2^32 bytes"),
+        (no_space && size == 1 << 33, "fill: of 2^33 bytes"),
+    ];
+    met.extend(cases.iter().filter(|(is, _)| *is).map(|(_, feature)| *feature));
+}
+
 fn of_edit(
     met: &mut Vec<&'static str>,
     tree: &Tree,
@@ -139,41 +214,14 @@ fn of_edit(
     let Some(new) = New::of(tree, call) else { return };
     let file = call.target().map(|target| &tree.entries[target as usize]);
     let mut writes = true;
-    if let (Call::Resize(_, size), Some(file)) = (call, file.filter(|file| !file.directory)) {
-        let (old, size) = (file.size as u64, *size as u64);
-        let here = size <= old || size <= tree.most(file.offset as u64, old);
-        writes = size != old;
-        if accepted {
-            met.push(match size {
-                size if size == old => "resize: to the present size",
-                0 => "resize: to nothing",
-                size if size < old => "resize: a shrink",
-                _ if old == 0 && here => "resize: an empty file grows where it is",
-                _ if old == 0 => "resize: an empty file grows elsewhere",
-                _ if here => "resize: growth where it is",
-                _ => "resize: growth elsewhere",
-            });
-        }
-        let places = |rest: u64| {
-            let rest_of =
-                |(at, len): &(u64, u64)| (at + len).checked_sub(at.next_multiple_of(paper::ALIGN));
-            tree.free.iter().filter(|region| rest_of(region) == Some(rest)).count()
-        };
-        if accepted
-            && !here
-            && tree.place(size, paper::ALIGN).is_some_and(|(_, rest)| places(rest) > 1)
-        {
-            met.push("resize: growth elsewhere, and the largest place occurs twice");
-        }
-        if accepted && here && size > old && size == tree.most(file.offset as u64, old) {
-            met.push("resize: exactly as far as it goes");
-            if tree.behind().is_some_and(|(at, _)| file.offset as u64 + size == at) {
-                met.push("resize: exactly up to the program");
+    if let (Some((_, size)), Some(file)) = (call.resizes(), file.filter(|file| !file.directory)) {
+        writes = size != file.size as u64;
+        of_size(met, tree, file, size, call.fills(), accepted);
+        if call.fills() {
+            of_clip(met, tree, file, size, expected);
+            if accepted && !writes && (bytes as u64) < new.size() {
+                met.push("fill: of the file's size, with too few bytes for a table");
             }
-        }
-        let past = |(at, _): (u64, u64)| size == old + 1 && file.offset as u64 + old == at;
-        if old > 0 && !here && tree.behind().is_some_and(past) {
-            met.push("resize: one byte more, and the program lies right behind");
         }
     }
     if let (Call::Move(_, offset), Some(file)) = (call, file.filter(|file| !file.directory)) {

@@ -2,7 +2,7 @@
 //! of docs/DIFFERENCES.md the two differ under.
 
 use crate::calls::{Call, hex, unhex};
-use crate::paper::{self, Bound, Refusal, Tree, word};
+use crate::paper::{self, Bound, Entry, Refusal, Tree, word};
 use std::fmt::Write as _;
 
 /// The entries of docs/DIFFERENCES.md that a comparison can meet.
@@ -30,9 +30,10 @@ pub enum Class {
     ProgramFree,
     ProgramSpace,
     ProgramEdits,
+    LongClip,
 }
 
-pub const CLASSES: [(Class, &str); 22] = [
+pub const CLASSES: [(Class, &str); 23] = [
     (Class::NameWithoutZero, "Game name without a zero byte"),
     (Class::NameBehindZero, "Game name with bytes behind its first zero byte"),
     (Class::Bounds, "FST offset below 0x440; image shorter than the disc end"),
@@ -68,6 +69,7 @@ pub const CLASSES: [(Class, &str); 22] = [
     (Class::ProgramFree, "Free regions and used total with a program behind the table"),
     (Class::ProgramSpace, "Largest sizes and allocation with a program behind the table"),
     (Class::ProgramEdits, "Edits that would take some of a program behind the table"),
+    (Class::LongClip, "A clip above 2^32 - 1 bytes"),
 ];
 
 /// A call and what it is made on.
@@ -304,32 +306,39 @@ impl New {
     }
 }
 
+fn file(tree: &Tree, number: u32) -> Option<&Entry> {
+    tree.entries.get(number as usize).filter(|entry| !entry.directory)
+}
+
+/// A file that gets its present size: no table is measured or written.
+fn keeps_size(tree: &Tree, call: &Call) -> bool {
+    let same = |(number, size)| file(tree, number).is_some_and(|file| file.size as u64 == size);
+    call.resizes().is_some_and(same)
+}
+
 /// The place an edit gives to its file: none if there is none, or no file.
 pub fn new_place(tree: &Tree, call: &Call) -> Option<(u64, u64)> {
-    let file = |number: &u32| tree.entries.get(*number as usize).filter(|e| !e.directory);
-    match call {
-        Call::Move(number, offset) => {
-            let size = file(number)?.size as u64;
-            (size == 0 || tree.most(*offset as u64, 0) >= size).then_some((*offset as u64, size))
-        }
-        Call::Resize(number, size) => {
-            let entry = file(number)?;
-            let (offset, old, size) = (entry.offset as u64, entry.size as u64, *size as u64);
-            if size <= old || size <= tree.most(offset, old) {
-                return Some((offset, size));
-            }
-            Some((tree.place(size, paper::ALIGN)?.0, size))
-        }
-        _ => Some((0, 0)),
+    if let Call::Move(number, offset) = call {
+        let size = file(tree, *number)?.size as u64;
+        return (size == 0 || tree.most(*offset as u64, 0) >= size)
+            .then_some((*offset as u64, size));
     }
+    let Some((number, size)) = call.resizes() else { return Some((0, 0)) };
+    let entry = file(tree, number)?;
+    let (offset, old) = (entry.offset as u64, entry.size as u64);
+    if size <= old || size <= tree.most(offset, old) {
+        return Some((offset, size));
+    }
+    Some((tree.place(size, paper::ALIGN)?.0, size))
 }
 
 /// A growth that finds another place, on an image with a program behind its table: the original
 /// would grow over the program, or look for a place in it, so it is told the place that 02 leaves.
+/// A fill is then asked for once more, of the file's own size.
 pub fn told_where(tree: &Tree, call: &Call) -> Option<String> {
-    let Call::Resize(number, _) = call else { return None };
+    let (number, _) = call.resizes()?;
     tree.behind()?;
-    let file = tree.entries.get(*number as usize).filter(|entry| !entry.directory)?;
+    let file = file(tree, number)?;
     let (place, size) = new_place(tree, call)?;
     let (offset, old) = (file.offset as u64, file.size as u64);
     let stays = size <= old || size <= tree.most(offset, old);
@@ -344,16 +353,14 @@ fn judge_beside_program(tree: &Tree, given: &Given, answer: &str) -> Result<Verd
     let same = |expected: String| Ok(Verdict { expected, class: None });
     let place = new_place(tree, given.call);
     // A growth without a place is 21 before 20.
-    let nowhere = place.is_none() && matches!(given.call, Call::Resize(..)) && told == "err 20";
+    let nowhere = place.is_none() && given.call.resizes().is_some() && told == "err 20";
     if told.starts_with("err ") && told != "err 21" && !nowhere {
         return match answer.ends_with("changed") {
             true => Err("refused by its own number, and the image changed".into()),
             false => same(told),
         };
     }
-    if let Call::Resize(number, size) = given.call
-        && tree.entries.get(*number as usize).is_some_and(|e| !e.directory && e.size == *size)
-    {
+    if keeps_size(tree, given.call) {
         return same(told);
     }
     let new = New::of(tree, given.call).ok_or("a path with trouble, and accepted or 21")?;
@@ -383,9 +390,7 @@ fn judge_edit(tree: &Tree, given: &Given, answer: &str) -> Result<Verdict, Strin
     let told = mapped(answer);
     let same = |expected: String| Ok(Verdict { expected, class: None });
     let limits = || Ok(Verdict { expected: refused(9), class: Some(Class::Limits) });
-    if let Call::Resize(number, size) = given.call
-        && tree.entries.get(*number as usize).is_some_and(|e| !e.directory && e.size == *size)
-    {
+    if keeps_size(tree, given.call) {
         return same(told);
     }
     if told.starts_with("ok") {
@@ -426,6 +431,24 @@ fn judge_edit(tree: &Tree, given: &Given, answer: &str) -> Result<Verdict, Strin
     }
     let class = answer.ends_with("changed").then_some(Class::HalfDone);
     Ok(Verdict { expected: told, class })
+}
+
+/// 02: "A clip above 2^32 - 1 bytes finds no place and is 21." 15 and 16 come before it; the
+/// original panics before it looks at the entry.
+fn judge_long_clip(tree: &Tree, number: u32, answer: &str) -> Result<Verdict, String> {
+    let expected = match tree.entries.get(number as usize) {
+        None => refused(15),
+        Some(entry) if entry.directory => refused(16),
+        Some(_) => refused(21),
+    };
+    // 15 is the driver's own.
+    if mapped(answer) == expected && expected == refused(15) {
+        return Ok(Verdict { expected, class: None });
+    }
+    match answer {
+        "panic same" => Ok(Verdict { expected, class: Some(Class::LongClip) }),
+        _ => Err("a clip above 2^32 - 1 bytes, and no panic".into()),
+    }
 }
 
 type Regions = Vec<(u64, u64)>;
@@ -618,6 +641,11 @@ pub fn judge(given: &Given, answer: &str, twin: Option<&str>) -> Result<Verdict,
     if path && given.call.text().unwrap().len() > paper::PATH {
         return Ok(Verdict { expected: refused(9), class: Some(Class::Limits) });
     }
+    if let Some((number, size)) = given.call.resizes()
+        && size > u32::MAX as u64
+    {
+        return judge_long_clip(tree, number, answer);
+    }
     let by = |answer: &str| match given.call.edits() {
         true if tree.behind().is_some() => judge_beside_program(tree, given, answer),
         true => judge_edit(tree, given, answer),
@@ -627,7 +655,7 @@ pub fn judge(given: &Given, answer: &str, twin: Option<&str>) -> Result<Verdict,
     let mut verdict = by(twin)?;
     if answer == "skip" {
         verdict.class = Some(Class::NotUtf8);
-    } else if let Call::Resize(..) = given.call {
+    } else if given.call.resizes().is_some() {
         // Told where to go, since it takes the program for free space.
         if told != verdict.expected && verdict.class.is_none() {
             verdict.class = Some(Class::ProgramEdits);

@@ -7,6 +7,7 @@ mod calls;
 mod child;
 mod features;
 mod judge;
+mod ledger;
 mod masters;
 mod paper;
 mod programs;
@@ -21,7 +22,7 @@ use sample::Sample;
 use std::process::exit;
 use std::time::Instant;
 
-const SUITES: [&str; 6] = ["limits", "numbers", "programs", "tables", "trees", "random"];
+const SUITES: [&str; 7] = ["limits", "numbers", "fills", "programs", "tables", "trees", "random"];
 
 struct Options {
     probe: String,
@@ -32,6 +33,7 @@ struct Options {
     faults: usize,
     suites: Vec<String>,
     inserts: bool,
+    fills: bool,
     sample: Option<String>,
 }
 
@@ -45,6 +47,7 @@ fn options() -> Options {
         faults: run::FAULTS,
         suites: vec![],
         inserts: true,
+        fills: false,
         sample: None,
     };
     let mut words = std::env::args().skip(1);
@@ -59,6 +62,7 @@ fn options() -> Options {
             "--faults" => options.faults = value().parse().unwrap_or_else(|_| usage()),
             "--sample" => options.sample = Some(value()),
             "--no-inserts" => options.inserts = false,
+            "--fills" => options.fills = true,
             name if SUITES.contains(&name) => options.suites.push(word),
             _ => usage(),
         }
@@ -73,7 +77,7 @@ fn usage() -> ! {
     eprintln!(
         "compare [--probe PROGRAM] [--oracle PROGRAM] [--list DIFFERENCES.md] [--seed N] \
          [--images N] [--faults N] [{}]\n\
-         compare [--oracle PROGRAM] [--seed N] [--images N] --sample FILE",
+         compare [--oracle PROGRAM] [--seed N] [--images N] [--fills] --sample FILE",
         SUITES.join("] [")
     );
     exit(2)
@@ -130,8 +134,8 @@ fn report(counts: &Counts) {
 
 /// Writes a sample of the original's answers for host/replay.
 fn write_sample(options: &Options, path: &str) -> std::io::Result<()> {
-    let (script, sample) =
-        Sample::new(&options.oracle, options.inserts)?.make(options.seed, options.images);
+    let sample = Sample::new(&options.oracle, options.inserts, options.fills)?;
+    let (script, sample) = sample.make(options.seed, options.images);
     std::fs::write(path, &script)?;
     let numbers: Vec<String> =
         sample.numbers.iter().map(|(number, count)| format!("{number}: {count}")).collect();
@@ -171,10 +175,11 @@ fn main() {
         match suite.as_str() {
             "limits" => suites::limits(&mut run),
             "numbers" => suites::numbers(&mut run),
+            "fills" => suites::fills(&mut run),
             "programs" => programs::programs(&mut run),
             "tables" => suites::tables(&mut run),
             "trees" => suites::trees(&mut run),
-            _ => run.random(options.seed, options.images, 14, 9),
+            _ => run.random(options.seed, options.images, 14, 11),
         }
     }
     let counts = run.finish();

@@ -4,6 +4,7 @@
 use crate::calls::Call;
 use crate::paper::{self, DOL_HEADER, GAMECUBE, Tree, set_word};
 use crate::run::Run;
+use crate::suites::clip;
 
 /// A master with room before its table: the FST at 0x600, and files `ab` and `b`, which share a text.
 struct Master {
@@ -195,7 +196,10 @@ fn near_marks(tree: &Tree, inserts: bool) -> Vec<Call> {
         let to_end: Vec<u64> = marks.iter().filter_map(|mark| mark.checked_sub(size)).collect();
         calls.extend(around(&to_end, 2).into_iter().map(|to| Call::Move(number, to)));
         let sizes: Vec<u64> = marks.iter().filter_map(|mark| mark.checked_sub(offset)).collect();
-        calls.extend(around(&sizes, 1).into_iter().map(|size| Call::Resize(number, size)));
+        for size in around(&sizes, 1) {
+            calls.push(Call::Resize(number, size));
+            calls.push(Call::Fill(number, clip(size as usize)));
+        }
     }
     let starts = around(&marks, 1);
     for (k, start) in starts.iter().enumerate() {
@@ -232,6 +236,9 @@ fn on(run: &mut Run, image: Vec<u8>, calls: impl Fn(&Tree) -> Vec<Call>) {
             [Call::Open, Call::Free, Call::Rewrite, Call::Resize(1, 1), Call::Move(1, 0x627)]
         {
             with.push((call, words, bytes));
+        }
+        for length in [1, FILE.1 as usize] {
+            with.push((Call::Fill(1, clip(length)), words, bytes));
         }
     }
     run.each(image, &with);
@@ -279,6 +286,8 @@ fn edits_beside(run: &mut Run) {
                 Call::Move(2, number),
                 Call::Resize(1, number),
                 Call::Resize(2, number),
+                Call::Fill(1, clip(number as usize)),
+                Call::FillZeros(2, number as u64),
                 Call::MaxRegion(number, number % 0x300),
                 Call::Alloc(number, 1 << (number % 16)),
             ]
@@ -318,6 +327,12 @@ fn growth_beside(run: &mut Run) {
                         calls.push(Call::Resize(1, size));
                         calls.push(Call::Resize(2, size));
                         calls.push(Call::Alloc(size, paper::ALIGN as u32));
+                        for number in [1, 2] {
+                            calls.push(match size {
+                                0..=0x200 => Call::Fill(number, clip(size as usize)),
+                                _ => Call::FillZeros(number, size as u64),
+                            });
+                        }
                     }
                     calls
                 });

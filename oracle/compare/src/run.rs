@@ -5,6 +5,7 @@ use crate::calls::{self, Call, hex, unhex};
 use crate::child::{Side, batch};
 use crate::features::{features, of_program};
 use crate::judge::{Class, Given, New, Verdict, judge, listing_after, odd_name, told_where};
+use crate::ledger::Ledger;
 use crate::masters;
 use crate::paper::{self, Refusal, Tree};
 use crate::random::Random;
@@ -63,6 +64,8 @@ struct Case {
     name: String,
     /// The program as it was at first: its offset and its bytes.
     program: Option<(usize, Vec<u8>)>,
+    /// Kept where a list of edits is made, of an image that opens.
+    ledger: Option<Ledger>,
 }
 
 impl Case {
@@ -72,7 +75,12 @@ impl Case {
         let program = opened.as_ref().ok().and_then(|tree| tree.program);
         let program = program.map(|(at, size)| (at as usize, size as usize));
         let program = program.map(|(at, size)| (at, image[at..at + size].to_vec()));
-        Self { r, image, opened, odd, name, program }
+        Self { r, image, opened, odd, name, program, ledger: None }
+    }
+
+    fn with_ledger(mut self) -> Self {
+        self.ledger = self.opened.as_ref().ok().map(|tree| Ledger::of(tree, &self.image));
+        self
     }
 
     /// The image that an accepted edit left: `head` is what it now begins with.
@@ -261,7 +269,7 @@ impl Run {
                     Random::new(seed.wrapping_add(begun.wrapping_mul(0x2545_f491_4f6c_dd1d)));
                 let image =
                     if r.chance(35) { masters::damaged(&mut r) } else { masters::master(&mut r) };
-                cases.push(Case::new(r, image, format!("c{}a", cases.len())));
+                cases.push(Case::new(r, image, format!("c{}a", cases.len())).with_ledger());
                 begun += 1;
             }
             self.looks(&mut cases, looks);
@@ -270,6 +278,9 @@ impl Run {
                     break;
                 }
                 self.edits(&mut cases);
+            }
+            if !self.over() {
+                self.ledgers(&cases);
             }
             if begun % (WAVE as u64 * 100) == 0 {
                 eprintln!("{begun} images, {} calls", self.counts.total());
@@ -329,7 +340,10 @@ impl Run {
         let (mut lines, mut asked) = (Batch::default(), vec![]);
         for (i, case) in cases.iter_mut().enumerate() {
             let Ok(tree) = &case.opened else { continue };
-            let call = calls::edit(&mut case.r, tree, self.inserts);
+            let call = match case.r.below(11) {
+                0 | 1 => calls::fill(&mut case.r, tree, case.image.len()),
+                _ => calls::edit(&mut case.r, tree, self.inserts),
+            };
             asked.push(ask_edit(&mut lines, i, case, call));
         }
         if asked.is_empty() {
@@ -344,9 +358,40 @@ impl Run {
                 let case = &mut cases[asked.case];
                 (case.image, case.opened) = case.edited(&probe[asked.peek]);
                 case.name = other(&case.name);
+                if let Some(ledger) = &mut case.ledger {
+                    ledger.accept(&asked.call);
+                }
                 if case.opened.is_err() {
                     let what = "an accepted edit left an image that does not open";
                     self.fault(what, &[], &asked.call.line(), "", "", "");
+                }
+            }
+        }
+    }
+
+    /// After its list of edits each image, held to its ledger.
+    fn ledgers(&mut self, cases: &[Case]) {
+        let (mut lines, mut asked) = (Batch::default(), vec![]);
+        for case in cases {
+            let (Ok(tree), Some(ledger)) = (&case.opened, &case.ledger) else { continue };
+            lines.probe(format!("load {}", case.name));
+            let begins = ledger.begins().into_iter();
+            let peeks: Vec<_> = begins
+                .map(|(number, bytes)| {
+                    let at = tree.entries.get(number).map_or(0, |file| file.offset);
+                    (lines.probe(format!("peek {at} {}", bytes.len())), bytes)
+                })
+                .collect();
+            asked.push((tree, ledger, peeks));
+        }
+        let (probe, _) = self.ask(&lines);
+        for (tree, ledger, peeks) in asked {
+            let lost = peeks.iter().any(|(at, bytes)| probe[*at] != format!("ok {}", hex(bytes)));
+            match ledger.wrong(tree).or(lost.then_some("the ledger: a file's first bytes")) {
+                None => self.met(ledger.features()),
+                Some(what) => {
+                    let lines = [image_lines(&ledger.first), ledger.accepted.clone()].concat();
+                    self.fault(what, &lines, "", "", "", "");
                 }
             }
         }
@@ -682,12 +727,14 @@ fn other(name: &str) -> String {
 
 /// An edit of an image that 01 refuses; it has no tree to be made up from.
 fn edit_of_refused(r: &mut Random, inserts: bool) -> Call {
-    match r.below(if inserts { 6 } else { 3 }) {
+    match r.below(if inserts { 8 } else { 5 }) {
         0 => Call::Move(r.below(4) as u32, r.below(0x1000) as u32),
         1 => Call::Resize(r.below(4) as u32, r.below(0x200) as u32),
-        2 => Call::Rewrite,
-        3 => Call::InsertFile(r.below(4) as u32, b"n".to_vec()),
-        4 => Call::InsertDirectory(r.below(4) as u32, b"n".to_vec()),
+        2 => Call::Fill(r.below(4) as u32, vec![0xc1; r.below(0x200)]),
+        3 => Call::FillZeros(r.below(4) as u32, r.next() >> r.within(31, 63)),
+        4 => Call::Rewrite,
+        5 => Call::InsertFile(r.below(4) as u32, b"n".to_vec()),
+        6 => Call::InsertDirectory(r.below(4) as u32, b"n".to_vec()),
         _ => Call::MakeDirectories(r.below(4) as u32, b"n/m".to_vec()),
     }
 }
@@ -742,7 +789,11 @@ fn ask_edit_with(
     let alone = told.is_some().then(|| lines.oracle("hash".into()));
     let twin = call.twin().or(told).map(|twin| {
         begin(lines);
-        lines.oracle(twin)
+        let twin = lines.oracle(twin);
+        if call.fills() {
+            lines.oracle(call.line());
+        }
+        twin
     });
     let listing = if case.r.chance(40) {
         let words = case.opened.as_ref().map_or(0, |tree| 4 * tree.entries.len()) + 0x1000;

@@ -15,6 +15,9 @@ const BYTES: usize = 65_536;
 const LIST: usize = 1_024;
 const IMAGE: usize = 131_072;
 
+/// By how much each byte of a clip is larger than the one before; those of the images by 1.
+const CLIP_STEP: usize = 3;
+
 pub struct Sample {
     oracle: Side,
     out: String,
@@ -25,6 +28,8 @@ pub struct Sample {
     pub numbers: BTreeMap<u32, usize>,
     long: usize,
     inserts: bool,
+    /// Whether two of five edits are fills.
+    fills: bool,
 }
 
 /// FNV-1a of 64 bits.
@@ -53,7 +58,7 @@ fn numbers(answer: &str) -> Vec<u32> {
 }
 
 impl Sample {
-    pub fn new(oracle: &str, inserts: bool) -> std::io::Result<Self> {
+    pub fn new(oracle: &str, inserts: bool, fills: bool) -> std::io::Result<Self> {
         Ok(Self {
             oracle: Side::start(oracle)?,
             out: String::new(),
@@ -64,6 +69,7 @@ impl Sample {
             numbers: BTreeMap::new(),
             long: 0,
             inserts,
+            fills,
         })
     }
 
@@ -192,7 +198,11 @@ impl Sample {
         let told = self.opened.as_ref().ok().and_then(|tree| told_where(tree, call));
         let twin = call.twin().or(told).map(|twin| {
             self.oracle.ask(&["load before".into()]);
-            self.ask(twin)
+            let answer = self.ask(twin);
+            if call.fills() {
+                self.ask(call.line());
+            }
+            answer
         });
         let opened = match &self.opened {
             Ok(tree) if self.lent.0 >= 4 * (tree.entries.len() + 2) => self.opened.clone(),
@@ -367,7 +377,18 @@ impl Sample {
 
     fn edit(&mut self, r: &mut Random) {
         let Ok(tree) = &self.opened else { return };
-        let call = calls::edit(r, tree, self.inserts);
+        let mut call = if self.fills && r.chance(40) {
+            calls::fill(r, tree, self.image.len())
+        } else {
+            calls::edit(r, tree, self.inserts)
+        };
+        if let Call::Fill(_, clip) = &mut call {
+            // As a script writes it in few words.
+            let first = clip.first().copied().unwrap_or(0);
+            for (i, byte) in clip.iter_mut().enumerate() {
+                *byte = first.wrapping_add((CLIP_STEP * i) as u8);
+            }
+        }
         let inside = match call {
             Call::InsertDirectory(number, _) | Call::MakeDirectories(number, _) => {
                 (number as usize) < tree.entries.len()
@@ -387,6 +408,11 @@ impl Sample {
             Call::MakeDirectories(a, path) => format!("make_directories {a:#x} {}", quoted(path)),
             Call::Move(a, b) => format!("move_file {a:#x} {b:#x}"),
             Call::Resize(a, b) => format!("resize_file {a:#x} {b:#x}"),
+            Call::Fill(a, clip) if clip.len() <= 8 => format!("fill_file {a:#x} {}", quoted(clip)),
+            Call::Fill(a, clip) => {
+                format!("fill_file {a:#x} {:#x} {CLIP_STEP} :{:02x}", clip.len(), clip[0])
+            }
+            Call::FillZeros(a, length) => format!("fill_zeros {a:#x} {length:#x}"),
             _ => "rewrite".into(),
         };
         let mut answer = vec![];

@@ -1,5 +1,5 @@
-//! Inputs that are not made up at random: every small table, every number on a small image, and
-//! the limits.
+//! Inputs that are not made up at random: every small table, every number and every clip's length on
+//! a small image, and the limits.
 
 use crate::calls::Call;
 use crate::masters::{chain, crowd, deep_crowd};
@@ -44,6 +44,29 @@ fn nested_master() -> Vec<u8> {
     }
     image[0x488..0x48e].copy_from_slice(b"ab\0\0a\0");
     set_word(&mut image, 0x428, 0x4e);
+    image
+}
+
+/// A clip of so many bytes, which are not those of the images here.
+pub fn clip(length: usize) -> Vec<u8> {
+    (0..length).map(|i| (7 * i + 3) as u8).collect()
+}
+
+/// The small master made `length` bytes long, of which `disc_end` are the disc, with other entries.
+fn other_master(length: usize, disc_end: u32, entries: &[[u32; 3]], texts: &[u8]) -> Vec<u8> {
+    let mut image = small_master();
+    let known = image.len();
+    image.resize(length, 0);
+    for (i, byte) in image.iter_mut().enumerate().skip(known) {
+        *byte = (i % 251) as u8 + 1;
+    }
+    set_word(&mut image, 0x428, (12 * entries.len() + texts.len()) as u32);
+    set_word(&mut image, 0x434, disc_end);
+    for (i, word) in entries.as_flattened().iter().enumerate() {
+        set_word(&mut image, 0x440 + 4 * i, *word);
+    }
+    let at = 0x440 + 12 * entries.len();
+    image[at..at + texts.len()].copy_from_slice(texts);
     image
 }
 
@@ -114,6 +137,102 @@ pub fn numbers(run: &mut Run) {
         calls.push(Call::Resize(4, number));
     }
     run.each(nested_master(), &with(calls));
+}
+
+/// Every length of a clip on small images, the lengths around 2^32, and clips for which a file has to
+/// move or the table has no room.
+pub fn fills(run: &mut Run) {
+    let every = |number: u32, lengths: std::ops::Range<usize>| {
+        lengths.map(move |length| (Call::Fill(number, clip(length)), 64, 0x400))
+    };
+    run.each(small_master(), &every(1, 0..0x2010).collect::<Vec<_>>());
+    let calls = every(2, 0..0x900).chain(every(4, 0..0x900)).collect::<Vec<_>>();
+    run.each(nested_master(), &calls);
+
+    let longest = 1u64 << 32;
+    let lengths: [u64; 20] = [
+        0,
+        1,
+        0xff,
+        0x100,
+        0x101,
+        0x1aff,
+        0x1b00,
+        0x1b01,
+        0x2000,
+        0x2001,
+        longest - 2,
+        longest - 1,
+        longest,
+        longest + 1,
+        // Cut to 32 bits: the file's size, what it can grow to, and more.
+        longest + 0x100,
+        longest + 0x1b00,
+        longest + 0x1b01,
+        2 * longest - 1,
+        2 * longest - 0x100,
+        2 * longest,
+    ];
+    let mut calls = vec![];
+    for (words, bytes) in [(64, 0x400), (16, 0x1a), (16, 0x19), (16, 0), (15, 0x1a), (0, 0)] {
+        for number in [0, 1, 2, 9, u32::MAX] {
+            for length in lengths {
+                calls.push((Call::FillZeros(number, length), words, bytes));
+                if length < longest / 2 {
+                    calls.push((Call::Fill(number, clip(length as usize)), words, bytes));
+                }
+            }
+        }
+    }
+    run.each(small_master(), &calls);
+    // Refused at opening: 4, 14.
+    for (at, value) in [(0x424, 0x43f), (0x450, 0x459)] {
+        let mut image = small_master();
+        set_word(&mut image, at, value);
+        run.each(image, &calls[..64]);
+    }
+    fills_elsewhere(run);
+}
+
+/// `a` has `b` right behind it; two places of 0x2000 bytes at multiples of 0x8000, and an empty file in
+/// one of them; the image goes on behind the disc end. Then names that share a text.
+fn fills_elsewhere(run: &mut Run) {
+    let entries = [
+        [0x0100_0000, 0, 5],
+        [0, 0x600, 0x20],
+        [2, 0x620, 0x79e0],
+        [4, 0xa000, 0x6000],
+        [6, 0x1_0001, 0],
+    ];
+    let image = other_master(0x1_2040, 0x1_2000, &entries, b"a\0b\0c\0d\0");
+    let (least, table) = (4 * (entries.len() + 2), 12 * entries.len() + 8);
+    let mut calls = vec![];
+    for (words, bytes) in [(64, 0x400), (least, table), (least, table - 1), (least - 1, table)] {
+        let lengths = [
+            (1, 0..0x30),
+            (1, 0x1ff0..0x2010),
+            (2, 0x79df..0x79e2),
+            (3, 0x5fff..0x6002),
+            (4, 0..4),
+            (4, 0x1ffd..0x2003),
+        ];
+        for (number, lengths) in lengths {
+            calls.extend(lengths.map(|length| (Call::Fill(number, clip(length)), words, bytes)));
+        }
+        for length in [0x1_2000, 0x1_2040, 0x1_2041] {
+            calls.push((Call::FillZeros(1, length), words, bytes));
+        }
+    }
+    run.each(image, &calls);
+    // The table written anew is longer than the room behind it.
+    let entries = [[0x0100_0000, 0, 4], [0, 0x500, 0x100], [0, 0x474, 2], [0, 0x600, 2]];
+    let lengths = [0, 1, 2, 3, 0x10, 0xff, 0x100, 0x101];
+    let calls = (1..=3).flat_map(|number| lengths.map(|n| Call::Fill(number, clip(n))));
+    let calls: Vec<_> = calls.map(|call| (call, 64, 0x400)).collect();
+    run.each(other_master(0x9000, 0x9000, &entries, b"a\0"), &calls);
+    // It reaches an empty file that grows where it is.
+    let entries = [[0x0100_0000, 0, 4], [0, 0x500, 0x10], [0, 0x472, 0], [0, 0x474, 0]];
+    run.each(other_master(0x2000, 0x2000, &entries, b"a\0"), &calls);
 }
 
 /// Every table of up to four records over a few names, kinds and nexts, with every count up to
@@ -204,6 +323,8 @@ pub fn limits(run: &mut Run) {
             if with_file {
                 calls.push(Call::Move(depth as u32 + 1, 0x1900));
                 calls.push(Call::Resize(depth as u32 + 1, 0x20));
+                calls.push(Call::Fill(depth as u32 + 1, clip(0x10)));
+                calls.push(Call::Fill(depth as u32 + 1, clip(0x20)));
             }
             if run.inserts {
                 calls.push(Call::InsertFile(depth as u32, b"z".to_vec()));
@@ -238,6 +359,8 @@ pub fn limits(run: &mut Run) {
         calls.push(Call::Entry(count as u32 - 1));
         calls.push(Call::Entry(count as u32));
         calls.push(Call::Resize(1, 0x10));
+        calls.push(Call::Fill(1, clip(0x10)));
+        calls.push(Call::FillZeros(1, 1 << 32));
         calls.push(Call::Move(1, 7));
         let mut with: Vec<_> = calls.iter().map(|call| (call.clone(), WORDS, BYTES)).collect();
         with.extend(calls.iter().map(|call| (call.clone(), 4 * (count + 2), 12 * count + texts)));
@@ -255,6 +378,7 @@ pub fn limits(run: &mut Run) {
         let size = 12 * count + 2 * (count - 1);
         let with: Vec<_> = edits(run)
             .into_iter()
+            .chain([Call::Fill(1, clip(0x10))])
             .flat_map(|call| {
                 let new = match &call {
                     Call::InsertFile(..) | Call::InsertDirectory(..) => 14,
@@ -353,7 +477,12 @@ pub fn trees(run: &mut Run) {
                 }
                 for size in [0, 1, 0x0f, 0x10, 0x11, 0x20, 0x1c00, u32::MAX] {
                     calls.push(Call::Resize(entry, size));
+                    calls.push(match size {
+                        0..=0x20 => Call::Fill(entry, clip(size as usize)),
+                        _ => Call::FillZeros(entry, size as u64),
+                    });
                 }
+                calls.push(Call::FillZeros(entry, 1 << 32));
                 if run.inserts {
                     for name in names {
                         calls.push(Call::InsertFile(entry, name.to_vec()));
