@@ -56,6 +56,7 @@ fn calls() -> Vec<(&'static str, Call)> {
         ("allocate", Call::Allocate(64, 32)),
         ("move", Call::Move(1, 0x140000)),
         ("resize", Call::Resize(1, 16)),
+        ("fill", Call::Fill(1, vec![b'c'; 16].into())),
         ("rewrite", Call::Rewrite),
         ("insert a file, 1,024 bytes", Call::InsertFile(0, path.clone())),
         ("make-directories, 1,024 bytes", Call::MakeDirectories(path)),

@@ -4,6 +4,7 @@ use crate::images::{self, Plan};
 use crate::long;
 use crate::measure::{Undo, micros, ratio, shortest};
 use crate::sides::{self, Call, Lent};
+use std::rc::Rc;
 use std::time::Duration;
 
 const MEGABYTE: u32 = 1 << 20;
@@ -28,6 +29,9 @@ fn cases(plan: &Plan, size: u32) -> Vec<(&'static str, Call, u32, u32)> {
         ("resize, smaller", Call::Resize(file, 32), file, 64),
         ("resize, larger where it is", Call::Resize(file, 66), file, 64),
         ("resize, 1 MB goes elsewhere", Call::Resize(file, MEGABYTE + 0x40), file, MEGABYTE),
+        ("fill, its own size", Call::Fill(file, clip(64)), file, 64),
+        ("fill, a byte longer where it is", Call::Fill(file, clip(65)), file, 64),
+        ("fill, 1 MB goes elsewhere", Call::Fill(file, clip(MEGABYTE + 0x40)), file, MEGABYTE),
         ("rewrite", Call::Rewrite, 0, 64),
         ("insert a file, first directory", Call::InsertFile(1, b"new.bin".to_vec()), 1, 64),
         ("insert a file, root", Call::InsertFile(0, b"new.bin".to_vec()), 0, 64),
@@ -38,6 +42,10 @@ fn cases(plan: &Plan, size: u32) -> Vec<(&'static str, Call, u32, u32)> {
     .into_iter()
     .filter(|case| case.3 == size)
     .collect()
+}
+
+fn clip(size: u32) -> Rc<[u8]> {
+    vec![b'c'; size as usize].into()
 }
 
 /// The path of the last directory.

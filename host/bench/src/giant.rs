@@ -8,6 +8,7 @@ use std::time::Duration;
 const GIGABYTE: u32 = 1 << 30;
 const N: usize = GIGABYTE as usize;
 const ROUNDS: usize = 9;
+const MOVE: &str = "move of 1 GB";
 
 /// What no move can do without: the bytes copied, and their old place zeroed.
 fn copy_and_zero(image: &mut [u8], from: usize, to: usize, n: usize) {
@@ -20,12 +21,41 @@ fn copy_and_zero(image: &mut [u8], from: usize, to: usize, n: usize) {
     }
 }
 
-pub fn run(misses: &mut Vec<String>) {
+pub fn print_head(what: &str) {
     println!();
     println!(
-        "| move of 1 GB | entries | places | memcpy and memset, ms | the Rust, ms | Counter, ms | Counter to the Rust | to memcpy and memset |"
+        "| {what} | entries | places | memcpy and memset, ms | the Rust, ms | Counter, ms | Counter to the Rust | to memcpy and memset |"
     );
     println!("|---|---|---|---|---|---|---|---|");
+}
+
+/// One line, with the times of memcpy and memset, of the Rust and of Counter.
+pub fn print_line(
+    misses: &mut Vec<String>,
+    what: &str,
+    name: &str,
+    (entries, sorted): (usize, bool),
+    times: [Duration; 3],
+) {
+    let [least, rust, counter] = times;
+    let (to_rust, to_least) = (ratio(counter, rust), ratio(counter, least));
+    let order = images::order(sorted);
+    let [least, rust, counter] = times.map(|time| time.as_millis());
+    println!(
+        "| {name} | {entries} | {order} | {least} | {rust} | {counter} | {to_rust:.2} | {to_least:.2} |"
+    );
+    if to_rust > 1.0 {
+        misses.push(format!("{what}, {name}, {entries}, {order}: {to_rust:.2}"));
+    }
+    if to_least > 1.3 {
+        misses.push(format!(
+            "{what}, {name}, {entries}, {order}: {to_least:.2} times memcpy and memset"
+        ));
+    }
+}
+
+pub fn run(misses: &mut Vec<String>) {
+    print_head(MOVE);
     let mut image = vec![0u8; (2usize << 30) + (16 << 20)];
     for (entries, sorted) in images::KINDS {
         let plan = images::plan(entries, sorted, GIGABYTE);
@@ -58,25 +88,8 @@ pub fn run(misses: &mut Vec<String>) {
                 }
             }
         }
-        let order = images::order(sorted);
         for (way, name) in ["up", "down"].into_iter().enumerate() {
-            let [least, rust, counter] = best.map(|side| side[way]);
-            let (to_rust, to_least) = (ratio(counter, rust), ratio(counter, least));
-            let ms = |time: Duration| time.as_millis();
-            println!(
-                "| {name} | {entries} | {order} | {} | {} | {} | {to_rust:.2} | {to_least:.2} |",
-                ms(least),
-                ms(rust),
-                ms(counter)
-            );
-            if to_rust > 1.0 {
-                misses.push(format!("move of 1 GB {name}, {entries}, {order}: {to_rust:.2}"));
-            }
-            if to_least > 1.3 {
-                misses.push(format!(
-                    "move of 1 GB {name}, {entries}, {order}: {to_least:.2} times memcpy and memset"
-                ));
-            }
+            print_line(misses, MOVE, name, (entries, sorted), best.map(|side| side[way]));
         }
     }
 }

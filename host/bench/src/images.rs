@@ -136,6 +136,15 @@ pub fn plan(n: usize, sorted: bool, size: u32) -> Plan {
 
 /// The same, and `gap` bytes free between two files in the middle of all.
 pub fn plan_with_gap(n: usize, sorted: bool, size: u32, gap: usize) -> Plan {
+    laid_out(n, sorted, size, gap, None)
+}
+
+/// As `plan`, with just `room` bytes free between the file of `size` bytes and the next.
+pub fn plan_with_room(n: usize, sorted: bool, size: u32, room: usize) -> Plan {
+    laid_out(n, sorted, size, 0, Some(room))
+}
+
+fn laid_out(n: usize, sorted: bool, size: u32, gap: usize, room: Option<usize>) -> Plan {
     let mut random = Random::new(n as u64);
     let mut nodes = tree(n, &mut random);
     let files: Vec<usize> = (0..n).filter(|&i| !nodes[i].is_directory).collect();
@@ -157,8 +166,11 @@ pub fn plan_with_gap(n: usize, sorted: bool, size: u32, gap: usize) -> Plan {
         nodes[i].first = at as u32;
         nodes[i].second = length as u32;
         at += length;
-        if random.below(2) == 0 || i == file {
-            at = up(at + 1, 32);
+        let is_apart = random.below(2) == 0;
+        match room {
+            Some(room) if i == file => at += room,
+            _ if is_apart || i == file => at = up(at + 1, 32),
+            _ => (),
         }
     }
     let free = up(at, 0x8000);

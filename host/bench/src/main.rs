@@ -20,6 +20,7 @@ mod dvd;
 
 mod adversarial;
 mod calls;
+mod fill;
 mod giant;
 mod growth;
 mod images;
@@ -61,6 +62,9 @@ fn main() {
     }
     if runs("giant") {
         giant::run(&mut misses);
+    }
+    if runs("fill") {
+        fill::run(&mut misses);
     }
     println!();
     match misses.is_empty() {

@@ -7,6 +7,7 @@ use crate::measure::Watch;
 use counter_sys::{self as counter, CLUSTER_WORDS, Memory, REGION_WORDS};
 use std::hint::black_box;
 use std::io::Cursor;
+use std::rc::Rc;
 use std::time::Duration;
 
 #[derive(Clone)]
@@ -23,6 +24,7 @@ pub enum Call {
     MakeDirectories(Vec<u8>),
     Move(u32, u32),
     Resize(u32, u32),
+    Fill(u32, Rc<[u8]>),
     Rewrite,
 }
 
@@ -98,6 +100,9 @@ impl Lent {
             Call::Move(file, to) => counter::move_file(image, memory, *file, *to).map(|()| vec![]),
             Call::Resize(file, to) => {
                 counter::resize_file(image, memory, *file, *to).map(|()| vec![])
+            }
+            Call::Fill(file, clip) => {
+                counter::fill_file(image, memory, *file, clip).map(|()| vec![])
             }
             Call::Rewrite => counter::rewrite(image, memory).map(|()| vec![]),
         };
@@ -186,6 +191,7 @@ pub fn rust_edits(call: &Call, image: &mut Vec<u8>, id: EntryId) -> Timed {
         }
         Call::Move(_, to) => disc.move_file(id, *to),
         Call::Resize(_, to) => disc.resize_file(id, *to),
+        Call::Fill(_, clip) => disc.replace_file(id, Cursor::new(clip)),
         Call::Rewrite => disc.commit_file_tree(),
         _ => unreachable!(),
     }
