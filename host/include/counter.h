@@ -233,8 +233,7 @@ uint32_t counter_resize_file(uint8_t *image, size_t image_len, uint32_t *words, 
 
 /* Fills file `number` with the clip: 15, 16; a clip above 2^32 - 1 bytes 21; then as counter_resize_file to the clip's length, which may
  * move the file. Afterwards the file is exactly the clip. A clip of the file's own size is written, and no table: that wants no bytes. The
- * clip is only read; as for every slice, it may not overlap the image, the words or the bytes. It is written before the table, so whatever
- * cuts the call, a table with the new size or place has the whole clip. */
+ * clip is only read; as for every slice, it may not overlap the image, the words or the bytes. */
 uint32_t counter_fill_file(uint8_t *image, size_t image_len, uint32_t *words, size_t words_len, uint8_t *bytes, size_t bytes_len,
     uint32_t number, const uint8_t *clip, size_t clip_len);
 

@@ -1,6 +1,6 @@
 -- The edits (document 01, "Edits"; the orders of their refusals: "Calls go on: .. insert 15, 13, 17, 19, 12; move 20, 21; resize 21, 20 .."
 -- and "Make-directories gives the first trouble along the path, 12 last"; document 02, Point 4). Assumes nothing: these are definitions.
-use Prim.Native.Nat.{ℕ, _+_, _-_, min}
+use Prim.Native.Nat.{ℕ, _+_, _-_, _^_, min}
 use mathlib.Core.Bool.{Bool, true, false, cond, not, _&&_, _||_}
 use mathlib.Core.List.{List, [], _∷_}
 use lib.Dec.{ltb, leb, eqb}
@@ -179,7 +179,7 @@ planResize free nodes k n = planned (fileVerdict nodes k) (planSized free nodes 
 
 -- 15, 16, then "A clip above 2^32 - 1 bytes finds no place and is 21."
 abbrev pub clipVerdict : List Node → ℕ → ℕ → Verdict
-clipVerdict nodes k n = first (fileVerdict nodes k) (refuse (ltb 0xFFFFFFFF n) NotEnoughSpace Passed)
+clipVerdict nodes k n = first (fileVerdict nodes k) (refuse (ltb (2 ^ 32 - 1) n) NotEnoughSpace Passed)
 
 unfoldable pub planFill : List DiscRegion → List Node → ℕ → List ℕ → Plan
 planFill free nodes k clip = planned (clipVerdict nodes k (length clip)) (filled k clip (planResize free nodes k (length clip)))

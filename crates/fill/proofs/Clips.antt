@@ -7,10 +7,10 @@ use native.Mathlib.Omega.{arith}
 use lib.ListN.{length, take, drop, replicate, length-append, length-replicate, length-take}
 use lib.Seq.{length-take-le, take-length, take-append-seam}
 use Rattle.endian.specs.Bytes.{put, span, be32, be32Bytes}
-use Rattle.endian.specs.Laws.Stored.{length-put, put-before, drop-put, put-none, be32-same}
+use Rattle.endian.specs.Laws.Stored.{length-put, drop-put, put-none}
 use Rattle.header.specs.Verdicts.{fstOffset, fstSize}
 use Rattle.edits.specs.Change.{padded, withTable}
-use Rattle.edits.specs.Laws.Puts.{put-length}
+use Rattle.edits.specs.Laws.Puts.{put-length, field-below}
 use Rattle.fst_measure.proofs.Puts.{put-swap}
 use Rattle.commit.specs.declared.Writing.{Writing}
 use Rattle.commit.specs.Inner.Decision.{writtenWith, Fits}
@@ -101,14 +101,7 @@ module _ (image t clip : List ℕ) (room : ℕ) (w : Writing) (k : Clear image (
 
   -- the table's place is that of before
   field-kept : (at : ℕ) → at + 4 ≤ 0x440 → be32 (put image a clip) at ≡ be32 image at
-  field-kept at h = go clip refl
-    where
-      go : (c : List ℕ) → clip ≡ c → be32 (put image a c) at ≡ be32 image at
-      go [] e = rw (put-none image a)
-      go (x ∷ xs) e =
-          let q : length clip ≡ length (x ∷ xs) = ap length e in
-          let z : 0 < length clip = omega arith in
-          be32-same (put image a (x ∷ xs)) image at (λ i l. put-before image a (x ∷ xs) (omega (arith, k .into z)) (at + i) (omega (arith, k .old-table z, fits .table .behind-header)))
+  field-kept at h = field-below image a clip 0x440 (k .into) (λ z. omega (arith, k .old-table z, fits .table .behind-header)) at h
 
   pub offset-kept : fstOffset (put image a clip) ≡ fstOffset image
   offset-kept = field-kept 0x424 (omega arith)

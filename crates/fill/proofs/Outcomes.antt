@@ -1,10 +1,11 @@
 -- What each function that decides on a fill found, as what its plan comes to; and what the writing of it asks and leaves. Assumes nothing.
-use Prim.Native.Nat.{ℕ, _<_, _≤_}
+use Prim.Native.Nat.{ℕ, _-_, _^_, _≤_}
 use mathlib.Core.Path.{_≡_, refl, sym, ap, _∙_}
-use mathlib.Core.Bool.{cond}
+use mathlib.Core.Bool.{true, cond}
 use mathlib.Core.List.{List}
 use native.Mathlib.Omega.{arith}
-use borrow.Author.Tests.{lt-ltb, le-ltb}
+use borrow.Author.Tests.{le-ltb}
+use lib.Dec.{ltb}
 use lib.ListN.{length, getD, replicate}
 use Rattle.endian.specs.Bytes.{put, span}
 use Rattle.endian.specs.Laws.Stored.{length-span}
@@ -36,7 +37,7 @@ use Rattle.commit.specs.declared.Decision.the-variants as decision
 use Rattle.commit.specs.Inner.Decision.{Fits, carriedVerdict, carriedImage, CanCarry, Decided}
 use Rattle.fill.specs.declared.Filling.{Filling}
 use Rattle.fill.specs.declared.Filling.the-variants as filling
-use Rattle.fill.specs.Inner.Filling.{fillingOf, Into, ClipInto, clippedImage, uncopied, restOf, filledVerdict, filledImage, Clear, CanFill, Filled}
+use Rattle.fill.specs.Inner.Filling.{fillingOf, Into, ClipInto, clippedImage, restOf, filledVerdict, filledImage, Clear, CanFill, Filled}
 use Rattle.fill.proofs.Clips.{clip-first, offset-kept, size-kept}
 use Rattle.fill.proofs.Places.{clip-stays, clip-clear}
 
@@ -80,9 +81,9 @@ module _ (image : List ℕ) (words room : ℕ) (bytes clip : List ℕ) (known : 
       }
 
   module _ (passed : fileVerdict (nodesIn image) k ≡ Passed) where
-    pub long-clip : 0xFFFFFFFF < length clip → Filled (planFill (freeOf image) (nodesIn image) k clip) image words room bytes clip (filling.Refused NotEnoughSpace)
+    pub long-clip : ltb (2 ^ 32 - 1) (length clip) ≡ true → Filled (planFill (freeOf image) (nodesIn image) k clip) image words room bytes clip (filling.Refused NotEnoughSpace)
     unfolding planFill
-    long-clip h = behind-refused image words room bytes clip (clipVerdict (nodesIn image) k (length clip)) _ NotEnoughSpace (rw (passed, lt-ltb 0xFFFFFFFF (length clip) h))
+    long-clip h = behind-refused image words room bytes clip (clipVerdict (nodesIn image) k (length clip)) _ NotEnoughSpace (rw (passed, h))
 
     pub file-filled : (d : Decision) → length clip ≤ 0xFFFFFFFF → Decided sized image words room bytes d → Filled (planFill (freeOf image) (nodesIn image) k clip) image words room bytes clip (fillingOf d (old .offset))
     unfolding planFill planResize
@@ -102,7 +103,7 @@ module _ (image : List ℕ) (w bytes bytes′ clip : List ℕ) (k : ℕ) (r : Fi
       behind-refused image (length w) (length bytes) bytes′ clip (clipVerdict (nodesIn image) k (length clip)) _ c (rw (file-refused (nodesIn image) k r c read e))
 
   module _ (old : DiscRegion) (found : r ≡ place.Place old) (known : OpenImage image (length w)) (lent : length bytes′ ≡ length bytes) where
-    pub clip-too-long : 0xFFFFFFFF < length clip → Fills (filling.Refused NotEnoughSpace)
+    pub clip-too-long : ltb (2 ^ 32 - 1) (length clip) ≡ true → Fills (filling.Refused NotEnoughSpace)
     clip-too-long h =
         let f = file-found (nodesIn image) k r old read found in
         long-clip image (length w) (length bytes) bytes′ clip known lent k (f .is) old (f .place) (f .passed) h
@@ -137,8 +138,9 @@ module _ (f : Filling) (size : ℕ) (w : Writing) (e : f ≡ filling.Write size 
   pub placed-into : (long n : ℕ) → ClipInto long n f → Into long (w .place .offset) n
   placed-into long n h = rw e at h
 
-  pub placed-rest : decision.Write size (uncopied w) ≡ restOf f
-  placed-rest = rw e
+  -- all that was to be zeroed
+  pub placed-rest : (n : ℕ) → n ≡ w .«lost_size» → decision.Write size (record { place = w .place; source = 0; kept = 0; lost = w .lost; «lost_size» = n }) ≡ restOf f
+  placed-rest n q = rw (e, q)
 
   pub placed-image : (image clip after : List ℕ) → after ≡ put image (w .place .offset) clip → after ≡ clippedImage f clip image
   placed-image image clip after h = rw e h

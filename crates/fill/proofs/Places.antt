@@ -1,13 +1,13 @@
 -- Where a file lies once it is resized to the clip: behind both tables, in the image, and apart from what is zeroed. Assumes nothing.
-use Prim.Native.Nat.{ℕ, zero, suc, _+_, _<_, _≤_, max}
+use Prim.Native.Nat.{ℕ, _+_, _<_, _≤_, max}
 use mathlib.Core.Path.{_≡_, refl, sym, ap, _∙_}
 use mathlib.Core.Logic.{_⊎_, inl, inr, ⊎-elim}
 use mathlib.Core.Bool.{Bool, true, false, cond, _||_}
-use mathlib.Core.List.{List, [], _∷_, map}
+use mathlib.Core.List.{List, map}
 use native.Mathlib.Omega.{arith}
 use borrow.Author.Tests.{ltb-false, leb-true, lt-ltb, eqb-true}
 use lib.Dec.{leb, eqb}
-use lib.ListN.{length, getD}
+use lib.ListN.{length, getD, length-map, List·getD-map}
 use Rattle.endian.specs.Bytes.{span}
 use Rattle.endian.specs.Laws.Stored.{length-span}
 use Rattle.refusal.specs.declared.Refusal.{Refusal}
@@ -33,7 +33,7 @@ use Rattle.opening.specs.Opening.{nodesIn, regionOf, behindTable, usedIn, freeO
 use Rattle.opening.specs.Laws.OpeningLaws.{OpenImage}
 use Rattle.edits.specs.Change.{Change, tableVerdict, Plan, refused, nothing, change}
 use Rattle.edits.specs.Edits.{overlapsItself, relocateVerdict, relocated, resized, planned, planElsewhere, planSized, planVerdict, planTree}
-use Rattle.edits.specs.Laws.PlaceTests.{place-passed}
+use Rattle.edits.specs.Laws.PlaceTests.{place-passed, in-region}
 use Rattle.decide.specs.Inner.Files.{IsFile}
 use Rattle.commit.specs.declared.Writing.{Writing}
 use Rattle.commit.specs.declared.Decision.the-variants as decision
@@ -43,9 +43,7 @@ use Rattle.fill.specs.Inner.Filling.{Clear}
 
 -- a file's region is one of its table's
 in-files : (xs : List Node) (k : ℕ) → k < length xs → In (regionOf (getD xs k none)) (map regionOf xs)
-in-files [] k h = absurd (omega arith)
-in-files (x ∷ xs) zero h = inl refl
-in-files (x ∷ xs) (suc k) h = inr (in-files xs k (omega arith))
+in-files xs k h = rw (← List·getD-map regionOf xs k none) (in-region (map regionOf xs) k (rw (length-map xs regionOf) h))
 
 -- a file that is put elsewhere is there
 put-there : (nodes : List Node) (k o n : ℕ) → IsFile nodes k → regionOf (getD (setPlace k o n nodes) k none) .offset ≡ o

@@ -1,10 +1,13 @@
 -- What the tests of a new table's place say of it, if they pass; and that free bytes lie behind the table. Assumes nothing.
-use Prim.Native.Nat.{ℕ, _+_, _<_, _≤_}
+use Prim.Native.Nat.{ℕ, zero, suc, _+_, _<_, _≤_}
 use mathlib.Core.Path.{_≡_, refl, sym, _∙_}
 use mathlib.Core.Bool.{Bool, true, false, not, _&&_, false≢true}
-use mathlib.Core.List.{List}
+use mathlib.Core.Logic.{inl, inr}
+use mathlib.Core.List.{List, [], _∷_}
+use native.Mathlib.Omega.{arith}
 use borrow.Author.Tests.{ltb-false, lt-ltb}
 use lib.Dec.{ltb}
+use lib.ListN.{length, getD}
 use Rattle.refusal.specs.declared.Refusal.the-variants.{LimitOrMemory, NotEnoughSpace}
 use Rattle.refusal.specs.declared.Verdict.the-variants.{Passed}
 use Rattle.refusal.specs.Laws.Chains.{refuse-passed}
@@ -14,9 +17,11 @@ use Rattle.space.specs.declared.DiscRegion.{DiscRegion}
 use Rattle.space.specs.Used.{usesByte, usedRegions}
 use Rattle.space.specs.Free.{freeIn}
 use Rattle.space.specs.Laws.UsedLaws.{used-is}
+use Rattle.space.specs.Laws.FreeLaws.{In}
 use Rattle.free_space.specs.MaxRegionSize.{maxRegionSize}
 use Rattle.opening.specs.Opening.{freeOf}
 use Rattle.edits.specs.Change.{placeVerdict}
+use Rattle.edits.specs.Edits.{noPlace}
 
 pub record PlacePassed (image : List ℕ) (room size : ℕ) (place : DiscRegion) : Type 0 where
   pub held : size ≤ room
@@ -34,6 +39,12 @@ place-passed image room size place e =
       grows = ltb-false _ size (b .0);
       before = λ z. ltb-false (place .offset) (fstOffset image + size) (rw (lt-ltb 0 (place .size) z) at (c .0));
     }
+
+-- a region of a list, by its number
+pub in-region : (fs : List DiscRegion) (r : ℕ) → r < length fs → In (getD fs r noPlace) fs
+in-region [] r h = absurd (omega arith)
+in-region (x ∷ fs) zero h = inl refl
+in-region (x ∷ fs) (suc r) h = inr (in-region fs r (omega arith))
 
 -- a free byte is behind the table, and none of what lies there
 pub free-byte : (t : ℕ) (fs : List DiscRegion) (i : ℕ) → freeIn (usedRegions t fs) i ≡ true → (t ≤ i) × (usesByte fs i ≡ false)

@@ -8,7 +8,7 @@ use native.Mathlib.Omega.{arith}
 use lib.ListN.{length, getD, set}
 use lib.Seq.{set-getD}
 use Rattle.endian.specs.Bytes.{put, span, be32, AllBytes}
-use Rattle.endian.specs.Laws.Stored.{put-in, span-put, be32-same, span-ext}
+use Rattle.endian.specs.Laws.Stored.{put-in, span-put, span-ext}
 use Rattle.refusal.specs.declared.Verdict.the-variants.{Passed}
 use Rattle.header.specs.Verdicts.{fstOffset, fstSize, discEnd, tableEnd}
 use Rattle.header.specs.Laws.FieldTests.{GoodHeader, Bounded}
@@ -19,14 +19,14 @@ use Rattle.opening.specs.Opening.{tableOf, nodesIn, behindTable, usedIn, openin
 use Rattle.opening.specs.Laws.OpeningLaws.{table-accepted}
 use Rattle.edits.specs.Edits.{noPlace}
 use Rattle.ledger.specs.Ledger.{History, Ledger, refilled}
-use Rattle.edits.specs.Laws.Puts.{Fits, put-length, put-all, put-else}
-use Rattle.ledger.specs.Laws.Files.{filesIn, placesIn, files-at}
+use Rattle.edits.specs.Laws.Puts.{Fits, put-length, put-all, put-else, put-below, field-below}
+use Rattle.ledger.specs.Laws.Files.{filesIn, placesIn}
 use Rattle.ledger.specs.Laws.Apart.{Has, region}
 use Rattle.ledger.specs.Laws.Histories.{True, SameIn, trues-set}
 use Rattle.ledger.specs.Laws.Opened.{Opened, opening-passes}
 use Rattle.ledger.specs.Laws.Room.{outside}
 use Rattle.ledger.specs.Laws.Kept.{Kept, opened-kept}
-use Rattle.ledger.specs.Laws.Placed.{placeIn, numberIn, placeNumber}
+use Rattle.ledger.specs.Laws.Placed.{placeIn, numberIn, placeNumber, place-is, place-lies, not-there}
 use Rattle.ledger.specs.Laws.ProgramKept.{ProgramKept, program-spared}
 
 -- the image with the clip over file k
@@ -42,11 +42,8 @@ module _ (w : ℕ) (image : List ℕ) (l : Ledger) (K : Kept w image l) (k : ℕ
   o : Opened image
   o = opened-kept w image l K
 
-  place-is : region (placesIn image) (placeNumber image k) ≡ placeIn image k
-  place-is = files-at k (nodesIn image) isFile
-
   lies : (i : ℕ) → Has (placeIn image k) i → (tableEnd image ≤ i) × (i < discEnd image)
-  lies i h = o .places .lie (placeNumber image k) i (rw place-is h)
+  lies = place-lies w image l K k isFile
 
   fits : Fits image (placeIn image k .offset) (length clip)
   fits z = omega (arith, o .bounds .image-holds, lies (placeIn image k .offset + length clip - 1) (omega arith, omega arith) .1)
@@ -59,16 +56,19 @@ module _ (w : ℕ) (image : List ℕ) (l : Ledger) (K : Kept w image l) (k : ℕ
   else-same : (i : ℕ) → (Has (placeIn image k) i → ⊥) → getD (withClip image k clip) i 0 ≡ getD image i 0
   else-same i h = put-else image (placeIn image k .offset) clip fits i (λ z. outside (placeIn image k) (length clip) i (omega arith) h)
 
+  behind : 0 < length clip → tableEnd image ≤ placeIn image k .offset
+  behind z = lies (placeIn image k .offset) (omega arith, omega arith) .0
+
   low-same : (i : ℕ) → i < tableEnd image → getD (withClip image k clip) i 0 ≡ getD image i 0
-  low-same i h = else-same i (λ g. omega (arith, lies i g .0))
+  low-same = put-below image (placeIn image k .offset) clip (tableEnd image) fits behind
 
   others-same : (j : ℕ) → (j ≡ placeNumber image k → ⊥) → SameIn image (withClip image k clip) (region (placesIn image) j)
-  others-same j d i h = else-same i (λ g. d (o .places .apart j (placeNumber image k) i h (rw place-is g)))
+  others-same j d i h = else-same i (not-there w image l K k isFile j i d h)
 
   -- ---- the header, the table, the program
 
   field-same : (at : ℕ) → at + 4 ≤ 0x440 → be32 (withClip image k clip) at ≡ be32 image at
-  field-same at h = be32-same (withClip image k clip) image at (λ i u. low-same (at + i) (omega (arith, o .bounds .after-header)))
+  field-same at h = field-below image (placeIn image k .offset) clip (tableEnd image) fits behind at (omega (arith, o .bounds .after-header))
 
   table-same : tableOf (withClip image k clip) ≡ tableOf image
   unfolding tableOf
@@ -130,7 +130,7 @@ module _ (w : ℕ) (image : List ℕ) (l : Ledger) (K : Kept w image l) (k : ℕ
   pub clipped-kept : (h : History) → Kept w (withClip image k clip) (record { nodes = l .nodes; histories = set (l .histories) (numberIn image k) (refilled clip h) })
   clipped-kept h =
       let r : ℕ = numberIn image k in
-      let p : region (filesIn image) r ≡ placeIn image k = place-is in
+      let p : region (filesIn image) r ≡ placeIn image k = place-is w image l K k isFile in
       record {
         bytes = put-all image (placeIn image k .offset) clip fits (K .bytes) bytes;
         opens = opens-clipped;

@@ -2,10 +2,10 @@
 use Prim.Native.Nat.{ℕ, zero, suc, _^_, _<_, _≤_}
 use mathlib.Core.Path.{_≡_, refl, sym, ap, _∙_}
 use mathlib.Core.Bool.{false}
-use mathlib.Core.List.{List, [], _∷_, map}
+use mathlib.Core.List.{List, [], _∷_}
 use native.Mathlib.Omega.{arith}
 use borrow.Author.Tests.{ltb-false, leb-false}
-use lib.ListN.{length, getD, set, List·getD-map}
+use lib.ListN.{length, getD, set, length-map, List·getD-map}
 use lib.Seq.{set-set}
 use lib.Dec.{ltb, leb}
 use Rattle.endian.specs.Bytes.{AllBytes}
@@ -72,14 +72,10 @@ module _ (w : ℕ) (image : List ℕ) (l : Ledger) (K : Kept w image l) (words b
     -- the file there has the clip's length
     there : (isDirectory (getD (nodesIn image′) k none) ≡ false) × (placeIn image′ k .size ≡ n)
     there =
-        let i : k < length (l .nodes) = rw (← K .shape) (rw (length-bare (nodesIn image)) (leb-false (length (nodesIn image)) k (refuse-passed (leb (length (nodesIn image)) k) NoSuchEntry _ (verdicts .0) .0))) in
+        let i : k < length (l .nodes) = rw (← K .shape) (rw (length-map (nodesIn image) bare) (leb-false (length (nodesIn image)) k (refuse-passed (leb (length (nodesIn image)) k) NoSuchEntry _ (verdicts .0) .0))) in
         let a : bare (getD (nodesIn image′) k none) ≡ getD (setPlace k 0 n (l .nodes)) k none = sym (List·getD-map bare (nodesIn image′) k none) ∙ ap (λ (xs : List Node). getD xs k none) (K′ .shape) in
         let c : getD (l .nodes) k none ≡ bare (getD (nodesIn image) k none) = ap (λ (xs : List Node). getD xs k none) (sym (K .shape)) ∙ List·getD-map bare (nodesIn image) k none in
         bare-file (getD (nodesIn image′) k none) (getD (nodesIn image) k none) n (is-file (nodesIn image) k (verdicts .0)) (a ∙ setPlace-at 0 n k (l .nodes) i ∙ ap (placed 0 n) c)
-      where
-        length-bare : (xs : List Node) → length (map bare xs) ≡ length xs
-        length-bare [] = refl
-        length-bare (x ∷ xs) = ap suc (length-bare xs)
 
     number-is : numberIn image′ k ≡ filesBefore k (l .nodes)
     number-is = sym (before-bare k (nodesIn image′)) ∙ ap (filesBefore k) (K′ .shape) ∙ before-setPlace k 0 n (l .nodes)

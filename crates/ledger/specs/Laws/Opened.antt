@@ -12,7 +12,7 @@ use Rattle.endian.specs.Bytes.{AllBytes}
 use Rattle.refusal.specs.declared.Verdict.the-variants.{Passed}
 use Rattle.refusal.specs.declared.Refusal.the-variants.{EntryPastTable, UnrecognizedKind, RootIsNotDirectory, MissingNullTerminator, LimitOrMemory}
 use Rattle.refusal.specs.Laws.Chains.{refuse-passed, first-passed}
-use Rattle.header.specs.Verdicts.{headerVerdict, boundsVerdict, discEnd, tableEnd}
+use Rattle.header.specs.Verdicts.{discEnd, tableEnd}
 use Rattle.header.specs.Laws.FieldTests.{GoodHeader, Bounded, header-passes, bounds-pass}
 use Rattle.tree.specs.Table.{Node, kind, count, entriesVerdict, unended, check, limits}
 use Rattle.tree.specs.Inner.WellFormed.{WellFormed}
@@ -21,7 +21,7 @@ use Rattle.space.specs.Used.{usedRegions}
 use Rattle.space.specs.Layout.{disjointBelow}
 use Rattle.program.specs.Program.{programOf, programVerdict, programIn, programBehind}
 use Rattle.opening.specs.Opening.{tableOf, nodesIn, behindTable, usedIn, layoutVerdict, opening}
-use Rattle.opening.specs.Laws.OpeningLaws.{opens}
+use Rattle.opening.specs.Laws.OpeningLaws.{opens, table-accepted}
 use Rattle.edits.specs.Change.{Change, written}
 use Rattle.ledger.specs.Laws.Written.{newEnd, Safe, header-written, bounds-written, table-written, fst-offset-written, fst-size-written, disc-end-written}
 use Rattle.ledger.specs.Laws.Files.{filesOf, placesIn, used-files}
@@ -49,10 +49,6 @@ opened image w e b =
       places = apart-from (tableEnd image) (discEnd image) (placesIn image) (omega (arith, o .reads .bounds .after-header)) (rw (used-files (tableEnd image) (programBehind image) (nodesIn image)) at (o .layout));
     }
 
-check-ok : (image : List ℕ) (w : ℕ) → opening image w ≡ Passed → check (tableOf image) w ≡ Passed
-unfolding opening
-check-ok image w e = first-passed (check (tableOf image) w) _ (first-passed (boundsVerdict image) _ (first-passed (headerVerdict image) _ e .1) .1) .0
-
 -- LAW: and what it must accept
 pub opening-passes : (image : List ℕ) (w : ℕ) → GoodHeader image → Bounded image → check (tableOf image) w ≡ Passed → programVerdict (programOf image) ≡ Passed → disjointBelow (discEnd image) (usedIn image) ≡ true → opening image w ≡ Passed
 unfolding opening layoutVerdict
@@ -78,7 +74,7 @@ other-check tab w w′ h e =
 other-words : (image : List ℕ) (w w′ : ℕ) → (w ≤ w′) ⊎ (4 * (count (tableOf image) + 2) ≤ w′) → AllBytes image → opening image w ≡ Passed → opening image w′ ≡ Passed
 other-words image w w′ h b e =
     let o = opened image w e b in
-    opening-passes image w′ (o .header) (o .bounds) (other-check (tableOf image) w w′ h (check-ok image w e)) (o .program) (o .regions)
+    opening-passes image w′ (o .header) (o .bounds) (other-check (tableOf image) w w′ h (table-accepted image w e)) (o .program) (o .regions)
 
 pub more-words : (image : List ℕ) (w w′ : ℕ) → w ≤ w′ → AllBytes image → opening image w ≡ Passed → opening image w′ ≡ Passed
 more-words image w w′ h = other-words image w w′ (inl h)

@@ -38,18 +38,20 @@ numberIn image k = filesBefore k (nodesIn image)
 abbrev pub placeNumber : List ℕ → ℕ → ℕ
 placeNumber image k = suc (numberIn image k)
 
+-- where it lies among the others
+module _ (w : ℕ) (image : List ℕ) (l : Ledger) (K : Kept w image l) (k : ℕ) (isFile : isDirectory (getD (nodesIn image) k none) ≡ false) where
+  pub place-is : region (placesIn image) (placeNumber image k) ≡ placeIn image k
+  place-is = files-at k (nodesIn image) isFile
+
+  pub place-lies : (i : ℕ) → Has (placeIn image k) i → (tableEnd image ≤ i) × (i < discEnd image)
+  place-lies i h = opened-kept w image l K .places .lie (placeNumber image k) i (rw place-is h)
+
+  pub not-there : (j i : ℕ) → (j ≡ placeNumber image k → ⊥) → Has (region (placesIn image) j) i → Has (placeIn image k) i → ⊥
+  not-there j i d h g = d (opened-kept w image l K .places .apart j (placeNumber image k) i h (rw place-is g))
+
 module _ (w : ℕ) (image : List ℕ) (l : Ledger) (K : Kept w image l) (words : ℕ) (lent : words ≤ w) (k : ℕ) (isFile : isDirectory (getD (nodesIn image) k none) ≡ false) (new : DiscRegion) (free : Placeable image (placeNumber image k) new) where
   o : Opened image
   o = opened-kept w image l K
-
-  old-is : region (placesIn image) (placeNumber image k) ≡ placeIn image k
-  old-is = files-at k (nodesIn image) isFile
-
-  old-lies : (i : ℕ) → Has (placeIn image k) i → (tableEnd image ≤ i) × (i < discEnd image)
-  old-lies i h = o .places .lie (placeNumber image k) i (rw old-is h)
-
-  not-old : (j i : ℕ) → (j ≡ placeNumber image k → ⊥) → Has (region (placesIn image) j) i → Has (placeIn image k) i → ⊥
-  not-old j i d h g = d (o .places .apart j (placeNumber image k) i h (rw old-is g))
 
   pub record Placed (c : Change) : Type 0 where
     pub nodes : c .nodes ≡ setPlace k (new .offset) (new .size) (nodesIn image)
@@ -97,7 +99,7 @@ module _ (w : ℕ) (image : List ℕ) (l : Ledger) (K : Kept w image l) (words :
 
     old-clear : (i : ℕ) → Has (placeIn image k) i → newEnd c image ≤ i
     unfolding c
-    old-clear i h = r .clear (placeNumber image k) i (rw old-is h)
+    old-clear i h = r .clear (placeNumber image k) i (rw (place-is w image l K k isFile) h)
 
     relocated-safe : Safe (relocated (nodesIn image) k (placeIn image k) new) image
     unfolding c
@@ -111,12 +113,12 @@ module _ (w : ℕ) (image : List ℕ) (l : Ledger) (K : Kept w image l) (words :
         free (new .offset) (omega arith, omega arith) .0,
         r .place (omega arith),
         omega (arith, free (new .offset + new .size - 1) (omega arith, omega arith) .1),
-        omega (arith, old-lies (placeIn image k .offset + placeIn image k .size - 1) (omega arith, omega arith) .1),
+        omega (arith, place-lies w image l K k isFile (placeIn image k .offset + placeIn image k .size - 1) (omega arith, omega arith) .1),
       );
       zeroed = λ z. (
-        old-lies (placeIn image k .offset) (omega arith, omega arith) .0,
+        place-lies w image l K k isFile (placeIn image k .offset) (omega arith, omega arith) .0,
         old-clear (placeIn image k .offset) (omega arith, omega arith),
-        omega (arith, old-lies (placeIn image k .offset + placeIn image k .size - 1) (omega arith, omega arith) .1),
+        omega (arith, place-lies w image l K k isFile (placeIn image k .offset + placeIn image k .size - 1) (omega arith, omega arith) .1),
       );
     }
 
@@ -129,7 +131,7 @@ module _ (w : ℕ) (image : List ℕ) (l : Ledger) (K : Kept w image l) (words :
       place = refl;
       others = λ j d i h.
           rest-written c image relocated-safe i (o .places .lie j i h .0) (r .clear j i h) (λ z. outside new (min (placeIn image k .size) (new .size)) i (omega arith) (λ g. free i g .2 j d h))
-          (λ z. outside (placeIn image k) (placeIn image k .size) i (omega arith) (not-old j i d h));
+          (λ z. outside (placeIn image k) (placeIn image k .size) i (omega arith) (not-there w image l K k isFile j i d h));
       moved = λ i h. copy-written c image relocated-safe i h (λ z. outside (placeIn image k) (placeIn image k .size) (new .offset + i) (omega arith) (nowhere (new .offset + i) (omega arith, omega arith)));
     }
 
@@ -146,7 +148,7 @@ module _ (w : ℕ) (image : List ℕ) (l : Ledger) (K : Kept w image l) (words :
 
     old-clear′ : (i : ℕ) → Has (placeIn image k) i → newEnd d image ≤ i
     unfolding d
-    old-clear′ i h = r .clear (placeNumber image k) i (rw old-is h)
+    old-clear′ i h = r .clear (placeNumber image k) i (rw (place-is w image l K k isFile) h)
 
     resized-safe : Safe (resized (nodesIn image) k (placeIn image k) (new .size)) image
     unfolding d
@@ -158,9 +160,9 @@ module _ (w : ℕ) (image : List ℕ) (l : Ledger) (K : Kept w image l) (words :
       table = r .end;
       copied = λ z. absurd (omega arith);
       zeroed = λ z. (
-        old-lies (placeIn image k .offset + new .size) (omega arith, omega arith) .0,
+        place-lies w image l K k isFile (placeIn image k .offset + new .size) (omega arith, omega arith) .0,
         old-clear′ (placeIn image k .offset + new .size) (omega arith, omega arith),
-        omega (arith, old-lies (placeIn image k .offset + placeIn image k .size - 1) (omega arith, omega arith) .1),
+        omega (arith, place-lies w image l K k isFile (placeIn image k .offset + placeIn image k .size - 1) (omega arith, omega arith) .1),
       );
     }
 
@@ -173,8 +175,8 @@ module _ (w : ℕ) (image : List ℕ) (l : Ledger) (K : Kept w image l) (words :
       place = rw (← here);
       others = λ j q i h.
           rest-written d image resized-safe i (o .places .lie j i h .0) (r .clear j i h) (λ z. absurd (omega arith))
-          (λ z. outside (d .lost) (d .lost .size) i (omega arith) (λ g. not-old j i q h (lost-old i g)));
+          (λ z. outside (d .lost) (d .lost .size) i (omega arith) (λ g. not-there w image l K k isFile j i q h (lost-old i g)));
       moved = λ i h.
-          rw here (rest-written d image resized-safe (placeIn image k .offset + i) (old-lies (placeIn image k .offset + i) (omega arith, omega arith) .0) (old-clear′ (placeIn image k .offset + i) (omega arith, omega arith)) (λ z. absurd (omega arith))
+          rw here (rest-written d image resized-safe (placeIn image k .offset + i) (place-lies w image l K k isFile (placeIn image k .offset + i) (omega arith, omega arith) .0) (old-clear′ (placeIn image k .offset + i) (omega arith, omega arith)) (λ z. absurd (omega arith))
           (λ z. inl (omega arith)));
     }

@@ -1,9 +1,9 @@
 -- Where a new table and a file's new place lie, if the tests of an edit pass: in no other file, and not in the program. Assumes nothing.
-use Prim.Native.Nat.{ℕ, zero, suc, _+_, _-_, _<_, _≤_}
+use Prim.Native.Nat.{ℕ, _+_, _-_, _<_, _≤_}
 use mathlib.Core.Path.{_≡_, refl}
 use mathlib.Core.Logic.{inl, inr, ⊎-elim}
 use mathlib.Core.Bool.{true, _||_}
-use mathlib.Core.List.{List, [], _∷_}
+use mathlib.Core.List.{List}
 use native.Mathlib.Omega.{arith}
 use borrow.Author.Tests.{ltb-false, leb-true}
 use lib.ListN.{length}
@@ -19,13 +19,12 @@ use Rattle.space.specs.Used.{usedRegions}
 use Rattle.space.specs.Free.{freeIn, freeRegions}
 use Rattle.free_space.specs.MaxRegionSize.{maxRegionSize}
 use Rattle.refusal.specs.Laws.Tests.{lt-or-le, or-cases}
-use Rattle.space.specs.Laws.FreeLaws.{In}
 use Rattle.free_space.specs.Laws.GrowthLaws.{LargestSize, table-largest, file-largest, place-free}
 use Rattle.program.specs.Program.{programBehind}
 use Rattle.opening.specs.Opening.{nodesIn, behindTable, usedIn, freeOf}
 use Rattle.edits.specs.Change.{Change, tableVerdict}
 use Rattle.edits.specs.Edits.{relocateVerdict, overlapsItself}
-use Rattle.edits.specs.Laws.PlaceTests.{PlacePassed, place-passed}
+use Rattle.edits.specs.Laws.PlaceTests.{PlacePassed, place-passed, in-region}
 use Rattle.ledger.specs.Laws.Written.{newEnd}
 use Rattle.ledger.specs.Laws.Files.{placesIn, used-files}
 use Rattle.ledger.specs.Laws.Apart.{Has, region, free-clear}
@@ -89,11 +88,6 @@ module _ (image : List ℕ) (o : Opened image) where
       let e : new .offset + (i - new .offset) ≡ i = omega arith in
       let f = free-clear (tableEnd image) (placesIn image) i (rw e at (p .1 (i - new .offset) (omega arith))) in
       (f .0, omega (arith, p .0), f .1)
-
-  in-region : (fs : List DiscRegion) (r : ℕ) → r < length fs → In (region fs r) fs
-  in-region [] r h = absurd (omega arith)
-  in-region (x ∷ fs) zero h = inl refl
-  in-region (x ∷ fs) (suc r) h = inr (in-region fs r (omega arith))
 
   -- LAW: where a file shrinks, or grows to its largest size at most
   pub in-place : (r n : ℕ) → r < length (placesIn image) →

@@ -2,7 +2,11 @@
 -- Assumes nothing.
 use Rattle.fill.proofs.Outcomes.{no-file-to-fill, clip-too-long, filled-by}
 use Rattle.decide.proofs.Outcomes.{found-file, found-place}
-use Prim.Native.Nat.{_<_}
+use Prim.Native.Nat.{_-_, _^_}
+use mathlib.Core.Path.{_≡_}
+use mathlib.Core.Bool.{true}
+use borrow.Author.Tests.{lt-ltb}
+use lib.Dec.{ltb}
 use native.Mathlib.Omega.{arith}
 use denote.Ref.{now}
 use lib.ListN.{length}
@@ -16,8 +20,8 @@ known : (c : tie.After-shared-slice-known) → let s = c .before in OpenImage (n
 known c = let s = c .before in opens (now (s .args .image)) (length (now (s .args .words))) (λ i. omega (arith, c .shared-slice-known .given i)) (s .pre .passed)
 
 -- a clip that no place can hold
-too-long : (c : tie.Then1) → 0xFFFFFFFF < length (now (c .before .before .before .before .before .before .before .before .before .args .clip))
-too-long c = omega (arith, c .if1 .taken)
+too-long : (c : tie.Then1) → ltb (2 ^ 32 - 1) (length (now (c .before .before .before .before .before .before .before .before .before .args .clip))) ≡ true
+too-long c = lt-ltb (2 ^ 32 - 1) (length (now (c .before .before .before .before .before .before .before .before .before .args .clip))) (omega (arith, c .if1 .taken))
 
 file-at-requires : tie.Need-file-at-requires
 file-at-requires c κs = search needs

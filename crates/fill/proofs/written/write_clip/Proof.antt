@@ -49,7 +49,7 @@ returns-3 : tie.Need-returns-3
 returns-3 c =
     let f = c .before .before .before .before .before .before .before .filling3 .given in
     let s = c .before .before .before .before .before .before .before .before .before .before .before in
-    (placed-rest (s .args .filling) (f .0 .0) (f .0 .1 .0) (f .1), search placed-image)
+    (placed-rest (s .args .filling) (f .0 .0) (f .0 .1 .0) (f .1) _ (omega arith), search placed-image)
 
 pub write-clip-spec : {M : Type 1} → statement M
 write-clip-spec =
