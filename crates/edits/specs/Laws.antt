@@ -8,3 +8,4 @@ pub mod Troubles
 pub mod Making
 pub mod InsertNumber
 pub mod MakeNumber
+pub mod Names

@@ -2,7 +2,7 @@
 ghost use mathlib.Core.Path.{_≡_};
 ghost use mathlib.Core.Bool.{true};
 ghost use mathlib.Core.List.{[], _∷_};
-ghost use Prim.Native.Nat.{_-_, _*_, _≤_, _<_};
+ghost use Prim.Native.Nat.{_+_, _-_, _*_, _≤_, _<_};
 ghost use lib.ListN.{length};
 ghost use Rattle.refusal.specs.declared.Verdict.the-variants.{Passed};
 ghost use Rattle.tree.specs.Table as table_of;
@@ -52,11 +52,11 @@ fn entries_verdict(table: &[u8], count: usize) -> Verdict
     Verdict::Passed
 }
 
-// The bytes of the name at `at`: 12, 13.
+// The units of the name at `at`: 12, 13.
 fn bytes_verdict(table: &[u8], at: usize) -> Verdict
     ensures { λ r. ⌜ r ≡ textVerdict (textAt (now (table .entry)) at) ⌝ }
 {
-    if !fst_text::every_byte(table, at, false) {
+    if !fst_text::every_unit(table, at, false) {
         return Verdict::Refused(Refusal::InvalidNameByte);
     }
     if !fst_text::is_safe_name(table, at) {
@@ -79,10 +79,10 @@ fn clean_verdict(table: &[u8], at: usize) -> Verdict
     Verdict::Passed
 }
 
-// The name of entry k: 11, 12, 13. Where the texts are clean, no name is looked at byte by byte. Elsewhere only a name that is refused, and so ends
+// The name of entry k: 11, 12, 13. Where its text starts clean, it is not looked at unit by unit. Elsewhere only a name that is refused, and so ends
 // the walk, is looked at to its end.
-fn name_verdict(table: &[u8], count: usize, marks: &[bool; 1024], k: usize, clean: bool) -> Verdict
-    requires { ⌜ Inside (now table) count × (k < count) × ((clean ≡ true) → cleanFrom (now table) (12 * count) ≡ true) × Marked (now table) (12 * count) (now marks) ⌝ }
+fn name_verdict(table: &[u8], count: usize, marks: &[bool; 2048], k: usize, clean: bool) -> Verdict
+    requires { ⌜ Inside (now table) count × (k < count) × ((clean ≡ true) → Fit (now table) (12 * count + nameOffset (now table) k)) × Marked (now table) (12 * count) (now marks) ⌝ }
     ensures { λ r. ⌜ r ≡ nameVerdict (now (table .entry)) count k (nameAt (now (table .entry)) count (nameOffset (now (table .entry)) k)) ⌝ }
 {
     let offset = endian::read_u24(table, 12 * k + 1) as usize;
@@ -97,6 +97,15 @@ fn name_verdict(table: &[u8], count: usize, marks: &[bool; 1024], k: usize, clea
         return clean_verdict(table, at);
     }
     bytes_verdict(table, at)
+}
+
+// Whether the name of entry k starts clean.
+fn starts_clean(table: &[u8], count: usize, marks: &mut [bool; 2048], k: usize, clean: bool) -> bool
+    requires { ⌜ Inside (now table) count × (k < count) × Marked (now table) (12 * count) (now marks) × ((clean ≡ true) → cleanFrom (now table) (12 * count) ≡ true) ⌝ }
+    ensures { λ r. ⌜ ((r ≡ true) → (clean ≡ true) × Fit (now (table .entry)) (12 * count + nameOffset (now (table .entry)) k)) × Marked (now (table .entry)) (12 * count) (now (marks .exit)) ⌝ }
+{
+    let offset = endian::read_u24(table, 12 * k + 1) as usize;
+    fst_text::starts_clean(table, 12 * count, marks, 12 * count + offset, clean)
 }
 
 // The next of the innermost open directory.
@@ -163,13 +172,13 @@ fn enter(table: &[u8], count: usize, nexts: &mut [u32; 65], depth: usize, k: usi
 fn node_verdict(
     table: &[u8],
     count: usize,
-    marks: &[bool; 1024],
+    marks: &[bool; 2048],
     nexts: &[u32; 65],
     depth: usize,
     k: usize,
     clean: bool,
 ) -> Verdict
-    requires { ⌜ Inside (now table) count × (k < count) × (depth ≤ 65) × ((clean ≡ true) → cleanFrom (now table) (12 * count) ≡ true) × Marked (now table) (12 * count) (now marks) ⌝ }
+    requires { ⌜ Inside (now table) count × (k < count) × (depth ≤ 65) × ((clean ≡ true) → Fit (now table) (12 * count + nameOffset (now table) k)) × Marked (now table) (12 * count) (now marks) ⌝ }
     ensures { λ r. ⌜ r ≡ nodeVerdict (now (table .entry)) count (openIn (now (nexts .entry)) depth) k ⌝ }
 {
     let name = name_verdict(table, count, marks, k, clean);
@@ -184,13 +193,14 @@ fn walk(table: &[u8], count: usize) -> Verdict
     requires { ⌜ Inside (now table) count ⌝ }
     ensures { λ r. ⌜ r ≡ table_of.walk (now (table .entry)) count (count ∷ []) 1 (nodesFrom (now (table .entry)) count 1 (count - 1)) ⌝ }
 {
-    let mut marks: [bool; 1024] = [false; 1024];
-    let clean = fst_text::survey(table, 12 * count, &mut marks);
+    let mut marks: [bool; 2048] = [false; 2048];
+    let mut clean = fst_text::survey(table, 12 * count, &mut marks);
     let mut nexts: [u32; 65] = [count as u32; 65];
     let mut depth = 1;
     let mut k = 1;
     while k < count {
         depth = shut(&nexts, depth, k);
+        clean = starts_clean(table, count, &mut marks, k, clean);
         let verdict = node_verdict(table, count, &marks, &nexts, depth, k, clean);
         if verdict.is_refused() {
             return verdict;

@@ -1,17 +1,18 @@
--- A path cut into components, and what `.` and `..` are, byte by byte. Assumes nothing.
+-- A path cut into components, unit by unit, and what `.` and `..` are. Assumes nothing.
 use Prim.Native.Nat.{ℕ, suc, _+_, _-_, _<_, _≤_}
-use mathlib.Core.Path.{_≡_, refl, sym}
+use mathlib.Core.Path.{_≡_, refl, sym, _∙_}
 use mathlib.Core.Bool.{Bool, true, false, cond, _&&_}
 use mathlib.Core.List.{List, [], _∷_, _++_, append-assoc, append-nil}
 use native.Mathlib.Omega.{arith}
-use native.Mathlib.Numerals.{add-one}
 use borrow.Author.Tests.{lt-ltb, le-ltb}
-use lib.ListN.{length, getD, drop, drop-of-length-le}
-use lib.Seq.{drop-cons}
+use lib.ListN.{length, getD, drop}
 use lib.Dec.{eqb}
 use Rattle.endian.specs.Bytes.{span}
 use Rattle.endian.specs.Laws.Stored.{span-snoc}
-use Rattle.tree.specs.Lookup.{separator, longer, components, stays, goesBack}
+use Rattle.tree.specs.Units.{TextUnit, single, pair, unitBytes, units}
+use Rattle.tree.specs.Lookup.{separator, separates, longer, componentsOf, components, stays, goesBack}
+use Rattle.tree.specs.Inner.Pairs.{pairAt}
+use Rattle.tree.specs.Laws.UnitLaws.{units-pair, units-single, units-none, pair-inside}
 use Rattle.fst_path.specs.Inner.Steps.{componentsAfter}
 
 -- ---- components
@@ -21,41 +22,57 @@ abbrev pub prepend : List ℕ → List (List ℕ) → List (List ℕ)
 prepend s [] = s ∷ []
 prepend s (c ∷ cs) = (s ++ c) ∷ cs
 
-prepend-longer : (s : List ℕ) (b : ℕ) (cs : List (List ℕ)) → prepend s (longer b cs) ≡ prepend (s ++ (b ∷ [])) cs
-prepend-longer s b [] = refl
-prepend-longer s b (c ∷ cs) = rw (append-assoc s (b ∷ []) c)
+prepend-longer : (s : List ℕ) (u : TextUnit) (cs : List (List ℕ)) → prepend s (longer u cs) ≡ prepend (s ++ unitBytes u) cs
+prepend-longer s u [] = refl
+prepend-longer s u (c ∷ cs) = rw (append-assoc s (unitBytes u) c)
 
-prepend-none : (p : List ℕ) → prepend [] (components p) ≡ components p
-unfolding components
+prepend-none : (us : List TextUnit) → prepend [] (componentsOf us) ≡ componentsOf us
+unfolding componentsOf
 prepend-none [] = refl
-prepend-none (b ∷ p) = go (separator b) (components p)
+prepend-none (u ∷ us) = go (separates u) (componentsOf us)
   where
-    go : (t : Bool) (cs : List (List ℕ)) → prepend [] (cond t ([] ∷ cs) (longer b cs)) ≡ cond t ([] ∷ cs) (longer b cs)
+    go : (t : Bool) (cs : List (List ℕ)) → prepend [] (cond t ([] ∷ cs) (longer u cs)) ≡ cond t ([] ∷ cs) (longer u cs)
     go true cs = refl
     go false [] = refl
     go false (c ∷ cs) = refl
 
+-- the component that starts at `at`, as far as e
 module _ (path : List ℕ) (at : ℕ) where
   pub cut-start : components (drop at path) ≡ prepend (span path at (at - at)) (components (drop at path))
+  unfolding components
   cut-start =
       let z : at - at ≡ 0 = omega arith in
-      rw z (sym (prepend-none (drop at path)))
+      rw z (sym (prepend-none (units (drop at path))))
 
-  pub cut-turn : (e : ℕ) → at ≤ e → e < length path → separator (getD path e 0) ≡ false →
-      prepend (span path at (e - at)) (components (drop e path)) ≡ prepend (span path at (e + 1 - at)) (components (drop (e + 1) path))
-  unfolding components
-  cut-turn e h l s =
-      let n : e + 1 - at ≡ suc (e - at) = omega arith in
-      let m : at + (e - at) ≡ e = omega arith in
-      rw (drop-cons path e 0 l, s, n, span-snoc path at (e - at) (omega arith), m, add-one e) (prepend-longer (span path at (e - at)) (getD path e 0) (components (drop (suc e) path)))
+  module _ (e : ℕ) (h : at ≤ e) (t : Bool) (tested : t ≡ pairAt path e) where
+    -- a pair is a part of it, whatever its trail byte
+    pub cut-pair : t ≡ true → prepend (span path at (e - at)) (components (drop e path)) ≡ prepend (span path at (e + 2 - at)) (components (drop (e + 2) path))
+    unfolding components componentsOf
+    cut-pair p =
+        let q : pairAt path e ≡ true = sym tested ∙ p in
+        let n : e + 2 - at ≡ suc (suc (e - at)) = omega arith in
+        let m : at + (e - at) ≡ e = omega arith in
+        let k : at + suc (e - at) ≡ e + 1 = omega arith in
+        let i = pair-inside path e q in
+        let s : span path at (suc (suc (e - at))) ≡ span path at (e - at) ++ (getD path e 0 ∷ getD path (e + 1) 0 ∷ []) =
+        span-snoc path at (suc (e - at)) (omega arith) ∙ rw (k, span-snoc path at (e - at) (omega arith), m) (append-assoc (span path at (e - at)) (getD path e 0 ∷ []) (getD path (e + 1) 0 ∷ [])) in
+        rw (units-pair path e q, n, s) (prepend-longer (span path at (e - at)) (pair (getD path e 0) (getD path (e + 1) 0)) (componentsOf (units (drop (e + 2) path))))
 
-  pub cut-here : (e : ℕ) → e < length path → separator (getD path e 0) ≡ true → prepend (span path at (e - at)) (components (drop e path)) ≡ span path at (e - at) ∷ componentsAfter path e
-  unfolding components
-  cut-here e l s = rw (drop-cons path e 0 l, s, lt-ltb e (length path) l, add-one e, append-nil (span path at (e - at)))
+    module _ (p : t ≡ false) (l : e < length path) (u : Bool) (parting : u ≡ separator (getD path e 0)) where
+      pub cut-here : u ≡ true → prepend (span path at (e - at)) (components (drop e path)) ≡ span path at (e - at) ∷ componentsAfter path e
+      unfolding components componentsOf
+      cut-here q = rw (units-single path e l (sym tested ∙ p), ← parting, q, lt-ltb e (length path) l, append-nil (span path at (e - at)))
+
+      pub cut-single : u ≡ false → prepend (span path at (e - at)) (components (drop e path)) ≡ prepend (span path at (e + 1 - at)) (components (drop (e + 1) path))
+      unfolding components componentsOf
+      cut-single q =
+          let n : e + 1 - at ≡ suc (e - at) = omega arith in
+          let m : at + (e - at) ≡ e = omega arith in
+          rw (units-single path e l (sym tested ∙ p), ← parting, q, n, span-snoc path at (e - at) (omega arith), m) (prepend-longer (span path at (e - at)) (single (getD path e 0)) (componentsOf (units (drop (e + 1) path))))
 
   pub cut-end : (e : ℕ) → length path ≤ e → prepend (span path at (e - at)) (components (drop e path)) ≡ span path at (e - at) ∷ componentsAfter path e
-  unfolding components
-  cut-end e l = rw (drop-of-length-le path {i = e} l, le-ltb e (length path) l, append-nil (span path at (e - at)))
+  unfolding components componentsOf
+  cut-end e l = rw (units-none path e l, le-ltb e (length path) l, append-nil (span path at (e - at)))
 
 -- ---- `.` and `..`
 

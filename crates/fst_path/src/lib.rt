@@ -29,17 +29,20 @@ fn is_separator(b: u8) -> bool
     b == b'\\'
 }
 
-// The end of the component that starts at `at`: the next separator, or the path's end.
+// The end of the component that starts at `at`: the next separator that is a unit of its own, or the path's end.
 pub fn component_end(path: &[u8], at: usize) -> usize
     requires { ⌜ at ≤ length (now path) ⌝ }
     ensures { λ r. ⌜ (at ≤ r) × (r ≤ length (now (path .entry))) × (components (drop at (now (path .entry))) ≡ span (now (path .entry)) at (r - at) ∷ componentsAfter (now (path .entry)) r) ⌝ }
 {
     let mut end = at;
     while end < path.len() {
-        if is_separator(path[end]) {
+        if fst_text::is_pair(path, end) {
+            end += 2;
+        } else if is_separator(path[end]) {
             return end;
+        } else {
+            end += 1;
         }
-        end += 1;
     }
     end
 }

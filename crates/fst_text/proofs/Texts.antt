@@ -1,17 +1,21 @@
 -- A text read byte by byte: it ends at a zero byte or at the table's end. Assumes nothing.
 use Prim.Native.Nat.{ℕ, zero, suc, _+_, _<_, _≤_}
-use mathlib.Core.Path.{_≡_, refl, ap}
-use mathlib.Core.Bool.{Bool, true, false, not, _&&_}
+use mathlib.Core.Path.{_≡_, refl, sym, ap, _∙_}
+use mathlib.Core.Logic.{⊎-elim}
+use mathlib.Core.Bool.{Bool, true, false, true≢false, not, _&&_}
 use mathlib.Core.List.{List, [], _∷_}
 use native.Mathlib.Omega.{arith}
 use native.Mathlib.Numerals.{add-one}
 use borrow.Author.Tests.{ne-eqb, eqb-true, eqb-false}
-use lib.ListN.{length, getD, drop, List·getD-eq-default, drop-of-length-le}
-use lib.Seq.{drop-cons, drop-drop}
+use lib.ListN.{length, getD, drop, List·getD-eq-default}
+use lib.Seq.{drop-drop, getD-drop}
 use lib.Dec.{eqb}
-use Rattle.tree.specs.Table.{every, dots, safe, plainByte, safeByte, upTo0}
-use Rattle.refusal.specs.Laws.Tests.{and-left, and-right, and-both}
-use Rattle.fst_text.specs.Inner.Texts.{textAt, byteTest, cleanByte, cleanFrom}
+use Rattle.tree.specs.Units.{leadByte, trailByte, TextUnit, single, pair, units}
+use Rattle.tree.specs.Table.{every, dots, safe, plainByte, safeByte, safeUnit}
+use Rattle.tree.specs.Inner.Pairs.{pairAt}
+use Rattle.tree.specs.Laws.UnitLaws.{in-either, lead-is, trail-is, by-units, units-pair, units-single, units-none}
+use Rattle.refusal.specs.Laws.Tests.{and-left, and-right, or-cases, is-false}
+use Rattle.fst_text.specs.Inner.Texts.{textAt, cleanByte, cleanUnit, cleanFrom}
 
 pub text-end : (tab : List ℕ) (i : ℕ) → getD tab i 0 ≡ 0 → textAt tab i ≡ []
 text-end [] zero h = refl
@@ -35,16 +39,58 @@ inside [] i h = absurd (h refl)
 inside (b ∷ s) zero h = omega arith
 inside (b ∷ s) (suc i) h = let r : i < length s = inside s i h in omega arith
 
--- ---- a test of each byte of a text
+-- so is a lead byte, and the place behind it is one in the text or its end
+pub lead-inside : (s : List ℕ) (i b : ℕ) (t : Bool) → b ≡ getD s i 0 → t ≡ leadByte b → t ≡ true → i < length s
+lead-inside s i b t e f g = inside s i (λ z. omega (arith, lead-is b (sym f ∙ g) .0))
 
-pub every-end : (p : ℕ → Bool) (tab : List ℕ) (i : ℕ) → getD tab i 0 ≡ 0 → every p (textAt tab i) ≡ true
-every-end p tab i h = rw (text-end tab i h)
+-- a lead byte, and then the byte at the next place
+pub pair-read : (s : List ℕ) (i j a b : ℕ) (t u : Bool) → a ≡ getD s i 0 → t ≡ leadByte a → t ≡ true → b ≡ getD s j 0 → j ≡ i + 1 → u ≡ trailByte b → u ≡ pairAt s i
+pair-read s i j a b t u e f g h n k = rw (← add-one i, ← n, ← e, ← f, g, ← h) k
 
-pub every-past : (p : ℕ → Bool) (tab : List ℕ) (i : ℕ) → length tab ≤ i → every p (textAt tab i) ≡ true
+pub no-pair : (s : List ℕ) (i a : ℕ) (t : Bool) → a ≡ getD s i 0 → t ≡ leadByte a → t ≡ false → false ≡ pairAt s i
+no-pair s i a t e f g = rw (← e, ← f, g)
+
+-- ---- the units of a text
+
+nonzero : (low b : ℕ) → low ≤ b → 0 < low → b ≡ 0 → ⊥
+nonzero low b h l e = omega arith
+
+module _ (tab : List ℕ) (i : ℕ) where
+  pub units-end : getD tab i 0 ≡ 0 → units (textAt tab i) ≡ []
+  unfolding units
+  units-end h = rw (text-end tab i h)
+
+  pub text-pair : pairAt tab i ≡ true → units (textAt tab i) ≡ pair (getD tab i 0) (getD tab (i + 1) 0) ∷ units (textAt tab (i + 2))
+  unfolding units
+  text-pair e =
+      let l = lead-is (getD tab i 0) (and-left (leadByte (getD tab i 0)) _ e) in
+      let t = trail-is (getD tab (suc i) 0) (and-right (leadByte (getD tab i 0)) _ e) in
+      let n : i + 1 + 1 ≡ i + 2 = omega arith in
+      let second = rw (n) at (text-more tab (i + 1) (rw (add-one i) (nonzero 0x40 (getD tab (suc i) 0) (t .0) (omega arith)))) in
+      rw (text-more tab i (nonzero 0x81 (getD tab i 0) (l .0) (omega arith)), second, add-one i, e)
+
+  pub text-single : (getD tab i 0 ≡ 0 → ⊥) → pairAt tab i ≡ false → units (textAt tab i) ≡ single (getD tab i 0) ∷ units (textAt tab (i + 1))
+  unfolding units
+  text-single h e = go (eqb (getD tab (i + 1) 0) 0) refl
+    where
+      go : (t : Bool) → eqb (getD tab (i + 1) 0) 0 ≡ t → units (textAt tab i) ≡ single (getD tab i 0) ∷ units (textAt tab (i + 1))
+      go true z = rw (text-more tab i h, text-end tab (i + 1) (eqb-true _ _ z))
+      go false z = rw (text-more tab i h, text-more tab (i + 1) (eqb-false _ _ z), add-one i, e)
+
+-- ---- a test of each unit of a text
+
+pub every-end : (p : TextUnit → Bool) (tab : List ℕ) (i : ℕ) → getD tab i 0 ≡ 0 → every p (units (textAt tab i)) ≡ true
+every-end p tab i h = rw (units-end tab i h)
+
+pub every-past : (p : TextUnit → Bool) (tab : List ℕ) (i : ℕ) → length tab ≤ i → every p (units (textAt tab i)) ≡ true
 every-past p tab i h = every-end p tab i (List·getD-eq-default tab 0 h)
 
-pub every-turn : (p : ℕ → Bool) (tab : List ℕ) (i : ℕ) (t : Bool) → (getD tab i 0 ≡ 0 → ⊥) → p (getD tab i 0) ≡ t → every p (textAt tab i) ≡ (t && every p (textAt tab (i + 1)))
-every-turn p tab i t h e = rw (text-more tab i h, e)
+pub every-pair : (p : TextUnit → Bool) (tab : List ℕ) (i : ℕ) → pairAt tab i ≡ true → p (pair (getD tab i 0) (getD tab (i + 1) 0)) ≡ true → every p (units (textAt tab i)) ≡ every p (units (textAt tab (i + 2)))
+every-pair p tab i h e = rw (text-pair tab i h, e)
+
+pub every-single : (p : TextUnit → Bool) (tab : List ℕ) (i : ℕ) (t : Bool) → (getD tab i 0 ≡ 0 → ⊥) → pairAt tab i ≡ false → p (single (getD tab i 0)) ≡ t →
+    every p (units (textAt tab i)) ≡ (t && every p (units (textAt tab (i + 1))))
+every-single p tab i t h n e = rw (text-single tab i h n, e)
 
 -- ---- `.` and `..`
 
@@ -92,7 +138,7 @@ pub safe-none : (tab : List ℕ) (at : ℕ) → getD tab at 0 ≡ 0 → safe (te
 unfolding safe
 safe-none tab at h = rw (text-end tab at h)
 
-pub safe-more : (tab : List ℕ) (at : ℕ) (d t : Bool) → (getD tab at 0 ≡ 0 → ⊥) → dots (textAt tab at) ≡ d → every safeByte (textAt tab at) ≡ t → safe (textAt tab at) ≡ (not d && t)
+pub safe-more : (tab : List ℕ) (at : ℕ) (d t : Bool) → (getD tab at 0 ≡ 0 → ⊥) → dots (textAt tab at) ≡ d → every safeUnit (units (textAt tab at)) ≡ t → safe (textAt tab at) ≡ (not d && t)
 unfolding safe
 safe-more tab at d t h e f =
     let m : textAt tab at ≡ getD tab at 0 ∷ textAt tab (at + 1) = text-more tab at h in
@@ -106,33 +152,70 @@ length-end tab i h = rw (text-end tab i h)
 pub length-turn : (tab : List ℕ) (i : ℕ) → (getD tab i 0 ≡ 0 → ⊥) → length (textAt tab i) ≡ suc (length (textAt tab (i + 1)))
 length-turn tab i h = ap length (text-more tab i h)
 
--- ---- texts of clean bytes
+-- ---- clean texts
 
-pub clean-past : (tab : List ℕ) (i : ℕ) → length tab ≤ i → cleanFrom tab i ≡ true
-unfolding cleanFrom
-clean-past tab i h = rw (drop-of-length-le tab {i = i} h)
-
-pub clean-turn : (tab : List ℕ) (i : ℕ) (t : Bool) → i < length tab → cleanByte (getD tab i 0) ≡ t → cleanFrom tab i ≡ (t && cleanFrom tab (i + 1))
-unfolding cleanFrom
-clean-turn tab i t h e = rw (drop-cons tab i 0 h, e, add-one i)
-
-clean-drop : (n : ℕ) (s : List ℕ) → every cleanByte s ≡ true → every cleanByte (drop n s) ≡ true
-clean-drop zero s e = e
-clean-drop (suc n) [] e = e
-clean-drop (suc n) (b ∷ s) e = clean-drop n s (and-right (cleanByte b) _ e)
-
-clean-byte : (s : Bool) (b : ℕ) → cleanByte (suc b) ≡ true → byteTest s (suc b) ≡ true
-clean-byte s b e = go s (rw (ne-eqb (suc b) 0 (λ z. omega arith)) at e)
+pub clean-no-lead : (b : ℕ) → cleanByte b ≡ true → leadByte b ≡ false
+clean-no-lead b e = is-false (leadByte b) (λ l. ⊎-elim (λ (z : eqb b 0 ≡ true). omega (arith, lead-is b l .0, eqb-true b 0 z)) (λ (p : (plainByte b && safeByte b) ≡ true). apart l (and-left (plainByte b) _ p)) (or-cases (eqb b 0) _ e))
   where
-    go : (s : Bool) → (plainByte (suc b) && safeByte (suc b)) ≡ true → byteTest s (suc b) ≡ true
-    go true q = and-right (plainByte (suc b)) _ q
-    go false q = and-left (plainByte (suc b)) (safeByte (suc b)) q
+    apart : leadByte b ≡ true → plainByte b ≡ true → ⊥
+    apart l p =
+        ⊎-elim (λ (x : (0x81 ≤ b) × (b ≤ 0x9F)). ⊎-elim (λ (y : (0x20 ≤ b) × (b ≤ 0x7E)). omega (arith, x .0, y .1)) (λ (y : (0xA1 ≤ b) × (b ≤ 0xDF)). omega (arith, x .1, y .0)) (in-either 0x20 0x7E 0xA1 0xDF b p))
+        (λ (x : (0xE0 ≤ b) × (b ≤ 0xFC)). ⊎-elim (λ (y : (0x20 ≤ b) × (b ≤ 0x7E)). omega (arith, x .0, y .1)) (λ (y : (0xA1 ≤ b) × (b ≤ 0xDF)). omega (arith, x .0, y .1)) (in-either 0x20 0x7E 0xA1 0xDF b p))
+        (in-either 0x81 0x9F 0xE0 0xFC b l)
 
-clean-text : (s : Bool) (l : List ℕ) → every cleanByte l ≡ true → every (byteTest s) (upTo0 l) ≡ true
-clean-text s [] e = refl
-clean-text s (zero ∷ l) e = refl
-clean-text s (suc b ∷ l) e = and-both _ _ (clean-byte s b (and-left (cleanByte (suc b)) _ e)) (clean-text s l (and-right (cleanByte (suc b)) _ e))
+pub clean-no-pair : (tab : List ℕ) (i : ℕ) → cleanByte (getD tab i 0) ≡ true → pairAt tab i ≡ false
+clean-no-pair tab i e = rw (clean-no-lead (getD tab i 0) e)
 
-pub clean-every : (tab : List ℕ) (from o : ℕ) (s : Bool) → cleanFrom tab from ≡ true → every (byteTest s) (textAt tab (from + o)) ≡ true
+module _ (tab : List ℕ) (i : ℕ) where
+  pub clean-past : length tab ≤ i → cleanFrom tab i ≡ true
+  unfolding cleanFrom
+  clean-past h = rw (units-none tab i h)
+
+  pub clean-pair : pairAt tab i ≡ true → cleanFrom tab i ≡ cleanFrom tab (i + 2)
+  unfolding cleanFrom
+  clean-pair e = rw (units-pair tab i e)
+
+  pub clean-single : (t : Bool) → i < length tab → pairAt tab i ≡ false → cleanByte (getD tab i 0) ≡ t → cleanFrom tab i ≡ (t && cleanFrom tab (i + 1))
+  unfolding cleanFrom
+  clean-single t h n e = rw (units-single tab i h n, e)
+
+-- the loop over the units from a place on
+module _ (tab : List ℕ) (from i : ℕ) (so-far : cleanFrom tab from ≡ cleanFrom tab i) where
+  pub no-more : length tab ≤ i → true ≡ cleanFrom tab from
+  no-more h = sym (so-far ∙ clean-past tab i h)
+
+  module _ (inside-table : i < length tab) (t : Bool) (tested : t ≡ cleanByte (getD tab i 0)) where
+    pub clean-byte : t ≡ true → cleanFrom tab from ≡ cleanFrom tab (i + 1)
+    clean-byte h = so-far ∙ clean-single tab i true inside-table (clean-no-pair tab i (sym tested ∙ h)) (sym tested ∙ h)
+
+    module _ (h : t ≡ false) (u : Bool) (paired : u ≡ pairAt tab i) where
+      pub clean-two : u ≡ true → cleanFrom tab from ≡ cleanFrom tab (i + 2)
+      clean-two e = so-far ∙ clean-pair tab i (sym paired ∙ e)
+
+      pub not-clean : u ≡ false → false ≡ cleanFrom tab from
+      not-clean e = sym (so-far ∙ clean-single tab i false inside-table (sym paired ∙ e) (sym tested ∙ h))
+
+-- what follows a byte that is no lead byte starts no unit in its middle
+clean-drop : (l : List ℕ) (n : ℕ) → every cleanUnit (units l) ≡ true → leadByte (getD l n 0) ≡ false → every cleanUnit (units (drop (suc n) l)) ≡ true
+unfolding units
+clean-drop l n e = by-units Clean none-left pair-left single-left l n e
+  where
+    Clean : List ℕ → Type 0
+    Clean s = (n : ℕ) → every cleanUnit (units s) ≡ true → leadByte (getD s n 0) ≡ false → every cleanUnit (units (drop (suc n) s)) ≡ true
+
+    none-left : Clean []
+    none-left n q h = refl
+
+    pair-left : (a b : ℕ) (s : List ℕ) → leadByte a ≡ true → trailByte b ≡ true → units (a ∷ b ∷ s) ≡ pair a b ∷ units s → Clean s → Clean (a ∷ b ∷ s)
+    pair-left a b s l t u ih zero q h = absurd (true≢false (sym l ∙ h))
+    pair-left a b s l t u ih (suc zero) q h = rw u at q
+    pair-left a b s l t u ih (suc (suc n)) q h = ih n (rw u at q) h
+
+    single-left : (a : ℕ) (s : List ℕ) → units (a ∷ s) ≡ single a ∷ units s → Clean s → Clean (a ∷ s)
+    single-left a s u ih zero q h = and-right (cleanByte a) _ (rw u at q)
+    single-left a s u ih (suc n) q h = ih n (and-right (cleanByte a) _ (rw u at q)) h
+
+-- LAW: clean texts are clean from each place on that follows no lead byte
+pub clean-behind : (tab : List ℕ) (from n : ℕ) → cleanFrom tab from ≡ true → leadByte (getD tab (from + n) 0) ≡ false → cleanFrom tab (from + suc n) ≡ true
 unfolding cleanFrom
-clean-every tab from o s e = clean-text s (drop (from + o) tab) (rw (← drop-drop o from tab) (clean-drop o (drop from tab) e))
+clean-behind tab from n e h = rw (← drop-drop (suc n) from tab) (clean-drop (drop from tab) n e (rw (getD-drop from tab n 0) h))

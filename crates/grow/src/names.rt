@@ -2,15 +2,18 @@
 ghost use mathlib.Core.Path.{_≡_};
 ghost use Rattle.tree.specs.Table.{every, plain, safe};
 ghost use Rattle.tree.specs.Table as table_of;
-ghost use Rattle.fst_text.specs.Inner.Texts.{byteTest};
+ghost use Rattle.tree.specs.Units.{units};
+ghost use Rattle.fst_text.specs.Inner.Texts.{unitTest};
 
-// Whether each byte is safe, or each is plain.
-fn every_byte(name: &[u8], safe_only: bool) -> bool
-    ensures { λ r. ⌜ r ≡ every (byteTest «safe_only») (now (name .entry)) ⌝ }
+// Whether each unit is safe, or each is plain.
+fn every_unit(name: &[u8], safe_only: bool) -> bool
+    ensures { λ r. ⌜ r ≡ every (unitTest «safe_only») (units (now (name .entry))) ⌝ }
 {
     let mut i = 0;
     while i < name.len() {
-        if fst_text::fits(name[i], safe_only) {
+        if fst_text::is_pair(name, i) {
+            i += 2;
+        } else if fst_text::fits(name[i], safe_only) {
             i += 1;
         } else {
             return false;
@@ -35,14 +38,14 @@ fn is_dots(name: &[u8]) -> bool
     name[1] == b'.'
 }
 
-// Each byte 0x20 to 0x7E.
+// Each unit a pair, or a byte 0x20 to 0x7E or 0xA1 to 0xDF.
 pub fn is_plain(name: &[u8]) -> bool
     ensures { λ r. ⌜ r ≡ plain (now (name .entry)) ⌝ }
 {
-    every_byte(name, false)
+    every_unit(name, false)
 }
 
-// Not empty, not `.` or `..`, without `/`, `\` and `:`.
+// Not empty, not `.` or `..`, without `/`, `\` and `:` as units.
 pub fn is_safe(name: &[u8]) -> bool
     ensures { λ r. ⌜ r ≡ safe (now (name .entry)) ⌝ }
 {
@@ -52,5 +55,5 @@ pub fn is_safe(name: &[u8]) -> bool
     if is_dots(name) {
         return false;
     }
-    every_byte(name, true)
+    every_unit(name, true)
 }

@@ -14,6 +14,8 @@ pub mod Records
 pub mod RoundTrip
 pub mod Size
 pub mod Steps
+pub mod UnitLaws
+pub mod SpecialCase
 pub mod Texts
 pub mod Vectors
 pub mod Writing

@@ -1,3 +1,4 @@
+pub mod Units
 pub mod Table
 pub mod Lookup
 pub mod Insert

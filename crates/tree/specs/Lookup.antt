@@ -1,7 +1,7 @@
 -- Entries by number and by path (document 01, "Lookup (`at_descendant`)"). Assumes nothing: these are definitions.
 use Prim.Native.Nat.{ℕ, zero, suc, _-_}
 use mathlib.Core.Bool.{Bool, true, false, cond, _&&_, _||_}
-use mathlib.Core.List.{List, [], _∷_}
+use mathlib.Core.List.{List, [], _∷_, _++_}
 use lib.ListN.{length, getD}
 use lib.Dec.{ltb, eqb}
 use Rattle.endian.specs.Bytes.{sameBytes}
@@ -12,6 +12,7 @@ use Rattle.tree.specs.declared.Found.{Found}
 use Rattle.tree.specs.declared.Found.the-variants as found
 use Rattle.tree.specs.declared.Located.{Located}
 use Rattle.tree.specs.declared.Located.the-variants.{At, Refused}
+use Rattle.tree.specs.Units.{TextUnit, single, pair, unitBytes, units}
 use Rattle.tree.specs.Table.{Node, file, directory, nameOf, none, parentOf}
 
 -- ---- an entry's value
@@ -32,19 +33,26 @@ abbrev pub nextOf : Node → ℕ
 nextOf (file nm offset size) = 0
 nextOf (directory nm next) = next
 
--- ---- "the path is cut at `/` and `\`"
+-- ---- "the path is cut at `/` and `\`", and document 02: "A trail byte 0x5C is not a backslash, .. when a path is cut."
 
 abbrev pub separator : ℕ → Bool
 separator b = eqb b 0x2F || eqb b 0x5C
 
-abbrev pub longer : ℕ → List (List ℕ) → List (List ℕ)
-longer b [] = (b ∷ []) ∷ []
-longer b (c ∷ cs) = (b ∷ c) ∷ cs
+abbrev pub separates : TextUnit → Bool
+separates (single b) = separator b
+separates (pair a b) = false
+
+abbrev pub longer : TextUnit → List (List ℕ) → List (List ℕ)
+longer u [] = unitBytes u ∷ []
+longer u (c ∷ cs) = (unitBytes u ++ c) ∷ cs
 
 -- an empty path has one empty component
+unfoldable pub componentsOf : List TextUnit → List (List ℕ)
+componentsOf [] = [] ∷ []
+componentsOf (u ∷ us) = cond (separates u) ([] ∷ componentsOf us) (longer u (componentsOf us))
+
 unfoldable pub components : List ℕ → List (List ℕ)
-components [] = [] ∷ []
-components (b ∷ p) = cond (separator b) ([] ∷ components p) (longer b (components p))
+components path = componentsOf (units path)
 
 -- ---- "Otherwise the first child with equal bytes, else 18."
 

@@ -2,7 +2,7 @@
 -- The table is in preorder and a directory's "next" says where its entries end, so the tree is the list of its entries.
 -- Assumes nothing: these are definitions.
 use Prim.Native.Nat.{ℕ, zero, suc, _+_, _-_, _*_, max}
-use mathlib.Core.Bool.{Bool, true, false, cond, not, _&&_}
+use mathlib.Core.Bool.{Bool, true, false, cond, not, _&&_, _||_}
 use mathlib.Core.List.{List, [], _∷_, _++_, tail}
 use lib.ListN.{length, getD, drop}
 use lib.Dec.{leb, ltb, eqb}
@@ -11,6 +11,7 @@ use Rattle.refusal.specs.declared.Verdict.{Verdict}
 use Rattle.refusal.specs.declared.Verdict.the-variants.{Passed}
 use Rattle.refusal.specs.declared.Refusal.the-variants.{EntryPastTable, UnrecognizedKind, RootIsNotDirectory, MissingNullTerminator, LimitOrMemory, InvalidNextIndex, InvalidNameOffset, InvalidNameByte, UnsafeName}
 use Rattle.refusal.specs.Refusal.{refuse, first}
+use Rattle.tree.specs.Units.{TextUnit, single, pair, within, units}
 
 -- "an entry is a file with offset and size or a directory with parent and next": the parent is where it is nested, see `parentOf`
 pub data Node : Type 0 where
@@ -25,21 +26,30 @@ nameOf (directory nm next) = nm
 abbrev pub none : Node
 none = directory [] 0
 
--- ---- "Names: one or more bytes 0x20 to 0x7E; not `.` or `..`; without `/`, `\`, `:`."
+-- ---- "Names: one or more bytes 0x20 to 0x7E; not `.` or `..`; without `/`, `\`, `:`.", and document 02: "Names may now hold bytes 0xA1 to
+-- 0xDF, and pairs .. A trail byte 0x5C is not a backslash .. A lead byte without its trail is 12 in a name"
 
-abbrev pub every : (ℕ → Bool) → List ℕ → Bool
+abbrev pub every : {A : Type 0} → (A → Bool) → List A → Bool
 every p [] = true
 every p (x ∷ xs) = p x && every p xs
 
 abbrev pub plainByte : ℕ → Bool
-plainByte b = leb 0x20 b && leb b 0x7E
+plainByte b = within 0x20 0x7E b || within 0xA1 0xDF b
 
 abbrev pub safeByte : ℕ → Bool
 safeByte b = not (eqb b 0x2F) && not (eqb b 0x5C) && not (eqb b 0x3A)
 
--- each byte 0x20 to 0x7E
+abbrev pub plainUnit : TextUnit → Bool
+plainUnit (single b) = plainByte b
+plainUnit (pair a b) = true
+
+abbrev pub safeUnit : TextUnit → Bool
+safeUnit (single b) = safeByte b
+safeUnit (pair a b) = true
+
+-- each unit a pair, or a byte 0x20 to 0x7E or 0xA1 to 0xDF
 unfoldable pub plain : List ℕ → Bool
-plain nm = every plainByte nm
+plain nm = every plainUnit (units nm)
 
 -- `.` or `..`
 abbrev pub dots : List ℕ → Bool
@@ -48,10 +58,10 @@ dots (a ∷ []) = eqb a 0x2E
 dots (a ∷ b ∷ []) = eqb a 0x2E && eqb b 0x2E
 dots (a ∷ b ∷ c ∷ xs) = false
 
--- not empty, not `.` or `..`, without `/`, `\` and `:`
+-- not empty, not `.` or `..`, without `/`, `\` and `:` as units
 unfoldable pub safe : List ℕ → Bool
 safe [] = false
-safe (x ∷ xs) = not (dots (x ∷ xs)) && every safeByte (x ∷ xs)
+safe (x ∷ xs) = not (dots (x ∷ xs)) && every safeUnit (units (x ∷ xs))
 
 -- ---- "An entry has 12 bytes: kind (1; 0 file, 1 directory), name offset (3), offset or parent (4), size or next (4)."
 

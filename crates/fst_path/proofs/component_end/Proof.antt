@@ -1,4 +1,4 @@
--- `fst_path::component_end` meets its contract. The invariant of its loop: the bytes passed stand before the first component of the rest.
+-- `fst_path::component_end` meets its contract. The invariant of its loop: the units passed stand before the first component of the rest.
 -- Assumes nothing.
 use native.Mathlib.Omega.{arith}
 use Prim.Native.Nat.{_-_, _≤_}
@@ -6,7 +6,8 @@ use mathlib.Core.Path.{_≡_, sym, _∙_}
 use lib.ListN.{length, drop}
 use Rattle.endian.specs.Bytes.{span}
 use Rattle.tree.specs.Lookup.{components}
-use Rattle.fst_path.proofs.Components.{prepend, cut-start, cut-turn, cut-here, cut-end}
+use Rattle.tree.specs.Laws.UnitLaws.{pair-inside}
+use Rattle.fst_path.proofs.Components.{prepend, cut-start, cut-pair, cut-here, cut-single, cut-end}
 use borrow.Author.Needs.{needs}
 use Rattle.fst_path.proofs.component_end.Statement.{statement}
 use Rattle.fst_path.proofs.component_end.Tie as tie
@@ -20,16 +21,8 @@ abbrev μ-loop : tie.MeasureT-loop
 loop-holds : tie.Need-loop-holds Inv-loop μ-loop
 loop-holds c = (omega arith, omega arith, cut-start (c .before .args .path .now) (c .before .args .at))
 
-shared-slice-read-is-separator : tie.Need-shared-slice-read-is-separator Inv-loop μ-loop
-shared-slice-read-is-separator c = omega arith
-
-is-separator-requires : tie.Need-is-separator-requires Inv-loop μ-loop
-is-separator-requires c κs = search needs
-
-returns : tie.Need-returns Inv-loop μ-loop
-returns c =
-    let l = c .before .before .before .before .loop in
-    (omega arith, omega arith, l .inv .2 ∙ cut-here (c .before .before .before .before .before .before .args .path .now) (c .before .before .before .before .before .before .args .at) (l .end) (c .before .before .before .loop-test .taken) (sym (c .before .is-separator .ensures) ∙ c .if1 .taken))
+is-pair-requires : tie.Need-is-pair-requires Inv-loop μ-loop
+is-pair-requires c κs = search needs
 
 add-end : tie.Need-add-end Inv-loop μ-loop
 add-end c = omega arith
@@ -39,8 +32,38 @@ loop-less c = omega arith
 
 loop-again : tie.Need-loop-again Inv-loop μ-loop
 loop-again c =
-    let l = c .before .before .before .before .loop in
-    (omega arith, omega arith, l .inv .2 ∙ cut-turn (c .before .before .before .before .before .before .args .path .now) (c .before .before .before .before .before .before .args .at) (l .end) (omega arith) (c .before .before .before .loop-test .taken) (sym (c .before .is-separator .ensures) ∙ c .if1 .left))
+    let a = c .before .before .before .before .before .args in
+    let l = c .before .before .before .loop in
+    let p = c .before .is-pair in
+    (omega arith, omega (arith, pair-inside (a .path .now) (l .end) (sym (p .ensures) ∙ c .if1 .taken)), l .inv .2 ∙ cut-pair (a .path .now) (a .at) (l .end) (omega arith) (p .result) (p .ensures) (c .if1 .taken))
+
+shared-slice-read-is-separator : tie.Need-shared-slice-read-is-separator Inv-loop μ-loop
+shared-slice-read-is-separator c = omega arith
+
+is-separator-requires : tie.Need-is-separator-requires Inv-loop μ-loop
+is-separator-requires c κs = search needs
+
+returns : tie.Need-returns Inv-loop μ-loop
+returns c =
+    let a = c .before .before .before .before .before .before .before .before .args in
+    let l = c .before .before .before .before .before .before .loop in
+    let p = c .before .before .before .before .is-pair in
+    let s = c .before .is-separator in
+    (omega arith, omega arith, l .inv .2 ∙ cut-here (a .path .now) (a .at) (l .end) (omega arith) (p .result) (p .ensures) (c .before .before .before .if1 .left) (c .before .before .before .before .before .loop-test .taken) (s .result) (s .ensures) (c .if2 .taken))
+
+add-end-2 : tie.Need-add-end-2 Inv-loop μ-loop
+add-end-2 c = omega arith
+
+loop-less-2 : tie.Need-loop-less-2 Inv-loop μ-loop
+loop-less-2 c = omega arith
+
+loop-again-2 : tie.Need-loop-again-2 Inv-loop μ-loop
+loop-again-2 c =
+    let a = c .before .before .before .before .before .before .before .before .args in
+    let l = c .before .before .before .before .before .before .loop in
+    let p = c .before .before .before .before .is-pair in
+    let s = c .before .is-separator in
+    (omega arith, omega arith, l .inv .2 ∙ cut-single (a .path .now) (a .at) (l .end) (omega arith) (p .result) (p .ensures) (c .before .before .before .if1 .left) (c .before .before .before .before .before .loop-test .taken) (s .result) (s .ensures) (c .if2 .left))
 
 returns-2 : tie.Need-returns-2 Inv-loop μ-loop
 returns-2 c =
@@ -54,10 +77,14 @@ component-end-spec =
     Inv-loop
     μ-loop
     loop-holds
-    shared-slice-read-is-separator
-    is-separator-requires
-    returns
+    is-pair-requires
     add-end
     loop-less
     loop-again
+    shared-slice-read-is-separator
+    is-separator-requires
+    returns
+    add-end-2
+    loop-less-2
+    loop-again-2
     returns-2)

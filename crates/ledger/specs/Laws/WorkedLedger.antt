@@ -7,8 +7,9 @@ use mathlib.Core.List.{List, [], _∷_}
 use lib.ListN.{length, getD, replicate}
 use Rattle.endian.specs.Bytes.{be24, be32, be32Bytes, put, sameBytes}
 use Rattle.header.specs.Fields.{fstOffsetField, fstSizeField}
+use Rattle.tree.specs.Units.{units}
 use Rattle.tree.specs.Table.{file, directory, none, plain, safe, count, nameAt, nodeAt, nodesFrom, nodesOf, parentBelow, parentOf}
-use Rattle.tree.specs.Lookup.{components, firstChild, childOf}
+use Rattle.tree.specs.Lookup.{componentsOf, components, firstChild, childOf}
 use Rattle.tree.specs.Insert.{bump, splice, insertAt, setPlace}
 use Rattle.opening.specs.Opening.{tableOf, nodesIn}
 use Rattle.edits.specs.Edits.{insertFile, makeDirectories, moveFile, resizeFile, fillFile, rewrite, make}
@@ -107,7 +108,7 @@ end = record {
 }
 
 ends : ledgerAfter list first ≡ end
-unfolding list first ledgerAfter filesBefore putIn insertAt splice bump setPlace make components childOf firstChild parentOf parentBelow sameBytes plain safe
+unfolding list first ledgerAfter filesBefore putIn insertAt splice bump setPlace make components childOf firstChild parentOf parentBelow sameBytes plain safe componentsOf units
 ends = refl
 
 after : last ≡ end

@@ -16,8 +16,9 @@ use Rattle.window.specs.declared.Sought.the-variants as sought
 use Rattle.window.specs.Window.{seekOf, newWindow}
 use Rattle.tree.specs.declared.Entry.the-variants.{File, Directory}
 use Rattle.tree.specs.declared.Found.the-variants as found
+use Rattle.tree.specs.Units.{units}
 use Rattle.tree.specs.Table.{file, directory, plain, safe, count, nameAt, nodeAt, nodesFrom, nodesOf, entryVerdict, entriesVerdict, unended, shut, nameVerdict, nextVerdict, walk, check, parentBelow, parentOf, entriesBytes, textsOf, encode, shallowFrom, shallow, limits}
-use Rattle.tree.specs.Lookup.{components, firstChild, childOf, follow, lookup}
+use Rattle.tree.specs.Lookup.{componentsOf, components, firstChild, childOf, follow, lookup}
 use Rattle.tree.specs.Insert.{setPlace}
 use Rattle.space.specs.declared.DiscRegion.{DiscRegion}
 use Rattle.free_space.specs.declared.Allocation.the-variants as allocation
@@ -46,7 +47,7 @@ use Rattle.small_master.specs.Image.{master, masterWords, masterBytes}
 -- ---- the image opens, and what it reads as
 
 pub opens : opening master masterWords ≡ verdict.Passed
-unfolding master put opening layoutVerdict headerVerdict fieldsVerdict fieldVerdict fields boundsVerdict tableOf check nodesIn nodesOf nodesFrom nodeAt nameAt count entriesVerdict entryVerdict unended walk nameVerdict nextVerdict shut plain safe be24 be32 usedIn behindTable programOf programIn ownRegion nonempty disjointBelow pairwiseDisjoint disjointFromAll disjoint endBy
+unfolding master put opening layoutVerdict headerVerdict fieldsVerdict fieldVerdict fields boundsVerdict tableOf check nodesIn nodesOf nodesFrom nodeAt nameAt count entriesVerdict entryVerdict unended walk nameVerdict nextVerdict shut plain safe be24 be32 usedIn behindTable programOf programIn ownRegion nonempty disjointBelow pairwiseDisjoint disjointFromAll disjoint endBy units
 opens = refl
 
 pub nodes : nodesIn master ≡ directory [] 2 ∷ file (0x61 ∷ []) 0x500 0x100 ∷ []
@@ -90,7 +91,7 @@ abbrev four : List ℕ
 four = 0 ∷ 0 ∷ 0 ∷ 0 ∷ []
 
 moved : freeRegionsList (movedTo 0x600) masterWords four ≡ 0x45A ∷ 0x1A6 ∷ 0x700 ∷ 0x1900 ∷ []
-unfolding master put opening layoutVerdict headerVerdict fieldsVerdict fieldVerdict fields boundsVerdict tableOf check nodesIn nodesOf nodesFrom nodeAt nameAt count entriesVerdict entryVerdict unended walk nameVerdict nextVerdict shut plain safe be24 be32 usedIn behindTable programOf programIn ownRegion nonempty disjointBelow pairwiseDisjoint disjointFromAll disjoint endBy freeOf freeRegions runs usesByte freeList rowsOf imageAfter verdictOf planMove tableVerdict placeVerdict limits shallow shallowFrom textsOf encode entriesBytes parentOf parentBelow setPlace written withTable maxSizeFrom besideFree
+unfolding master put opening layoutVerdict headerVerdict fieldsVerdict fieldVerdict fields boundsVerdict tableOf check nodesIn nodesOf nodesFrom nodeAt nameAt count entriesVerdict entryVerdict unended walk nameVerdict nextVerdict shut plain safe be24 be32 usedIn behindTable programOf programIn ownRegion nonempty disjointBelow pairwiseDisjoint disjointFromAll disjoint endBy freeOf freeRegions runs usesByte freeList rowsOf imageAfter verdictOf planMove tableVerdict placeVerdict limits shallow shallowFrom textsOf encode entriesBytes parentOf parentBelow setPlace written withTable maxSizeFrom besideFree units
 moved = refl
 
 -- ---- the table, in the paper's order; `a` is entry 1. A refusal stands with its number
@@ -122,7 +123,7 @@ pub record Marked : Type 0 where
   pub P12 : (openFileAnswer master masterWords 1 ≡ window.Opened windowOfA) × (seekOf windowOfA (Current (negsuc 0)) ≡ sought.Refused InvalidSeek) × (numberOf InvalidSeek ≡ 23)
 
 pub marked : Marked
-unfolding maxFileSizeAnswer maxRegionSizeAnswer allocateAnswer lookupAnswer entryAnswer openFileAnswer maxSizeFrom besideFree allocationOf powers largest betterOf alignUp verdictOf planMove planResize tableVerdict placeVerdict limits shallow shallowFrom shut textsOf encode entriesBytes parentOf parentBelow lookup follow components childOf firstChild sameBytes setPlace
+unfolding maxFileSizeAnswer maxRegionSizeAnswer allocateAnswer lookupAnswer entryAnswer openFileAnswer maxSizeFrom besideFree allocationOf powers largest betterOf alignUp verdictOf planMove planResize tableVerdict placeVerdict limits shallow shallowFrom shut textsOf encode entriesBytes parentOf parentBelow lookup follow components childOf firstChild sameBytes setPlace componentsOf units
 marked = record {
   P1 = rw (opens, nodes, opens, free);
   P2 = rw (opens, free);

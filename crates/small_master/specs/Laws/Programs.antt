@@ -11,6 +11,7 @@ use Rattle.refusal.specs.declared.Verdict.the-variants as verdict
 use Rattle.refusal.specs.Refusal.{numberOf}
 use Rattle.header.specs.Fields.{fields, gcnMagicField, dolOffsetField, fstOffsetField, fstSizeField, userSizeField}
 use Rattle.header.specs.Verdicts.{gcnMagic, fieldVerdict, fieldsVerdict, headerVerdict, boundsVerdict, fstOffset, fstSize, discEnd}
+use Rattle.tree.specs.Units.{units}
 use Rattle.tree.specs.Table.{file, directory, plain, safe, count, nameAt, nodeAt, nodesFrom, nodesOf, entryVerdict, entriesVerdict, unended, shut, nameVerdict, nextVerdict, walk, check, parentBelow, parentOf, entriesBytes, textsOf, encode, shallowFrom, shallow, limits}
 use Rattle.tree.specs.Lookup.{firstChild, childOf}
 use Rattle.tree.specs.Insert.{splice, insertAt, setPlace}
@@ -65,7 +66,7 @@ pub record Opens : Type 0 where
   pub numbers : (numberOf InvalidDol ≡ 24) × (numberOf UnsafeName ≡ 13) × (numberOf OverlappingRegions ≡ 14)
 
 pub opened : Opens
-unfolding one put opening layoutVerdict headerVerdict fieldsVerdict fieldVerdict fields boundsVerdict tableOf check nodesIn nodesOf nodesFrom nodeAt nameAt count entriesVerdict entryVerdict unended walk nameVerdict nextVerdict shut plain safe be24 be32 usedIn behindTable programOf programIn ownRegion wordsAt largestOf nonempty disjointBelow pairwiseDisjoint disjointFromAll disjoint endBy
+unfolding one put opening layoutVerdict headerVerdict fieldsVerdict fieldVerdict fields boundsVerdict tableOf check nodesIn nodesOf nodesFrom nodeAt nameAt count entriesVerdict entryVerdict unended walk nameVerdict nextVerdict shut plain safe be24 be32 usedIn behindTable programOf programIn ownRegion wordsAt largestOf nonempty disjointBelow pairwiseDisjoint disjointFromAll disjoint endBy units
 opened = record { at-file = (refl, refl); sum = refl; walk = refl; past-end = refl; numbers = (refl, refl, refl) }
 
 -- what is free, and the used total
@@ -96,7 +97,7 @@ unfoldable pub two : List ℕ
 two = with 0x45A 0 0 (disc 0x900 0x440 0x600 0x61)
 
 two-opens : (opening two 20 ≡ verdict.Passed) × (programOf two ≡ At (at 0x45A 0xE4))
-unfolding two put opening layoutVerdict headerVerdict fieldsVerdict fieldVerdict fields boundsVerdict tableOf check nodesIn nodesOf nodesFrom nodeAt nameAt count entriesVerdict entryVerdict unended walk nameVerdict nextVerdict shut plain safe be24 be32 usedIn behindTable programOf programIn ownRegion wordsAt largestOf nonempty disjointBelow pairwiseDisjoint disjointFromAll disjoint endBy
+unfolding two put opening layoutVerdict headerVerdict fieldsVerdict fieldVerdict fields boundsVerdict tableOf check nodesIn nodesOf nodesFrom nodeAt nameAt count entriesVerdict entryVerdict unended walk nameVerdict nextVerdict shut plain safe be24 be32 usedIn behindTable programOf programIn ownRegion wordsAt largestOf nonempty disjointBelow pairwiseDisjoint disjointFromAll disjoint endBy units
 two-opens = (refl, refl)
 
 two-nodes : nodesIn two ≡ directory [] 2 ∷ file (0x61 ∷ []) 0x600 0x100 ∷ []
@@ -129,7 +130,7 @@ pub record Kept : Type 0 where
   pub twenty-one : numberOf NotEnoughSpace ≡ 21
 
 pub kept : Kept
-unfolding verdictOf planMove planResize insertVerdict insertAt splice childOf firstChild sameBytes plain safe maxSizeFrom besideFree allocationOf powers largest betterOf alignUp tableVerdict placeVerdict limits shallow shallowFrom shut textsOf encode entriesBytes parentOf parentBelow setPlace
+unfolding verdictOf planMove planResize insertVerdict insertAt splice childOf firstChild sameBytes plain safe maxSizeFrom besideFree allocationOf powers largest betterOf alignUp tableVerdict placeVerdict limits shallow shallowFrom shut textsOf encode entriesBytes parentOf parentBelow setPlace units
 kept = record {
   move-onto = rw (opened .at-file .0, nodes, free);
   grow-onto = rw (opened .at-file .0, nodes, free);

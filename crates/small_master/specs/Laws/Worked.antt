@@ -11,6 +11,7 @@ use Rattle.refusal.specs.declared.Verdict.the-variants as verdict
 use Rattle.refusal.specs.Refusal.{numberOf}
 use Rattle.header.specs.Fields.{fields, gcnMagicField, fstOffsetField, fstSizeField, userSizeField}
 use Rattle.header.specs.Verdicts.{gcnMagic, fieldVerdict, fieldsVerdict, headerVerdict, boundsVerdict, fstOffset, fstSize}
+use Rattle.tree.specs.Units.{units}
 use Rattle.tree.specs.Table.{file, directory, plain, safe, count, nameAt, nodeAt, nodesFrom, nodesOf, entryVerdict, entriesVerdict, unended, shut, nameVerdict, nextVerdict, walk, check, parentBelow, parentOf, entriesBytes, textsOf, encode, shallowFrom, shallow, limits}
 use Rattle.tree.specs.Lookup.{firstChild, childOf}
 use Rattle.tree.specs.Insert.{setPlace}
@@ -71,7 +72,7 @@ pub record Worked : Type 0 where
   pub exists : (verdictOn (insertFile 0 (0x62 ∷ [])) small ≡ verdict.Refused AlreadyExists) × (verdictOn (insertDirectory 0 (0x62 ∷ [])) small ≡ verdict.Refused AlreadyExists) × (numberOf AlreadyExists ≡ 19)
 
 pub worked : Worked
-unfolding small planMove planResize insertVerdict childOf firstChild sameBytes put opening layoutVerdict headerVerdict fieldsVerdict fieldVerdict fields boundsVerdict tableOf check nodesIn nodesOf nodesFrom nodeAt nameAt count entriesVerdict entryVerdict unended walk nameVerdict nextVerdict shut plain safe be24 be32 usedIn behindTable programOf programIn ownRegion nonempty disjointBelow pairwiseDisjoint disjointFromAll disjoint endBy freeOf freeRegions runs usesByte imageAfter verdictOf tableVerdict placeVerdict limits shallow shallowFrom textsOf encode entriesBytes parentOf parentBelow setPlace written withTable maxSizeFrom besideFree
+unfolding small planMove planResize insertVerdict childOf firstChild sameBytes put opening layoutVerdict headerVerdict fieldsVerdict fieldVerdict fields boundsVerdict tableOf check nodesIn nodesOf nodesFrom nodeAt nameAt count entriesVerdict entryVerdict unended walk nameVerdict nextVerdict shut plain safe be24 be32 usedIn behindTable programOf programIn ownRegion nonempty disjointBelow pairwiseDisjoint disjointFromAll disjoint endBy freeOf freeRegions runs usesByte imageAfter verdictOf tableVerdict placeVerdict limits shallow shallowFrom textsOf encode entriesBytes parentOf parentBelow setPlace written withTable maxSizeFrom besideFree units
 worked = record {
   moved = (refl, refl, refl);
   rewritten = (refl, refl, refl, refl);
@@ -88,7 +89,7 @@ abbrev pub at : ℕ → ℕ → DiscRegion
 at o n = record { offset = o; size = n }
 
 pub large-opens : opening large 20 ≡ verdict.Passed
-unfolding large put opening layoutVerdict headerVerdict fieldsVerdict fieldVerdict fields boundsVerdict tableOf check nodesIn nodesOf nodesFrom nodeAt nameAt count entriesVerdict entryVerdict unended walk nameVerdict nextVerdict shut plain safe be24 be32 usedIn behindTable programOf programIn ownRegion nonempty disjointBelow pairwiseDisjoint disjointFromAll disjoint endBy
+unfolding large put opening layoutVerdict headerVerdict fieldsVerdict fieldVerdict fields boundsVerdict tableOf check nodesIn nodesOf nodesFrom nodeAt nameAt count entriesVerdict entryVerdict unended walk nameVerdict nextVerdict shut plain safe be24 be32 usedIn behindTable programOf programIn ownRegion nonempty disjointBelow pairwiseDisjoint disjointFromAll disjoint endBy units
 large-opens = refl
 
 pub large-nodes : nodesIn large ≡ directory [] 3 ∷ file (0x61 ∷ []) 0x500 8 ∷ file (0x62 ∷ []) 0x508 4 ∷ []

@@ -11,8 +11,10 @@ use Rattle.refusal.specs.Laws.Tests.{and-left, and-right}
 use Rattle.refusal.specs.declared.Refusal.the-variants.{NoSuchEntry, ExpectedDirectory}
 use Rattle.tree.specs.declared.Located.{Located}
 use Rattle.tree.specs.declared.Located.the-variants.{At, Refused}
-use Rattle.tree.specs.Table.{Node, none, every, safeByte, dots, safe}
-use Rattle.tree.specs.Lookup.{isDirectory, separator, longer, components, childOf, stays, goesBack, andThen, stepBack, follow, lookup}
+use Rattle.tree.specs.Units.{leadByte, trailByte, TextUnit, single, pair, unitBytes, units}
+use Rattle.tree.specs.Laws.UnitLaws.{by-units, units-then}
+use Rattle.tree.specs.Table.{Node, none, every, safeByte, safeUnit, dots, safe}
+use Rattle.tree.specs.Lookup.{isDirectory, separator, separates, longer, componentsOf, components, childOf, stays, goesBack, andThen, stepBack, follow, lookup}
 
 -- ---- names
 
@@ -24,10 +26,23 @@ no-separator b e = go (eqb b 0x2F) (eqb b 0x5C) (eqb b 0x3A) e
     go false true z e = let n : _≡_ {A = ℕ} 0 1 = cc in absurd (omega arith)
     go false false z e = refl
 
-one-component : (nm : List ℕ) → every safeByte nm ≡ true → components nm ≡ nm ∷ []
-unfolding components
-one-component [] e = refl
-one-component (b ∷ nm) e = rw (no-separator b (and-left (safeByte b) _ e), one-component nm (and-right (safeByte b) _ e))
+one-component : (nm : List ℕ) → every safeUnit (units nm) ≡ true → components nm ≡ nm ∷ []
+unfolding components componentsOf units
+one-component nm e = by-units One none-left of-pair of-single nm e
+  where
+    One : List ℕ → Type 0
+    One s = every safeUnit (units s) ≡ true → componentsOf (units s) ≡ s ∷ []
+
+    none-left : One []
+    none-left q = refl
+
+    of-pair : (a b : ℕ) (s : List ℕ) → leadByte a ≡ true → trailByte b ≡ true → units (a ∷ b ∷ s) ≡ pair a b ∷ units s → One s → One (a ∷ b ∷ s)
+    of-pair a b s l t u ih q = let x : every safeUnit (units s) ≡ true = rw u at q in rw (u, ih x)
+
+    of-single : (a : ℕ) (s : List ℕ) → units (a ∷ s) ≡ single a ∷ units s → One s → One (a ∷ s)
+    of-single a s u ih q =
+        let x : (safeByte a && every safeUnit (units s)) ≡ true = rw u at q in
+        rw (u, no-separator a (and-left (safeByte a) _ x), ih (and-right (safeByte a) _ x))
 
 pub record Name (nm : List ℕ) : Type 0 where
   pub one : components nm ≡ nm ∷ []
@@ -53,24 +68,29 @@ safe-name (a ∷ nm) e =
 
 -- ---- a path with a name behind it
 
-some-component : (path : List ℕ) → (c : List ℕ) × (cs : List (List ℕ)) × (components path ≡ c ∷ cs)
-unfolding components
+some-component : (us : List TextUnit) → (c : List ℕ) × (cs : List (List ℕ)) × (componentsOf us ≡ c ∷ cs)
+unfolding componentsOf
 some-component [] = ([], [], refl)
-some-component (b ∷ path) = go (separator b) (some-component path)
+some-component (u ∷ us) = go (separates u) (some-component us)
   where
-    go : (t : Bool) → (c : List ℕ) × (cs : List (List ℕ)) × (components path ≡ c ∷ cs) → (c : List ℕ) × (cs : List (List ℕ)) × (cond t ([] ∷ components path) (longer b (components path)) ≡ c ∷ cs)
-    go true (c, cs, e) = ([], components path, refl)
-    go false (c, cs, e) = (b ∷ c, cs, rw e)
+    go : (t : Bool) → (c : List ℕ) × (cs : List (List ℕ)) × (componentsOf us ≡ c ∷ cs) → (c : List ℕ) × (cs : List (List ℕ)) × (cond t ([] ∷ componentsOf us) (longer u (componentsOf us)) ≡ c ∷ cs)
+    go true (c, cs, e) = ([], componentsOf us, refl)
+    go false (c, cs, e) = (unitBytes u ++ c, cs, rw e)
+
+-- cut at a unit `/`
+cut-then : (us vs : List TextUnit) → componentsOf (us ++ (single 0x2F ∷ vs)) ≡ componentsOf us ++ componentsOf vs
+unfolding componentsOf
+cut-then [] vs = refl
+cut-then (u ∷ us) vs = rw (cut-then us vs) (go (separates u) (some-component us))
+  where
+    go : (t : Bool) → (c : List ℕ) × (cs : List (List ℕ)) × (componentsOf us ≡ c ∷ cs) →
+        cond t ([] ∷ (componentsOf us ++ componentsOf vs)) (longer u (componentsOf us ++ componentsOf vs)) ≡ cond t ([] ∷ componentsOf us) (longer u (componentsOf us)) ++ componentsOf vs
+    go true s = refl
+    go false (c, cs, e) = rw e
 
 pub components-then : (path rest : List ℕ) → components (path ++ (0x2F ∷ rest)) ≡ components path ++ components rest
 unfolding components
-components-then [] rest = refl
-components-then (b ∷ path) rest = rw (components-then path rest) (go (separator b) (some-component path))
-  where
-    go : (t : Bool) → (c : List ℕ) × (cs : List (List ℕ)) × (components path ≡ c ∷ cs) →
-        cond t ([] ∷ (components path ++ components rest)) (longer b (components path ++ components rest)) ≡ cond t ([] ∷ components path) (longer b (components path)) ++ components rest
-    go true s = refl
-    go false (c, cs, e) = rw e
+components-then path rest = rw (units-then path rest) (cut-then (units path) (units rest))
 
 -- the walk goes on from where it ended, with the trail that it has there
 follow-then : (nodes : List Node) (cs ds : List (List ℕ)) (trail : List ℕ) (k j : ℕ) → follow nodes trail k cs ≡ At j → (trail′ : List ℕ) × (follow nodes trail k (cs ++ ds) ≡ follow nodes trail′ j ds)

@@ -8,13 +8,14 @@ use lib.ListN.{length, getD, take, drop, length-drop}
 use lib.Seq.{getD-drop}
 use Rattle.endian.specs.Bytes.{span}
 use Rattle.refusal.specs.Laws.Tests.{and-right}
-use Rattle.tree.specs.Table.{every, plainByte, upTo0, nameAt}
+use Rattle.tree.specs.Units.{within}
+use Rattle.tree.specs.Table.{every, upTo0, nameAt}
 
 -- a name of bytes that are not zero, and its zero byte
-pub upTo0-name : (nm r : List ℕ) → every plainByte nm ≡ true → upTo0 (nm ++ (0 ∷ r)) ≡ nm
+pub upTo0-name : (nm r : List ℕ) → every (within 0x20 0xFC) nm ≡ true → upTo0 (nm ++ (0 ∷ r)) ≡ nm
 upTo0-name [] r e = refl
 upTo0-name (zero ∷ nm) r e = cc
-upTo0-name (suc b ∷ nm) r e = ap (λ (l : List ℕ). suc b ∷ l) (upTo0-name nm r (and-right (plainByte (suc b)) _ e))
+upTo0-name (suc b ∷ nm) r e = ap (λ (l : List ℕ). suc b ∷ l) (upTo0-name nm r (and-right (within 0x20 0xFC (suc b)) _ e))
 
 -- what a loop that looks for the zero byte has found
 pub upTo0-found : (s : List ℕ) (n : ℕ) → n < length s → ((i : ℕ) → i < n → 0 < getD s i 0) → getD s n 0 ≡ 0 → upTo0 s ≡ take n s

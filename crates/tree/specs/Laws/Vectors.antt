@@ -8,8 +8,9 @@ use Rattle.endian.specs.Bytes.{be24, be32, put, be32Bytes, sameBytes}
 use Rattle.refusal.specs.declared.Verdict.the-variants.{Passed, Refused}
 use Rattle.refusal.specs.declared.Refusal.the-variants.{EntryPastTable, UnrecognizedKind, RootIsNotDirectory, MissingNullTerminator, LimitOrMemory, InvalidNextIndex, InvalidNameOffset, InvalidNameByte, UnsafeName, NoSuchEntry, ExpectedDirectory, NotFound}
 use Rattle.tree.specs.declared.Located.the-variants as located
+use Rattle.tree.specs.Units.{units}
 use Rattle.tree.specs.Table.{Node, file, directory, plain, safe, count, nameAt, nodeAt, nodesFrom, nodesOf, entryVerdict, entriesVerdict, unended, shut, nameVerdict, nextVerdict, walk, check, parentBelow, parentOf, entriesBytes, textsOf, encode}
-use Rattle.tree.specs.Lookup.{components, firstChild, childOf, follow, lookup}
+use Rattle.tree.specs.Lookup.{componentsOf, components, firstChild, childOf, follow, lookup}
 use Rattle.tree.specs.Insert.{emptyFile, bump, splice, insertAt, shifted}
 use Rattle.tree.specs.Inner.Patch.{records, recordBefore, recordAfter, patchedRecord, newStart, insertPatch}
 
@@ -30,7 +31,7 @@ unfolding encode entriesBytes textsOf parentOf parentBelow
 master-written = refl
 
 master-accepted : check master 16 ≡ Passed
-unfolding check nodesFrom nodeAt nameAt count entriesVerdict entryVerdict unended walk nameVerdict nextVerdict shut plain safe be24 be32
+unfolding check nodesFrom nodeAt nameAt count entriesVerdict entryVerdict unended walk nameVerdict nextVerdict shut plain safe units be24 be32
 master-accepted = refl
 
 -- ---- each refusal of a table, 5 to 13; a count of 0 is 10, of 2^24 it is 9
@@ -53,7 +54,7 @@ refusals :
     (check (set master 24 0x2E) 16 ≡ Refused UnsafeName) ×
     (check (set master 24 0x3A) 16 ≡ Refused UnsafeName) ×
     (check (set master 15 1) 16 ≡ Refused UnsafeName)
-unfolding check nodesFrom nodeAt nameAt count entriesVerdict entryVerdict unended walk nameVerdict nextVerdict shut plain safe be24 be32
+unfolding check nodesFrom nodeAt nameAt count entriesVerdict entryVerdict unended walk nameVerdict nextVerdict shut plain safe units be24 be32
 refusals = (refl, refl, refl, refl, refl, refl, refl, refl, refl, refl, refl, refl, refl, refl, refl, refl, refl)
 
 -- ---- a directory `d` with a file `b` in it, then a file `b` beside it; both files have the one text `b`, and the stored parents are wrong
@@ -66,7 +67,7 @@ abbrev nested : List Node
 nested = directory [] 4 ∷ directory (0x64 ∷ []) 3 ∷ file (0x62 ∷ []) 9 8 ∷ file (0x62 ∷ []) 6 5 ∷ []
 
 shared-accepted : (check shared 24 ≡ Passed) × (nodesOf shared ≡ nested)
-unfolding check nodesOf nodesFrom nodeAt nameAt count entriesVerdict entryVerdict unended walk nameVerdict nextVerdict shut plain safe be24 be32
+unfolding check nodesOf nodesFrom nodeAt nameAt count entriesVerdict entryVerdict unended walk nameVerdict nextVerdict shut plain safe units be24 be32
 shared-accepted = (refl, refl)
 
 -- written, each name has a text of its own and the parent is the one it is nested in: two bytes more
@@ -104,7 +105,7 @@ unfolding encode entriesBytes textsOf parentOf parentBelow
 deep-written = refl
 
 deep-accepted : (check deepBytes 36 ≡ Passed) × (nodesOf deepBytes ≡ deep)
-unfolding check nodesOf nodesFrom nodeAt nameAt count entriesVerdict entryVerdict unended walk nameVerdict nextVerdict shut plain safe be24 be32
+unfolding check nodesOf nodesFrom nodeAt nameAt count entriesVerdict entryVerdict unended walk nameVerdict nextVerdict shut plain safe units be24 be32
 deep-accepted = (refl, refl)
 
 -- ---- paths: ``, `d/b`, `d/../b`, `./d\b`, `..`, `b/`, `d/x`, and an entry that is none
@@ -118,5 +119,49 @@ looked-up :
     (lookup nested 0 (0x62 ∷ 0x2F ∷ []) ≡ located.Refused ExpectedDirectory) ×
     (lookup nested 0 (0x64 ∷ 0x2F ∷ 0x78 ∷ []) ≡ located.Refused NotFound) ×
     (lookup nested 4 [] ≡ located.Refused NoSuchEntry)
-unfolding lookup follow components childOf firstChild parentOf parentBelow sameBytes
+unfolding lookup follow components componentsOf units childOf firstChild parentOf parentBelow sameBytes
 looked-up = (refl, refl, refl, refl, refl, refl, refl, refl)
+
+-- ---- Japanese names, as the small master's one name: `表` (0x95 0x5C), half-width katakana, the first and last bytes of each range; two pairs of
+-- lead bytes
+
+named : List ℕ → List ℕ
+named nm = take 24 master ++ (nm ++ (0 ∷ []))
+
+names-accepted :
+    (check (named (0x95 ∷ 0x5C ∷ [])) 16 ≡ Passed) ×
+    (check (named (0xA1 ∷ 0xB1 ∷ 0xDF ∷ [])) 16 ≡ Passed) ×
+    (check (named (0x81 ∷ 0x40 ∷ 0x9F ∷ 0x7E ∷ 0xE0 ∷ 0x80 ∷ 0xFC ∷ 0xFC ∷ [])) 16 ≡ Passed) ×
+    (check (named (0x81 ∷ 0x81 ∷ 0x81 ∷ 0x5C ∷ [])) 16 ≡ Passed)
+unfolding named check nodesFrom nodeAt nameAt count entriesVerdict entryVerdict unended walk nameVerdict nextVerdict shut plain safe units be24 be32
+names-accepted = (refl, refl, refl, refl)
+
+-- a lead byte at the end, before `:`, before `/` and before 0x7F; 0x80, 0xA0, 0xFD and 0xFF; 0xFC before 0xFD; `\` behind a pair, and `:`
+names-refused :
+    (check (named (0x61 ∷ 0x81 ∷ [])) 16 ≡ Refused InvalidNameByte) ×
+    (check (named (0x95 ∷ 0x3A ∷ [])) 16 ≡ Refused InvalidNameByte) ×
+    (check (named (0x95 ∷ 0x2F ∷ [])) 16 ≡ Refused InvalidNameByte) ×
+    (check (named (0x95 ∷ 0x7F ∷ [])) 16 ≡ Refused InvalidNameByte) ×
+    (check (named (0x80 ∷ [])) 16 ≡ Refused InvalidNameByte) ×
+    (check (named (0xA0 ∷ [])) 16 ≡ Refused InvalidNameByte) ×
+    (check (named (0xFD ∷ [])) 16 ≡ Refused InvalidNameByte) ×
+    (check (named (0xFF ∷ [])) 16 ≡ Refused InvalidNameByte) ×
+    (check (named (0xFC ∷ 0xFD ∷ [])) 16 ≡ Refused InvalidNameByte) ×
+    (check (named (0x81 ∷ 0x81 ∷ 0x5C ∷ [])) 16 ≡ Refused UnsafeName) ×
+    (check (named (0x95 ∷ 0x5C ∷ 0x3A ∷ [])) 16 ≡ Refused UnsafeName)
+unfolding named check nodesFrom nodeAt nameAt count entriesVerdict entryVerdict unended walk nameVerdict nextVerdict shut plain safe units be24 be32
+names-refused = (refl, refl, refl, refl, refl, refl, refl, refl, refl, refl, refl)
+
+-- a name that starts inside a pair of another text has units of its own: the text 0x81 0x5C read from its second byte is `\`
+inside-a-pair : check (set (named (0x81 ∷ 0x5C ∷ [])) 15 1) 16 ≡ Refused UnsafeName
+unfolding named check nodesFrom nodeAt nameAt count entriesVerdict entryVerdict unended walk nameVerdict nextVerdict shut plain safe units be24 be32
+inside-a-pair = refl
+
+-- ---- paths with lead bytes: `表\b` is cut once; behind 0x81 0x81 a `\` cuts; 0x81 0x2F cuts at the 0x2F; a lead byte at the end stays
+paths-cut :
+    (components (0x95 ∷ 0x5C ∷ 0x5C ∷ 0x62 ∷ []) ≡ (0x95 ∷ 0x5C ∷ []) ∷ (0x62 ∷ []) ∷ []) ×
+    (components (0x81 ∷ 0x81 ∷ 0x5C ∷ 0x62 ∷ []) ≡ (0x81 ∷ 0x81 ∷ []) ∷ (0x62 ∷ []) ∷ []) ×
+    (components (0x81 ∷ 0x2F ∷ 0x62 ∷ []) ≡ (0x81 ∷ []) ∷ (0x62 ∷ []) ∷ []) ×
+    (components (0x62 ∷ 0x2F ∷ 0x81 ∷ []) ≡ (0x62 ∷ []) ∷ (0x81 ∷ []) ∷ [])
+unfolding components componentsOf units
+paths-cut = (refl, refl, refl, refl)

@@ -1,15 +1,15 @@
 -- What is written is bytes. Assumes nothing.
-use Prim.Native.Nat.{ℕ, zero, suc, _+_, _/_, _%_, _<_, _≤_}
+use Prim.Native.Nat.{ℕ, zero, suc, _+_, _/_, _%_, _<_}
 use mathlib.Core.Path.{_≡_}
 use mathlib.Core.Bool.{true}
 use mathlib.Core.List.{List, [], _∷_, _++_}
 use native.Mathlib.Omega.{arith}
-use borrow.Author.Tests.{leb-true}
 use lib.ListN.{length}
-use lib.Dec.{leb}
 use Rattle.endian.specs.Bytes.{be24Bytes, be32Bytes, AllBytes}
-use Rattle.tree.specs.Table.{Node, file, directory, nameOf, every, plainByte, plain, shut, enter, nodeBytes, parentOf, entriesBytes, textsOf, encode}
+use Rattle.tree.specs.Table.{Node, file, directory, nameOf, every, plain, shut, enter, nodeBytes, parentOf, entriesBytes, textsOf, encode}
+use Rattle.tree.specs.Units.{within}
 use Rattle.tree.specs.Inner.WellFormed.{Sound, WellFormed}
+use Rattle.tree.specs.Laws.UnitLaws.{within-is, plain-bytes}
 use Rattle.refusal.specs.Laws.Tests.{and-left, and-right}
 
 all-nil : AllBytes []
@@ -38,15 +38,14 @@ node-all : (p o : ℕ) (x : Node) → AllBytes (nodeBytes p o x)
 node-all p o (file nm offset size) = fields-all 0 o offset size (omega arith)
 node-all p o (directory nm next) = fields-all 1 o p next (omega arith)
 
-plain-all : (nm : List ℕ) → every plainByte nm ≡ true → AllBytes nm
-plain-all [] e = all-nil
-plain-all (b ∷ nm) e =
-    let h : b ≤ 0x7E = leb-true b 0x7E (and-right (leb 0x20 b) _ (and-left (plainByte b) _ e)) in
-    all-cons b nm (omega arith) (plain-all nm (and-right (plainByte b) _ e))
+within-all : (nm : List ℕ) → every (within 0x20 0xFC) nm ≡ true → AllBytes nm
+within-all [] e = all-nil
+within-all (b ∷ nm) e =
+    let r = within-is 0x20 0xFC b (and-left (within 0x20 0xFC b) _ e) in
+    all-cons b nm (omega (arith, r .1)) (within-all nm (and-right (within 0x20 0xFC b) _ e))
 
 pub name-all : (nm : List ℕ) → plain nm ≡ true → AllBytes nm
-unfolding plain
-name-all nm e = plain-all nm e
+name-all nm e = within-all nm (plain-bytes nm e)
 
 entries-all : (nodes : List Node) (k o : ℕ) (xs : List Node) → AllBytes (entriesBytes nodes k o xs)
 unfolding entriesBytes

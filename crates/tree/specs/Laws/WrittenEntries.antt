@@ -17,6 +17,7 @@ use Rattle.refusal.specs.Refusal.{refuse, first}
 use Rattle.tree.specs.Table.{Node, file, directory, nameOf, plain, kind, nameOffset, offsetOrParent, sizeOrNext, nameAt, nodeAt, nodesFrom, entryVerdict, entriesVerdict, unended, top, shut, enter, nameVerdict, nextVerdict, walk, nodeBytes, parentOf, entriesBytes, textsOf, encode, shallowEntry, shallowFrom}
 use Rattle.tree.specs.Inner.WellFormed.{GoodEntry, Sound}
 use Rattle.tree.specs.Laws.Texts.{upTo0-name}
+use Rattle.tree.specs.Laws.UnitLaws.{plain-bytes}
 
 -- ---- lengths
 
@@ -62,18 +63,18 @@ holds : (tab : List ℕ) (c k p o : ℕ) (x : Node) (r s dirs : List ℕ) →
     drop (12 * k) tab ≡ nodeBytes p o x ++ r →
     drop (12 * c + o) tab ≡ nameOf x ++ (0 ∷ s) →
     o < 2 ^ 24 → c < 2 ^ 32 → plain (nameOf x) ≡ true → GoodEntry c dirs k x → Holds tab c k o x
-unfolding nodeAt nameAt plain be24 be32
+unfolding nodeAt nameAt be24 be32
 holds tab c k p o (file nm offset size) r s dirs e t ho hc pl g =
     let ko : kind tab k ≡ 0 = kind-is tab k _ e in
     let oo : nameOffset tab k ≡ o = nameOffset-is tab k _ e ∙ be24-value o ho in
     let ao : offsetOrParent tab k ≡ offset = word-is tab k _ e 4 ∙ be32-value offset (g .0) in
     let bo : sizeOrNext tab k ≡ size = word-is tab k _ e 8 ∙ be32-value size (g .1) in
-    record { off = oo; node = rw (ko, oo, ao, bo, t) (ap (λ (l : List ℕ). file l offset size) (upTo0-name nm s pl)) }
+    record { off = oo; node = rw (ko, oo, ao, bo, t) (ap (λ (l : List ℕ). file l offset size) (upTo0-name nm s (plain-bytes nm pl))) }
 holds tab c k p o (directory nm next) r s dirs e t ho hc pl g =
     let ko : kind tab k ≡ 1 = kind-is tab k _ e in
     let oo : nameOffset tab k ≡ o = nameOffset-is tab k _ e ∙ be24-value o ho in
     let bo : sizeOrNext tab k ≡ next = word-is tab k _ e 8 ∙ be32-value next (omega arith) in
-    record { off = oo; node = rw (ko, oo, bo, t) (ap (λ (l : List ℕ). directory l next) (upTo0-name nm s pl)) }
+    record { off = oo; node = rw (ko, oo, bo, t) (ap (λ (l : List ℕ). directory l next) (upTo0-name nm s (plain-bytes nm pl))) }
 
 -- past the front: what follows where p bytes more are dropped
 pub drop-past : (n m : ℕ) (tab p q : List ℕ) → drop n tab ≡ p ++ q → n + length p ≡ m → drop m tab ≡ q

@@ -1,4 +1,4 @@
--- `fst_check::opening::clean_verdict` meets its contract: of plain and safe bytes only the empty text, `.` and `..` are no names.
+-- `fst_check::opening::clean_verdict` meets its contract: of plain and safe units only the empty text, `.` and `..` are no names.
 -- Assumes nothing.
 use mathlib.Core.Path.{sym, _∙_}
 use mathlib.Core.Bool.{true, false}

@@ -6,7 +6,6 @@ use Prim.Native.Nat.{_-_, _*_}
 use borrow.Author.Tests.{le-leb, lt-leb}
 use lib.ListN.{length}
 use Rattle.tree.specs.Table.{nameOffset, nameAt, nameVerdict}
-use Rattle.fst_text.proofs.BlockLaws.{fit-clean}
 use borrow.Author.Needs.{needs}
 use Rattle.fst_check.proofs.opening.name_verdict.Statement.{statement}
 use Rattle.fst_check.proofs.opening.name_verdict.Tie as tie
@@ -44,7 +43,8 @@ add-at c = search needs
 clean-verdict-requires : tie.Need-clean-verdict-requires
 clean-verdict-requires c κs =
     let s = c .before .before .before .before in
-    fit-clean (s .args .table .now) (12 * s .args .count) (c .before .before .read-u24 .result) (s .pre .2 (c .if2 .taken))
+    let o : c .before .before .read-u24 .result ≡ nameOffset (s .args .table .now) (s .args .k) = c .before .before .read-u24 .ensures .0 in
+    rw o (s .pre .2 (c .if2 .taken))
 
 returns-2 : tie.Need-returns-2
 unfolding nameVerdict nameAt

@@ -2,11 +2,10 @@
 -- Assumes nothing.
 use native.Mathlib.Omega.{arith}
 use Prim.Native.Nat.{_-_}
-use mathlib.Core.Path.{_≡_, refl, sym, _∙_}
-use mathlib.Core.Bool.{true, false}
+use mathlib.Core.Path.{_≡_, refl}
 use lib.ListN.{length}
 use Rattle.fst_text.specs.Inner.Texts.{cleanFrom}
-use Rattle.fst_text.proofs.Texts.{clean-past, clean-turn}
+use Rattle.fst_text.proofs.Texts.{no-more, clean-byte, clean-two, not-clean}
 use borrow.Author.Needs.{needs}
 use Rattle.fst_text.proofs.text.clean_from.Statement.{statement}
 use Rattle.fst_text.proofs.text.clean_from.Tie as tie
@@ -33,13 +32,25 @@ loop-less : tie.Need-loop-less Inv-loop μ-loop
 loop-less c = omega arith
 
 loop-again : tie.Need-loop-again Inv-loop μ-loop
-loop-again c = c .before .before .before .before .loop .inv ∙ clean-turn (c .before .before .before .before .before .before .args .table .now) (c .before .before .before .before .loop .i) true (c .before .before .before .loop-test .taken) (sym (c .before .is-clean .ensures) ∙ c .if1 .taken)
+loop-again c = search clean-byte
+
+is-pair-requires : tie.Need-is-pair-requires Inv-loop μ-loop
+is-pair-requires c κs = search needs
+
+add-i-2 : tie.Need-add-i-2 Inv-loop μ-loop
+add-i-2 c = omega arith
+
+loop-less-2 : tie.Need-loop-less-2 Inv-loop μ-loop
+loop-less-2 c = omega arith
+
+loop-again-2 : tie.Need-loop-again-2 Inv-loop μ-loop
+loop-again-2 c = search clean-two
 
 returns : tie.Need-returns Inv-loop μ-loop
-returns c = sym (c .before .before .before .before .loop .inv ∙ clean-turn (c .before .before .before .before .before .before .args .table .now) (c .before .before .before .before .loop .i) false (c .before .before .before .loop-test .taken) (sym (c .before .is-clean .ensures) ∙ c .if1 .left))
+returns c = search not-clean
 
 returns-2 : tie.Need-returns-2 Inv-loop μ-loop
-returns-2 c = sym (c .before .loop .inv ∙ clean-past (c .before .before .before .args .table .now) (c .before .loop .i) (c .loop-test .left))
+returns-2 c = search no-more
 
 pub clean-from-spec : {M : Type 1} → statement M
 clean-from-spec =
@@ -53,5 +64,9 @@ clean-from-spec =
     add-i
     loop-less
     loop-again
+    is-pair-requires
+    add-i-2
+    loop-less-2
+    loop-again-2
     returns
     returns-2)

@@ -21,13 +21,13 @@ is-dots-requires c κs = search needs
 returns-2 : tie.Need-returns-2
 returns-2 c = sym (safe-more (c .before .before .before .before .before .args .table .now) (c .before .before .before .before .before .args .at) true _ (λ e. c .before .before .if1 .left (c .before .before .before .byte-at .ensures ∙ e)) (sym (c .before .is-dots .ensures) ∙ c .if2 .taken) refl)
 
-every-byte-requires : tie.Need-every-byte-requires
-every-byte-requires c κs = search needs
+every-unit-requires : tie.Need-every-unit-requires
+every-unit-requires c κs = search needs
 
 returns-3 : tie.Need-returns-3
-returns-3 c = sym (safe-more (c .before .before .before .before .before .before .args .table .now) (c .before .before .before .before .before .before .args .at) false (c .every-byte .result) (λ e. c .before .before .before .if1 .left (c .before .before .before .before .byte-at .ensures ∙ e)) (sym (c .before .before .is-dots .ensures) ∙ c .before .if2 .left) (sym (c .every-byte .ensures)))
+returns-3 c = sym (safe-more (c .before .before .before .before .before .before .args .table .now) (c .before .before .before .before .before .before .args .at) false (c .every-unit .result) (λ e. c .before .before .before .if1 .left (c .before .before .before .before .byte-at .ensures ∙ e)) (sym (c .before .before .is-dots .ensures) ∙ c .before .if2 .left) (sym (c .every-unit .ensures)))
 
 pub is-safe-name-spec : {M : Type 1} → statement M
 is-safe-name-spec =
     tie.close
-    (tie.spec byte-at-requires returns is-dots-requires returns-2 every-byte-requires returns-3)
+    (tie.spec byte-at-requires returns is-dots-requires returns-2 every-unit-requires returns-3)

@@ -1,4 +1,4 @@
--- `grow::names::is_safe` meets its contract: not empty, no dots, and each byte is.
+-- `grow::names::is_safe` meets its contract: not empty, no dots, and each unit is.
 -- Assumes nothing.
 use Rattle.grow.proofs.NameLaws.{unsafe-none, unsafe-dots, safe-read}
 use borrow.Author.Needs.{needs}
@@ -14,12 +14,12 @@ is-dots-requires c κs = search needs
 returns-2 : tie.Need-returns-2
 returns-2 c = search unsafe-dots
 
-every-byte-requires : tie.Need-every-byte-requires
-every-byte-requires c κs = search needs
+every-unit-requires : tie.Need-every-unit-requires
+every-unit-requires c κs = search needs
 
 returns-3 : tie.Need-returns-3
 returns-3 c = search safe-read
 
 pub is-safe-spec : {M : Type 1} → statement M
 is-safe-spec =
-    tie.close (tie.spec returns is-dots-requires returns-2 every-byte-requires returns-3)
+    tie.close (tie.spec returns is-dots-requires returns-2 every-unit-requires returns-3)

@@ -1,12 +1,12 @@
--- `fst_text::text::is_clean` meets its contract: each return by the tests that led there.
+-- `fst_text::units::is_clean` meets its contract: each return by the tests that led there.
 -- Assumes nothing.
 use mathlib.Core.Path.{_≡_, sym, _∙_}
 use mathlib.Core.Bool.{true, false}
 use borrow.Author.Tests.{eq-eqb, ne-eqb}
 use Rattle.tree.specs.Table.{plainByte}
 use borrow.Author.Needs.{needs}
-use Rattle.fst_text.proofs.text.is_clean.Statement.{statement}
-use Rattle.fst_text.proofs.text.is_clean.Tie as tie
+use Rattle.fst_text.proofs.units.is_clean.Statement.{statement}
+use Rattle.fst_text.proofs.units.is_clean.Tie as tie
 
 returns : tie.Need-returns
 returns c = rw (eq-eqb (c .before .args .b) 0 (c .if1 .taken))

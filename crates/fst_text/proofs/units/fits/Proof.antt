@@ -1,8 +1,8 @@
--- `fst_text::text::fits` meets its contract: the test that is asked for.
+-- `fst_text::units::fits` meets its contract: the test that is asked for.
 -- Assumes nothing.
 use borrow.Author.Needs.{needs}
-use Rattle.fst_text.proofs.text.fits.Statement.{statement}
-use Rattle.fst_text.proofs.text.fits.Tie as tie
+use Rattle.fst_text.proofs.units.fits.Statement.{statement}
+use Rattle.fst_text.proofs.units.fits.Tie as tie
 
 is-safe-requires : tie.Need-is-safe-requires
 is-safe-requires c κs = search needs

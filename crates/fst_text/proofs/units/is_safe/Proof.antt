@@ -1,8 +1,8 @@
--- `fst_text::text::is_safe` meets its contract: each return by the tests that led there.
+-- `fst_text::units::is_safe` meets its contract: each return by the tests that led there.
 -- Assumes nothing.
 use borrow.Author.Tests.{eq-eqb, ne-eqb}
-use Rattle.fst_text.proofs.text.is_safe.Statement.{statement}
-use Rattle.fst_text.proofs.text.is_safe.Tie as tie
+use Rattle.fst_text.proofs.units.is_safe.Statement.{statement}
+use Rattle.fst_text.proofs.units.is_safe.Tie as tie
 
 returns : tie.Need-returns
 returns c = simp (eq-eqb _ _ (c .if1 .taken))
