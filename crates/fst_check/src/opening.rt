@@ -8,7 +8,7 @@ ghost use Rattle.refusal.specs.declared.Verdict.the-variants.{Passed};
 ghost use Rattle.tree.specs.Table as table_of;
 ghost use Rattle.tree.specs.Table.{nameOffset, nameAt, nodeAt, nodesFrom, entryVerdict, entriesVerdict, nameVerdict, nextVerdict, top};
 ghost use Rattle.fst_check.specs.Inner.Reading.{Inside, openIn, nodeVerdict, textsVerdict, textVerdict};
-ghost use Rattle.fst_text.specs.Inner.Texts.{textAt, cleanFrom};
+ghost use Rattle.fst_text.specs.Inner.Texts.{textAt, cleanFrom, Leadless};
 ghost use Rattle.fst_text.specs.Inner.Blocks.{Fit, Marked};
 use refusal::Refusal;
 use refusal::Verdict;
@@ -100,12 +100,19 @@ fn name_verdict(table: &[u8], count: usize, marks: &[bool; 2048], k: usize, clea
 }
 
 // Whether the name of entry k starts clean.
-fn starts_clean(table: &[u8], count: usize, marks: &mut [bool; 2048], k: usize, clean: bool) -> bool
-    requires { ⌜ Inside (now table) count × (k < count) × Marked (now table) (12 * count) (now marks) × ((clean ≡ true) → cleanFrom (now table) (12 * count) ≡ true) ⌝ }
+fn starts_clean(
+    table: &[u8],
+    count: usize,
+    marks: &mut [bool; 2048],
+    first: usize,
+    k: usize,
+    clean: bool,
+) -> bool
+    requires { ⌜ Inside (now table) count × (k < count) × Marked (now table) (12 * count) (now marks) × ((clean ≡ true) → cleanFrom (now table) (12 * count) ≡ true) × Leadless (now table) (12 * count) first ⌝ }
     ensures { λ r. ⌜ ((r ≡ true) → (clean ≡ true) × Fit (now (table .entry)) (12 * count + nameOffset (now (table .entry)) k)) × Marked (now (table .entry)) (12 * count) (now (marks .exit)) ⌝ }
 {
     let offset = endian::read_u24(table, 12 * k + 1) as usize;
-    fst_text::starts_clean(table, 12 * count, marks, 12 * count + offset, clean)
+    fst_text::starts_clean(table, 12 * count, marks, first, 12 * count + offset, clean)
 }
 
 // The next of the innermost open directory.
@@ -194,13 +201,14 @@ fn walk(table: &[u8], count: usize) -> Verdict
     ensures { λ r. ⌜ r ≡ table_of.walk (now (table .entry)) count (count ∷ []) 1 (nodesFrom (now (table .entry)) count 1 (count - 1)) ⌝ }
 {
     let mut marks: [bool; 2048] = [false; 2048];
-    let mut clean = fst_text::survey(table, 12 * count, &mut marks);
+    let first = fst_text::clean_end(table, 12 * count);
+    let mut clean = fst_text::survey(table, 12 * count, &mut marks, first);
     let mut nexts: [u32; 65] = [count as u32; 65];
     let mut depth = 1;
     let mut k = 1;
     while k < count {
         depth = shut(&nexts, depth, k);
-        clean = starts_clean(table, count, &mut marks, k, clean);
+        clean = starts_clean(table, count, &mut marks, first, k, clean);
         let verdict = node_verdict(table, count, &marks, &nexts, depth, k, clean);
         if verdict.is_refused() {
             return verdict;

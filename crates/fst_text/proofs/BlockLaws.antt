@@ -1,6 +1,7 @@
 -- Fit texts unit by unit, and the marks that say where one starts. Assumes nothing.
 use Prim.Native.Nat.{ℕ, zero, suc, _+_, _-_, _<_, _≤_}
 use mathlib.Core.Path.{_≡_, refl, sym, _∙_}
+use mathlib.Core.Logic.{⊎-elim}
 use mathlib.Core.Bool.{Bool, true, false, true≢false, _&&_}
 use mathlib.Core.List.{List}
 use native.Mathlib.Omega.{arith}
@@ -11,8 +12,8 @@ use lib.Dec.{eqb}
 use Rattle.tree.specs.Units.{leadByte}
 use Rattle.tree.specs.Table.{plainByte, safeByte, plainUnit, safeUnit}
 use Rattle.tree.specs.Inner.Pairs.{pairAt}
-use Rattle.refusal.specs.Laws.Tests.{and-left, and-right}
-use Rattle.fst_text.specs.Inner.Texts.{cleanByte, cleanFrom}
+use Rattle.refusal.specs.Laws.Tests.{lt-or-le, and-left, and-right}
+use Rattle.fst_text.specs.Inner.Texts.{cleanByte, cleanFrom, Leadless}
 use Rattle.fst_text.specs.Inner.Blocks.{Fit, markPlace, Marked}
 use Rattle.fst_text.proofs.Texts.{inside, every-end, every-pair, every-single, clean-no-pair, clean-pair, clean-single, clean-behind}
 
@@ -48,9 +49,6 @@ fit-clean (suc n) tab i h e = go (eqb (getD tab i 0) 0) (pairAt tab i) refl refl
 fit-first : (tab : List ℕ) (from : ℕ) → cleanFrom tab from ≡ true → Fit tab from
 fit-first tab from e = fit-clean (length tab) tab from (omega arith) e
 
-pub fit-at-first : (tab : List ℕ) (from at : ℕ) → at ≡ from → cleanFrom tab from ≡ true → Fit tab at
-fit-at-first tab from at h e = rw h (fit-first tab from e)
-
 -- LAW: a text that follows no lead byte starts with a unit
 pub fit-after : (tab : List ℕ) (from at before b : ℕ) (t : Bool) → cleanFrom tab from ≡ true → b ≡ getD tab before 0 → from ≤ before → before + 1 ≡ at → t ≡ leadByte b → t ≡ false → Fit tab at
 fit-after tab from at before b t e r h k l f =
@@ -59,6 +57,13 @@ fit-after tab from at before b t e r h k l f =
     let q : from + suc n ≡ at = omega arith in
     let z : leadByte (getD tab (from + n) 0) ≡ false = rw (← p, ← r) (sym l ∙ f) in
     fit-first tab at (rw q at (clean-behind tab from n e z))
+
+-- LAW: so does one before which there is no lead byte at all
+pub fit-early : (tab : List ℕ) (from first at : ℕ) → cleanFrom tab from ≡ true → Leadless tab from first → from ≤ at → at ≤ first → Fit tab at
+fit-early tab from first at e g h l = ⊎-elim later (λ (k : at ≤ from). let q : at ≡ from = omega arith in rw q (fit-first tab from e)) (lt-or-le from at)
+  where
+    later : from < at → Fit tab at
+    later k = fit-after tab from at (at - 1) (getD tab (at - 1) 0) (leadByte (getD tab (at - 1) 0)) e refl (omega arith) (omega arith) refl (g .none (at - 1) (omega arith) (omega arith))
 
 -- the loop over the units of a text in a block: if the rest is fit, so is the whole
 module _ (tab : List ℕ) (at i b : ℕ) (so-far : Fit tab i → Fit tab at) (read : b ≡ getD tab i 0) where

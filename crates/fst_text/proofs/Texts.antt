@@ -14,8 +14,8 @@ use Rattle.tree.specs.Units.{leadByte, trailByte, TextUnit, single, pair, units
 use Rattle.tree.specs.Table.{every, dots, safe, plainByte, safeByte, safeUnit}
 use Rattle.tree.specs.Inner.Pairs.{pairAt}
 use Rattle.tree.specs.Laws.UnitLaws.{in-either, lead-is, trail-is, by-units, units-pair, units-single, units-none}
-use Rattle.refusal.specs.Laws.Tests.{and-left, and-right, or-cases, is-false}
-use Rattle.fst_text.specs.Inner.Texts.{textAt, cleanByte, cleanUnit, cleanFrom}
+use Rattle.refusal.specs.Laws.Tests.{lt-or-le, and-left, and-right, or-cases, is-false}
+use Rattle.fst_text.specs.Inner.Texts.{textAt, cleanByte, cleanUnit, cleanFrom, Leadless}
 
 pub text-end : (tab : List ℕ) (i : ℕ) → getD tab i 0 ≡ 0 → textAt tab i ≡ []
 text-end [] zero h = refl
@@ -179,21 +179,13 @@ module _ (tab : List ℕ) (i : ℕ) where
   unfolding cleanFrom
   clean-single t h n e = rw (units-single tab i h n, e)
 
--- the loop over the units from a place on
-module _ (tab : List ℕ) (from i : ℕ) (so-far : cleanFrom tab from ≡ cleanFrom tab i) where
-  pub no-more : length tab ≤ i → true ≡ cleanFrom tab from
-  no-more h = sym (so-far ∙ clean-past tab i h)
+-- ---- bytes that are clean by themselves
 
-  module _ (inside-table : i < length tab) (t : Bool) (tested : t ≡ cleanByte (getD tab i 0)) where
-    pub clean-byte : t ≡ true → cleanFrom tab from ≡ cleanFrom tab (i + 1)
-    clean-byte h = so-far ∙ clean-single tab i true inside-table (clean-no-pair tab i (sym tested ∙ h)) (sym tested ∙ h)
+pub leadless-none : (tab : List ℕ) (from : ℕ) → Leadless tab from from
+leadless-none tab from = record { before = omega arith; none = λ i h l. absurd (omega arith) }
 
-    module _ (h : t ≡ false) (u : Bool) (paired : u ≡ pairAt tab i) where
-      pub clean-two : u ≡ true → cleanFrom tab from ≡ cleanFrom tab (i + 2)
-      clean-two e = so-far ∙ clean-pair tab i (sym paired ∙ e)
-
-      pub not-clean : u ≡ false → false ≡ cleanFrom tab from
-      not-clean e = sym (so-far ∙ clean-single tab i false inside-table (sym paired ∙ e) (sym tested ∙ h))
+pub leadless-more : (tab : List ℕ) (from end : ℕ) → Leadless tab from end → leadByte (getD tab end 0) ≡ false → Leadless tab from (end + 1)
+leadless-more tab from end g e = record { before = omega (arith, g .before); none = λ i h l. ⊎-elim (λ (k : i < end). g .none i h k) (λ (k : end ≤ i). let q : i ≡ end = omega arith in rw q e) (lt-or-le i end) }
 
 -- what follows a byte that is no lead byte starts no unit in its middle
 clean-drop : (l : List ℕ) (n : ℕ) → every cleanUnit (units l) ≡ true → leadByte (getD l n 0) ≡ false → every cleanUnit (units (drop (suc n) l)) ≡ true

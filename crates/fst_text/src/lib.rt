@@ -6,6 +6,7 @@ mod units;
 pub use marks::is_fit;
 pub use marks::starts_clean;
 pub use marks::survey;
+pub use text::clean_end;
 pub use text::every_unit;
 pub use text::is_dots;
 pub use text::is_safe_name;

@@ -4,7 +4,7 @@
 ghost use mathlib.Core.Path.{_≡_};
 ghost use mathlib.Core.Bool.{true};
 ghost use Prim.Native.Nat.{_≤_};
-ghost use Rattle.fst_text.specs.Inner.Texts.{cleanFrom};
+ghost use Rattle.fst_text.specs.Inner.Texts.{cleanFrom, Leadless};
 ghost use Rattle.fst_text.specs.Inner.Blocks.{Fit, Marked};
 use crate::text;
 use crate::units;
@@ -46,34 +46,35 @@ fn mark_blocks(table: &[u8], base: usize, marks: &mut [bool; 2048])
     }
 }
 
-// Whether the units of the texts are all clean, as they are cut from the first text on; the blocks are marked only where some is not.
-pub fn survey(table: &[u8], base: usize, marks: &mut [bool; 2048]) -> bool
+// Whether the units from `from` on are all clean; the blocks are marked only where some is not.
+pub fn survey(table: &[u8], base: usize, marks: &mut [bool; 2048], from: usize) -> bool
     requires { ⌜ Marked (now table) base (now marks) × (base ≤ 196608) ⌝ }
-    ensures { λ r. ⌜ (r ≡ cleanFrom (now (table .entry)) base) × Marked (now (table .entry)) base (now (marks .exit)) ⌝ }
+    ensures { λ r. ⌜ (r ≡ cleanFrom (now (table .entry)) from) × Marked (now (table .entry)) base (now (marks .exit)) ⌝ }
 {
-    if text::clean_from(table, base) {
+    if text::clean_from(table, from) {
         return true;
     }
     mark_blocks(table, base, marks);
     false
 }
 
-// Whether the text at `at` needs no look at its units: the texts are clean, and it does not start inside a pair. Where it may, the blocks are marked,
-// and from then on no text is taken as clean.
+// Whether the text at `at` needs no look at its units: the texts are clean, and it does not start inside a pair. There is no lead byte before `first`.
+// Where it may start inside a pair the blocks are marked, and from then on no text is taken as clean.
 pub fn starts_clean(
     table: &[u8],
     base: usize,
     marks: &mut [bool; 2048],
+    first: usize,
     at: usize,
     clean: bool,
 ) -> bool
-    requires { ⌜ Marked (now table) base (now marks) × (base ≤ 196608) × (base ≤ at) × ((clean ≡ true) → cleanFrom (now table) base ≡ true) ⌝ }
+    requires { ⌜ Marked (now table) base (now marks) × (base ≤ 196608) × (base ≤ at) × ((clean ≡ true) → cleanFrom (now table) base ≡ true) × Leadless (now table) base first ⌝ }
     ensures { λ r. ⌜ ((r ≡ true) → (clean ≡ true) × Fit (now (table .entry)) at) × Marked (now (table .entry)) base (now (marks .exit)) ⌝ }
 {
     if !clean {
         return false;
     }
-    if at == base {
+    if at <= first {
         return true;
     }
     if !units::is_lead(units::byte_at(table, at - 1)) {

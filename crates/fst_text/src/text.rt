@@ -2,9 +2,10 @@
 ghost use mathlib.Core.Path.{_≡_};
 ghost use mathlib.Core.Bool.{false};
 ghost use Prim.Native.Nat.{_+_, _<_};
+ghost use lib.ListN.{length, getD};
 ghost use Rattle.tree.specs.Units.{units};
 ghost use Rattle.tree.specs.Table.{every, dots, safe};
-ghost use Rattle.fst_text.specs.Inner.Texts.{textAt, unitTest, cleanFrom};
+ghost use Rattle.fst_text.specs.Inner.Texts.{textAt, unitTest, cleanByte, cleanFrom, Leadless};
 use crate::units;
 
 // Whether each unit of the text at `at` is safe, or each is plain.
@@ -27,16 +28,29 @@ pub fn every_unit(table: &[u8], at: usize, safe_only: bool) -> bool
     true
 }
 
+// The first byte from `from` on that is not clean by itself, or the table's end.
+pub fn clean_end(table: &[u8], from: usize) -> usize
+    ensures { λ r. ⌜ Leadless (now (table .entry)) from r × (cleanFrom (now (table .entry)) from ≡ cleanFrom (now (table .entry)) r) × ((r < length (now (table .entry))) → cleanByte (getD (now (table .entry)) r 0) ≡ false) ⌝ }
+{
+    let mut end = from;
+    while end < table.len() {
+        if units::is_clean(table[end]) {
+            end += 1;
+        } else {
+            return end;
+        }
+    }
+    end
+}
+
 // Whether each unit from `from` on is 0, or plain and safe: then so are those of each text that does not start inside a pair.
 pub fn clean_from(table: &[u8], from: usize) -> bool
     ensures { λ r. ⌜ r ≡ cleanFrom (now (table .entry)) from ⌝ }
 {
-    let mut i = from;
+    let mut i = clean_end(table, from);
     while i < table.len() {
-        if units::is_clean(table[i]) {
-            i += 1;
-        } else if units::is_pair(table, i) {
-            i += 2;
+        if units::is_pair(table, i) {
+            i = clean_end(table, i + 2);
         } else {
             return false;
         }

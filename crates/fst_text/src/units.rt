@@ -84,14 +84,17 @@ fn is_safe(b: u8) -> bool
     b != b':'
 }
 
-// A byte that no name is refused for where it is a unit: the end of a text, or plain and safe.
+// A byte that no name is refused for where it is a unit: the end of a text, or plain and safe. Most are below 0x7F, and are looked at first.
 pub fn is_clean(b: u8) -> bool
     ensures { λ r. ⌜ r ≡ cleanByte b ⌝ }
 {
-    if b == 0 {
-        return true;
+    if b < 0x20 {
+        return b == 0;
     }
-    if is_plain(b) { is_safe(b) } else { false }
+    if b <= 0x7E {
+        return is_safe(b);
+    }
+    is_plain(b)
 }
 
 // The one test or the other, so that one loop serves both.

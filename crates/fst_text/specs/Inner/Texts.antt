@@ -1,10 +1,11 @@
 -- The texts of a table and the units that a name may have, as the functions look at them. Assumes nothing: these are definitions.
-use Prim.Native.Nat.{ℕ}
+use Prim.Native.Nat.{ℕ, _<_, _≤_}
+use mathlib.Core.Path.{_≡_}
 use mathlib.Core.Bool.{Bool, true, false, _&&_, _||_}
 use mathlib.Core.List.{List}
-use lib.ListN.{drop}
+use lib.ListN.{getD, drop}
 use lib.Dec.{eqb}
-use Rattle.tree.specs.Units.{TextUnit, single, pair, units}
+use Rattle.tree.specs.Units.{leadByte, TextUnit, single, pair, units}
 use Rattle.tree.specs.Table.{every, plainByte, safeByte, plainUnit, safeUnit, upTo0}
 
 -- the text that starts at byte `at` of a table
@@ -32,3 +33,8 @@ cleanUnit (pair a b) = true
 -- all bytes from `from` on, zero bytes too, cut into units from there
 unfoldable pub cleanFrom : List ℕ → ℕ → Bool
 cleanFrom tab from = every cleanUnit (units (drop from tab))
+
+-- no lead byte stands from `from` up to `end`
+pub record Leadless (tab : List ℕ) (from end : ℕ) : Type 0 where
+  pub before : from ≤ end
+  pub none : (i : ℕ) → from ≤ i → i < end → leadByte (getD tab i 0) ≡ false

@@ -14,17 +14,23 @@ use Rattle.fst_check.proofs.opening.walk.Statement.{statement}
 use Rattle.fst_check.proofs.opening.walk.Tie as tie
 
 abbrev Inv-loop : tie.InvT-loop
-Inv-loop table count marks₀ clean₀ nexts₀ depth₀ k₀ marks clean nexts depth k = Walked table count nexts depth k × Marked table (12 * count) marks × (clean ≡ true → cleanFrom table (12 * count) ≡ true)
+Inv-loop table count first marks₀ clean₀ nexts₀ depth₀ k₀ marks clean nexts depth k = Walked table count nexts depth k × Marked table (12 * count) marks × (clean ≡ true → cleanFrom table (12 * count) ≡ true)
 
 abbrev μ-loop : tie.MeasureT-loop
-μ-loop table count marks₀ clean₀ nexts₀ depth₀ k₀ marks clean nexts depth k = count - k
+μ-loop table count first marks₀ clean₀ nexts₀ depth₀ k₀ marks clean nexts depth k = count - k
+
+mul-clean-end : tie.Need-mul-clean-end Inv-loop μ-loop
+mul-clean-end c = omega arith
+
+clean-end-requires : tie.Need-clean-end-requires Inv-loop μ-loop
+clean-end-requires c κs = search needs
 
 mul-survey : tie.Need-mul-survey Inv-loop μ-loop
 mul-survey c = omega arith
 
 survey-requires : tie.Need-survey-requires Inv-loop μ-loop
 survey-requires c κs =
-    let a = c .before .before .args in
+    let a = c .before .before .before .args in
     (marked-none (a .table .now) (12 * a .count), omega arith)
 
 cast-nexts : tie.Need-cast-nexts Inv-loop μ-loop
@@ -32,9 +38,9 @@ cast-nexts c = search needs
 
 loop-holds : tie.Need-loop-holds Inv-loop μ-loop
 loop-holds c =
-    let a = c .before .before .before .args in
+    let a = c .before .before .before .before .args in
     let s = c .survey in
-    (walked-start (a .table .now) (a .count), s .ensures .1, λ e. sym (s .ensures .0) ∙ e)
+    (walked-start (a .table .now) (a .count), s .ensures .1, λ e. c .before .before .clean-end .ensures .1 ∙ (sym (s .ensures .0) ∙ e))
 
 shut-requires : tie.Need-shut-requires Inv-loop μ-loop
 shut-requires c κs = omega arith
@@ -42,12 +48,12 @@ shut-requires c κs = omega arith
 starts-clean-requires : tie.Need-starts-clean-requires Inv-loop μ-loop
 starts-clean-requires c κs =
     let l = c .before .before .before .before .loop in
-    (c .before .before .before .before .before .before .before .before .pre, omega arith, l .inv .1, l .inv .2)
+    (c .before .before .before .before .before .before .before .before .before .pre, omega arith, l .inv .1, l .inv .2, c .before .before .before .before .before .before .before .clean-end .ensures .0)
 
 node-verdict-requires : tie.Need-node-verdict-requires Inv-loop μ-loop
 node-verdict-requires c κs =
     let s = c .before .before .starts-clean in
-    (c .before .before .before .before .before .before .before .before .before .before .before .pre, omega arith, omega arith, λ e. s .ensures .0 e .1, s .ensures .1)
+    (c .before .before .before .before .before .before .before .before .before .before .before .before .pre, omega arith, omega arith, λ e. s .ensures .0 e .1, s .ensures .1)
 
 is-refused-requires : tie.Need-is-refused-requires Inv-loop μ-loop
 is-refused-requires c κs = search needs
@@ -89,6 +95,8 @@ walk-spec =
     (tie.spec
     Inv-loop
     μ-loop
+    mul-clean-end
+    clean-end-requires
     mul-survey
     survey-requires
     cast-nexts

@@ -1,56 +1,57 @@
--- `fst_text::text::clean_from` meets its contract. The invariant of its loop: the rest has the answer of the whole.
+-- `fst_text::text::clean_from` meets its contract. The invariant of its loop: the rest has the answer of the whole, and starts with no clean byte.
 -- Assumes nothing.
 use native.Mathlib.Omega.{arith}
-use Prim.Native.Nat.{_-_}
-use mathlib.Core.Path.{_≡_, refl}
-use lib.ListN.{length}
-use Rattle.fst_text.specs.Inner.Texts.{cleanFrom}
-use Rattle.fst_text.proofs.Texts.{no-more, clean-byte, clean-two, not-clean}
+use Prim.Native.Nat.{_-_, _<_}
+use mathlib.Core.Path.{_≡_, sym, _∙_}
+use mathlib.Core.Bool.{false}
+use lib.ListN.{length, getD}
+use Rattle.fst_text.specs.Inner.Texts.{cleanByte, cleanFrom}
+use Rattle.fst_text.proofs.Texts.{clean-past, clean-pair, clean-single}
 use borrow.Author.Needs.{needs}
 use Rattle.fst_text.proofs.text.clean_from.Statement.{statement}
 use Rattle.fst_text.proofs.text.clean_from.Tie as tie
 
 abbrev Inv-loop : tie.InvT-loop
-Inv-loop table from i₀ i = cleanFrom table from ≡ cleanFrom table i
+Inv-loop table from i₀ i = (cleanFrom table from ≡ cleanFrom table i) × ((i < length table) → cleanByte (getD table i 0) ≡ false)
 
 abbrev μ-loop : tie.MeasureT-loop
 μ-loop table from i₀ i = length table - i
 
+clean-end-requires : tie.Need-clean-end-requires Inv-loop μ-loop
+clean-end-requires c κs = search needs
+
 loop-holds : tie.Need-loop-holds Inv-loop μ-loop
-loop-holds c = refl
-
-shared-slice-read-is-clean : tie.Need-shared-slice-read-is-clean Inv-loop μ-loop
-shared-slice-read-is-clean c = omega arith
-
-is-clean-requires : tie.Need-is-clean-requires Inv-loop μ-loop
-is-clean-requires c κs = search needs
-
-add-i : tie.Need-add-i Inv-loop μ-loop
-add-i c = omega arith
-
-loop-less : tie.Need-loop-less Inv-loop μ-loop
-loop-less c = omega arith
-
-loop-again : tie.Need-loop-again Inv-loop μ-loop
-loop-again c = search clean-byte
+loop-holds c = (c .clean-end .ensures .1, c .clean-end .ensures .2)
 
 is-pair-requires : tie.Need-is-pair-requires Inv-loop μ-loop
 is-pair-requires c κs = search needs
 
-add-i-2 : tie.Need-add-i-2 Inv-loop μ-loop
-add-i-2 c = omega arith
+add-clean-end : tie.Need-add-clean-end Inv-loop μ-loop
+add-clean-end c = omega arith
 
-loop-less-2 : tie.Need-loop-less-2 Inv-loop μ-loop
-loop-less-2 c = omega arith
+clean-end-requires-2 : tie.Need-clean-end-requires-2 Inv-loop μ-loop
+clean-end-requires-2 c κs = search needs
 
-loop-again-2 : tie.Need-loop-again-2 Inv-loop μ-loop
-loop-again-2 c = search clean-two
+loop-less : tie.Need-loop-less Inv-loop μ-loop
+loop-less c = omega (arith, c .clean-end2 .ensures .0 .before)
+
+loop-again : tie.Need-loop-again Inv-loop μ-loop
+loop-again c =
+    let e = c .clean-end2 .ensures in
+    let l = c .before .before .before .before .loop in
+    (l .inv .0 ∙ (clean-pair (c .before .before .before .before .before .before .before .args .table .now) (l .i) (sym (c .before .before .is-pair .ensures) ∙ c .before .if1 .taken) ∙ e .1), e .2)
 
 returns : tie.Need-returns Inv-loop μ-loop
-returns c = search not-clean
+returns c =
+    let t = c .before .before .before .before .before .before .args .table .now in
+    let l = c .before .before .before .loop in
+    let h = c .before .before .loop-test .taken in
+    sym (l .inv .0 ∙ clean-single t (l .i) false h (sym (c .before .is-pair .ensures) ∙ c .if1 .left) (l .inv .1 h))
 
 returns-2 : tie.Need-returns-2 Inv-loop μ-loop
-returns-2 c = search no-more
+returns-2 c =
+    let l = c .before .loop in
+    sym (l .inv .0 ∙ clean-past (c .before .before .before .before .args .table .now) (l .i) (c .loop-test .left))
 
 pub clean-from-spec : {M : Type 1} → statement M
 clean-from-spec =
@@ -58,15 +59,12 @@ clean-from-spec =
     (tie.spec
     Inv-loop
     μ-loop
+    clean-end-requires
     loop-holds
-    shared-slice-read-is-clean
-    is-clean-requires
-    add-i
+    is-pair-requires
+    add-clean-end
+    clean-end-requires-2
     loop-less
     loop-again
-    is-pair-requires
-    add-i-2
-    loop-less-2
-    loop-again-2
     returns
     returns-2)
