@@ -14,6 +14,11 @@
  *
  * An entry is a file or a directory, with its number in the table; the root is entry 0. FST is the file table, DOL the program.
  *
+ * Names and paths are bytes, cut into units from the start of a name, or of a part of a path: a lead byte (0x81 to 0x9F, 0xE0 to 0xFC) with
+ * a trail byte (0x40 to 0x7E, 0x80 to 0xFC) behind it is a pair, as in Shift-JIS, and any other byte a unit by itself. A name holds pairs
+ * and the bytes 0x20 to 0x7E and 0xA1 to 0xDF; all else is 12, a lead byte without its trail byte too. It is unsafe (13) if it is empty,
+ * "." or "..", or has a unit '/', '\' or ':'; a trail byte 0x5C is no '\'. Two names are equal if their bytes are.
+ *
  * Used are the bytes from 0 up to the table's end, those of each file, and the program. A DOL offset other than 0 means a program from
  * there on, as long as its file size and at least 0xE4. It lies wholly between 0x440 and the FST offset, where it counts with the bytes up
  * to the table's end, or wholly from the table's end on, where it is a used region of its own. All else below the disc end is free. No edit
@@ -132,7 +137,7 @@ uint32_t counter_entry(const uint8_t *image, size_t image_len, uint32_t *words, 
     uint32_t answer[COUNTER_ENTRY_SLOTS]);
 
 /* The entry that a path leads to from the entry `start`: a path over 1,024 bytes 9, no such start 15, through a file 17, a name that is
- * not there or a step above the start 18. '/' and '\' both cut. answer[4] as counter_entry. */
+ * not there or a step above the start 18. '/' and '\' both cut, where they are units. answer[4] as counter_entry. */
 uint32_t counter_lookup(const uint8_t *image, size_t image_len, uint32_t *words, size_t words_len, uint32_t start, const uint8_t *path,
     size_t path_len, uint32_t answer[COUNTER_ENTRY_SLOTS]);
 

@@ -2,6 +2,7 @@
 //! and the completions are made.
 
 use crate::failure::{Failure, Outcome};
+use crate::names;
 use std::ffi::{OsStr, OsString};
 use std::os::unix::ffi::OsStringExt;
 use std::path::PathBuf;
@@ -72,7 +73,8 @@ const AFTER: Operand = needed("AFTER", Value::File, "the image as it is");
 const PATH: Operand = needed(
     "PATH",
     Value::Entry,
-    "a path in the image, from the root on; cut at / and \\; `.` stays, `..` goes back; at most 1,024 bytes",
+    "a path in the image, from the root on, in UTF-8; cut at / and \\, but \\xHH is a byte from 0x80 on; `.` \
+     stays, `..` goes back; at most 1,024 bytes in the image",
 );
 const DEST: Operand = needed("DEST", Value::New, "a new file or folder, or an empty folder");
 const SVG: Operand = needed("OUT.svg", Value::New, "the picture, a new file");
@@ -118,6 +120,22 @@ const ANYWAY: Flag = Flag {
     value: None,
     words: "lets a journal pass that was written for another file with the same contents",
 };
+const BYTES: Flag = Flag {
+    name: "--bytes",
+    value: None,
+    words: "names are the image's bytes, as they are: in PATH and LIST, on standard output, in a manifest and \
+            in the names of extracted files; JSON stays as it is",
+};
+const PATHS: Flag = Flag {
+    name: "--paths",
+    value: None,
+    words: "each path on a line of its own, as PATH and LIST take it",
+};
+const NUMBER: Flag = Flag {
+    name: "--number",
+    value: None,
+    words: "the second of two equal names gets its entry's number behind it: x, then x~2",
+};
 const ALL: Flag = Flag { name: "--all", value: None, words: "everything, in the place of PATH" };
 const CLUSTERS: Flag = Flag {
     name: "--clusters",
@@ -148,7 +166,8 @@ const MAP: Flag = Flag {
 };
 
 const LOOK: &[&Flag] = &[&JSON, &WAIT, &AS_IS];
-const EDIT: &[&Flag] = &[&DRY, &JSON, &WAIT];
+const NAMED: &[&Flag] = &[&BYTES, &JSON, &WAIT, &AS_IS];
+const EDIT: &[&Flag] = &[&DRY, &BYTES, &JSON, &WAIT];
 
 const fn look(
     name: &'static str,
@@ -175,18 +194,25 @@ pub const FORMS: &[Form] = &[
         "the header's fields, the totals and where the program lies",
         &["counter info disc.iso", "counter info"],
     ),
-    look(
-        "list",
-        &[&BARE],
-        "totals, entries and free regions, one line each, for programs",
-        &["counter list disc.iso", "counter list disc.iso --json"],
-    ),
-    look(
-        "tree",
-        &[&BARE],
-        "folders and files as a tree, with offsets and sizes",
-        &["counter tree disc.iso"],
-    ),
+    Form {
+        flags: NAMED,
+        more: "Names are always the image's bytes here; --json and `tree --paths` have them as text.",
+        ..look(
+            "list",
+            &[&BARE],
+            "totals, entries and free regions, one line each, for programs",
+            &["counter list disc.iso", "counter list disc.iso --json"],
+        )
+    },
+    Form {
+        flags: &[&PATHS, &BYTES, &JSON, &WAIT, &AS_IS],
+        ..look(
+            "tree",
+            &[&BARE],
+            "folders and files as a tree, with offsets and sizes",
+            &["counter tree disc.iso", "counter tree disc.iso --paths | grep /text/"],
+        )
+    },
     Form {
         flags: &[&CLUSTERS, &JSON, &WAIT, &AS_IS],
         more: FREE,
@@ -197,28 +223,35 @@ pub const FORMS: &[Form] = &[
             &["counter free disc.iso", "counter free disc.iso --clusters"],
         )
     },
-    look(
-        "find",
-        &[&IMAGE, &PATH],
-        "the entry at PATH: place, size, and how far it can grow where it lies",
-        &["counter find disc.iso /audio/theme.adp"],
-    ),
+    Form {
+        flags: NAMED,
+        ..look(
+            "find",
+            &[&IMAGE, &PATH],
+            "the entry at PATH: place, size, and how far it can grow where it lies",
+            &["counter find disc.iso /audio/theme.adp"],
+        )
+    },
     look(
         "place",
         &[&IMAGE, &SIZE, &ALIGN],
         "the largest free place for SIZE bytes on a multiple of ALIGN",
         &["counter place disc.iso 64K", "counter place disc.iso 0x1000 4"],
     ),
-    look(
-        "cat",
-        &[&IMAGE, &PATH],
-        "writes the file's bytes to standard output",
-        &["counter cat disc.iso /opening.bnr > opening.bnr"],
-    ),
     Form {
-        flags: &[&ALL, &JSON, &WAIT, &AS_IS],
-        more: "Nothing that is there is overwritten. The second of two equal names gets its entry's number \
-               behind it.",
+        flags: NAMED,
+        ..look(
+            "cat",
+            &[&IMAGE, &PATH],
+            "writes the file's bytes to standard output",
+            &["counter cat disc.iso /opening.bnr > opening.bnr"],
+        )
+    },
+    Form {
+        flags: &[&ALL, &NUMBER, &BYTES, &JSON, &WAIT, &AS_IS],
+        more: "Files get their names in UTF-8, or with --bytes in the image's bytes. Nothing that is there is \
+               overwritten. Two entries that would be one file are refused before anything is written, \
+               unless --number is given.",
         ..look(
             "extract",
             &[&IMAGE, &PATH, &DEST],
@@ -255,7 +288,7 @@ pub const FORMS: &[Form] = &[
     },
     Form {
         group: Group::Check,
-        flags: &[&GIVEN, &ONLY, &MAP, &JSON, &WAIT, &AS_IS],
+        flags: &[&GIVEN, &ONLY, &MAP, &BYTES, &JSON, &WAIT, &AS_IS],
         more: COMPARE,
         ..look(
             "compare",
@@ -270,7 +303,7 @@ pub const FORMS: &[Form] = &[
     },
     Form {
         group: Group::Check,
-        flags: &[&WAIT, &AS_IS],
+        flags: &[&BYTES, &WAIT, &AS_IS],
         more: MANIFEST,
         ..look(
             "hash",
@@ -281,7 +314,7 @@ pub const FORMS: &[Form] = &[
     },
     Form {
         group: Group::Check,
-        flags: &[&GIVEN, &JSON, &WAIT, &AS_IS],
+        flags: &[&GIVEN, &BYTES, &JSON, &WAIT, &AS_IS],
         more: REPORT,
         ..look(
             "report",
@@ -328,12 +361,15 @@ pub const FORMS: &[Form] = &[
             "counter cat before.iso /text/fr/msg.bin | counter fill disc.iso /text/fr/msg.bin -",
         ],
     ),
-    edit(
-        "rewrite",
-        &[&IMAGE],
-        "writes the table anew, each name by itself",
-        &["counter rewrite disc.iso --dry-run", "counter rewrite disc.iso --json"],
-    ),
+    Form {
+        flags: &[&DRY, &JSON, &WAIT],
+        ..edit(
+            "rewrite",
+            &[&IMAGE],
+            "writes the table anew, each name by itself",
+            &["counter rewrite disc.iso --dry-run", "counter rewrite disc.iso --json"],
+        )
+    },
     Form {
         flags: &[&ANYWAY, &JSON, &WAIT],
         more: RECOVER,
@@ -353,7 +389,7 @@ clusters from there on, and the rest: before + 0x8000 * clusters + rest = size. 
 multiple of 0x8000 is at or past its end is all \"before\".";
 
 const COMPARE: &str = "\
-LIST is a text file, one path a line; a line that ends in / stands for that folder and all in it. / \
+LIST is a text file in UTF-8, one path a line as PATH is given; a line that ends in / stands for that folder and all in it. / \
 alone stands for everything, and that is said aloud. A line that leads to the root in another way, or \
 above it, is an error (65).
 Exit status 1 if a file or folder that is not on LIST differs in place, size or bytes, is gone, or is \
@@ -371,7 +407,9 @@ A line for each file, as sha256sum writes it: the sum, two spaces, the path. Eve
 lines that begin with #: before each file its place and size, the folders, the header's parts, the \
 program, the table, the free regions and what lies behind the disc end. After `counter extract IMAGE \
 --all DIR`, `sha256sum -c` holds the files in DIR to the manifest. The last line is the sum of all \
-lines above it, so that a manifest that was cut is recognised.";
+lines above it, so that a manifest that was cut is recognised.
+Paths are in UTF-8, with --bytes in the image's bytes, and compare and report see which; sha256sum and a \
+manifest double a \\ in a path, and begin its line with one.";
 
 const REPORT: &str = "\
 The page holds all it shows: verdict, LIST, each file that differs with place, size and SHA-256 before \
@@ -397,7 +435,11 @@ pub struct Args {
     pub as_is: bool,
     pub anyway: bool,
     pub all: bool,
+    pub number: bool,
     pub clusters: bool,
+    pub paths: bool,
+    /// Names are the image's bytes.
+    pub raw: bool,
     demo: bool,
     pub given: Vec<PathBuf>,
     pub out: Option<PathBuf>,
@@ -408,6 +450,11 @@ impl Args {
     /// The operand after the image with this number, as bytes.
     pub fn bytes(&self, n: usize) -> Vec<u8> {
         self.operands[n].clone().into_vec()
+    }
+
+    /// The same where it is a path in the image, as the image has it.
+    pub fn entry(&self, n: usize) -> Outcome<Vec<u8>> {
+        names::taken(&self.bytes(n)).map_err(Failure::usage)
     }
 
     pub fn path(&self, n: usize) -> PathBuf {
@@ -432,7 +479,10 @@ impl Args {
             as_is: false,
             anyway: false,
             all: false,
+            number: false,
             clusters: false,
+            paths: false,
+            raw: false,
             demo: false,
             given: Vec::new(),
             out: None,
@@ -477,7 +527,10 @@ impl Args {
             "--as-is" => self.as_is = true,
             "--anyway" => self.anyway = true,
             "--all" => self.all = true,
+            "--number" => self.number = true,
             "--clusters" => self.clusters = true,
+            "--paths" => self.paths = true,
+            "--bytes" => self.raw = true,
             "--demo" => self.demo = true,
             "--given" => self.given.push(file()?),
             "--map" => self.map = Some(file()?),

@@ -4,7 +4,8 @@ use crate::args::Args;
 use crate::clip::Clip;
 use crate::disc::{CLUSTER, no_path};
 use crate::failure::{Failure, Outcome};
-use crate::image::{Desk, Image, shown};
+use crate::image::{Desk, Image};
+use crate::names::{parts, text, trouble};
 use crate::text::{grouped, number};
 use counter_sys::{self as counter, Memory};
 use std::path::Path;
@@ -25,28 +26,52 @@ impl Wish {
     pub fn read(args: &Args, image: &Path) -> Outcome<Wish> {
         let wanted = || number(&args.bytes(1)).map_err(Failure::usage);
         Ok(match args.form.name {
-            "mkdir" => Wish::MakeFolders(args.bytes(0)),
-            "add" => Wish::Add(args.bytes(0)),
-            "move" if args.bytes(1) == b"auto" => Wish::MoveAway(args.bytes(0)),
-            "move" => Wish::Move(args.bytes(0), wanted()?),
-            "resize" => Wish::Resize(args.bytes(0), wanted()?),
-            "fill" => Wish::Fill(args.bytes(0), Clip::open(&args.path(1), image)?),
+            "mkdir" => Wish::MakeFolders(args.entry(0)?),
+            "add" => Wish::Add(args.entry(0)?),
+            "move" if args.bytes(1) == b"auto" => Wish::MoveAway(args.entry(0)?),
+            "move" => Wish::Move(args.entry(0)?, wanted()?),
+            "resize" => Wish::Resize(args.entry(0)?, wanted()?),
+            "fill" => Wish::Fill(args.entry(0)?, Clip::open(&args.path(1), image)?),
             _ => Wish::Rewrite,
         })
     }
 
+    /// The path that it is about.
+    pub fn path(&self) -> Option<&[u8]> {
+        match self {
+            Wish::MakeFolders(path)
+            | Wish::Add(path)
+            | Wish::Move(path, _)
+            | Wish::MoveAway(path)
+            | Wish::Resize(path, _)
+            | Wish::Fill(path, _) => Some(path),
+            Wish::Rewrite => None,
+        }
+    }
+
     /// How it is called where it is refused.
     pub fn words(&self) -> String {
+        let path = self.path().map(text).unwrap_or_default();
         match self {
-            Wish::MakeFolders(path) => format!("mkdir {}", shown(path)),
-            Wish::Add(path) => format!("add {}", shown(path)),
-            Wish::Move(path, to) => format!("move {} to {to:#x}", shown(path)),
-            Wish::MoveAway(path) => format!("move {} to a place of its size", shown(path)),
-            Wish::Resize(path, to) => {
-                format!("resize {} to {} bytes", shown(path), grouped((*to).into()))
-            }
-            Wish::Fill(path, clip) => format!("fill {} with {}", shown(path), clip.words()),
+            Wish::MakeFolders(_) => format!("mkdir {path}"),
+            Wish::Add(_) => format!("add {path}"),
+            Wish::Move(_, to) => format!("move {path} to {to:#x}"),
+            Wish::MoveAway(_) => format!("move {path} to a place of its size"),
+            Wish::Resize(_, to) => format!("resize {path} to {} bytes", grouped((*to).into())),
+            Wish::Fill(_, clip) => format!("fill {path} with {}", clip.words()),
             Wish::Rewrite => "rewrite".into(),
+        }
+    }
+
+    /// What is wrong with the names that it would make, where they are refused with 12 or 13.
+    fn trouble(&self, number: u32) -> Option<String> {
+        match self {
+            Wish::Add(path) => trouble(cut(path).1, number),
+            Wish::MakeFolders(path) => {
+                let mut parts = parts(path).into_iter().filter(|part| !part.is_empty());
+                parts.find_map(|part| trouble(part, number))
+            }
+            _ => None,
         }
     }
 }
@@ -73,9 +98,8 @@ impl<'a> Call<'a> {
         Ok(match wish {
             Wish::MakeFolders(path) => Call::MakeFolders(path),
             Wish::Add(path) => {
-                let cut = path.iter().rposition(|&b| b == b'/');
-                let folder = cut.map_or(&[][..], |at| &path[..at]);
-                Call::Insert(find(folder)?, &path[cut.map_or(0, |at| at + 1)..])
+                let (folder, name) = cut(path);
+                Call::Insert(find(folder)?, name)
             }
             Wish::Move(path, to) => Call::Move(find(path)?, *to),
             Wish::MoveAway(path) => {
@@ -122,6 +146,14 @@ impl<'a> Call<'a> {
     }
 }
 
+/// A path cut at its last `/`, which is in no pair: the folder, and the name in it.
+fn cut(path: &[u8]) -> (&[u8], &[u8]) {
+    match path.iter().rposition(|&b| b == b'/') {
+        Some(at) => (&path[..at], &path[at + 1..]),
+        None => (&[], path),
+    }
+}
+
 /// The largest free place for file `at`, as a file that has to move in order to grow finds it.
 fn place_for(at: u32, image: &Image, desk: &mut Desk) -> Result<u32, u32> {
     let size = counter::open_file(image.bytes(), &mut desk.lend(), at)?.length as u32;
@@ -133,6 +165,10 @@ pub fn refused(wish: &Wish, number: u32) -> Failure {
     let failure = Failure::refused(number, wish.words());
     match (number, wish) {
         (9, _) => failure.because("more entries, bytes of names or levels than a table may have"),
+        (12 | 13, _) => match wish.trouble(number) {
+            Some(trouble) => failure.because(trouble),
+            None => failure,
+        },
         (20, Wish::Move(..)) => failure.because("the new place overlaps the old one"),
         (21, Wish::Move(..)) => failure
             .because("the new place is not free, or the table has no room; see `counter free`"),

@@ -5,18 +5,20 @@ use crate::disc::Disc;
 use crate::failure::{DATA, Failure, Outcome};
 use crate::given::Given;
 use crate::image::{Desk, Image, same_file};
-use crate::json::Json;
+use crate::json::{self, Json};
 use crate::layout::{Layout, Record};
 use crate::manifest::{Manifest, PROGRAM, Part, TAIL, is_manifest, sums};
 use crate::map::{self, Marks};
+use crate::names;
 use crate::out::say;
 use crate::progress::Progress;
 use crate::save::{save, vacant};
-use crate::sha256::Sum;
-use crate::text::{counted, grouped, one_line};
+use crate::sha256::{Sum, hex};
+use crate::text::{counted, grouped};
 use counter_sys::Region;
 use std::collections::{HashMap, HashSet};
-use std::fmt::Write;
+use std::fmt::Write as _;
+use std::io::Write as _;
 use std::path::Path;
 
 const STEP: usize = 4 << 20;
@@ -30,10 +32,10 @@ pub fn compare(args: &Args) -> Outcome<u8> {
         save(out, both.as_bytes())?;
     }
     let out = match args.json {
-        true => found.json(args.only_differences).document(),
+        true => found.json(args.only_differences).document().into_bytes(),
         false => found.text(args.only_differences),
     };
-    say(out.as_bytes())?;
+    say(&out)?;
     Ok(found.status())
 }
 
@@ -110,14 +112,14 @@ fn agree_anyway(a: &Image, b: &Image) -> bool {
 struct Item<'a> {
     record: &'a Record,
     /// Path, kinds, and the place among equal names of each part.
-    key: String,
+    key: Vec<u8>,
     /// Lookup finds it: no part of its path has an equal name before it.
     first: bool,
 }
 
 fn items(records: &[Record]) -> Vec<Item<'_>> {
     let mut items: Vec<Item> = Vec::with_capacity(records.len());
-    let mut seen: HashMap<(u32, &str, bool), u32> = HashMap::new();
+    let mut seen: HashMap<(u32, &[u8], bool), u32> = HashMap::new();
     for record in records {
         let (parent, name) = (record.parent, record.name());
         let of_kind =
@@ -125,15 +127,15 @@ fn items(records: &[Record]) -> Vec<Item<'_>> {
         let alone = of_kind(&seen, true) + of_kind(&seen, false) == 0;
         let place = of_kind(&seen, record.folder);
         let (above, first) = match record.number {
-            0 => ("", true),
+            0 => (&[][..], true),
             _ => {
                 seen.insert((parent, name, record.folder), place + 1);
                 let above = &items[parent as usize];
-                (above.key.as_str(), above.first && alone)
+                (&above.key[..], above.first && alone)
             }
         };
         let kind = if record.folder { 'd' } else { 'f' };
-        let key = format!("{above}/{name}:{kind}{place}");
+        let key = [above, b"/", name, format!(":{kind}{place}").as_bytes()].concat();
         items.push(Item { record, key, first });
     }
     items
@@ -141,7 +143,7 @@ fn items(records: &[Record]) -> Vec<Item<'_>> {
 
 /// One file or folder in the two images.
 pub struct Row {
-    pub path: String,
+    pub path: Vec<u8>,
     /// In the table where it was, or else in the new one; and in the new one.
     number: u32,
     now: Option<u32>,
@@ -206,16 +208,16 @@ impl Row {
 }
 
 fn matched(old: &[Item], new: &[Item]) -> Vec<Row> {
-    let found: HashMap<&str, &Item> = new.iter().map(|item| (item.key.as_str(), item)).collect();
-    let known: HashSet<&str> = old.iter().map(|item| item.key.as_str()).collect();
+    let found: HashMap<&[u8], &Item> = new.iter().map(|item| (&item.key[..], item)).collect();
+    let known: HashSet<&[u8]> = old.iter().map(|item| &item.key[..]).collect();
     let mut rows = Vec::new();
     for item in old {
-        let now = found.get(item.key.as_str());
+        let now = found.get(&item.key[..]);
         let mut row = row(item, Some(item.record), now.map(|item| item.record));
         row.hidden = item.first && now.is_some_and(|now| !now.first);
         rows.push(row);
     }
-    for item in new.iter().filter(|item| !known.contains(item.key.as_str())) {
+    for item in new.iter().filter(|item| !known.contains(&item.key[..])) {
         rows.push(row(item, None, Some(item.record)));
     }
     rows
@@ -239,8 +241,9 @@ fn row(item: &Item, before: Option<&Record>, after: Option<&Record>) -> Row {
 
 /// Whether the entries that both have stand in another order.
 fn reordered(old: &[Item], new: &[Item]) -> bool {
-    let keys =
-        |items: &[Item]| -> HashSet<String> { items.iter().map(|item| item.key.clone()).collect() };
+    let keys = |items: &[Item]| -> HashSet<Vec<u8>> {
+        items.iter().map(|item| item.key.clone()).collect()
+    };
     let (had, has) = (keys(old), keys(new));
     let before = old.iter().filter(|item| has.contains(&item.key)).map(|item| &item.key);
     let after = new.iter().filter(|item| had.contains(&item.key)).map(|item| &item.key);
@@ -356,9 +359,9 @@ impl Pair {
             Before::Image(image, layout) => self.bytes(image, layout, &mut rows),
             Before::Manifest(manifest) => self.held(manifest, &mut rows),
         };
-        let unknown = given.unknown(rows.iter().map(|row| row.path.as_str()));
+        let unknown = given.unknown(rows.iter().map(|row| &row.path[..]));
         for path in &unknown {
-            let path = one_line(path);
+            let path = names::text(path);
             eprintln!("counter: the list has {path}, which neither image has (a folder ends in /)");
         }
         let reordered = reordered(&old, &new);
@@ -489,7 +492,7 @@ pub struct Comparison<'a> {
     pub reordered: bool,
     pub free: FreeSpace,
     pub given: Given,
-    pub unknown: Vec<String>,
+    pub unknown: Vec<Vec<u8>>,
 }
 
 impl Comparison<'_> {
@@ -556,11 +559,13 @@ impl Comparison<'_> {
         told
     }
 
-    fn text(&self, only_differences: bool) -> String {
-        let mut out = String::new();
+    fn text(&self, only_differences: bool) -> Vec<u8> {
+        let mut out = Vec::new();
         let shown = |row: &&Row| row.status() != "unchanged" || !(row.folder || only_differences);
         for row in self.rows.iter().filter(shown) {
-            let mut line = format!("{:<16} {}", row.status(), row.path);
+            let _ = write!(out, "{:<16} ", row.status());
+            out.extend(names::shown(&row.path));
+            let mut line = String::new();
             if !row.first {
                 let _ = write!(line, " (entry {})", row.number);
             }
@@ -577,7 +582,7 @@ impl Comparison<'_> {
         }
         let _ = writeln!(out, "{}", self.totals());
         if self.given.covers_all() {
-            out.push_str("the list has the line /: it covers every file and folder\n");
+            out.extend(b"the list has the line /: it covers every file and folder\n");
         }
         let _ = writeln!(out, "{}", self.verdict());
         out
@@ -587,17 +592,17 @@ impl Comparison<'_> {
         let shown = |row: &&Row| row.status() != "unchanged" || !only_differences;
         let files = self.rows.iter().filter(|row| !row.folder).filter(shown).map(row_json);
         let folders = self.rows.iter().filter(|row| row.folder).filter(shown).map(|row| {
-            Json::Object(vec![
-                ("path", row.path.as_str().into()),
-                ("status", row.status().into()),
-                ("given", row.given.into()),
-            ])
+            let mut fields = Vec::from(json::path(&row.path));
+            fields.push(("status", row.status().into()));
+            fields.push(("given", row.given.into()));
+            Json::Object(fields)
         });
         let areas = self.areas.iter().map(|area| {
             Json::Object(vec![("name", area.name.into()), ("changed", area.changed.into())])
         });
         let counts = self.counts().into_iter().map(|(word, n)| (word, Json::from(n)));
-        let unknown = self.unknown.iter().map(|path| path.as_str().into());
+        let unknown = self.unknown.iter().map(|path| names::text(path).into());
+        let unknown_bytes = self.unknown.iter().map(|path| hex(path).into());
         Json::Object(vec![
             ("before", self.pair.names.0.as_str().into()),
             ("after", self.pair.names.1.as_str().into()),
@@ -611,6 +616,7 @@ impl Comparison<'_> {
             ("folders", Json::List(folders.collect())),
             ("areas", Json::List(areas.collect())),
             ("unknown", Json::List(unknown.collect())),
+            ("unknown_bytes", Json::List(unknown_bytes.collect())),
         ])
     }
 }
@@ -641,8 +647,10 @@ fn row_json(row: &Row) -> Json {
             Json::Object(vec![("offset", offset.into()), ("size", size.into())])
         })
     };
+    let [path, path_bytes] = json::path(&row.path);
     Json::Object(vec![
-        ("path", row.path.as_str().into()),
+        path,
+        path_bytes,
         ("first", row.first.into()),
         ("status", row.status().into()),
         ("moved", row.moved().into()),

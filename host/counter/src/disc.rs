@@ -2,7 +2,7 @@
 
 use crate::failure::{DATA, Failure, INTERNAL, Outcome};
 use crate::image::{Desk, Image};
-use crate::text::shown;
+use crate::names;
 use crate::trouble;
 use counter_sys::{
     self as counter, Answer, CLUSTER_WORDS, ENTRY_WORDS, Memory, Opened, REGION_WORDS, Region,
@@ -36,9 +36,10 @@ pub struct Node {
     pub kind: Kind,
     /// Where its name lies in the image, and how long it is.
     place: (u32, u32),
-    pub name: String,
+    /// Name and path are the image's bytes.
+    pub name: Vec<u8>,
     /// From the root on, a directory's with `/` at the end; `entry N` where paths are not kept.
-    pub path: String,
+    pub path: Vec<u8>,
 }
 
 impl Node {
@@ -169,8 +170,10 @@ impl Disc {
             let name = name(image, node).ok_or_else(|| {
                 Failure::error(INTERNAL, format!("{}: libcounter told a wrong name", image.name))
             })?;
-            let above = if i == 0 { "" } else { self.nodes[node.parent as usize].path.as_str() };
-            let path = format!("{above}{name}{}", if node.is_directory() { "/" } else { "" });
+            let above = if i == 0 { &[][..] } else { &self.nodes[node.parent as usize].path };
+            let end: &[u8] = if node.is_directory() { b"/" } else { b"" };
+            let path = [above, name, end].concat();
+            let name = name.to_vec();
             self.nodes[i].path = path;
             self.nodes[i].name = name;
         }
@@ -191,7 +194,7 @@ impl Disc {
     }
 
     /// The entry's path, kept or not.
-    pub fn path(&self, image: &Image, node: &Node) -> String {
+    pub fn path(&self, image: &Image, node: &Node) -> Vec<u8> {
         if self.named {
             return node.path.clone();
         }
@@ -203,8 +206,8 @@ impl Disc {
             at = &self.nodes[at.parent as usize];
         }
         parts.reverse();
-        let end = if node.is_directory() && node.number > 0 { "/" } else { "" };
-        format!("/{}{end}", shown(&parts.join(&b'/')))
+        let end: &[u8] = if node.is_directory() && node.number > 0 { b"/" } else { b"" };
+        [b"/", &parts.join(&b'/')[..], end].concat()
     }
 
     /// The table's size as an edit writes it: each name by itself.
@@ -226,25 +229,21 @@ fn node(number: u32, words: &[u32]) -> Node {
         0 => Kind::File { offset: words[2], size: words[3] },
         _ => Kind::Directory { next: words[3] },
     };
-    let (place, path) = ((words[4], words[5]), format!("entry {number}"));
-    Node { number, parent: words[1], kind, place, name: String::new(), path }
+    let (place, path) = ((words[4], words[5]), format!("entry {number}").into_bytes());
+    Node { number, parent: words[1], kind, place, name: Vec::new(), path }
 }
 
 /// The entry's name. None where it is not one that opening lets through: names become files' names
 /// in `extract`, so they are looked at once more.
-fn name(image: &Image, node: &Node) -> Option<String> {
+fn name<'a>(image: &'a Image, node: &Node) -> Option<&'a [u8]> {
     let (start, size) = (node.place.0 as usize, node.place.1 as usize);
     let name = image.bytes().get(start..)?.get(..size)?;
-    let fit = |&b: &u8| (b' '..=b'~').contains(&b) && !b"/\\:".contains(&b);
-    let up = name == b"." || name == b"..";
-    if up || !name.iter().all(fit) || name.is_empty() != (node.number == 0) {
-        return None;
-    }
-    String::from_utf8(name.to_vec()).ok()
+    let fit = if node.number == 0 { name.is_empty() } else { names::is_name(name) };
+    fit.then_some(name)
 }
 
 pub fn no_path(number: u32, path: &[u8]) -> Failure {
-    let failure = Failure::refused(number, shown(path));
+    let failure = Failure::refused(number, names::text(path));
     match number {
         9 => failure.because("a path has at most 1,024 bytes"),
         17 => failure.because("a part of the path before the last is a file"),

@@ -33,19 +33,22 @@ pub fn edit(args: &Args) -> Outcome<()> {
     drop(progress);
     let text = report(&wish, &call, &before, &trial);
     let nothing = trial.change.is_nothing();
-    let told =
-        args.json.then(|| edited::json(args, &wish, &call, &before, &trial, &text).document());
+    let told = args
+        .json
+        .then(|| edited::json(args, &wish, &call, &before, &trial).document().into_bytes());
     if args.dry {
         if let Some(told) = told {
-            return say(told.as_bytes());
+            return say(&told);
         }
-        let lines: String = text.lines().map(|line| format!("dry run: {line}\n")).collect();
-        let last = "dry run: all this would be done; nothing was written\n";
-        return say((lines + last).as_bytes());
+        let last = &b"all this would be done; nothing was written\n"[..];
+        let lines = text.split_inclusive(|&b| b == b'\n').chain([last]);
+        return say(&lines.flat_map(|line| [b"dry run: ", line].concat()).collect::<Vec<_>>());
     }
-    let done = |words: &str| told.unwrap_or_else(|| format!("{text}done: {words}\n"));
+    let done = |words: &str| {
+        told.unwrap_or_else(|| [&text, format!("done: {words}\n").as_bytes()].concat())
+    };
     if nothing {
-        return say(done("there was nothing to write").as_bytes());
+        return say(&done("there was nothing to write"));
     }
     enough_room(&image, &trial.change)?;
     carry_out(args, &wish, &call, &mut image, &mut desk, trial)?;

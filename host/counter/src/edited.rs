@@ -3,36 +3,35 @@
 use crate::args::Args;
 use crate::call::{Call, Wish};
 use crate::disc::{Disc, Kind, Node};
-use crate::json::{Json, latin};
+use crate::json::{self, Json};
+use crate::told::notes;
 use crate::trial::Trial;
 use std::collections::{HashMap, HashSet};
 
-/// `trial` is the edit as it was tried; `text` is what people are told, and its notes are in the JSON too.
-pub fn json(
-    args: &Args,
-    wish: &Wish,
-    call: &Call,
-    before: &Disc,
-    trial: &Trial,
-    text: &str,
-) -> Json {
+/// `trial` is the edit as it was tried.
+pub fn json(args: &Args, wish: &Wish, call: &Call, before: &Disc, trial: &Trial) -> Json {
     let (after, nothing) = (&trial.after, trial.change.is_nothing());
     // A fill writes other bytes where the place may be the same.
     let filled = call.file().filter(|_| trial.change.clip);
-    let notes = text.lines().filter_map(|line| line.strip_prefix("note: "));
     let table = Json::Object(vec![
         ("before", before.opened.fst_size.into()),
         ("after", after.opened.fst_size.into()),
     ]);
+    let notes = notes(call, after).into_iter().map(Json::from);
+    let [path, path_bytes] = match wish.path() {
+        Some(path) => json::path(path),
+        None => [("path", Json::Null), ("path_bytes", Json::Null)],
+    };
     let mut fields = vec![
         ("status", 0u32.into()),
         ("edit", args.form.name.into()),
-        ("path", args.optional(0).map_or(Json::Null, |path| latin(&path))),
+        path,
+        path_bytes,
         ("dry_run", args.dry.into()),
         ("written", (!args.dry && !nothing).into()),
         ("table", table),
         ("entries", Json::List(entries(before, after, filled))),
-        ("notes", Json::List(notes.map(Json::from).collect())),
+        ("notes", Json::List(notes.collect())),
     ];
     if let Wish::Fill(_, clip) = wish {
         let clip = vec![("name", clip.name.as_str().into()), ("size", clip.len.into())];
@@ -43,14 +42,14 @@ pub fn json(
 
 /// Those that are new, lie elsewhere or have another size, and the one that was filled.
 fn entries(before: &Disc, after: &Disc, filled: Option<u32>) -> Vec<Json> {
-    let mut known: HashMap<&str, &Node> = HashMap::new();
+    let mut known: HashMap<&[u8], &Node> = HashMap::new();
     for node in &before.nodes {
         known.entry(&node.path).or_insert(node);
     }
-    let mut seen: HashSet<&str> = HashSet::new();
+    let mut seen: HashSet<&[u8]> = HashSet::new();
     let mut entries = Vec::new();
     for node in &after.nodes {
-        let was = known.get(node.path.as_str()).copied();
+        let was = known.get(&node.path[..]).copied();
         // A path means the first entry that has it.
         let differs = was.is_none_or(|was| place(was) != place(node));
         if seen.insert(&node.path) && (differs || filled == Some(node.number)) {
@@ -73,9 +72,11 @@ fn entry(before: Option<&Node>, after: &Node) -> Json {
             Json::Object(vec![("offset", offset.into()), ("size", size.into())])
         })
     };
+    let [path, path_bytes] = json::path(&after.path);
     Json::Object(vec![
         ("number", after.number.into()),
-        ("path", after.path.as_str().into()),
+        path,
+        path_bytes,
         ("kind", if after.is_directory() { "directory" } else { "file" }.into()),
         ("before", told(before)),
         ("after", told(Some(after))),

@@ -1,7 +1,7 @@
 //! The list of what may differ: a text file, one path a line.
 
 use crate::failure::{DATA, Failure, INPUT_OUTPUT, NO_INPUT, Outcome};
-use crate::text::shown;
+use crate::names;
 use std::collections::HashSet;
 use std::fs;
 use std::io;
@@ -10,10 +10,10 @@ use std::path::{Path, PathBuf};
 /// The paths that may differ.
 #[derive(Default)]
 pub struct Given {
-    files: HashSet<String>,
+    files: HashSet<Vec<u8>>,
     /// Folders, with `/` at the end; `/` alone is all.
-    folders: Vec<String>,
-    /// The lines as they were read, for what is said about them.
+    folders: Vec<Vec<u8>>,
+    /// The lines, for what is said about them.
     pub lines: Vec<String>,
     pub listed: bool,
 }
@@ -39,51 +39,52 @@ impl Given {
         if bytes.starts_with(&[0xFF, 0xFE]) || bytes.starts_with(&[0xFE, 0xFF]) {
             return Err(Failure::error(DATA, format!("{name}: UTF-16; the list has to be UTF-8")));
         }
-        let text = bytes.strip_prefix(b"\xEF\xBB\xBF").unwrap_or(&bytes);
-        for (i, line) in String::from_utf8_lossy(text).split('\n').enumerate() {
-            let line = line.strip_suffix('\r').unwrap_or(line);
+        // In Shift-JIS these three bytes begin a name.
+        let text = bytes.strip_prefix(b"\xEF\xBB\xBF").filter(|_| !names::are_raw());
+        let lines = text.unwrap_or(&bytes).split(|&b| b == b'\n');
+        for (i, line) in lines.enumerate() {
+            let line = line.strip_suffix(b"\r").unwrap_or(line);
             if !line.is_empty() {
-                self.line(line).map_err(|why| {
-                    let line = shown(line.as_bytes());
-                    Failure::error(DATA, format!("{name}, line {}: \"{line}\" {why}", i + 1))
+                let taken = names::read(line).and_then(|path| self.line(&path));
+                taken.map_err(|why| {
+                    Failure::error(DATA, format!("{name}, line {}: {why}", i + 1))
                 })?;
             }
         }
         Ok(())
     }
 
-    fn line(&mut self, line: &str) -> Result<(), &'static str> {
-        let path = match line {
-            "/" => "/".to_string(),
-            line => walked(line)?,
-        };
-        if line == "/" {
-            self.folders.push(path);
-        } else if line.ends_with(['/', '\\']) {
-            self.folders.push(path + "/");
+    fn line(&mut self, line: &[u8]) -> Result<(), String> {
+        let text = names::text(line);
+        if line == b"/" {
+            self.folders.push(line.to_vec());
         } else {
-            self.files.insert(path);
+            let path = walked(line).map_err(|why| format!("\"{text}\" {why}"))?;
+            match names::parts(line).last() {
+                Some(&b"") => self.folders.push([&path[..], b"/"].concat()),
+                _ => _ = self.files.insert(path),
+            }
         }
-        self.lines.push(line.to_string());
+        self.lines.push(text);
         Ok(())
     }
 
     /// The list says that everything may differ.
     pub fn covers_all(&self) -> bool {
-        self.folders.iter().any(|folder| folder == "/")
+        self.folders.iter().any(|folder| folder == b"/")
     }
 
     /// A file's path, or a folder's with `/` at its end.
-    pub fn covers(&self, path: &str) -> bool {
+    pub fn covers(&self, path: &[u8]) -> bool {
         self.files.contains(path) || self.folders.iter().any(|folder| path.starts_with(folder))
     }
 
     /// What the list has and none of `paths` is.
-    pub fn unknown<'a>(&self, paths: impl Iterator<Item = &'a str>) -> Vec<String> {
-        let known: HashSet<&str> = paths.collect();
+    pub fn unknown<'a>(&self, paths: impl Iterator<Item = &'a [u8]>) -> Vec<Vec<u8>> {
+        let known: HashSet<&[u8]> = paths.collect();
         let all = self.files.iter().chain(&self.folders);
-        let mut unknown: Vec<String> =
-            all.filter(|path| !known.contains(path.as_str())).cloned().collect();
+        let mut unknown: Vec<Vec<u8>> =
+            all.filter(|path| !known.contains(&path[..])).cloned().collect();
         unknown.sort();
         unknown.dedup();
         unknown
@@ -92,12 +93,12 @@ impl Given {
 
 /// A path as lookup walks it. One that ends at the root or goes above it means no file, and is more
 /// likely a slip than leave for everything.
-fn walked(line: &str) -> Result<String, &'static str> {
-    let mut parts: Vec<&str> = Vec::new();
-    for part in line.split(['/', '\\']) {
+fn walked(line: &[u8]) -> Result<Vec<u8>, &'static str> {
+    let mut parts: Vec<&[u8]> = Vec::new();
+    for part in names::parts(line) {
         match part {
-            "" | "." => {}
-            ".." => {
+            b"" | b"." => {}
+            b".." => {
                 parts.pop().ok_or("leads above the root")?;
             }
             part => parts.push(part),
@@ -105,6 +106,6 @@ fn walked(line: &str) -> Result<String, &'static str> {
     }
     match parts.is_empty() {
         true => Err("leads to the root; / alone stands for everything"),
-        false => Ok(format!("/{}", parts.join("/"))),
+        false => Ok([b"/", &parts.join(&b'/')[..]].concat()),
     }
 }

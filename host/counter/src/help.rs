@@ -10,7 +10,8 @@ pub const USAGE: &str = "usage: counter COMMAND IMAGE ...   (`counter help` has 
 pub const PURPOSE: &str = "GameCube disc images, looked at, edited and compared";
 
 /// What `help` knows besides the commands.
-pub const SUBJECTS: [(&str, &str); 3] = [
+pub const SUBJECTS: [(&str, &str); 4] = [
+    ("names", "how names are shown and taken"),
     ("safety", "what is promised of an edit, and when it is cut"),
     ("exit", "every exit status"),
     ("json", "the fields of every answer"),
@@ -36,15 +37,17 @@ pub fn general() -> String {
     let compare = Form::find("compare").expect("a command");
     out.push_str("\nThe licence check: counter compare BEFORE AFTER --given LIST\n");
     out.push_str(&paragraphs(compare.more));
+    out.push_str(NAMES);
     out.push_str(SAFETY);
     out.push_str(&json(FORMS));
     out.push_str(&statuses());
     out
 }
 
-/// Help on one subject: a command, `safety`, `exit`, `json`, or None.
+/// Help on one subject: a command, `names`, `safety`, `exit`, `json`, or None.
 pub fn about(subject: &str) -> Option<String> {
     match subject {
+        "names" => return Some(NAMES.trim_start().to_string()),
         "safety" => return Some(SAFETY.trim_start().to_string()),
         "exit" => return Some(statuses().trim_start().to_string()),
         "json" => return Some(json(FORMS).trim_start().to_string()),
@@ -68,7 +71,11 @@ pub fn about(subject: &str) -> Option<String> {
     if form[0].group == Group::Edit {
         out.push_str(SAFETY);
     }
-    out.push_str("\n`counter help exit` has every exit status.\n");
+    out.push('\n');
+    if form[0].has("--bytes") {
+        out.push_str("`counter help names` tells how names are shown and taken.\n");
+    }
+    out.push_str("`counter help exit` has every exit status.\n");
     Some(out)
 }
 
@@ -137,7 +144,7 @@ fn arguments(forms: &[Form]) -> String {
     out
 }
 
-/// What the JSON of each command holds. ENTRY and PLACED are told behind them.
+/// What the JSON of each command holds. ENTRY is told behind them.
 const FIELDS: &[(&str, &str)] = &[
     (
         "info",
@@ -149,8 +156,8 @@ const FIELDS: &[(&str, &str)] = &[
     ("list", "total used entries[ENTRY] free[offset size]"),
     (
         "tree",
-        "ENTRY with name for path; a directory's also with bytes files children[...]; the root's also \
-         with program{offset size behind_table}",
+        "ENTRY with name name_bytes for path path_bytes; a directory's also with bytes files \
+         children[...]; the root's also with program{offset size behind_table}",
     ),
     (
         "free",
@@ -159,10 +166,13 @@ const FIELDS: &[(&str, &str)] = &[
     ),
     ("find", "ENTRY with largest_size (null for a directory)"),
     ("place", "size align offset room; room: the free bytes from offset on"),
-    ("cat", "path offset size hex"),
-    ("extract", "bytes files[path file size]"),
+    ("cat", "path path_bytes offset size hex"),
+    ("extract", "bytes files[path path_bytes file file_bytes size]"),
     ("dol", "offset size entry_point bss_address bss_size sections[name offset address size]"),
-    ("map", "out disc_end pieces[kind name offset size]; kind: system program table file free"),
+    (
+        "map",
+        "out disc_end pieces[kind name name_bytes offset size]; kind: system program table file free",
+    ),
     ("check", "status opens entries files disc_end used free"),
     ("compare", COMPARED),
     ("report", COMPARED),
@@ -176,25 +186,28 @@ const FIELDS: &[(&str, &str)] = &[
 ];
 
 const COMPARED: &str = "before after manifest passed covers_all order_changed free_space \
-    counts{unchanged moved resized changed new gone} areas[name changed] folders[path status given] \
-    unknown[path] files[path first status moved resized changed hidden given before{offset size} \
-    after{offset size}]; changed: null where it cannot be told; free_space: unchanged, changed or \
+    counts{unchanged moved resized changed new gone} areas[name changed] \
+    folders[path path_bytes status given] unknown[path] unknown_bytes[path] files[path path_bytes first \
+    status moved resized changed hidden given before{offset size} after{offset size}]; changed: null where it cannot be told; free_space: unchanged, changed or \
     unknown; files and folders: only those that differ, with --only-differences";
 
-const EDITED: &str = "status edit path dry_run written table{before after} \
-    entries[number path kind before{offset size} after{offset size}] notes[...]; entries: those that \
-    are new or differ";
+const EDITED: &str = "status edit path path_bytes dry_run written table{before after} \
+    entries[number path path_bytes kind before{offset size} after{offset size}] notes[...]; entries: \
+    those that are new or differ";
 
 fn json(forms: &[Form]) -> String {
     let mut out = String::from(
-        "\nJSON (--json)\n  A number is in base ten, offsets and sizes in bytes. In a text, character n below 256 is byte n.\n",
+        "\nJSON (--json)\n  A number is in base ten, offsets and sizes in bytes. Paths and names are texts; beside each stand its\n  bytes, in base sixteen (path_bytes, name_bytes), --bytes or not.\n",
     );
     for (name, fields) in FIELDS.iter().filter(|(name, _)| forms.iter().any(|f| f.name == *name)) {
         let line = wrapped(fields, 11, 11);
         let _ = writeln!(out, "  {name:<8} {}", line.trim_start());
     }
     if forms.iter().any(|form| ["list", "tree", "find"].contains(&form.name)) {
-        out.push_str("  ENTRY    number kind parent path, and offset size (kind file) or next (kind directory)\n");
+        out.push_str("  ENTRY    number kind parent path path_bytes, and offset size (kind file) or next (kind directory)\n");
+    }
+    if forms.iter().any(|form| form.name == "info") {
+        out.push_str("  game_code, maker, game_name: character n is byte n\n");
     }
     if forms.iter().any(|form| ["info", "tree", "free"].contains(&form.name)) {
         out.push_str("  program: null where the image names none\n");
@@ -207,6 +220,27 @@ fn json(forms: &[Form]) -> String {
     out.push_str("  A refusal: status refused cause about detail. Another error: status error.\n");
     out
 }
+
+const NAMES: &str = "
+Names
+  - An image has its names in Shift-JIS, as Windows has it (CP932): bytes 0x20 to 0x7E and 0xA1 to
+    0xDF, and pairs of a lead byte (0x81 to 0x9F, 0xE0 to 0xFC) with a trail byte (0x40 to 0x7E,
+    0x80 to 0xFC). They are shown and taken in UTF-8. A trail byte 0x5C is no \\ and cuts no path.
+  - What has no character of its own is shown by its bytes, \\x81\\xad, and is taken so: in a PATH
+    and in a LIST \\xHH is a byte from 0x80 on, or the trail byte of a lead byte that stands before
+    it. Any other \\ cuts a path like /. Some pairs share a character; it then means one of them,
+    and the others are shown by their bytes, so that no two names look the same.
+  - A character that Shift-JIS does not have is an error (64, in a LIST 65), and so are the yen sign
+    and the overline, of which it would make \\ and ~.
+  - Where the locale (LC_ALL, LC_CTYPE, LANG) names another code than UTF-8, standard output and
+    standard error have every byte from 0x80 on as \\xHH, and a PATH is taken in bytes, with \\xHH
+    between them. Files are UTF-8 in any case: LIST, manifest, picture, page, and the names of those
+    that are extracted. Where the system's iconv has no CP932, there are no characters, only \\xHH.
+  - With --bytes names are the image's bytes, for scripts: in a PATH and a LIST, on standard output,
+    in a manifest and in the names of extracted files. Standard error, JSON, pictures and pages
+    keep text. A manifest says by itself which of both it has.
+  - `counter list` always has the bytes; `counter tree --paths` has every path as PATH takes it.
+";
 
 const SAFETY: &str = "
 Safety
@@ -252,7 +286,7 @@ fn statuses() -> String {
         out.push_str(&format!("  {:2}  refused: {cause}\n", i + 1));
     }
     out.push_str(
-        "  64  wrong usage\n\
+        "  64  wrong usage; a PATH that is no UTF-8, or has a character that Shift-JIS does not have\n\
          \x20 65  compare, report: an image too short for a header, a LIST or a manifest that is wrong;\n\
          \x20     a command that shows every path: more than 64 MiB of them\n\
          \x20 66  no such image or clip, or a folder in its place, or a special file in the image's\n\

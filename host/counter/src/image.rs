@@ -4,7 +4,6 @@ use crate::disk::{self, On};
 use crate::failure::{BUSY, CUT, Failure, INPUT_OUTPUT, NO_INPUT, NOT_ALLOWED, Outcome};
 use crate::journal;
 use crate::os::{self, Access, Mapping};
-pub use crate::text::shown;
 use counter_sys::Memory;
 use std::fs::{self, File, Metadata, OpenOptions, TryLockError};
 use std::io;

@@ -1,5 +1,7 @@
 //! JSON, written: enough of it for the program's answers.
 
+use crate::names;
+use crate::sha256::hex;
 use std::fmt::Write;
 
 pub enum Json {
@@ -56,6 +58,16 @@ impl<T: Into<Json>> From<Option<T>> for Json {
 /// Bytes as a text: byte b is the character with number b, so that no byte is lost.
 pub fn latin(bytes: &[u8]) -> Json {
     Json::Text(bytes.iter().map(|&b| b as char).collect())
+}
+
+/// The fields of an entry's path: its text, and its bytes.
+pub fn path(bytes: &[u8]) -> [(&'static str, Json); 2] {
+    [("path", names::text(bytes).into()), ("path_bytes", hex(bytes).into())]
+}
+
+/// Those of a name.
+pub fn name(bytes: &[u8]) -> [(&'static str, Json); 2] {
+    [("name", names::text(bytes).into()), ("name_bytes", hex(bytes).into())]
 }
 
 impl Json {

@@ -4,6 +4,7 @@ use crate::disc::{Disc, Kind, not_opened};
 use crate::failure::Outcome;
 use crate::header::Header;
 use crate::image::{Desk, Image};
+use crate::names;
 use crate::program::Program;
 use crate::sha256::Sum;
 use crate::text::{one_line, shown};
@@ -14,8 +15,8 @@ pub struct Record {
     pub number: u32,
     pub parent: u32,
     pub folder: bool,
-    /// From the root on, a folder's with `/` at the end.
-    pub path: String,
+    /// From the root on, a folder's with `/` at the end; the image's bytes.
+    pub path: Vec<u8>,
     /// Offset and size; a folder has neither.
     pub place: (u32, u32),
     /// A manifest has it for files.
@@ -23,8 +24,15 @@ pub struct Record {
 }
 
 impl Record {
-    pub fn name(&self) -> &str {
-        self.path.trim_end_matches('/').rsplit('/').next().unwrap_or("")
+    /// A `/` is in no pair.
+    pub fn name(&self) -> &[u8] {
+        let path = self.path.strip_suffix(b"/").unwrap_or(&self.path);
+        path.rsplit(|&b| b == b'/').next().unwrap_or_default()
+    }
+
+    /// The path as maps show it.
+    pub fn text(&self) -> String {
+        names::text(&self.path)
     }
 }
 

@@ -7,11 +7,12 @@ use crate::disc::{
 use crate::failure::{Failure, Outcome};
 use crate::header::Header;
 use crate::image::Image;
-use crate::json::{Json, latin};
+use crate::json::{self, Json, latin};
+use crate::names::{self, shown as shown_name};
 use crate::out::say;
 use crate::program::Program;
-use crate::text::{both, counted, grouped, hex, human, line, number, shown, size};
-use crate::tree::{free_json, node_json, region_fields, weights};
+use crate::text::{both, counted, grouped, hex, human, label, line, number, shown, size};
+use crate::tree::{free_json, node_fields, region_fields, weights};
 use counter_sys as counter;
 use std::fmt::Write;
 
@@ -204,40 +205,40 @@ fn clusters_text(disc: &Space, clusters: &[Clusters]) -> String {
 
 pub fn find(args: &Args) -> Outcome<()> {
     let (image, mut desk, disc) = opened(args.image.as_deref())?;
-    let path = args.bytes(0);
+    let path = args.entry(0)?;
     let node = disc.find(&image, &mut desk, &path)?;
     let grow = match node.kind {
         Kind::Directory { .. } => None,
         Kind::File { .. } => {
             let size = counter::max_file_size(image.bytes(), &mut desk.lend(), node.number);
-            Some(size.map_err(|n| Failure::refused(n, shown(&path)))?)
+            Some(size.map_err(|n| Failure::refused(n, names::text(&path)))?)
         }
     };
     if args.json {
-        let Json::Object(mut fields) = node_json(node) else { unreachable!("an object") };
+        let mut fields = node_fields(node);
+        fields.extend(json::path(&node.path));
         fields.push(("largest_size", grow.into()));
         return say(Json::Object(fields).document().as_bytes());
     }
-    let mut out = String::new();
-    line(&mut out, "path", &node.path);
-    line(&mut out, "entry", node.number);
+    let (mut first, mut last) = (String::new(), String::new());
+    line(&mut first, "entry", node.number);
+    line(&mut first, "kind", if node.is_directory() { "folder" } else { "file" });
     match node.kind {
         Kind::File { offset, size: bytes } => {
-            line(&mut out, "kind", "file");
-            line(&mut out, "folder", &disc.nodes[node.parent as usize].path);
-            line(&mut out, "offset", both(offset));
-            line(&mut out, "size", size(bytes.into()));
-            line(&mut out, "can grow here to", size(grow.unwrap_or(bytes).into()));
+            line(&mut last, "offset", both(offset));
+            line(&mut last, "size", size(bytes.into()));
+            line(&mut last, "can grow here to", size(grow.unwrap_or(bytes).into()));
         }
         Kind::Directory { next } => {
             let (bytes, files) = weights(&disc)[node.number as usize];
-            line(&mut out, "kind", "folder");
-            line(&mut out, "folder", &disc.nodes[node.parent as usize].path);
-            line(&mut out, "entries below", next.saturating_sub(node.number + 1));
-            line(&mut out, "files below", format!("{files}, {}", size(bytes)));
+            line(&mut last, "entries below", next.saturating_sub(node.number + 1));
+            line(&mut last, "files below", format!("{files}, {}", size(bytes)));
         }
     }
-    say(out.as_bytes())
+    let named = |name, path: &[u8]| [label(name).as_bytes(), &shown_name(path), b"\n"].concat();
+    let (path, folder) = (&node.path, &disc.nodes[node.parent as usize].path);
+    let (path, folder) = (named("path", path), named("folder", folder));
+    say(&[&path, first.as_bytes(), &folder, last.as_bytes()].concat())
 }
 
 pub fn place(args: &Args) -> Outcome<()> {

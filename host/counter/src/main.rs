@@ -27,6 +27,7 @@ mod layout;
 mod look;
 mod manifest;
 mod map;
+mod names;
 mod os;
 mod pages;
 mod program;
@@ -111,6 +112,7 @@ fn run(args: Args) -> Outcome<u8> {
         image::wait_for_others();
     }
     image::as_is(args.as_is);
+    names::keep_raw(args.raw);
     match args.form.name {
         "info" => look::info(&args)?,
         "list" => tree::list(&args)?,

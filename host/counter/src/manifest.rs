@@ -5,19 +5,21 @@ use crate::disc::opened;
 use crate::failure::{DATA, Failure, INPUT_OUTPUT, Outcome};
 use crate::image::Image;
 use crate::layout::{Layout, Record};
+use crate::names;
 use crate::out::say;
 use crate::program::Program;
 use crate::progress::Progress;
 use crate::sha256::{Sha256, Sum, hex};
 use counter_sys::Region;
-use std::fmt::Write;
 use std::fs::{self, File};
-use std::io::Read;
+use std::io::{Read, Write};
 use std::path::Path;
 use std::sync::atomic::{AtomicUsize, Ordering};
 use std::thread;
 
 const FIRST: &str = "# counter manifest 1";
+/// Says that paths are the image's bytes, and no UTF-8.
+const RAW: &str = "# names bytes";
 const LAST: &str = "# sum of the lines above ";
 
 /// A part of the image that is no file, with its sum.
@@ -48,7 +50,7 @@ pub fn hash(args: &Args) -> Outcome<()> {
     let (image, mut desk, disc) = opened(args.image.as_deref())?;
     let disc = disc.with_paths()?;
     let layout = Layout::of(&image, &mut desk, &disc)?;
-    say(Manifest::of(&image, layout).text().as_bytes())
+    say(&Manifest::of(&image, layout).text())
 }
 
 // Sums ------------------------------------------------------------------------------------
@@ -130,9 +132,12 @@ impl Manifest {
         Manifest { layout, image, parts: all, free }
     }
 
-    pub fn text(&self) -> String {
+    pub fn text(&self) -> Vec<u8> {
         let layout = &self.layout;
-        let mut out = format!("{FIRST}\n");
+        let mut out = format!("{FIRST}\n").into_bytes();
+        if names::are_raw() {
+            let _ = writeln!(out, "{RAW}");
+        }
         let _ = writeln!(out, "# image {} {} {}", hex(&self.image), layout.bytes, layout.name);
         let _ = writeln!(out, "# game {}", layout.game);
         let _ = writeln!(out, "# disc-end {:#x}", layout.disc_end);
@@ -142,23 +147,53 @@ impl Manifest {
             let _ = writeln!(out, "# part {sum} {at:#x} {size} {}", part.name);
         }
         for record in &layout.records[1..] {
-            let path = &record.path[1..];
-            let _ = match record.sum {
-                None => writeln!(out, "# folder {path}"),
+            let path = names::written(&record.path[1..]);
+            match record.sum {
+                None => out.extend([b"# folder ", &path[..]].concat()),
                 Some(sum) => {
                     let (offset, size) = record.place;
-                    writeln!(out, "# file {offset:#x} {size}\n{}  {path}", hex(&sum))
+                    let _ = writeln!(out, "# file {offset:#x} {size}");
+                    out.extend(sum_line(&hex(&sum), &path));
                 }
-            };
+            }
+            out.push(b'\n');
         }
-        let _ = writeln!(out, "{LAST}{}", hex(&of_lines(&out)));
+        let sum = hex(&of_lines(&out));
+        let _ = writeln!(out, "{LAST}{sum}");
         out
     }
 }
 
-fn of_lines(text: &str) -> Sum {
+/// A file's line, as sha256sum writes it: where the name has a `\`, that is doubled, and the line begins
+/// with one.
+fn sum_line(sum: &str, path: &[u8]) -> Vec<u8> {
+    if !path.contains(&b'\\') {
+        return [sum.as_bytes(), b"  ", path].concat();
+    }
+    let doubled = path.split(|&b| b == b'\\').collect::<Vec<_>>().join(&b"\\\\"[..]);
+    [b"\\", sum.as_bytes(), b"  ", &doubled].concat()
+}
+
+/// The same read: the sum, and the path.
+fn of_sum_line(line: &[u8]) -> Option<(Sum, Vec<u8>)> {
+    let rest = line.strip_prefix(b"\\");
+    let (digits, path) = rest.unwrap_or(line).split_at_checked(64)?;
+    let path = path.strip_prefix(b"  ")?;
+    let sum = sum(&mut std::str::from_utf8(digits).ok()?)?;
+    let mut out = Vec::new();
+    let mut bytes = path.iter();
+    while let Some(&byte) = bytes.next() {
+        if byte == b'\\' && rest.is_some() && bytes.next() != Some(&b'\\') {
+            return None;
+        }
+        out.push(byte);
+    }
+    Some((sum, out))
+}
+
+fn of_lines(text: &[u8]) -> Sum {
     let mut sha = Sha256::new();
-    sha.update(text.as_bytes());
+    sha.update(text);
     sha.finish()
 }
 
@@ -213,29 +248,36 @@ impl Manifest {
         let bytes = fs::read(path).map_err(|e| Failure::file(INPUT_OUTPUT, path, &e))?;
         let wrong = |why: &str| Failure::error(DATA, format!("{}: {why}", path.display()));
         let bytes = bytes.strip_prefix(b"\xEF\xBB\xBF").unwrap_or(&bytes);
-        let text = std::str::from_utf8(bytes).map_err(|_| wrong("no manifest: not UTF-8"))?;
-        let text = text.replace("\r\n", "\n");
-        if !text.starts_with(&format!("{FIRST}\n")) {
+        let lines: Vec<&[u8]> = bytes.split(|&b| b == b'\n').map(without_return).collect();
+        let text = lines.join(&b'\n');
+        if lines[0] != FIRST.as_bytes() {
             return Err(wrong("a manifest of another version of this program"));
         }
         let cut = "the manifest was cut or changed: its last line is not the sum of the others";
-        let last = text.trim_end_matches('\n').rfind('\n').map_or(0, |at| at + 1);
-        let (lines, last) = text.split_at(last);
-        if last.trim_end_matches('\n') != format!("{LAST}{}", hex(&of_lines(lines))) {
+        let end = text.iter().rposition(|&b| b != b'\n').map_or(0, |at| at + 1);
+        let last = text[..end].iter().rposition(|&b| b == b'\n').map_or(0, |at| at + 1);
+        if text[last..end] != *format!("{LAST}{}", hex(&of_lines(&text[..last]))).as_bytes() {
             return Err(wrong(cut));
         }
         let mut reader = Reader::new();
-        for (i, line) in lines.lines().enumerate().skip(1) {
+        let lines = text[..last.saturating_sub(1)].split(|&b| b == b'\n');
+        for (i, line) in lines.enumerate().skip(1) {
             let told = reader.line(line);
-            told.ok_or_else(|| wrong(&format!("line {} is none of a manifest", i + 1)))?;
+            told.map_err(|why| wrong(&format!("line {} {why}", i + 1)))?;
         }
         reader.done().ok_or_else(|| wrong("the manifest lacks a line"))
     }
 }
 
+fn without_return(line: &[u8]) -> &[u8] {
+    line.strip_suffix(b"\r").unwrap_or(line)
+}
+
 /// A manifest as far as it is read.
 struct Reader {
     manifest: Manifest,
+    /// Whether its paths are the image's bytes.
+    raw: bool,
     /// Offset and size of the file whose line comes next.
     place: Option<(u32, u32)>,
     /// The folders that hold the next entry, innermost last.
@@ -248,7 +290,7 @@ impl Reader {
             number: 0,
             parent: 0,
             folder: true,
-            path: "/".into(),
+            path: b"/".to_vec(),
             place: (0, 0),
             sum: None,
         };
@@ -263,16 +305,39 @@ impl Reader {
             records: vec![root],
         };
         let manifest = Manifest { layout, image: [0; 32], parts: Vec::new(), free: Vec::new() };
-        Reader { manifest, place: None, open: vec![0] }
+        Reader { manifest, raw: false, place: None, open: vec![0] }
     }
 
-    /// None where the line is none of a manifest.
-    fn line(&mut self, line: &str) -> Option<()> {
-        let Some(mut rest) = line.strip_prefix("# ") else {
-            let (sum_text, path) = line.split_once("  ")?;
-            let place = self.place.take()?;
-            return self.record(path, false, place, Some(sum(&mut &*sum_text)?));
-        };
+    /// What is wrong where the line is none of a manifest.
+    fn line(&mut self, line: &[u8]) -> Result<(), String> {
+        let none = || "is none of a manifest".to_string();
+        if line == RAW.as_bytes() {
+            self.raw = true;
+        } else if let Some(path) = line.strip_prefix(b"# folder ") {
+            let path = self.path(path.strip_suffix(b"/").ok_or_else(none)?)?;
+            self.record(&path, true, (0, 0), None).ok_or_else(none)?;
+        } else if let Some(rest) = line.strip_prefix(b"# ") {
+            let told = std::str::from_utf8(rest).ok().and_then(|rest| self.fact(rest));
+            told.ok_or_else(none)?;
+        } else {
+            let (sum, path) = of_sum_line(line).ok_or_else(none)?;
+            let place = self.place.take().ok_or_else(none)?;
+            let path = self.path(&path)?;
+            self.record(&path, false, place, Some(sum)).ok_or_else(none)?;
+        }
+        Ok(())
+    }
+
+    /// A path of the manifest, as the image has it.
+    fn path(&self, path: &[u8]) -> Result<Vec<u8>, String> {
+        match self.raw {
+            true => Ok(path.to_vec()),
+            false => names::from_text(path).map_err(|why| format!("is none of a manifest: {why}")),
+        }
+    }
+
+    /// What a line says that is about no entry.
+    fn fact(&mut self, mut rest: &str) -> Option<()> {
         let layout = &mut self.manifest.layout;
         match word(&mut rest)? {
             "image" => {
@@ -284,10 +349,6 @@ impl Reader {
             "disc-end" => layout.disc_end = small(&mut rest)?,
             "table" => layout.fst = (small(&mut rest)?, small(&mut rest)?),
             "part" => return self.part(rest),
-            "folder" => {
-                let path = rest.strip_suffix('/')?;
-                return self.record(path, true, (0, 0), None);
-            }
             "file" => self.place = Some((small(&mut rest)?, small(&mut rest)?)),
             _ => return None,
         }
@@ -320,23 +381,23 @@ impl Reader {
     /// An entry, in table order, so that its folder is the innermost open one with that path.
     fn record(
         &mut self,
-        path: &str,
+        path: &[u8],
         folder: bool,
         place: (u32, u32),
         sum: Option<Sum>,
     ) -> Option<()> {
         let records = &mut self.manifest.layout.records;
-        let path = format!("/{path}");
-        let (above, name) = path.split_at(path.rfind('/')? + 1);
+        let path = [b"/", path].concat();
+        let (above, name) = path.split_at(path.iter().rposition(|&b| b == b'/')? + 1);
         while records[*self.open.last()? as usize].path != above {
             self.open.pop();
         }
         // As in an image that opens: paths go to terminals, too.
-        if name.is_empty() || !name.bytes().all(|b| (b' '..=b'~').contains(&b)) {
+        if !names::is_name(name) {
             return None;
         }
         let (number, parent) = (records.len() as u32, *self.open.last()?);
-        let path = if folder { format!("{path}/") } else { path };
+        let path = if folder { [&path[..], b"/"].concat() } else { path };
         records.push(Record { number, parent, folder, path, place, sum });
         if folder {
             self.open.push(number);

@@ -4,11 +4,12 @@
 use crate::args::Args;
 use crate::disc::opened;
 use crate::failure::Outcome;
-use crate::json::Json;
+use crate::json::{self, Json};
 use crate::layout::Layout;
+use crate::names;
 use crate::out::say;
 use crate::save::save;
-use crate::text::{counted, escape, grouped, human};
+use crate::text::{self, counted, escape, grouped, human};
 use std::collections::{BTreeMap, HashSet};
 use std::fmt::Write as _;
 
@@ -27,9 +28,11 @@ pub fn map(args: &Args) -> Outcome<()> {
         return say(format!("{}: {files}, {regions}\n", out.display()).as_bytes());
     }
     let pieces = pieces.iter().map(|piece| {
+        let [name, name_bytes] = json::name(&piece.bytes);
         Json::Object(vec![
             ("kind", piece.what.name().into()),
-            ("name", piece.name.as_str().into()),
+            name,
+            name_bytes,
             ("offset", piece.start.into()),
             ("size", piece.size.into()),
         ])
@@ -102,6 +105,8 @@ impl What {
 /// A piece of the disc.
 struct Piece {
     what: What,
+    /// A file's is its path, in the image's bytes and as text.
+    bytes: Vec<u8>,
     name: String,
     start: u64,
     size: u64,
@@ -146,11 +151,11 @@ impl Folders {
     /// Those of all layouts: a folder has one colour in all of them.
     fn of(layouts: &[&Layout]) -> Folders {
         let mut names = vec!["/".to_string()];
-        let mut known: HashSet<&str> = HashSet::new();
+        let mut known: HashSet<&[u8]> = HashSet::new();
         for layout in layouts {
             for record in layout.records.iter().skip(1) {
                 if record.folder && record.parent == 0 && known.insert(&record.path) {
-                    names.push(record.path.clone());
+                    names.push(record.text());
                 }
             }
         }
@@ -200,14 +205,14 @@ fn ink(colour: &str) -> &'static str {
 /// All pieces that have bytes. None covers another.
 fn pieces(layout: &Layout, folders: &Folders, marked: &HashSet<u32>) -> Vec<Piece> {
     let mut pieces = Vec::new();
-    let mut add = |what, name: &str, start: u64, size: u64, colour: &str, marked| {
+    let mut add = |what, bytes: &[u8], start: u64, size: u64, colour: &str, marked| {
         if size > 0 {
-            let (name, colour) = (name.to_string(), colour.to_string());
-            pieces.push(Piece { what, name, start, size, colour, marked });
+            let (bytes, name, colour) = (bytes.to_vec(), names::text(bytes), colour.to_string());
+            pieces.push(Piece { what, bytes, name, start, size, colour, marked });
         }
     };
     for region in &layout.free {
-        add(What::Free, "free", region.offset.into(), region.size.into(), FREE, false);
+        add(What::Free, b"free", region.offset.into(), region.size.into(), FREE, false);
     }
     let colours = of_root_folders(layout);
     let known: BTreeMap<&str, &str> = folders.named().collect();
@@ -217,17 +222,17 @@ fn pieces(layout: &Layout, folders: &Folders, marked: &HashSet<u32>) -> Vec<Piec
         let marked = marked.contains(&record.number);
         add(What::File, &record.path, offset.into(), size.into(), colour, marked);
     }
-    add(What::System, "header", 0, 0x440, HEADER, false);
+    add(What::System, b"header", 0, 0x440, HEADER, false);
     // The system area lies around a program before the table.
     let fst = u64::from(layout.fst.0).max(0x440);
     let (start, size) = layout
         .program
         .map_or((fst, 0), |program| (program.place.offset.into(), u64::from(program.place.size)));
     let (from, until) = (start.clamp(0x440, fst), (start + size).clamp(0x440, fst));
-    add(What::System, "system area", 0x440, from - 0x440, SYSTEM, false);
-    add(What::System, "system area", until, fst - until, SYSTEM, false);
-    add(What::Program, "program", start, size, PROGRAM, false);
-    add(What::Table, "table", layout.fst.0.into(), layout.fst.1.into(), TABLE, false);
+    add(What::System, b"system area", 0x440, from - 0x440, SYSTEM, false);
+    add(What::System, b"system area", until, fst - until, SYSTEM, false);
+    add(What::Program, b"program", start, size, PROGRAM, false);
+    add(What::Table, b"table", layout.fst.0.into(), layout.fst.1.into(), TABLE, false);
     pieces
 }
 
@@ -236,7 +241,7 @@ fn of_root_folders(layout: &Layout) -> Vec<String> {
     let mut found: Vec<String> = Vec::with_capacity(layout.records.len());
     for record in &layout.records {
         found.push(match (record.parent, record.folder) {
-            (0, true) => record.path.clone(),
+            (0, true) => record.text(),
             (0, false) => "/".into(),
             (parent, _) => found[parent as usize].clone(),
         });
@@ -264,6 +269,7 @@ fn width(words: &str) -> f64 {
         'f' | 't' | 'r' | '(' | ')' | '[' | ']' | '/' | '\\' | '-' | '"' | '*' => 5.0,
         'm' | 'w' | 'M' | 'W' | '@' | '%' => 11.5,
         'A'..='Z' | '_' | '&' | '#' | '~' | '<' | '>' | '=' | '+' => 9.0,
+        c if text::wide(c) => 12.5,
         _ => 7.5,
     };
     words.chars().map(letter).sum()

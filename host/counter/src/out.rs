@@ -1,6 +1,7 @@
 //! What the program says: answers on standard output, everything else on standard error.
 
 use crate::failure::{Failure, INPUT_OUTPUT, Outcome};
+use crate::names::for_terminal;
 use std::fmt::Arguments;
 use std::io::{self, Write};
 
@@ -17,7 +18,8 @@ macro_rules! eprint {
 /// Writes to standard error, if that can be done.
 pub fn complain(words: Arguments) {
     let mut err = io::stderr().lock();
-    let _ = err.write_all(words.to_string().as_bytes()).and_then(|()| err.flush());
+    let words = for_terminal(&words.to_string());
+    let _ = err.write_all(words.as_bytes()).and_then(|()| err.flush());
 }
 
 /// Writes to standard output.

@@ -120,8 +120,8 @@ fn valued() -> String {
     found.join("|")
 }
 
-/// The paths of an image, from its listing.
-const PATHS: &str = "2>/dev/null | sed -n 's/^[fd] [0-9]* [0-9]* [0-9]* //p'";
+/// The paths of an image, as they are typed.
+const PATHS: &str = "--paths 2>/dev/null";
 
 fn bash() -> String {
     let mut cases = String::new();
@@ -175,7 +175,7 @@ _counter() {{
             eval "image=$image" 2>/dev/null
             while IFS= read -r path; do
                 [[ $path == "$cur"* ]] && COMPREPLY+=("$(printf %q "$path")")
-            done < <(counter list "$image" {PATHS})
+            done < <(counter tree "$image" {PATHS})
             ;;
     esac
 }}
@@ -197,13 +197,15 @@ fn zsh() -> String {
     );
     let _ = write!(
         out,
-        "    found=(${{(f)\"$(counter list ${{(Q)image}} {PATHS})\"}})\n    compadd -a found\n}}\n\n\
+        "    found=(${{(f)\"$(counter tree ${{(Q)image}} {PATHS})\"}})\n    compadd -a found\n}}\n\n\
          _counter() {{\n    local -a commands\n    commands=(\n"
     );
     for form in FORMS {
         let _ = writeln!(out, "        '{}:{}'", form.name, zsh_quoted(brief(form.words)));
     }
-    out.push_str("        'help:tells about a command, or about safety, exit and json'\n    )\n");
+    out.push_str(
+        "        'help:tells about a command, or about names, safety, exit and json'\n    )\n",
+    );
     out.push_str("    if ((CURRENT == 2)); then\n        _describe command commands\n        return\n    fi\n");
     out.push_str("    shift words\n    ((CURRENT--))\n    case $words[1] in\n");
     let action = |value| match value {
@@ -261,7 +263,7 @@ fn fish() -> String {
          \x20       else if not string match -q -- '-*' $word\n            set n (math $n + 1)\n        end\n    end\n\
          \x20   test $skip = 0; and test \"$kinds[$n]\" = \"$argv[1]\"\nend\n\n\
          function __counter_paths\n    set -l words (commandline -opc)\n    for word in $words[3..-1]\n\
-         \x20       if not string match -q -- '-*' $word\n            counter list $word {PATHS}\n            return\n\
+         \x20       if not string match -q -- '-*' $word\n            counter tree $word {PATHS}\n            return\n\
          \x20       end\n    end\nend\n\ncomplete -c counter -f\n\
          complete -c counter -n '__counter_operand file' -F\n\
          complete -c counter -n '__counter_operand entry' -a '(__counter_paths)'\n"

@@ -6,6 +6,7 @@ use crate::failure::{CUT, Failure, INPUT_OUTPUT, Outcome, UNSAID};
 use crate::image::{Desk, Image};
 use crate::journal::{self, Journal};
 use crate::json::Json;
+use crate::names::for_terminal;
 use crate::out::say;
 use crate::progress::Progress;
 use crate::redo::{self, Owned};
@@ -27,7 +28,8 @@ pub fn recover(args: &Args) -> Outcome<()> {
             format!("finished an edit that was cut: {words}\ndone: written and synced\n")
         }
     };
-    if finished.is_some() { finish(&told) } else { say(told.as_bytes()) }
+    let told = for_terminal(&told).into_bytes();
+    if finished.is_some() { finish(&told) } else { say(&told) }
 }
 
 fn json(finished: Option<&str>) -> Json {
@@ -41,8 +43,8 @@ fn json(finished: Option<&str>) -> Json {
 
 /// Says the last word of an edit; that it is done and synced is told by the status too. Then a signal
 /// that came meanwhile has its turn.
-pub fn finish(text: &str) -> Outcome<()> {
-    if let Err(why) = say(text.as_bytes()) {
+pub fn finish(text: &[u8]) -> Outcome<()> {
+    if let Err(why) = say(text) {
         let text =
             format!("the edit is done and synced, but its answer could not be printed: {why}");
         return Err(Failure::error(UNSAID, text));

@@ -7,6 +7,7 @@ use crate::given::Given;
 use crate::layout::Layout;
 use crate::manifest::sums;
 use crate::map;
+use crate::names;
 use crate::out::say;
 use crate::progress::Progress;
 use crate::save::{save, vacant};
@@ -123,7 +124,7 @@ fn verdict(out: &mut String, found: &Comparison, passed: bool) {
     let broken: Vec<&Row> = found.rows.iter().filter(|row| row.breaks()).collect();
     let areas = found.areas.iter().filter(|area| area.changed).map(|area| escape(area.name));
     let told = broken.iter().take(8).map(|row| {
-        format!("<code>{}</code> ({})", escape(&row.path), row.status().replace('+', ", "))
+        format!("<code>{}</code> ({})", path(&row.path), row.status().replace('+', ", "))
     });
     let mut told: Vec<String> = areas.chain(told).collect();
     if broken.len() > 8 {
@@ -139,6 +140,10 @@ fn verdict(out: &mut String, found: &Comparison, passed: bool) {
         );
     }
     out.push_str("</section>\n");
+}
+
+fn path(bytes: &[u8]) -> String {
+    escape(&names::text(bytes))
 }
 
 fn capital(words: &str) -> String {
@@ -209,7 +214,7 @@ fn listed(out: &mut String, found: &Comparison) {
     }
     if !found.unknown.is_empty() {
         let paths: Vec<String> =
-            found.unknown.iter().map(|path| format!("<code>{}</code>", escape(path))).collect();
+            found.unknown.iter().map(|unknown| format!("<code>{}</code>", path(unknown))).collect();
         let _ = writeln!(out, "<p class=\"loud\">In neither image: {}.</p>", paths.join(", "));
     }
     out.push_str("</section>\n");
@@ -232,7 +237,7 @@ fn files(out: &mut String, rows: &[&Row], sums: &Sums) {
             "<article><h3><code>{}</code> <span class=\"tag\">{}</span> \
              <span class=\"tag {class}\">{leave}</span></h3>\n<table>\n<thead><tr><th></th>\
              <th class=\"right\">Place</th><th class=\"right\">Bytes</th><th>SHA-256</th></tr></thead>",
-            escape(&row.path),
+            path(&row.path),
             row.status().replace('+', ", ")
         );
         file(out, "before", row.before.zip(sums.0));
@@ -276,7 +281,7 @@ fn folders(out: &mut String, found: &Comparison) {
         let _ = writeln!(
             out,
             "<tr><td><code>{}</code></td><td>{}</td><td><span class=\"tag {class}\">{leave}</span></td></tr>",
-            escape(&row.path),
+            path(&row.path),
             row.status()
         );
     }

@@ -161,11 +161,11 @@ mod intel {
     }
 }
 
-/// A sum as people write it.
-pub fn hex(sum: &Sum) -> String {
+/// Bytes as people write a sum: in base sixteen, two digits each.
+pub fn hex(bytes: &[u8]) -> String {
     use std::fmt::Write;
-    let mut out = String::with_capacity(64);
-    for byte in sum {
+    let mut out = String::with_capacity(2 * bytes.len());
+    for byte in bytes {
         let _ = write!(out, "{byte:02x}");
     }
     out

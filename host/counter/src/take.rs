@@ -4,50 +4,45 @@ use crate::args::Args;
 use crate::disc::{Disc, Kind, Node, opened};
 use crate::failure::{CANNOT_CREATE, Failure, Outcome};
 use crate::image::{Desk, Image};
-use crate::json::Json;
+use crate::json::{self, Json};
+use crate::names::{self, for_terminal, shown};
 use crate::out::say;
 use crate::progress::Progress;
 use crate::save::{pump, save_window};
-use crate::text::{counted, human, shown};
+use crate::sha256::hex;
+use crate::text::{counted, human};
 use counter_sys::{self as counter, Window};
-use std::collections::HashSet;
-use std::fmt::Write;
+use std::collections::HashMap;
+use std::ffi::OsString;
 use std::fs;
-use std::io;
+use std::io::{self, Write};
+use std::os::unix::ffi::{OsStrExt, OsStringExt};
 use std::path::{Path, PathBuf};
 
-fn window_of(image: &Image, desk: &mut Desk, number: u32, path: &str) -> Outcome<Window> {
+fn window_of(image: &Image, desk: &mut Desk, number: u32, path: &[u8]) -> Outcome<Window> {
     counter::open_file(image.bytes(), &mut desk.lend(), number)
-        .map_err(|refused| Failure::refused(refused, path))
+        .map_err(|refused| Failure::refused(refused, names::text(path)))
 }
 
 // cat -------------------------------------------------------------------------------------
 
 pub fn cat(args: &Args) -> Outcome<()> {
     let (image, mut desk, disc) = opened(args.image.as_deref())?;
-    let path = args.bytes(0);
+    let path = args.entry(0)?;
     let node = disc.find(&image, &mut desk, &path)?;
-    let window = window_of(&image, &mut desk, node.number, &shown(&path))?;
+    let window = window_of(&image, &mut desk, node.number, &path)?;
     let progress = Progress::start("cat", window.length);
     if !args.json {
         return pump(&image, window, &progress, say);
     }
     let Kind::File { offset, size } = node.kind else { unreachable!("a window is of a file") };
-    let head = Json::Object(vec![
-        ("path", node.path.as_str().into()),
-        ("offset", offset.into()),
-        ("size", size.into()),
-    ]);
+    let mut fields = Vec::from(json::path(&node.path));
+    fields.extend([("offset", offset.into()), ("size", size.into())]);
+    let head = Json::Object(fields);
     let head = head.document();
     let head = head.trim_end_matches(['\n', '}']);
     say(format!("{head},\n  \"hex\": \"").as_bytes())?;
-    pump(&image, window, &progress, |part| {
-        let mut text = String::with_capacity(2 * part.len());
-        for byte in part {
-            let _ = write!(text, "{byte:02x}");
-        }
-        say(text.as_bytes())
-    })?;
+    pump(&image, window, &progress, |part| say(hex(part).as_bytes()))?;
     say(b"\"\n}\n")
 }
 
@@ -63,12 +58,12 @@ struct Plan {
 pub fn extract(args: &Args) -> Outcome<()> {
     let (image, mut desk, disc) = opened(args.image.as_deref())?;
     let disc = disc.with_paths()?;
-    let node = disc.find(&image, &mut desk, &args.bytes(0))?;
+    let node = disc.find(&image, &mut desk, &args.entry(0)?)?;
     let mut to = args.path(1);
     if !node.is_directory() && to.is_dir() {
-        to.push(&node.name);
+        to.push(file_name(node));
     }
-    let plan = plan(&disc, node, &to);
+    let plan = plan(&disc, node, &to, args.number)?;
     let mut out = Vec::new();
     if node.is_directory() {
         folder(&to)?;
@@ -90,11 +85,11 @@ pub fn extract(args: &Args) -> Outcome<()> {
 fn report(args: &Args, plan: &Plan, out: &[(&Node, &PathBuf, u64)]) -> Outcome<()> {
     if args.json {
         let files = out.iter().map(|(node, path, size)| {
-            Json::Object(vec![
-                ("path", node.path.as_str().into()),
-                ("file", path.display().to_string().into()),
-                ("size", (*size).into()),
-            ])
+            let mut fields = Vec::from(json::path(&node.path));
+            fields.push(("file", path.display().to_string().into()));
+            fields.push(("file_bytes", hex(path.as_os_str().as_bytes()).into()));
+            fields.push(("size", (*size).into()));
+            Json::Object(fields)
         });
         let json = Json::Object(vec![
             ("bytes", plan.bytes.into()),
@@ -102,12 +97,23 @@ fn report(args: &Args, plan: &Plan, out: &[(&Node, &PathBuf, u64)]) -> Outcome<(
         ]);
         return say(json.document().as_bytes());
     }
-    let mut text = String::new();
+    let mut text = Vec::new();
     for (node, path, size) in out {
-        let _ = writeln!(text, "{} -> {} ({})", node.path, path.display(), human(*size));
+        let file = match names::are_raw() {
+            true => path.as_os_str().as_bytes().to_vec(),
+            false => for_terminal(&path.display().to_string()).into_bytes(),
+        };
+        text.extend([&shown(&node.path)[..], b" -> ", &file].concat());
+        let _ = writeln!(text, " ({})", human(*size));
     }
     let _ = writeln!(text, "{}, {}", counted(out.len(), "file", "files"), human(plan.bytes));
-    say(text.as_bytes())
+    say(&text)
+}
+
+/// What an entry is called outside the image: in UTF-8, or in its bytes. Either way different names stay
+/// different.
+fn file_name(node: &Node) -> OsString {
+    OsString::from_vec(names::written(&node.name))
 }
 
 /// A new folder, or one that is there and empty.
@@ -123,19 +129,25 @@ fn empty(path: &Path) -> bool {
     fs::read_dir(path).is_ok_and(|mut entries| entries.next().is_none())
 }
 
-fn plan(disc: &Disc, top: &Node, to: &Path) -> Plan {
+fn plan(disc: &Disc, top: &Node, to: &Path, number_equal: bool) -> Outcome<Plan> {
     let mut plan = Plan { folders: Vec::new(), files: Vec::new(), bytes: 0 };
     let end = match top.kind {
         Kind::File { .. } => top.number + 1,
         Kind::Directory { next } => next.max(top.number + 1),
     };
     let mut places: Vec<PathBuf> = vec![to.to_path_buf()];
-    let mut taken: HashSet<PathBuf> = HashSet::new();
+    let mut taken: HashMap<PathBuf, u32> = HashMap::new();
     for number in top.number..end {
         let node = &disc.nodes[number as usize];
         if number > top.number {
             let above = &places[(node.parent - top.number) as usize];
-            let place = unused(above, node, &mut taken);
+            let place = match number_equal {
+                true => unused(above, node, &taken),
+                false => above.join(file_name(node)),
+            };
+            if let Some(other) = taken.insert(place.clone(), number) {
+                return Err(one_file(&disc.nodes[other as usize], node, &place));
+            }
             places.push(place);
         }
         let place = &places[(number - top.number) as usize];
@@ -148,13 +160,25 @@ fn plan(disc: &Disc, top: &Node, to: &Path) -> Plan {
             Kind::Directory { .. } => {}
         }
     }
-    plan
+    Ok(plan)
+}
+
+/// Two entries with one name, which nothing outside the image could keep apart.
+fn one_file(first: &Node, second: &Node, place: &Path) -> Failure {
+    let text = format!(
+        "{}: entries {} and {} would be one file, {}; nothing was written (--number keeps them apart)",
+        names::text(&second.path),
+        first.number,
+        second.number,
+        place.display()
+    );
+    Failure::error(CANNOT_CREATE, text)
 }
 
 /// The entry's place in its folder. The second of two equal names gets its number behind it.
-fn unused(above: &Path, node: &Node, taken: &mut HashSet<PathBuf>) -> PathBuf {
-    let mut place = above.join(&node.name);
-    while !taken.insert(place.clone()) {
+fn unused(above: &Path, node: &Node, taken: &HashMap<PathBuf, u32>) -> PathBuf {
+    let mut place = above.join(file_name(node));
+    while taken.contains_key(&place) {
         let mut name = place.into_os_string();
         name.push(format!("~{}", node.number));
         place = PathBuf::from(name);

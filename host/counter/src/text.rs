@@ -35,7 +35,12 @@ pub fn human(size: u64) -> String {
 
 /// One line of `name  value`.
 pub fn line(out: &mut String, name: &str, value: impl Display) {
-    let _ = writeln!(out, "{}", format!("{name:<17} {value}").trim_end());
+    let _ = writeln!(out, "{}", format!("{}{value}", label(name)).trim_end());
+}
+
+/// What a line begins with.
+pub fn label(name: &str) -> String {
+    format!("{name:<17} ")
 }
 
 pub fn hex(number: u32) -> String {
@@ -89,16 +94,23 @@ pub fn number(text: &[u8]) -> Result<u32, String> {
     u32::try_from(value).map_err(|_| large())
 }
 
-/// Bytes of a path or a name, for what is said about them.
-pub fn shown(path: &[u8]) -> String {
+/// Bytes that may be in any code, for what is said about them: those of the header, and arguments.
+pub fn shown(bytes: &[u8]) -> String {
     let mut out = String::new();
-    for &b in path {
+    for &b in bytes {
         match b {
             b' '..=b'~' => out.push(b as char),
             _ => out.push_str(&format!("\\x{b:02x}")),
         }
     }
     out
+}
+
+/// Whether a character takes two columns of a terminal: Unicode's East Asian Width W or F, of those that
+/// Shift-JIS has.
+pub fn wide(c: char) -> bool {
+    matches!(c, '\u{2e80}'..='\u{9fff}' | '\u{f900}'..='\u{faff}' | '\u{ff01}'..='\u{ff60}'
+        | '\u{ffe0}'..='\u{ffe6}')
 }
 
 /// Text without line feeds and the like.

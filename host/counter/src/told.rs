@@ -2,29 +2,36 @@
 
 use crate::call::{Call, Wish};
 use crate::disc::{Disc, Kind, Node};
+use crate::names::shown;
 use crate::text::grouped;
 use crate::trial::Trial;
 use std::collections::HashSet;
-use std::fmt::Write;
+use std::io::Write;
+
+/// A line with a name or a path between its words.
+fn named(out: &mut Vec<u8>, before: &str, path: &[u8], after: &str) {
+    out.extend([before.as_bytes(), &shown(path), after.as_bytes(), b"\n"].concat());
+}
 
 /// `trial` is the edit as it was tried.
-pub fn report(wish: &Wish, call: &Call, before: &Disc, trial: &Trial) -> String {
+pub fn report(wish: &Wish, call: &Call, before: &Disc, trial: &Trial) -> Vec<u8> {
     let (after, found, nothing) = (&trial.after, trial.found, trial.change.is_nothing());
-    let mut out = String::new();
+    let mut out = Vec::new();
     match *call {
         Call::MakeFolders(_) => made(&mut out, before, after, nothing),
         Call::Insert(..) => {
             let number = found.unwrap_or(0);
-            let _ = writeln!(out, "added {} as entry {number}", after.nodes[number as usize].path);
+            let path = &after.nodes[number as usize].path;
+            named(&mut out, "added ", path, &format!(" as entry {number}"));
         }
         Call::Move(at, _) | Call::Resize(at, _) | Call::Fill(at, _) => {
             placed(&mut out, wish, &before.nodes[at as usize], &after.nodes[at as usize], nothing);
         }
-        Call::Rewrite if nothing => out.push_str("the table is as a rewrite leaves it\n"),
-        Call::Rewrite => out.push_str("the table was written anew\n"),
+        Call::Rewrite if nothing => out.extend(b"the table is as a rewrite leaves it\n"),
+        Call::Rewrite => out.extend(b"the table was written anew\n"),
     }
-    if let Call::Move(_, to) = *call {
-        beware(&mut out, to, after.opened.disc_end);
+    for note in notes(call, after) {
+        let _ = writeln!(out, "note: {note}");
     }
     let (old, new) = (before.opened.fst_size, after.opened.fst_size);
     if old != new {
@@ -34,23 +41,24 @@ pub fn report(wish: &Wish, call: &Call, before: &Disc, trial: &Trial) -> String 
 }
 
 /// Places that the scope paper allows and other programs stumble over (docs/PEERS.md).
-fn beware(out: &mut String, to: u32, disc_end: u32) {
+pub fn notes(call: &Call, after: &Disc) -> Vec<String> {
+    let Call::Move(_, to) = *call else { return Vec::new() };
+    let mut notes = Vec::new();
     if !to.is_multiple_of(4) {
-        let _ = writeln!(out, "note: {to:#x} is no multiple of 4; other programs may not read it");
+        notes.push(format!("{to:#x} is no multiple of 4; other programs may not read it"));
     }
-    if to > disc_end {
-        let _ = writeln!(
-            out,
-            "note: {to:#x} is behind the disc end; other programs may not read the image"
-        );
+    if to > after.opened.disc_end {
+        notes
+            .push(format!("{to:#x} is behind the disc end; other programs may not read the image"));
     }
+    notes
 }
 
-fn made(out: &mut String, before: &Disc, after: &Disc, nothing: bool) {
+fn made(out: &mut Vec<u8>, before: &Disc, after: &Disc, nothing: bool) {
     // Where paths are not kept, `entry N` stands for them, and only the new numbers are told.
-    let known: HashSet<&str> = before.nodes.iter().map(|node| node.path.as_str()).collect();
-    for node in after.nodes.iter().filter(|node| !known.contains(node.path.as_str())) {
-        let _ = writeln!(out, "made {} as entry {}", node.path, node.number);
+    let known: HashSet<&[u8]> = before.nodes.iter().map(|node| &node.path[..]).collect();
+    for node in after.nodes.iter().filter(|node| !known.contains(&node.path[..])) {
+        named(out, "made ", &node.path, &format!(" as entry {}", node.number));
     }
     if out.is_empty() {
         let anew = if nothing { "" } else { "; the table was written anew" };
@@ -58,7 +66,7 @@ fn made(out: &mut String, before: &Disc, after: &Disc, nothing: bool) {
     }
 }
 
-fn placed(out: &mut String, wish: &Wish, before: &Node, after: &Node, nothing: bool) {
+fn placed(out: &mut Vec<u8>, wish: &Wish, before: &Node, after: &Node, nothing: bool) {
     let (Kind::File { offset, size }, Kind::File { offset: to, size: now }) =
         (before.kind, after.kind)
     else {
@@ -66,21 +74,25 @@ fn placed(out: &mut String, wish: &Wish, before: &Node, after: &Node, nothing: b
     };
     let path = &after.path;
     let (old, new) = (grouped(size.into()), grouped(now.into()));
-    let _ = match wish {
-        Wish::Resize(..) if size == now => writeln!(out, "{path} has {new} bytes already"),
-        Wish::Resize(..) => writeln!(out, "resized {path}: {old} -> {new} bytes"),
+    match wish {
+        Wish::Resize(..) if size == now => {
+            named(out, "", path, &format!(" has {new} bytes already"))
+        }
+        Wish::Resize(..) => named(out, "resized ", path, &format!(": {old} -> {new} bytes")),
         Wish::Fill(_, clip) if nothing => {
-            writeln!(out, "{path} holds {} already, byte for byte: {new} bytes", clip.name)
+            let holds = format!(" holds {} already, byte for byte: {new} bytes", clip.name);
+            named(out, "", path, &holds);
         }
         Wish::Fill(_, clip) => {
-            writeln!(out, "filled {path} with {}, byte for byte: {old} -> {new} bytes", clip.name)
+            let with = format!(" with {}, byte for byte: {old} -> {new} bytes", clip.name);
+            named(out, "filled ", path, &with);
         }
-        _ => Ok(()),
-    };
+        _ => {}
+    }
     if offset != to {
-        let _ = writeln!(out, "moved {path}: {offset:#x} -> {to:#x}, {new} bytes");
+        named(out, "moved ", path, &format!(": {offset:#x} -> {to:#x}, {new} bytes"));
     } else if !matches!(wish, Wish::Resize(..)) {
-        let _ = writeln!(out, "{path} stays at {to:#x}");
+        named(out, "", path, &format!(" stays at {to:#x}"));
     }
     if now > size && matches!(wish, Wish::Resize(..)) {
         let from = u64::from(to) + u64::from(size);

@@ -4,12 +4,13 @@ use crate::args::Args;
 use crate::disc::{Disc, Kind, Node, not_opened, opened};
 use crate::failure::{Failure, Outcome};
 use crate::image::{Desk, Image};
-use crate::json::Json;
+use crate::json::{self, Json};
+use crate::names::{columns, shown};
 use crate::out::say;
 use crate::program::Program;
 use crate::text::{counted, human};
 use counter_sys::{self as counter, Region};
-use std::fmt::Write;
+use std::io::Write;
 
 // list ------------------------------------------------------------------------------------
 
@@ -35,7 +36,7 @@ pub fn list(args: &Args) -> Outcome<()> {
 /// No line is longer but for its path.
 const LINE: usize = 48;
 
-/// The library's own listing.
+/// The library's own listing, names in their bytes.
 fn list_whole(image: &Image, desk: &mut Desk, disc: &Disc) -> Outcome<()> {
     let paths: usize = disc.nodes.iter().map(|node| node.path.len()).sum();
     let mut text = vec![0; paths + LINE * (1 + disc.nodes.len() + disc.free.len())];
@@ -48,27 +49,29 @@ const PART: usize = 1 << 20;
 
 /// The same where the paths are too long to be held at once: names can share one long text.
 fn list_in_parts(image: &Image, disc: &Disc) -> Outcome<()> {
-    let mut out = format!("total {} used {}\n", disc.opened.disc_end, disc.opened.used);
+    let mut out =
+        format!("total {} used {}\n", disc.opened.disc_end, disc.opened.used).into_bytes();
     for node in &disc.nodes {
         let (letter, first, second) = match node.kind {
             Kind::File { offset, size } => ('f', offset, size),
             Kind::Directory { next } => ('d', node.parent, next),
         };
-        let path = disc.path(image, node);
-        let _ = writeln!(out, "{letter} {} {first} {second} {path}", node.number);
+        let _ = write!(out, "{letter} {} {first} {second} ", node.number);
+        out.extend(disc.path(image, node));
+        out.push(b'\n');
         if out.len() > PART {
-            say(out.as_bytes())?;
+            say(&out)?;
             out.clear();
         }
     }
     for region in &disc.free {
         let _ = writeln!(out, "r {} {}", region.offset, region.size);
     }
-    say(out.as_bytes())
+    say(&out)
 }
 
-/// An entry as JSON: what a file has, or what a directory has.
-pub fn node_json(node: &Node) -> Json {
+/// An entry in JSON, but for its path or name: what a file has, or what a directory has.
+pub fn node_fields(node: &Node) -> Vec<(&'static str, Json)> {
     let mut fields = vec![("number", Json::from(node.number))];
     match node.kind {
         Kind::File { offset, size } => {
@@ -83,8 +86,7 @@ pub fn node_json(node: &Node) -> Json {
             fields.push(("next", next.into()));
         }
     }
-    fields.push(("path", node.path.as_str().into()));
-    Json::Object(fields)
+    fields
 }
 
 pub fn region_fields(region: &Region) -> Vec<(&'static str, Json)> {
@@ -96,10 +98,15 @@ pub fn free_json(free: &[Region]) -> Json {
 }
 
 fn list_json(disc: &Disc) -> Json {
+    let entries = disc.nodes.iter().map(|node| {
+        let mut fields = node_fields(node);
+        fields.extend(json::path(&node.path));
+        Json::Object(fields)
+    });
     Json::Object(vec![
         ("total", disc.opened.disc_end.into()),
         ("used", disc.opened.used.into()),
-        ("entries", Json::List(disc.nodes.iter().map(node_json).collect())),
+        ("entries", Json::List(entries.collect())),
         ("free", free_json(&disc.free)),
     ])
 }
@@ -128,11 +135,9 @@ pub fn tree(args: &Args) -> Outcome<()> {
     let disc = disc.with_paths()?;
     let weights = weights(&disc);
     if !args.json {
-        return say(tree_text(&disc, &weights).as_bytes());
+        return say(&if args.paths { paths(&disc) } else { tree_text(&disc, &weights) });
     }
-    let Json::Object(mut fields) = branch_json(&disc, &weights, 0) else {
-        unreachable!("the root is an object")
-    };
+    let mut fields = branch_fields(&disc, &weights, 0);
     fields.push(("program", Program::read(&image, &mut desk, &disc.opened)?.into()));
     say(Json::Object(fields).document().as_bytes())
 }
@@ -155,31 +160,49 @@ fn children(disc: &Disc, number: u32) -> Vec<u32> {
 }
 
 /// Directories are at most 64 deep, so this goes at most 65 deep.
-fn branch_json(disc: &Disc, weights: &[(u64, usize)], number: u32) -> Json {
+fn branch_fields(disc: &Disc, weights: &[(u64, usize)], number: u32) -> Vec<(&'static str, Json)> {
     let node = &disc.nodes[number as usize];
-    let Json::Object(mut fields) = node_json(node) else { unreachable!("an entry is an object") };
-    fields.pop();
-    fields.push(("name", node.name.as_str().into()));
+    let mut fields = node_fields(node);
+    fields.extend(json::name(&node.name));
     if node.is_directory() {
         let below = children(disc, number);
         fields.push(("bytes", weights[number as usize].0.into()));
         fields.push(("files", weights[number as usize].1.into()));
-        let below = below.into_iter().map(|child| branch_json(disc, weights, child));
-        fields.push(("children", Json::List(below.collect())));
+        let below = below.into_iter().map(|child| branch_fields(disc, weights, child));
+        fields.push(("children", Json::List(below.map(Json::Object).collect())));
     }
-    Json::Object(fields)
+    fields
 }
 
-fn tree_text(disc: &Disc, weights: &[(u64, usize)]) -> String {
-    let mut rows = Vec::new();
+/// Every path on a line of its own.
+fn paths(disc: &Disc) -> Vec<u8> {
+    disc.nodes.iter().flat_map(|node| [shown(&node.path), b"\n".to_vec()]).flatten().collect()
+}
+
+/// A line of the tree: the branches before a name, the name, and what is said about it.
+struct Row {
+    before: String,
+    name: Vec<u8>,
+    about: String,
+}
+
+impl Row {
+    fn columns(&self) -> usize {
+        self.before.len() + columns(&self.name)
+    }
+}
+
+fn tree_text(disc: &Disc, weights: &[(u64, usize)]) -> Vec<u8> {
     let (bytes, files) = weights[0];
-    rows.push(("/".to_string(), about_folder(bytes, files)));
+    let about = about_folder(bytes, files);
+    let mut rows = vec![Row { before: String::new(), name: b"/".to_vec(), about }];
     branch(disc, weights, 0, "", &mut rows);
-    let width = rows.iter().map(|(name, _)| name.chars().count()).max().unwrap_or(0);
-    let mut out = String::new();
-    for (name, about) in rows {
-        let gap = " ".repeat(width - name.chars().count());
-        let _ = writeln!(out, "{name}{gap}  {about}");
+    let width = rows.iter().map(Row::columns).max().unwrap_or(0);
+    let mut out = Vec::new();
+    for row in rows {
+        out.extend(row.before.as_bytes());
+        out.extend(shown(&row.name));
+        let _ = writeln!(out, "{}  {}", " ".repeat(width - row.columns()), row.about);
     }
     out
 }
@@ -188,30 +211,21 @@ fn about_folder(bytes: u64, files: usize) -> String {
     format!("{:>9}  {}", human(bytes), counted(files, "file", "files"))
 }
 
-fn branch(
-    disc: &Disc,
-    weights: &[(u64, usize)],
-    number: u32,
-    before: &str,
-    rows: &mut Vec<(String, String)>,
-) {
+fn branch(disc: &Disc, weights: &[(u64, usize)], number: u32, before: &str, rows: &mut Vec<Row>) {
     let below = children(disc, number);
     for (i, &child) in below.iter().enumerate() {
         let last = i + 1 == below.len();
         let node = &disc.nodes[child as usize];
-        let knee = if last { "`-- " } else { "|-- " };
-        match node.kind {
+        let knee = format!("{before}{}", if last { "`-- " } else { "|-- " });
+        let (bytes, files) = weights[child as usize];
+        let (end, about): (&[u8], String) = match node.kind {
             Kind::File { offset, size } => {
-                let about = format!("{:>9}  at {offset:#010x}", human(size.into()));
-                rows.push((format!("{before}{knee}{}", node.name), about));
+                (b"", format!("{:>9}  at {offset:#010x}", human(size.into())))
             }
-            Kind::Directory { .. } => {
-                let (bytes, files) = weights[child as usize];
-                let name = format!("{before}{knee}{}/", node.name);
-                rows.push((name, about_folder(bytes, files)));
-                let before = format!("{before}{}", if last { "    " } else { "|   " });
-                branch(disc, weights, child, &before, rows);
-            }
-        }
+            Kind::Directory { .. } => (b"/", about_folder(bytes, files)),
+        };
+        rows.push(Row { before: knee, name: [&node.name, end].concat(), about });
+        let before = format!("{before}{}", if last { "    " } else { "|   " });
+        branch(disc, weights, child, &before, rows);
     }
 }

@@ -2,7 +2,8 @@
 //! number; this looks at table and program once more, and is silent where it finds no such trouble.
 
 use crate::header::Header;
-use crate::text::{section, shown};
+use crate::names::{self, is_fit, is_unsafe, units};
+use crate::text::section;
 use counter_sys::HEADER_SIZE;
 
 /// What is wrong, if the refusal `number` can be told in more words.
@@ -85,10 +86,14 @@ fn program(image: &[u8]) -> Option<String> {
 
 /// The start of a name, which may be long.
 fn short(name: &[u8]) -> String {
-    match name.len() {
-        0..=60 => shown(name),
-        _ => format!("{}...", shown(&name[..60])),
+    let mut len = 0;
+    for unit in units(name) {
+        if len + unit.len() > 60 {
+            return format!("{}...", names::text(&name[..len]));
+        }
+        len += unit.len();
     }
+    names::text(name)
 }
 
 /// What a used region holds.
@@ -141,10 +146,14 @@ impl<'a> Table<'a> {
         self.bytes.get(12 * self.count..).unwrap_or_default()
     }
 
+    fn name(&self, k: usize) -> &'a [u8] {
+        let rest = self.texts().get(self.name_offset(k)..).unwrap_or_default();
+        rest.split(|&b| b == 0).next().unwrap_or_default()
+    }
+
     /// The start of an entry's name, for what is said about it.
     fn called(&self, k: usize) -> String {
-        let rest = self.texts().get(self.name_offset(k)..).unwrap_or_default();
-        short(rest.split(|&b| b == 0).next().unwrap_or_default())
+        short(self.name(k))
     }
 
     fn words(&self, number: u32) -> Option<String> {
@@ -167,8 +176,10 @@ impl<'a> Table<'a> {
                 Some(format!("entry {k} has name offset {}", self.name_offset(k)))
             }
             12 | 13 => {
-                let k = self.name(number)?;
-                Some(format!("entry {k} is called \"{}\"", self.called(k)))
+                let k = self.misnamed(number)?;
+                let why = names::trouble(self.name(k), number).map(|why| format!(": {why}"));
+                let called = self.called(k);
+                Some(format!("entry {k} is called \"{called}\"{}", why.unwrap_or_default()))
             }
             14 => self.misplaced().or_else(|| self.overlap()),
             _ => None,
@@ -195,18 +206,16 @@ impl<'a> Table<'a> {
 
     /// The first entry whose name is none. Many names may share one long text, so each byte of the
     /// texts is looked at once, from the last to the first, and not once a name.
-    fn name(&self, number: u32) -> Option<usize> {
+    fn misnamed(&self, number: u32) -> Option<usize> {
         let texts = self.texts();
         let mut wrong = vec![false; texts.len() + 1];
         let mut ended = vec![false; texts.len() + 1];
         for i in (0..texts.len()).rev() {
-            let byte = texts[i];
-            let meant = match number {
-                12 => !(b' '..=b'~').contains(&byte),
-                _ => b"/\\:".contains(&byte),
-            };
-            ended[i] = byte == 0;
-            wrong[i] = byte != 0 && (meant || wrong[i + 1]);
+            // What a name that begins here holds first; another cut may make a pair of other bytes.
+            let Some(unit) = units(&texts[i..]).next() else { continue };
+            let meant = if number == 12 { !is_fit(unit) } else { is_unsafe(unit) };
+            ended[i] = texts[i] == 0;
+            wrong[i] = !ended[i] && (meant || wrong[i + unit.len()]);
         }
         // `.`, `..` and no name at all are unsafe, with number 13.
         let dots = |at: usize| {

@@ -273,7 +273,7 @@ fn add_puts_an_empty_file_last() {
     refused(&image, &["add", "audio/.."], 13);
     refused(&image, &["add", "audio/a:b"], 13);
     refused(&image, &["add", "audio/a\\b"], 13);
-    refused(&image, &["add", "audio/caf\u{e9}"], 12);
+    refused(&image, &["add", "audio/caf\\x80"], 12);
     accepted(&image, &["add", "/last"]);
     accepted(&image, &["resize", "/last", "0x100"]);
     assert_eq!(Table::of(&image).entry("/last").size, 0x100);
@@ -294,7 +294,7 @@ fn mkdir_makes_all_folders_of_a_path_or_none() {
     refused(&image, &["mkdir", "opening.bnr/x"], 17);
     refused(&image, &["mkdir", "new/../.."], 18);
     refused(&image, &["mkdir", "new/a:b"], 13);
-    refused(&image, &["mkdir", "new/caf\u{e9}"], 12);
+    refused(&image, &["mkdir", "new/caf\\x80"], 12);
     refused(&image, &["mkdir", &"x/".repeat(65)], 9);
     refused(&image, &["mkdir", &"x".repeat(1025)], 9);
     assert_eq!(done("list", &image, &[]), Table::of(&image).listing());

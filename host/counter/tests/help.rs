@@ -33,6 +33,7 @@ fn shell(temp: &Temp, line: &str) -> Run {
         .args(["-c", line])
         .current_dir(temp.at(""))
         .env("PATH", path)
+        .env("LC_ALL", "C.UTF-8")
         .output()
         .unwrap()
         .into()
@@ -66,6 +67,8 @@ fn help_comes_in_every_way_and_is_about_its_command_alone() {
         "--dry-run",
         "--all",
         "--clusters",
+        "--paths",
+        "--bytes",
         "--demo",
         "--out",
         "--given",

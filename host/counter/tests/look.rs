@@ -220,8 +220,8 @@ fn check_names_number_and_cause() {
             put(b, 0x454, 3)
         }),
         (11, "the texts' end (entry 1 has name offset 2)", |b| put(b, 0x44C, 2)),
-        (12, "name byte (entry 1 is called \"\\x80\")", |b| b[0x458] = 0x80),
-        (13, "unsafe or empty name (entry 1 is called \":\")", |b| b[0x458] = b':'),
+        (12, "name byte (entry 1 is called \"\\x80\": the byte 0x80)", |b| b[0x458] = 0x80),
+        (13, "unsafe or empty name (entry 1 is called \":\": it holds :)", |b| b[0x458] = b':'),
     ];
     for (number, words, spoil) in cases {
         let mut bytes = small_master();
@@ -341,7 +341,7 @@ fn nothing_is_overwritten() {
 }
 
 #[test]
-fn equal_names_are_all_extracted() {
+fn equal_names_are_not_made_one_file() {
     let temp = Temp::new();
     let entries = vec![
         file("x", 0x6_0000, 5),
@@ -351,7 +351,11 @@ fn equal_names_are_all_extracted() {
     let image = temp.at("equal.iso");
     sparse(&image, &entries, END);
     let out = temp.at("out");
-    done("extract", &image, &["--all", out.to_str().unwrap()]);
+    let run = on("extract", &image, &["--all", out.to_str().unwrap()]);
+    assert_eq!(run.status, 73);
+    assert!(run.err.contains("/x: entries 1 and 2 would be one file"), "{}", run.err);
+    assert!(!out.exists());
+    done("extract", &image, &["--all", "--number", out.to_str().unwrap()]);
     assert_eq!(fs::read(out.join("x")).unwrap(), span(&image, 0x6_0000, 5));
     assert_eq!(fs::read(out.join("x~2")).unwrap(), span(&image, 0x6_1000, 6));
     assert_eq!(fs::read(out.join("x~3/y")).unwrap(), span(&image, 0x6_2000, 7));

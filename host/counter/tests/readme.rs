@@ -37,6 +37,7 @@ fn the_worked_example_is_what_the_program_says() {
             .args(["-c", &format!("exec 2>&1; {command}")])
             .current_dir(temp.at(""))
             .env("PATH", &path)
+            .env("LC_ALL", "C.UTF-8")
             .output()
             .unwrap();
         assert_eq!(String::from_utf8_lossy(&run.stdout), *wanted, "{command}");

@@ -84,7 +84,7 @@ fn no_image_makes_the_program_fall_over() {
             &["find", "d/e"],
             &["dol"],
             &["map", svg],
-            &["extract", "--all", out],
+            &["extract", "--all", "--number", out],
             &["compare", itself],
             &["report", itself, html],
             &["hash"],

@@ -84,7 +84,8 @@ unsafe extern "C" {
 /// the background may ignore some, and what is ignored would stay so.
 pub fn program() -> Command {
     let mut command = Command::new(env!("CARGO_BIN_EXE_counter"));
-    command.stdin(Stdio::null());
+    // Whoever runs the tests may have another locale.
+    command.stdin(Stdio::null()).env("LC_ALL", "C.UTF-8");
     // Only where it is wanted: a plain start takes a third of the time.
     if signals_are_ignored() {
         // SAFETY: between fork and exec only `signal` is called, which may be called there.
@@ -252,18 +253,18 @@ pub fn filled_master() -> Vec<u8> {
     image
 }
 
-/// A wish for a tree.
+/// A wish for a tree. Names are bytes.
 pub enum Wish {
-    File(&'static str, u32, u32),
-    Folder(&'static str, Vec<Wish>),
+    File(Vec<u8>, u32, u32),
+    Folder(Vec<u8>, Vec<Wish>),
 }
 
-pub fn file(name: &'static str, offset: u32, size: u32) -> Wish {
-    Wish::File(name, offset, size)
+pub fn file(name: impl AsRef<[u8]>, offset: u32, size: u32) -> Wish {
+    Wish::File(name.as_ref().to_vec(), offset, size)
 }
 
-pub fn folder(name: &'static str, entries: Vec<Wish>) -> Wish {
-    Wish::Folder(name, entries)
+pub fn folder(name: impl AsRef<[u8]>, entries: Vec<Wish>) -> Wish {
+    Wish::Folder(name.as_ref().to_vec(), entries)
 }
 
 /// A table in YAGCD's layout.
@@ -284,7 +285,7 @@ fn lay(entries: &[Wish], parent: u32, records: &mut Vec<[u32; 3]>, texts: &mut V
     for wish in entries {
         let at = texts.len() as u32;
         let (Wish::File(name, ..) | Wish::Folder(name, ..)) = wish;
-        texts.extend(name.bytes());
+        texts.extend(name);
         texts.push(0);
         match wish {
             Wish::File(_, offset, size) => records.push([at, *offset, *size]),
@@ -435,6 +436,8 @@ pub struct Entry {
     pub folder: bool,
     /// Without `/` at the end; the root's is empty.
     pub path: String,
+    /// The same as it is in the image.
+    pub bytes: Vec<u8>,
     pub parent: u32,
     pub offset: u32,
     /// A file's size, a folder's next.
@@ -482,15 +485,17 @@ fn read_entries(table: &[u8]) -> Vec<Entry> {
         let name = 12 * count + (get(record, 0) & 0xFF_FFFF) as usize;
         let name = table[name.min(table.len())..].split(|&b| b == 0).next().unwrap();
         let parent = open.last().copied().unwrap_or(0);
-        let path = match i {
-            0 => String::new(),
-            _ => format!("{}/{}", entries[parent as usize].path, String::from_utf8_lossy(name)),
+        let bytes = match i {
+            0 => Vec::new(),
+            _ => [&entries[parent as usize].bytes, &b"/"[..], name].concat(),
         };
         let folder = record[0] == 1;
         if folder {
             open.push(i as u32);
         }
-        entries.push(Entry { folder, path, parent, offset: get(record, 4), size: get(record, 8) });
+        let (path, offset, size) =
+            (String::from_utf8_lossy(&bytes).into_owned(), get(record, 4), get(record, 8));
+        entries.push(Entry { folder, path, bytes, parent, offset, size });
     }
     entries
 }
@@ -528,17 +533,24 @@ impl Table {
 
     /// The scope paper's listing of it.
     pub fn listing(&self) -> String {
+        String::from_utf8_lossy(&self.listing_bytes()).into_owned()
+    }
+
+    pub fn listing_bytes(&self) -> Vec<u8> {
         let files: u64 = self.entries.iter().filter(|e| !e.folder).map(|e| u64::from(e.size)).sum();
         let program = self.program.map_or(0, |(start, end)| end - start);
-        let mut out = format!("total {} used {}\n", self.end, self.table_end + files + program);
+        let used = self.table_end + files + program;
+        let mut out = format!("total {} used {used}\n", self.end).into_bytes();
         for (i, e) in self.entries.iter().enumerate() {
-            out.push_str(&match e.folder {
-                true => format!("d {i} {} {} {}/\n", e.parent, e.size, e.path),
-                false => format!("f {i} {} {} {}\n", e.offset, e.size, e.path),
-            });
+            let (letter, first, end) = match e.folder {
+                true => ('d', e.parent, "/\n"),
+                false => ('f', e.offset, "\n"),
+            };
+            out.extend(format!("{letter} {i} {first} {} ", e.size).as_bytes());
+            out.extend([&e.bytes, end.as_bytes()].concat());
         }
         for (offset, size) in self.free() {
-            out.push_str(&format!("r {offset} {size}\n"));
+            out.extend(format!("r {offset} {size}\n").as_bytes());
         }
         out
     }
@@ -547,9 +559,9 @@ impl Table {
 /// The image at `image` with the file at `path` filled, from the scope paper's words: the clip where the
 /// file lies, if there is room, or else at the largest free multiple of 0x8000, the last among equals;
 /// zeros where the file was and is no more; place and size in the table, which has no name shared.
-pub fn filled(image: &Path, path: &str, clip: &[u8]) -> Vec<u8> {
+pub fn filled(image: &Path, path: impl AsRef<[u8]>, clip: &[u8]) -> Vec<u8> {
     let table = Table::of(image);
-    let number = table.entries.iter().position(|entry| entry.path == path).unwrap();
+    let number = table.entries.iter().position(|entry| entry.bytes == path.as_ref()).unwrap();
     let Entry { offset, size, .. } = table.entries[number];
     let (from, old_end, len) = (u64::from(offset), u64::from(offset + size), clip.len() as u64);
     // An empty file may lie in the midst of free space.
