@@ -6,9 +6,9 @@
 The calls stand below. An answer comes from the unchanged Rust, which carries out the same call, with the checksum of its image.
 Where document 01 says something else than the Rust, or has a limit that the Rust has not, the answer is written here by hand, with the
 reason; the script then insists that the Rust says something else (but for a listing, which the Rust has not, and a window that it cannot make).
-A call that document 02 adds or gives another meaning is answered by hand too. Where a program lies behind the table, the Rust's free list is
-taken with the program out of it, and nothing else of its space. Each call ends with a comment that says where its answer comes from.
-Nothing here comes from the program `replay` or from what it tests."""
+A call that document 02 adds or gives another meaning, and one with a name that the Rust's codec does not turn back, is answered by hand too.
+Where a program lies behind the table, the Rust's free list is taken with the program out of it, and nothing else of its space. Each call ends
+with a comment that says where its answer comes from. Nothing here comes from the program `replay` or from what it tests."""
 import os
 import subprocess
 import sys
@@ -96,19 +96,19 @@ class Script:
 
     # ---- edits
 
-    def edit(self, name, *arguments, note="", paper=None, why="", image=None, of="01"):
+    def edit(self, name, *arguments, note="", paper=None, why="", image=None, of="01", differs=None):
         """An edit. `paper`: the answer by document `of`, `ok`, `ok NUMBER` or the number of a refusal, and `why` the Rust's is not it.
         `image`: where that document accepts what the Rust refuses or is not asked, a function that has the oracle make the image that it
-        describes."""
+        describes. `differs`: whether the Rust has to say something else; so it is for document 01."""
         line = " ".join([CALLS.get(name, name)] + [shown(a) for a in arguments])
         command = " ".join([COMMANDS.get(name, name)] + [str(a) if isinstance(a, int) else a.hex() or "-" for a in arguments])
         if paper is None:
             answer, source = as_answer(self.oracle(command), line), "Rust" + (f"; {note}" if note else "")
         else:
-            answer, source = self.by_hand(command, line, paper, image, of), f"{of}: {why}"
+            answer, source = self.by_hand(command, line, paper, image, of == "01" if differs is None else differs), f"{of}: {why}"
         self.call(line, [answer[0], int(self.oracle.checksum(), 16)] + answer[1:], source)
 
-    def by_hand(self, command, line, paper, image, of):
+    def by_hand(self, command, line, paper, image, differs):
         answer = [paper] if isinstance(paper, int) else [0] + [int(word) for word in paper.split()[1:]]
         self.oracle.setting("save before")
         said = self.oracle(command)
@@ -117,20 +117,21 @@ class Script:
         if image:
             image()
         agrees = is_answer(said) and as_answer(said, line) == answer and image_said == self.oracle.checksum()
-        assert of == "02" or not agrees, (line, "the Rust agrees", said)
+        assert not differs or not agrees, (line, "the Rust agrees", said)
         return answer
 
     # ---- calls that read
 
-    def look(self, name, *arguments, note="", paper=None, why="", of="01"):
-        """A call that reads. `paper`: the answer by document `of`, a number, or 0 and the words of the answer."""
+    def look(self, name, *arguments, note="", paper=None, why="", of="01", differs=None):
+        """A call that reads. `paper`: the answer by document `of`, a number, or 0 and the words of the answer; `differs` as for an edit."""
         line = " ".join([name] + [n(a) if isinstance(a, int) else text(a) for a in arguments])
         said = self.said(name, arguments)
         if paper is None:
             assert said, (line, "no answer by the Rust")
             return self.call(line, said, "Rust" + (f"; {note}" if note else ""))
         answer = [paper] if isinstance(paper, int) else list(paper)
-        assert of == "02" or said != answer, (line, "the Rust agrees", said)
+        differs = of == "01" if differs is None else differs
+        assert not differs or said != answer, (line, "the Rust agrees", said)
         return self.call(line, answer, f"{of}: {why}")
 
     def said(self, name, arguments):
@@ -363,7 +364,7 @@ def new_image(s, text, length, table, fst=0x440, user=None, disc=0, files=(), fr
 # ---- the images
 
 A_AT_500 = directory(0, 0, 2) + file(0, 0x500, 0x100) + b"a\0"
-BYTES = "names have bytes 0x20 to 0x7e"
+BYTES = "a byte that no name has"
 SHARED = "a table grown over a file moved in: the Rust panics after it wrote, or accepts it without overflow checks"
 GROWN = "a table grown over a file grown in place"
 HALF = "half-done refusal: the Rust leaves its copy in the image"
@@ -1698,6 +1699,170 @@ def tables(s):
         s.lend(0x1000, 0x1000)
 
 
+# ---- Japanese names. What the Rust's codec turns back into equal bytes is the Rust's to answer; the oracle skips the rest.
+
+LEAD = "a lead byte without its trail"
+AFRESH = LEAD + "; the byte after it is judged afresh"
+PAIR = "a pair like any other; the Rust's codec does not read it"
+UNWRITTEN = "a pair like any other; the Rust's codec reads it and does not write it"
+OTHER = "a pair like any other; the Rust's codec writes another for it"
+
+
+def japanese(text):
+    return text.encode("shift_jis")
+
+
+def one_name(name):
+    """The small master's table with this name for its file."""
+    return directory(0, 0, 2) + file(0, 0x500, 0x100) + name + b"\0"
+
+
+def names_opened(s):
+    s.lend(0x1000, 0x1000)
+    for name, note in [
+            (japanese("表"), "the trail byte 0x5c is not a backslash"), (japanese("ソフト.bin"), ""), (japanese("構成／予定"), ""), (japanese("＼"), ""),
+            (b"\xA1", "the first single byte"), (b"\xDF", "the last"), (b"\x81\x40", "the first lead byte and the first trail"),
+            (b"\x81\x7E", "trail 0x7e"), (b"\x81\x80", "trail 0x80"), (b"\x9F\xFC", "lead 0x9f, the last trail"), (b"\xE0\x40", "lead 0xe0"),
+            (b"\xFC\x4B", "lead 0xfc"), (b"\x81\x81", ""), (b"\xB1\x95\x5C.", "a single byte, a pair, a dot"), (b".\xB1", ""), (b"..\x95\x5C", ""),
+            (b"\x81\x81\x5C", "a pair, and then a backslash"), (b"\x5C\x81\x81", ""), (b"\x95\x5C\x5C", ""), (b"\x95\x5C:", ""), (b"\x95\x5C/", ""),
+            (b"\x81", LEAD), (b"a\x9F", LEAD), (b"\xE0.", LEAD), (b"\xFC\x3F", LEAD + ": 0x3f is none"), (b"\x81\x7F", "0x7f is no trail"),
+            (b"\x81\xFD", "0xfd is no trail"), (b"\x81:", LEAD + "; 12 before 13"), (b"\x81/", LEAD + "; 12 before 13"), (b"\x81\x95\x5C\x95", LEAD),
+            (b"\xA0", BYTES), (b"\xFD", BYTES), (b"\xFD\x40", "0xfd is no lead byte"), (b"\xFE", BYTES), (b"\xFF", BYTES)]:
+        new_image(s, f"the small master with the name {name.hex(' ')}", 0x2000, one_name(name), files=[(0x500, 0x100)])
+        s.look("open", note=note)
+        s.edit("rewrite")
+    opened = [0, 0x440, 0x1B, 0x2000, 2, 0x55B]
+    for name, answer, why in [
+            (b"\x80", 12, BYTES), (b"\x80\x40", 12, "0x80 is no lead byte"), (b"\x7F", 12, BYTES), (b"\x81\xAD", opened, PAIR), (b"\xFC\xFC", opened, PAIR),
+            (b"\xEF\x5C", opened, PAIR), (b"\x81\xAD:", 13, PAIR + ", and so a colon is met")]:
+        new_image(s, f"the small master with the name {name.hex(' ')}", 0x2000, one_name(name), files=[(0x500, 0x100)])
+        s.look("open", paper=answer, why=why, of="02", differs=True)
+        s.edit("rewrite", paper="ok" if answer == opened else answer, why=why, of="02", differs=True)
+
+
+def names_shared(s):
+    """Each name is cut from its own start, also inside a pair of another."""
+    for text, places in [
+            (japanese("文字.表"), (0, 1, 2, 4, 5)), (japanese("文字.表"), (3,)), (japanese("文字.表"), (6,)), (b"\x81\x95\x5Ca", (0,)), (b"\x81\x95\x5Ca", (1,)),
+            (b"\x81\x95\x5Ca", (2,)), (b"\x81\x95\x5Ca", (3,)), (b"\x83\x83\x83\xB1a", (0, 1, 2, 3, 4)), (b"\xE0\x9F\x83\x5C\xDF", (0, 2, 4)),
+            (b"\xE0\x9F\x83\x5C\xDF", (1,))]:
+        table = directory(0, 0, len(places) + 1) + b"".join(file(at, 0x600 + 0x20 * k, 0x10) for k, at in enumerate(places)) + text + b"\0"
+        new_image(s, f"one text, {text.hex(' ')}, with names from " + ", ".join(map(str, places)), 0x2000, table,
+                  files=[(0x600 + 0x20 * k, 0x10) for k in range(len(places))])
+        s.look("open")
+        for at in places:
+            s.look("lookup", 0, text[at:] if at != 3 or text[0] != 0x95 else b"x")
+        s.edit("rewrite", note="names are no longer shared")
+        s.edit("move", 1, 0x1000)
+
+
+def japanese_table():
+    """字幕, in it 表.bin, ソ and the directory 能, in it ｱ; ｱ; and a, all of them with texts of their own."""
+    texts, places = b"", {}
+    for text in ("字幕", "表.bin", "ソ", "能", "ｱ", "a"):
+        places[text] = len(texts)
+        texts += japanese(text) + b"\0"
+    at = places.__getitem__
+    return (directory(0, 0, 8) + directory(at("字幕"), 0, 6) + file(at("表.bin"), 0x600, 0x100) + file(at("ソ"), 0x800, 0x10)
+            + directory(at("能"), 1, 6) + file(at("ｱ"), 0x820, 0x10) + file(at("ｱ"), 0x840, 0) + file(at("a"), 0x900, 0x10) + texts)
+
+
+def names_looked_up(s):
+    new_image(s, "directories and files with Japanese names, some with the trail byte 0x5c: reading", 0x2000, japanese_table(),
+              files=[(0x600, 0x100), (0x800, 0x10), (0x820, 0x10), (0x900, 0x10)])
+    s.look("open")
+    for k in range(9):
+        s.look("entry", k)
+    s.text("list", 0x400)
+    s.text("report", 0x400)
+    for start, path in [
+            (0, "字幕"), (0, "字幕/表.bin"), (0, "字幕\\表.bin"), (0, "字幕\\能\\ｱ"), (0, "/字幕//能/./"), (0, "字幕/ソ"), (0, "字幕/ソ/"), (0, "字幕/ソ\\"),
+            (0, "ｱ"), (0, "字幕/能/../表.bin"), (0, "字幕/能/ｱ/.."), (1, "能"), (4, "ｱ"), (4, ".."), (0, "表.bin"), (0, "字"), (0, "字幕幕"), (0, "能"),
+            (0, "ｲ"), (0, "字幕/表"), (0, "ａ"), (0, "Ａ"), (8, "字幕")]:
+        s.look("lookup", start, japanese(path))
+    stray = "in a path a lead byte without its trail counts as one byte of its component"
+    for start, path, number, why in [
+            (0, b"\x81", 18, stray), (0, b"a\x81", 18, stray), (0, b"\x81/a", 18, stray), (0, b"\x81/../a", 18, stray), (0, b"a/\x81", 17, stray),
+            (0, japanese("字幕/") + b"\x81/x", 18, stray), (0, b"../\x81", 18, "above the start, before that byte"), (0, b"\xA0", 18, BYTES),
+            (0, b"\xFD\xB1", 18, BYTES), (0, b"\x8E", 18, "the first byte of a name"), (8, b"\x81", 15, "15 before all else"),
+            (0, b"\x9A\x96\x8B", 18, "a name from inside its first pair on"),
+            (0, b"\x81\xAD", 18, PAIR), (0, b"\xF0\x40", 18, UNWRITTEN)]:
+        s.look("lookup", start, path, paper=number, why=why, of="02", differs=True)
+    s.look("lookup", 0, b"\x81\x81\x5C" * 341 + b"/", note="1,024 bytes")
+    s.look("lookup", 0, b"\x81\x81\x5C" * 341 + b"\x81\x81", paper=9, why="a path over 1,024 bytes")
+
+
+def names_edited(s):
+    new_image(s, "the same names: edits", 0x2000, japanese_table(), files=[(0x600, 0x100), (0x800, 0x10), (0x820, 0x10), (0x900, 0x10)])
+    s.edit("rewrite")
+    s.edit("move", 2, 0x1000)
+    s.edit("resize", 2, 0x200)
+    s.edit("replace", 3, Clip(0x20))
+    s.edit("insert_file", 1, japanese("ソ"), note="it is there")
+    s.edit("insert_file", 0, japanese("ソ"))
+    s.edit("insert_directory", 4, japanese("第１話"))
+    s.edit("insert_file", 4, japanese("第１話"))
+    s.edit("make_directories", 0, japanese("字幕\\能\\第１話\\表/十"))
+    s.edit("make_directories", 0, japanese("字幕/能/第１話/表"), note="all exist")
+    s.edit("make_directories", 0, japanese("字幕/ソ/x"))
+    s.edit("make_directories", 0, japanese("ソ/../x"))
+    s.text("list", 0x400)
+    s.edit("move", 5, 0x1400)
+    s.edit("rewrite")
+    s.load()
+    for name in (b"\x81\x81\x5C", b"\x95\x5C:", b"\x95\x5C/a", b"\x5C"):
+        s.edit("insert_file", 0, name)
+        s.edit("insert_directory", 7, name, note="13 before 17")
+    for name, number, why in [
+            (b"\x81", 12, LEAD), (b"a\xE0", 12, LEAD), (b"\x81.", 12, LEAD), (b"\x81\x7F", 12, LEAD), (b"\x81\x20", 12, LEAD), (b"\x81:", 13, AFRESH),
+            (b"\x81/", 13, AFRESH), (b"\x81\x81\x81", 12, LEAD), (b"\x95\x5C\x95", 12, LEAD), (b"\xA0", 12, BYTES), (b"\x80", 12, BYTES),
+            (b"\xFD\x40", 12, BYTES), (b"\x81\xFD", 12, LEAD)]:
+        s.edit("insert_file", 0, name, paper=number, why=why, of="02", differs=True)
+    s.edit("insert_file", 7, b"\x81", paper=17, why=LEAD + "; 17 before 12", of="02", differs=True)
+    s.edit("insert_directory", 8, b"\x81", paper=15, why=LEAD + "; 15 first", of="02", differs=True)
+    for path, number, why in [
+            (b"\x81", 12, LEAD), (b"x/\x81/y", 12, LEAD), (b"\x81/../x", 12, LEAD), (b"\x81/x:", 13, LEAD + "; 12 last"), (b"\x81/../..", 18, LEAD + "; 12 last"),
+            (b"\x81/../a", 17, LEAD + "; 12 last"), (b"\x81:", 13, AFRESH), (b"\x95\x5C\x5C\x95", 12, LEAD),
+            (b"x\x5C\xA0", 12, BYTES), (japanese("字幕/ソ/") + b"\x81", 17, LEAD + "; 12 last")]:
+        s.edit("make_directories", 0, path, paper=number, why=why, of="02", differs=True)
+
+
+def names_that_do_not_come_back(s):
+    def named(at, name, command):
+        """02's image: the Rust's with a pair that comes back, and the name's bytes put in its place."""
+        def make():
+            s.oracle.setting(command)
+            s.oracle.setting(f"patch {at} {name.hex()}")
+        return make
+
+    def stood_for(name, command, at=0x458):
+        """The same for the name that the small master has; `at`: where it lies afterwards."""
+        def make():
+            s.oracle.setting("patch 0x458 8140")
+            named(at, name, command)()
+        return make
+
+    for name, why in [(b"\x81\xAD", PAIR), (b"\xF0\x40", UNWRITTEN), (b"\xED\x40", OTHER), (b"\x87\x90", OTHER)]:
+        new_image(s, f"the small master: {name.hex(' ')} is inserted", 0x2000, A_AT_500, files=[(0x500, 0x100)])
+        s.edit("insert_file", 0, name, paper="ok 2", why=why, of="02", image=named(0x466, name, "insert_file 0 8140"), differs=True)
+        s.look("lookup", 0, name, paper=[0, 2, 0, 0, 0], why=why, of="02", differs=True)
+        s.edit("insert_directory", 0, name, paper=19, why=why, of="02", differs=True)
+        s.load()
+        s.edit("make_directories", 0, name + b"\\" + name, paper="ok 3", why=why, of="02", differs=True,
+               image=lambda name=name: (named(0x472, name, "mkdirs 0 81402f8140")(), s.oracle.setting(f"patch 0x475 {name.hex()}")))
+        new_image(s, f"the small master with the name {name.hex(' ')}", 0x2000, one_name(name), files=[(0x500, 0x100)])
+        s.edit("rewrite", paper="ok", why=why, of="02", differs=True)
+        s.edit("move", 1, 0x600, paper="ok", why=why, of="02", image=stood_for(name, "move 1 0x600"), differs=True)
+        s.edit("resize", 1, 0x80, paper="ok", why=why, of="02", image=stood_for(name, "resize 1 0x80"), differs=True)
+        s.edit("replace", 1, Clip(0x81), paper="ok", why=why, of="02", image=stood_for(name, "replace 1 " + Clip(0x81).hex()), differs=True)
+    for name, other in [(b"\xED\x40", b"\xFA\x5C"), (b"\x87\x90", b"\x81\xE0")]:
+        new_image(s, f"the small master with the name {name.hex(' ')}, which the Rust takes for {other.hex(' ')}", 0x2000, one_name(name),
+                  files=[(0x500, 0x100)])
+        s.look("lookup", 0, other, paper=18, why="other bytes, another name", of="02", differs=True)
+        s.edit("insert_file", 0, other, paper="ok 2", why="other bytes, another name", of="02", differs=True,
+               image=stood_for(name, f"insert_file 0 {other.hex()}", at=0x464))
+
+
 # ---- listings
 
 
@@ -1785,6 +1950,7 @@ def make(oracle):
                        game_names, unopened, limits, inserts, names, made, deep, limits_of_inserts, chain)),
             ("reading", (with_changes, lookups, clusters, headers, fields)), ("windows", (windows, reads, executables)), ("tables", (tables,)),
             ("listing", (listings,)), ("program", (none_named, before_table, behind_table, abutting, unread)),
+            ("names", (names_opened, names_shared, names_looked_up, names_edited, names_that_do_not_come_back)),
             ("fills", (filled, memory_of_fills, fills_elsewhere, fills_and_the_table, fills_of_unopened, fills_beside_the_program))]:
         s.lines = []
         for part in parts:

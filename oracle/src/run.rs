@@ -5,6 +5,7 @@ use crate::dvd::disc::{self, DiscStream, OracleField};
 use crate::dvd::fst::{self, DirectoryEntry, Entry, EntryId, FileEntry, FileTree, OpenFile};
 use crate::dvd::{banner, dol};
 use crate::guard::{self, Image};
+use encoding_rs::SHIFT_JIS;
 use std::collections::HashMap;
 use std::fmt::Write as _;
 use std::fs;
@@ -15,7 +16,7 @@ use std::panic::{AssertUnwindSafe, catch_unwind};
 enum Stop {
     /// The original refused, or the oracle itself did (kinds that begin with `Oracle:`).
     Err(String),
-    /// A name or path that is not UTF-8, which the original cannot be given.
+    /// A name or path that the codec does not turn back into equal bytes.
     Skip,
     /// The original would not come back.
     Huge,
@@ -136,13 +137,47 @@ impl<'a> Words<'a> {
         unhex(self.0.next().unwrap_or("-"))
     }
 
-    fn utf8(&mut self) -> Answer<String> {
-        String::from_utf8(self.bytes()?).map_err(|_| Stop::Skip)
+    /// A name or path as the text that the original reads its bytes as. Bytes that do not come back are
+    /// skipped; those of `any:HEX` only if there is no such text.
+    fn name(&mut self) -> Answer<String> {
+        let word = self.0.next().unwrap_or("-");
+        let (any, digits) = match word.strip_prefix("any:") {
+            Some(digits) => (true, digits),
+            None => (false, word),
+        };
+        let bytes = unhex(digits)?;
+        let text = decoded(&bytes).ok_or(Stop::Skip)?;
+        let back = any || encoded(&text).is_some_and(|again| again == bytes);
+        if back { Ok(text) } else { Err(Stop::Skip) }
     }
 
     fn end(&mut self) -> Answer<()> {
         if self.0.next().is_none() { Ok(()) } else { Err(Stop::Usage("too many words")) }
     }
+}
+
+// Names as bytes and as text, by the two calls of the codec that fst.rs makes ----------------
+
+fn decoded(bytes: &[u8]) -> Option<String> {
+    let text = SHIFT_JIS.decode_without_bom_handling_and_without_replacement(bytes)?;
+    Some(text.into_owned())
+}
+
+fn encoded(text: &str) -> Option<Vec<u8>> {
+    let (bytes, _, unmappable) = SHIFT_JIS.encode(text);
+    (!unmappable).then(|| bytes.into_owned())
+}
+
+/// What the codec makes of bytes: `same`, others, `none` that it can write, or no text at all.
+fn codec(mut words: Words) -> Answer<String> {
+    let bytes = words.bytes()?;
+    words.end()?;
+    Ok(match decoded(&bytes).map(|text| encoded(&text)) {
+        Some(Some(again)) if again == bytes => "ok same".into(),
+        Some(Some(again)) => format!("ok other {}", hex(&again)),
+        Some(None) => "ok none".into(),
+        None => "ok unknown".into(),
+    })
 }
 
 fn number(text: &str) -> Answer<u64> {
@@ -302,7 +337,7 @@ fn look(command: &str, mut words: Words, image: &[u8]) -> Answer<String> {
             let disc = open(image)?;
             let mut out = String::from("ok");
             for (i, line) in lines(disc.files()).iter().enumerate() {
-                let path = hex(line.path.as_bytes());
+                let path = hex(&encoded(&line.path).ok_or(Stop::Skip)?);
                 match &disc.files()[line.id] {
                     Entry::File(f) => write!(out, " f:{i}:{}:{}:{path}", f.offset, f.size),
                     Entry::Directory(d) => {
@@ -330,7 +365,7 @@ fn look(command: &str, mut words: Words, image: &[u8]) -> Answer<String> {
             for r in disc.free_regions() {
                 writeln!(out, "r {} {}", r.offset, r.size).unwrap();
             }
-            Ok(format!("ok {}", hex(out.as_bytes())))
+            Ok(format!("ok {}", hex(&encoded(&out).ok_or(Stop::Skip)?)))
         }
         "entry" => {
             let number = words.number()?;
@@ -362,7 +397,7 @@ fn look(command: &str, mut words: Words, image: &[u8]) -> Answer<String> {
         }
         "lookup" => {
             let start = words.number()?;
-            let path = words.utf8()?;
+            let path = words.name()?;
             words.end()?;
             let disc = open(image)?;
             let id = disc.files().at_descendant(entry(disc.files(), start)?, &path)?;
@@ -452,7 +487,7 @@ fn edit(command: &str, mut words: Words, image: &mut Vec<u8>) -> Answer<String> 
     let (mut name, mut number, mut size, mut bytes) = (String::new(), 0, 0, vec![]);
     let mut zeros = Zeros { len: 0, at: 0 };
     match command {
-        "insert_file" | "insert_dir" | "mkdirs" => name = words.utf8()?,
+        "insert_file" | "insert_dir" | "mkdirs" => name = words.name()?,
         "move" | "resize" => number = words.word()?,
         "place" => (number, size) = (words.word()?, words.word()?),
         "replace" => bytes = words.bytes()?,
@@ -473,9 +508,7 @@ fn edit(command: &str, mut words: Words, image: &mut Vec<u8>) -> Answer<String> 
         "insert_file" => {
             Some(disc.oracle_files_mut().insert(id, FileEntry::new(name, 0, 0).into())?)
         }
-        "insert_dir" => {
-            Some(disc.oracle_files_mut().insert(id, DirectoryEntry::new(name).into())?)
-        }
+        "insert_dir" => Some(disc.oracle_files_mut().insert(id, DirectoryEntry::new(name).into())?),
         "mkdirs" => Some(disc.oracle_files_mut().make_directories_from(id, &name)?),
         _ => None,
     };
@@ -585,6 +618,7 @@ impl State {
                 }
                 (result, kept)
             }
+            "codec" => (Ok(codec(words)), ""),
             _ => (catch_unwind(AssertUnwindSafe(|| look(command, words, &self.image))), ""),
         };
         match result {

@@ -1,5 +1,6 @@
 //! Calls, how they are written, and how they are made up for an image.
 
+use crate::names;
 use crate::paper::{self, Tree};
 use crate::random::Random;
 
@@ -134,14 +135,15 @@ impl Call {
         }
     }
 
-    fn line_with(&self, text: &[u8]) -> String {
+    /// The command, with this word for its name or path.
+    fn line_with(&self, text: &str) -> String {
         let name = self.name();
         match self {
             Call::Entry(n) | Call::MaxFile(n) => format!("{name} {n}"),
             Call::Lookup(n, _)
             | Call::InsertFile(n, _)
             | Call::InsertDirectory(n, _)
-            | Call::MakeDirectories(n, _) => format!("{name} {n} {}", hex(text)),
+            | Call::MakeDirectories(n, _) => format!("{name} {n} {text}"),
             Call::MaxRegion(a, b) | Call::Alloc(a, b) | Call::Move(a, b) | Call::Resize(a, b) => {
                 format!("{name} {a} {b}")
             }
@@ -157,26 +159,13 @@ impl Call {
     }
 
     pub fn line(&self) -> String {
-        self.line_with(self.text().unwrap_or(b""))
+        self.line_with(&hex(self.text().unwrap_or(b"")))
     }
 
-    /// For a name or path with bytes that 01 knows no name with: the same call with a letter that
-    /// Shift-JIS lacks for each such byte, which the original takes as 01 takes the byte.
-    pub fn twin(&self) -> Option<String> {
-        let text = self.text()?;
-        if text.iter().all(|b| paper::fit(*b)) {
-            return None;
-        }
-        let mut twin = String::new();
-        for b in text {
-            let letter = match u32::from(*b) {
-                b @ 0x20..=0x7e => b,
-                b @ 0x80.. => 0x0e00 + b - 0x80, // Thai
-                b => 0x1200 + b,                 // Ethiopic
-            };
-            twin.push(char::from_u32(letter).unwrap());
-        }
-        Some(self.line_with(twin.as_bytes()))
+    /// The command for the original, with the text that it reads these bytes as, even if they do not
+    /// come back.
+    pub fn line_of_any(&self, text: &[u8]) -> String {
+        self.line_with(&format!("any:{}", hex(text)))
     }
 }
 
@@ -268,9 +257,28 @@ fn ops(r: &mut Random, length: u64) -> Vec<String> {
         .collect()
 }
 
-const PARTS: [&[u8]; 16] = [
-    b"a", b"b", b"ab", b"c", b"new", b"x y", b"", b".", b"..", b"...", b"a:", b"~", b"\x01",
-    b"\x7f", b"\xe9", b"q",
+const PARTS: [&[u8]; 21] = [
+    b"a",
+    b"b",
+    b"ab",
+    b"c",
+    b"new",
+    b"x y",
+    b"",
+    b".",
+    b"..",
+    b"...",
+    b"a:",
+    b"~",
+    b"\x01",
+    b"\x7f",
+    b"\xe9",
+    b"q",
+    b"\x95\x5c",
+    b"\x81",
+    b"\x81\x81",
+    b"\xb1",
+    b"\x81:",
 ];
 
 /// A path below `start`: of an entry, with detours, or made of parts.
@@ -286,6 +294,8 @@ fn path(r: &mut Random, tree: Option<&Tree>, start: u32, lookup: bool) -> Vec<u8
     while parts.is_empty() && r.chance(60) || r.chance(more) {
         let part: Vec<u8> = match r.below(20) {
             0 => (0..r.within(1, 40)).map(|_| *r.pick(b"abcdefgh")).collect(),
+            1 => names::name(r, false),
+            2 => names::any(r),
             _ => r.pick(&PARTS).to_vec(),
         };
         parts.push(part);
@@ -319,7 +329,7 @@ fn path(r: &mut Random, tree: Option<&Tree>, start: u32, lookup: bool) -> Vec<u8
     }
     if r.chance(2) && !path.is_empty() {
         let at = r.below(path.len());
-        path[at] = r.byte();
+        path[at] = if r.chance(50) { r.byte() } else { *r.pick(&names::BOUNDS) };
     }
     if r.chance(2) {
         // Up to the limit, and past it.
@@ -347,6 +357,8 @@ fn name(r: &mut Random, tree: &Tree) -> Vec<u8> {
         0 | 1 => r.pick(&PARTS).to_vec(),
         2 => tree.entries[r.below(tree.entries.len())].name.clone(),
         3 => (0..r.below(4)).map(|_| r.byte()).collect(),
+        9 | 10 => names::name(r, false),
+        11 => names::any(r),
         4..=8 => match fitting(r, tree) {
             Some(length) => (0..length).map(|i| b'a' + (i % 26) as u8).collect(),
             None => b"f".to_vec(),

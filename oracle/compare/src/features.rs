@@ -2,7 +2,13 @@
 
 use crate::calls::Call;
 use crate::judge::{New, new_place};
-use crate::paper::{self, Entry, Refusal, Tree, word};
+use crate::paper::{self, Entry, Refusal, Tree, stray, word};
+use std::collections::BTreeMap;
+
+/// Those that are met.
+fn of(cases: &[(bool, &'static str)]) -> Vec<&'static str> {
+    cases.iter().filter(|(met, _)| *met).map(|(_, feature)| *feature).collect()
+}
 
 /// What stands out about the program of an image that opens, or that only its program keeps from it.
 pub fn of_program(image: &[u8], opened: &Result<Tree, Refusal>) -> Vec<&'static str> {
@@ -26,7 +32,7 @@ pub fn of_program(image: &[u8], opened: &Result<Tree, Refusal>) -> Vec<&'static 
     let files = paper::files_of(image);
     let starts = |at: u64| files.iter().any(|(start, _)| *start == at);
     let ends = |at: u64| files.iter().any(|(start, size)| start + size == at);
-    let met: &[(bool, &str)] = match number {
+    let met: &[(bool, &'static str)] = match number {
         0 => &[
             (before, "program: before the table"),
             (before && at == 0x440, "program: before the table, from 0x440 on"),
@@ -51,7 +57,119 @@ pub fn of_program(image: &[u8], opened: &Result<Tree, Refusal>) -> Vec<&'static 
         ],
         _ => &[(size == 1 << 32, "program: a sum of 2^32")],
     };
-    met.iter().filter(|(met, _)| *met).map(|(_, feature)| *feature).collect()
+    of(met)
+}
+
+/// What stands out about the names of an image that opens, or about the one that it is refused for.
+pub fn of_names(image: &[u8], opened: &Result<Tree, Refusal>) -> Vec<&'static str> {
+    let tree = match opened {
+        Ok(tree) => tree,
+        Err(refusal) if matches!(refusal.number, 12 | 13) => {
+            let name = paper::name(image, refusal.entry).map(|name| &image[name]);
+            return of_refused_name(name.unwrap_or(b""), refusal.number);
+        }
+        Err(_) => return vec![],
+    };
+    let names: Vec<&[u8]> = tree.entries[1..].iter().map(|entry| &entry.name[..]).collect();
+    let any = |is: fn(&[u8]) -> bool| names.iter().any(|name| paper::units(name).any(is));
+    let cases = [
+        (any(|u| matches!(u, [0xa1..=0xdf])), "name: a byte 0xA1 to 0xDF"),
+        (any(|u| matches!(u, [0xa1 | 0xdf])), "name: a byte 0xA1 or 0xDF"),
+        (any(|u| u.len() == 2), "name: a pair"),
+        (any(|u| matches!(u, [_, 0x5c])), "name: a pair with the trail byte 0x5C"),
+        (
+            any(|u| matches!(u, [_, 0x40 | 0x7e | 0x80 | 0xfc])),
+            "name: a pair with an outermost trail",
+        ),
+        (
+            any(|u| matches!(u, [0x81 | 0x9f | 0xe0 | 0xfc, _])),
+            "name: a pair with an outermost lead",
+        ),
+        (begins_inside(image), "name: begins inside a pair of another"),
+    ];
+    of(&cases)
+}
+
+/// Whether a name of the image starts at the second byte of a pair of another.
+fn begins_inside(image: &[u8]) -> bool {
+    let names: BTreeMap<usize, usize> =
+        paper::names(image).into_iter().map(|name| (name.start, name.end)).collect();
+    names.iter().any(|(start, end)| {
+        let mut at = *start;
+        paper::units(&image[*start..*end]).any(|unit| {
+            at += unit.len();
+            unit.len() == 2 && names.contains_key(&(at - 1))
+        })
+    })
+}
+
+fn of_refused_name(name: &[u8], number: u32) -> Vec<&'static str> {
+    let units: Vec<&[u8]> = paper::units(name).collect();
+    let beside = |is: fn(&[u8]) -> bool| units.windows(2).any(|two| stray(two[0]) && is(two[1]));
+    let behind_pair = units.windows(2).any(|two| two[0].len() == 2 && two[1] == b"\\");
+    let cases = match number {
+        12 => vec![
+            (units.last().is_some_and(|unit| stray(unit)), "name: a lead byte at its end, 12"),
+            (
+                beside(|u| matches!(u, [0x3f | 0x7f | 0xfd])),
+                "name: a lead byte and one that just is no trail, 12",
+            ),
+            (beside(|u| matches!(u, b"/" | b":")), "name: a lead byte before `/` or `:`, 12"),
+            (
+                units.iter().any(|u| matches!(u, [0x80 | 0xa0 | 0xfd..=0xff])),
+                "name: a byte 0x80, 0xA0 or 0xFD to 0xFF, 12",
+            ),
+        ],
+        _ => vec![(behind_pair, "name: a backslash behind a pair, 13")],
+    };
+    of(&cases)
+}
+
+/// What stands out about the name or path of a call that is answered `expected`.
+pub fn of_text(call: &Call, expected: &str) -> Vec<&'static str> {
+    let Some(text) = call.text().filter(|text| text.iter().any(|b| *b >= 0x80)) else {
+        return vec![];
+    };
+    let (accepted, units) = (expected.starts_with("ok"), paper::units(text).collect::<Vec<_>>());
+    let pairs = units.iter().any(|unit| unit.len() == 2);
+    let trail = units.iter().any(|unit| matches!(unit, [_, b'\\']));
+    let strays = units.iter().any(|unit| stray(unit));
+    let two = |is: &dyn Fn(&[u8], &[u8]) -> bool| units.windows(2).any(|two| is(two[0], two[1]));
+    let behind_pair = two(&|a, b| a.len() == 2 && b == b"\\");
+    let cut_stray = two(&|a, b| stray(a) && b == b"/");
+    let cases = match call {
+        Call::Lookup(..) => vec![
+            (accepted && trail, "lookup: found, with a trail byte 0x5C"),
+            (accepted && behind_pair, "lookup: found, cut at a backslash behind a pair"),
+            (expected == "err 18" && cut_stray, "lookup: a lead byte before `/`, 18"),
+            (
+                expected == "err 18" && units.last().is_some_and(|u| stray(u)),
+                "lookup: a lead byte at the end, 18",
+            ),
+        ],
+        Call::MakeDirectories(..) => vec![
+            (accepted && trail, "make-directories: done, with a trail byte 0x5C"),
+            (accepted && behind_pair, "make-directories: done, cut at a backslash behind a pair"),
+            (expected == "err 12" && strays, "make-directories: a lead byte without its trail, 12"),
+            (expected == "err 12" && cut_stray, "make-directories: a lead byte before `/`, 12"),
+            (
+                matches!(expected, "err 13" | "err 17" | "err 18") && strays,
+                "make-directories: such a byte, and other trouble before 12",
+            ),
+        ],
+        _ => vec![
+            (accepted && pairs, "insert: a name with a pair"),
+            (accepted && trail, "insert: a name with a trail byte 0x5C"),
+            (expected == "err 12" && strays, "insert: a lead byte without its trail, 12"),
+            (
+                expected == "err 13" && two(&|a, b| stray(a) && b == b":"),
+                "insert: a lead byte before `:`, 13",
+            ),
+            (expected == "err 13" && behind_pair, "insert: a backslash behind a pair, 13"),
+            (expected == "err 19" && pairs, "insert: a name with a pair, which is there, 19"),
+        ],
+    };
+    of(&cases)
 }
 
 /// What stands out about a call on `tree` that is answered `expected`, with the memory lent.
@@ -195,7 +313,7 @@ fn of_clip(met: &mut Vec<&'static str>, tree: &Tree, file: &Entry, size: u64, ex
         (no_space && size == 1 << 32, "fill: of 2^32 bytes"),
         (no_space && size == 1 << 33, "fill: of 2^33 bytes"),
     ];
-    met.extend(cases.iter().filter(|(is, _)| *is).map(|(_, feature)| *feature));
+    met.extend(of(&cases));
 }
 
 fn of_edit(

@@ -2,6 +2,7 @@
 //! of docs/DIFFERENCES.md the two differ under.
 
 use crate::calls::{Call, hex, unhex};
+use crate::codec::Codec;
 use crate::paper::{self, Bound, Entry, Refusal, Tree, word};
 use std::fmt::Write as _;
 
@@ -17,8 +18,12 @@ pub enum Class {
     RegionsFirst,
     NestedNext,
     CutEntry,
+    // Of a text with several of these it is the first.
+    NotText,
+    UnknownPair,
+    UnwrittenPair,
+    OtherPair,
     NameBytes,
-    NotUtf8,
     Limits,
     Alignment,
     MaxRegion,
@@ -33,7 +38,7 @@ pub enum Class {
     LongClip,
 }
 
-pub const CLASSES: [(Class, &str); 23] = [
+pub const CLASSES: [(Class, &str); 26] = [
     (Class::NameWithoutZero, "Game name without a zero byte"),
     (Class::NameBehindZero, "Game name with bytes behind its first zero byte"),
     (Class::Bounds, "FST offset below 0x440; image shorter than the disc end"),
@@ -43,8 +48,11 @@ pub const CLASSES: [(Class, &str); 23] = [
     (Class::RegionsFirst, "Such files together with a cause that comes before 14 (9 to 13, 24)"),
     (Class::NestedNext, "A nested next past its parent's"),
     (Class::CutEntry, "An entry that the table cuts off, with an unknown kind"),
-    (Class::NameBytes, "Names with bytes below 0x20 or above 0x7E"),
-    (Class::NotUtf8, "Names and paths that are not UTF-8"),
+    (Class::NotText, "Names and paths with a lead byte without its trail, 0xA0 or 0xFD to 0xFF"),
+    (Class::UnknownPair, "Names and paths with pairs that the codec does not read"),
+    (Class::UnwrittenPair, "Names and paths with pairs that the codec reads and does not write"),
+    (Class::OtherPair, "Names and paths with pairs that the codec writes as others"),
+    (Class::NameBytes, "Names with bytes below 0x20, 0x7F or 0x80"),
     (
         Class::Limits,
         "Entries over 16,384, texts over 1,048,576 bytes, depth over 64, paths over 1,024 bytes, \
@@ -80,6 +88,9 @@ pub struct Given<'a> {
     pub call: &'a Call,
     pub words: usize,
     pub bytes: usize,
+    pub codec: &'a Codec,
+    /// The entry for the image's names, if some do not come back.
+    pub others: Option<Class>,
 }
 
 /// The answer that Counter has to give; the entry that the original differs under.
@@ -182,8 +193,20 @@ fn refused(number: u32) -> String {
     format!("err {number}")
 }
 
-/// The entry for an image that 01 refuses, where the original answers `answer` to `call`.
-fn class_of_refusal(image: &[u8], refusal: Refusal, call: &Call, answer: &str) -> Option<Class> {
+/// Whether the original meets a pair that it does not read before it comes to what 01 and 02 refuse.
+fn unknown_before(codec: &Codec, image: &[u8], refusal: Refusal) -> bool {
+    let last = match refusal.number {
+        10 | 13 => refusal.entry,
+        11 => refusal.entry - 1,
+        _ => usize::MAX,
+    };
+    let mut names = paper::names(image).into_iter().take(last);
+    names.any(|name| codec.class(&image[name]) == Some(Class::UnknownPair))
+}
+
+/// The entry for an image that 01 or 02 refuses, where the original answers `answer` to the call.
+fn class_of_refusal(given: &Given, refusal: Refusal, answer: &str) -> Option<Class> {
+    let (image, call) = (given.image, given.call);
     if answer == "err Text:NoNulTerminator" {
         return (odd_name(image) == Some(Class::NameWithoutZero)).then_some(Class::NameWithoutZero);
     }
@@ -191,6 +214,12 @@ fn class_of_refusal(image: &[u8], refusal: Refusal, call: &Call, answer: &str) -
     let files_are_bad = || paper::files_are_bad(image);
     if matches!(refusal.number, 9..=13 | 24) && answer == "panic" && files_are_bad() {
         return Some(Class::RegionsFirst);
+    }
+    if matches!(refusal.number, 10 | 11 | 13 | 14 | 24)
+        && answer == "err 12"
+        && unknown_before(given.codec, image, refusal)
+    {
+        return Some(Class::UnknownPair);
     }
     // The original opens whatever the program is; these calls panic on an image that it opens.
     let opened =
@@ -211,7 +240,10 @@ fn class_of_refusal(image: &[u8], refusal: Refusal, call: &Call, answer: &str) -
         }
         9 => Some(Class::Limits),
         10 => refusal.past_parent.then_some(Class::NestedNext),
-        12 => Some(Class::NameBytes),
+        12 => {
+            let name = paper::name(image, entry).unwrap();
+            given.codec.reads(&image[name]).then_some(Class::NameBytes)
+        }
         14 if files_are_bad() => (answer == "panic" || opened).then_some(Class::Regions),
         14 => opened.then_some(Class::ProgramPlace),
         24 if answer == "panic" && matches!(call, Call::Dol | Call::DolWindow(_)) => {
@@ -222,10 +254,11 @@ fn class_of_refusal(image: &[u8], refusal: Refusal, call: &Call, answer: &str) -
     }
 }
 
-/// Whether an answer, in Counter's form, shows that the image was opened.
+/// Whether an answer, in Counter's form, shows that the image was opened; a list is skipped then if a name
+/// of it cannot be written.
 fn opens(answer: &str) -> bool {
     let number = answer.strip_prefix("err ").and_then(|number| number.parse::<u32>().ok());
-    answer.starts_with("ok") || number.is_some_and(|number| number > 14)
+    answer.starts_with("ok") || answer == "skip" || number.is_some_and(|number| number > 14)
 }
 
 /// The new directories that a path makes, as the length of each name and its depth; none if the
@@ -235,7 +268,7 @@ fn made(tree: &Tree, start: usize, path: &[u8]) -> Option<Vec<(usize, usize)>> {
     let old = tree.entries.len();
     let mut new: Vec<(usize, &[u8], usize)> = vec![]; // parent, name, depth
     let (mut at, mut stack) = (start, vec![]);
-    for part in path.split(|b| matches!(b, b'/' | b'\\')) {
+    for part in paper::components(path) {
         if at < old && !tree.entries[at].directory {
             return None;
         }
@@ -467,12 +500,13 @@ fn without(mut regions: Regions, (at, size): (u64, u64)) -> Result<Regions, Stri
 
 /// The original's listing after the program is taken out of it: the used total, and the regions.
 fn listing_without(listing: &[u8], program: (u64, u64)) -> Result<Vec<u8>, String> {
-    let text = String::from_utf8_lossy(listing);
+    // Byte by byte, whatever the names hold.
+    let text: String = listing.iter().map(|byte| char::from(*byte)).collect();
     let number = |word: Option<&str>| -> Result<u64, String> {
         word.and_then(|word| word.parse().ok()).ok_or_else(|| "a listing".into())
     };
     let (mut out, mut regions) = (String::new(), vec![]);
-    for line in text.lines() {
+    for line in text.split_terminator('\n') {
         let mut words = line.split(' ');
         match words.next() {
             Some("total") => {
@@ -486,7 +520,7 @@ fn listing_without(listing: &[u8], program: (u64, u64)) -> Result<Vec<u8>, Strin
     for (at, size) in without(regions, program)? {
         writeln!(out, "r {at} {size}").unwrap();
     }
-    Ok(out.into_bytes())
+    Ok(out.chars().map(|byte| byte as u8).collect())
 }
 
 /// The listing that Counter has to give after an edit, from the original's answer.
@@ -620,16 +654,17 @@ pub fn judge(given: &Given, answer: &str, twin: Option<&str>) -> Result<Verdict,
         let class = odd_name(given.image).ok_or("the header")?;
         return Ok(Verdict { expected, class: Some(class) });
     }
+    let of_text = || given.call.text().and_then(|text| given.codec.class(text));
     let tree = match given.opened {
         Ok(tree) => tree,
         Err(refusal) => {
             let expected = refused(refusal.number);
-            let told = if answer == "skip" { mapped(twin.unwrap_or("")) } else { told };
+            let told = if answer == "skip" { twin.map_or(told, mapped) } else { told };
             if told == expected {
-                let class = (answer == "skip").then_some(Class::NotUtf8);
+                let class = if answer == "skip" { of_text() } else { None };
                 return Ok(Verdict { expected, class });
             }
-            let class = class_of_refusal(given.image, *refusal, given.call, &told);
+            let class = class_of_refusal(given, *refusal, &told);
             let class = class.ok_or_else(|| format!("01 refuses with {refusal:?}"))?;
             return Ok(Verdict { expected, class: Some(class) });
         }
@@ -637,31 +672,32 @@ pub fn judge(given: &Given, answer: &str, twin: Option<&str>) -> Result<Verdict,
     if told == "err Text:NoNulTerminator" && twin.is_none() {
         return Err("opens, and the original refuses the game name".into());
     }
+    if let (Call::Open, Some(class), None) = (given.call, given.others, twin) {
+        // The original has no names to be asked with in their place.
+        let class = (told != "ok").then_some(class);
+        return Ok(Verdict { expected: "ok".into(), class });
+    }
     let path = matches!(given.call, Call::Lookup(..) | Call::MakeDirectories(..));
     if path && given.call.text().unwrap().len() > paper::PATH {
         return Ok(Verdict { expected: refused(9), class: Some(Class::Limits) });
     }
-    if let Some((number, size)) = given.call.resizes()
-        && size > u32::MAX as u64
-    {
-        return judge_long_clip(tree, number, answer);
-    }
-    let by = |answer: &str| match given.call.edits() {
-        true if tree.behind().is_some() => judge_beside_program(tree, given, answer),
-        true => judge_edit(tree, given, answer),
-        false => judge_look(tree, given, answer),
+    let by = |answer: &str| match (given.call.edits(), given.call.resizes()) {
+        (_, Some((number, size))) if size > u32::MAX as u64 => {
+            judge_long_clip(tree, number, answer)
+        }
+        (true, _) if tree.behind().is_some() => judge_beside_program(tree, given, answer),
+        (true, _) => judge_edit(tree, given, answer),
+        (false, _) => judge_look(tree, given, answer),
     };
     let Some(twin) = twin else { return by(answer) };
     let mut verdict = by(twin)?;
-    if answer == "skip" {
-        verdict.class = Some(Class::NotUtf8);
-    } else if given.call.resizes().is_some() {
-        // Told where to go, since it takes the program for free space.
-        if told != verdict.expected && verdict.class.is_none() {
-            verdict.class = Some(Class::ProgramEdits);
+    if let Some(class) = of_text().or(given.others) {
+        if told != mapped(twin) {
+            verdict.class = Some(class);
         }
-    } else if told != mapped(twin) {
-        verdict.class = Some(Class::NameBytes);
+    } else if told != verdict.expected && verdict.class.is_none() {
+        // Told where to go, since it takes the program for free space.
+        verdict.class = Some(Class::ProgramEdits);
     }
     Ok(verdict)
 }

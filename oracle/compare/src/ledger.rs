@@ -2,7 +2,7 @@
 //! each accepted call alone. After the list the image has to be what it says.
 
 use crate::calls::Call;
-use crate::paper::Tree;
+use crate::paper::{self, Tree};
 
 struct Entry {
     directory: bool,
@@ -83,7 +83,7 @@ impl Ledger {
             }
             Call::MakeDirectories(start, path) => {
                 let mut steps = vec![*start as usize];
-                for part in path.split(|b| matches!(b, b'/' | b'\\')) {
+                for part in paper::components(path) {
                     match part {
                         b"" | b"." => (),
                         b".." => {

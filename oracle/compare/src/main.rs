@@ -5,10 +5,12 @@
 
 mod calls;
 mod child;
+mod codec;
 mod features;
 mod judge;
 mod ledger;
 mod masters;
+mod names;
 mod paper;
 mod programs;
 mod random;
@@ -22,7 +24,8 @@ use sample::Sample;
 use std::process::exit;
 use std::time::Instant;
 
-const SUITES: [&str; 7] = ["limits", "numbers", "fills", "programs", "tables", "trees", "random"];
+const SUITES: [&str; 8] =
+    ["limits", "numbers", "fills", "programs", "names", "tables", "trees", "random"];
 
 struct Options {
     probe: String,
@@ -177,6 +180,7 @@ fn main() {
             "numbers" => suites::numbers(&mut run),
             "fills" => suites::fills(&mut run),
             "programs" => programs::programs(&mut run),
+            "names" => names::names(&mut run),
             "tables" => suites::tables(&mut run),
             "trees" => suites::trees(&mut run),
             _ => run.random(options.seed, options.images, 14, 11),

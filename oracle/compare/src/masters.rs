@@ -1,5 +1,6 @@
 //! Images to feed: masters that open, of many shapes, and damaged copies of them.
 
+use crate::names;
 use crate::paper::{self, GAMECUBE, WII, set_word, word};
 use crate::random::Random;
 
@@ -40,6 +41,8 @@ struct Record {
 fn nesting(r: &mut Random, n: usize) -> Vec<Record> {
     let (directories, up) = (*r.pick(&[10, 35, 35, 60, 90]), *r.pick(&[5, 30, 60]));
     let equal_names = r.chance(30);
+    // Names of document 02; in a few of these images some that the codec does not turn back.
+    let (japanese, others) = (r.chance(40), r.chance(15));
     let mut records: Vec<Record> = vec![];
     let mut around: Vec<usize> = vec![];
     for k in 0..n {
@@ -49,7 +52,10 @@ fn nesting(r: &mut Random, n: usize) -> Vec<Record> {
         let parent = *around.last().unwrap_or(&0);
         let mut name = vec![];
         if k > 0 {
-            name = r.pick(&NAMES).to_vec();
+            name = match japanese && r.chance(60) {
+                true => names::name(r, others),
+                false => r.pick(&NAMES).to_vec(),
+            };
             let taken = |name: &Vec<u8>| {
                 records[1..].iter().any(|other| other.parent == parent && other.name == *name)
             };
@@ -79,12 +85,13 @@ fn texts(r: &mut Random, records: &mut [Record]) -> (Vec<u8>, Vec<usize>) {
     let style = r.below(6);
     if style == 5 && records.len() > 1 {
         // One text for all: every name is one of its ends.
-        let text = b"c.aab\0";
+        let text = if r.chance(50) { names::ENDS[0] } else { *r.pick(&names::ENDS) };
+        let ends: Vec<usize> = (0..text.len()).filter(|at| names::fine(&text[*at..])).collect();
         for k in 1..records.len() {
-            places[k] = r.below(text.len() - 1);
-            records[k].name = text[places[k]..text.len() - 1].to_vec();
+            places[k] = *r.pick(&ends);
+            records[k].name = text[places[k]..].to_vec();
         }
-        return (text.to_vec(), places);
+        return ([text, b"\0"].concat(), places);
     }
     let mut order: Vec<usize> = (1..records.len()).collect();
     if style == 3 {
@@ -103,7 +110,7 @@ fn texts(r: &mut Random, records: &mut [Record]) -> (Vec<u8>, Vec<usize>) {
             texts.extend(text);
         }
         if style == 4 && r.chance(40) {
-            let slack: [&[u8]; 4] = [b"\0", b"zz\0", b"\x01\xff\0", b"/\0\0"];
+            let slack: [&[u8]; 5] = [b"\0", b"zz\0", b"\x01\xff\0", b"/\0\0", b"\x95\0"];
             texts.extend(*r.pick(&slack));
         }
     }
@@ -529,7 +536,7 @@ fn damage_once(r: &mut Random, image: &mut Vec<u8>) {
             let n = (word(image, at + 8) as usize).max(1);
             let texts = (at + 12 * n.min(table / 12)).min(at + table - 1);
             let place = if r.chance(20) { at + table - 1 } else { r.within(texts, at + table - 1) };
-            image[place] = match r.below(8) {
+            image[place] = match r.below(10) {
                 0 => 0,
                 1 => 1 + r.below(0x1f) as u8,
                 2 => 0x7f,
@@ -537,6 +544,7 @@ fn damage_once(r: &mut Random, image: &mut Vec<u8>) {
                 4 => *r.pick(b"/\\:"),
                 5 => b'.',
                 6 => 0x7e,
+                7 | 8 => *r.pick(&names::BOUNDS),
                 _ => 0x20,
             };
         }

@@ -1,6 +1,8 @@
-//! Document 01's opening with the program of document 02, and the few sums that the sorting of
-//! differences needs, written down here a second time and from the papers alone, so that a
-//! difference is sorted by what they say of its input and not by what either side answers.
+//! Document 01's opening with the program and the names of document 02, and the few sums that the
+//! sorting of differences needs, written down here a second time and from the papers alone, so that
+//! a difference is sorted by what they say of its input and not by what either side answers.
+
+use std::ops::Range;
 
 pub const ENTRIES: usize = 16_384;
 pub const TEXTS: usize = 1_048_576;
@@ -170,15 +172,61 @@ pub fn files_are_bad(image: &[u8]) -> bool {
     free(files_of(image), table_end, disc_end).is_err()
 }
 
-pub fn fit(byte: u8) -> bool {
-    (0x20..=0x7e).contains(&byte)
+/// 02: "pairs of a lead byte (0x81 to 0x9F, 0xE0 to 0xFC) with a trail byte (0x40 to 0x7E, 0x80 to 0xFC)".
+fn lead(byte: u8) -> bool {
+    matches!(byte, 0x81..=0x9f | 0xe0..=0xfc)
 }
 
+fn trail(byte: u8) -> bool {
+    matches!(byte, 0x40..=0x7e | 0x80..=0xfc)
+}
+
+/// How many bytes the unit at the start of a text has: any byte that begins no pair is one of its own, so
+/// that behind a lead byte without its trail "the byte after it is judged afresh".
+fn unit(text: &[u8]) -> usize {
+    match text {
+        [first, second, ..] if lead(*first) && trail(*second) => 2,
+        _ => 1,
+    }
+}
+
+/// A lead byte without its trail.
+pub fn stray(unit: &[u8]) -> bool {
+    matches!(unit, [byte] if lead(*byte))
+}
+
+/// A name or a path, "cut into pairs from the start".
+pub fn units(mut text: &[u8]) -> impl Iterator<Item = &[u8]> {
+    std::iter::from_fn(move || {
+        let (first, rest) = text.split_at_checked(unit(text))?;
+        text = rest;
+        Some(first)
+    })
+}
+
+/// Whether a name may hold this unit: 0x20 to 0x7E, 0xA1 to 0xDF, and pairs. "A lead byte without its
+/// trail is 12 in a name."
+pub fn fit(unit: &[u8]) -> bool {
+    matches!(unit, [0x20..=0x7e | 0xa1..=0xdf] | [_, _])
+}
+
+/// "A trail byte 0x5C is not a backslash, either in the safety rule or when a path is cut."
 pub fn unsafe_name(name: &[u8]) -> bool {
-    name.is_empty()
-        || name == b"."
-        || name == b".."
-        || name.iter().any(|b| matches!(b, b'/' | b'\\' | b':'))
+    matches!(name, b"" | b"." | b"..") || units(name).any(|u| matches!(u, b"/" | b"\\" | b":"))
+}
+
+/// The components of a path, which is cut at `/` and `\`.
+pub fn components(path: &[u8]) -> Vec<&[u8]> {
+    let (mut parts, mut start, mut at) = (vec![], 0, 0);
+    for unit in units(path) {
+        if matches!(unit, b"/" | b"\\") {
+            parts.push(&path[start..at]);
+            start = at + 1;
+        }
+        at += unit.len();
+    }
+    parts.push(&path[start..]);
+    parts
 }
 
 /// A refusal, with what the sorting asks about it.
@@ -241,6 +289,31 @@ pub fn open(image: &[u8], words: usize) -> Result<Tree, Refusal> {
     Ok(Tree { entries, fst_offset, fst_size, disc_end, program, free })
 }
 
+/// Where in the texts the name of a record lies.
+fn name_in(texts: &[u8], record: &[u8]) -> Option<Range<usize>> {
+    let at = (word(record, 0) & 0xff_ffff) as usize;
+    let length = texts.get(at..)?.iter().position(|b| *b == 0)?;
+    Some(at..at + length)
+}
+
+/// Where in the image the names of the records behind the root lie, as far as they have one. Only for a
+/// table whose records are all there.
+pub fn names(image: &[u8]) -> Vec<Range<usize>> {
+    let table = table(image);
+    let count = (word(table, 8) as usize).max(1).min(table.len() / 12);
+    (1..count).filter_map(|entry| name(image, entry)).collect()
+}
+
+/// The same for one record.
+pub fn name(image: &[u8], entry: usize) -> Option<Range<usize>> {
+    let table = table(image);
+    let count = (word(table, 8) as usize).max(1).min(table.len() / 12);
+    let (records, texts) = table.split_at(12 * count);
+    let start = word(image, 0x424) as usize + records.len();
+    let name = name_in(texts, &records[12 * entry..])?;
+    Some(start + name.start..start + name.end)
+}
+
 fn walk(table: &[u8], texts: &[u8], count: usize) -> Result<Vec<Entry>, Refusal> {
     if count == 0 {
         return Err(refusal(10, 0));
@@ -254,10 +327,8 @@ fn walk(table: &[u8], texts: &[u8], count: usize) -> Result<Vec<Entry>, Refusal>
         }
         let parent = *around.last().unwrap();
         let record = &table[12 * k..12 * k + 12];
-        let at = (word(record, 0) & 0xff_ffff) as usize;
-        let text = texts.get(at..).filter(|t| !t.is_empty()).ok_or(refusal(11, k))?;
-        let name = &text[..text.iter().position(|b| *b == 0).unwrap()];
-        if !name.iter().all(|b| fit(*b)) {
+        let name = &texts[name_in(texts, record).ok_or(refusal(11, k))?];
+        if !units(name).all(fit) {
             return Err(refusal(12, k));
         }
         if unsafe_name(name) {

@@ -3,7 +3,8 @@
 
 use crate::calls::{self, Call, hex, unhex};
 use crate::child::{Side, batch};
-use crate::features::{features, of_program};
+use crate::codec::{Codec, Mixed, Others, StandIns};
+use crate::features::{features, of_names, of_program, of_text};
 use crate::judge::{Class, Given, New, Verdict, judge, listing_after, odd_name, told_where};
 use crate::ledger::Ledger;
 use crate::masters;
@@ -12,6 +13,7 @@ use crate::random::Random;
 use std::collections::BTreeMap;
 use std::fs;
 use std::path::{Path, PathBuf};
+use std::rc::Rc;
 
 /// Images that are under way at a time.
 const WAVE: usize = 96;
@@ -47,6 +49,7 @@ pub struct Run {
     pub probe: Side,
     pub oracle: Side,
     pub counts: Counts,
+    codec: Rc<Codec>,
     place: PathBuf,
     /// Whether the library has insert and make-directories.
     pub inserts: bool,
@@ -66,16 +69,85 @@ struct Case {
     program: Option<(usize, Vec<u8>)>,
     /// Kept where a list of edits is made, of an image that opens.
     ledger: Option<Ledger>,
+    codec: Rc<Codec>,
+    stand_ins: StandIns,
+    /// Where the image has names that do not come back; the oracle then keeps it with stand-ins.
+    others: Option<Others>,
+    /// No stand-ins serve for these names: the original is asked to open the image, and no more.
+    mixed: Option<Class>,
 }
 
 impl Case {
-    fn new(r: Random, image: Vec<u8>, name: String) -> Self {
+    fn new(r: Random, image: Vec<u8>, name: String, codec: &Rc<Codec>) -> Self {
         let opened = paper::open(&image, usize::MAX);
         let odd = odd_name(&image);
         let program = opened.as_ref().ok().and_then(|tree| tree.program);
         let program = program.map(|(at, size)| (at as usize, size as usize));
         let program = program.map(|(at, size)| (at, image[at..at + size].to_vec()));
-        Self { r, image, opened, odd, name, program, ledger: None }
+        let (codec, stand_ins) = (codec.clone(), StandIns::default());
+        let mut case = Self {
+            r,
+            image,
+            opened,
+            odd,
+            name,
+            program,
+            ledger: None,
+            codec,
+            stand_ins,
+            others: None,
+            mixed: None,
+        };
+        case.find_others();
+        case
+    }
+
+    fn find_others(&mut self) {
+        let Ok(tree) = &self.opened else { return };
+        (self.others, self.mixed) =
+            match Others::of(&self.codec, &mut self.stand_ins, &self.image, tree) {
+                Ok(others) => (others, None),
+                Err(Mixed(class)) => (None, Some(class)),
+            };
+    }
+
+    /// The call as the original has to be asked in place of it, where it has a name or path, or the
+    /// image has names, that do not come back or that 02 has not.
+    fn twin(&mut self, call: &Call) -> Option<String> {
+        let Some(text) = call.text() else { return self.others.as_ref().map(|_| call.line()) };
+        let twin = self.stand_ins.twin(&self.codec, text);
+        (self.others.is_some() || twin != text).then(|| call.line_of_any(&twin))
+    }
+
+    /// What the original's answer to a twin stands for.
+    fn back(&self, call: &Call, answer: &str) -> String {
+        let text = |digits: &str| hex(&self.stand_ins.back(&unhex(digits)));
+        match (call, answer.strip_prefix("ok ")) {
+            (Call::Listing, Some(listing)) => format!("ok {}", text(listing)),
+            (Call::List, Some(entries)) => {
+                let entry = |entry: &str| {
+                    let (numbers, path) = entry.rsplit_once(':').unwrap();
+                    format!(" {numbers}:{}", text(path))
+                };
+                format!("ok{}", entries.split(' ').map(entry).collect::<String>())
+            }
+            _ => answer.into(),
+        }
+    }
+
+    /// Makes the image the current one on both sides, and saves it.
+    fn load(&self, lines: &mut Batch, path: &Path) {
+        fs::write(path, &self.image).unwrap();
+        lines.both(format!("image {}", path.display()));
+        self.stand_in(lines);
+        lines.both(format!("save {}", self.name));
+    }
+
+    /// The image that the oracle has is as it is: stand-ins go in.
+    fn stand_in(&self, lines: &mut Batch) {
+        if let Some(others) = &self.others {
+            lines.oracle(others.twin());
+        }
     }
 
     fn with_ledger(mut self) -> Self {
@@ -150,6 +222,8 @@ struct Asked {
     alone: Option<usize>,
     /// Hashes after an edit: Counter's; the original's, as it is and with the game name put back.
     hashes: Option<(usize, usize, usize)>,
+    /// The whole images after an edit, on both sides, where the original's has stand-ins.
+    whole: Option<(usize, usize)>,
     peek: usize,
     /// The listing afterwards, on both sides.
     listing: Option<(usize, usize)>,
@@ -166,7 +240,7 @@ impl Asked {
         [probe, oracle]: [usize; 2],
         twin: Option<usize>,
     ) -> Self {
-        let (alone, hashes, listing, program) = (None, None, None, None);
+        let (alone, hashes, whole, listing, program) = (None, None, None, None, None);
         Self {
             case,
             call,
@@ -177,6 +251,7 @@ impl Asked {
             twin,
             alone,
             hashes,
+            whole,
             peek: 0,
             listing,
             program,
@@ -221,10 +296,13 @@ fn without_name() -> String {
 impl Run {
     pub fn new(probe: &str, oracle: &str, place: &Path, inserts: bool) -> std::io::Result<Self> {
         fs::create_dir_all(place)?;
+        let mut oracle = Side::start(oracle)?;
+        let codec = Rc::new(Codec::of(&mut oracle));
         Ok(Self {
             probe: Side::start(probe)?,
-            oracle: Side::start(oracle)?,
+            oracle,
             counts: Counts::default(),
+            codec,
             place: place.into(),
             inserts,
             faults: FAULTS,
@@ -261,7 +339,7 @@ impl Run {
     /// `images` masters and damaged copies, `looks` calls that look at each and `edits` edits of
     /// each that opens.
     pub fn random(&mut self, seed: u64, images: u64, looks: usize, edits: usize) {
-        let mut begun = 0;
+        let (mut begun, mut waves) = (0, 0);
         while begun < images && !self.over() {
             let mut cases = vec![];
             while cases.len() < WAVE && begun < images {
@@ -269,7 +347,8 @@ impl Run {
                     Random::new(seed.wrapping_add(begun.wrapping_mul(0x2545_f491_4f6c_dd1d)));
                 let image =
                     if r.chance(35) { masters::damaged(&mut r) } else { masters::master(&mut r) };
-                cases.push(Case::new(r, image, format!("c{}a", cases.len())).with_ledger());
+                let case = Case::new(r, image, format!("c{}a", cases.len()), &self.codec);
+                cases.extend(case.mixed.is_none().then(|| case.with_ledger()));
                 begun += 1;
             }
             self.looks(&mut cases, looks);
@@ -282,7 +361,8 @@ impl Run {
             if !self.over() {
                 self.ledgers(&cases);
             }
-            if begun % (WAVE as u64 * 100) == 0 {
+            waves += 1;
+            if waves % 100 == 0 {
                 eprintln!("{begun} images, {} calls", self.counts.total());
             }
         }
@@ -293,10 +373,7 @@ impl Run {
         for (i, case) in cases.iter_mut().enumerate() {
             self.counts.images += 1;
             self.counts.refused_images += u64::from(case.opened.is_err());
-            let path = self.place.join(i.to_string());
-            fs::write(&path, &case.image).unwrap();
-            lines.both(format!("image {}", path.display()));
-            lines.both(format!("save {}", case.name));
+            case.load(&mut lines, &self.place.join(i.to_string()));
             let nameless = case.odd == Some(Class::NameWithoutZero) && case.opened.is_ok();
             if nameless {
                 odd.push(lines.oracle("open".into()));
@@ -317,7 +394,11 @@ impl Run {
                     call,
                     Call::Header | Call::Window(..) | Call::Dol | Call::DolWindow(_)
                 );
-                if nameless && reads_name {
+                // With no program the DOL's window shows the table, and with it the stand-ins.
+                let reads_table = matches!(call, Call::Dol | Call::DolWindow(_))
+                    && case.program.is_none()
+                    && case.others.is_some();
+                if nameless && reads_name || reads_table {
                     call = Call::Free;
                 }
                 asked.push(ask_look(&mut lines, i, case, call));
@@ -358,6 +439,7 @@ impl Run {
                 let case = &mut cases[asked.case];
                 (case.image, case.opened) = case.edited(&probe[asked.peek]);
                 case.name = other(&case.name);
+                case.find_others();
                 if let Some(ledger) = &mut case.ledger {
                     ledger.accept(&asked.call);
                 }
@@ -402,7 +484,7 @@ impl Run {
         match trouble(case, asked, probe, oracle) {
             Ok(verdict) => {
                 self.count(&asked.call, &verdict);
-                self.count_afterwards(asked, probe, oracle);
+                self.count_afterwards(case, asked, probe, oracle);
                 let opened = case.opened_with(asked.words);
                 if let Ok(tree) = &opened {
                     let (words, bytes) = (asked.words, asked.bytes);
@@ -410,7 +492,9 @@ impl Run {
                 }
                 if asked.call == Call::Open {
                     self.met(of_program(&case.image, &opened));
+                    self.met(of_names(&case.image, &opened));
                 }
+                self.met(of_text(&asked.call, &verdict.expected));
                 if asked.program.is_some() && probe[asked.probe].starts_with("ok") {
                     self.met(vec!["program: held to its bytes and the totals after an edit"]);
                 }
@@ -436,24 +520,35 @@ impl Run {
         }
     }
 
-    fn count_afterwards(&mut self, asked: &Asked, probe: &[String], oracle: &[String]) {
+    fn count_afterwards(
+        &mut self,
+        case: &Case,
+        asked: &Asked,
+        probe: &[String],
+        oracle: &[String],
+    ) {
         if !both_accept(asked, probe, oracle) {
             return;
         }
         if let Some((ours, theirs, _)) = asked.hashes
+            && asked.whole.is_none()
             && probe[ours] != oracle[theirs]
         {
             let key = (Class::NameBehindZero, asked.call.name());
             *self.counts.differences.entry(key).or_default() += 1;
         }
-        // Both accept, and the original by itself takes some of the program.
-        if let (Some(alone), Some(told), Some((_, theirs, _))) =
+        // Both accept, and the original by itself takes some of the program, or writes other names.
+        if let (Some(alone), Some(told), Some((ours, theirs, _))) =
             (asked.alone, asked.twin, asked.hashes)
             && oracle[asked.oracle] == oracle[told]
-            && oracle[alone] != oracle[theirs]
         {
-            let key = (Class::ProgramEdits, asked.call.name());
-            *self.counts.differences.entry(key).or_default() += 1;
+            let (wanted, class) = match &case.others {
+                Some(others) => (&probe[ours], others.class),
+                None => (&oracle[theirs], Class::ProgramEdits),
+            };
+            if oracle[alone] != *wanted && (case.odd.is_none() || case.others.is_none()) {
+                *self.counts.differences.entry((class, asked.call.name())).or_default() += 1;
+            }
         }
         if asked.listing.is_some() {
             let (calls, accepted) = self.counts.calls.entry("listing").or_default();
@@ -515,20 +610,22 @@ impl Run {
 
     /// Whether the same call on `image` meets the same trouble.
     fn shows(&mut self, image: &[u8], asked: &Asked, what: &str) -> bool {
-        let path = self.place.join("shrink");
-        fs::write(&path, image).unwrap();
-        let mut case = Case::new(Random::new(0), image.to_vec(), "shrinka".into());
+        let mut case = Case::new(Random::new(0), image.to_vec(), "shrinka".into(), &self.codec);
         let mut lines = Batch::default();
-        lines.both(format!("image {}", path.display()));
-        lines.both("save shrinka".into());
+        case.load(&mut lines, &self.place.join("shrink"));
         let (call, words, bytes) = (asked.call.clone(), asked.words, asked.bytes);
         let asked = if call.edits() && case.opened.is_ok() {
             ask_edit_with(&mut lines, 0, &mut case, call, words, bytes)
         } else {
-            ask_look_with(&mut lines, 0, call, words, bytes)
+            ask_look_with(&mut lines, 0, &mut case, call, words, bytes)
         };
         let (probe, oracle) = self.ask(&lines);
         trouble(&case, &asked, &probe, &oracle).is_err_and(|(other, _)| other == what)
+    }
+
+    /// Whether the original can only be asked to open an image.
+    pub fn is_mixed(&self, image: &[u8]) -> bool {
+        Case::new(Random::new(0), image.to_vec(), String::new(), &self.codec).mixed.is_some()
     }
 
     // Given calls on a given image -------------------------------------------------------------
@@ -538,12 +635,10 @@ impl Run {
         self.counts.images += 1;
         self.counts.refused_images += u64::from(paper::open(&image, usize::MAX).is_err());
         for part in calls.chunks(512) {
-            let mut case = Case::new(Random::new(0), image.clone(), "each".into());
-            let path = self.place.join("each");
-            fs::write(&path, &case.image).unwrap();
+            let mut case = Case::new(Random::new(0), image.clone(), "each".into(), &self.codec);
+            assert!(case.mixed.is_none(), "an image that the original can only be asked to open");
             let (mut lines, mut asked) = (Batch::default(), vec![]);
-            lines.both(format!("image {}", path.display()));
-            lines.both("save each".into());
+            case.load(&mut lines, &self.place.join("each"));
             for (call, words, bytes) in part {
                 if call.edits() && case.opened.is_ok() {
                     asked.push(ask_edit_with(
@@ -556,7 +651,8 @@ impl Run {
                     ));
                 } else {
                     lines.both("load each".into());
-                    asked.push(ask_look_with(&mut lines, 0, call.clone(), *words, *bytes));
+                    let call = call.clone();
+                    asked.push(ask_look_with(&mut lines, 0, &mut case, call, *words, *bytes));
                 }
             }
             let (probe, oracle) = self.ask(&lines);
@@ -583,11 +679,14 @@ impl Run {
                     image[*at..at + bytes.len()].copy_from_slice(bytes);
                     lines.both(format!("patch {at:#x} {}", hex(bytes)));
                 }
-                let case = Case::new(Random::new(0), image, String::new());
-                asked.push(ask_look_with(&mut lines, i, Call::Open, 64, 0));
-                if case.opened.is_ok() {
-                    let more = calls.iter().cloned();
-                    asked.extend(more.map(|call| ask_look_with(&mut lines, i, call, 64, 0)));
+                let mut case = Case::new(Random::new(0), image, String::new(), &self.codec);
+                case.stand_in(&mut lines);
+                asked.push(ask_look_with(&mut lines, i, &mut case, Call::Open, 64, 0));
+                if case.opened.is_ok() && case.mixed.is_none() {
+                    for call in calls {
+                        let call = call.clone();
+                        asked.push(ask_look_with(&mut lines, i, &mut case, call, 64, 0));
+                    }
                 }
                 self.counts.images += 1;
                 self.counts.refused_images += u64::from(case.opened.is_err());
@@ -611,7 +710,9 @@ impl Run {
                 self.count(&asked.call, &verdict);
                 if asked.call == Call::Open {
                     self.met(of_program(&case.image, &case.opened));
+                    self.met(of_names(&case.image, &case.opened));
                 }
+                self.met(of_text(&asked.call, &verdict.expected));
             }
             Err((what, expected)) => {
                 let mut lines = image_lines(&case.image);
@@ -646,9 +747,11 @@ fn trouble(
 ) -> Result<Verdict, (String, String)> {
     let opened = case.opened_with(asked.words);
     let (words, bytes) = (asked.words, asked.bytes);
-    let given = Given { image: &case.image, opened: &opened, call: &asked.call, words, bytes };
-    let twin = asked.twin.map(|at| oracle[at].as_str());
-    let verdict = judge(&given, &oracle[asked.oracle], twin)
+    let others = case.others.as_ref().map(|others| others.class).or(case.mixed);
+    let (call, codec) = (&asked.call, &*case.codec);
+    let given = Given { image: &case.image, opened: &opened, call, words, bytes, codec, others };
+    let twin = asked.twin.map(|at| case.back(call, &oracle[at]));
+    let verdict = judge(&given, &oracle[asked.oracle], twin.as_deref())
         .map_err(|what| (format!("on no list: {what}"), String::new()))?;
     let wrong = |what: &str| Err((what.to_string(), verdict.expected.clone()));
     if verdict.expected != probe[asked.probe] {
@@ -657,14 +760,23 @@ fn trouble(
     if !both_accept(asked, probe, oracle) || !asked.call.edits() {
         return Ok(verdict);
     }
-    if asked.hashes.is_some_and(|(ours, _, theirs)| probe[ours] != oracle[theirs]) {
+    let same = match (asked.whole, asked.hashes) {
+        (Some((ours, theirs)), _) => {
+            let bytes = |answer: &str| unhex(answer.strip_prefix("ok ").unwrap());
+            bytes(&probe[ours]) == case.stand_ins.image_back(&bytes(&oracle[theirs]))
+        }
+        (None, Some((ours, _, theirs))) => probe[ours] == oracle[theirs],
+        (None, None) => true,
+    };
+    if !same {
         return wrong("the image afterwards");
     }
     let Ok(after) = case.edited(&probe[asked.peek]).1 else {
         return wrong("the image afterwards does not open");
     };
     if let Some((ours, theirs)) = asked.listing
-        && listing_after(&oracle[theirs], &after).as_ref() != Ok(&probe[ours])
+        && listing_after(&case.back(&Call::Listing, &oracle[theirs]), &after).as_ref()
+            != Ok(&probe[ours])
     {
         return wrong("the listing afterwards");
     }
@@ -741,16 +853,28 @@ fn edit_of_refused(r: &mut Random, inserts: bool) -> Call {
 
 fn ask_look(lines: &mut Batch, i: usize, case: &mut Case, call: Call) -> Asked {
     let (words, bytes) = case.lend(&call);
-    ask_look_with(lines, i, call, words, bytes)
+    ask_look_with(lines, i, case, call, words, bytes)
 }
 
-fn ask_look_with(lines: &mut Batch, case: usize, call: Call, words: usize, bytes: usize) -> Asked {
+fn ask_look_with(
+    lines: &mut Batch,
+    i: usize,
+    case: &mut Case,
+    call: Call,
+    words: usize,
+    bytes: usize,
+) -> Asked {
     lines.probe(format!("lend {words} {bytes}"));
     let probe = lines.probe(call.line());
+    if let Some(others) = &case.others {
+        lines.oracle(others.real());
+    }
     // An edit of an image that 01 refuses is held to opening.
     let oracle = lines.oracle(if call.edits() { "open".into() } else { call.line() });
-    let twin = if call.edits() { None } else { call.twin() }.map(|twin| lines.oracle(twin));
-    Asked::new(case, call, [words, bytes], [probe, oracle], twin)
+    case.stand_in(lines);
+    let twin = if call.edits() { None } else { case.twin(&call) };
+    let twin = twin.map(|twin| lines.oracle(twin));
+    Asked::new(i, call, [words, bytes], [probe, oracle], twin)
 }
 
 fn ask_edit(lines: &mut Batch, i: usize, case: &mut Case, call: Call) -> Asked {
@@ -766,11 +890,16 @@ fn ask_edit_with(
     words: usize,
     bytes: usize,
 ) -> Asked {
+    let twin = case.twin(&call);
+    let fit = |text: &[u8]| paper::units(text).all(paper::fit);
+    let whole = case.others.is_some() || twin.is_some() && call.text().is_some_and(fit);
     let (from, to) = (&case.name, other(&case.name));
     lines.probe(format!("load {from}"));
     lines.probe(format!("lend {words} {bytes}"));
     let probe = lines.probe(call.line());
     let ours = lines.probe("hash".into());
+    let all = format!("peek 0 {}", case.image.len());
+    let whole = whole.then(|| (lines.probe(all.clone()), 0));
     lines.probe(format!("save {to}"));
     // What the next edits are made up from: header and table, however far it grows.
     let written = |tree: &Tree| tree.fst_offset as usize + 12 * tree.entries.len() + tree.texts();
@@ -784,13 +913,17 @@ fn ask_edit_with(
         }
     };
     begin(lines);
+    if let Some(others) = &case.others {
+        lines.oracle(others.real());
+    }
     let oracle = lines.oracle(call.line());
     let told = case.opened.as_ref().ok().and_then(|tree| told_where(tree, &call));
-    let alone = told.is_some().then(|| lines.oracle("hash".into()));
-    let twin = call.twin().or(told).map(|twin| {
+    let alone = (told.is_some() || case.others.is_some()).then(|| lines.oracle("hash".into()));
+    let again = told.is_some() && call.fills();
+    let twin = told.or(twin).map(|twin| {
         begin(lines);
         let twin = lines.oracle(twin);
-        if call.fills() {
+        if again {
             lines.oracle(call.line());
         }
         twin
@@ -811,6 +944,7 @@ fn ask_edit_with(
             theirs = repaired;
         }
     }
+    let whole = whole.map(|(ours, _)| (ours, lines.oracle(all)));
     lines.oracle(format!("save {to}"));
     let hashes = Some((ours, theirs, repaired));
     let program = case.program.as_ref().map(|(at, bytes)| {
@@ -820,5 +954,5 @@ fn ask_edit_with(
         Program { total, used, free, bytes: lines.probe(format!("peek {at} {}", bytes.len())) }
     });
     let asked = Asked::new(i, call, [words, bytes], [probe, oracle], twin);
-    Asked { alone, hashes, peek, listing, program, ..asked }
+    Asked { alone, hashes, whole, peek, listing, program, ..asked }
 }

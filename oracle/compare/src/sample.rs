@@ -4,6 +4,7 @@
 
 use crate::calls::{self, Call, hex, unhex};
 use crate::child::Side;
+use crate::codec::{Codec, StandIns};
 use crate::judge::{Given, New, judge, told_where};
 use crate::masters;
 use crate::paper::{self, Refusal, Tree, word};
@@ -20,6 +21,7 @@ const CLIP_STEP: usize = 3;
 
 pub struct Sample {
     oracle: Side,
+    codec: Codec,
     out: String,
     image: Vec<u8>,
     opened: Result<Tree, Refusal>,
@@ -59,8 +61,11 @@ fn numbers(answer: &str) -> Vec<u32> {
 
 impl Sample {
     pub fn new(oracle: &str, inserts: bool, fills: bool) -> std::io::Result<Self> {
+        let mut oracle = Side::start(oracle)?;
+        let codec = Codec::of(&mut oracle);
         Ok(Self {
-            oracle: Side::start(oracle)?,
+            oracle,
+            codec,
             out: String::new(),
             image: vec![],
             opened: Err(Refusal { number: 1, entry: 0, past_parent: false }),
@@ -82,7 +87,7 @@ impl Sample {
                 let image =
                     if damaged { masters::damaged(&mut r) } else { masters::master(&mut r) };
                 let table = if image.len() < 0x440 { 0 } else { word(&image, 0x428) };
-                if image.len() <= IMAGE && table < 400 {
+                if image.len() <= IMAGE && table < 400 && self.comes_back(&image) {
                     break image;
                 }
             };
@@ -102,6 +107,14 @@ impl Sample {
             }
         }
         (std::mem::take(&mut self.out), self)
+    }
+
+    /// Whether all names of an image that opens come back: others are not the original's to judge.
+    fn comes_back(&self, image: &[u8]) -> bool {
+        let opened = paper::open(image, usize::MAX);
+        opened.map_or(true, |tree| {
+            tree.entries.iter().all(|entry| self.codec.class(&entry.name).is_none())
+        })
     }
 
     fn line(&mut self, line: &str) {
@@ -196,7 +209,18 @@ impl Sample {
         self.oracle.ask(&["save before".into()]);
         let answer = self.ask(call.line());
         let told = self.opened.as_ref().ok().and_then(|tree| told_where(tree, call));
-        let twin = call.twin().or(told).map(|twin| {
+        let mut twin = None;
+        if let Some(text) = call.text()
+            && self.codec.class(text).is_some()
+        {
+            // With a pair that does not come back the image would be another one.
+            if paper::units(text).all(paper::fit) {
+                return None;
+            }
+            let text = StandIns::default().twin(&self.codec, text);
+            twin = Some(call.line_of_any(&text));
+        }
+        let twin = twin.or(told).map(|twin| {
             self.oracle.ask(&["load before".into()]);
             let answer = self.ask(twin);
             if call.fills() {
@@ -209,7 +233,8 @@ impl Sample {
             _ => paper::open(&self.image, self.lent.0),
         };
         let (words, bytes, _) = self.lent;
-        let given = Given { image: &self.image, opened: &opened, call, words, bytes };
+        let (image, codec, others) = (&self.image[..], &self.codec, None);
+        let given = Given { image, opened: &opened, call, words, bytes, codec, others };
         let verdict = judge(&given, &answer, twin.as_deref()).ok()?;
         Some(verdict.expected)
     }

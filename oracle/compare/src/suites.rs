@@ -53,7 +53,7 @@ pub fn clip(length: usize) -> Vec<u8> {
 }
 
 /// The small master made `length` bytes long, of which `disc_end` are the disc, with other entries.
-fn other_master(length: usize, disc_end: u32, entries: &[[u32; 3]], texts: &[u8]) -> Vec<u8> {
+pub fn other_master(length: usize, disc_end: u32, entries: &[[u32; 3]], texts: &[u8]) -> Vec<u8> {
     let mut image = small_master();
     let known = image.len();
     image.resize(length, 0);
@@ -70,7 +70,7 @@ fn other_master(length: usize, disc_end: u32, entries: &[[u32; 3]], texts: &[u8]
     image
 }
 
-fn all_texts(alphabet: &[u8], length: usize) -> Vec<Vec<u8>> {
+pub fn all_texts(alphabet: &[u8], length: usize) -> Vec<Vec<u8>> {
     let mut all = vec![vec![]];
     let mut last = all.clone();
     for _ in 0..length {
