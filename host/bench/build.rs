@@ -19,7 +19,7 @@ use std::process::Command;
 const PLACES: usize = 4;
 
 /// The calls that an earlier library is held against.
-const CALLS: [&str; 2] = ["open", "rewrite"];
+const CALLS: [&str; 4] = ["open", "lookup", "insert_file", "rewrite"];
 
 fn main() {
     original::copy();

@@ -54,7 +54,14 @@ fn directory(plan: &Plan) -> Vec<u8> {
     plan.path_of[last].clone()
 }
 
-fn measure(call: &Call, plan: &Plan, image: &mut Vec<u8>, entry: u32, new: usize) -> [Duration; 2] {
+/// The Rust's time and Counter's, for a call that adds at most `new` entries.
+pub fn measure(
+    call: &Call,
+    plan: &Plan,
+    image: &mut Vec<u8>,
+    entry: u32,
+    new: usize,
+) -> [Duration; 2] {
     let table = images::table_of(&plan.nodes).len();
     let mut lent = Lent::new(plan.nodes.len() + new, table + 20 * new, plan.nodes.len() + 1);
     let id = sides::id_of(image, entry);
@@ -88,31 +95,37 @@ fn measure(call: &Call, plan: &Plan, image: &mut Vec<u8>, entry: u32, new: usize
 }
 
 /// One line for a call, one column for each kind of image.
-struct Table {
+pub struct Table {
     columns: Vec<String>,
-    rows: Vec<(&'static str, Vec<[Duration; 2]>)>,
+    rows: Vec<(String, Vec<[Duration; 2]>)>,
 }
 
 impl Table {
-    fn add(&mut self, name: &'static str, times: [Duration; 2]) {
+    /// One column for each of `images::KINDS`.
+    pub fn of_kinds() -> Self {
+        let columns = images::KINDS.map(|(n, sorted)| format!("{n} {}", images::order(sorted)));
+        Self { columns: columns.to_vec(), rows: vec![] }
+    }
+
+    pub fn add(&mut self, name: &str, times: [Duration; 2]) {
         match self.rows.iter_mut().find(|row| row.0 == name) {
             Some(row) => row.1.push(times),
-            None => self.rows.push((name, vec![times])),
+            None => self.rows.push((name.to_string(), vec![times])),
         }
     }
 
-    /// The Rust's and Counter's µs, and in brackets the second as a part of the first.
-    fn print(&self, misses: &mut Vec<String>) {
+    /// The µs of either side, and in brackets the second as a part of the first, which is not to pass the bar.
+    pub fn print(&self, misses: &mut Vec<String>, bar: f64) {
         println!();
         println!("| call | {} |", self.columns.join(" | "));
         println!("|---|{}", "---|".repeat(self.columns.len()));
         for (name, times) in &self.rows {
             print!("| {name} |");
-            for ([rust, counter], column) in times.iter().zip(&self.columns) {
-                let ratio = ratio(*counter, *rust);
-                print!(" {} {} ({ratio:.2}) |", micros(*rust), micros(*counter));
-                if ratio > 1.0 {
-                    misses.push(format!("{name}, {column}: {ratio:.2}"));
+            for ([first, second], column) in times.iter().zip(&self.columns) {
+                let ratio = ratio(*second, *first);
+                print!(" {} {} ({ratio:.2}) |", micros(*first), micros(*second));
+                if ratio > bar {
+                    misses.push(format!("{name}, {column}: {ratio:.2}; bar {bar}"));
                 }
             }
             println!();
@@ -121,8 +134,7 @@ impl Table {
 }
 
 pub fn run(misses: &mut Vec<String>) {
-    let columns = images::KINDS.map(|(n, sorted)| format!("{n} {}", images::order(sorted)));
-    let mut table = Table { columns: columns.to_vec(), rows: vec![] };
+    let mut table = Table::of_kinds();
     for (entries, sorted) in images::KINDS {
         for size in [64, 1, MEGABYTE] {
             let whole = images::plan(entries, sorted, size);
@@ -144,7 +156,7 @@ pub fn run(misses: &mut Vec<String>) {
             }
         }
     }
-    table.print(misses);
+    table.print(misses, 1.0);
 }
 
 /// Paths as long as they may be.
@@ -165,5 +177,5 @@ pub fn run_long(misses: &mut Vec<String>) {
             table.add(name, measure(&call, &plan, &mut images::image(&plan), 0, new));
         }
     }
-    table.print(misses);
+    table.print(misses, 1.0);
 }

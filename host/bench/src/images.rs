@@ -52,8 +52,18 @@ pub struct Plan {
     pub disc_end: u32,
 }
 
+/// The name of an entry by its number, and whether it is a directory.
+pub type Naming = fn(u32, bool) -> Vec<u8>;
+
+fn plain(number: u32, is_directory: bool) -> Vec<u8> {
+    match is_directory {
+        true => format!("folder_{number}").into(),
+        false => format!("file_{number:06}.bin").into(),
+    }
+}
+
 /// Directories of about twelve entries each, nested up to eight deep; the root is entry 0.
-fn tree(n: usize, random: &mut Random) -> Vec<Node> {
+fn tree(n: usize, random: &mut Random, naming: Naming) -> Vec<Node> {
     let root = Node { name: vec![], is_directory: true, first: 0, second: n as u32 };
     let mut nodes = vec![root];
     let mut open = vec![0u32];
@@ -66,11 +76,8 @@ fn tree(n: usize, random: &mut Random) -> Vec<Node> {
         let number = nodes.len() as u32;
         let parent = *open.last().unwrap();
         let is_directory = open.len() < 8 && random.below(12) == 0 || number == 1;
-        let name = match is_directory {
-            true => format!("folder_{number}"),
-            false => format!("file_{number:06}.bin"),
-        };
-        nodes.push(Node { name: name.into(), is_directory, first: parent, second: number + 1 });
+        let name = naming(number, is_directory);
+        nodes.push(Node { name, is_directory, first: parent, second: number + 1 });
         if is_directory {
             open.push(number);
         }
@@ -136,17 +143,29 @@ pub fn plan(n: usize, sorted: bool, size: u32) -> Plan {
 
 /// The same, and `gap` bytes free between two files in the middle of all.
 pub fn plan_with_gap(n: usize, sorted: bool, size: u32, gap: usize) -> Plan {
-    laid_out(n, sorted, size, gap, None)
+    laid_out(n, sorted, size, gap, None, plain)
 }
 
 /// As `plan`, with just `room` bytes free between the file of `size` bytes and the next.
 pub fn plan_with_room(n: usize, sorted: bool, size: u32, room: usize) -> Plan {
-    laid_out(n, sorted, size, 0, Some(room))
+    laid_out(n, sorted, size, 0, Some(room), plain)
 }
 
-fn laid_out(n: usize, sorted: bool, size: u32, gap: usize, room: Option<usize>) -> Plan {
+/// As `plan`, with names of another kind, and the file in the middle of 64 bytes.
+pub fn plan_with_names(n: usize, sorted: bool, naming: Naming) -> Plan {
+    laid_out(n, sorted, 64, 0, None, naming)
+}
+
+fn laid_out(
+    n: usize,
+    sorted: bool,
+    size: u32,
+    gap: usize,
+    room: Option<usize>,
+    naming: Naming,
+) -> Plan {
     let mut random = Random::new(n as u64);
-    let mut nodes = tree(n, &mut random);
+    let mut nodes = tree(n, &mut random, naming);
     let files: Vec<usize> = (0..n).filter(|&i| !nodes[i].is_directory).collect();
     let file = files[files.len() / 2];
     let mut order = files.clone();

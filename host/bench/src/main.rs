@@ -27,6 +27,7 @@ mod images;
 mod long;
 mod measure;
 mod measuring;
+mod names;
 mod places;
 mod program;
 mod sides;
@@ -37,6 +38,7 @@ fn main() {
         && word == "write"
     {
         program::write(folder.as_ref()).unwrap();
+        names::write(folder.as_ref()).unwrap();
         return measuring::write(folder.as_ref()).unwrap();
     }
     let runs = |name: &str| wanted.is_empty() || wanted.iter().any(|w| w == name);
@@ -47,6 +49,9 @@ fn main() {
     let mut slower = vec![];
     if runs("long") {
         calls::run_long(&mut slower);
+    }
+    if runs("names") {
+        names::run(&mut misses);
     }
     if runs("growth") {
         growth::run(&mut misses);

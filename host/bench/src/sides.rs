@@ -5,6 +5,8 @@ use crate::dvd::disc::{DiscRegion, DiscStream};
 use crate::dvd::fst::{DirectoryEntry, EntryId, FileEntry, FileTree};
 use crate::measure::Watch;
 use counter_sys::{self as counter, CLUSTER_WORDS, Memory, REGION_WORDS};
+use encoding_rs::SHIFT_JIS;
+use std::borrow::Cow;
 use std::hint::black_box;
 use std::io::Cursor;
 use std::rc::Rc;
@@ -35,6 +37,19 @@ impl Call {
             self,
             Open | Lookup(_) | FreeRegions | FreeClusters | Program | Allocate(..) | MaxFileSize(_)
         )
+    }
+
+    /// The path or the name as the Rust takes it.
+    fn text(&self) -> Cow<'_, str> {
+        match self {
+            Call::Lookup(bytes)
+            | Call::InsertFile(_, bytes)
+            | Call::InsertDirectory(_, bytes)
+            | Call::MakeDirectories(bytes) => {
+                SHIFT_JIS.decode_without_bom_handling_and_without_replacement(bytes).unwrap()
+            }
+            _ => Cow::Borrowed(""),
+        }
     }
 }
 
@@ -120,10 +135,6 @@ pub fn id_of(image: &[u8], number: u32) -> EntryId {
     disc.files().recurse().nth(number as usize).unwrap().1
 }
 
-fn text(bytes: &[u8]) -> &str {
-    std::str::from_utf8(bytes).unwrap()
-}
-
 /// What document 02 asks of a free region, which the Rust has no call for: the bytes before its first multiple of 0x8000, the whole
 /// clusters and the rest.
 fn in_clusters(region: &DiscRegion) -> [u32; CLUSTER_WORDS] {
@@ -133,6 +144,7 @@ fn in_clusters(region: &DiscRegion) -> [u32; CLUSTER_WORDS] {
 }
 
 pub fn rust_reads(call: &Call, image: &[u8], id: EntryId) -> Timed {
+    let text = call.text();
     let start = Watch::start();
     let mut disc = DiscStream::open(Cursor::new(image)).unwrap();
     match call {
@@ -140,8 +152,8 @@ pub fn rust_reads(call: &Call, image: &[u8], id: EntryId) -> Timed {
             let answer = black_box([disc.total_size(), disc.used_size()]);
             (start.elapsed(), answer.to_vec())
         }
-        Call::Lookup(path) => {
-            let found = black_box(disc.files().at(text(path)).unwrap());
+        Call::Lookup(_) => {
+            let found = black_box(disc.files().at(&text).unwrap());
             (start.elapsed(), vec![number_of(disc.files(), found)])
         }
         Call::FreeRegions => {
@@ -171,22 +183,23 @@ pub fn rust_reads(call: &Call, image: &[u8], id: EntryId) -> Timed {
 }
 
 pub fn rust_edits(call: &Call, image: &mut Vec<u8>, id: EntryId) -> Timed {
+    let text = &*call.text();
     let start = Watch::start();
     let mut disc = DiscStream::open(Cursor::new(image)).unwrap();
     let mut made = None;
     match call {
-        Call::InsertFile(_, name) => {
-            let entry = FileEntry::new(text(name), 0, 0).into();
+        Call::InsertFile(..) => {
+            let entry = FileEntry::new(text, 0, 0).into();
             made = Some(disc.oracle_files_mut().insert(id, entry).unwrap());
             disc.commit_file_tree()
         }
-        Call::InsertDirectory(_, name) => {
-            let entry = DirectoryEntry::new(text(name)).into();
+        Call::InsertDirectory(..) => {
+            let entry = DirectoryEntry::new(text).into();
             made = Some(disc.oracle_files_mut().insert(id, entry).unwrap());
             disc.commit_file_tree()
         }
-        Call::MakeDirectories(path) => {
-            made = Some(disc.oracle_files_mut().make_directories(text(path)).unwrap());
+        Call::MakeDirectories(_) => {
+            made = Some(disc.oracle_files_mut().make_directories(text).unwrap());
             disc.commit_file_tree()
         }
         Call::Move(_, to) => disc.move_file(id, *to),
