@@ -79,7 +79,7 @@ planInsert new nodes p nm =
 
 -- ---- "An accepted make-directories walks its path by Lookup's rules, adding each missing directory as last child."
 
--- the tree so far, the entry where the walk stands, and whether a name of a made directory has a byte that no name may have
+-- the tree so far, the entry where the walk stands, and whether a name of a made directory has a unit that no name may have
 pub data Made : Type 0 where
   stopped : Refusal → Made
   made : List Node → ℕ → Bool → Made

@@ -8,7 +8,7 @@ ghost use Rattle.refusal.specs.declared.Verdict.the-variants.{Passed};
 ghost use Rattle.tree.specs.Table as table_of;
 ghost use Rattle.tree.specs.Table.{nameOffset, nameAt, nodeAt, nodesFrom, entryVerdict, entriesVerdict, nameVerdict, nextVerdict, top};
 ghost use Rattle.fst_check.specs.Inner.Reading.{Inside, openIn, nodeVerdict, textsVerdict, textVerdict};
-ghost use Rattle.fst_text.specs.Inner.Texts.{textAt, cleanFrom, Leadless};
+ghost use Rattle.fst_text.specs.Inner.Texts.{textAt, cleanFrom, NoLead};
 ghost use Rattle.fst_text.specs.Inner.Blocks.{Fit, Marked};
 use refusal::Refusal;
 use refusal::Verdict;
@@ -53,7 +53,7 @@ fn entries_verdict(table: &[u8], count: usize) -> Verdict
 }
 
 // The units of the name at `at`: 12, 13.
-fn bytes_verdict(table: &[u8], at: usize) -> Verdict
+fn units_verdict(table: &[u8], at: usize) -> Verdict
     ensures { λ r. ⌜ r ≡ textVerdict (textAt (now (table .entry)) at) ⌝ }
 {
     if !fst_text::every_unit(table, at, false) {
@@ -96,7 +96,7 @@ fn name_verdict(table: &[u8], count: usize, marks: &[bool; 2048], k: usize, clea
     if fst_text::is_fit(table, 12 * count, marks, at) {
         return clean_verdict(table, at);
     }
-    bytes_verdict(table, at)
+    units_verdict(table, at)
 }
 
 // Whether the name of entry k starts clean.
@@ -108,7 +108,7 @@ fn starts_clean(
     k: usize,
     clean: bool,
 ) -> bool
-    requires { ⌜ Inside (now table) count × (k < count) × Marked (now table) (12 * count) (now marks) × ((clean ≡ true) → cleanFrom (now table) (12 * count) ≡ true) × Leadless (now table) (12 * count) first ⌝ }
+    requires { ⌜ Inside (now table) count × (k < count) × Marked (now table) (12 * count) (now marks) × ((clean ≡ true) → cleanFrom (now table) (12 * count) ≡ true) × NoLead (now table) (12 * count) first ⌝ }
     ensures { λ r. ⌜ ((r ≡ true) → (clean ≡ true) × Fit (now (table .entry)) (12 * count + nameOffset (now (table .entry)) k)) × Marked (now (table .entry)) (12 * count) (now (marks .exit)) ⌝ }
 {
     let offset = endian::read_u24(table, 12 * k + 1) as usize;

@@ -13,7 +13,7 @@ use Rattle.tree.specs.Units.{leadByte}
 use Rattle.tree.specs.Table.{plainByte, safeByte, plainUnit, safeUnit}
 use Rattle.tree.specs.Inner.Pairs.{pairAt}
 use Rattle.refusal.specs.Laws.Tests.{lt-or-le, and-left, and-right}
-use Rattle.fst_text.specs.Inner.Texts.{cleanByte, cleanFrom, Leadless}
+use Rattle.fst_text.specs.Inner.Texts.{cleanByte, cleanFrom, NoLead}
 use Rattle.fst_text.specs.Inner.Blocks.{Fit, markPlace, Marked}
 use Rattle.fst_text.proofs.Texts.{inside, every-end, every-pair, every-single, clean-no-pair, clean-pair, clean-single, clean-behind}
 
@@ -49,7 +49,7 @@ fit-clean (suc n) tab i h e = go (eqb (getD tab i 0) 0) (pairAt tab i) refl refl
 fit-first : (tab : List ℕ) (from : ℕ) → cleanFrom tab from ≡ true → Fit tab from
 fit-first tab from e = fit-clean (length tab) tab from (omega arith) e
 
--- LAW: a text that follows no lead byte starts with a unit
+-- LAW: of clean texts, one that follows no lead byte starts with a unit, and so is fit
 pub fit-after : (tab : List ℕ) (from at before b : ℕ) (t : Bool) → cleanFrom tab from ≡ true → b ≡ getD tab before 0 → from ≤ before → before + 1 ≡ at → t ≡ leadByte b → t ≡ false → Fit tab at
 fit-after tab from at before b t e r h k l f =
     let n : ℕ = before - from in
@@ -59,7 +59,7 @@ fit-after tab from at before b t e r h k l f =
     fit-first tab at (rw q at (clean-behind tab from n e z))
 
 -- LAW: so does one before which there is no lead byte at all
-pub fit-early : (tab : List ℕ) (from first at : ℕ) → cleanFrom tab from ≡ true → Leadless tab from first → from ≤ at → at ≤ first → Fit tab at
+pub fit-early : (tab : List ℕ) (from first at : ℕ) → cleanFrom tab from ≡ true → NoLead tab from first → from ≤ at → at ≤ first → Fit tab at
 fit-early tab from first at e g h l = ⊎-elim later (λ (k : at ≤ from). let q : at ≡ from = omega arith in rw q (fit-first tab from e)) (lt-or-le from at)
   where
     later : from < at → Fit tab at

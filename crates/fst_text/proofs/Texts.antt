@@ -1,4 +1,4 @@
--- A text read byte by byte: it ends at a zero byte or at the table's end. Assumes nothing.
+-- A text read byte by byte and unit by unit: it ends at a zero byte or at the table's end. Assumes nothing.
 use Prim.Native.Nat.{ℕ, zero, suc, _+_, _<_, _≤_}
 use mathlib.Core.Path.{_≡_, refl, sym, ap, _∙_}
 use mathlib.Core.Logic.{⊎-elim}
@@ -7,7 +7,7 @@ use mathlib.Core.List.{List, [], _∷_}
 use native.Mathlib.Omega.{arith}
 use native.Mathlib.Numerals.{add-one}
 use borrow.Author.Tests.{ne-eqb, eqb-true, eqb-false}
-use lib.ListN.{length, getD, drop, List·getD-eq-default}
+use lib.ListN.{length, getD, drop}
 use lib.Seq.{drop-drop, getD-drop}
 use lib.Dec.{eqb}
 use Rattle.tree.specs.Units.{leadByte, trailByte, TextUnit, single, pair, units}
@@ -15,7 +15,7 @@ use Rattle.tree.specs.Table.{every, dots, safe, plainByte, safeByte, safeUnit}
 use Rattle.tree.specs.Inner.Pairs.{pairAt}
 use Rattle.tree.specs.Laws.UnitLaws.{in-either, lead-is, trail-is, by-units, units-pair, units-single, units-none}
 use Rattle.refusal.specs.Laws.Tests.{lt-or-le, and-left, and-right, or-cases, is-false}
-use Rattle.fst_text.specs.Inner.Texts.{textAt, cleanByte, cleanUnit, cleanFrom, Leadless}
+use Rattle.fst_text.specs.Inner.Texts.{textAt, cleanByte, cleanUnit, cleanFrom, NoLead}
 
 pub text-end : (tab : List ℕ) (i : ℕ) → getD tab i 0 ≡ 0 → textAt tab i ≡ []
 text-end [] zero h = refl
@@ -81,9 +81,6 @@ module _ (tab : List ℕ) (i : ℕ) where
 
 pub every-end : (p : TextUnit → Bool) (tab : List ℕ) (i : ℕ) → getD tab i 0 ≡ 0 → every p (units (textAt tab i)) ≡ true
 every-end p tab i h = rw (units-end tab i h)
-
-pub every-past : (p : TextUnit → Bool) (tab : List ℕ) (i : ℕ) → length tab ≤ i → every p (units (textAt tab i)) ≡ true
-every-past p tab i h = every-end p tab i (List·getD-eq-default tab 0 h)
 
 pub every-pair : (p : TextUnit → Bool) (tab : List ℕ) (i : ℕ) → pairAt tab i ≡ true → p (pair (getD tab i 0) (getD tab (i + 1) 0)) ≡ true → every p (units (textAt tab i)) ≡ every p (units (textAt tab (i + 2)))
 every-pair p tab i h e = rw (text-pair tab i h, e)
@@ -181,13 +178,13 @@ module _ (tab : List ℕ) (i : ℕ) where
 
 -- ---- bytes that are clean by themselves
 
-pub leadless-none : (tab : List ℕ) (from : ℕ) → Leadless tab from from
-leadless-none tab from = record { before = omega arith; none = λ i h l. absurd (omega arith) }
+pub no-lead-yet : (tab : List ℕ) (from : ℕ) → NoLead tab from from
+no-lead-yet tab from = record { before = omega arith; none = λ i h l. absurd (omega arith) }
 
-pub leadless-more : (tab : List ℕ) (from end : ℕ) → Leadless tab from end → leadByte (getD tab end 0) ≡ false → Leadless tab from (end + 1)
-leadless-more tab from end g e = record { before = omega (arith, g .before); none = λ i h l. ⊎-elim (λ (k : i < end). g .none i h k) (λ (k : end ≤ i). let q : i ≡ end = omega arith in rw q e) (lt-or-le i end) }
+pub no-lead-next : (tab : List ℕ) (from end : ℕ) → NoLead tab from end → leadByte (getD tab end 0) ≡ false → NoLead tab from (end + 1)
+no-lead-next tab from end g e = record { before = omega (arith, g .before); none = λ i h l. ⊎-elim (λ (k : i < end). g .none i h k) (λ (k : end ≤ i). let q : i ≡ end = omega arith in rw q e) (lt-or-le i end) }
 
--- what follows a byte that is no lead byte starts no unit in its middle
+-- what follows a byte that is no lead byte does not start in the middle of a unit
 clean-drop : (l : List ℕ) (n : ℕ) → every cleanUnit (units l) ≡ true → leadByte (getD l n 0) ≡ false → every cleanUnit (units (drop (suc n) l)) ≡ true
 unfolding units
 clean-drop l n e = by-units Clean none-left pair-left single-left l n e

@@ -4,7 +4,7 @@
 ghost use mathlib.Core.Path.{_≡_};
 ghost use mathlib.Core.Bool.{true};
 ghost use Prim.Native.Nat.{_≤_};
-ghost use Rattle.fst_text.specs.Inner.Texts.{cleanFrom, Leadless};
+ghost use Rattle.fst_text.specs.Inner.Texts.{cleanFrom, NoLead};
 ghost use Rattle.fst_text.specs.Inner.Blocks.{Fit, Marked};
 use crate::text;
 use crate::units;
@@ -68,7 +68,7 @@ pub fn starts_clean(
     at: usize,
     clean: bool,
 ) -> bool
-    requires { ⌜ Marked (now table) base (now marks) × (base ≤ 196608) × (base ≤ at) × ((clean ≡ true) → cleanFrom (now table) base ≡ true) × Leadless (now table) base first ⌝ }
+    requires { ⌜ Marked (now table) base (now marks) × (base ≤ 196608) × (base ≤ at) × ((clean ≡ true) → cleanFrom (now table) base ≡ true) × NoLead (now table) base first ⌝ }
     ensures { λ r. ⌜ ((r ≡ true) → (clean ≡ true) × Fit (now (table .entry)) at) × Marked (now (table .entry)) base (now (marks .exit)) ⌝ }
 {
     if !clean {

@@ -5,7 +5,7 @@ ghost use Prim.Native.Nat.{_+_, _<_};
 ghost use lib.ListN.{length, getD};
 ghost use Rattle.tree.specs.Units.{units};
 ghost use Rattle.tree.specs.Table.{every, dots, safe};
-ghost use Rattle.fst_text.specs.Inner.Texts.{textAt, unitTest, cleanByte, cleanFrom, Leadless};
+ghost use Rattle.fst_text.specs.Inner.Texts.{textAt, unitTest, cleanByte, cleanFrom, NoLead};
 use crate::units;
 
 // Whether each unit of the text at `at` is safe, or each is plain.
@@ -30,7 +30,7 @@ pub fn every_unit(table: &[u8], at: usize, safe_only: bool) -> bool
 
 // The first byte from `from` on that is not clean by itself, or the table's end.
 pub fn clean_end(table: &[u8], from: usize) -> usize
-    ensures { λ r. ⌜ Leadless (now (table .entry)) from r × (cleanFrom (now (table .entry)) from ≡ cleanFrom (now (table .entry)) r) × ((r < length (now (table .entry))) → cleanByte (getD (now (table .entry)) r 0) ≡ false) ⌝ }
+    ensures { λ r. ⌜ NoLead (now (table .entry)) from r × (cleanFrom (now (table .entry)) from ≡ cleanFrom (now (table .entry)) r) × ((r < length (now (table .entry))) → cleanByte (getD (now (table .entry)) r 0) ≡ false) ⌝ }
 {
     let mut end = from;
     while end < table.len() {

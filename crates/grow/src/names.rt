@@ -1,4 +1,4 @@
-// The tests of a name that is passed in (document 01, "Names").
+// The tests of a name that is passed in (document 01, "Names", and document 02, Point 5).
 ghost use mathlib.Core.Path.{_≡_};
 ghost use Rattle.tree.specs.Table.{every, plain, safe};
 ghost use Rattle.tree.specs.Table as table_of;

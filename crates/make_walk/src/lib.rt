@@ -17,7 +17,7 @@ use refusal::Refusal;
 use refusal::Verdict;
 use tree::Located;
 
-// Where a component leads: an entry of the tree as it is, the number of new directories below it, and whether a new name has a byte that
+// Where a component leads: an entry of the tree as it is, the number of new directories below it, and whether a new name has a unit that
 // no name may have.
 pub enum Step {
     To(usize, usize, bool),

@@ -14,9 +14,9 @@ pub mod Records
 pub mod RoundTrip
 pub mod Size
 pub mod Steps
-pub mod UnitLaws
 pub mod SpecialCase
 pub mod Texts
+pub mod UnitLaws
 pub mod Vectors
 pub mod Writing
 pub mod WrittenBytes

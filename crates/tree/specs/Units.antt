@@ -24,7 +24,8 @@ abbrev pub unitBytes : TextUnit → List ℕ
 unitBytes (single b) = b ∷ []
 unitBytes (pair a b) = a ∷ b ∷ []
 
--- a text cut into units from its start: a lead byte without its trail "counts as one byte .., and the byte after it is judged afresh"
+-- a text cut into units from its start: a lead byte without its trail "counts as one byte .., and the byte after it is judged afresh". 02 says
+-- so of paths; a name is cut in the same way
 unfoldable pub units : List ℕ → List TextUnit
 units [] = []
 units (a ∷ []) = single a ∷ []

@@ -76,6 +76,11 @@ const PATH: Operand = needed(
     "a path in the image, from the root on, in UTF-8; cut at / and \\, but \\xHH is a byte from 0x80 on; `.` \
      stays, `..` goes back; at most 1,024 bytes in the image",
 );
+const NEW: Operand = needed(
+    "PATH",
+    Value::Entry,
+    "the folder's path, as `find` takes it, a / and the new name, which is all that stands behind the last /",
+);
 const DEST: Operand = needed("DEST", Value::New, "a new file or folder, or an empty folder");
 const SVG: Operand = needed("OUT.svg", Value::New, "the picture, a new file");
 const HTML: Operand = needed("OUT.html", Value::New, "the page, a new file");
@@ -129,7 +134,8 @@ const BYTES: Flag = Flag {
 const PATHS: Flag = Flag {
     name: "--paths",
     value: None,
-    words: "each path on a line of its own, as PATH and LIST take it",
+    words: "each path on a line of its own, as PATH and LIST take it; not with --json. The first is /, which \
+            in a LIST stands for everything",
 };
 const NUMBER: Flag = Flag {
     name: "--number",
@@ -250,8 +256,9 @@ pub const FORMS: &[Form] = &[
     Form {
         flags: &[&ALL, &NUMBER, &BYTES, &JSON, &WAIT, &AS_IS],
         more: "Files get their names in UTF-8, or with --bytes in the image's bytes. Nothing that is there is \
-               overwritten. Two entries that would be one file are refused before anything is written, \
-               unless --number is given.",
+               overwritten. Two entries that would be one file, and a name of more than 255 bytes (in UTF-8 \
+               86 half-width katakana), are refused before anything is written; --number keeps the two \
+               apart.",
         ..look(
             "extract",
             &[&IMAGE, &PATH, &DEST],
@@ -331,7 +338,7 @@ pub const FORMS: &[Form] = &[
     ),
     edit(
         "add",
-        &[&IMAGE, &PATH],
+        &[&IMAGE, &NEW],
         "adds an empty file as the last one of its folder",
         &["counter add disc.iso /text/fr/new.bin"],
     ),
@@ -408,8 +415,8 @@ lines that begin with #: before each file its place and size, the folders, the h
 program, the table, the free regions and what lies behind the disc end. After `counter extract IMAGE \
 --all DIR`, `sha256sum -c` holds the files in DIR to the manifest. The last line is the sum of all \
 lines above it, so that a manifest that was cut is recognised.
-Paths are in UTF-8, with --bytes in the image's bytes, and compare and report see which; sha256sum and a \
-manifest double a \\ in a path, and begin its line with one.";
+Paths are in UTF-8, with --bytes in the image's bytes, and compare and report see which. A \\ in a file's \
+path is doubled and its line begins with one, as sha256sum has it.";
 
 const REPORT: &str = "\
 The page holds all it shows: verdict, LIST, each file that differs with place, size and SHA-256 before \

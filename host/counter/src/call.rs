@@ -2,7 +2,7 @@
 
 use crate::args::Args;
 use crate::clip::Clip;
-use crate::disc::{CLUSTER, no_path};
+use crate::disc::{CLUSTER, LONGEST_PATH, TOO_LONG, no_path};
 use crate::failure::{Failure, Outcome};
 use crate::image::{Desk, Image};
 use crate::names::{parts, text, trouble};
@@ -66,7 +66,10 @@ impl Wish {
     /// What is wrong with the names that it would make, where they are refused with 12 or 13.
     fn trouble(&self, number: u32) -> Option<String> {
         match self {
-            Wish::Add(path) => trouble(cut(path).1, number),
+            Wish::Add(path) => match cut(path).1 {
+                name @ (b"." | b"..") => Some(format!("no entry is called {}", text(name))),
+                name => trouble(name, number),
+            },
             Wish::MakeFolders(path) => {
                 let mut parts = parts(path).into_iter().filter(|part| !part.is_empty());
                 parts.find_map(|part| trouble(part, number))
@@ -164,6 +167,7 @@ fn place_for(at: u32, image: &Image, desk: &mut Desk) -> Result<u32, u32> {
 pub fn refused(wish: &Wish, number: u32) -> Failure {
     let failure = Failure::refused(number, wish.words());
     match (number, wish) {
+        (9, Wish::MakeFolders(path)) if path.len() > LONGEST_PATH => failure.because(TOO_LONG),
         (9, _) => failure.because("more entries, bytes of names or levels than a table may have"),
         (12 | 13, _) => match wish.trouble(number) {
             Some(trouble) => failure.because(trouble),

@@ -5,6 +5,7 @@ use crate::disk::{self, On, PART, parts};
 use crate::failure::{CANNOT_CREATE, Failure, INPUT_OUTPUT, NO_INPUT, Outcome};
 use crate::image::{cannot_open, regular, same_file};
 use crate::journal;
+use crate::names;
 use crate::os::{self, Mapping};
 use crate::progress::Progress;
 use crate::text::{grouped, one_line};
@@ -35,7 +36,7 @@ impl Clip {
         let image = regular(image, fs::metadata(image))?;
         let (name, file) = match path.as_os_str() == "-" {
             true => ("standard input".into(), io::stdin().as_fd().try_clone_to_owned()),
-            false => (one_line(&path.display().to_string()), File::open(path).map(Into::into)),
+            false => (one_line(&names::file(path)), File::open(path).map(Into::into)),
         };
         let failed = |e: io::Error| cannot_open(Path::new(&name), &e);
         let file = File::from(file.map_err(failed)?);
@@ -89,7 +90,7 @@ impl Clip {
         let path = journal::clip_beside(path);
         let failed = |status, why: &io::Error| {
             let why = format!("the clip cannot be kept: {}", reason(why));
-            not_begun(&path.display().to_string(), status, &why)
+            not_begun(&names::file(&path), status, &why)
         };
         let file = disk::create(On::Clip, &path).map_err(|e| {
             failed(if disk::is_full(&e) { INPUT_OUTPUT } else { CANNOT_CREATE }, &e)

@@ -73,10 +73,10 @@ impl Pair {
             false => opened(path).map(|(image, layout)| Before::Image(image, layout))?,
         };
         if is_manifest(&after) {
-            let text = format!("{}: a manifest; AFTER is an image", after.display());
+            let text = format!("{}: a manifest; AFTER is an image", names::file(&after));
             return Err(Failure::usage(text));
         }
-        let names = (path.display().to_string(), after.display().to_string());
+        let names = (names::file(path), names::file(&after));
         let (image, after) = opened(&after)?;
         if let Before::Image(old, _) = &before
             && agree_anyway(old, &image)

@@ -193,6 +193,16 @@ impl Disc {
         }
     }
 
+    /// Says that names are written as escapes, where the system does not know their characters.
+    pub fn tell_of_escapes(&self) {
+        let names = self.nodes.iter().map(|node| &node.name);
+        if !names::are_raw() && names::have_no_characters(names) {
+            eprintln!(
+                "counter: this system's iconv has no CP932: names are written with \\xHH; --bytes keeps their bytes"
+            );
+        }
+    }
+
     /// The entry's path, kept or not.
     pub fn path(&self, image: &Image, node: &Node) -> Vec<u8> {
         if self.named {
@@ -242,10 +252,14 @@ fn name<'a>(image: &'a Image, node: &Node) -> Option<&'a [u8]> {
     fit.then_some(name)
 }
 
+/// How many bytes a path may have, and what is said of a longer one.
+pub const LONGEST_PATH: usize = 1024;
+pub const TOO_LONG: &str = "a path has at most 1,024 bytes";
+
 pub fn no_path(number: u32, path: &[u8]) -> Failure {
     let failure = Failure::refused(number, names::text(path));
     match number {
-        9 => failure.because("a path has at most 1,024 bytes"),
+        9 => failure.because(TOO_LONG),
         17 => failure.because("a part of the path before the last is a file"),
         _ => failure,
     }

@@ -9,6 +9,7 @@ use crate::disk::{self, Watch};
 use crate::failure::{CANNOT_CREATE, Failure, INPUT_OUTPUT, INTERNAL, Outcome};
 use crate::image::{Desk, Image};
 use crate::journal::{self, Journal, Owner, Record};
+use crate::names;
 use crate::os::{Access, Mapping};
 use crate::out::say;
 use crate::progress::Progress;
@@ -201,7 +202,7 @@ fn no_journal(path: &Path, why: &io::Error) -> Failure {
     let status = if disk::is_full(why) { INPUT_OUTPUT } else { CANNOT_CREATE };
     let text = format!(
         "{}: the journal of the edit cannot be written: {}; nothing was written",
-        journal::beside(path).display(),
+        names::file(journal::beside(path)),
         disk::reason(why)
     );
     Failure::error(status, text)

@@ -53,7 +53,7 @@ fn entries(before: &Disc, after: &Disc, filled: Option<u32>) -> Vec<Json> {
         // A path means the first entry that has it.
         let differs = was.is_none_or(|was| place(was) != place(node));
         if seen.insert(&node.path) && (differs || filled == Some(node.number)) {
-            entries.push(entry(was, node));
+            entries.push(entry(was, node, after.has_paths()));
         }
     }
     entries
@@ -66,13 +66,15 @@ fn place(node: &Node) -> Option<(u32, u32)> {
     }
 }
 
-fn entry(before: Option<&Node>, after: &Node) -> Json {
+/// Where paths are not kept, `entry N` stands for them.
+fn entry(before: Option<&Node>, after: &Node, named: bool) -> Json {
     let told = |node: Option<&Node>| {
         node.and_then(place).map_or(Json::Null, |(offset, size)| {
             Json::Object(vec![("offset", offset.into()), ("size", size.into())])
         })
     };
     let [path, path_bytes] = json::path(&after.path);
+    let path_bytes = if named { path_bytes } else { ("path_bytes", Json::Null) };
     Json::Object(vec![
         ("number", after.number.into()),
         path,

@@ -1,6 +1,7 @@
 //! Why a command did not do what was asked: a refusal with its number, or an error with its exit
 //! status.
 
+use crate::names;
 use std::fmt;
 use std::io;
 use std::path::Path;
@@ -108,7 +109,7 @@ impl Failure {
             io::ErrorKind::AlreadyExists => "is there already, and nothing is overwritten".into(),
             _ => error.to_string(),
         };
-        Failure::error(status, format!("{}: {text}", path.display()))
+        Failure::error(status, format!("{}: {text}", names::file(path)))
     }
 
     pub fn status(&self) -> u8 {

@@ -35,7 +35,7 @@ impl Given {
             let missing = e.kind() == io::ErrorKind::NotFound;
             Failure::file(if missing { NO_INPUT } else { INPUT_OUTPUT }, list, &e)
         })?;
-        let name = list.display();
+        let name = names::file(list);
         if bytes.starts_with(&[0xFF, 0xFE]) || bytes.starts_with(&[0xFE, 0xFF]) {
             return Err(Failure::error(DATA, format!("{name}: UTF-16; the list has to be UTF-8")));
         }

@@ -193,7 +193,8 @@ const COMPARED: &str = "before after manifest passed covers_all order_changed fr
 
 const EDITED: &str = "status edit path path_bytes dry_run written table{before after} \
     entries[number path path_bytes kind before{offset size} after{offset size}] notes[...]; entries: \
-    those that are new or differ";
+    those that are new or differ; where all paths take more than 64 MiB, path is `entry N` and \
+    path_bytes null";
 
 fn json(forms: &[Form]) -> String {
     let mut out = String::from(
@@ -228,14 +229,19 @@ Names
     0x80 to 0xFC). They are shown and taken in UTF-8. A trail byte 0x5C is no \\ and cuts no path.
   - What has no character of its own is shown by its bytes, \\x81\\xad, and is taken so: in a PATH
     and in a LIST \\xHH is a byte from 0x80 on, or the trail byte of a lead byte that stands before
-    it. Any other \\ cuts a path like /. Some pairs share a character; it then means one of them,
-    and the others are shown by their bytes, so that no two names look the same.
+    it. A letter or a sign right behind a lead byte that is given so is its trail byte where it can
+    be, a \\ too; another character there is an error. Any other \\ cuts a path like /. So where a
+    folder holds a name like xfade, write text/xfade: text\\xfade has a byte 0xfa.
+  - Some pairs share a character; it then means one of them, and the others are shown by their bytes,
+    so that no two names have the same text.
   - A character that Shift-JIS does not have is an error (64, in a LIST 65), and so are the yen sign
-    and the overline, of which it would make \\ and ~.
+    and the overline, of which it would make \\ and ~. Where it has a near one, as the full-width
+    tilde for the wave dash, that is taken.
   - Where the locale (LC_ALL, LC_CTYPE, LANG) names another code than UTF-8, standard output and
-    standard error have every byte from 0x80 on as \\xHH, and a PATH is taken in bytes, with \\xHH
-    between them. Files are UTF-8 in any case: LIST, manifest, picture, page, and the names of those
-    that are extracted. Where the system's iconv has no CP932, there are no characters, only \\xHH.
+    standard error have every byte from 0x80 on as \\xHH. A PATH is then taken in \\xHH, and where the
+    locale names Shift-JIS also in bytes. Files are UTF-8 in any case: LIST, manifest, picture, page,
+    and the names of those that are extracted. Where the system's iconv has no CP932, there are no
+    characters, only \\xHH.
   - With --bytes names are the image's bytes, for scripts: in a PATH and a LIST, on standard output,
     in a manifest and in the names of extracted files. Standard error, JSON, pictures and pages
     keep text. A manifest says by itself which of both it has.

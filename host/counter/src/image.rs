@@ -3,6 +3,7 @@
 use crate::disk::{self, On};
 use crate::failure::{BUSY, CUT, Failure, INPUT_OUTPUT, NO_INPUT, NOT_ALLOWED, Outcome};
 use crate::journal;
+use crate::names;
 use crate::os::{self, Access, Mapping};
 use counter_sys::Memory;
 use std::fs::{self, File, Metadata, OpenOptions, TryLockError};
@@ -60,7 +61,7 @@ impl Image {
         let mapping = mapped(path, &file, access)?;
         // A file without a name (of a descriptor) can be read; a journal finds no place beside it.
         let place = fs::canonicalize(path).unwrap_or(path.to_path_buf());
-        let name = path.display().to_string();
+        let name = names::file(path);
         Ok(Image { name, path: Some(place), bytes: Bytes::Mapped { file, mapping } })
     }
 
@@ -130,7 +131,7 @@ fn unfinished(path: &Path) -> Failure {
     let text = format!(
         "{0}: an edit of this image was cut{edit}, and it may hold a part of it. Nothing was done. \
          `counter recover {0}` finishes the edit; --as-is takes the image as it is",
-        path.display()
+        names::file(path)
     );
     Failure::error(CUT, text)
 }
@@ -142,7 +143,7 @@ fn open(path: &Path, access: Access) -> Outcome<File> {
     if write && told.permissions().mode() & 0o222 == 0 {
         return Err(Failure::error(
             NOT_ALLOWED,
-            format!("{}: the file is read-only", path.display()),
+            format!("{}: the file is read-only", names::file(path)),
         ));
     }
     OpenOptions::new()
@@ -156,7 +157,7 @@ fn open(path: &Path, access: Access) -> Outcome<File> {
 /// Why a file that is to be read or edited cannot be had.
 pub fn cannot_open(path: &Path, error: &io::Error) -> Failure {
     if error.raw_os_error() == Some(os::EROFS) {
-        let text = format!("{}: the file is on a read-only disk", path.display());
+        let text = format!("{}: the file is on a read-only disk", names::file(path));
         return Failure::error(NOT_ALLOWED, text);
     }
     let status = match error.kind() {
@@ -174,7 +175,7 @@ pub fn regular(path: &Path, told: io::Result<Metadata>) -> Outcome<Metadata> {
         return Ok(told);
     }
     let kind = if told.is_dir() { "a folder" } else { "a special file" };
-    Err(Failure::error(NO_INPUT, format!("{}: {kind}, not an image", path.display())))
+    Err(Failure::error(NO_INPUT, format!("{}: {kind}, not an image", names::file(path))))
 }
 
 /// Whether two names lead to one file.
@@ -196,7 +197,7 @@ fn lock(path: &Path, file: &File, access: Access) -> Outcome<()> {
         _ => file.try_lock_shared(),
     };
     if matches!(got, Err(TryLockError::WouldBlock)) && WAIT.load(Ordering::Relaxed) {
-        eprintln!("counter: {}: another program is using it; waiting", path.display());
+        eprintln!("counter: {}: another program is using it; waiting", names::file(path));
         let waited = if access == Access::Shared { file.lock() } else { file.lock_shared() };
         got = waited.map_err(TryLockError::Error);
     }
@@ -204,7 +205,8 @@ fn lock(path: &Path, file: &File, access: Access) -> Outcome<()> {
         Ok(()) => Ok(()),
         Err(TryLockError::WouldBlock) => {
             let who = if access == Access::Shared { "using" } else { "editing" };
-            let text = format!("{}: another program is {who} it; try again later", path.display());
+            let text =
+                format!("{}: another program is {who} it; try again later", names::file(path));
             Err(Failure::error(BUSY, text))
         }
         Err(TryLockError::Error(e)) => Err(Failure::file(INPUT_OUTPUT, path, &e)),

@@ -216,7 +216,7 @@ pub fn find(args: &Args) -> Outcome<()> {
     };
     if args.json {
         let mut fields = node_fields(node);
-        fields.extend(json::path(&node.path));
+        fields.extend(json::path(&disc.path(&image, node)));
         fields.push(("largest_size", grow.into()));
         return say(Json::Object(fields).document().as_bytes());
     }
@@ -236,8 +236,9 @@ pub fn find(args: &Args) -> Outcome<()> {
         }
     }
     let named = |name, path: &[u8]| [label(name).as_bytes(), &shown_name(path), b"\n"].concat();
-    let (path, folder) = (&node.path, &disc.nodes[node.parent as usize].path);
-    let (path, folder) = (named("path", path), named("folder", folder));
+    let folder = &disc.nodes[node.parent as usize];
+    let [path, folder] = [("path", node), ("folder", folder)]
+        .map(|(name, node)| named(name, &disc.path(&image, node)));
     say(&[&path, first.as_bytes(), &folder, last.as_bytes()].concat())
 }
 

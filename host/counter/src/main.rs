@@ -83,7 +83,7 @@ fn main() {
             }
             None => {
                 let shown = command.unwrap_or_default();
-                let text = format!("no command {}; `counter help` has them", shown.display());
+                let text = format!("no command {}; `counter help` has them", names::file(&shown));
                 finish(Err(Failure::usage(text)), false)
             }
         },
@@ -97,7 +97,7 @@ fn helped(subject: Option<OsString>) -> Outcome<u8> {
         Some(subject) => subject
             .to_str()
             .and_then(|subject| help::about(subject).or_else(|| pages::page(subject)))
-            .ok_or_else(|| Failure::usage(format!("no help on {}", subject.display())))?,
+            .ok_or_else(|| Failure::usage(format!("no help on {}", names::file(&subject))))?,
     };
     say(text.as_bytes())?;
     Ok(0)

@@ -49,6 +49,7 @@ const FREE: &str = "free";
 pub fn hash(args: &Args) -> Outcome<()> {
     let (image, mut desk, disc) = opened(args.image.as_deref())?;
     let disc = disc.with_paths()?;
+    disc.tell_of_escapes();
     let layout = Layout::of(&image, &mut desk, &disc)?;
     say(&Manifest::of(&image, layout).text())
 }
@@ -246,7 +247,7 @@ fn sum(line: &mut &str) -> Option<Sum> {
 impl Manifest {
     pub fn read(path: &Path) -> Outcome<Manifest> {
         let bytes = fs::read(path).map_err(|e| Failure::file(INPUT_OUTPUT, path, &e))?;
-        let wrong = |why: &str| Failure::error(DATA, format!("{}: {why}", path.display()));
+        let wrong = |why: &str| Failure::error(DATA, format!("{}: {why}", names::file(path)));
         let bytes = bytes.strip_prefix(b"\xEF\xBB\xBF").unwrap_or(&bytes);
         let lines: Vec<&[u8]> = bytes.split(|&b| b == b'\n').map(without_return).collect();
         let text = lines.join(&b'\n');

@@ -25,7 +25,7 @@ pub fn map(args: &Args) -> Outcome<()> {
     if !args.json {
         let files = counted(layout.files().count(), "file", "files");
         let regions = counted(layout.free.len(), "free region", "free regions");
-        return say(format!("{}: {files}, {regions}\n", out.display()).as_bytes());
+        return say(format!("{}: {files}, {regions}\n", names::file(&out)).as_bytes());
     }
     let pieces = pieces.iter().map(|piece| {
         let [name, name_bytes] = json::name(&piece.bytes);

@@ -6,8 +6,9 @@
 
 use crate::text::{one_line, wide};
 use std::env;
-use std::ffi::{CStr, c_char, c_int, c_void};
+use std::ffi::{CStr, OsStr, c_char, c_int, c_void};
 use std::fmt::Write;
+use std::os::unix::ffi::OsStrExt;
 use std::ptr::null_mut;
 use std::sync::OnceLock;
 use std::sync::atomic::{AtomicBool, Ordering};
@@ -149,6 +150,11 @@ fn place(unit: &[u8]) -> usize {
     unit.iter().fold(0, |place, byte| place << 8 | usize::from(*byte))
 }
 
+/// Whether the system has no CP932, so that these names have no characters.
+pub fn have_no_characters(mut names: impl Iterator<Item = impl AsRef<[u8]>>) -> bool {
+    names.any(|name| !name.as_ref().is_ascii()) && Code::open(CP932, UTF_8).is_none()
+}
+
 fn characters() -> Vec<Option<char>> {
     let mut found = vec![None; 0x1_0000];
     let Some((read, write)) = Code::open(CP932, UTF_8).zip(Code::open(UTF_8, CP932)) else {
@@ -172,7 +178,8 @@ fn characters() -> Vec<Option<char>> {
 fn bytes_of(letter: char) -> Result<Vec<u8>, String> {
     let named = || format!("{} (U+{:04X})", one_line(&letter.to_string()), u32::from(letter));
     let code = Code::open(UTF_8, CP932).ok_or_else(|| {
-        let why = "has no bytes here: this system's iconv has no CP932; give them as \\xHH, or with --bytes";
+        let why =
+            "has no bytes here: this system's iconv has no CP932; \\xHH and --bytes need none";
         format!("{} {why}", named())
     })?;
     let bytes = code.turn(letter.encode_utf8(&mut [0; 4]).as_bytes());
@@ -215,17 +222,33 @@ fn escaped(bytes: &[u8]) -> String {
     spelt(bytes, |_| None)
 }
 
-/// Whether the terminal takes UTF-8. That is taken for granted unless the locale names another code: the
-/// locales C and POSIX name none.
-fn terminal_has_utf_8() -> bool {
-    static FOUND: OnceLock<bool> = OnceLock::new();
+/// The code of the terminal.
+#[derive(Clone, Copy, PartialEq, Eq)]
+enum Terminal {
+    Utf8,
+    ShiftJis,
+    Other,
+}
+
+/// UTF-8 is taken for granted unless the locale names another code: the locales C and POSIX name none.
+fn terminal() -> Terminal {
+    static FOUND: OnceLock<Terminal> = OnceLock::new();
     *FOUND.get_or_init(|| {
         let mut told = ["LC_ALL", "LC_CTYPE", "LANG"].into_iter().filter_map(env::var_os);
         let told = told.find(|value| !value.is_empty()).unwrap_or_default();
         let told = told.to_string_lossy().to_lowercase();
         let locale = told.split('@').next().unwrap_or_default();
-        locale.split_once('.').is_none_or(|(_, code)| code.replace('-', "") == "utf8")
+        let code = locale.split_once('.').map(|(_, code)| code.replace(['-', '_'], ""));
+        match code.as_deref() {
+            None | Some("utf8") => Terminal::Utf8,
+            Some("sjis" | "shiftjis" | "cp932" | "ms932" | "windows31j") => Terminal::ShiftJis,
+            Some(_) => Terminal::Other,
+        }
     })
+}
+
+fn terminal_has_utf_8() -> bool {
+    terminal() == Terminal::Utf8
 }
 
 static RAW: AtomicBool = AtomicBool::new(false);
@@ -280,14 +303,35 @@ pub fn for_terminal(words: &str) -> String {
     out
 }
 
+/// The name of a file of the system, for what is said: what of it is no UTF-8 is escaped, and on a terminal
+/// without UTF-8 every byte from 0x80 on.
+pub fn file(name: impl AsRef<OsStr>) -> String {
+    let mut out = String::new();
+    for chunk in name.as_ref().as_bytes().utf8_chunks() {
+        for letter in chunk.valid().chars() {
+            match letter.is_ascii() || terminal_has_utf_8() {
+                true => out.push(letter),
+                false => escape(&mut out, letter.encode_utf8(&mut [0; 4]).as_bytes()),
+            }
+        }
+        escape(&mut out, chunk.invalid());
+    }
+    out
+}
+
 // Taken -----------------------------------------------------------------------------------
 
 /// The bytes of a name or a path of the command line, or what is wrong with it.
 pub fn taken(text: &[u8]) -> Result<Vec<u8>, String> {
-    match (are_raw(), terminal_has_utf_8()) {
-        (true, _) => Ok(text.to_vec()),
-        (false, true) => from_text(text),
-        (false, false) => Ok(from_escaped(text)),
+    match terminal() {
+        _ if are_raw() => Ok(text.to_vec()),
+        Terminal::Utf8 => from_text(text),
+        Terminal::Other if !text.is_ascii() => Err(format!(
+            "\"{}\": the locale's code is neither UTF-8 nor Shift-JIS; bytes can be given as \\xHH, or with \
+             --bytes",
+            file(OsStr::from_bytes(text))
+        )),
+        _ => from_escaped(text),
     }
 }
 
@@ -305,6 +349,17 @@ struct Taken {
 }
 
 impl Taken {
+    /// Takes what was typed as it is. Of a lead byte that was given as `\xHH` it is the trail byte where it can
+    /// be; but a character from 0x80 on is one by itself, and not half of it is meant.
+    fn typed(&mut self, bytes: &[u8]) -> Result<(), String> {
+        if self.open && bytes[0] >= 0x80 && is_trail(bytes[0]) {
+            let lead = self.bytes[self.bytes.len() - 1];
+            return Err(format!("\\x{lead:02x} is a lead byte: give its trail byte as \\xHH too"));
+        }
+        self.push(bytes);
+        Ok(())
+    }
+
     fn push(&mut self, bytes: &[u8]) {
         for &byte in bytes {
             self.open = !(self.open && is_trail(byte)) && is_lead(byte);
@@ -332,8 +387,9 @@ const ESCAPE: usize = 4;
 
 /// The bytes of text.
 pub fn from_text(text: &[u8]) -> Result<Vec<u8>, String> {
+    let named = || file(OsStr::from_bytes(text));
     let text = std::str::from_utf8(text).map_err(|_| {
-        format!("\"{}\" is no UTF-8; bytes can be given as \\xHH, or with --bytes", escaped(text))
+        format!("\"{}\" is no UTF-8; bytes can be given as \\xHH, or with --bytes", named())
     })?;
     let (mut taken, mut rest) = (Taken::default(), text);
     while let Some(letter) = rest.chars().next() {
@@ -341,28 +397,29 @@ pub fn from_text(text: &[u8]) -> Result<Vec<u8>, String> {
             rest = &rest[ESCAPE..];
             continue;
         }
-        match letter.is_ascii() {
-            true => taken.push(&[letter as u8]),
-            false => taken
-                .push(&bytes_of(letter).map_err(|why| format!("\"{}\": {why}", one_line(text)))?),
-        }
+        let bytes = match letter.is_ascii() {
+            true => Ok(vec![letter as u8]),
+            false => bytes_of(letter),
+        };
+        let told = bytes.and_then(|bytes| taken.typed(&bytes));
+        told.map_err(|why| format!("\"{}\": {why}", one_line(text)))?;
         rest = &rest[letter.len_utf8()..];
     }
     Ok(taken.bytes)
 }
 
-/// The bytes of what a terminal without UTF-8 gives: bytes as they are, with escapes between them.
-fn from_escaped(text: &[u8]) -> Vec<u8> {
+/// The bytes of what a Shift-JIS terminal gives: bytes as they are, with escapes between them.
+fn from_escaped(text: &[u8]) -> Result<Vec<u8>, String> {
     let (mut taken, mut rest) = (Taken::default(), text);
     while let Some((unit, after)) = unit(rest) {
         if taken.escape(rest) {
             rest = &rest[ESCAPE..];
             continue;
         }
-        taken.push(unit);
+        taken.typed(unit).map_err(|why| format!("\"{}\": {why}", escaped(text)))?;
         rest = after;
     }
-    taken.bytes
+    Ok(taken.bytes)
 }
 
 #[cfg(test)]
@@ -390,8 +447,8 @@ mod tests {
             }
             assert_eq!(from_text(text(&bytes).as_bytes()), Ok(bytes.clone()), "{bytes:x?}");
             assert_eq!(from_text(escaped(&bytes).as_bytes()), Ok(bytes.clone()), "{bytes:x?}");
-            assert_eq!(from_escaped(escaped(&bytes).as_bytes()), bytes);
-            assert_eq!(from_escaped(&bytes), bytes);
+            assert_eq!(from_escaped(escaped(&bytes).as_bytes()), Ok(bytes.clone()));
+            assert_eq!(from_escaped(&bytes), Ok(bytes));
             tried += 1;
         }
         assert!(tried > 50_000, "{tried}");

@@ -140,7 +140,7 @@ fn bash() -> String {
         r#"# bash completion for counter; made by `counter help bash`
 _counter() {{
     local cur=${{COMP_WORDS[COMP_CWORD]}} prev=${{COMP_WORDS[COMP_CWORD-1]}}
-    local options operands i n=0 image= path
+    local options operands i n=0 image= path quoted
     COMPREPLY=()
     if ((COMP_CWORD == 1)); then
         COMPREPLY=($(compgen -W '{commands} help --version' -- "$cur"))
@@ -174,7 +174,8 @@ _counter() {{
         entry)
             eval "image=$image" 2>/dev/null
             while IFS= read -r path; do
-                [[ $path == "$cur"* ]] && COMPREPLY+=("$(printf %q "$path")")
+                printf -v quoted %q "$path"
+                [[ $path == "$cur"* || $quoted == "$cur"* ]] && COMPREPLY+=("$quoted")
             done < <(counter tree "$image" {PATHS})
             ;;
     esac

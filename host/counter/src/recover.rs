@@ -6,6 +6,7 @@ use crate::failure::{CUT, Failure, INPUT_OUTPUT, Outcome, UNSAID};
 use crate::image::{Desk, Image};
 use crate::journal::{self, Journal};
 use crate::json::Json;
+use crate::names;
 use crate::names::for_terminal;
 use crate::out::say;
 use crate::progress::Progress;
@@ -110,8 +111,8 @@ fn useless(path: &Path, why: &str) -> Failure {
         "{}: this journal cannot be used: {why}. Neither it nor the image was touched. Look at the image \
          with `counter check --as-is {}` and compare it with your copy; once you know that it is as it \
          should be, take the journal away",
-        journal::beside(path).display(),
-        path.display()
+        names::file(journal::beside(path)),
+        names::file(path)
     ))
 }
 
@@ -119,7 +120,7 @@ fn unread(path: &Path, words: &str, why: &io::Error) -> Failure {
     cut(format!(
         "{0}: {1}: the image could not be read, so the edit that was cut ({words}) was not finished. \
          Neither the image nor its journal was touched; try `counter recover {0}` again",
-        path.display(),
+        names::file(path),
         reason(why)
     ))
 }
@@ -128,9 +129,9 @@ fn not_opened(path: &Path, journal: &Journal, number: u32) -> Failure {
     cut(format!(
         "{}: the edit that was cut ({}) was finished as its journal says, but the image does not open \
          (refused {number}). The journal is kept: {}. Go back to your copy",
-        path.display(),
+        names::file(path),
         journal.record.change.words,
-        journal.path().display()
+        names::file(journal.path())
     ))
 }
 
@@ -139,8 +140,8 @@ fn doubtful(path: &Path) -> Failure {
         "{0}: its journal was written for another file. Nothing was touched. If the image was brought back \
          from a copy, take {1} away. If it is the one that was cut (now on another disk, or the disk has \
          no lasting numbers), `counter recover --anyway {0}` finishes the edit, if its contents fit",
-        path.display(),
-        journal::beside(path).display()
+        names::file(path),
+        names::file(journal::beside(path))
     ))
 }
 
@@ -149,9 +150,9 @@ fn changed(path: &Path, journal: &Journal, why: &str) -> Failure {
         "{0}: there is the journal of an edit ({1}), but the image is none that this edit can have left: \
          {why}. Another program has changed it since. Nothing was touched. Look at it with `counter check \
          --as-is {0}`; once you know that it is as it should be, take {2} away",
-        path.display(),
+        names::file(path),
         journal.record.change.words,
-        journal.path().display()
+        names::file(journal.path())
     ))
 }
 
@@ -164,10 +165,10 @@ fn clip_lost(path: &Path, journal: &Journal) -> Failure {
         "{0}: an edit was cut ({1}), and its clip is not whole any more: {2} is missing, cannot be read or \
          holds other bytes. Nothing was touched. Copy the same clip to that name, then `counter recover \
          {0}` finishes the edit; {back} take {3} away",
-        path.display(),
+        names::file(path),
         journal.record.change.words,
-        journal::clip_beside(path).display(),
-        journal.path().display()
+        names::file(journal::clip_beside(path)),
+        names::file(journal.path())
     ))
 }
 
@@ -182,7 +183,7 @@ pub fn stuck(file: &File, path: &Path, journal: &Journal, why: &io::Error) -> Fa
     if only_free_space(journal) && given_up(file, journal) {
         let mut text = format!(
             "{}: {}: nothing was written to the header, the table and the files: they are as they were",
-            path.display(),
+            names::file(path),
             reason(why)
         );
         if !journal.record.hole {
@@ -197,7 +198,7 @@ pub fn stuck(file: &File, path: &Path, journal: &Journal, why: &io::Error) -> Fa
     cut(format!(
         "{0}: {1}: the image holds a part of the edit ({2}). Nothing is lost: make room on the disk, then \
          `counter recover {0}` finishes it",
-        path.display(),
+        names::file(path),
         reason(why),
         change.words
     ))
@@ -208,7 +209,7 @@ pub fn still_there(journal: &Journal, why: &io::Error) -> Failure {
     cut(format!(
         "{}: {}: the edit is written and synced, but its journal could not be taken away; `counter \
          recover` does it",
-        journal.path().display(),
+        names::file(journal.path()),
         reason(why)
     ))
 }

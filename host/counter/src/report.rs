@@ -26,7 +26,7 @@ pub fn report(args: &Args) -> Outcome<u8> {
     save(&out, page(&found).as_bytes())?;
     let text = match args.json {
         true => found.json(false).document(),
-        false => format!("{}\n{}: {}\n", found.totals(), out.display(), found.verdict()),
+        false => format!("{}\n{}: {}\n", found.totals(), names::file(&out), found.verdict()),
     };
     say(text.as_bytes())?;
     Ok(found.status())

@@ -5,14 +5,14 @@ use crate::disc::{Disc, Kind, Node, opened};
 use crate::failure::{CANNOT_CREATE, Failure, Outcome};
 use crate::image::{Desk, Image};
 use crate::json::{self, Json};
-use crate::names::{self, for_terminal, shown};
+use crate::names::{self, shown};
 use crate::out::say;
 use crate::progress::Progress;
 use crate::save::{pump, save_window};
 use crate::sha256::hex;
 use crate::text::{counted, human};
 use counter_sys::{self as counter, Window};
-use std::collections::HashMap;
+use std::collections::{HashMap, HashSet};
 use std::ffi::OsString;
 use std::fs;
 use std::io::{self, Write};
@@ -36,7 +36,7 @@ pub fn cat(args: &Args) -> Outcome<()> {
         return pump(&image, window, &progress, say);
     }
     let Kind::File { offset, size } = node.kind else { unreachable!("a window is of a file") };
-    let mut fields = Vec::from(json::path(&node.path));
+    let mut fields = Vec::from(json::path(&disc.path(&image, node)));
     fields.extend([("offset", offset.into()), ("size", size.into())]);
     let head = Json::Object(fields);
     let head = head.document();
@@ -64,6 +64,7 @@ pub fn extract(args: &Args) -> Outcome<()> {
         to.push(file_name(node));
     }
     let plan = plan(&disc, node, &to, args.number)?;
+    disc.tell_of_escapes();
     let mut out = Vec::new();
     if node.is_directory() {
         folder(&to)?;
@@ -101,7 +102,7 @@ fn report(args: &Args, plan: &Plan, out: &[(&Node, &PathBuf, u64)]) -> Outcome<(
     for (node, path, size) in out {
         let file = match names::are_raw() {
             true => path.as_os_str().as_bytes().to_vec(),
-            false => for_terminal(&path.display().to_string()).into_bytes(),
+            false => names::file(path).into_bytes(),
         };
         text.extend([&shown(&node.path)[..], b" -> ", &file].concat());
         let _ = writeln!(text, " ({})", human(*size));
@@ -137,12 +138,16 @@ fn plan(disc: &Disc, top: &Node, to: &Path, number_equal: bool) -> Outcome<Plan>
     };
     let mut places: Vec<PathBuf> = vec![to.to_path_buf()];
     let mut taken: HashMap<PathBuf, u32> = HashMap::new();
+    let names: HashSet<(u32, OsString)> = match number_equal {
+        true => disc.nodes.iter().map(|node| (node.parent, file_name(node))).collect(),
+        false => HashSet::new(),
+    };
     for number in top.number..end {
         let node = &disc.nodes[number as usize];
         if number > top.number {
             let above = &places[(node.parent - top.number) as usize];
             let place = match number_equal {
-                true => unused(above, node, &taken),
+                true => unused(above, node, &names, &taken),
                 false => above.join(file_name(node)),
             };
             if let Some(other) = taken.insert(place.clone(), number) {
@@ -151,6 +156,9 @@ fn plan(disc: &Disc, top: &Node, to: &Path, number_equal: bool) -> Outcome<Plan>
             places.push(place);
         }
         let place = &places[(number - top.number) as usize];
+        if place.file_name().is_some_and(|name| name.len() > LONGEST_NAME) {
+            return Err(too_long(node, place));
+        }
         match node.kind {
             Kind::File { size, .. } => {
                 plan.files.push((number, place.clone()));
@@ -170,18 +178,42 @@ fn one_file(first: &Node, second: &Node, place: &Path) -> Failure {
         names::text(&second.path),
         first.number,
         second.number,
-        place.display()
+        names::file(place)
     );
     Failure::error(CANNOT_CREATE, text)
 }
 
-/// The entry's place in its folder. The second of two equal names gets its number behind it.
-fn unused(above: &Path, node: &Node, taken: &HashMap<PathBuf, u32>) -> PathBuf {
-    let mut place = above.join(file_name(node));
-    while taken.contains_key(&place) {
-        let mut name = place.into_os_string();
-        name.push(format!("~{}", node.number));
-        place = PathBuf::from(name);
+/// How many bytes a file's name may have (Linux's NAME_MAX).
+const LONGEST_NAME: usize = 255;
+
+/// A name that no file can have. In UTF-8 a half-width katakana takes three bytes, and a pair without a
+/// character eight.
+fn too_long(node: &Node, place: &Path) -> Failure {
+    let has = place.file_name().map_or(0, |name| name.len());
+    let mut text = format!(
+        "{}: as a file's name it has {has} bytes, and {LONGEST_NAME} are the most; nothing was written",
+        names::text(&node.path)
+    );
+    if !names::are_raw() && node.name.len() <= LONGEST_NAME {
+        text += &format!(" (with --bytes it has {})", node.name.len());
     }
-    place
+    Failure::error(CANNOT_CREATE, text)
+}
+
+/// The entry's place in its folder. The second of two equal names gets its number behind it; `names` are
+/// what the entries of each folder are called.
+fn unused(
+    above: &Path,
+    node: &Node,
+    names: &HashSet<(u32, OsString)>,
+    taken: &HashMap<PathBuf, u32>,
+) -> PathBuf {
+    let own = file_name(node);
+    let mut name = own.clone();
+    while taken.contains_key(&above.join(&name))
+        || name != own && names.contains(&(node.parent, name.clone()))
+    {
+        name.push(format!("~{}", node.number));
+    }
+    above.join(name)
 }

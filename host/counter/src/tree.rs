@@ -134,6 +134,9 @@ pub fn tree(args: &Args) -> Outcome<()> {
     let (image, mut desk, disc) = opened(args.image.as_deref())?;
     let disc = disc.with_paths()?;
     let weights = weights(&disc);
+    if args.json && args.paths {
+        return Err(Failure::usage("tree: --paths or --json, and not both"));
+    }
     if !args.json {
         return say(&if args.paths { paths(&disc) } else { tree_text(&disc, &weights) });
     }

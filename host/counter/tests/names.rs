@@ -267,6 +267,15 @@ fn without_cp932_there_are_only_escapes() {
     let escaped: String = PATHS.iter().map(|(_, escaped)| format!("{escaped}\n")).collect();
     assert_eq!((paths.status, paths.out), (0, escaped));
     assert_eq!(run(&["find", r"\x95\x5c.bin"]).status, 0);
+    // What is written then is said.
+    let (said, out) = ("iconv has no CP932: names are written with \\xHH", temp.at("out"));
+    let extracted = run(&["extract", "--all", out.to_str().unwrap()]);
+    assert_eq!((extracted.status, extracted.err.contains(said)), (0, true), "{}", extracted.err);
+    assert!(below(&out) == wanted(&image, |number| PATHS[number].1.into()));
+    let hashed = run(&["hash"]);
+    assert_eq!((hashed.status, hashed.err.contains(said)), (0, true), "{}", hashed.err);
+    let raw = run(&["hash", "--bytes"]);
+    assert_eq!((raw.status, raw.err.as_str()), (0, ""));
     let refused = run(&["find", "表.bin"]);
     assert_eq!(refused.status, 64);
     assert!(refused.err.contains("this system's iconv has no CP932"), "{}", refused.err);
@@ -306,7 +315,7 @@ fn a_character_that_shift_jis_does_not_have_is_an_error_in_words() {
         assert!(run.err.contains("--bytes") && run.err.contains("\\xHH"), "{}", run.err);
     }
     let run = within("C.UTF-8", "find", &image, &[b"/\x95\x5c.bin"]);
-    assert!(run.err.contains(r#""/\x95\x5c.bin" is no UTF-8"#), "{}", run.err);
+    assert!(run.err.contains(r#""/\x95\.bin" is no UTF-8"#), "{}", run.err);
     let told = on("find", &image, &["\u{a5}", "--json"]);
     assert_eq!(Json::read(&told.out).at("status").number(), 64);
     assert_eq!(State::of(&image), before);
@@ -349,6 +358,71 @@ fn a_backslash_cuts_where_it_is_no_trail_byte_and_no_escape() {
     assert_eq!(run.status, 18, "{}", run.err);
     let run = within("C.UTF-8", "find", &image, &[b"--bytes", b"a\\x41"]);
     assert_eq!(run.status, 0, "{}", run.err);
+}
+
+/// An escaped lead byte and half of a character make no pair that anyone means: 0x81 0x95 is one, and the
+/// 0x5C of 表 would cut the path.
+#[test]
+fn a_character_behind_an_escaped_lead_byte_is_an_error() {
+    let temp = Temp::new();
+    let image = master(&temp);
+    let before = State::of(&image);
+    let lead = r"\x81 is a lead byte: give its trail byte as \xHH too";
+    for path in [r"/\x81表", r"/\x81表x", r"/\x81ｱ", r"/a\x81あ/b"] {
+        for command in ["find", "add", "mkdir"] {
+            let run = on(command, &image, &[path]);
+            assert_eq!((run.status, run.out.as_str()), (64, ""), "{path}: {}", run.err);
+            assert!(run.err.contains(lead), "{}", run.err);
+        }
+        let list = temp.write("list.txt", path.as_bytes());
+        let args = [image.to_str().unwrap(), "--given", list.to_str().unwrap()];
+        let copy = temp.at("copy.iso");
+        fs::copy(&image, &copy).unwrap();
+        let run = on("compare", &copy, &args);
+        assert_eq!(run.status, 65, "{path}: {}", run.out);
+        assert!(run.err.contains("line 1: ") && run.err.contains(lead), "{}", run.err);
+    }
+    let run = within(SJIS, "find", &image, &[b"\\x81\x95\x5c"]);
+    assert_eq!(run.status, 64, "{}", run.out);
+    assert!(run.err.contains(r"give its trail byte as \xHH too"), "{}", run.err);
+    assert_eq!(State::of(&image), before);
+    // A sign that can be the trail byte is it, a backslash too.
+    accepted(&image, &["mkdir", r"\x81\b"]);
+    assert_eq!(bytes_of(&image, 10), b"/\x81\x5cb/");
+    // Behind a lead byte that has its trail byte a character is one by itself.
+    accepted(&image, &["mkdir", r"\x81\x81表"]);
+    assert_eq!(bytes_of(&image, 11), b"/\x81\x81\x95\x5c/");
+}
+
+#[test]
+fn a_locale_of_another_code_takes_escapes_alone() {
+    let temp = Temp::new();
+    let image = master(&temp);
+    for locale in ["ja_JP.eucJP", "de_DE.ISO-8859-15@euro"] {
+        for (path, status) in [(&b"/\x95\x5c.bin"[..], 64), (br"/\x95\x5c.bin", 0), (b"plain", 0)] {
+            let run = within(locale, "find", &image, &[path]);
+            assert_eq!(run.status, status, "{locale} {path:x?}: {}", run.err);
+            assert!(status == 0 || run.err.contains("neither UTF-8 nor Shift-JIS"), "{}", run.err);
+        }
+        assert_eq!(within(locale, "find", &image, &[b"/\x95\x5c.bin", b"--bytes"]).status, 0);
+    }
+}
+
+/// The names of the system's own files are not the image's: they are not turned into Shift-JIS.
+#[test]
+fn names_of_the_system_s_files_are_told_by_their_bytes() {
+    let temp = Temp::new();
+    let image = master(&temp);
+    let other = temp.at("表.iso");
+    fs::copy(&image, &other).unwrap();
+    let bytes = r"/\xe8\xa1\xa8.iso";
+    let run = within(SJIS, "check", &other, &[]);
+    assert!(run.out.contains(&format!("{bytes}: opens")), "{}", run.out);
+    assert!(within("C.UTF-8", "check", &other, &[]).out.contains("/表.iso: opens"));
+    let run = within(SJIS, "check", &temp.at("無.iso"), &[]);
+    assert!(run.err.contains(r"/\xe7\x84\xa1.iso: no such file"), "{}", run.err);
+    let run = within("C.UTF-8", "check", &temp.at("").join(OsStr::from_bytes(b"\x96\xb3")), &[]);
+    assert!(run.err.contains(r"/\x96\xb3: no such file"), "{}", run.err);
 }
 
 // Edits -----------------------------------------------------------------------------------
@@ -581,6 +655,60 @@ fn extract_writes_utf_8_names_or_the_bytes() {
     assert!(file.at("file_bytes").text().ends_with(&hex("/表.bin".as_bytes())));
 }
 
+/// A file system takes 255 bytes; in UTF-8 a half-width katakana has three, as an escape a pair has eight.
+#[test]
+fn a_name_too_long_for_a_file_is_refused_before_anything_is_written() {
+    let temp = Temp::new();
+    for (name, has, fits) in [
+        (b"\xb1".repeat(85), 255, true),
+        (b"\xb1".repeat(86), 258, false),
+        (b"\x81\xad".repeat(31), 248, true),
+        (b"\x81\xad".repeat(32), 256, false),
+    ] {
+        let image = temp.at("long.iso");
+        sparse(&image, &[file("first", 0x6_0000, 5), file(&name, 0x7_0000, 6)], END);
+        let out = temp.at("out");
+        let (words, name) = (["--all", out.to_str().unwrap()], name.len());
+        let run = on("extract", &image, &words);
+        match fits {
+            true => assert_eq!(run.status, 0, "{}", run.err),
+            false => {
+                assert_eq!((run.status, out.exists()), (73, false), "{}", run.err);
+                let told = format!("it has {has} bytes, and 255 are the most; nothing was written");
+                assert!(run.err.contains(&told), "{}", run.err);
+                assert!(run.err.contains(&format!("with --bytes it has {name})")), "{}", run.err);
+                done("extract", &image, &[&words[..], &["--bytes"]].concat());
+            }
+        }
+        assert_eq!(fs::read_dir(&out).unwrap().count(), 2);
+        fs::remove_dir_all(&out).unwrap();
+        fs::remove_file(&image).unwrap();
+    }
+}
+
+/// Two entries of one name: refused, or told apart by a number that makes no third one of it.
+#[test]
+fn two_entries_that_would_be_one_file() {
+    let temp = Temp::new();
+    let image = temp.at("double.iso");
+    let (name, third) = (b"\x95\x5c", b"\x95\x5c~2");
+    sparse(&image, &[file(name, 0x6_0000, 5), file(name, 0x7_0000, 6), file(third, 0, 0)], END);
+    let out = temp.at("out");
+    let words = ["--all", out.to_str().unwrap()];
+    for more in [&[][..], &["--bytes"]] {
+        let run = on("extract", &image, &[&words[..], more].concat());
+        assert_eq!((run.status, out.exists()), (73, false), "{}", run.err);
+        let told = "/表: entries 1 and 2 would be one file, ";
+        assert!(run.err.contains(told), "{}", run.err);
+        let shown = if more.is_empty() { "/out/表;" } else { r"/out/\x95\;" };
+        assert!(run.err.contains(shown), "{}", run.err);
+    }
+    done("extract", &image, &[&words[..], &["--number"]].concat());
+    let names: Vec<_> = below(&out).into_iter().map(|(name, bytes)| (name, bytes.len())).collect();
+    let wanted = [("表", 5), ("表~2", 0), ("表~2~2", 6)];
+    assert_eq!(names, wanted.map(|(name, size)| (name.as_bytes().to_vec(), size)));
+}
+
 #[test]
 fn a_manifest_is_held_by_sha256sum_and_by_compare() {
     let temp = Temp::new();
@@ -688,7 +816,7 @@ fn compare_and_report_take_a_list_and_tell_names() {
     assert_eq!(run.status, 0, "{}", run.out);
     assert!(run.err.contains("the list has /纊/, which neither image has"), "{}", run.err);
     for (list, words) in [
-        (&b"a\n\x95\x5c.bin\n"[..], "line 2: \"\\x95\\x5c.bin\" is no UTF-8"),
+        (&b"a\n\x95\x5c.bin\n"[..], "line 2: \"\\x95\\.bin\" is no UTF-8"),
         ("caf\u{e9}".as_bytes(), "line 1: \"café\": é (U+00E9) has no bytes in Shift-JIS"),
         ("表/..".as_bytes(), "line 1: \"表/..\" leads to the root"),
     ] {
@@ -792,4 +920,8 @@ fn bash_completes_names_as_they_are_typed() {
     };
     assert_eq!(found, "/表.bin\n");
     assert_eq!(offered("/ソース/").unwrap(), "/ソース/\n/ソース/十\n/ソース/ｱｲｳ\n");
+    // An escape as the shell has it, whole and in its midst.
+    for typed in [r"/\x8", r"/\\x8"] {
+        assert_eq!(offered(typed).unwrap(), "/\\\\x81\\\\xad.\n/\\\\x82\\\\x40\n");
+    }
 }

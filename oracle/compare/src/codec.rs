@@ -47,7 +47,7 @@ impl Codec {
         self.0[number(unit)]
     }
 
-    /// The entry for a name or path that does not come back, or that 02 has not and that does.
+    /// The entry for a name or path that does not come back, or that comes back although 02 has no such name.
     pub fn class(&self, text: &[u8]) -> Option<Class> {
         let class = |unit| match (paper::fit(unit), self.fate(unit)) {
             (true, Fate::Same) => None,

@@ -154,7 +154,7 @@ pub fn of_text(call: &Call, expected: &str) -> Vec<&'static str> {
             (expected == "err 12" && cut_stray, "make-directories: a lead byte before `/`, 12"),
             (
                 matches!(expected, "err 13" | "err 17" | "err 18") && strays,
-                "make-directories: such a byte, and other trouble before 12",
+                "make-directories: a lead byte without its trail, and other trouble before 12",
             ),
         ],
         _ => vec![

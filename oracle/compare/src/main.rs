@@ -102,8 +102,8 @@ fn listed(path: &str) -> Vec<String> {
 fn report(counts: &Counts) {
     println!("\n{} calls over {} images", counts.total(), counts.images);
     println!(
-        "({} of the images are refused at opening; edits made {} images more)",
-        counts.refused_images, counts.states
+        "({} of the images are refused at opening; edits made {} images more; {} random ones are left out)",
+        counts.refused_images, counts.states, counts.left_out
     );
     println!("\n| Call | Calls | Accepted | Refused, by number |\n|---|---|---|---|");
     for (call, (calls, accepted)) in &counts.calls {

@@ -195,7 +195,7 @@ pub fn stray(unit: &[u8]) -> bool {
     matches!(unit, [byte] if lead(*byte))
 }
 
-/// A name or a path, "cut into pairs from the start".
+/// A name or a path, cut into pairs and single bytes from its start.
 pub fn units(mut text: &[u8]) -> impl Iterator<Item = &[u8]> {
     std::iter::from_fn(move || {
         let (first, rest) = text.split_at_checked(unit(text))?;

@@ -25,6 +25,8 @@ pub const FAULTS: usize = 8;
 pub struct Counts {
     pub images: u64,
     pub refused_images: u64,
+    /// Random images that no stand-ins serve for.
+    pub left_out: u64,
     pub states: u64,
     /// By command: calls, of them accepted.
     pub calls: BTreeMap<&'static str, (u64, u64)>,
@@ -348,6 +350,7 @@ impl Run {
                 let image =
                     if r.chance(35) { masters::damaged(&mut r) } else { masters::master(&mut r) };
                 let case = Case::new(r, image, format!("c{}a", cases.len()), &self.codec);
+                self.counts.left_out += u64::from(case.mixed.is_some());
                 cases.extend(case.mixed.is_none().then(|| case.with_ledger()));
                 begun += 1;
             }

@@ -25,7 +25,7 @@ inserted :
 unfolding insertVerdict plain safe units childOf firstChild parentOf parentBelow sameBytes
 inserted = (refl, refl, refl, refl, refl)
 
--- `表\b` makes two directories; a lead byte before `/` is a name with a wrong byte, 12, which a later `:` comes before
+-- `表\b` makes two directories; a lead byte before `/` is a name with a wrong byte, 12, unless a later `:` makes it 13, which comes before
 made-along :
     (make tree [] 0 false (components (0x95 ∷ 0x5C ∷ 0x5C ∷ 0x62 ∷ [])) ≡ made (directory [] 4 ∷ file (0x61 ∷ []) 0x500 0x100 ∷ directory (0x95 ∷ 0x5C ∷ []) 4 ∷ directory (0x62 ∷ []) 4 ∷ []) 3 false) ×
     (madeVerdict (make tree [] 0 false (components (0x81 ∷ 0x2F ∷ 0x62 ∷ []))) ≡ Refused InvalidNameByte) ×

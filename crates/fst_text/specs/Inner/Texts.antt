@@ -35,6 +35,6 @@ unfoldable pub cleanFrom : List ℕ → ℕ → Bool
 cleanFrom tab from = every cleanUnit (units (drop from tab))
 
 -- no lead byte stands from `from` up to `end`
-pub record Leadless (tab : List ℕ) (from end : ℕ) : Type 0 where
+pub record NoLead (tab : List ℕ) (from end : ℕ) : Type 0 where
   pub before : from ≤ end
   pub none : (i : ℕ) → from ≤ i → i < end → leadByte (getD tab i 0) ≡ false

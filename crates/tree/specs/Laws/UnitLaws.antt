@@ -38,7 +38,7 @@ trail-is b e = ⊎-elim (λ (r : (0x40 ≤ b) × (b ≤ 0x7E)). (omega arith, om
 -- a text of one unit more, at its start
 module _ (P : List ℕ → Type 0) (none-left : P []) (of-pair : (a b : ℕ) (s : List ℕ) → leadByte a ≡ true → trailByte b ≡ true → units (a ∷ b ∷ s) ≡ pair a b ∷ units s → P s → P (a ∷ b ∷ s))
     (of-single : (a : ℕ) (s : List ℕ) → units (a ∷ s) ≡ single a ∷ units s → P s → P (a ∷ s)) where
-  -- LAW: what holds of a text with one unit more holds of all texts
+  -- LAW: what holds of the empty text, and of a text with one unit more wherever it holds of the rest, holds of all texts
   pub by-units : (s : List ℕ) → P s
   unfolding units
   by-units [] = none-left
@@ -85,7 +85,7 @@ pair-inside (a ∷ s) (suc i) e = let r : suc i < length s = pair-inside s i e i
 
 -- ---- a text behind another
 
--- `/` is no trail byte, so a text ends before it
+-- `/` is no trail byte, so no unit reaches over it
 pub units-then : (s t : List ℕ) → units (s ++ (0x2F ∷ t)) ≡ units s ++ (single 0x2F ∷ units t)
 unfolding units
 units-then [] [] = refl

@@ -122,8 +122,8 @@ looked-up :
 unfolding lookup follow components componentsOf units childOf firstChild parentOf parentBelow sameBytes
 looked-up = (refl, refl, refl, refl, refl, refl, refl, refl)
 
--- ---- Japanese names, as the small master's one name: `表` (0x95 0x5C), half-width katakana, the first and last bytes of each range; two pairs of
--- lead bytes
+-- ---- Japanese names, as the small master's one name: `表` (0x95 0x5C), half-width katakana, the first and last bytes of each range; a pair
+-- of two lead bytes, and then one with the trail byte 0x5C
 
 named : List ℕ → List ℕ
 named nm = take 24 master ++ (nm ++ (0 ∷ []))

@@ -69,15 +69,15 @@ returns-3 c =
     let o : c .before .before .before .before .before .read-u24 .result ≡ nameOffset (a .table .now) (a .k) = c .before .before .before .before .before .read-u24 .ensures .0 in
     rw (lt-leb (length (a .table .now) - 12 * a .count) (nameOffset (a .table .now) (a .k)) (omega arith)) (rw o at (c .clean-verdict2 .ensures))
 
-bytes-verdict-requires : tie.Need-bytes-verdict-requires
-bytes-verdict-requires c κs = search needs
+units-verdict-requires : tie.Need-units-verdict-requires
+units-verdict-requires c κs = search needs
 
 returns-4 : tie.Need-returns-4
 unfolding nameVerdict nameAt
 returns-4 c =
     let a = c .before .before .before .before .before .before .before .args in
     let o : c .before .before .before .before .before .read-u24 .result ≡ nameOffset (a .table .now) (a .k) = c .before .before .before .before .before .read-u24 .ensures .0 in
-    rw (lt-leb (length (a .table .now) - 12 * a .count) (nameOffset (a .table .now) (a .k)) (omega arith)) (rw o at (c .bytes-verdict .ensures))
+    rw (lt-leb (length (a .table .now) - 12 * a .count) (nameOffset (a .table .now) (a .k)) (omega arith)) (rw o at (c .units-verdict .ensures))
 
 pub name-verdict-spec : {M : Type 1} → statement M
 name-verdict-spec =
@@ -98,5 +98,5 @@ name-verdict-spec =
     is-fit-requires
     clean-verdict-requires-2
     returns-3
-    bytes-verdict-requires
+    units-verdict-requires
     returns-4)

@@ -5,20 +5,20 @@ use Prim.Native.Nat.{_-_}
 use mathlib.Core.Path.{_≡_, refl, sym, _∙_}
 use mathlib.Core.Bool.{true}
 use lib.ListN.{length, getD}
-use Rattle.fst_text.specs.Inner.Texts.{cleanByte, cleanFrom, Leadless}
-use Rattle.fst_text.proofs.Texts.{leadless-none, leadless-more, clean-no-lead, clean-no-pair, clean-single}
+use Rattle.fst_text.specs.Inner.Texts.{cleanByte, cleanFrom, NoLead}
+use Rattle.fst_text.proofs.Texts.{no-lead-yet, no-lead-next, clean-no-lead, clean-no-pair, clean-single}
 use borrow.Author.Needs.{needs}
 use Rattle.fst_text.proofs.text.clean_end.Statement.{statement}
 use Rattle.fst_text.proofs.text.clean_end.Tie as tie
 
 abbrev Inv-loop : tie.InvT-loop
-Inv-loop table from end₀ end = Leadless table from end × (cleanFrom table from ≡ cleanFrom table end)
+Inv-loop table from end₀ end = NoLead table from end × (cleanFrom table from ≡ cleanFrom table end)
 
 abbrev μ-loop : tie.MeasureT-loop
 μ-loop table from end₀ end = length table - end
 
 loop-holds : tie.Need-loop-holds Inv-loop μ-loop
-loop-holds c = (leadless-none (c .before .args .table .now) (c .before .args .from), refl)
+loop-holds c = (no-lead-yet (c .before .args .table .now) (c .before .args .from), refl)
 
 shared-slice-read-is-clean : tie.Need-shared-slice-read-is-clean Inv-loop μ-loop
 shared-slice-read-is-clean c = omega arith
@@ -37,7 +37,7 @@ loop-again c =
     let t = c .before .before .before .before .before .before .args .table .now in
     let l = c .before .before .before .before .loop in
     let e : cleanByte (getD t (l .end) 0) ≡ true = sym (c .before .is-clean .ensures) ∙ c .if1 .taken in
-    (leadless-more t (c .before .before .before .before .before .before .args .from) (l .end) (l .inv .0) (clean-no-lead (getD t (l .end) 0) e), l .inv .1 ∙ clean-single t (l .end) true (c .before .before .before .loop-test .taken) (clean-no-pair t (l .end) e) e)
+    (no-lead-next t (c .before .before .before .before .before .before .args .from) (l .end) (l .inv .0) (clean-no-lead (getD t (l .end) 0) e), l .inv .1 ∙ clean-single t (l .end) true (c .before .before .before .loop-test .taken) (clean-no-pair t (l .end) e) e)
 
 returns : tie.Need-returns Inv-loop μ-loop
 returns c =

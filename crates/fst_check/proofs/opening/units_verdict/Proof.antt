@@ -1,4 +1,4 @@
--- `fst_check::opening::bytes_verdict` meets its contract: each return by the tests that led there.
+-- `fst_check::opening::units_verdict` meets its contract: each return by the tests that led there.
 -- Assumes nothing.
 use mathlib.Core.Path.{_≡_, sym, _∙_}
 use mathlib.Core.Bool.{true, false}
@@ -6,8 +6,8 @@ use borrow.Author.Tests.{not-true, not-false}
 use Rattle.tree.specs.Table.{plain, safe}
 use Rattle.fst_text.specs.Inner.Texts.{textAt}
 use borrow.Author.Needs.{needs}
-use Rattle.fst_check.proofs.opening.bytes_verdict.Statement.{statement}
-use Rattle.fst_check.proofs.opening.bytes_verdict.Tie as tie
+use Rattle.fst_check.proofs.opening.units_verdict.Statement.{statement}
+use Rattle.fst_check.proofs.opening.units_verdict.Tie as tie
 
 every-unit-requires : tie.Need-every-unit-requires
 every-unit-requires c κs = search needs
@@ -37,6 +37,6 @@ returns-3 c =
     let q : safe (textAt (s .args .table .now) (s .args .at)) ≡ true = sym (c .before .is-safe-name .ensures) ∙ not-false (c .before .is-safe-name .result) (c .if2 .left) in
     rw (p, q)
 
-pub bytes-verdict-spec : {M : Type 1} → statement M
-bytes-verdict-spec =
+pub units-verdict-spec : {M : Type 1} → statement M
+units-verdict-spec =
     tie.close (tie.spec every-unit-requires returns is-safe-name-requires returns-2 returns-3)
