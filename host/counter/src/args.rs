@@ -339,7 +339,7 @@ pub const FORMS: &[Form] = &[
     edit(
         "add",
         &[&IMAGE, &NEW],
-        "adds an empty file as the last one of its folder",
+        "adds an empty file as the last one of its folder; all behind the last / is its name",
         &["counter add disc.iso /text/fr/new.bin"],
     ),
     edit(

@@ -297,7 +297,8 @@ fn statuses() -> String {
          \x20     a command that shows every path: more than 64 MiB of them\n\
          \x20 66  no such image or clip, or a folder in its place, or a special file in the image's\n\
          \x20 70  the library answered what it never should\n\
-         \x20 73  an output, a journal or a clip that is kept cannot be created, or is there already\n\
+         \x20 73  an output, a journal or a clip that is kept cannot be created, or is there already;\n\
+         \x20     extract: two entries would be one file, or a name has too many bytes for a file\n\
          \x20 74  input/output error; the disk is full\n\
          \x20 75  another program is using the image\n\
          \x20 77  not allowed: a read-only file or disk, or no permission\n\
