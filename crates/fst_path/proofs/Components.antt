@@ -36,19 +36,22 @@ prepend-none (u ∷ us) = go (separates u) (componentsOf us)
     go false [] = refl
     go false (c ∷ cs) = refl
 
--- the component that starts at `at`, as far as e
+-- the component that starts at `at` goes on to e at least: from there on the path is cut as its rest
+pub record Reaches (path : List ℕ) (at e : ℕ) : Type 0 where
+  pub cut : components (drop at path) ≡ prepend (span path at (e - at)) (components (drop e path))
+
 module _ (path : List ℕ) (at : ℕ) where
-  pub cut-start : components (drop at path) ≡ prepend (span path at (at - at)) (components (drop at path))
+  pub cut-start : Reaches path at at
   unfolding components
   cut-start =
       let z : at - at ≡ 0 = omega arith in
-      rw z (sym (prepend-none (units (drop at path))))
+      record { cut = rw z (sym (prepend-none (units (drop at path)))) }
 
-  module _ (e : ℕ) (h : at ≤ e) (t : Bool) (tested : t ≡ pairAt path e) where
-    -- a pair is a part of it, whatever its trail byte
-    pub cut-pair : t ≡ true → prepend (span path at (e - at)) (components (drop e path)) ≡ prepend (span path at (e + 2 - at)) (components (drop (e + 2) path))
+  module _ (e : ℕ) (h : at ≤ e) (so-far : Reaches path at e) (t : Bool) (tested : t ≡ pairAt path e) where
+    -- a pair is a part of it, whatever its trail byte: the next unit starts behind both bytes
+    pub cut-pair : t ≡ true → (next : ℕ) → next ≡ e + 2 → Reaches path at next
     unfolding components componentsOf
-    cut-pair p =
+    cut-pair p next x =
         let q : pairAt path e ≡ true = sym tested ∙ p in
         let n : e + 2 - at ≡ suc (suc (e - at)) = omega arith in
         let m : at + (e - at) ≡ e = omega arith in
@@ -56,23 +59,23 @@ module _ (path : List ℕ) (at : ℕ) where
         let i = pair-inside path e q in
         let s : span path at (suc (suc (e - at))) ≡ span path at (e - at) ++ (getD path e 0 ∷ getD path (e + 1) 0 ∷ []) =
         span-snoc path at (suc (e - at)) (omega arith) ∙ rw (k, span-snoc path at (e - at) (omega arith), m) (append-assoc (span path at (e - at)) (getD path e 0 ∷ []) (getD path (e + 1) 0 ∷ [])) in
-        rw (units-pair path e q, n, s) (prepend-longer (span path at (e - at)) (pair (getD path e 0) (getD path (e + 1) 0)) (componentsOf (units (drop (e + 2) path))))
+        rw x (record { cut = so-far .cut ∙ rw (units-pair path e q, n, s) (prepend-longer (span path at (e - at)) (pair (getD path e 0) (getD path (e + 1) 0)) (componentsOf (units (drop (e + 2) path)))) })
 
     module _ (p : t ≡ false) (l : e < length path) (u : Bool) (parting : u ≡ separator (getD path e 0)) where
-      pub cut-here : u ≡ true → prepend (span path at (e - at)) (components (drop e path)) ≡ span path at (e - at) ∷ componentsAfter path e
+      pub cut-here : u ≡ true → components (drop at path) ≡ span path at (e - at) ∷ componentsAfter path e
       unfolding components componentsOf
-      cut-here q = rw (units-single path e l (sym tested ∙ p), ← parting, q, lt-ltb e (length path) l, append-nil (span path at (e - at)))
+      cut-here q = so-far .cut ∙ rw (units-single path e l (sym tested ∙ p), ← parting, q, lt-ltb e (length path) l, append-nil (span path at (e - at)))
 
-      pub cut-single : u ≡ false → prepend (span path at (e - at)) (components (drop e path)) ≡ prepend (span path at (e + 1 - at)) (components (drop (e + 1) path))
+      pub cut-single : u ≡ false → Reaches path at (e + 1)
       unfolding components componentsOf
       cut-single q =
           let n : e + 1 - at ≡ suc (e - at) = omega arith in
           let m : at + (e - at) ≡ e = omega arith in
-          rw (units-single path e l (sym tested ∙ p), ← parting, q, n, span-snoc path at (e - at) (omega arith), m) (prepend-longer (span path at (e - at)) (single (getD path e 0)) (componentsOf (units (drop (e + 1) path))))
+          record { cut = so-far .cut ∙ rw (units-single path e l (sym tested ∙ p), ← parting, q, n, span-snoc path at (e - at) (omega arith), m) (prepend-longer (span path at (e - at)) (single (getD path e 0)) (componentsOf (units (drop (e + 1) path)))) }
 
-  pub cut-end : (e : ℕ) → length path ≤ e → prepend (span path at (e - at)) (components (drop e path)) ≡ span path at (e - at) ∷ componentsAfter path e
+  pub cut-end : (e : ℕ) → Reaches path at e → length path ≤ e → components (drop at path) ≡ span path at (e - at) ∷ componentsAfter path e
   unfolding components componentsOf
-  cut-end e l = rw (units-none path e l, le-ltb e (length path) l, append-nil (span path at (e - at)))
+  cut-end e so-far l = so-far .cut ∙ rw (units-none path e l, le-ltb e (length path) l, append-nil (span path at (e - at)))
 
 -- ---- `.` and `..`
 

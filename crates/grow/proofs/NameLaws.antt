@@ -1,15 +1,18 @@
 -- A name that is passed in, unit by unit. Assumes nothing.
-use Prim.Native.Nat.{ℕ}
+use Prim.Native.Nat.{ℕ, _+_}
 use mathlib.Core.Path.{_≡_, refl, sym, _∙_}
 use borrow.Author.Tests.{eq-eqb, ne-eqb}
 use mathlib.Core.Bool.{Bool, true, false, not, _&&_}
 use mathlib.Core.List.{List, [], _∷_}
 use native.Mathlib.Omega.{arith}
 use lib.Dec.{eqb}
-use lib.ListN.{length, getD}
+use lib.ListN.{length, getD, drop}
 use Rattle.tree.specs.Units.{units}
 use Rattle.tree.specs.Table.{every, dots, safe, plain}
+use Rattle.tree.specs.Inner.Pairs.{pairAt}
+use Rattle.tree.specs.Laws.UnitLaws.{units-pair}
 use Rattle.fst_text.specs.Inner.Texts.{unitTest}
+use Rattle.fst_text.proofs.Judging.{pair-fits}
 
 pub dots-one : (nm : List ℕ) → length nm ≡ 1 → dots nm ≡ eqb (getD nm 0 0) 0x2E
 dots-one [] h = absurd (omega arith)
@@ -27,6 +30,14 @@ dots-other [] h g = refl
 dots-other (a ∷ []) h g = absurd (h (omega arith))
 dots-other (a ∷ b ∷ []) h g = absurd (g (omega arith))
 dots-other (a ∷ b ∷ c ∷ s) h g = refl
+
+-- what is left from i on has the answer of the whole name
+pub record Judged (only : Bool) (nm : List ℕ) (i : ℕ) : Type 0 where
+  pub left : every (unitTest only) (units nm) ≡ every (unitTest only) (units (drop i nm))
+
+-- a pair fits: the next unit starts behind both of its bytes
+pub pair-judged : (only : Bool) (nm : List ℕ) (i : ℕ) → Judged only nm i → pairAt nm i ≡ true → (next : ℕ) → next ≡ i + 2 → Judged only nm next
+pair-judged only nm i so-far p next e = rw e (record { left = pair-fits only (units nm) (units (drop i nm)) (so-far .left) _ _ _ (units-pair nm i p) })
 
 -- the one test of a name and the other, by that of each unit
 pub plain-is : (nm : List ℕ) → every (unitTest false) (units nm) ≡ plain nm

@@ -1,19 +1,17 @@
--- `fst_path::component_end` meets its contract. The invariant of its loop: the units passed stand before the first component of the rest.
+-- `fst_path::component_end` meets its contract. The invariant of its loop: the component reaches to the unit that is next.
 -- Assumes nothing.
 use native.Mathlib.Omega.{arith}
 use Prim.Native.Nat.{_-_, _≤_}
-use mathlib.Core.Path.{_≡_, sym, _∙_}
-use lib.ListN.{length, drop}
-use Rattle.endian.specs.Bytes.{span}
-use Rattle.tree.specs.Lookup.{components}
+use mathlib.Core.Path.{sym, _∙_}
+use lib.ListN.{length}
 use Rattle.tree.specs.Laws.UnitLaws.{pair-inside}
-use Rattle.fst_path.proofs.Components.{prepend, cut-start, cut-pair, cut-here, cut-single, cut-end}
+use Rattle.fst_path.proofs.Components.{Reaches, cut-start, cut-pair, cut-here, cut-single, cut-end}
 use borrow.Author.Needs.{needs}
 use Rattle.fst_path.proofs.component_end.Statement.{statement}
 use Rattle.fst_path.proofs.component_end.Tie as tie
 
 abbrev Inv-loop : tie.InvT-loop
-Inv-loop path at end₀ end = (at ≤ end) × (end ≤ length path) × (components (drop at path) ≡ prepend (span path at (end - at)) (components (drop end path)))
+Inv-loop path at end₀ end = (at ≤ end) × (end ≤ length path) × Reaches path at end
 
 abbrev μ-loop : tie.MeasureT-loop
 μ-loop path at end₀ end = length path - end
@@ -35,7 +33,7 @@ loop-again c =
     let a = c .before .before .before .before .before .args in
     let l = c .before .before .before .loop in
     let p = c .before .is-pair in
-    (omega arith, omega (arith, pair-inside (a .path .now) (l .end) (sym (p .ensures) ∙ c .if1 .taken)), l .inv .2 ∙ cut-pair (a .path .now) (a .at) (l .end) (omega arith) (p .result) (p .ensures) (c .if1 .taken))
+    (omega arith, omega (arith, pair-inside (a .path .now) (l .end) (sym (p .ensures) ∙ c .if1 .taken)), cut-pair (a .path .now) (a .at) (l .end) (omega arith) (l .inv .2) (p .result) (p .ensures) (c .if1 .taken) _ (omega arith))
 
 shared-slice-read-is-separator : tie.Need-shared-slice-read-is-separator Inv-loop μ-loop
 shared-slice-read-is-separator c = omega arith
@@ -49,7 +47,7 @@ returns c =
     let l = c .before .before .before .before .before .before .loop in
     let p = c .before .before .before .before .is-pair in
     let s = c .before .is-separator in
-    (omega arith, omega arith, l .inv .2 ∙ cut-here (a .path .now) (a .at) (l .end) (omega arith) (p .result) (p .ensures) (c .before .before .before .if1 .left) (c .before .before .before .before .before .loop-test .taken) (s .result) (s .ensures) (c .if2 .taken))
+    (omega arith, omega arith, cut-here (a .path .now) (a .at) (l .end) (omega arith) (l .inv .2) (p .result) (p .ensures) (c .before .before .before .if1 .left) (c .before .before .before .before .before .loop-test .taken) (s .result) (s .ensures) (c .if2 .taken))
 
 add-end-2 : tie.Need-add-end-2 Inv-loop μ-loop
 add-end-2 c = omega arith
@@ -63,12 +61,12 @@ loop-again-2 c =
     let l = c .before .before .before .before .before .before .loop in
     let p = c .before .before .before .before .is-pair in
     let s = c .before .is-separator in
-    (omega arith, omega arith, l .inv .2 ∙ cut-single (a .path .now) (a .at) (l .end) (omega arith) (p .result) (p .ensures) (c .before .before .before .if1 .left) (c .before .before .before .before .before .loop-test .taken) (s .result) (s .ensures) (c .if2 .left))
+    (omega arith, omega arith, cut-single (a .path .now) (a .at) (l .end) (omega arith) (l .inv .2) (p .result) (p .ensures) (c .before .before .before .if1 .left) (c .before .before .before .before .before .loop-test .taken) (s .result) (s .ensures) (c .if2 .left))
 
 returns-2 : tie.Need-returns-2 Inv-loop μ-loop
 returns-2 c =
     let l = c .before .loop in
-    (omega arith, omega arith, l .inv .2 ∙ cut-end (c .before .before .before .args .path .now) (c .before .before .before .args .at) (l .end) (c .loop-test .left))
+    (omega arith, omega arith, cut-end (c .before .before .before .args .path .now) (c .before .before .before .args .at) (l .end) (l .inv .2) (c .loop-test .left))
 
 pub component-end-spec : {M : Type 1} → statement M
 component-end-spec =

@@ -1,26 +1,25 @@
 -- `grow::names::every_unit` meets its contract. The invariant of its loop: the rest of the name has the answer of the whole.
 -- Assumes nothing.
-use Rattle.tree.specs.Laws.UnitLaws.{units-pair, units-single, units-none}
-use Rattle.fst_text.proofs.Judging.{none-left, pair-fits, byte-fits, byte-fails}
+use Rattle.tree.specs.Laws.UnitLaws.{units-single, units-none}
+use Rattle.fst_text.proofs.Judging.{none-left, byte-fits, byte-fails}
+use Rattle.grow.proofs.NameLaws.{Judged, pair-judged}
 use borrow.Author.Needs.{needs}
 use Rattle.tree.specs.Units.{units}
-use Rattle.tree.specs.Table.{every}
-use Rattle.fst_text.specs.Inner.Texts.{unitTest}
 use lib.ListN.{length, drop}
-use mathlib.Core.Path.{_≡_, refl, sym, _∙_}
+use mathlib.Core.Path.{refl, sym, _∙_}
 use native.Mathlib.Omega.{arith}
 use Prim.Native.Nat.{_-_}
 use Rattle.grow.proofs.names.every_unit.Statement.{statement}
 use Rattle.grow.proofs.names.every_unit.Tie as tie
 
 abbrev Inv-loop : tie.InvT-loop
-Inv-loop name safe-only i₀ i = every (unitTest safe-only) (units name) ≡ every (unitTest safe-only) (units (drop i name))
+Inv-loop name safe-only i₀ i = Judged safe-only name i
 
 abbrev μ-loop : tie.MeasureT-loop
 μ-loop name safe-only i₀ i = length name - i
 
 loop-holds : tie.Need-loop-holds Inv-loop μ-loop
-loop-holds c = refl
+loop-holds c = record { left = refl }
 
 is-pair-requires : tie.Need-is-pair-requires Inv-loop μ-loop
 is-pair-requires c κs = search needs
@@ -36,7 +35,7 @@ loop-again c =
     let a = c .before .before .before .before .before .args in
     let l = c .before .before .before .loop in
     let p = c .before .is-pair in
-    pair-fits (a .safe-only) (units (a .name .now)) (units (drop (l .i) (a .name .now))) (l .inv) _ _ _ (units-pair (a .name .now) (l .i) (sym (p .ensures) ∙ c .if1 .taken))
+    pair-judged (a .safe-only) (a .name .now) (l .i) (l .inv) (sym (p .ensures) ∙ c .if1 .taken) _ (omega arith)
 
 shared-slice-read-fits : tie.Need-shared-slice-read-fits Inv-loop μ-loop
 shared-slice-read-fits c = omega arith
@@ -56,7 +55,7 @@ loop-again-2 c =
     let l = c .before .before .before .before .before .before .loop in
     let p = c .before .before .before .before .is-pair in
     let f = c .before .fits2 in
-    byte-fits (a .safe-only) (units (a .name .now)) (units (drop (l .i) (a .name .now))) (l .inv) _ _ (units-single (a .name .now) (l .i) (c .before .before .before .before .before .loop-test .taken) (sym (p .ensures) ∙ c .before .before .before .if1 .left)) (f .result) (f .ensures) (c .if2 .taken)
+    record { left = byte-fits (a .safe-only) (units (a .name .now)) (units (drop (l .i) (a .name .now))) (l .inv .left) _ _ (units-single (a .name .now) (l .i) (c .before .before .before .before .before .loop-test .taken) (sym (p .ensures) ∙ c .before .before .before .if1 .left)) (f .result) (f .ensures) (c .if2 .taken) }
 
 returns : tie.Need-returns Inv-loop μ-loop
 returns c =
@@ -64,13 +63,13 @@ returns c =
     let l = c .before .before .before .before .before .before .loop in
     let p = c .before .before .before .before .is-pair in
     let f = c .before .fits2 in
-    byte-fails (a .safe-only) (units (a .name .now)) (units (drop (l .i) (a .name .now))) (l .inv) _ _ (units-single (a .name .now) (l .i) (c .before .before .before .before .before .loop-test .taken) (sym (p .ensures) ∙ c .before .before .before .if1 .left)) (f .result) (f .ensures) (c .if2 .left)
+    byte-fails (a .safe-only) (units (a .name .now)) (units (drop (l .i) (a .name .now))) (l .inv .left) _ _ (units-single (a .name .now) (l .i) (c .before .before .before .before .before .loop-test .taken) (sym (p .ensures) ∙ c .before .before .before .if1 .left)) (f .result) (f .ensures) (c .if2 .left)
 
 returns-2 : tie.Need-returns-2 Inv-loop μ-loop
 returns-2 c =
     let a = c .before .before .before .args in
     let l = c .before .loop in
-    none-left (a .safe-only) (units (a .name .now)) (units (drop (l .i) (a .name .now))) (l .inv) (units-none (a .name .now) (l .i) (c .loop-test .left))
+    none-left (a .safe-only) (units (a .name .now)) (units (drop (l .i) (a .name .now))) (l .inv .left) (units-none (a .name .now) (l .i) (c .loop-test .left))
 
 pub every-unit-spec : {M : Type 1} → statement M
 every-unit-spec =
