@@ -6,7 +6,8 @@
 The calls stand below. An answer comes from the unchanged Rust, which carries out the same call, with the checksum of its image.
 Where document 01 says something else than the Rust, or has a limit that the Rust has not, the answer is written here by hand, with the
 reason; the script then insists that the Rust says something else (but for a listing, which the Rust has not, and a window that it cannot make).
-A call that document 02 adds or gives another meaning, and one with a name that the Rust's codec does not turn back, is answered by hand too.
+A call that document 02 adds or gives another meaning, and one with a name that the Rust's codec does not turn back, is answered by hand too,
+and so is what a record holds; the script insists that the Rust's used total and its largest free region have moved as the record has.
 Where a program lies behind the table, the Rust's free list is taken with the program out of it, and nothing else of its space. Each call ends
 with a comment that says where its answer comes from. Nothing here comes from the program `replay` or from what it tests."""
 import os
@@ -50,6 +51,7 @@ class Script:
         self.oracle = oracle
         self.lines = []
         self.rust = self.paper = self.images = 0
+        self.held = None  # the record in use
 
     def heading(self, text):
         self.lines.append("# " + text)
@@ -96,17 +98,21 @@ class Script:
 
     # ---- edits
 
-    def edit(self, name, *arguments, note="", paper=None, why="", image=None, of="01", differs=None):
+    def edit(self, name, *arguments, note="", paper=None, why="", image=None, of="01", differs=None, record=None):
         """An edit. `paper`: the answer by document `of`, `ok`, `ok NUMBER` or the number of a refusal, and `why` the Rust's is not it.
         `image`: where that document accepts what the Rust refuses or is not asked, a function that has the oracle make the image that it
-        describes. `differs`: whether the Rust has to say something else; so it is for document 01."""
+        describes. `differs`: whether the Rust has to say something else; so it is for document 01. `record`: what an accepted edit makes of
+        the record in use, by document 02."""
+        before = self.oracle("used") if self.held else ""
         line = " ".join([CALLS.get(name, name)] + [shown(a) for a in arguments])
         command = " ".join([COMMANDS.get(name, name)] + [str(a) if isinstance(a, int) else a.hex() or "-" for a in arguments])
         if paper is None:
             answer, source = as_answer(self.oracle(command), line), "Rust" + (f"; {note}" if note else "")
         else:
             answer, source = self.by_hand(command, line, paper, image, of == "01" if differs is None else differs), f"{of}: {why}"
-        self.call(line, [answer[0], int(self.oracle.checksum(), 16)] + answer[1:], source)
+        if self.held and answer[0] == 0:
+            self.moved_to(before, record, line)
+        self.call(line, [answer[0], int(self.oracle.checksum(), 16)] + answer[1:] + (self.held or []), source)
 
     def by_hand(self, command, line, paper, image, differs):
         answer = [paper] if isinstance(paper, int) else [0] + [int(word) for word in paper.split()[1:]]
@@ -119,6 +125,27 @@ class Script:
         agrees = is_answer(said) and as_answer(said, line) == answer and image_said == self.oracle.checksum()
         assert not differs or not agrees, (line, "the Rust agrees", said)
         return answer
+
+    # ---- records
+
+    def record(self, *numbers):
+        """From here on edits take this record; without numbers none."""
+        self.lines.append(" ".join(["record"] + [n(number) for number in numbers]))
+        self.held = list(numbers) or None
+
+    def make_record(self, used, largest, why):
+        """`make_record`, which the Rust has not: used bytes and the largest free region by document 02. What is not free is used."""
+        sizes = [size for _, size in self.free_said()]
+        assert [used, largest] == [int(self.oracle.setting("total")) - sum(sizes), max(sizes, default=0)], (why, sizes)
+        self.held = [used, largest, 0]
+        self.call("make_record", [0] + self.held, f"02: {why}")
+
+    def moved_to(self, before, record, line):
+        """The record after an accepted edit: the Rust's used total has moved by as much, and its largest free region is this."""
+        moved = int(self.oracle.setting("used")) - int(before.split()[1])
+        largest = max((size for _, size in self.free_said()), default=0)
+        assert list(record) == [self.held[0] + moved, largest, self.held[2] + 1], (line, record, moved, largest)
+        self.held = list(record)
 
     # ---- calls that read
 
@@ -1672,6 +1699,181 @@ def fills_beside_the_program(s):
     s.lend(0x1000, 0x1000)
 
 
+# ---- records: used bytes, the largest free region, accepted edits
+
+MOST = 0xFFFFFFFF
+COUNT = "the edit count would leave 0 to 2^32 - 1"
+BELOW = "used bytes would be below 0"
+ABOVE = "used bytes would be above 2^32 - 1"
+
+
+def records_of_edits(s):
+    s.lend(0x40, 0x100)
+    new_image(s, "small master of document 01: a record is made of it, goes into an edit and comes back", 0x2000, A_AT_500, free=False)
+    for name, arguments, record in [
+            ("resize", (1, 756), (1870, 6156, 1)), ("resize", (1, 0x100), (1370, 6656, 1)), ("resize", (1, 0), (1114, 7078, 1)),
+            ("resize", (1, 0x1B00), (8026, 166, 1)), ("move", (1, 0x600), (1370, 6400, 1)), ("rewrite", (), (1370, 6656, 1)),
+            ("insert_file", (0, b"b"), (1384, 6656, 1)), ("insert_directory", (0, b"bb"), (1385, 6656, 1)),
+            ("make_directories", (0, b""), (1370, 6656, 1)), ("make_directories", (0, b"n/m"), (1398, 6656, 1)),
+            ("replace", (1, b"clip"), (1118, 6908, 1)), ("replace", (1, Clip(0x100)), (1370, 6656, 1)), ("replace_zeros", (1, 756), (1870, 6156, 1))]:
+        s.load()
+        s.make_record(1370, 6656, "0x45a bytes up to the table's end, and 0x100 of a")
+        s.edit(name, *arguments, note="02's record", record=record)
+    s.load()
+    s.make_record(1370, 6656, "as above")
+    for name, arguments in [("move", (1, 0x580)), ("move", (1, 0x400)), ("resize", (1, 0x1B01)), ("resize", (0, 0)), ("replace", (2, b"")),
+                            ("insert_file", (0, b"a")), ("insert_directory", (1, b"b")), ("make_directories", (0, b".."))]:
+        s.edit(name, *arguments, note="a refused edit hands the record back unaltered")
+    s.record()
+    s.edit("resize", 1, 756, note="none is in use")
+
+
+def records_made(s):
+    s.lend(0x10, 0)
+    new_image(s, "records of images that open, and of some that do not", 0x2000, A_AT_500, free=False)
+    s.record(1, 2, 3)
+    for number, note, change in [(1, "image of 0x43f bytes", lambda: s.size(0x43F)), (3, "no GameCube magic", lambda: s.patch(0x1C, word(0))),
+                                 (4, "image of 0x1fff bytes", lambda: s.size(0x1FFF)), (13, "name .", lambda: s.patch(0x458, b".")),
+                                 (14, "file in the table", lambda: s.patch(0x450, word(0x459))),
+                                 (24, "a header that passes the image", lambda: s.patch(0x420, word(0x1F1D)))]:
+        s.load()
+        change()
+        s.look("make_record", paper=number, why=note, of="02")
+        s.edit("rewrite", paper=number, why="the record stays", of="02")
+    s.load()
+    s.lend(0xF, 0)
+    s.look("make_record", paper=9, why="one working word too few", of="02")
+    s.edit("resize", 1, 0x100, paper=9, why="one working word too few", of="02")
+    s.lend(0x10, 0)
+    s.make_record(1370, 6656, "no working byte is wanted")
+    s.load()
+    s.edit("resize", 1, 0x100, note="02's record; load leaves it", record=(1370, 6656, 1))
+    s.record()
+    s.lend(0x40, 0x100)
+    new_image(s, "no free region", 0x600, directory(0, 0, 2) + file(0, 0x45A, 0x1A6) + b"a\0", free=False)
+    s.make_record(0x600, 0, "all of the disc; 0 if none")
+    s.edit("rewrite", note="02's record", record=(0x600, 0, 1))
+    s.edit("resize", 1, 0x1A5, note="02's record", record=(0x5FF, 1, 2))
+    s.edit("resize", 1, 0, note="02's record", record=(0x45A, 0x1A6, 3))
+    s.record()
+    new_image(s, "a root alone", 0x600, directory(0, 0, 1), free=False)
+    s.make_record(0x44C, 0x1B4, "up to the table's end")
+    s.edit("insert_file", 0, b"a", note="02's record", record=(0x45A, 0x1A6, 1))
+    s.record()
+    new_image(s, "a byte more than a can grow: it goes to 0x8000, and its old place is free", 0x9000,
+              directory(0, 0, 3) + file(0, 0x500, 0x100) + file(2, 0x600, 0x10) + b"a\0b\0")
+    s.make_record(1400, 35312, "1,128 bytes up to the table's end, 256 and 16")
+    s.edit("resize", 1, 0x101, note="02's record", record=(1401, 31216, 1))
+    s.record()
+    new_image(s, "a program of 0x123 bytes at 0x1000, behind the table", 0x2000, A_AT_800, files=[(0x800, 0x100)])
+    put_program(s, 0x1000, (0x100, 0x23))
+    s.make_record(1661, 3805, BEHIND)
+    s.edit("move", 1, 0x1123, paper="ok", why="right behind the program", image=moved(s, 0x800, 0x1123, 0x100), of="02", record=(1661, 3549, 1))
+    s.edit("move", 1, 0xF01, paper=21, why="a byte over the program", of="02")
+    s.record()
+
+
+def records_handed_on(s):
+    s.lend(0x40, 0x100)
+    new_image(s, "small master: one record goes through a list of edits", 0x2000, A_AT_500, free=False)
+    s.make_record(1370, 6656, "at opening")
+    s.edit("insert_directory", 0, b"d", note="02's record", record=(1384, 6656, 1))
+    s.edit("insert_file", 2, b"f", note="02's record", record=(1398, 6656, 2))
+    s.edit("make_directories", 0, b"d/e", note="02's record", record=(1412, 6656, 3))
+    s.edit("insert_file", 0, b"d")
+    s.edit("move", 1, 0x1F00, note="02's record", record=(1412, 6780, 4))
+    s.edit("resize", 1, 0x101)
+    s.edit("resize", 1, 0x80, note="02's record", record=(1284, 6780, 5))
+    s.edit("replace", 3, b"x")
+    s.edit("move", 3, 0x1000, note="02's record; an empty file", record=(1284, 6780, 6))
+    s.edit("replace", 3, Clip(0x10), note="02's record", record=(1300, 3824, 7))
+    s.edit("rewrite", note="02's record", record=(1300, 3824, 8))
+    s.edit("resize", 1, 0x80, note="02's record; the present size", record=(1300, 3824, 9))
+    s.look("totals")
+    s.look("free_regions")
+    s.make_record(1300, 3824, "worked out afresh")
+    s.record()
+
+
+def records_that_hold_anything(s):
+    s.lend(0x40, 0x100)
+    new_image(s, "small master: the count, which goes up to 2^32 - 1", 0x2000, A_AT_500, free=False)
+    s.record(1370, 6656, MOST - 1)
+    s.edit("rewrite", note="02's record", record=(1370, 6656, MOST))
+    for name, arguments in [("rewrite", ()), ("resize", (1, 0x100)), ("resize", (1, 0)), ("move", (1, 0x600)), ("insert_file", (0, b"b")),
+                            ("insert_directory", (0, b"b")), ("make_directories", (0, b"")), ("make_directories", (0, b"b")),
+                            ("replace", (1, Clip(0x100))), ("replace", (1, b"")), ("replace_zeros", (1, 0x101))]:
+        s.edit(name, *arguments, paper=25, why=COUNT, of="02", differs=True)
+    s.heading("used bytes: from 0 to 2^32 - 1, whatever the image is")
+    for used, name, arguments, record in [
+            (0, "resize", (1, 0xFF), None), (1, "resize", (1, 0xFF), (0, 6657, 1)), (255, "replace", (1, b""), None), (256, "replace", (1, b""), (0, 7078, 1)),
+            (0, "resize", (1, 0x101), (1, 6655, 1)), (MOST, "resize", (1, 0x101), None), (MOST - 1, "resize", (1, 0x101), (MOST, 6655, 1)),
+            (MOST - 13, "insert_file", (0, b"b"), None), (MOST - 14, "insert_file", (0, b"b"), (MOST, 6656, 1)),
+            (MOST - 27, "make_directories", (0, b"n/m"), None), (MOST - 28, "make_directories", (0, b"n/m"), (MOST, 6656, 1)),
+            (MOST, "move", (1, 0x600), (MOST, 6400, 1)), (0, "move", (1, 0x600), (0, 6400, 1)), (MOST, "resize", (1, 0x100), (MOST, 6656, 1)),
+            (0, "rewrite", (), (0, 6656, 1))]:
+        s.load()
+        s.record(used, MOST, 0)
+        if record:
+            s.edit(name, *arguments, note="02's record", record=record)
+        else:
+            s.edit(name, *arguments, paper=25, why=ABOVE if used > 256 else BELOW, of="02", differs=True)
+    s.load()
+    s.patch(0x428, word(0x20))
+    s.save()
+    s.heading("six bytes of slack behind the texts: a table that is written gives them back")
+    s.make_record(1376, 6656, "0x460 bytes up to the table's end, and 0x100 of a")
+    s.edit("resize", 1, 0x100, note="02's record; no table is written", record=(1376, 6656, 1))
+    s.edit("move", 1, 0x600, note="02's record", record=(1370, 6400, 2))
+    for used, name, arguments, record in [(5, "rewrite", (), None), (6, "rewrite", (), (0, 6656, 1)), (5, "move", (1, 0x600), None),
+                                          (6, "move", (1, 0x600), (0, 6400, 1)), (0, "resize", (1, 0x106), (0, 6650, 1)), (0, "resize", (1, 0x105), None),
+                                          (MOST, "resize", (1, 0x106), (MOST, 6650, 1)), (MOST, "resize", (1, 0x107), None)]:
+        s.load()
+        s.record(used, 7, 0)
+        if record:
+            s.edit(name, *arguments, note="02's record", record=record)
+        else:
+            s.edit(name, *arguments, paper=25, why=ABOVE if used > 256 else BELOW, of="02", differs=True)
+    s.record()
+
+
+def records_last(s):
+    s.lend(0x10, 0x1A)
+    new_image(s, "small master: every other number comes before 25", 0x2000, A_AT_500, free=False)
+    s.record(MOST, 0, MOST)
+    for name, arguments in [("resize", (2, 0)), ("resize", (0, 0)), ("move", (1, 0x500)), ("move", (1, 0x400)), ("resize", (1, 0x1B01)),
+                            ("insert_file", (0, b"a")), ("insert_file", (1, b"b")), ("insert_file", (0, b"..")), ("make_directories", (0, b"..")),
+                            ("make_directories", (0, b"a")), ("replace", (0, b"")), ("replace_zeros", (1, MOST))]:
+        s.edit(name, *arguments)
+    s.edit("replace_zeros", 1, MOST + 1, paper=21, why=LONG, of="02")
+    s.edit("insert_file", 0, b"\x01", paper=12, why=BYTES)
+    s.edit("insert_file", 0, b"b", paper=9, why="four working words too few")
+    s.edit("rewrite", paper=25, why=COUNT, of="02", differs=True)
+    s.lend(0x10, 0x19)
+    s.edit("rewrite", paper=9, why="one working byte too few")
+    s.edit("resize", 1, 0x101, paper=9, why="one working byte too few")
+    s.lend(0x10, 0)
+    s.edit("resize", 1, 0x100, paper=25, why=COUNT, of="02", differs=True)
+    s.edit("replace", 1, Clip(0x100), paper=25, why=COUNT, of="02", differs=True)
+    s.lend(0x40, 0x100)
+    s.record()
+    table = directory(0, 0, 3) + file(0, 0x466, 0x10) + file(0, 0x600, 0x10) + b"a\0"
+    new_image(s, "two names share a text, and there is no room for both: the table's 21 before 25", 0x2000, table, free=False,
+              files=[(0x466, 0x10), (0x600, 0x10)])
+    for record in [(MOST, 0, 0), (0, 0, 0), (0, 0, MOST)]:
+        s.record(*record)
+        s.edit("rewrite")
+        s.edit("make_directories", 0, b"")
+        s.edit("insert_directory", 0, b"b")
+        s.edit("resize", 2, 0x11)
+        s.edit("resize", 2, 0xF)
+        s.edit("move", 2, 0x700, paper=21, why=HALF)
+    s.edit("resize", 2, 0x10, paper=25, why=COUNT, of="02", differs=True)
+    s.record(5, 6, 7)
+    s.edit("resize", 2, 0x10, note="02's record", record=(5, 6640, 8))
+    s.record()
+
+
 def tables(s):
     """An image whose table is each of these, written anew, and every entry read back; and with just as many working bytes as that takes."""
     shared = (directory(0, 7, 8) + directory(1, 5, 5) + file(1, 0x10000, 0x10) + directory(3, 0, 5) + file(4, 0x10100, 0x20) + file(6, 0x10200, 0x30)
@@ -1951,7 +2153,8 @@ def make(oracle):
             ("reading", (with_changes, lookups, clusters, headers, fields)), ("windows", (windows, reads, executables)), ("tables", (tables,)),
             ("listing", (listings,)), ("program", (none_named, before_table, behind_table, abutting, unread)),
             ("names", (names_opened, names_shared, names_looked_up, names_edited, names_that_do_not_come_back)),
-            ("fills", (filled, memory_of_fills, fills_elsewhere, fills_and_the_table, fills_of_unopened, fills_beside_the_program))]:
+            ("fills", (filled, memory_of_fills, fills_elsewhere, fills_and_the_table, fills_of_unopened, fills_beside_the_program)),
+            ("record", (records_of_edits, records_made, records_handed_on, records_that_hold_anything, records_last))]:
         s.lines = []
         for part in parts:
             part(s)

@@ -19,11 +19,24 @@ use std::process::Command;
 const PLACES: usize = 4;
 
 /// The calls that an earlier library is held against.
-const CALLS: [&str; 4] = ["open", "lookup", "insert_file", "rewrite"];
+const CALLS: [&str; 11] = [
+    "open",
+    "totals",
+    "lookup",
+    "make_record",
+    "insert_file",
+    "insert_directory",
+    "make_directories",
+    "move_file",
+    "resize_file",
+    "fill_file",
+    "rewrite",
+];
 
 fn main() {
     original::copy();
     println!("cargo:rustc-check-cfg=cfg(before)");
+    println!("cargo:rustc-check-cfg=cfg(records_before)");
     let folder = env::var_os("COUNTER_LIB").expect("set COUNTER_LIB to the folder of libcounter.a");
     four_times("now", &folder);
     println!("cargo:rerun-if-env-changed=COUNTER_LIB");
@@ -31,12 +44,22 @@ fn main() {
     if let Some(folder) = env::var_os("COUNTER_BEFORE") {
         four_times("before", &folder);
         println!("cargo:rustc-cfg=before");
+        if has_records(&folder) {
+            println!("cargo:rustc-cfg=records_before");
+        }
     }
 }
 
 fn run(program: &str, args: &[&OsStr]) {
     let done = Command::new(program).args(args).status();
     assert!(done.is_ok_and(|status| status.success()), "{program} {args:?}");
+}
+
+/// Whether the edits of the library in `folder` take a record.
+fn has_records(folder: &OsStr) -> bool {
+    let library = std::fs::read(Path::new(folder).join("libcounter.a")).unwrap();
+    let name = b"counter_make_record";
+    library.windows(name.len()).any(|part| part == name)
 }
 
 /// Links in `NAME_CALL_0` to `NAME_CALL_3`: `counter_CALL` of the library in `folder`.

@@ -69,6 +69,7 @@ extern "C" {
 #define COUNTER_ALLOCATE_SLOTS 2
 #define COUNTER_DOL_SLOTS 57
 #define COUNTER_WINDOW_SLOTS 3
+#define COUNTER_RECORD_SLOTS 3
 
 /* ---- limits: an image with more does not open, and no edit makes one */
 
@@ -111,6 +112,7 @@ static inline const char *counter_cause(uint32_t number)
         "alignment no power of two",
         "seek",
         "DOL header past the image, or a sum above 2^32 - 1",
+        "used bytes or edit count would leave 0 to 2^32 - 1",
     };
     return number < sizeof causes / sizeof causes[0] ? causes[number] : NULL;
 }
@@ -209,41 +211,54 @@ uint32_t counter_seek_end(uint64_t window[COUNTER_WINDOW_SLOTS], int64_t distanc
 uint32_t counter_read(uint64_t window[COUNTER_WINDOW_SLOTS], const uint8_t *image, size_t image_len, uint8_t *buf, size_t buf_len,
     uint64_t answer[1]);
 
-/* ---- edits: each opens the image, makes all its tests, and only then writes it; with a number other than 0 the image is as it was. The
- * table is written anew: limits of the new tree or too few working bytes 9, no place for it 21. */
+/* ---- the record: three slots, used bytes, the size of the largest free region (0 if there is none), and how many edits were accepted */
+
+/* Makes a record of the image: its used total, its largest free region, no edit. With a number other than 0 the slots are as they were. */
+uint32_t counter_make_record(const uint8_t *image, size_t image_len, uint32_t *words, size_t words_len,
+    uint32_t record[COUNTER_RECORD_SLOTS]);
+
+/* ---- edits: each opens the image, makes all its tests, and only then writes it; with a number other than 0 image and record are as they
+ * were. The table is written anew: limits of the new tree or too few working bytes 9, no place for it 21.
+ *
+ * A record goes into every edit and comes back. Where the edit is accepted, used bytes have moved by as many as the image uses more or
+ * less than before, the largest region is the new image's, and the count is larger by one; also where the image stays as it was, as after
+ * a resize to the present size. So a record that counter_make_record made, and that went through every edit since, holds the image's
+ * totals and the number of edits accepted since. It may hold other numbers too: used bytes and count then move from these. 25 if one of
+ * the two would leave 0 to 2^32 - 1; this is the last test of all. */
 
 /* Adds an empty file (offset 0, size 0), or an empty directory, as last child of the directory `parent`: 15; 13 unsafe name; 17; 19 name
  * exists; 12 name byte. answer[1]: the new entry's number in the new table. */
 uint32_t counter_insert_file(uint8_t *image, size_t image_len, uint32_t *words, size_t words_len, uint8_t *bytes, size_t bytes_len,
-    uint32_t parent, const uint8_t *name, size_t name_len, uint32_t answer[1]);
+    uint32_t record[COUNTER_RECORD_SLOTS], uint32_t parent, const uint8_t *name, size_t name_len, uint32_t answer[1]);
 uint32_t counter_insert_directory(uint8_t *image, size_t image_len, uint32_t *words, size_t words_len, uint8_t *bytes, size_t bytes_len,
-    uint32_t parent, const uint8_t *name, size_t name_len, uint32_t answer[1]);
+    uint32_t record[COUNTER_RECORD_SLOTS], uint32_t parent, const uint8_t *name, size_t name_len, uint32_t answer[1]);
 
 /* Walks a path from the entry `start` and makes each directory that is missing, all or none: a path over 1,024 bytes 9; 15; then the first
  * of 17, 18, 13 along the path, 12 last. Writes the table even if all exist. answer[1]: the number, in the new table, of the entry where
  * the walk ends. */
 uint32_t counter_make_directories(uint8_t *image, size_t image_len, uint32_t *words, size_t words_len, uint8_t *bytes, size_t bytes_len,
-    uint32_t start, const uint8_t *path, size_t path_len, uint32_t answer[1]);
+    uint32_t record[COUNTER_RECORD_SLOTS], uint32_t start, const uint8_t *path, size_t path_len, uint32_t answer[1]);
 
 /* Moves file `number` to `new_offset`: 15, 16; 20 if the place overlaps its own; 21 if it is not free. An empty file may go anywhere. The
  * bytes are copied and the old place is zeroed. */
 uint32_t counter_move_file(uint8_t *image, size_t image_len, uint32_t *words, size_t words_len, uint8_t *bytes, size_t bytes_len,
-    uint32_t number, uint32_t new_offset);
+    uint32_t record[COUNTER_RECORD_SLOTS], uint32_t number, uint32_t new_offset);
 
 /* Gives file `number` the size `new_size`: 15, 16; where it cannot grow where it is it goes to the largest free place at a multiple of
  * 0x8000, 21 if there is none, 20 as above. A lost end is zeroed; grown bytes are what the free space held. The present size is accepted,
- * and nothing is written. */
+ * and nothing is written to the image. */
 uint32_t counter_resize_file(uint8_t *image, size_t image_len, uint32_t *words, size_t words_len, uint8_t *bytes, size_t bytes_len,
-    uint32_t number, uint32_t new_size);
+    uint32_t record[COUNTER_RECORD_SLOTS], uint32_t number, uint32_t new_size);
 
 /* Fills file `number` with the clip: 15, 16; a clip above 2^32 - 1 bytes 21; then as counter_resize_file to the clip's length, which may
  * move the file. Afterwards the file is exactly the clip. A clip of the file's own size is written, and no table: that wants no bytes. The
- * clip is only read; as for every slice, it may not overlap the image, the words or the bytes. */
+ * clip is only read; as for every slice, it may not overlap the image, the words, the bytes or the record. */
 uint32_t counter_fill_file(uint8_t *image, size_t image_len, uint32_t *words, size_t words_len, uint8_t *bytes, size_t bytes_len,
-    uint32_t number, const uint8_t *clip, size_t clip_len);
+    uint32_t record[COUNTER_RECORD_SLOTS], uint32_t number, const uint8_t *clip, size_t clip_len);
 
 /* Writes the table anew, with no name shared. */
-uint32_t counter_rewrite(uint8_t *image, size_t image_len, uint32_t *words, size_t words_len, uint8_t *bytes, size_t bytes_len);
+uint32_t counter_rewrite(uint8_t *image, size_t image_len, uint32_t *words, size_t words_len, uint8_t *bytes, size_t bytes_len,
+    uint32_t record[COUNTER_RECORD_SLOTS]);
 
 #ifdef __cplusplus
 }

@@ -72,14 +72,17 @@ static void move_away(uint8_t *image, size_t len, const char *path)
 {
     uint32_t entry[COUNTER_ENTRY_SLOTS];
     uint32_t place[COUNTER_ALLOCATE_SLOTS];
+    uint32_t record[COUNTER_RECORD_SLOTS];
     want(path, counter_lookup(image, len, words, COUNTER_MOST_WORDS, 0, (const uint8_t *)path, strlen(path), entry));
     if (entry[1] != 0) {
         fprintf(stderr, "%s: a directory\n", path);
         exit(1);
     }
     want("a place", counter_allocate(image, len, words, COUNTER_MOST_WORDS, entry[3], 4, place));
-    want("move", counter_move_file(image, len, words, COUNTER_MOST_WORDS, bytes, COUNTER_MOST_TABLE, entry[0], place[0]));
+    want("record", counter_make_record(image, len, words, COUNTER_MOST_WORDS, record));
+    want("move", counter_move_file(image, len, words, COUNTER_MOST_WORDS, bytes, COUNTER_MOST_TABLE, record, entry[0], place[0]));
     printf("moved %s from %u to %u\n", path, (unsigned)entry[2], (unsigned)place[0]);
+    printf("%u bytes used, %u in the largest free region, %u edit\n", (unsigned)record[0], (unsigned)record[1], (unsigned)record[2]);
 }
 
 /* The file's bytes, a part at a time, through a window. */

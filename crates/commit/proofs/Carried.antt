@@ -1,21 +1,25 @@
--- A decision carried out: it fits the working bytes, and with the working memory zeroed it is the edit.
+-- A change written, and a decision carried out, by its cases.
 -- Assumes nothing.
 use Prim.Native.Nat.{ℕ}
-use mathlib.Core.Path.{_≡_, ap, _∙_}
+use mathlib.Core.Path.{_≡_}
 use mathlib.Core.List.{List}
-use lib.ListN.{length, replicate}
-use Rattle.endian.specs.Bytes.{span}
-use Rattle.refusal.specs.declared.Verdict.{Verdict}
+use lib.ListN.{replicate}
+use Rattle.endian.specs.Bytes.{put, span}
 use Rattle.refusal.specs.declared.Verdict.the-variants.{Passed}
-use Rattle.opening.specs.Opening.{opening}
+use Rattle.header.specs.Verdicts.{fstOffset, fstSize}
 use Rattle.commit.specs.declared.Writing.{Writing}
 use Rattle.commit.specs.declared.Decision.{Decision}
 use Rattle.commit.specs.declared.Decision.the-variants as decision
-use Rattle.edits.specs.Change.{Plan}
-use Rattle.edits.specs.Edits.{Edit, planned, planOf, planNumber, verdictOf}
-use Rattle.edits.specs.Promise.{lent, onlyVerdict, Edited}
-use Rattle.commit.specs.Inner.Decision.{Fits, CanCarry, writtenWith, carriedVerdict, carriedImage, Decided}
-use Rattle.commit.proofs.Decisions.{edit-decided}
+use Rattle.edits.specs.Change.{withTable}
+use Rattle.commit.specs.Inner.Decision.{Fits, CanCarry, writtenWith, carriedVerdict, carriedImage}
+
+-- ---- a change, after its three writes
+
+pub all-written : (w : Writing) (image bytes image₁ image₂ image₃ : List ℕ) (f s size : ℕ) → f ≡ fstOffset image → s ≡ fstSize image →
+    image₁ ≡ put image (w .place .offset) (span image (w .old .offset) (w .kept)) → image₂ ≡ withTable f s (span bytes 0 size) image₁ →
+    image₃ ≡ put image₂ (w .lost) (replicate (w .«lost_size») 0) → image₃ ≡ writtenWith w (span bytes 0 size) image
+unfolding writtenWith
+all-written w image bytes image₁ image₂ image₃ f s size e g h i j = rw (← e, ← g, ← h, ← i) j
 
 -- ---- by the cases of the decision
 
@@ -27,24 +31,3 @@ write-answered d size w e = rw e
 
 pub write-image : (d : Decision) (size : ℕ) (w : Writing) (image bytes after : List ℕ) → d ≡ decision.Write size w → after ≡ writtenWith w (span bytes 0 size) image → after ≡ carriedImage d bytes image
 write-image d size w image bytes after e h = rw e h
-
--- ---- the whole edit
-
--- with as many working bytes as when it was decided on
-pub still-fits : (p : Plan) (image : List ℕ) (words room : ℕ) (bytes : List ℕ) (d : Decision) → Decided p image words room bytes d → length bytes ≡ room → CanCarry image (length bytes) d
-still-fits p image words room bytes d h l = rw l (h .fits)
-
-module _ (ed : Edit) (image words bytes w b image′ words′ bytes′ : List ℕ) (d : Decision) (h : Decided (planned (opening image (length words)) (planOf ed image)) image (length words) (length bytes) b d)
-    (kw : length w ≡ length words) (kb : length b ≡ length bytes) (i : image′ ≡ carriedImage d b image) (zw : words′ ≡ replicate (length w) 0) (zb : bytes′ ≡ replicate (length b) 0) where
-  -- an edit that gives its answer in its own way
-  pub edited-as : {A : Type 0} (answer : Verdict → ℕ → A) (r : A) → r ≡ answer (verdictOf ed image (length words) (length bytes)) (planNumber (planOf ed image)) →
-      Edited answer ed (lent image words bytes) (lent image′ words′ bytes′) r
-  edited-as answer r a = record {
-    answered = a;
-    image = i ∙ edit-decided image (length words) (length bytes) b ed d h .1;
-    words = zw ∙ ap (λ (n : ℕ). replicate n 0) kw;
-    bytes = zb ∙ ap (λ (n : ℕ). replicate n 0) kb;
-  }
-
-  pub edited : (r : Verdict) → r ≡ carriedVerdict d → Edited onlyVerdict ed (lent image words bytes) (lent image′ words′ bytes′) r
-  edited r a = edited-as onlyVerdict r (a ∙ edit-decided image (length words) (length bytes) b ed d h .0)

@@ -1,4 +1,4 @@
--- When a decision is what a plan comes to: behind tests that passed or refused, for a whole edit, and for a change that is written.
+-- When a decision is what a plan comes to: behind tests that passed or refused, and for a change that is written.
 -- Assumes nothing.
 use Prim.Native.Nat.{ℕ}
 use mathlib.Core.Path.{_≡_, refl, sym, ap, _∙_}
@@ -21,12 +21,12 @@ use Rattle.commit.specs.declared.Decision.{Decision}
 use Rattle.commit.specs.declared.Decision.the-variants as decision
 use Rattle.commit.specs.declared.TableSize.the-variants as table
 use Rattle.edits.specs.Change.{written, tableVerdict, Plan, refused, change, placeVerdict}
-use Rattle.edits.specs.Edits.{Edit, planned, planOf, planVerdict, planImage, verdictOf, imageAfter}
+use Rattle.edits.specs.Edits.{planned, planVerdict, planImage}
 use Rattle.edits.specs.Laws.Behind as behind
 use Rattle.opening.specs.declared.Prepared.{Prepared}
 use Rattle.opening.specs.declared.Prepared.the-variants as prepared
 use Rattle.opening.specs.Inner.Prepared.{Prepares, IsOpen}
-use Rattle.commit.specs.Inner.Decision.{changeWith, placing, writtenWith, Fits, sizedAs, carriedVerdict, carriedImage, Decided}
+use Rattle.commit.specs.Inner.Decision.{changeWith, placing, writtenWith, Fits, sizedAs, Decided}
 
 pub planned-first : (a b : Verdict) (p : Plan) → planned (first a b) p ≡ planned a (planned b p)
 planned-first Passed b p = refl
@@ -59,17 +59,6 @@ module _ (image : List ℕ) (words room : ℕ) (bytes : List ℕ) where
 
   pub behind-refused : (v : Verdict) (p : Plan) (c : Refusal) → v ≡ Refused c → Decided (planned v p) image words room bytes (decision.Refused c)
   behind-refused v p c e = rw (behind.behind-refused v p c e) (refused-decided (refused (Refused c)) c refl)
-
-  -- opening and the plan are the whole edit
-  pub edit-decided : (ed : Edit) (d : Decision) → Decided (planned (opening image words) (planOf ed image)) image words room bytes d →
-      (carriedVerdict d ≡ verdictOf ed image words room) × (carriedImage d bytes image ≡ imageAfter ed image words room)
-  unfolding verdictOf imageAfter
-  edit-decided ed d h = go (opening image words) h
-    where
-      go : (v : Verdict) → Decided (planned v (planOf ed image)) image words room bytes d →
-          (carriedVerdict d ≡ first v (planVerdict (planOf ed image) image words room)) × (carriedImage d bytes image ≡ cond (isRefused (first v (planVerdict (planOf ed image) image words room))) image (planImage (planOf ed image) image))
-      go Passed k = (k .answer, k .after)
-      go (Refused c) k = (k .answer, k .after)
 
   -- a change whose tests passed, with its table in the working bytes
   pub write-decided : (k : ℕ) (nodes : List Node) (size : ℕ) (w : Writing) → Fits image room size w → tableVerdict (changeWith nodes w) image words room ≡ Passed → span bytes 0 size ≡ encode nodes →
@@ -105,11 +94,3 @@ opened image w w′ r m q e = let o : Prepares image (length w) w′ (prepared.R
 
 pub unopened : (image w w′ : List ℕ) (r : Prepared) (c : Refusal) → Prepares image (length w) w′ r → r ≡ prepared.Refused c → opening image (length w) ≡ Refused c
 unopened image w w′ r c q e = rw e at q
-
-pub open-decided : (image w w′ : List ℕ) (r : Prepared) (m room : ℕ) (bytes : List ℕ) (p : Plan) (d : Decision) → Prepares image (length w) w′ r → r ≡ prepared.Ready m → length w′ ≡ length w →
-    Decided p image (length w′) room bytes d → Decided (planned (opening image (length w)) p) image (length w) room bytes d
-open-decided image w w′ r m room bytes p d q e l h = behind-passed image (length w) room bytes (opening image (length w)) p d (opened image w w′ r m q e) (rw l at h)
-
-pub unopened-decided : (image w w′ : List ℕ) (r : Prepared) (c : Refusal) (room : ℕ) (bytes : List ℕ) (p : Plan) → Prepares image (length w) w′ r → r ≡ prepared.Refused c →
-    Decided (planned (opening image (length w)) p) image (length w) room bytes (decision.Refused c)
-unopened-decided image w w′ r c room bytes p q e = behind-refused image (length w) room bytes (opening image (length w)) p c (unopened image w w′ r c q e)

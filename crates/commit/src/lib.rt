@@ -9,11 +9,11 @@ pub use table::check_table;
 pub use table::write_table;
 pub use written::finish;
 
-// What a change does to the image besides the table: `kept` bytes are copied from `source` to the new place, and `lost_size` bytes from
-// `lost` on are zeroed.
+// What a change does to the image besides the table: `kept` bytes are copied from the file's old place to the new one, and `lost_size` bytes
+// from `lost` on are zeroed.
 pub struct Writing {
+    pub old: DiscRegion,
     pub place: DiscRegion,
-    pub source: usize,
     pub kept: usize,
     pub lost: usize,
     pub lost_size: usize,

@@ -57,8 +57,9 @@ fn write_change(image: &mut [u8], bytes: &[u8], size: usize, w: Writing)
 {
     let fst_offset = header::fst_offset(image) as usize;
     let fst_size = header::fst_size(image) as usize;
+    let old = w.old;
     let place = w.place;
-    copy_kept(image, w.source, place.offset as usize, w.kept);
+    copy_kept(image, old.offset as usize, place.offset as usize, w.kept);
     commit(image, bytes, fst_offset, fst_size, size);
     zero_lost(image, w.lost, w.lost_size);
 }

@@ -17,12 +17,14 @@ use Rattle.answers.specs.declared.SizeAnswer.{SizeAnswer}
 use Rattle.disc.specs.declared.DiscTotals.{DiscTotals}
 use Rattle.disc.specs.declared.TotalsAnswer.{TotalsAnswer}
 use Rattle.disc.specs.declared.TotalsAnswer.the-variants as totals
+use Rattle.disc.specs.declared.RecordMade.{RecordMade}
+use Rattle.refusal.specs.declared.Verdict.the-variants as verdict
 use Rattle.files.specs.declared.WindowAnswer.{WindowAnswer}
 use Rattle.files.specs.declared.WindowAnswer.the-variants as window
 use Rattle.listing.specs.declared.Listed.{Listed}
 use Rattle.listing.specs.declared.Listed.the-variants as listed
 use Rattle.window.specs.declared.Window.{Window}
-use Rattle.counter.specs.Replies.{Reply, reply, Read, openedReply, foundReply, sizeReply, totalsReply, programReply, allocationReply, listingReply, listedReply, windowReply, windowWords}
+use Rattle.counter.specs.Replies.{Reply, reply, Read, openedReply, foundReply, sizeReply, totalsReply, recordReply, totalsWords, programReply, allocationReply, listingReply, listedReply, windowReply, windowWords, verdictReply}
 
 -- ---- the answer is a, and g is its reply
 
@@ -45,6 +47,10 @@ module _ (before w w′ : List ℕ) (zeroed : w′ ≡ zeros w) where
   pub totals-found : (a b : TotalsAnswer) (t : DiscTotals) → b ≡ a → b ≡ totals.Found t → Read (totalsReply before a) (reply 0 (t .«disc_end» ∷ t .used ∷ [])) w w′
   unfolding totalsReply
   totals-found a b t e h = record { answered = rw (← e, h); words = zeroed }
+
+  pub record-made : (a b : RecordMade) → b ≡ a → b .verdict ≡ verdict.Passed → Read (recordReply before a) (reply 0 (totalsWords (b .totals))) w w′
+  unfolding verdictReply
+  record-made a b e h = record { answered = rw (← e, h); words = zeroed }
 
   pub allocation-found : (a b : Allocation) (r : DiscRegion) → b ≡ a → b ≡ allocation.Found r → Read (allocationReply before a) (reply 0 (r .offset ∷ r .size ∷ [])) w w′
   unfolding allocationReply
@@ -70,6 +76,10 @@ module _ (before w w′ : List ℕ) (zeroed : w′ ≡ zeros w) where
     pub totals-refused : (a b : TotalsAnswer) → b ≡ a → b ≡ totals.Refused c → Read (totalsReply before a) (reply r before) w w′
     unfolding totalsReply
     totals-refused a b e h = record { answered = rw (← e, h, number); words = zeroed }
+
+    pub record-refused : (a b : RecordMade) → b ≡ a → b .verdict ≡ verdict.Refused c → Read (recordReply before a) (reply r before) w w′
+    unfolding verdictReply
+    record-refused a b e h = record { answered = rw (← e, h, number); words = zeroed }
 
     pub allocation-refused : (a b : Allocation) → b ≡ a → b ≡ allocation.Refused c → Read (allocationReply before a) (reply r before) w w′
     unfolding allocationReply

@@ -25,6 +25,8 @@ use Rattle.answers.specs.declared.Opened.{Opened}
 use Rattle.answers.specs.declared.Opened.the-variants as opened
 use Rattle.disc.specs.declared.TotalsAnswer.{TotalsAnswer}
 use Rattle.disc.specs.declared.TotalsAnswer.the-variants as totaled
+use Rattle.disc.specs.declared.RecordMade.{RecordMade}
+use Rattle.totals.specs.declared.Totals.{Totals}
 use Rattle.program.specs.declared.Program.{Program}
 use Rattle.program.specs.declared.Program.the-variants as program
 use Rattle.answers.specs.declared.SizeAnswer.{SizeAnswer}
@@ -68,6 +70,13 @@ openedReply before (opened.Refused c) = refuses before c
 unfoldable pub totalsReply : List ℕ → TotalsAnswer → Reply
 totalsReply before (totaled.Found t) = accepts (t .«disc_end» ∷ t .used ∷ [])
 totalsReply before (totaled.Refused c) = refuses before c
+
+-- a totals record: used bytes, the largest free region's size, accepted edits
+abbrev pub totalsIn : List ℕ → Totals
+totalsIn slots = record { used = getD slots 0 0; largest = getD slots 1 0; edits = getD slots 2 0 }
+
+abbrev pub totalsWords : Totals → List ℕ
+totalsWords t = t .used ∷ t .largest ∷ t .edits ∷ []
 
 -- a program has at least 0xE4 bytes, so size 0 is none
 unfoldable pub programReply : List ℕ → Program → Reply
@@ -139,6 +148,9 @@ soughtReply before (sought.Refused c) = refuses before c
 unfoldable pub verdictReply : List ℕ → Verdict → List ℕ → Reply
 verdictReply before verdict.Passed ws = accepts ws
 verdictReply before (verdict.Refused c) ws = refuses before c
+
+abbrev pub recordReply : List ℕ → RecordMade → Reply
+recordReply before a = verdictReply before (a .verdict) (totalsWords (a .totals))
 
 -- "7 text and 11 data offsets, then addresses, then sizes in that order, BSS address, BSS size, entry point"
 unfoldable pub dolWords : DolHeader → List ℕ

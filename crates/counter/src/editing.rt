@@ -1,10 +1,24 @@
-// The edits.
+// The edits. The totals record goes in and comes back in three slots: used bytes, the largest free region's size, accepted edits.
 ghost use mathlib.Core.Path.{_≡_};
 ghost use Rattle.edits.specs.Edits as edits;
 ghost use Rattle.edits.specs.Promise.{Edited, lent};
-ghost use Rattle.counter.specs.Replies.{reply, verdictNumber, locatedReply, done, numbered};
+ghost use Rattle.counter.specs.Replies.{reply, verdictNumber, locatedReply, done, numbered, totalsIn};
 use refusal::Verdict;
+use totals::Totals;
+use totals_after::Done;
+use totals_after::EntryDone;
 use tree::Located;
+
+// The totals record that the slots hold.
+fn totals_in(record: &[u32; 3]) -> Totals
+    ensures { λ r. ⌜ r ≡ totalsIn (now («record» .entry)) ⌝ }
+{
+    Totals {
+        used: record[0],
+        largest: record[1],
+        edits: record[2],
+    }
+}
 
 fn number_of(verdict: Verdict) -> u32
     ensures { λ r. ⌜ r ≡ verdictNumber verdict ⌝ }
@@ -15,18 +29,30 @@ fn number_of(verdict: Verdict) -> u32
     }
 }
 
+// The record and the number of an edit that gives only that it is done.
+fn give_done(record: &mut [u32; 3], edited: Done) -> u32
+    ensures { λ r. ⌜ (r ≡ verdictNumber (edited .verdict)) × (totalsIn (now («record» .exit)) ≡ edited .totals) ⌝ }
+{
+    let totals = edited.totals;
+    *record = [totals.used, totals.largest, totals.edits];
+    let verdict = edited.verdict;
+    number_of(verdict)
+}
+
 #[no_mangle]
 pub extern "C" fn counter_move_file(
     image: &mut [u8],
     words: &mut [u32],
     bytes: &mut [u8],
+    record: &mut [u32; 3],
     number: u32,
     new_offset: u32,
 ) -> u32
-    ensures { λ r. ⌜ Edited done (edits.moveFile number «new_offset») (lent (now (image .entry)) (now (words .entry)) (now (bytes .entry))) (lent (now (image .exit)) (now (words .exit)) (now (bytes .exit))) r ⌝ }
+    ensures { λ r. ⌜ Edited done (edits.moveFile number «new_offset») (lent (now (image .entry)) (now (words .entry)) (now (bytes .entry)) (totalsIn (now («record» .entry)))) (lent (now (image .exit)) (now (words .exit)) (now (bytes .exit)) (totalsIn (now («record» .exit)))) r ⌝ }
 {
-    let verdict = edit::move_file(image, words, bytes, number, new_offset);
-    number_of(verdict)
+    let totals = totals_in(record);
+    let edited = edit::move_file(image, words, bytes, totals, number, new_offset);
+    give_done(record, edited)
 }
 
 #[no_mangle]
@@ -34,13 +60,15 @@ pub extern "C" fn counter_resize_file(
     image: &mut [u8],
     words: &mut [u32],
     bytes: &mut [u8],
+    record: &mut [u32; 3],
     number: u32,
     new_size: u32,
 ) -> u32
-    ensures { λ r. ⌜ Edited done (edits.resizeFile number «new_size») (lent (now (image .entry)) (now (words .entry)) (now (bytes .entry))) (lent (now (image .exit)) (now (words .exit)) (now (bytes .exit))) r ⌝ }
+    ensures { λ r. ⌜ Edited done (edits.resizeFile number «new_size») (lent (now (image .entry)) (now (words .entry)) (now (bytes .entry)) (totalsIn (now («record» .entry)))) (lent (now (image .exit)) (now (words .exit)) (now (bytes .exit)) (totalsIn (now («record» .exit)))) r ⌝ }
 {
-    let verdict = edit::resize_file(image, words, bytes, number, new_size);
-    number_of(verdict)
+    let totals = totals_in(record);
+    let edited = edit::resize_file(image, words, bytes, totals, number, new_size);
+    give_done(record, edited)
 }
 
 #[no_mangle]
@@ -48,21 +76,29 @@ pub extern "C" fn counter_fill_file(
     image: &mut [u8],
     words: &mut [u32],
     bytes: &mut [u8],
+    record: &mut [u32; 3],
     number: u32,
     clip: &[u8],
 ) -> u32
-    ensures { λ r. ⌜ Edited done (edits.fillFile number (now (clip .entry))) (lent (now (image .entry)) (now (words .entry)) (now (bytes .entry))) (lent (now (image .exit)) (now (words .exit)) (now (bytes .exit))) r ⌝ }
+    ensures { λ r. ⌜ Edited done (edits.fillFile number (now (clip .entry))) (lent (now (image .entry)) (now (words .entry)) (now (bytes .entry)) (totalsIn (now («record» .entry)))) (lent (now (image .exit)) (now (words .exit)) (now (bytes .exit)) (totalsIn (now («record» .exit)))) r ⌝ }
 {
-    let verdict = fill::fill_file(image, words, bytes, number, clip);
-    number_of(verdict)
+    let totals = totals_in(record);
+    let edited = fill::fill_file(image, words, bytes, totals, number, clip);
+    give_done(record, edited)
 }
 
 #[no_mangle]
-pub extern "C" fn counter_rewrite(image: &mut [u8], words: &mut [u32], bytes: &mut [u8]) -> u32
-    ensures { λ r. ⌜ Edited done edits.rewrite (lent (now (image .entry)) (now (words .entry)) (now (bytes .entry))) (lent (now (image .exit)) (now (words .exit)) (now (bytes .exit))) r ⌝ }
+pub extern "C" fn counter_rewrite(
+    image: &mut [u8],
+    words: &mut [u32],
+    bytes: &mut [u8],
+    record: &mut [u32; 3],
+) -> u32
+    ensures { λ r. ⌜ Edited done edits.rewrite (lent (now (image .entry)) (now (words .entry)) (now (bytes .entry)) (totalsIn (now («record» .entry)))) (lent (now (image .exit)) (now (words .exit)) (now (bytes .exit)) (totalsIn (now («record» .exit)))) r ⌝ }
 {
-    let verdict = edit::rewrite(image, words, bytes);
-    number_of(verdict)
+    let totals = totals_in(record);
+    let edited = edit::rewrite(image, words, bytes, totals);
+    give_done(record, edited)
 }
 
 // ---- the edits that add entries, each with the number of the entry that it gives
@@ -79,19 +115,30 @@ fn give_located(answer: &mut [u32; 1], located: Located) -> u32
     }
 }
 
+fn give_entry(record: &mut [u32; 3], answer: &mut [u32; 1], edited: EntryDone) -> u32
+    ensures { λ r. ⌜ (reply r (now (answer .exit)) ≡ locatedReply (now (answer .entry)) (edited .located)) × (totalsIn (now («record» .exit)) ≡ edited .totals) ⌝ }
+{
+    let totals = edited.totals;
+    *record = [totals.used, totals.largest, totals.edits];
+    let located = edited.located;
+    give_located(answer, located)
+}
+
 #[no_mangle]
 pub extern "C" fn counter_insert_file(
     image: &mut [u8],
     words: &mut [u32],
     bytes: &mut [u8],
+    record: &mut [u32; 3],
     parent: u32,
     name: &[u8],
     answer: &mut [u32; 1],
 ) -> u32
-    ensures { λ r. ⌜ Edited (numbered (now (answer .entry))) (edits.insertFile parent (now (name .entry))) (lent (now (image .entry)) (now (words .entry)) (now (bytes .entry))) (lent (now (image .exit)) (now (words .exit)) (now (bytes .exit))) (reply r (now (answer .exit))) ⌝ }
+    ensures { λ r. ⌜ Edited (numbered (now (answer .entry))) (edits.insertFile parent (now (name .entry))) (lent (now (image .entry)) (now (words .entry)) (now (bytes .entry)) (totalsIn (now («record» .entry)))) (lent (now (image .exit)) (now (words .exit)) (now (bytes .exit)) (totalsIn (now («record» .exit)))) (reply r (now (answer .exit))) ⌝ }
 {
-    let located = insert::insert_file(image, words, bytes, parent, name);
-    give_located(answer, located)
+    let totals = totals_in(record);
+    let edited = insert::insert_file(image, words, bytes, totals, parent, name);
+    give_entry(record, answer, edited)
 }
 
 #[no_mangle]
@@ -99,14 +146,16 @@ pub extern "C" fn counter_insert_directory(
     image: &mut [u8],
     words: &mut [u32],
     bytes: &mut [u8],
+    record: &mut [u32; 3],
     parent: u32,
     name: &[u8],
     answer: &mut [u32; 1],
 ) -> u32
-    ensures { λ r. ⌜ Edited (numbered (now (answer .entry))) (edits.insertDirectory parent (now (name .entry))) (lent (now (image .entry)) (now (words .entry)) (now (bytes .entry))) (lent (now (image .exit)) (now (words .exit)) (now (bytes .exit))) (reply r (now (answer .exit))) ⌝ }
+    ensures { λ r. ⌜ Edited (numbered (now (answer .entry))) (edits.insertDirectory parent (now (name .entry))) (lent (now (image .entry)) (now (words .entry)) (now (bytes .entry)) (totalsIn (now («record» .entry)))) (lent (now (image .exit)) (now (words .exit)) (now (bytes .exit)) (totalsIn (now («record» .exit)))) (reply r (now (answer .exit))) ⌝ }
 {
-    let located = insert::insert_directory(image, words, bytes, parent, name);
-    give_located(answer, located)
+    let totals = totals_in(record);
+    let edited = insert::insert_directory(image, words, bytes, totals, parent, name);
+    give_entry(record, answer, edited)
 }
 
 #[no_mangle]
@@ -114,12 +163,14 @@ pub extern "C" fn counter_make_directories(
     image: &mut [u8],
     words: &mut [u32],
     bytes: &mut [u8],
+    record: &mut [u32; 3],
     start: u32,
     path: &[u8],
     answer: &mut [u32; 1],
 ) -> u32
-    ensures { λ r. ⌜ Edited (numbered (now (answer .entry))) (edits.makeDirectories start (now (path .entry))) (lent (now (image .entry)) (now (words .entry)) (now (bytes .entry))) (lent (now (image .exit)) (now (words .exit)) (now (bytes .exit))) (reply r (now (answer .exit))) ⌝ }
+    ensures { λ r. ⌜ Edited (numbered (now (answer .entry))) (edits.makeDirectories start (now (path .entry))) (lent (now (image .entry)) (now (words .entry)) (now (bytes .entry)) (totalsIn (now («record» .entry)))) (lent (now (image .exit)) (now (words .exit)) (now (bytes .exit)) (totalsIn (now («record» .exit)))) (reply r (now (answer .exit))) ⌝ }
 {
-    let located = make_directories::make_directories(image, words, bytes, start, path);
-    give_located(answer, located)
+    let totals = totals_in(record);
+    let edited = make_directories::make_directories(image, words, bytes, totals, start, path);
+    give_entry(record, answer, edited)
 }

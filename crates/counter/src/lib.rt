@@ -19,6 +19,7 @@ pub use headers::counter_open_dol;
 pub use reading::counter_entries;
 pub use reading::counter_entry;
 pub use reading::counter_lookup;
+pub use reading::counter_make_record;
 pub use reading::counter_open;
 pub use reading::counter_totals;
 pub use regions::counter_allocate;

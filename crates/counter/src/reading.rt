@@ -1,12 +1,13 @@
 // The calls that read an image.
 ghost use mathlib.Core.Path.{_≡_};
 ghost use lib.ListN.{length};
-ghost use Rattle.disc.specs.Calls.{openedOf, totalsAnswer, programAnswer};
+ghost use Rattle.disc.specs.Calls.{openedOf, totalsAnswer, recordAnswer, programAnswer};
 ghost use Rattle.files.specs.Files.{entryAnswer, lookupAnswer, entriesAnswer, entriesList};
-ghost use Rattle.counter.specs.Replies.{Read, reply, openedReply, foundReply, totalsReply, programReply};
+ghost use Rattle.counter.specs.Replies.{Read, reply, openedReply, foundReply, totalsReply, recordReply, programReply};
 use answers::Opened;
 use disc::TotalsAnswer;
 use program::Program;
+use refusal::Verdict;
 use tree::Entry;
 use tree::Found;
 
@@ -60,6 +61,23 @@ pub extern "C" fn counter_totals(image: &[u8], words: &mut [u32], answer: &mut [
             0
         }
         TotalsAnswer::Refused(cause) => cause.number(),
+    }
+}
+
+// A totals record of the image, its count 0: used bytes, the largest free region's size, accepted edits.
+#[no_mangle]
+pub extern "C" fn counter_make_record(image: &[u8], words: &mut [u32], record: &mut [u32; 3]) -> u32
+    ensures { λ r. ⌜ Read (recordReply (now («record» .entry)) (recordAnswer (now (image .entry)) (length (now (words .entry))))) (reply r (now («record» .exit))) (now (words .entry)) (now (words .exit)) ⌝ }
+{
+    let made = disc::make_record(image, words);
+    let verdict = made.verdict;
+    let t = made.totals;
+    match verdict {
+        Verdict::Passed => {
+            *record = [t.used, t.largest, t.edits];
+            0
+        }
+        Verdict::Refused(cause) => cause.number(),
     }
 }
 

@@ -127,7 +127,7 @@ module _ (image : List ℕ) (words : ℕ) (known : OpenImage image words) (k : �
   ends z = rw here at (file-lies image words known k (rw here z) .1)
 
   pub relocate-inside : (new : DiscRegion) (kept : ℕ) → relocateVerdict (freeOf image) old new ≡ Passed → kept ≡ min (old .size) (new .size) →
-      InImage (length image) (record { place = new; source = old .offset; kept = kept; lost = old .offset; «lost_size» = old .size })
+      InImage (length image) (record { old = old; place = new; kept = kept; lost = old .offset; «lost_size» = old .size })
   relocate-inside new kept p e = record {
     copied = record {
       from = λ z. omega (arith, ends (omega arith));
@@ -137,7 +137,7 @@ module _ (image : List ℕ) (words : ℕ) (known : OpenImage image words) (k : �
   }
 
   pub resize-inside : (n lost : ℕ) → lost ≡ old .size - n →
-      InImage (length image) (record { place = record { offset = old .offset; size = n }; source = 0; kept = 0; lost = old .offset + n; «lost_size» = lost })
+      InImage (length image) (record { old = old; place = record { offset = old .offset; size = n }; kept = 0; lost = old .offset + n; «lost_size» = lost })
   resize-inside n lost e = record {
     copied = record { from = λ z. absurd (omega arith); into = λ z. absurd (omega arith) };
     zeroed = record { into = λ z. omega (arith, ends (omega arith)) };

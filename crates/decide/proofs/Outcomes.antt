@@ -69,10 +69,10 @@ module _ (image w bytes : List ℕ) (r : TableSize) where
 
   pub rewrite-decided : (size : ℕ) (after : List ℕ) → r ≡ sizedAs (tableVerdict (placing (nodesIn image) noPlace) image (length w) (length bytes)) (length (encode (nodesIn image))) → r ≡ table.Bytes size →
       OpenImage image (length w) → after ≡ put bytes 0 (encode (nodesIn image)) →
-      Decided (change 0 (tableOnly (nodesIn image))) image (length w) (length bytes) after (decision.Write size (record { place = noPlace; source = 0; kept = 0; lost = 0; «lost_size» = 0 }))
+      Decided (change 0 (tableOnly (nodesIn image))) image (length w) (length bytes) after (decision.Write size (record { old = noPlace; place = noPlace; kept = 0; lost = 0; «lost_size» = 0 }))
   rewrite-decided size after q e known h =
       let n = new-table (nodesIn image) noPlace image (length w) (length bytes) size r known q e in
-      write-decided image (length w) (length bytes) after 0 (nodesIn image) size (record { place = noPlace; source = 0; kept = 0; lost = 0; «lost_size» = 0 })
+      write-decided image (length w) (length bytes) after 0 (nodesIn image) size (record { old = noPlace; place = noPlace; kept = 0; lost = 0; «lost_size» = 0 })
       (record { table = n .fits; inside = record { copied = record { from = λ z. omega arith; into = λ z. omega arith }; zeroed = record { into = λ z. omega arith } } }) (n .passed)
       (span-start bytes (encode (nodesIn image)) after size h (n .held) (n .length-is))
 
@@ -110,11 +110,11 @@ module _ (image w : List ℕ) (m e : ℕ) (used : UsedWords image w m) (end : e 
         behind-refused image (length w) room bytes (relocateVerdict (freeOf image) old new) (change k (relocated (nodesIn image) k old new)) c (verdict-is (Refused c) q)
 
     pub relocated-in-image : (k kept : ℕ) → v ≡ Passed → OpenImage image (length w) → regionOf (getD (nodesIn image) k none) ≡ old → kept ≡ min (old .size) (new .size) →
-        InImage (length image) (record { place = new; source = old .offset; kept = kept; lost = old .offset; «lost_size» = old .size })
+        InImage (length image) (record { old = old; place = new; kept = kept; lost = old .offset; «lost_size» = old .size })
     relocated-in-image k kept q known here g = relocate-inside image (length w) known k old here new kept (verdict-is Passed q) g
 
     pub relocate-decided : (k kept room : ℕ) (bytes : List ℕ) (d : Decision) → v ≡ Passed → kept ≡ min (old .size) (new .size) →
-        Decided (change k (changeWith (setPlace k (new .offset) (new .size) (nodesIn image)) (record { place = new; source = old .offset; kept = kept; lost = old .offset; «lost_size» = old .size }))) image (length w) room bytes d →
+        Decided (change k (changeWith (setPlace k (new .offset) (new .size) (nodesIn image)) (record { old = old; place = new; kept = kept; lost = old .offset; «lost_size» = old .size }))) image (length w) room bytes d →
         Decided (planned (relocateVerdict (freeOf image) old new) (change k (relocated (nodesIn image) k old new))) image (length w) room bytes d
     relocate-decided k kept room bytes d q g h =
         behind-passed image (length w) room bytes (relocateVerdict (freeOf image) old new) (change k (relocated (nodesIn image) k old new)) d (verdict-is Passed q) (rw g at h)
@@ -151,11 +151,11 @@ module _ (image w : List ℕ) (k n least : ℕ) (old : DiscRegion) (smaller : le
   lost-is = omega arith
 
   pub resized-in-image : (m : ℕ) → IsOpen image w m → OpenImage image (length w) → regionOf (getD (nodesIn image) k none) ≡ old →
-      InImage (length image) (record { place = record { offset = old .offset; size = n }; source = 0; kept = 0; lost = old .offset + n; «lost_size» = old .size - least })
+      InImage (length image) (record { old = old; place = record { offset = old .offset; size = n }; kept = 0; lost = old .offset + n; «lost_size» = old .size - least })
   resized-in-image m o known here = resize-inside image (length w) known k old here n (old .size - least) lost-is
 
   pub kept-in-place : (room : ℕ) (bytes : List ℕ) (d : Decision) →
-      Decided (change k (changeWith (setPlace k (old .offset) n (nodesIn image)) (record { place = record { offset = old .offset; size = n }; source = 0; kept = 0; lost = old .offset + n; «lost_size» = old .size - least }))) image (length w) room bytes d →
+      Decided (change k (changeWith (setPlace k (old .offset) n (nodesIn image)) (record { old = old; place = record { offset = old .offset; size = n }; kept = 0; lost = old .offset + n; «lost_size» = old .size - least }))) image (length w) room bytes d →
       Decided (change k (resized (nodesIn image) k old n)) image (length w) room bytes d
   kept-in-place room bytes d h = rw lost-is at h
 

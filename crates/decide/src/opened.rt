@@ -41,8 +41,8 @@ pub fn rewrite(image: &[u8], words: &[u32], m: usize, bytes: &mut [u8]) -> Decis
         TableSize::Bytes(size) => {
             commit::write_table(image, bytes);
             let w = Writing {
+                old: place,
                 place,
-                source: 0,
                 kept: 0,
                 lost: 0,
                 lost_size: 0,
@@ -164,8 +164,8 @@ fn relocate(
         return Decision::Refused(cause);
     }
     let w = Writing {
+        old,
         place: new,
-        source: old.offset as usize,
         kept: least(old.size, new.size) as usize,
         lost: old.offset as usize,
         lost_size: old.size as usize,
@@ -227,8 +227,8 @@ fn resize_in_place(
     };
     let lost_size = old.size - least(old.size, new_size);
     let w = Writing {
+        old,
         place,
-        source: 0,
         kept: 0,
         lost: old.offset as usize + new_size as usize,
         lost_size: lost_size as usize,

@@ -25,12 +25,14 @@ use Rattle.free_space.specs.declared.Listing.{Listing}
 use Rattle.free_space.specs.declared.Listing.the-variants as listing
 use Rattle.free_space.specs.Listing.{listingOf, listAfter}
 use Rattle.free_space.specs.Allocate.{allocationOf}
+use Rattle.totals.specs.declared.Totals.{Totals}
 use Rattle.program.specs.declared.Program.{Program}
 use Rattle.program.specs.declared.Program.the-variants as program
 use Rattle.program.specs.Program.{programOf}
 use Rattle.disc.specs.declared.TotalsAnswer.{TotalsAnswer}
 use Rattle.disc.specs.declared.TotalsAnswer.the-variants as totals
-use Rattle.disc.specs.Calls.{openedOf, totalsAnswer, programAnswer, freeAnswer, freeList, allocateAnswer}
+use Rattle.disc.specs.declared.RecordMade.{RecordMade}
+use Rattle.disc.specs.Calls.{openedOf, totalsAnswer, totalsOf, recordMade, noRecord, recordAnswer, programAnswer, freeAnswer, freeList, allocateAnswer}
 
 module _ (image : List ℕ) (n : ℕ) (w : List ℕ) (p : Prepared) (h : Prepares image n w p) where
   -- opening
@@ -51,6 +53,15 @@ module _ (image : List ℕ) (n : ℕ) (w : List ℕ) (p : Prepared) (h : Prepare
   pub refused-totals : (c : Refusal) → p ≡ Refused c → totals.Refused c ≡ totalsAnswer image n
   unfolding totalsAnswer
   refused-totals c r = refused-behind image n w p h totals.Refused _ c r
+
+  -- the totals record
+  pub ready-record : (m : ℕ) (t : Totals) → p ≡ Ready m → t ≡ totalsOf image 0 → recordMade t ≡ recordAnswer image n
+  unfolding recordAnswer
+  ready-record m t r e = ap recordMade e ∙ behind-passed (opening image n) noRecord (recordMade (totalsOf image 0)) (ready-opened image n w p h m r)
+
+  pub refused-record : (c : Refusal) → p ≡ Refused c → noRecord c ≡ recordAnswer image n
+  unfolding recordAnswer
+  refused-record c r = refused-behind image n w p h noRecord _ c r
 
   -- the program
   pub ready-program : (m : ℕ) (a : Program) → p ≡ Ready m → a ≡ programOf image → a ≡ programAnswer image n
@@ -98,6 +109,9 @@ module _ (image : List ℕ) (n n′ : ℕ) (kept : n′ ≡ n) where
 
   pub totals-kept : (a : TotalsAnswer) → a ≡ totalsAnswer image n′ → a ≡ totalsAnswer image n
   totals-kept a h = rw kept at h
+
+  pub record-kept : (a : RecordMade) → a ≡ recordAnswer image n′ → a ≡ recordAnswer image n
+  record-kept a h = rw kept at h
 
   pub listing-kept : (row : DiscRegion → List ℕ) (room : ℕ) (a : Listing) → a ≡ freeAnswer row image n′ room → a ≡ freeAnswer row image n room
   listing-kept row room a h = rw kept at h

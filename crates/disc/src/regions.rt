@@ -1,11 +1,13 @@
-// What an image's header and its regions say: opening, totals, the program, free regions, clusters, the largest size of a region, allocation.
+// What an image's header and its regions say: opening, totals, the totals record, the program, free regions, clusters, the largest size of a region, allocation.
 ghost use mathlib.Core.Path.{_≡_};
 ghost use lib.ListN.{length};
-ghost use Rattle.opening.specs.Opening.{zeros};
+ghost use Rattle.refusal.specs.declared.Verdict.the-variants.{Passed};
+ghost use Rattle.opening.specs.Opening.{opening, zeros};
 ghost use Rattle.answers.specs.Answers.{maxRegionSizeAnswer};
-ghost use Rattle.disc.specs.Calls.{openedOf, totalsAnswer, programAnswer, freeRegionsAnswer, freeRegionsList, freeClustersAnswer, freeClustersList, allocateAnswer};
-ghost use Rattle.opening.specs.Inner.Prepared.{Prepares};
+ghost use Rattle.disc.specs.Calls.{openedOf, totalsAnswer, totalsOf, recordAnswer, programAnswer, freeRegionsAnswer, freeRegionsList, freeClustersAnswer, freeClustersList, allocateAnswer};
+ghost use Rattle.opening.specs.Inner.Prepared.{UsedWords, Prepares};
 use crate::DiscTotals;
+use crate::RecordMade;
 use crate::TotalsAnswer;
 use answers::Opened;
 use answers::SizeAnswer;
@@ -13,6 +15,9 @@ use free_space::Allocation;
 use free_space::Listing;
 use opening::Prepared;
 use program::Program;
+use refusal::Verdict;
+use space::DiscRegion;
+use totals::Totals;
 
 // The answers, once the image is prepared.
 fn opened(image: &[u8], words: &[u32], prepared: Prepared) -> Opened
@@ -38,6 +43,46 @@ fn totaled(image: &[u8], words: &[u32], prepared: Prepared) -> TotalsAnswer
             })
         }
         Prepared::Refused(cause) => TotalsAnswer::Refused(cause),
+    }
+}
+
+// The record of an image that opened.
+fn record_of(image: &[u8], words: &[u32], count: usize) -> Totals
+    requires { ⌜ (opening (now image) (length (now words)) ≡ Passed) × UsedWords (now image) (now words) count ⌝ }
+    ensures { λ r. ⌜ r ≡ totalsOf (now (image .entry)) 0 ⌝ }
+{
+    let disc = answers::disc_of(image, words, count);
+    let table_end = disc.fst_offset + disc.fst_size;
+    let none = DiscRegion { offset: 0, size: 0 };
+    let largest = totals::largest_free(words, count, disc.disc_end, table_end, none, none);
+    let edits = 0;
+    Totals {
+        used: disc.used,
+        largest,
+        edits,
+    }
+}
+
+fn recorded(image: &[u8], words: &[u32], prepared: Prepared) -> RecordMade
+    requires { ⌜ Prepares (now image) (length (now words)) (now words) prepared ⌝ }
+    ensures { λ r. ⌜ r ≡ recordAnswer (now (image .entry)) (length (now (words .entry))) ⌝ }
+{
+    match prepared {
+        Prepared::Ready(count) => {
+            let totals = record_of(image, words, count);
+            RecordMade {
+                verdict: Verdict::Passed,
+                totals,
+            }
+        }
+        Prepared::Refused(cause) => RecordMade {
+            verdict: Verdict::Refused(cause),
+            totals: Totals {
+                used: 0,
+                largest: 0,
+                edits: 0,
+            },
+        },
     }
 }
 
@@ -97,6 +142,16 @@ pub fn totals(image: &[u8], words: &mut [u32]) -> TotalsAnswer
 {
     let prepared = opening::prepare(image, words);
     let answer = totaled(image, words, prepared);
+    space::zero_words(words);
+    answer
+}
+
+// A totals record of the image, its count 0.
+pub fn make_record(image: &[u8], words: &mut [u32]) -> RecordMade
+    ensures { λ r. ⌜ (r ≡ recordAnswer (now (image .entry)) (length (now (words .entry)))) × (now (words .exit) ≡ zeros (now (words .entry))) ⌝ }
+{
+    let prepared = opening::prepare(image, words);
+    let answer = recorded(image, words, prepared);
     space::zero_words(words);
     answer
 }

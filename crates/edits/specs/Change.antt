@@ -20,10 +20,10 @@ use Rattle.opening.specs.Opening.{freeOf}
 pub record Change : Type 0 where
   -- the tree that is written
   pub nodes : List Node
-  -- the edited file's new place; size 0 where there is none
+  -- the edited file's old place and its new one; size 0 where there is none
+  pub old : DiscRegion
   pub place : DiscRegion
-  -- `kept` bytes are copied from `source` to the new place, before the table is written
-  pub source : ℕ
+  -- `kept` bytes are copied from the old place to the new one, before the table is written
   pub kept : ℕ
   -- zeroed after the table is written
   pub lost : DiscRegion
@@ -39,7 +39,7 @@ withTable f size table image = put (put image f (padded table size)) (fstSizeFie
 -- "Move copies the smaller of both sizes, writes the table, then zeroes the old place; a shrink zeroes the lost end after the table."
 unfoldable pub written : Change → List ℕ → List ℕ
 written c image =
-    put (withTable (fstOffset image) (fstSize image) (encode (c .nodes)) (put image (c .place .offset) (span image (c .source) (c .kept))))
+    put (withTable (fstOffset image) (fstSize image) (encode (c .nodes)) (put image (c .place .offset) (span image (c .old .offset) (c .kept))))
     (c .lost .offset) (replicate (c .lost .size) 0)
 
 -- "working bytes fewer than the new table's size (9), then the table's place (21)": "A new table must fit the table's own

@@ -1,5 +1,5 @@
 -- The edits (document 01, "Edits"; the orders of their refusals: "Calls go on: .. insert 15, 13, 17, 19, 12; move 20, 21; resize 21, 20 .."
--- and "Make-directories gives the first trouble along the path, 12 last"; document 02, Point 4). Assumes nothing: these are definitions.
+-- and "Make-directories gives the first trouble along the path, 12 last"; document 02, Points 4 and 6). Assumes nothing: these are definitions.
 use Prim.Native.Nat.{ℕ, _+_, _-_, _^_, min}
 use mathlib.Core.Bool.{Bool, true, false, cond, not, _&&_, _||_}
 use mathlib.Core.List.{List, [], _∷_}
@@ -17,11 +17,14 @@ use Rattle.tree.specs.declared.Located.{Located}
 use Rattle.tree.specs.declared.Located.the-variants as located
 use Rattle.tree.specs.Insert.{insertAt, setPlace, emptyFile, emptyDirectory}
 use Rattle.space.specs.declared.DiscRegion.{DiscRegion}
+use Rattle.space.specs.Free.{largestSize}
 use Rattle.free_space.specs.declared.Allocation.{Allocation}
 use Rattle.free_space.specs.declared.Allocation.the-variants as allocation
 use Rattle.free_space.specs.MaxRegionSize.{maxRegionSize}
 use Rattle.free_space.specs.Allocate.{allocationOf}
-use Rattle.opening.specs.Opening.{opening, nodesIn, freeOf, regionOf}
+use Rattle.totals.specs.declared.Totals.{Totals}
+use Rattle.totals.specs.Totals.{totalsVerdict, totalsMoved}
+use Rattle.opening.specs.Opening.{opening, nodesIn, freeOf, usedOf, regionOf}
 use Rattle.edits.specs.Change.{Change, written, tableVerdict, Plan, refused, nothing, change, filled}
 
 -- an edit, with its numbers and its name, path or clip
@@ -39,7 +42,7 @@ noPlace = record { offset = 0; size = 0 }
 
 -- only the table is written
 abbrev pub tableOnly : List Node → Change
-tableOnly nodes = record { nodes = nodes; place = noPlace; source = 0; kept = 0; lost = noPlace }
+tableOnly nodes = record { nodes = nodes; old = noPlace; place = noPlace; kept = 0; lost = noPlace }
 
 -- a plan behind tests
 abbrev pub planned : Verdict → Plan → Plan
@@ -129,8 +132,8 @@ overlapsItself old new = ltb (new .offset) (old .offset + old .size) && ltb (old
 abbrev pub relocated : List Node → ℕ → DiscRegion → DiscRegion → Change
 relocated nodes k old new = record {
   nodes = setPlace k (new .offset) (new .size) nodes;
+  old = old;
   place = new;
-  source = old .offset;
   kept = min (old .size) (new .size);
   lost = old;
 }
@@ -151,8 +154,8 @@ planMove free nodes k to =
 abbrev pub resized : List Node → ℕ → DiscRegion → ℕ → Change
 resized nodes k old n = record {
   nodes = setPlace k (old .offset) n nodes;
+  old = old;
   place = record { offset = old .offset; size = n };
-  source = 0;
   kept = 0;
   lost = record { offset = old .offset + n; size = old .size - n };
 }
@@ -201,10 +204,6 @@ planVerdict nothing image words bytes = Passed
 planVerdict (change k c) image words bytes = tableVerdict c image words bytes
 planVerdict (filled k clip p) image words bytes = planVerdict p image words bytes
 
--- the verdict on an edit of an image, with so many working words and bytes lent: opening, the edit's own tests, the table's
-unfoldable pub verdictOf : Edit → List ℕ → ℕ → ℕ → Verdict
-verdictOf ed image words bytes = first (opening image words) (planVerdict (planOf ed image) image words bytes)
-
 -- the tree that a plan comes to
 abbrev pub planTree : Plan → List Node → List Node
 planTree (refused v) nodes = nodes
@@ -219,9 +218,25 @@ planImage nothing image = image
 planImage (change k c) image = written c image
 planImage (filled k clip p) image = put (planImage p image) (regionOf (getD (planTree p (nodesIn image)) k none) .offset) clip
 
+-- "25, used bytes or edit count would leave 0 to 2^32 - 1, tested last"; t is the record that the edit is handed
+unfoldable pub countedVerdict : Plan → Totals → List ℕ → ℕ → ℕ → Verdict
+countedVerdict p t image words bytes = first (planVerdict p image words bytes) (totalsVerdict t (usedOf image) (usedOf (planImage p image)))
+
+-- the verdict on an edit of an image, with a record and so many working words and bytes lent: opening, the edit's own tests, the table's, 25
+unfoldable pub verdictOf : Edit → Totals → List ℕ → ℕ → ℕ → Verdict
+verdictOf ed t image words bytes = first (opening image words) (countedVerdict (planOf ed image) t image words bytes)
+
 -- the image afterwards: a refused edit leaves it as it is
-unfoldable pub imageAfter : Edit → List ℕ → ℕ → ℕ → List ℕ
-imageAfter ed image words bytes = cond (isRefused (verdictOf ed image words bytes)) image (planImage (planOf ed image) image)
+unfoldable pub imageAfter : Edit → Totals → List ℕ → ℕ → ℕ → List ℕ
+imageAfter ed t image words bytes = cond (isRefused (verdictOf ed t image words bytes)) image (planImage (planOf ed image) image)
+
+-- the record with the totals of the new image: "Used bytes move by the edit's change, the count by one; the largest region is the new image's."
+abbrev pub totalsTo : Totals → List ℕ → List ℕ → Totals
+totalsTo t image new = totalsMoved t (usedOf image) (usedOf new) (largestSize (freeOf new))
+
+-- the record afterwards: "A refused edit hands the record back unaltered."
+unfoldable pub totalsAfter : Edit → Totals → List ℕ → ℕ → ℕ → Totals
+totalsAfter ed t image words bytes = cond (isRefused (verdictOf ed t image words bytes)) t (totalsTo t image (planImage (planOf ed image) image))
 
 -- the answer of an edit that gives an entry's number
 abbrev pub planNumber : Plan → ℕ

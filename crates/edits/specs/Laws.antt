@@ -1,4 +1,5 @@
 -- What follows from the definitions.
+pub mod Accepted
 pub mod Behind
 pub mod PlaceTests
 pub mod Puts

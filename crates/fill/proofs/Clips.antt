@@ -119,11 +119,11 @@ module _ (image t clip : List ℕ) (room : ℕ) (w : Writing) (k : Clear image (
   length-zeros = length-replicate {A = ℕ} (w .«lost_size») 0
 
   copied : List ℕ
-  copied = span image (w .source) (w .kept)
+  copied = span image (w .old .offset) (w .kept)
 
   short : length copied ≤ n
   unfolding copied
-  short = omega (arith, length-take (w .kept) (drop (w .source) image), k .covers)
+  short = omega (arith, length-take (w .kept) (drop (w .old .offset) image), k .covers)
 
   -- what the rest asks
   behind : 0 < n → fstOffset image + length table ≤ a

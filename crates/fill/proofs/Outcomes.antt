@@ -1,4 +1,5 @@
--- What each function that decides on a fill found, as what its plan comes to; and what the writing of it asks and leaves. Assumes nothing.
+-- What each function that decides on a fill found, entered in the record, as what its plan comes to; and what the writing of it asks and
+-- leaves. The clip lies in the file's place, so the layout is that of the resize. Assumes nothing.
 use Prim.Native.Nat.{ℕ, _-_, _^_, _≤_}
 use mathlib.Core.Path.{_≡_, refl, sym, ap, _∙_}
 use mathlib.Core.Bool.{true, cond}
@@ -7,22 +8,25 @@ use native.Mathlib.Omega.{arith}
 use borrow.Author.Tests.{le-ltb}
 use lib.Dec.{ltb}
 use lib.ListN.{length, getD, replicate}
-use Rattle.endian.specs.Bytes.{put, span}
+use Rattle.endian.specs.Bytes.{AllBytes, put, span}
 use Rattle.endian.specs.Laws.Stored.{length-span}
 use Rattle.refusal.specs.declared.Refusal.{Refusal}
 use Rattle.refusal.specs.declared.Refusal.the-variants.{NotEnoughSpace}
 use Rattle.refusal.specs.declared.Verdict.{Verdict}
 use Rattle.refusal.specs.declared.Verdict.the-variants.{Passed, Refused}
 use Rattle.refusal.specs.Refusal.{first, isRefused}
+use Rattle.refusal.specs.Laws.Chains.{first-passed}
 use Rattle.tree.specs.Table.{none}
 use Rattle.space.specs.declared.DiscRegion.{DiscRegion}
+use Rattle.space.specs.Inner.Sort.{regionsIn}
+use Rattle.totals.specs.declared.Totals.{Totals}
 use Rattle.opening.specs.Opening.{opening, nodesIn, freeOf, regionOf}
-use Rattle.opening.specs.Laws.OpeningLaws.{OpenImage}
+use Rattle.opening.specs.Laws.OpeningLaws.{OpenImage, opens}
 use Rattle.opening.specs.declared.Prepared.{Prepared}
 use Rattle.opening.specs.declared.Prepared.the-variants as prepared
-use Rattle.opening.specs.Inner.Prepared.{Prepares}
+use Rattle.opening.specs.Inner.Prepared.{Prepares, IsOpen}
 use Rattle.edits.specs.Change.{Plan, refused, filled}
-use Rattle.edits.specs.Edits.{fillFile, planned, fileVerdict, clipVerdict, planSized, planResize, planFill, planOf, planVerdict, planImage, verdictOf, imageAfter}
+use Rattle.edits.specs.Edits.{fillFile, planned, fileVerdict, clipVerdict, planSized, planResize, planFill, planOf, planVerdict, planImage, countedVerdict, verdictOf, imageAfter, totalsTo, totalsAfter}
 use Rattle.edits.specs.Promise.{lent, onlyVerdict, Edited}
 use Rattle.decide.specs.declared.FileAt.{FileAt}
 use Rattle.decide.specs.declared.FileAt.the-variants as place
@@ -30,39 +34,46 @@ use Rattle.decide.specs.Inner.Files.{IsFile, fileAs}
 use Rattle.decide.proofs.Files.{file-found, file-refused}
 use Rattle.edits.specs.Laws.Behind as behind
 use Rattle.edits.specs.Laws.Puts.{put-length}
+use Rattle.ledger.specs.Laws.Layout.{Lays}
+use Rattle.ledger.specs.Laws.TreeAfter.{arrives}
 use Rattle.commit.proofs.Decisions.{opened, unopened}
 use Rattle.commit.specs.declared.Writing.{Writing}
 use Rattle.commit.specs.declared.Decision.{Decision}
 use Rattle.commit.specs.declared.Decision.the-variants as decision
 use Rattle.commit.specs.Inner.Decision.{Fits, carriedVerdict, carriedImage, CanCarry, Decided}
+use Rattle.totals_after.specs.declared.Accounted.{Accounted}
+use Rattle.totals_after.specs.Inner.Accounting.{accountOf}
+use Rattle.totals_after.specs.Laws.AccountLaws as laws
 use Rattle.fill.specs.declared.Filling.{Filling}
 use Rattle.fill.specs.declared.Filling.the-variants as filling
-use Rattle.fill.specs.Inner.Filling.{fillingOf, Into, ClipInto, clippedImage, restOf, filledVerdict, filledImage, Clear, CanFill, Filled}
+use Rattle.fill.specs.declared.AccountedFilling.{AccountedFilling}
+use Rattle.fill.specs.Inner.Filling.{fillingOf, Into, ClipInto, clippedImage, restOf, filledVerdict, filledImage, Clear, CanFill, FilledAs, accountedFilling, FilledFor}
 use Rattle.fill.proofs.Clips.{clip-first, offset-kept, size-kept}
 use Rattle.fill.proofs.Places.{clip-stays, clip-clear}
 
 -- ---- refused, and behind tests
 
-module _ (image : List ℕ) (words room : ℕ) (bytes clip : List ℕ) where
-  refused-filled : (p : Plan) (c : Refusal) → planVerdict p image words room ≡ Refused c → Filled p image words room bytes clip (filling.Refused c)
-  refused-filled p c e = record { fits = tt; answer = sym e; after = sym (ap (λ (v : Verdict). cond (isRefused v) image (planImage p image)) e) }
+module _ (image : List ℕ) (words room : ℕ) (bytes clip : List ℕ) (t : Totals) where
+  -- by the plan's tests, or by 25
+  refused-filled : (p : Plan) (c : Refusal) → countedVerdict p t image words room ≡ Refused c → FilledFor p image words room bytes clip t (accountedFilling (filling.Refused c) t)
+  refused-filled p c e = record { filled = record { fits = tt; answer = sym e; after = rw e }; totals = rw e }
 
-  behind-passed : (v : Verdict) (p : Plan) (f : Filling) → v ≡ Passed → Filled p image words room bytes clip f → Filled (planned v p) image words room bytes clip f
-  behind-passed v p f e h = rw (behind.behind-passed v p e) h
+  behind-passed : (v : Verdict) (p : Plan) (a : AccountedFilling) → v ≡ Passed → FilledFor p image words room bytes clip t a → FilledFor (planned v p) image words room bytes clip t a
+  behind-passed v p a e h = rw (behind.behind-passed v p e) h
 
-  behind-refused : (v : Verdict) (p : Plan) (c : Refusal) → v ≡ Refused c → Filled (planned v p) image words room bytes clip (filling.Refused c)
-  behind-refused v p c e = rw (behind.behind-refused v p c e) (refused-filled (refused (Refused c)) c refl)
+  behind-refused : (v : Verdict) (p : Plan) (c : Refusal) → v ≡ Refused c → FilledFor (planned v p) image words room bytes clip t (accountedFilling (filling.Refused c) t)
+  behind-refused v p c e = rw (behind.behind-refused v p c e) (refused-filled (refused (Refused c)) c (unfold countedVerdict in refl))
 
 -- ---- a resize's decision, and the clip
 
-module _ (image : List ℕ) (words room : ℕ) (bytes clip : List ℕ) (known : OpenImage image words) (lent : length bytes ≡ room) (k : ℕ) (f : IsFile (nodesIn image) k) (old : DiscRegion)
-    (here : regionOf (getD (nodesIn image) k none) ≡ old) where
+module _ (image : List ℕ) (words room : ℕ) (bytes clip : List ℕ) (known : OpenImage image words) (k : ℕ) (f : IsFile (nodesIn image) k) (old : DiscRegion)
+    (here : regionOf (getD (nodesIn image) k none) ≡ old) (long : length bytes ≡ room) where
   abbrev sized : Plan
   sized = planSized (freeOf image) (nodesIn image) k old (length clip)
 
   -- the clip goes where the file lies then
-  by-decision : (d : Decision) → Decided sized image words room bytes d → Filled (filled k clip sized) image words room bytes clip (fillingOf d (old .offset))
-  by-decision (decision.Refused c) h = refused-filled image words room bytes clip (filled k clip sized) c (sym (h .answer))
+  by-decision : (d : Decision) → Decided sized image words room bytes d → FilledAs (planVerdict sized image words room) (filled k clip sized) image room bytes clip (fillingOf d (old .offset))
+  by-decision (decision.Refused c) h = record { fits = tt; answer = h .answer; after = rw (← h .answer) }
   by-decision decision.Nothing h =
       let s = clip-stays image words known k f old here (length clip) bytes (h .carries) in
       record {
@@ -80,47 +91,70 @@ module _ (image : List ℕ) (words room : ℕ) (bytes clip : List ℕ) (known : 
         after = rw (← h .answer, s .1) (ap (λ (x : List ℕ). put x (w .place .offset) clip) i);
       }
 
-  module _ (passed : fileVerdict (nodesIn image) k ≡ Passed) where
-    pub long-clip : ltb (2 ^ 32 - 1) (length clip) ≡ true → Filled (planFill (freeOf image) (nodesIn image) k clip) image words room bytes clip (filling.Refused NotEnoughSpace)
-    unfolding planFill
-    long-clip h = behind-refused image words room bytes clip (clipVerdict (nodesIn image) k (length clip)) _ NotEnoughSpace (rw (passed, h))
+-- ---- entered in the record
 
-    pub file-filled : (d : Decision) → length clip ≤ 0xFFFFFFFF → Decided sized image words room bytes d → Filled (planFill (freeOf image) (nodesIn image) k clip) image words room bytes clip (fillingOf d (old .offset))
-    unfolding planFill planResize
-    file-filled d h e =
-        behind-passed image words room bytes clip (clipVerdict (nodesIn image) k (length clip)) _ (fillingOf d (old .offset)) (rw (passed, le-ltb 0xFFFFFFFF (length clip) h))
-        (rw (passed, here) (by-decision d e))
+module _ (image w : List ℕ) (m room : ℕ) (bytes clip : List ℕ) (t : Totals) (o : IsOpen image w m) (b : AllBytes image) (given : AllBytes clip) (long : length bytes ≡ room) (k : ℕ) (f : IsFile (nodesIn image) k) (old : DiscRegion)
+    (here : regionOf (getD (nodesIn image) k none) ≡ old) (passed : fileVerdict (nodesIn image) k ≡ Passed) (short : length clip ≤ 0xFFFFFFFF) where
+  abbrev resize : Plan
+  resize = planSized (freeOf image) (nodesIn image) k old (length clip)
+
+  abbrev fill : Plan
+  fill = filled k clip resize
+
+  plan-is : planFill (freeOf image) (nodesIn image) k clip ≡ fill
+  plan-is = unfold planFill planResize in rw (passed, le-ltb 0xFFFFFFFF (length clip) short, here)
+
+  -- the image with the clip has the layout of the resize
+  lays : planVerdict resize image (length w) room ≡ Passed → Lays resize image (planImage fill image)
+  lays v = rw plan-is at (arrives image (length w) room b (o .passed) (fillFile k clip) given (rw plan-is v) .2)
+
+  module _ (d : Decision) (decided : Decided resize image (length w) room bytes d) (a : Accounted) (is : a ≡ accountOf image (regionsIn w 1 (m - 1)) d t) where
+    entered : laws.Entered (countedVerdict fill t image (length w) room) d t (totalsTo t image (planImage fill image)) a
+    entered = unfold countedVerdict in rw is (laws.entered image w m room bytes long t o b (planImage fill image) resize d decided lays)
+
+    by-tests : (v : Verdict) → countedVerdict fill t image (length w) room ≡ v → FilledFor fill image (length w) room bytes clip t (accountedFilling (fillingOf (a .decision) (old .offset)) (a .totals))
+    unfolding countedVerdict
+    by-tests Passed e =
+        let q : planVerdict resize image (length w) room ≡ Passed = first-passed (planVerdict resize image (length w) room) _ e .0 in
+        let h : FilledAs Passed fill image room bytes clip (fillingOf d (old .offset)) = rw q at (by-decision image (length w) room bytes clip (opens image (length w) b (o .passed)) k f old here long d decided) in
+        rw (entered .passed e) (record { filled = rw e h; totals = rw e })
+    by-tests (Refused c) e = rw (entered .refused c e) (refused-filled image (length w) room bytes clip t fill c e)
+
+    pub account-filled : FilledFor (planFill (freeOf image) (nodesIn image) k clip) image (length w) room bytes clip t (accountedFilling (fillingOf (a .decision) (old .offset)) (a .totals))
+    account-filled = rw plan-is (by-tests (countedVerdict fill t image (length w) room) refl)
 
 -- ---- by what the code found
 
-module _ (image : List ℕ) (w bytes bytes′ clip : List ℕ) (k : ℕ) (r : FileAt) (read : r ≡ fileAs (fileVerdict (nodesIn image) k) (regionOf (getD (nodesIn image) k none))) where
-  abbrev Fills : Filling → Type 0
-  Fills f = Filled (planFill (freeOf image) (nodesIn image) k clip) image (length w) (length bytes) bytes′ clip f
+module _ (image w bytes bytes′ clip : List ℕ) (t : Totals) (k : ℕ) (r : FileAt) (read : r ≡ fileAs (fileVerdict (nodesIn image) k) (regionOf (getD (nodesIn image) k none))) where
+  abbrev Fills : AccountedFilling → Type 0
+  Fills a = FilledFor (planFill (freeOf image) (nodesIn image) k clip) image (length w) (length bytes) bytes′ clip t a
 
-  pub no-file-to-fill : (c : Refusal) → r ≡ place.Refused c → Fills (filling.Refused c)
+  pub no-file-to-fill : (c : Refusal) → r ≡ place.Refused c → Fills (accountedFilling (filling.Refused c) t)
   unfolding planFill
   no-file-to-fill c e =
-      behind-refused image (length w) (length bytes) bytes′ clip (clipVerdict (nodesIn image) k (length clip)) _ c (rw (file-refused (nodesIn image) k r c read e))
+      behind-refused image (length w) (length bytes) bytes′ clip t (clipVerdict (nodesIn image) k (length clip)) _ c (rw (file-refused (nodesIn image) k r c read e))
 
-  module _ (old : DiscRegion) (found : r ≡ place.Place old) (known : OpenImage image (length w)) (lent : length bytes′ ≡ length bytes) where
-    pub clip-too-long : ltb (2 ^ 32 - 1) (length clip) ≡ true → Fills (filling.Refused NotEnoughSpace)
+  module _ (old : DiscRegion) (found : r ≡ place.Place old) where
+    pub clip-too-long : ltb (2 ^ 32 - 1) (length clip) ≡ true → Fills (accountedFilling (filling.Refused NotEnoughSpace) t)
+    unfolding planFill
     clip-too-long h =
         let f = file-found (nodesIn image) k r old read found in
-        long-clip image (length w) (length bytes) bytes′ clip known lent k (f .is) old (f .place) (f .passed) h
+        behind-refused image (length w) (length bytes) bytes′ clip t (clipVerdict (nodesIn image) k (length clip)) _ NotEnoughSpace (rw (f .passed, h))
 
-    pub filled-by : (n : ℕ) (d : Decision) (g : Filling) → length clip ≤ 0xFFFFFFFF → n ≡ length clip → Decided (planSized (freeOf image) (nodesIn image) k old n) image (length w) (length bytes) bytes′ d → g ≡ fillingOf d (old .offset) → Fills g
-    filled-by n d g h e q u =
+    pub filled-by : (m n : ℕ) (d : Decision) (a : Accounted) (g : Filling) → IsOpen image w m → AllBytes image → AllBytes clip → length bytes′ ≡ length bytes → length clip ≤ 0xFFFFFFFF → n ≡ length clip →
+        Decided (planSized (freeOf image) (nodesIn image) k old n) image (length w) (length bytes) bytes′ d → a ≡ accountOf image (regionsIn w 1 (m - 1)) d t → g ≡ fillingOf (a .decision) (old .offset) → Fills (accountedFilling g (a .totals))
+    filled-by m n d a g o b given long short e decided is u =
         let f = file-found (nodesIn image) k r old read found in
-        rw u (file-filled image (length w) (length bytes) bytes′ clip known lent k (f .is) old (f .place) (f .passed) d h (rw e at q))
+        rw u (account-filled image w m (length bytes) bytes′ clip t o b given long k (f .is) old (f .place) (f .passed) short d (rw e at decided) a is)
 
 -- opening, then the plan
-pub open-filled : (image w w′ : List ℕ) (r : Prepared) (m room : ℕ) (bytes clip : List ℕ) (p : Plan) (f : Filling) → Prepares image (length w) w′ r → r ≡ prepared.Ready m → length w′ ≡ length w →
-    Filled p image (length w′) room bytes clip f → Filled (planned (opening image (length w)) p) image (length w) room bytes clip f
-open-filled image w w′ r m room bytes clip p f q e l h = behind-passed image (length w) room bytes clip (opening image (length w)) p f (opened image w w′ r m q e) (rw l at h)
+pub open-filled : (image w w′ : List ℕ) (r : Prepared) (m room : ℕ) (bytes clip : List ℕ) (t : Totals) (p : Plan) (a : AccountedFilling) → Prepares image (length w) w′ r → r ≡ prepared.Ready m → length w′ ≡ length w →
+    FilledFor p image (length w′) room bytes clip t a → FilledFor (planned (opening image (length w)) p) image (length w) room bytes clip t a
+open-filled image w w′ r m room bytes clip t p a q e l h = behind-passed image (length w) room bytes clip t (opening image (length w)) p a (opened image w w′ r m q e) (rw l at h)
 
-pub unopened-filled : (image w w′ : List ℕ) (r : Prepared) (c : Refusal) (room : ℕ) (bytes clip : List ℕ) (p : Plan) → Prepares image (length w) w′ r → r ≡ prepared.Refused c →
-    Filled (planned (opening image (length w)) p) image (length w) room bytes clip (filling.Refused c)
-unopened-filled image w w′ r c room bytes clip p q e = behind-refused image (length w) room bytes clip (opening image (length w)) p c (unopened image w w′ r c q e)
+pub unopened-filled : (image w w′ : List ℕ) (r : Prepared) (c : Refusal) (room : ℕ) (bytes clip : List ℕ) (t : Totals) (p : Plan) → Prepares image (length w) w′ r → r ≡ prepared.Refused c →
+    FilledFor (planned (opening image (length w)) p) image (length w) room bytes clip t (accountedFilling (filling.Refused c) t)
+unopened-filled image w w′ r c room bytes clip t p q e = behind-refused image (length w) room bytes clip t (opening image (length w)) p c (unopened image w w′ r c q e)
 
 -- ---- the clip written, by the cases of what is decided on
 
@@ -139,7 +173,7 @@ module _ (f : Filling) (size : ℕ) (w : Writing) (e : f ≡ filling.Write size 
   placed-into long n h = rw e at h
 
   -- all that was to be zeroed
-  pub placed-rest : (n : ℕ) → n ≡ w .«lost_size» → decision.Write size (record { place = w .place; source = 0; kept = 0; lost = w .lost; «lost_size» = n }) ≡ restOf f
+  pub placed-rest : (n : ℕ) → n ≡ w .«lost_size» → decision.Write size (record { old = w .old; place = w .place; kept = 0; lost = w .lost; «lost_size» = n }) ≡ restOf f
   placed-rest n q = rw (e, q)
 
   pub placed-image : (image clip after : List ℕ) → after ≡ put image (w .place .offset) clip → after ≡ clippedImage f clip image
@@ -147,12 +181,15 @@ module _ (f : Filling) (size : ℕ) (w : Writing) (e : f ≡ filling.Write size 
 
 -- ---- and then the rest
 
-module _ (image : List ℕ) (room : ℕ) (bytes clip : List ℕ) (lent : length bytes ≡ room) where
-  clip-into : (f : Filling) → CanFill image room (length clip) f → ClipInto (length image) (length clip) f
-  clip-into (filling.Refused c) h = tt
-  clip-into (filling.Clip at) h = h
-  clip-into (filling.Write size w) h = h .1 .into
+clip-into : (image : List ℕ) (room n : ℕ) (f : Filling) → CanFill image room n f → ClipInto (length image) n f
+clip-into image room n (filling.Refused c) h = tt
+clip-into image room n (filling.Clip at) h = h
+clip-into image room n (filling.Write size w) h = h .1 .into
 
+pub clip-fits : (p : Plan) (image : List ℕ) (words room : ℕ) (bytes clip : List ℕ) (t : Totals) (a : AccountedFilling) → FilledFor p image words room bytes clip t a → ClipInto (length image) (length clip) (a .filling)
+clip-fits p image words room bytes clip t a h = clip-into image room (length clip) (a .filling) (h .filled .fits)
+
+module _ (image : List ℕ) (room : ℕ) (bytes clip : List ℕ) (lent : length bytes ≡ room) where
   held : (size : ℕ) → size ≤ room → length (span bytes 0 size) ≡ size
   held size h = length-span bytes 0 size (omega arith)
 
@@ -183,30 +220,31 @@ rest-answered (filling.Refused c) = refl
 rest-answered (filling.Clip at) = refl
 rest-answered (filling.Write size w) = refl
 
-module _ (k : ℕ) (image words bytes clip b : List ℕ) (f : Filling)
-    (h : Filled (planned (opening image (length words)) (planOf (fillFile k clip) image)) image (length words) (length bytes) b clip f) (kb : length b ≡ length bytes) where
-  pub clip-fits : ClipInto (length image) (length clip) f
-  clip-fits = clip-into image (length bytes) b clip kb f (h .fits)
-
-  module _ (image′ : List ℕ) (d : Decision) (rest : d ≡ restOf f) (clipped : image′ ≡ clippedImage f clip image) where
+module _ (k : ℕ) (image words bytes clip b : List ℕ) (t : Totals) (a : AccountedFilling)
+    (h : FilledFor (planned (opening image (length words)) (planOf (fillFile k clip) image)) image (length words) (length bytes) b clip t a) (kb : length b ≡ length bytes) where
+  module _ (image′ : List ℕ) (d : Decision) (rest : d ≡ restOf (a .filling)) (clipped : image′ ≡ clippedImage (a .filling) clip image) where
     pub rest-fits : CanCarry image′ (length b) d
-    rest-fits = rw (rest, clipped, kb) (rest-carried image (length bytes) b clip kb f (h .fits))
+    rest-fits = rw (rest, clipped, kb) (rest-carried image (length bytes) b clip kb (a .filling) (h .filled .fits))
 
     -- a fill is opening, its tests, and the two writings
-    whole : (v : Verdict) → Filled (planned v (planOf (fillFile k clip) image)) image (length words) (length bytes) b clip f →
-        (filledVerdict f ≡ first v (planVerdict (planOf (fillFile k clip) image) image (length words) (length bytes)))
-        × (filledImage f b clip image ≡ cond (isRefused (first v (planVerdict (planOf (fillFile k clip) image) image (length words) (length bytes)))) image (planImage (planOf (fillFile k clip) image) image))
-    whole Passed g = (g .answer, g .after)
-    whole (Refused c) g = (g .answer, g .after)
+    whole : (v : Verdict) → FilledFor (planned v (planOf (fillFile k clip) image)) image (length words) (length bytes) b clip t a →
+        (filledVerdict (a .filling) ≡ first v (countedVerdict (planOf (fillFile k clip) image) t image (length words) (length bytes)))
+        × (filledImage (a .filling) b clip image ≡ cond (isRefused (first v (countedVerdict (planOf (fillFile k clip) image) t image (length words) (length bytes)))) image (planImage (planOf (fillFile k clip) image) image))
+        × (a .totals ≡ cond (isRefused (first v (countedVerdict (planOf (fillFile k clip) image) t image (length words) (length bytes)))) t (totalsTo t image (planImage (planOf (fillFile k clip) image) image)))
+    whole Passed g = (g .filled .answer, g .filled .after, g .totals)
+    whole (Refused c) g =
+        let e : countedVerdict (refused (Refused c)) t image (length words) (length bytes) ≡ Refused c = unfold countedVerdict in refl in
+        (g .filled .answer ∙ e, g .filled .after ∙ rw e, g .totals ∙ rw e)
 
     pub fill-done : (image″ words′ bytes′ w : List ℕ) (r : Verdict) → length w ≡ length words → r ≡ carriedVerdict d → image″ ≡ carriedImage d b image′ → words′ ≡ replicate (length w) 0 → bytes′ ≡ replicate (length b) 0 →
-        Edited onlyVerdict (fillFile k clip) (lent image words bytes) (lent image″ words′ bytes′) r
-    unfolding verdictOf imageAfter
-    fill-done image″ words′ bytes′ w r kw a i zw zb =
+        Edited onlyVerdict (fillFile k clip) (lent image words bytes t) (lent image″ words′ bytes′ (a .totals)) r
+    unfolding verdictOf imageAfter totalsAfter
+    fill-done image″ words′ bytes′ w r kw q i zw zb =
         let g = whole (opening image (length words)) h in
         record {
-          answered = a ∙ ap carriedVerdict rest ∙ rest-answered f ∙ g .0;
-          image = i ∙ (rw (rest, clipped) (rest-image image (length bytes) b clip kb f (h .fits) ∙ g .1));
+          answered = q ∙ ap carriedVerdict rest ∙ rest-answered (a .filling) ∙ g .0;
+          image = i ∙ (rw (rest, clipped) (rest-image image (length bytes) b clip kb (a .filling) (h .filled .fits) ∙ g .1));
+          totals = g .2;
           words = zw ∙ ap (λ (n : ℕ). replicate n 0) kw;
           bytes = zb ∙ ap (λ (n : ℕ). replicate n 0) kb;
         }

@@ -1,14 +1,16 @@
 // What a fill decides on an open image, whose used regions stand in the working words.
+use crate::AccountedFilling;
 use crate::Filling;
 use commit::Decision;
 use decide::FileAt;
 use refusal::Refusal;
+use totals::Totals;
 ghost use mathlib.Core.Path.{_≡_};
 ghost use lib.ListN.{length};
 ghost use Rattle.opening.specs.Opening.{nodesIn, freeOf};
 ghost use Rattle.opening.specs.Inner.Prepared.{IsOpen};
 ghost use Rattle.edits.specs.Edits.{planFill};
-ghost use Rattle.fill.specs.Inner.Filling.{fillingOf, Filled};
+ghost use Rattle.fill.specs.Inner.Filling.{fillingOf, FilledFor};
 
 // A resize's decision with the clip: a file of the clip's size stays at `at`, and only the clip is written.
 fn with_clip(decision: Decision, at: u32) -> Filling
@@ -21,28 +23,39 @@ fn with_clip(decision: Decision, at: u32) -> Filling
     }
 }
 
-// 15, 16, 21 for a clip that no place can hold, then the resize to the clip's length.
+// 15, 16, 21 for a clip that no place can hold, then the resize to the clip's length, and 25 last.
 pub fn fill(
     image: &[u8],
     words: &[u32],
     m: usize,
     bytes: &mut [u8],
+    totals: Totals,
     number: u32,
     clip: &[u8],
-) -> Filling
+) -> AccountedFilling
     requires { ⌜ IsOpen (now image) (now words) m ⌝ }
-    ensures { λ r. ⌜ Filled (planFill (freeOf (now (image .entry))) (nodesIn (now (image .entry))) number (now (clip .entry))) (now (image .entry)) (length (now (words .entry))) (length (now (bytes .entry))) (now (bytes .exit)) (now (clip .entry)) r ⌝ }
+    ensures { λ r. ⌜ FilledFor (planFill (freeOf (now (image .entry))) (nodesIn (now (image .entry))) number (now (clip .entry))) (now (image .entry)) (length (now (words .entry))) (length (now (bytes .entry))) (now (bytes .exit)) (now (clip .entry)) totals r ⌝ }
 {
     let found = decide::file_at(image, number);
     match found {
-        FileAt::Refused(cause) => Filling::Refused(cause),
+        FileAt::Refused(cause) => AccountedFilling {
+            filling: Filling::Refused(cause),
+            totals,
+        },
         FileAt::Place(old) => {
             if 0xFFFFFFFF < clip.len() {
-                return Filling::Refused(Refusal::NotEnoughSpace);
+                return AccountedFilling {
+                    filling: Filling::Refused(Refusal::NotEnoughSpace),
+                    totals,
+                };
             }
             let new_size = clip.len() as u32;
             let decision = decide::resize(image, words, m, bytes, number, old, new_size);
-            with_clip(decision, old.offset)
+            let accounted = totals_after::account(image, words, m, decision, totals);
+            let decision = accounted.decision;
+            let totals = accounted.totals;
+            let filling = with_clip(decision, old.offset);
+            AccountedFilling { filling, totals }
         }
     }
 }

@@ -32,12 +32,13 @@ pub fn write_clip(image: &mut [u8], clip: &[u8], filling: Filling) -> Decision
             Decision::Nothing
         }
         Filling::Write(size, w) => {
+            let old = w.old;
             let place = w.place;
             let at = place.offset as usize;
             put_clip(image, at, clip);
             let rest = Writing {
+                old,
                 place,
-                source: 0,
                 kept: 0,
                 lost: w.lost,
                 lost_size: w.lost_size,

@@ -7,27 +7,23 @@ use lib.ListN.{length}
 use Rattle.refusal.specs.declared.Refusal.{Refusal}
 use Rattle.refusal.specs.declared.Verdict.{Verdict}
 use Rattle.refusal.specs.declared.Verdict.the-variants.{Passed, Refused}
-use Rattle.refusal.specs.Refusal.{first}
 use Rattle.tree.specs.Table.{Node}
 use Rattle.tree.specs.Inner.WellFormed.{WellFormed}
 use Rattle.tree.specs.Laws.Growing.{Bigger}
 use Rattle.tree.specs.declared.Located.the-variants as located
-use Rattle.opening.specs.Opening.{nodesIn, opening}
+use Rattle.opening.specs.Opening.{nodesIn}
 use Rattle.opening.specs.Laws.OpeningLaws.{OpenImage}
-use Rattle.opening.specs.declared.Prepared.{Prepared}
-use Rattle.opening.specs.declared.Prepared.the-variants as prepared
-use Rattle.opening.specs.Inner.Prepared.{Prepares}
 use Rattle.commit.specs.declared.Decision.{Decision}
 use Rattle.commit.specs.declared.TableSize.{TableSize}
 use Rattle.commit.specs.declared.TableSize.the-variants as table
 use Rattle.edits.specs.Change.{Change, Plan, change}
-use Rattle.edits.specs.Edits.{Edit, tableOnly, planned, planOf, planVerdict, planNumber, verdictOf, numberedAs}
-use Rattle.commit.specs.Inner.Decision.{carriedVerdict, Decided}
+use Rattle.edits.specs.Edits.{tableOnly, planned, planVerdict, numberedAs}
+use Rattle.commit.specs.Inner.Decision.{Decided}
 use Rattle.commit.proofs.Decisions.{refused-decided}
 use Rattle.grow.specs.declared.Grown.{Grown}
 use Rattle.grow.specs.declared.Grown.the-variants as grown
 use Rattle.grow.specs.Inner.Growth.{treeIn, Stands, Built}
-use Rattle.grow.specs.Inner.Grown.{tableDecision, grownDecision, grownNumber, grownAs, Numbered}
+use Rattle.grow.specs.Inner.Grown.{tableDecision, grownAs, Numbered}
 use Rattle.grow.proofs.StandingTable.{built-stands, unbuilt}
 
 no-path : _≡_ {A = ℕ} 0 1 → ⊥
@@ -82,32 +78,3 @@ module _ (image : List ℕ) (words room : ℕ) (bytes : List ℕ) where
   pub behind-refused-numbered : (v : Verdict) (p : Plan) (c : Refusal) → v ≡ Refused c → Numbered (planned v p) image words room bytes (grown.Refused c)
   behind-refused-numbered Passed p c e = absurd (no-path cc)
   behind-refused-numbered (Refused d) p c e = refused-numbered (planned (Refused d) p) c e
-
-  -- the answer of the whole edit
-  pub number-answer : (ed : Edit) (g : Grown) → Numbered (planned (opening image words) (planOf ed image)) image words room bytes g →
-      numberedAs (carriedVerdict (grownDecision g)) (grownNumber g) ≡ numberedAs (verdictOf ed image words room) (planNumber (planOf ed image))
-  unfolding verdictOf
-  number-answer ed g h = go (opening image words) h
-    where
-      ends : (v : Verdict) (n m : ℕ) → (v ≡ Passed → n ≡ m) → numberedAs v n ≡ numberedAs v m
-      ends Passed n m f = ap located.At (f refl)
-      ends (Refused c) n m f = refl
-
-      go : (v : Verdict) → Numbered (planned v (planOf ed image)) image words room bytes g →
-          numberedAs (carriedVerdict (grownDecision g)) (grownNumber g) ≡ numberedAs (first v (planVerdict (planOf ed image) image words room)) (planNumber (planOf ed image))
-      go Passed k = rw (k .decided .answer) (ends (planVerdict (planOf ed image) image words room) (grownNumber g) (planNumber (planOf ed image)) (k .numbered))
-      go (Refused c) k = rw (k .decided .answer)
-
--- ---- opening, then the plan
-
-pub open-numbered : (image w w′ : List ℕ) (r : Prepared) (m room : ℕ) (bytes : List ℕ) (p : Plan) (g : Grown) → Prepares image (length w) w′ r → r ≡ prepared.Ready m → length w′ ≡ length w →
-    Numbered p image (length w′) room bytes g → Numbered (planned (opening image (length w)) p) image (length w) room bytes g
-open-numbered image w w′ r m room bytes p g q e l h =
-    let o : Prepares image (length w) w′ (prepared.Ready m) = rw e at q in
-    behind-numbered image (length w) room bytes (opening image (length w)) p g (o .0) (rw l at h)
-
-pub unopened-numbered : (image w w′ : List ℕ) (r : Prepared) (c : Refusal) (room : ℕ) (bytes : List ℕ) (p : Plan) → Prepares image (length w) w′ r → r ≡ prepared.Refused c →
-    Numbered (planned (opening image (length w)) p) image (length w) room bytes (grown.Refused c)
-unopened-numbered image w w′ r c room bytes p q e =
-    let o : Prepares image (length w) w′ (prepared.Refused c) = rw e at q in
-    behind-refused-numbered image (length w) room bytes (opening image (length w)) p c o

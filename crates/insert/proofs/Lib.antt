@@ -1,3 +1,4 @@
 -- What the proofs of the functions cite.
+pub mod Accounts
 pub mod InsertionLaws
 pub mod Tests

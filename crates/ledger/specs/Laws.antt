@@ -6,8 +6,11 @@ pub mod Clipped
 pub mod Files
 pub mod FillEdits
 pub mod FillReads
+pub mod FillRecord
+pub mod RecordTells
 pub mod Histories
 pub mod Kept
+pub mod Layout
 pub mod Making
 pub mod Opened
 pub mod PlaceEdits

@@ -1,6 +1,7 @@
 -- Demand 3, "a single claim about the list and not one for each call": what holds of the image after any list of calls, by the ledger of the
--- list. Beside it, what it comes to for a file that no accepted edit named, and for one that was just filled. All are proved: `demand-3` and
--- `unnamed-stays` of Laws/Demand3, `fill-reads` of Laws/FillReads. Assumes nothing: these are definitions.
+-- list. Beside it, what it comes to for a file that no accepted edit named, and for one that was just filled; and what a record says that was
+-- handed on through the list. All are proved: `demand-3` and `unnamed-stays` of Laws/Demand3, `fill-reads` of Laws/FillReads, `record-tells` of
+-- Laws/RecordTells. Assumes nothing: these are definitions.
 use Prim.Native.Nat.{ℕ, _+_, _≤_}
 use mathlib.Core.Path.{_≡_}
 use mathlib.Core.Bool.{true, false}
@@ -13,15 +14,16 @@ use Rattle.tree.specs.Table.{file, none}
 use Rattle.space.specs.Used.{endOf, inside, totalSize}
 use Rattle.free_space.specs.Listing.{regionRow, listingOf, listAfter}
 use Rattle.program.specs.Program.{programOf, programIn, programBehind}
+use Rattle.totals.specs.declared.Totals.{Totals}
 use Rattle.opening.specs.Opening.{nodesIn, regionOf, usedIn, freeOf, opening}
-use Rattle.disc.specs.Calls.{totalsAnswer, programAnswer, freeRegionsAnswer, freeRegionsList}
+use Rattle.disc.specs.Calls.{totalsAnswer, programAnswer, freeRegionsAnswer, freeRegionsList, totalsOf, recordMade, recordAnswer}
 use Rattle.disc.specs.declared.TotalsAnswer.the-variants.{Found}
 use Rattle.window.specs.Window.{newWindow, countOf, bufferOf}
 use Rattle.files.specs.Files.{openFileAnswer}
 use Rattle.files.specs.declared.WindowAnswer.the-variants as window
 use Rattle.edits.specs.Edits.{fillFile, noPlace, verdictOf, imageAfter}
 use Rattle.ledger.specs.Ledger.{Ledger, bare, filesBefore, historyOf, firstLedger, ledgerAfter}
-use Rattle.ledger.specs.Runs.{Call, imageAfterAll, reportsOf, AllWithin}
+use Rattle.ledger.specs.Runs.{Call, imageAfterAll, reportsOf, totalsAfterAll, HandedOn, acceptedIn, AllWithin}
 use Rattle.ledger.specs.Spared.{numberAfter, Spared}
 
 -- of the file with entry number k, which lies at `offset` and has `size` bytes, by "what the ledger holds for its file k"
@@ -97,5 +99,18 @@ pub record ShowsClip (image : List ℕ) (w k : ℕ) (clip : List ℕ) : Type 0 w
 -- THEOREM: an accepted fill, and w words, which are no fewer than it was lent
 abbrev pub FillReads : Type 0
 FillReads =
-    (image clip : List ℕ) (k words bytes w : ℕ) → AllBytes image → AllBytes clip → words ≤ w → verdictOf (fillFile k clip) image words bytes ≡ Passed →
-    ShowsClip (imageAfter (fillFile k clip) image words bytes) w k clip
+    (totals : Totals) (image clip : List ℕ) (k words bytes w : ℕ) → AllBytes image → AllBytes clip → words ≤ w → verdictOf (fillFile k clip) totals image words bytes ≡ Passed →
+    ShowsClip (imageAfter (fillFile k clip) totals image words bytes) w k clip
+
+-- ---- "always holds the used bytes and largest region worked out afresh, and the number of edits accepted since" (document 02, Point 6)
+
+-- the record t, of an image, after n accepted edits: what a record made of the image with w words says, and n
+pub record Tells (image : List ℕ) (w n : ℕ) (t : Totals) : Type 0 where
+  pub totals : t ≡ totalsOf image n
+  pub afresh : recordAnswer image w ≡ recordMade (totalsOf image 0)
+
+-- THEOREM: a record that was made of the first image, and any list of calls through which it is handed on
+abbrev pub RecordTells : Type 0
+RecordTells =
+    (image : List ℕ) (w₀ w : ℕ) (t : Totals) (calls : List Call) → AllBytes image → recordAnswer image w₀ ≡ recordMade t → w₀ ≤ w → AllWithin w calls → HandedOn t calls image →
+    Tells (imageAfterAll calls image) w (acceptedIn (reportsOf calls image)) (totalsAfterAll t calls image)

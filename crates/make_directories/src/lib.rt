@@ -2,13 +2,16 @@
 // then the image is written. All of them or none.
 mod making;
 
+use commit::Decision;
 use commit::TableSize;
 use grow::Grown;
+use grow::GrownAfter;
 use making::Reached;
 use opening::Prepared;
 use refusal::Refusal;
 use refusal::Verdict;
-use tree::Located;
+use totals::Totals;
+use totals_after::EntryDone;
 ghost use mathlib.Core.Path.{_≡_};
 ghost use mathlib.Core.Bool.{false};
 ghost use Prim.Native.Nat.{_<_, _^_};
@@ -25,7 +28,7 @@ ghost use Rattle.edits.specs.Edits.{planMakeDirectories, planned, planOf, makeD
 ghost use Rattle.edits.specs.Inner.Troubles.{troubleOf};
 ghost use Rattle.opening.specs.Inner.Prepared.{OpensImage, IsOpen};
 ghost use Rattle.grow.specs.Inner.Growth.{Stands, treeIn};
-ghost use Rattle.grow.specs.Inner.Grown.{Numbered};
+ghost use Rattle.grow.specs.Inner.Grown.{Numbered, NumberedAfter};
 ghost use Rattle.make_walk.specs.Inner.Walk.{pathVerdict};
 ghost use Rattle.edits.specs.Promise.{lent, Edited};
 
@@ -100,13 +103,27 @@ fn decide_open(
     }
 }
 
-fn decide(image: &[u8], words: &mut [u32], bytes: &mut [u8], start: u32, path: &[u8]) -> Grown
-    ensures { λ r. ⌜ Numbered (planned (opening (now (image .entry)) (length (now (words .entry)))) (planOf (makeDirectories start (now (path .entry))) (now (image .entry)))) (now (image .entry)) (length (now (words .entry))) (length (now (bytes .entry))) (now (bytes .exit)) r ⌝ }
+fn decide(
+    image: &[u8],
+    words: &mut [u32],
+    bytes: &mut [u8],
+    totals: Totals,
+    start: u32,
+    path: &[u8],
+) -> GrownAfter
+    ensures { λ r. ⌜ NumberedAfter (planned (opening (now (image .entry)) (length (now (words .entry)))) (planOf (makeDirectories start (now (path .entry))) (now (image .entry)))) (now (image .entry)) (length (now (words .entry))) (length (now (bytes .entry))) (now (bytes .exit)) totals r ⌝ }
 {
     let prepared = opening::prepare(image, words);
     match prepared {
-        Prepared::Refused(cause) => Grown::Refused(cause),
-        Prepared::Ready(m) => decide_open(image, words, m, bytes, start, path),
+        Prepared::Refused(cause) => GrownAfter {
+            decision: Decision::Refused(cause),
+            totals,
+            number: 0,
+        },
+        Prepared::Ready(m) => {
+            let grown = decide_open(image, words, m, bytes, start, path);
+            grow::account(image, words, m, grown, totals)
+        }
     }
 }
 
@@ -116,11 +133,12 @@ pub fn make_directories(
     image: &mut [u8],
     words: &mut [u32],
     bytes: &mut [u8],
+    totals: Totals,
     start: u32,
     path: &[u8],
-) -> Located
-    ensures { λ r. ⌜ Edited numberedAs (makeDirectories start (now (path .entry))) (lent (now (image .entry)) (now (words .entry)) (now (bytes .entry))) (lent (now (image .exit)) (now (words .exit)) (now (bytes .exit))) r ⌝ }
+) -> EntryDone
+    ensures { λ r. ⌜ Edited numberedAs (makeDirectories start (now (path .entry))) (lent (now (image .entry)) (now (words .entry)) (now (bytes .entry)) totals) (lent (now (image .exit)) (now (words .exit)) (now (bytes .exit)) (r .totals)) (r .located) ⌝ }
 {
-    let grown = decide(image, words, bytes, start, path);
-    grow::finish(image, words, bytes, grown)
+    let after = decide(image, words, bytes, totals, start, path);
+    grow::finish(image, words, bytes, after)
 }

@@ -20,11 +20,12 @@ use Rattle.space.specs.Used.{nonempty, totalSize}
 use Rattle.space.specs.Inner.Words.{AllNonempty}
 use Rattle.space.specs.Laws.UsedLaws.{nonempty-all}
 use Rattle.space.specs.Laws.TotalLaws.{total-used}
-use Rattle.space.specs.Inner.Sort.{regionsIn}
+use Rattle.space.specs.Inner.Sort.{regionsIn, holds}
 use Rattle.space.specs.Inner.Words.{Checked}
 use Rattle.space.specs.Layout.{disjointBelow, regionsVerdict}
 use Rattle.space.specs.Free.{freeRegions}
-use Rattle.space.specs.Laws.MiddleLaws.{below-middle, free-middle, total-front, used-middle-same}
+use Rattle.space.specs.Laws.MiddleLaws.{below-middle, free-middle, total-front, holds-middle, used-middle-same}
+use Rattle.space.specs.Laws.SortLaws.{holds-sorted}
 use Rattle.program.specs.declared.Program.{Program}
 use Rattle.program.specs.Program.{programOf, programVerdict, placeOf, programIn, ownRegion, programBehind}
 use Rattle.opening.specs.Opening.{tableOf, nodesIn, behindTable, usedIn, usedOf, freeOf, layoutVerdict, opening}
@@ -117,6 +118,7 @@ module _ (image w : List ℕ) (m to c : ℕ) (tab : List ℕ) (program : DiscReg
     below = told (disjointBelow (discEnd image)) (λ x ys xs. below-middle x ys (discEnd image) xs);
     free = told (freeRegions (discEnd image)) (λ x ys xs. free-middle x ys (discEnd image) xs);
     total = told totalSize (λ x ys xs. total-front x ys xs);
+    regions = λ r. told (holds r) (λ x ys xs. holds-middle x ys r xs);
   }
 
   pub regions-full : AllNonempty (regionsIn w 0 m)
@@ -161,4 +163,9 @@ module _ (image w w′ : List ℕ) (words buf m e : ℕ) (v : Verdict) (before :
 pub left-words : (image w w′ : List ℕ) (buf m e : ℕ) (v : Verdict) → Checked w w′ buf m e v → v ≡ Passed → e ≡ discEnd image → SameUse (discEnd image) (regionsIn w 0 m) (usedIn image) → UsedWords image w′ m
 unfolding freeOf
 left-words image w w′ buf m e v k h end used =
-    record { sorted = rw (← end) (k .ready h); free = rw end at (k .free) ∙ used .free; total = k .total ∙ used .total ∙ used-total image }
+    record {
+      sorted = rw (← end) (k .ready h);
+      free = rw end at (k .free) ∙ used .free;
+      total = k .total ∙ used .total ∙ used-total image;
+      regions = λ r. rw (k .order) (holds-sorted r (regionsIn w 0 m) ∙ used .regions r);
+    }

@@ -1,9 +1,10 @@
--- The causes of a refusal and their numbers, in the order of document 01's table "Causes and their numbers".
+-- The causes of a refusal and their numbers, in the order of document 01's table "Causes and their numbers", and
+-- those of document 02 ("It and each later new number join 01's table"): 25, "used bytes or edit count would leave 0 to 2^32 - 1".
 -- Assumes nothing: these are definitions.
 use Prim.Native.Nat.{ℕ}
 use mathlib.Core.Bool.{Bool, true, false}
 use Rattle.refusal.specs.declared.Refusal.{Refusal}
-use Rattle.refusal.specs.declared.Refusal.the-variants.{HeaderPastImage, WiiNotSupported, InvalidMagic, InvalidBounds, EntryPastTable, UnrecognizedKind, RootIsNotDirectory, MissingNullTerminator, LimitOrMemory, InvalidNextIndex, InvalidNameOffset, InvalidNameByte, UnsafeName, OverlappingRegions, NoSuchEntry, ExpectedFile, ExpectedDirectory, NotFound, AlreadyExists, OverlappingMove, NotEnoughSpace, InvalidAlignment, InvalidSeek, InvalidDol}
+use Rattle.refusal.specs.declared.Refusal.the-variants.{HeaderPastImage, WiiNotSupported, InvalidMagic, InvalidBounds, EntryPastTable, UnrecognizedKind, RootIsNotDirectory, MissingNullTerminator, LimitOrMemory, InvalidNextIndex, InvalidNameOffset, InvalidNameByte, UnsafeName, OverlappingRegions, NoSuchEntry, ExpectedFile, ExpectedDirectory, NotFound, AlreadyExists, OverlappingMove, NotEnoughSpace, InvalidAlignment, InvalidSeek, InvalidDol, TotalsOutOfRange}
 use Rattle.refusal.specs.declared.Verdict.{Verdict}
 use Rattle.refusal.specs.declared.Verdict.the-variants.{Passed, Refused}
 
@@ -32,6 +33,7 @@ numberOf NotEnoughSpace = 21
 numberOf InvalidAlignment = 22
 numberOf InvalidSeek = 23
 numberOf InvalidDol = 24
+numberOf TotalsOutOfRange = 25
 
 -- ---- chains of tests, in the order in which a call makes them
 

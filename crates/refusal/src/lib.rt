@@ -1,4 +1,4 @@
-// Why a call refuses: document 01's 24 causes, each with its number.
+// Why a call refuses: document 01's 24 causes and document 02's after them, each with its number.
 ghost use mathlib.Core.Path.{_≡_};
 ghost use Rattle.refusal.specs.Refusal.{numberOf, isRefused};
 
@@ -27,10 +27,11 @@ pub enum Refusal {
     InvalidAlignment,
     InvalidSeek,
     InvalidDol,
+    TotalsOutOfRange,
 }
 
 impl Refusal {
-    // Document 01's number.
+    // The number of document 01's table, which document 02's new numbers join.
     pub fn number(self) -> u32
         ensures { λ r. ⌜ r ≡ numberOf self ⌝ }
     {
@@ -59,6 +60,7 @@ impl Refusal {
             Refusal::InvalidAlignment => 22,
             Refusal::InvalidSeek => 23,
             Refusal::InvalidDol => 24,
+            Refusal::TotalsOutOfRange => 25,
         }
     }
 }

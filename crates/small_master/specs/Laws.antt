@@ -4,3 +4,4 @@ pub mod MasterListing
 pub mod Worked
 pub mod Fills
 pub mod Programs
+pub mod Records

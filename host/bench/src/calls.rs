@@ -10,7 +10,7 @@ use std::time::Duration;
 const MEGABYTE: u32 = 1 << 20;
 
 /// Entries that a call adds at most; the table then grows by at most 20 bytes for each.
-const NEW: usize = 3;
+pub const NEW: usize = 3;
 
 /// Name, call, the entry that it is about, and the size of the file in the middle.
 fn cases(plan: &Plan, size: u32) -> Vec<(&'static str, Call, u32, u32)> {
@@ -44,12 +44,12 @@ fn cases(plan: &Plan, size: u32) -> Vec<(&'static str, Call, u32, u32)> {
     .collect()
 }
 
-fn clip(size: u32) -> Rc<[u8]> {
+pub fn clip(size: u32) -> Rc<[u8]> {
     vec![b'c'; size as usize].into()
 }
 
 /// The path of the last directory.
-fn directory(plan: &Plan) -> Vec<u8> {
+pub fn directory(plan: &Plan) -> Vec<u8> {
     let last = plan.nodes.iter().rposition(|node| node.is_directory).unwrap();
     plan.path_of[last].clone()
 }

@@ -30,6 +30,7 @@ mod measuring;
 mod names;
 mod places;
 mod program;
+mod record;
 mod sides;
 
 fn main() {
@@ -64,6 +65,9 @@ fn main() {
     }
     if runs("measuring") {
         measuring::run(&mut misses);
+    }
+    if runs("record") {
+        record::run(&mut misses);
     }
     if runs("giant") {
         giant::run(&mut misses);

@@ -4,10 +4,7 @@
 use crate::calls::{self, Table};
 use crate::images::{self, KINDS, Naming, Plan, Random};
 use crate::measure::{Undo, tenth};
-use crate::places::{
-    Case, INSERT_FILE, INSERT_FILE_BEFORE, LOOKUP, LOOKUP_BEFORE, OPEN, OPEN_BEFORE, REWRITE,
-    REWRITE_BEFORE, time_lookup, time_open,
-};
+use crate::places::{Case, LOOKUP, LOOKUP_BEFORE, OPEN, OPEN_BEFORE, time_lookup, time_open};
 use crate::sides::{Call, Lent};
 use std::fs;
 use std::path::Path;
@@ -92,28 +89,22 @@ fn before_and_now(kind: (usize, bool)) -> [[Duration; 2]; 4] {
         Case { image: images::image(plan), words, bytes }
     };
     let (mut whole, mut smaller) = (case(&whole), case(&smaller));
-    let before = smaller.image.clone();
-    smaller.time_insert_file(INSERT_FILE[0], &name);
+    let (before, insert) = (smaller.image.clone(), Call::InsertFile(0, name));
+    smaller.time(&insert, 1, 0);
     let undo = Undo::between(&before, &smaller.image);
     undo.apply(&mut smaller.image);
     let all: [Duration; 32] = tenth(BUDGET, |side| {
         let (call, is_now, place) = (side / 8, side / 4 % 2, side % 4);
-        let Case { image, words, bytes } = &mut whole;
+        let Case { image, words, .. } = &mut whole;
         match call {
             0 => time_open([OPEN_BEFORE, OPEN][is_now][place], image, words),
             1 => time_lookup([LOOKUP_BEFORE, LOOKUP][is_now][place], image, words, &path),
             2 => {
-                let insert = [INSERT_FILE_BEFORE, INSERT_FILE][is_now][place];
-                let time = smaller.time_insert_file(insert, &name);
+                let time = smaller.time(&insert, is_now, place);
                 undo.apply(&mut smaller.image);
                 time
             }
-            _ => {
-                let (rewrite, room) = ([REWRITE_BEFORE, REWRITE][is_now][place], bytes.len());
-                let (time, number) = whole.time_rewrite(rewrite, room);
-                assert_eq!(number, 0);
-                time
-            }
+            _ => whole.time(&Call::Rewrite, is_now, place),
         }
     });
     let best = |side: usize| *all[side..side + 4].iter().min().unwrap();

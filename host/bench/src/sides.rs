@@ -4,7 +4,7 @@
 use crate::dvd::disc::{DiscRegion, DiscStream};
 use crate::dvd::fst::{DirectoryEntry, EntryId, FileEntry, FileTree};
 use crate::measure::Watch;
-use counter_sys::{self as counter, CLUSTER_WORDS, Memory, REGION_WORDS};
+use counter_sys::{self as counter, CLUSTER_WORDS, Memory, REGION_WORDS, Record};
 use encoding_rs::SHIFT_JIS;
 use std::borrow::Cow;
 use std::hint::black_box;
@@ -55,6 +55,9 @@ impl Call {
 
 pub type Timed = (Duration, Vec<u32>);
 
+/// What goes into every edit: numbers that no edit here takes past their bounds.
+pub const RECORD: Record = Record { used: 1 << 31, largest: 0, edits: 0 };
+
 /// Counter's side, with the memory it is lent.
 pub struct Lent {
     pub words: Vec<u32>,
@@ -71,6 +74,7 @@ impl Lent {
 
     pub fn run(&mut self, call: &Call, image: &mut [u8]) -> (Duration, Result<Vec<u32>, u32>) {
         let memory = &mut Memory { words: &mut self.words, bytes: &mut self.bytes };
+        let record = &mut { RECORD };
         let start = Watch::start();
         let answer = match call {
             Call::Open => counter::open(image, memory).map(|o| vec![o.disc_end, o.used]),
@@ -104,22 +108,24 @@ impl Lent {
                 counter::max_file_size(image, memory, *file).map(|n| vec![n])
             }
             Call::InsertFile(parent, name) => {
-                counter::insert_file(image, memory, *parent, name).map(|n| vec![n])
+                counter::insert_file(image, memory, record, *parent, name).map(|n| vec![n])
             }
             Call::InsertDirectory(parent, name) => {
-                counter::insert_directory(image, memory, *parent, name).map(|n| vec![n])
+                counter::insert_directory(image, memory, record, *parent, name).map(|n| vec![n])
             }
             Call::MakeDirectories(path) => {
-                counter::make_directories(image, memory, 0, path).map(|n| vec![n])
+                counter::make_directories(image, memory, record, 0, path).map(|n| vec![n])
             }
-            Call::Move(file, to) => counter::move_file(image, memory, *file, *to).map(|()| vec![]),
+            Call::Move(file, to) => {
+                counter::move_file(image, memory, record, *file, *to).map(|()| vec![])
+            }
             Call::Resize(file, to) => {
-                counter::resize_file(image, memory, *file, *to).map(|()| vec![])
+                counter::resize_file(image, memory, record, *file, *to).map(|()| vec![])
             }
             Call::Fill(file, clip) => {
-                counter::fill_file(image, memory, *file, clip).map(|()| vec![])
+                counter::fill_file(image, memory, record, *file, clip).map(|()| vec![])
             }
-            Call::Rewrite => counter::rewrite(image, memory).map(|()| vec![]),
+            Call::Rewrite => counter::rewrite(image, memory, record).map(|()| vec![]),
         };
         (start.elapsed(), answer)
     }

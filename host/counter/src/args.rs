@@ -115,6 +115,16 @@ const DRY: Flag = Flag {
     value: None,
     words: "works on a private copy in memory, tells what would happen, touches nothing",
 };
+const RECORD: Flag = Flag {
+    name: "--record",
+    value: Some(("FILE", Value::New)),
+    words: "keeps the record (used bytes, largest free region, edits) in FILE; see `counter help record`",
+};
+const FORCE: Flag = Flag {
+    name: "--force",
+    value: None,
+    words: "replaces a record that is there; no other file is overwritten",
+};
 const AS_IS: Flag = Flag {
     name: "--as-is",
     value: None,
@@ -173,7 +183,7 @@ const MAP: Flag = Flag {
 
 const LOOK: &[&Flag] = &[&JSON, &WAIT, &AS_IS];
 const NAMED: &[&Flag] = &[&BYTES, &JSON, &WAIT, &AS_IS];
-const EDIT: &[&Flag] = &[&DRY, &BYTES, &JSON, &WAIT];
+const EDIT: &[&Flag] = &[&RECORD, &DRY, &BYTES, &JSON, &WAIT];
 
 const fn look(
     name: &'static str,
@@ -244,6 +254,17 @@ pub const FORMS: &[Form] = &[
         "the largest free place for SIZE bytes on a multiple of ALIGN",
         &["counter place disc.iso 64K", "counter place disc.iso 0x1000 4"],
     ),
+    Form {
+        flags: &[&RECORD, &FORCE, &JSON, &WAIT],
+        more: TOTALS,
+        ..look(
+            "record",
+            &[&IMAGE],
+            "a new record: used bytes, free bytes, the largest free region, and 0 edits; with --record \
+             written to FILE",
+            &["counter record disc.iso", "counter record disc.iso --record disc.totals"],
+        )
+    },
     Form {
         flags: NAMED,
         ..look(
@@ -369,7 +390,7 @@ pub const FORMS: &[Form] = &[
         ],
     ),
     Form {
-        flags: &[&DRY, &JSON, &WAIT],
+        flags: &[&RECORD, &DRY, &JSON, &WAIT],
         ..edit(
             "rewrite",
             &[&IMAGE],
@@ -394,6 +415,18 @@ A program (main.dol) behind the table is not free; the last line tells where it 
 With --clusters each region is told as the bytes before its first multiple of 0x8000, the whole \
 clusters from there on, and the rest: before + 0x8000 * clusters + rest = size. A region whose first \
 multiple of 0x8000 is at or past its end is all \"before\".";
+
+const TOTALS: &str = "\
+After every edit its record is told: used and free bytes, the size of the largest free region (0 if there \
+is none), and how many edits were accepted since the record was made, those too that had nothing to write. \
+Without --record one is made for the one edit, so that edits is 1.
+With --record an edit takes the record in FILE and leaves there what comes back; where there is no FILE, \
+a new record is made of the image first. A refused edit and a dry run leave FILE as it was. FILE is a \
+text of two lines. It goes with the edit: when an edit was cut, `counter recover` or the next edit \
+finishes both; until then the new text is in FILE.counter-new.
+If used bytes or largest free region in FILE are not the image's, somebody edited without it: the edit is \
+not begun (65). Then make a new record with --force, or take FILE away. An edit after the 4,294,967,295th \
+is refused (25).";
 
 const COMPARE: &str = "\
 LIST is a text file in UTF-8, one path a line as PATH is given; a line that ends in / stands for that folder and all in it. / \
@@ -441,6 +474,7 @@ pub struct Args {
     pub only_differences: bool,
     pub as_is: bool,
     pub anyway: bool,
+    pub force: bool,
     pub all: bool,
     pub number: bool,
     pub clusters: bool,
@@ -449,6 +483,7 @@ pub struct Args {
     pub raw: bool,
     demo: bool,
     pub given: Vec<PathBuf>,
+    pub record: Option<PathBuf>,
     pub out: Option<PathBuf>,
     pub map: Option<PathBuf>,
 }
@@ -485,6 +520,7 @@ impl Args {
             only_differences: false,
             as_is: false,
             anyway: false,
+            force: false,
             all: false,
             number: false,
             clusters: false,
@@ -492,6 +528,7 @@ impl Args {
             raw: false,
             demo: false,
             given: Vec::new(),
+            record: None,
             out: None,
             map: None,
         };
@@ -533,6 +570,7 @@ impl Args {
             "--only-differences" => self.only_differences = true,
             "--as-is" => self.as_is = true,
             "--anyway" => self.anyway = true,
+            "--force" => self.force = true,
             "--all" => self.all = true,
             "--number" => self.number = true,
             "--clusters" => self.clusters = true,
@@ -540,6 +578,7 @@ impl Args {
             "--bytes" => self.raw = true,
             "--demo" => self.demo = true,
             "--given" => self.given.push(file()?),
+            "--record" => self.record = Some(file()?),
             "--map" => self.map = Some(file()?),
             _ => self.out = Some(file()?),
         }

@@ -7,7 +7,7 @@ use crate::failure::{Failure, Outcome};
 use crate::image::{Desk, Image};
 use crate::names::{parts, text, trouble};
 use crate::text::{grouped, number};
-use counter_sys::{self as counter, Memory};
+use counter_sys::{self as counter, Memory, Record};
 use std::path::Path;
 
 /// What was asked, in the words of the command line.
@@ -132,19 +132,29 @@ impl<'a> Call<'a> {
         }
     }
 
-    /// The entry's number in the new table, where the call gives one.
-    pub fn run(&self, image: &mut [u8], mut memory: Memory) -> Result<Option<u32>, u32> {
+    /// The entry's number in the new table, where the call gives one. The record comes back.
+    pub fn run(
+        &self,
+        image: &mut [u8],
+        mut memory: Memory,
+        record: &mut Record,
+    ) -> Result<Option<u32>, u32> {
+        let memory = &mut memory;
         match *self {
             Call::MakeFolders(path) => {
-                counter::make_directories(image, &mut memory, 0, path).map(Some)
+                counter::make_directories(image, memory, record, 0, path).map(Some)
             }
             Call::Insert(parent, name) => {
-                counter::insert_file(image, &mut memory, parent, name).map(Some)
+                counter::insert_file(image, memory, record, parent, name).map(Some)
             }
-            Call::Move(at, to) => counter::move_file(image, &mut memory, at, to).map(|()| None),
-            Call::Resize(at, to) => counter::resize_file(image, &mut memory, at, to).map(|()| None),
-            Call::Fill(at, clip) => counter::fill_file(image, &mut memory, at, clip).map(|()| None),
-            Call::Rewrite => counter::rewrite(image, &mut memory).map(|()| None),
+            Call::Move(at, to) => counter::move_file(image, memory, record, at, to).map(|()| None),
+            Call::Resize(at, to) => {
+                counter::resize_file(image, memory, record, at, to).map(|()| None)
+            }
+            Call::Fill(at, clip) => {
+                counter::fill_file(image, memory, record, at, clip).map(|()| None)
+            }
+            Call::Rewrite => counter::rewrite(image, memory, record).map(|()| None),
         }
     }
 }
@@ -188,6 +198,9 @@ pub fn refused(wish: &Wish, number: u32) -> Failure {
              or the table has no room; see `counter free`",
         ),
         (21, _) => failure.because("something lies right behind the table"),
+        (25, _) => {
+            failure.because("the record's count is at its end; `counter record` makes a new one")
+        }
         _ => failure,
     }
 }

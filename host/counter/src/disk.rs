@@ -1,5 +1,5 @@
-//! The writes and syncs of an edit, of its journal and of its clip: all of them pass here, so that a test
-//! can log them, or let one fail. (The proved call writes through a mapping; what it changed is found by
+//! The writes and syncs of an edit, of its journal, its clip and its record: all of them pass here, so that
+//! a test can log them, or let one fail. (The proved call writes through a mapping; what it changed is found by
 //! comparing.)
 //!
 //! COUNTER_LOG_WRITES names the file of the log. COUNTER_FULL_FROM=n lets the n-th step that takes room,
@@ -24,6 +24,7 @@ pub enum On {
     Image,
     Journal,
     Clip,
+    Record,
 }
 
 /// Bytes that are read or written at once: a multiple of 8, as the sum wants it.
@@ -88,7 +89,7 @@ pub fn synced(on: On, work: impl FnOnce() -> io::Result<()>) -> io::Result<()> {
     Ok(())
 }
 
-/// A journal or a clip that is not there yet.
+/// A journal, a clip or a record that is not there yet.
 pub fn create(on: On, path: &Path) -> io::Result<File> {
     step()?;
     let file = OpenOptions::new().read(true).write(true).create_new(true).open(path)?;
@@ -96,10 +97,10 @@ pub fn create(on: On, path: &Path) -> io::Result<File> {
     Ok(file)
 }
 
-/// The journal gets the name under which it is found.
-pub fn rename(from: &Path, to: &Path) -> io::Result<()> {
+/// The journal or the record gets the name under which it is found.
+pub fn rename(on: On, from: &Path, to: &Path) -> io::Result<()> {
     fs::rename(from, to)?;
-    log(b'r', On::Journal, 0, &[]);
+    log(b'r', on, 0, &[]);
     Ok(())
 }
 
@@ -186,6 +187,7 @@ fn log(what: u8, on: On, at: u64, bytes: &[u8]) {
         On::Image => b'i',
         On::Journal => b'j',
         On::Clip => b'c',
+        On::Record => b'r',
     };
     let mut entry = vec![what, on];
     entry.extend(at.to_le_bytes());

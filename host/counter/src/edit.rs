@@ -13,11 +13,12 @@ use crate::names;
 use crate::os::{Access, Mapping};
 use crate::out::say;
 use crate::progress::Progress;
-use crate::recover::{finish, given_up, put_right, still_there, stuck};
+use crate::recover::{finish, given_up, put_right, still_there, stuck, unrecorded};
 use crate::text::human;
 use crate::told::report;
 use crate::trial::{Trial, try_out};
-use crate::{edited, redo, room, signals};
+use crate::{edited, record, redo, room, signals};
+use counter_sys as counter;
 use std::fs::File;
 use std::io;
 use std::path::Path;
@@ -28,9 +29,11 @@ pub fn edit(args: &Args) -> Outcome<()> {
     let mut image = open(path, args.dry)?;
     let mut desk = Desk::new();
     let before = Disc::read(&image, &mut desk)?;
+    let (given, totals) = record::in_use(args.record.as_deref(), &image, &mut desk)?;
+    let totals = totals.as_deref();
     let call = Call::new(&wish, &image, &mut desk)?;
     let progress = Progress::start("trying", 0);
-    let trial = try_out(&wish, &call, &image, &mut desk, &before)?;
+    let trial = try_out(&wish, &call, &image, &mut desk, &before, given)?;
     drop(progress);
     let text = report(&wish, &call, &before, &trial);
     let nothing = trial.change.is_nothing();
@@ -49,10 +52,16 @@ pub fn edit(args: &Args) -> Outcome<()> {
         told.unwrap_or_else(|| [&text, format!("done: {words}\n").as_bytes()].concat())
     };
     if nothing {
-        return say(&done("there was nothing to write"));
+        let last = done("there was nothing to write");
+        let Some(file) = totals else {
+            return say(&last);
+        };
+        signals::begin_writing();
+        record::keep(file, &trial.record)?;
+        return finish(&last);
     }
     enough_room(&image, &trial.change)?;
-    carry_out(args, &wish, &call, &mut image, &mut desk, trial)?;
+    carry_out(args, &wish, &call, &mut image, &mut desk, trial, totals)?;
     finish(&done("written and synced"))
 }
 
@@ -62,8 +71,8 @@ fn open(path: &Path, dry: bool) -> Outcome<Image> {
         return Image::read(Some(path));
     }
     let image = Image::edit(path)?;
-    if let Some(words) = put_right(&image, false)? {
-        eprintln!("counter: finished an edit that was cut: {words}");
+    if let Some(finished) = put_right(&image, false)? {
+        eprintln!("counter: finished an edit that was cut: {}", finished.words);
     }
     Ok(image)
 }
@@ -117,7 +126,7 @@ fn enough_room(image: &Image, change: &Change) -> Outcome<()> {
 
 // The writing -----------------------------------------------------------------------------
 
-/// Clip, journal, copy, the proved call, sync. What a cut leaves at any point, recovery finishes.
+/// Record, clip, journal, copy, the proved call, sync. What a cut leaves at any point, recovery finishes.
 fn carry_out(
     args: &Args,
     wish: &Wish,
@@ -125,6 +134,7 @@ fn carry_out(
     image: &mut Image,
     desk: &mut Desk,
     trial: Trial,
+    totals: Option<&Path>,
 ) -> Outcome<()> {
     // Threads that start from here on leave signals alone too.
     signals::begin_writing();
@@ -135,19 +145,23 @@ fn carry_out(
     };
     let (file, path) = (file.try_clone().map_err(failed)?, path.to_path_buf());
     let owner = Owner::new(&file.metadata().map_err(failed)?, image.bytes());
-    let mut journal = begin(wish, &file, &path, owner, trial.change, &progress)?;
+    totals.map_or(Ok(()), |totals| record::prepare(totals, &trial.record))?;
+    let mut journal = begin(wish, &file, &path, owner, trial.change, totals, &progress)
+        .inspect_err(|_| totals.map_or((), record::discard))?;
     signals::rescue(&path, args.json);
     if journal.record.change.is_apart() {
         redo::bring(&file, &mut journal, &progress)
             .map_err(|e| stuck(&file, &path, &journal, &e))?;
     }
-    write(call, image, desk, &journal, trial.found).inspect_err(|_| {
+    let answer = (trial.found, trial.record);
+    write(call, image, desk, &journal, trial.given, answer).inspect_err(|_| {
         given_up(&file, &journal);
     })?;
     image
         .sync()
         .or_else(|failed| redo::once_more(&file, &mut journal, &failed, &progress))
         .map_err(|e| stuck(&file, &path, &journal, &e))?;
+    totals.map_or(Ok(()), record::settle).map_err(|e| unrecorded(&path, &journal, &e))?;
     journal.remove().map_err(|e| still_there(&journal, &e))
 }
 
@@ -158,6 +172,7 @@ fn begin(
     path: &Path,
     owner: Owner,
     change: Change,
+    totals: Option<&Path>,
     progress: &Progress,
 ) -> Outcome<Journal> {
     let hole = change.is_apart() && room::holes(file, change.copy_span()) == change.brought;
@@ -167,7 +182,8 @@ fn begin(
         }
         _ => (None, 0),
     };
-    let record = Record { owner, change, hole, clip_sum };
+    let totals = totals.map(Path::to_path_buf);
+    let record = Record { owner, change, hole, clip_sum, totals };
     Journal::start(path, record, clip).map_err(|e| no_journal(path, &e))
 }
 
@@ -178,7 +194,8 @@ fn write(
     image: &mut Image,
     desk: &mut Desk,
     journal: &Journal,
-    found: Option<u32>,
+    mut totals: counter::Record,
+    answer: (Option<u32>, counter::Record),
 ) -> Outcome<()> {
     let change = &journal.record.change;
     let clip = match &journal.clip {
@@ -187,9 +204,9 @@ fn write(
     };
     let clip = clip.map_err(|e| Failure::file(INPUT_OUTPUT, Path::new(&image.name), &e))?;
     let watch = Watch::new(image.bytes(), &change.spans());
-    let got = call.with_clip(clip.bytes()).run(image.bytes_mut(), desk.lend());
+    let got = call.with_clip(clip.bytes()).run(image.bytes_mut(), desk.lend(), &mut totals);
     watch.done(image.bytes());
-    match got == Ok(found) {
+    match (got, totals) == (Ok(answer.0), answer.1) {
         true => Ok(()),
         false => Err(Failure::error(
             INTERNAL,

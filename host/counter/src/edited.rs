@@ -4,6 +4,7 @@ use crate::args::Args;
 use crate::call::{Call, Wish};
 use crate::disc::{Disc, Kind, Node};
 use crate::json::{self, Json};
+use crate::record;
 use crate::told::notes;
 use crate::trial::Trial;
 use std::collections::{HashMap, HashSet};
@@ -32,6 +33,7 @@ pub fn json(args: &Args, wish: &Wish, call: &Call, before: &Disc, trial: &Trial)
         ("table", table),
         ("entries", Json::List(entries(before, after, filled))),
         ("notes", Json::List(notes.collect())),
+        ("record", record::json(&trial.record, after.opened.disc_end)),
     ];
     if let Wish::Fill(_, clip) = wish {
         let clip = vec![("name", clip.name.as_str().into()), ("size", clip.len.into())];

@@ -25,7 +25,7 @@ pub const CUT: u8 = 78;
 const SIGPIPE: u8 = 13;
 
 /// The causes of a refusal in words; the cause with number n is the n-th.
-pub const CAUSES: [&str; 24] = [
+pub const CAUSES: [&str; 25] = [
     "header field past the image",
     "Wii magic",
     "not GameCube magic",
@@ -50,12 +50,13 @@ pub const CAUSES: [&str; 24] = [
     "alignment no power of two",
     "seek",
     "DOL header past the image, or a sum above 2^32 - 1",
+    "used bytes or edit count would leave 0 to 2^32 - 1",
 ];
 
 pub fn cause(number: u32) -> &'static str {
     match number {
-        1..=24 => CAUSES[number as usize - 1],
-        _ => "unknown number",
+        0 => "unknown number",
+        n => CAUSES.get(n as usize - 1).copied().unwrap_or("unknown number"),
     }
 }
 
@@ -75,7 +76,7 @@ pub type Outcome<T> = Result<T, Failure>;
 
 impl Failure {
     pub fn refused(number: u32, what: impl Into<String>) -> Failure {
-        if number == 0 || number > 24 {
+        if number == 0 || number as usize > CAUSES.len() {
             let text = format!("libcounter answered {number}, which is no number of a cause");
             return Failure::Error { status: INTERNAL, text };
         }

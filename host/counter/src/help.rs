@@ -166,6 +166,7 @@ const FIELDS: &[(&str, &str)] = &[
     ),
     ("find", "ENTRY with largest_size (null for a directory)"),
     ("place", "size align offset room; room: the free bytes from offset on"),
+    ("record", "status record{used free largest_free edits} out; out: FILE, or null"),
     ("cat", "path path_bytes offset size hex"),
     ("extract", "bytes files[path path_bytes file file_bytes size]"),
     ("dol", "offset size entry_point bss_address bss_size sections[name offset address size]"),
@@ -182,7 +183,11 @@ const FIELDS: &[(&str, &str)] = &[
     ("resize", EDITED),
     ("fill", EDITED),
     ("rewrite", EDITED),
-    ("recover", "status edit finished written; finished: the edit that was cut, or null"),
+    (
+        "recover",
+        "status edit finished written record{used free largest_free edits}; finished: the edit that was \
+         cut, or null; record: as it is after that edit, or null",
+    ),
 ];
 
 const COMPARED: &str = "before after manifest passed covers_all order_changed free_space \
@@ -192,7 +197,8 @@ const COMPARED: &str = "before after manifest passed covers_all order_changed fr
     unknown; files and folders: only those that differ, with --only-differences";
 
 const EDITED: &str = "status edit path path_bytes dry_run written table{before after} \
-    entries[number path path_bytes kind before{offset size} after{offset size}] notes[...]; entries: \
+    entries[number path path_bytes kind before{offset size} after{offset size}] notes[...] \
+    record{used free largest_free edits}; entries: \
     those that are new or differ; where all paths take more than 64 MiB, path is `entry N` and \
     path_bytes null";
 
@@ -279,14 +285,18 @@ Safety
     ZFS), all blocks take new room when they are written. It is looked for first; if there is too
     little, nothing is written (74). If room fails in the midst of an edit all the same, the edit is
     finished from the journal at once; if that fails too (78), make room, then `counter recover`.
+  - A record (--record FILE) goes with the edit: what comes back is on the disk beside FILE before the
+    journal is, and in FILE before the journal goes. So it counts an edit that was cut once it is
+    finished, and only then. `counter help record` says more.
   - Not promised: a disk that says it has synced what it has not; programs that ignore the lock.
   - So keep a copy of an image that cannot be had again, on another disk, try with --dry-run, and
     let `counter compare` tell what changed.
 ";
 
 fn statuses() -> String {
-    let mut out = String::from(
-        "\nExit status, and what it says of the image of an edit\n   0  done: written and synced, or there was nothing to write\n   1  compare: a file that is not on the list differs; else as below\n      1 to 24: refused, nothing changed, not even the time of modification\n",
+    let mut out = format!(
+        "\nExit status, and what it says of the image of an edit\n   0  done: written and synced, or there was nothing to write\n   1  compare: a file that is not on the list differs; else as below\n      1 to {}: refused, nothing changed, not even the time of modification\n",
+        CAUSES.len()
     );
     for (i, cause) in CAUSES.iter().enumerate() {
         out.push_str(&format!("  {:2}  refused: {cause}\n", i + 1));
@@ -294,10 +304,11 @@ fn statuses() -> String {
     out.push_str(
         "  64  wrong usage; a PATH that is no UTF-8, or has a character that Shift-JIS does not have\n\
          \x20 65  compare, report: an image too short for a header, a LIST or a manifest that is wrong;\n\
-         \x20     a command that shows every path: more than 64 MiB of them\n\
+         \x20     a command that shows every path: more than 64 MiB of them;\n\
+         \x20     --record: a FILE that is torn or no record, or not that of the image as it is\n\
          \x20 66  no such image or clip, or a folder in its place, or a special file in the image's\n\
          \x20 70  the library answered what it never should\n\
-         \x20 73  an output, a journal or a clip that is kept cannot be created, or is there already;\n\
+         \x20 73  an output, a journal, a clip that is kept or a record cannot be created, or is there already;\n\
          \x20     extract: two entries would be one file, or a name has too many bytes for a file\n\
          \x20 74  input/output error; the disk is full\n\
          \x20 75  another program is using the image\n\

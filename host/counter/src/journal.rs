@@ -9,15 +9,17 @@
 use crate::change::{Change, HEADER};
 use crate::disk::{self, On};
 use crate::sum;
+use std::ffi::OsStr;
 use std::fs::{self, File, Metadata};
 use std::io;
 use std::ops::Range;
+use std::os::unix::ffi::OsStrExt;
 use std::os::unix::fs::MetadataExt;
 use std::path::{Path, PathBuf};
 
 const MAGIC: &[u8; 16] = b"counter journal\n";
-/// The first had no clips.
-const VERSION: u64 = 2;
+/// The first had no clips, the second no record.
+const VERSION: u64 = 3;
 const COPIED: &[u8; 8] = b"copied!\n";
 
 /// No journal is longer: two tables of the largest size, a header, and a few numbers.
@@ -48,6 +50,8 @@ pub struct Record {
     pub hole: bool,
     /// The sum of the clip; 0 without one.
     pub clip_sum: u64,
+    /// The file of the totals record that goes with the edit, if there is one.
+    pub totals: Option<PathBuf>,
 }
 
 pub struct Journal {
@@ -187,7 +191,7 @@ fn begin(early: &Path, path: &Path, bytes: &[u8]) -> io::Result<(File, u64)> {
     let file = disk::create(On::Journal, early)?;
     disk::write_at(On::Journal, &file, 0, bytes)?;
     disk::sync(On::Journal, &file)?;
-    disk::rename(early, path)?;
+    disk::rename(On::Journal, early, path)?;
     disk::sync_folder(path)?;
     Ok((file, bytes.len() as u64))
 }
@@ -195,7 +199,7 @@ fn begin(early: &Path, path: &Path, bytes: &[u8]) -> io::Result<(File, u64)> {
 // Its form --------------------------------------------------------------------------------
 
 fn encode(record: &Record) -> Vec<u8> {
-    let Record { owner, change, hole, clip_sum } = record;
+    let Record { owner, change, hole, clip_sum, totals } = record;
     let mut out = MAGIC.to_vec();
     let numbers = [
         VERSION,
@@ -214,7 +218,8 @@ fn encode(record: &Record) -> Vec<u8> {
         *clip_sum,
     ];
     out.extend(numbers.iter().flat_map(|number| number.to_le_bytes()));
-    for part in [&owner.header, change.words.as_bytes(), &change.old, &change.new] {
+    let totals = totals.as_ref().map_or(&[][..], |path| path.as_os_str().as_bytes());
+    for part in [&owner.header, change.words.as_bytes(), &change.old, &change.new, totals] {
         out.extend((part.len() as u64).to_le_bytes());
         out.extend(part);
     }
@@ -272,6 +277,8 @@ fn decode(bytes: &[u8]) -> Option<(Record, usize)> {
     let header = reader.part()?.to_vec();
     let words = String::from_utf8(reader.part()?.to_vec()).ok()?;
     let (old, new) = (reader.part()?.to_vec(), reader.part()?.to_vec());
+    let totals = if version < 3 { &[] } else { reader.part()? };
+    let totals = (!totals.is_empty()).then(|| PathBuf::from(OsStr::from_bytes(totals)));
     let sum = sum::of(&bytes[..reader.at]);
     if reader.number()? != sum {
         return None;
@@ -280,7 +287,7 @@ fn decode(bytes: &[u8]) -> Option<(Record, usize)> {
     let change =
         Change { words, table, old, new, old_size, new_size, from, to, brought, clip, lost };
     let owner = Owner { inode, len, header };
-    let record = Record { owner, change, hole, clip_sum };
+    let record = Record { owner, change, hole, clip_sum, totals };
     is_sound(&record).then_some((record, reader.at))
 }
 

@@ -32,6 +32,7 @@ mod os;
 mod pages;
 mod program;
 mod progress;
+mod record;
 mod recover;
 mod redo;
 mod report;
@@ -126,6 +127,7 @@ fn run(args: Args) -> Outcome<u8> {
         "dol" => dol::dol(&args)?,
         "map" => map::map(&args)?,
         "hash" => manifest::hash(&args)?,
+        "record" => record::record(&args)?,
         "compare" => return compare::compare(&args),
         "report" => return report::report(&args),
         "recover" => recover::recover(&args)?,

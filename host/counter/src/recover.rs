@@ -10,10 +10,11 @@ use crate::names;
 use crate::names::for_terminal;
 use crate::out::say;
 use crate::progress::Progress;
+use crate::record;
 use crate::redo::{self, Owned};
 use crate::signals;
 use crate::text::human;
-use counter_sys as counter;
+use counter_sys::{self as counter, Record};
 use std::fs::File;
 use std::io;
 use std::path::Path;
@@ -23,23 +24,32 @@ pub fn recover(args: &Args) -> Outcome<()> {
     let image = Image::edit(path)?;
     let finished = put_right(&image, args.anyway)?;
     let told = match &finished {
-        _ if args.json => json(finished.as_deref()).document(),
+        _ if args.json => json(finished.as_ref()).document(),
         None => "there is no journal: no edit was cut, nothing is to be done\n".into(),
-        Some(words) => {
-            format!("finished an edit that was cut: {words}\ndone: written and synced\n")
-        }
+        Some(Finished { words, record, disc_end }) => format!(
+            "finished an edit that was cut: {words}\n{}done: written and synced\n",
+            record::line(record, *disc_end)
+        ),
     };
     let told = for_terminal(&told).into_bytes();
     if finished.is_some() { finish(&told) } else { say(&told) }
 }
 
-fn json(finished: Option<&str>) -> Json {
+fn json(finished: Option<&Finished>) -> Json {
     Json::Object(vec![
         ("status", 0u32.into()),
         ("edit", "recover".into()),
-        ("finished", finished.map_or(Json::Null, Json::from)),
+        ("finished", finished.map(|edit| edit.words.as_str()).into()),
         ("written", finished.is_some().into()),
+        ("record", finished.map(|edit| record::json(&edit.record, edit.disc_end)).into()),
     ])
+}
+
+/// An edit that was cut and is finished now: in words, and what its record is then.
+pub struct Finished {
+    pub words: String,
+    record: Record,
+    disc_end: u32,
 }
 
 /// Says the last word of an edit; that it is done and synced is told by the status too. Then a signal
@@ -59,9 +69,9 @@ pub fn finish(text: &[u8]) -> Outcome<()> {
     }
 }
 
-/// Finishes the edit whose journal is there; the answer is that edit in words. `anyway` lets a journal pass
-/// that was written for another file with the same contents.
-pub fn put_right(image: &Image, anyway: bool) -> Outcome<Option<String>> {
+/// Finishes the edit whose journal is there. `anyway` lets a journal pass that was written for another file
+/// with the same contents.
+pub fn put_right(image: &Image, anyway: bool) -> Outcome<Option<Finished>> {
     let (Some(file), Some(path)) = (image.file(), image.path()) else {
         return Ok(None);
     };
@@ -76,11 +86,12 @@ pub fn put_right(image: &Image, anyway: bool) -> Outcome<Option<String>> {
     let progress = Progress::start("recovering", journal.record.change.brought);
     let words = journal.record.change.words.clone();
     redo::redo(file, &mut journal, &progress).map_err(|why| stuck(file, path, &journal, &why))?;
-    if let Err(number) = counter::open(image.bytes(), &mut Desk::new().lend()) {
-        return Err(not_opened(path, &journal, number));
-    }
+    let mut desk = Desk::new();
+    let opened = counter::open(image.bytes(), &mut desk.lend())
+        .map_err(|number| not_opened(path, &journal, number))?;
+    let record = record::finished(journal.record.totals.as_deref(), image, &mut desk)?;
     journal.remove().map_err(|why| still_there(&journal, &why))?;
-    Ok(Some(words))
+    Ok(Some(Finished { words, record, disc_end: opened.disc_end }))
 }
 
 fn may_be_applied(file: &File, path: &Path, journal: &mut Journal, anyway: bool) -> Outcome<()> {
@@ -204,6 +215,18 @@ pub fn stuck(file: &File, path: &Path, journal: &Journal, why: &io::Error) -> Fa
     ))
 }
 
+/// All is on the disk, but for the record's name.
+pub fn unrecorded(path: &Path, journal: &Journal, why: &io::Error) -> Failure {
+    let file = journal.record.totals.as_deref().unwrap_or(path);
+    cut(format!(
+        "{}: {}: the edit is written and synced, but its record is not in place; `counter recover {}` puts \
+         it there",
+        names::file(file),
+        reason(why),
+        names::file(path)
+    ))
+}
+
 /// All is on the disk, but for the journal's end.
 pub fn still_there(journal: &Journal, why: &io::Error) -> Failure {
     cut(format!(
@@ -221,5 +244,9 @@ pub fn given_up(file: &File, journal: &Journal) -> bool {
         // If it fails, free space is not what it was, and nothing else is different.
         let _ = disk::punch(file, span.start, span.end - span.start);
     }
-    journal.remove().is_ok()
+    let removed = journal.remove().is_ok();
+    if let Some(totals) = journal.record.totals.as_deref().filter(|_| removed) {
+        record::discard(totals);
+    }
+    removed
 }

@@ -3,6 +3,7 @@
 use crate::call::{Call, Wish};
 use crate::disc::{Disc, Kind, Node};
 use crate::names::shown;
+use crate::record;
 use crate::text::grouped;
 use crate::trial::Trial;
 use std::collections::HashSet;
@@ -37,6 +38,7 @@ pub fn report(wish: &Wish, call: &Call, before: &Disc, trial: &Trial) -> Vec<u8>
     if old != new {
         let _ = writeln!(out, "table: {} -> {} bytes", grouped(old.into()), grouped(new.into()));
     }
+    out.extend(record::line(&trial.record, after.opened.disc_end).as_bytes());
     out
 }
 

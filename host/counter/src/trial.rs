@@ -7,7 +7,7 @@ use crate::clip::Clip;
 use crate::disc::{CLUSTER, Disc, Kind, table_end};
 use crate::failure::{Failure, INTERNAL, Outcome};
 use crate::image::{Desk, Image};
-use counter_sys as counter;
+use counter_sys::{self as counter, Record};
 use std::ops::Range;
 
 pub struct Trial {
@@ -15,6 +15,9 @@ pub struct Trial {
     pub found: Option<u32>,
     pub after: Disc,
     pub change: Change,
+    /// The record as it goes in, and as it comes back.
+    pub given: Record,
+    pub record: Record,
 }
 
 pub fn try_out(
@@ -23,9 +26,13 @@ pub fn try_out(
     image: &Image,
     desk: &mut Desk,
     before: &Disc,
+    given: Record,
 ) -> Outcome<Trial> {
     let mut copy = image.trial(&stand_ins(call, image, desk, before))?;
-    let found = call.run(copy.bytes_mut(), desk.lend()).map_err(|number| refused(wish, number))?;
+    let mut record = given;
+    let found = call
+        .run(copy.bytes_mut(), desk.lend(), &mut record)
+        .map_err(|number| refused(wish, number))?;
     let after = Disc::read(&copy, desk)?;
     let table = before.opened.fst_offset as usize;
     let (old_size, new_size) = (before.opened.fst_size, after.opened.fst_size);
@@ -54,7 +61,7 @@ pub fn try_out(
         let text = format!("{}: libcounter would write where no edit writes", image.name);
         return Err(Failure::error(INTERNAL, text));
     }
-    Ok(Trial { found, after, change })
+    Ok(Trial { found, after, change, given, record })
 }
 
 /// What the edit does to the file's bytes, told by its place before and after.

@@ -31,6 +31,7 @@ struct Step {
 const IMAGE: u8 = b'i';
 const JOURNAL: u8 = b'j';
 const CLIP: u8 = b'c';
+const RECORD: u8 = b'r';
 
 fn read_log(path: &Path) -> Vec<Step> {
     let log = fs::read(path).unwrap_or_default();
@@ -48,7 +49,7 @@ fn read_log(path: &Path) -> Vec<Step> {
 
 // A disk ----------------------------------------------------------------------------------
 
-/// What is under the journal's two names.
+/// Which of the two names of a journal, or of a record's new text, is there.
 #[derive(Debug, Clone, Copy, PartialEq, Eq, Hash)]
 enum Name {
     None,
@@ -62,6 +63,7 @@ enum Change {
     Journal(Name),
     /// The clip's name comes, or goes.
     Clip(bool),
+    Record(Name),
 }
 
 /// A state that the disk can be found in.
@@ -72,19 +74,24 @@ struct Found {
     journal: Vec<u8>,
     has_clip: bool,
     clip: Vec<u8>,
+    /// The record's new text.
+    record_name: Name,
+    record: Vec<u8>,
 }
 
 impl Found {
     /// As it is before an edit.
     fn new(image: Vec<u8>) -> Found {
-        let (journal, clip) = (Vec::new(), Vec::new());
-        Found { image, name: Name::None, journal, has_clip: false, clip }
+        let (journal, clip, record) = (Vec::new(), Vec::new(), Vec::new());
+        let (name, record_name) = (Name::None, Name::None);
+        Found { image, name, journal, has_clip: false, clip, record_name, record }
     }
 
     fn change(&mut self, change: Change) {
         match change {
             Change::Journal(name) => self.name = name,
             Change::Clip(there) => self.has_clip = there,
+            Change::Record(name) => self.record_name = name,
         }
     }
 }
@@ -96,13 +103,14 @@ struct Disk {
     image: Vec<(u64, Vec<u8>)>,
     journal: Vec<(u64, Vec<u8>)>,
     clip: Vec<(u64, Vec<u8>)>,
+    record: Vec<(u64, Vec<u8>)>,
     names: Vec<Change>,
 }
 
 impl Disk {
     fn new(sure: Found) -> Disk {
-        let (image, journal, clip) = (Vec::new(), Vec::new(), Vec::new());
-        Disk { sure, image, journal, clip, names: Vec::new() }
+        let (image, journal, clip, record) = Default::default();
+        Disk { sure, image, journal, clip, record, names: Vec::new() }
     }
 
     fn take(&mut self, step: &Step) {
@@ -110,6 +118,7 @@ impl Disk {
             IMAGE => (&mut self.image, &mut self.sure.image),
             JOURNAL => (&mut self.journal, &mut self.sure.journal),
             CLIP => (&mut self.clip, &mut self.sure.clip),
+            RECORD => (&mut self.record, &mut self.sure.record),
             other => panic!("a step on {other}"),
         };
         match (step.what, step.on) {
@@ -120,9 +129,11 @@ impl Disk {
                 sure.clear();
                 self.names.push(match on {
                     CLIP => Change::Clip(true),
+                    RECORD => Change::Record(Name::Early),
                     _ => Change::Journal(Name::Early),
                 });
             }
+            (b'r', RECORD) => self.names.push(Change::Record(Name::Own)),
             (b'r', _) => self.names.push(Change::Journal(Name::Own)),
             (b'd', CLIP) => self.names.push(Change::Clip(false)),
             (b'd', _) => self.names.push(Change::Journal(Name::None)),
@@ -138,7 +149,11 @@ impl Disk {
             let part = taken(bytes, pick(bytes.len()));
             write(&mut found.image, *at, &bytes[..part]);
         }
-        for (unsure, file) in [(&self.clip, &mut found.clip), (&self.journal, &mut found.journal)] {
+        for (unsure, file) in [
+            (&self.clip, &mut found.clip),
+            (&self.journal, &mut found.journal),
+            (&self.record, &mut found.record),
+        ] {
             for (at, bytes) in unsure {
                 let part = taken(bytes, pick(bytes.len()));
                 write(file, *at, &bytes[..part]);
@@ -156,7 +171,8 @@ impl Disk {
     }
 
     fn unsure(&self) -> usize {
-        self.image.len() + self.journal.len() + self.clip.len() + self.names.len()
+        let files = [&self.image, &self.journal, &self.clip, &self.record];
+        files.iter().map(|file| file.len()).sum::<usize>() + self.names.len()
     }
 }
 
@@ -294,13 +310,23 @@ struct Bench {
     image: PathBuf,
     before: Vec<u8>,
     after: Vec<u8>,
+    /// The record's text before and after, where there is a record.
+    record: Option<(String, String)>,
 }
 
 impl Bench {
     fn new(before: Vec<u8>) -> Bench {
         let temp = Temp::in_memory();
         let image = temp.write("disc.iso", &before);
-        Bench { temp, image, before, after: Vec::new() }
+        Bench { temp, image, before, after: Vec::new(), record: None }
+    }
+
+    fn record(&self) -> PathBuf {
+        self.temp.at("totals")
+    }
+
+    fn early_record(&self) -> PathBuf {
+        self.temp.at("totals.counter-new")
     }
 
     fn journal(&self) -> PathBuf {
@@ -334,6 +360,16 @@ impl Bench {
         let _ = fs::remove_file(clip_of(&self.image));
         if found.has_clip {
             fs::write(clip_of(&self.image), &found.clip).unwrap();
+        }
+        let Some((old, _)) = &self.record else {
+            return;
+        };
+        let _ = fs::remove_file(self.early_record());
+        fs::write(self.record(), old).unwrap();
+        match found.record_name {
+            Name::None => {}
+            Name::Early => fs::write(self.early_record(), &found.record).unwrap(),
+            Name::Own => fs::write(self.record(), &found.record).unwrap(),
         }
     }
 
@@ -371,6 +407,11 @@ impl Bench {
             assert!(now == found.image, "{what}: without a journal nothing is written");
             assert!(run.out.contains("no edit was cut"), "{what}: {}", run.out);
         }
+        if let Some(texts) = &self.record {
+            let wanted = if new { &texts.1 } else { &texts.0 };
+            assert_eq!(fs::read_to_string(self.record()).unwrap(), *wanted, "{what}");
+            assert!(!new || !self.early_record().exists(), "{what}");
+        }
         new
     }
 
@@ -401,6 +442,21 @@ fn cut_fill(before: Vec<u8>, path: &str, len: usize, seed: u64) {
     assert!(span(&image, entry.offset.into(), entry.size.into()) == bytes, "{path}");
 }
 
+/// The same with a record, which has counted the edit exactly if the image is the one after it.
+fn cut_with_record(before: Vec<u8>, args: &[&str], seed: u64) {
+    let mut bench = Bench::new(before);
+    let text = |edits| Table::of(&bench.image).record_file(edits);
+    let old = text(41);
+    fs::write(bench.record(), &old).unwrap();
+    let record = bench.record().to_str().unwrap().to_string();
+    let args = [args, &["--record", &record]].concat();
+    assert_eq!(on(args[0], &bench.image, &args[1..]).status, 0, "{args:?}");
+    let new = text(42);
+    bench.record = Some((old, new));
+    bench.lay(&Found::new(bench.before.clone()));
+    cut_on(bench, &args, seed);
+}
+
 fn cut_on(mut bench: Bench, args: &[&str], seed: u64) -> Bench {
     let (run, steps) = bench.logged(args);
     assert_eq!(run.status, 0, "{args:?}: {}", run.err);
@@ -414,6 +470,9 @@ fn cut_on(mut bench: Bench, args: &[&str], seed: u64) -> Bench {
     assert_eq!(disk.unsure(), 0, "{args:?}: the last step is a sync");
     assert!(disk.sure.image == bench.after && disk.sure.name == Name::None, "{args:?}");
     assert!(!disk.sure.has_clip, "{args:?}");
+    if let Some((_, new)) = &bench.record {
+        assert!(disk.sure.record_name == Name::Own && disk.sure.record == new.as_bytes());
+    }
     // Before the journal is on the disk, the image is not touched.
     let own = steps.iter().position(|step| step.what == b'r').unwrap();
     let named = own + steps[own..].iter().position(|step| step.what == b'f').unwrap();
@@ -516,6 +575,16 @@ fn fills_that_move_survive_a_power_cut() {
 #[test]
 fn a_rewrite_that_shrinks_the_table_survives_a_power_cut() {
     cut_everywhere(master(2000), &["rewrite"], 16);
+}
+
+#[test]
+fn a_record_goes_with_its_edit_through_a_power_cut() {
+    cut_with_record(master(0), &["mkdir", "d/x"], 25);
+    cut_with_record(master(0), &["move", "next", "0x2FFFE"], 26);
+    cut_with_record(master(0), &["resize", "far", "0x1001"], 27);
+    let temp = Temp::new();
+    let given = temp.write("given", &clip(0x700, 28));
+    cut_with_record(master(0), &["fill", "next", given.to_str().unwrap()], 28);
 }
 
 /// Edits one after another, at random: files and table that share sectors, places right beside each

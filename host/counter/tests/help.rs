@@ -8,9 +8,10 @@ use std::path::Path;
 use std::process::{Command, Stdio};
 use support::*;
 
-const COMMANDS: [&str; 21] = [
-    "info", "list", "tree", "free", "find", "place", "cat", "extract", "dol", "map", "check",
-    "compare", "hash", "report", "mkdir", "add", "move", "resize", "fill", "rewrite", "recover",
+const COMMANDS: [&str; 22] = [
+    "info", "list", "tree", "free", "find", "place", "record", "cat", "extract", "dol", "map",
+    "check", "compare", "hash", "report", "mkdir", "add", "move", "resize", "fill", "rewrite",
+    "recover",
 ];
 
 /// A folder with the files that the examples name.
@@ -76,6 +77,8 @@ fn help_comes_in_every_way_and_is_about_its_command_alone() {
         "--map",
         "--as-is",
         "--anyway",
+        "--record",
+        "--force",
     ];
     for command in COMMANDS {
         let help = run(&["help", command]).out;
@@ -165,6 +168,11 @@ fn bash_completes_commands_options_files_and_paths() {
     assert_eq!(
         offered(&["counter", "compare", "before.iso", "disc.iso", "--given", "gi"]),
         ["given.txt"]
+    );
+    assert_eq!(offered(&["counter", "move", "disc.iso", "--rec"]), ["--record"]);
+    assert_eq!(
+        offered(&["counter", "move", "--record", "given.txt", "disc.iso", "/op"]),
+        ["/opening.bnr"]
     );
     assert_eq!(offered(&["counter", "find", "disc.iso", "/op"]), ["/opening.bnr"]);
     let text = offered(&["counter", "move", "--dry-run", "disc.iso", "/text/"]);

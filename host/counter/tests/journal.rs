@@ -174,9 +174,12 @@ fn a_cut_edit_is_told_and_finished() {
     assert_eq!(on("check", &link, &[]).status, 78);
 
     let out = done("recover", &link, &[]);
+    let record = Table::of(&cut.image).record_line(1);
     assert_eq!(
         out,
-        "finished an edit that was cut: move film to 0x20000\ndone: written and synced\n"
+        format!(
+            "finished an edit that was cut: move film to 0x20000\n{record}done: written and synced\n"
+        )
     );
     assert!(fs::read(&cut.image).unwrap() == cut.after);
     assert!(!journal_of(&cut.image).exists());
@@ -194,9 +197,12 @@ fn what_became_of_a_cut_edit_is_told_as_json() {
     let told = json("recover", &cut.image, &[]);
     assert_eq!(told.at("finished").text(), "move film to 0x20000");
     assert!(told.at("written").flag());
+    assert_eq!(told.at("record").at("used").number(), Table::of(&cut.image).used());
+    assert_eq!(told.at("record").at("edits").number(), 1);
     assert!(fs::read(&cut.image).unwrap() == cut.after);
     let told = json("recover", &cut.image, &[]);
     assert!(!told.at("written").flag());
+    assert_eq!(told.at("record"), &Json::Null);
 
     // A page of the image fails, and the edit is finished at once.
     let image = cut.temp.write("disc.iso", &master());
@@ -258,7 +264,7 @@ fn a_torn_or_foreign_journal_is_never_applied() {
 
     // Of a version that is not known yet.
     let mut bytes = whole.clone();
-    bytes[16] = 3;
+    bytes[16] = 4;
     fs::write(&path, &bytes).unwrap();
     cut.is_left_alone("it is torn, or of a later version of counter");
 
@@ -266,23 +272,26 @@ fn a_torn_or_foreign_journal_is_never_applied() {
     cut.is_finished();
 }
 
-/// The first version had no clips: two numbers less.
+/// The second version had no record: a length of 0 less. The first had no clips: two numbers less.
 #[test]
-fn a_journal_of_the_first_version_is_carried_on() {
-    let cut = Cut::new();
-    let path = journal_of(&cut.image);
-    let whole = fs::read(&path).unwrap();
-    let end = whole.len() - 24;
-    let mut first = [&whole[..16 + 12 * 8], &whole[16 + 14 * 8..end - 8]].concat();
-    first[16] = 1;
-    first.extend(sum::of(&first).to_le_bytes());
-    let len = (first.len() as u64).to_le_bytes();
-    let mark = &whole[end..end + 16];
-    first.extend(mark);
-    first.extend(sum::of(&[&len, mark].concat()).to_le_bytes());
-    fs::write(&path, &first).unwrap();
-    assert!(on("list", &cut.image, &[]).err.contains("was cut (move film to 0x20000)"));
-    cut.is_finished();
+fn a_journal_of_an_earlier_version_is_carried_on() {
+    for version in [1, 2] {
+        let cut = Cut::new();
+        let path = journal_of(&cut.image);
+        let whole = fs::read(&path).unwrap();
+        let end = whole.len() - 24;
+        let clip = 16 + if version == 1 { 12 } else { 14 } * 8;
+        let mut early = [&whole[..clip], &whole[16 + 14 * 8..end - 16]].concat();
+        early[16] = version;
+        early.extend(sum::of(&early).to_le_bytes());
+        let len = (early.len() as u64).to_le_bytes();
+        let mark = &whole[end..end + 16];
+        early.extend(mark);
+        early.extend(sum::of(&[&len, mark].concat()).to_le_bytes());
+        fs::write(&path, &early).unwrap();
+        assert!(on("list", &cut.image, &[]).err.contains("was cut (move film to 0x20000)"));
+        cut.is_finished();
+    }
 }
 
 #[test]

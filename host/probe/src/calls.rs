@@ -1,12 +1,13 @@
 //! The calls, each with everything it is lent between margins, and what it promises of them held
 //! to afterwards: working memory zero; the image as it was, unless an edit was accepted; list words
-//! past the answer, and on a refusal all slots and lists, as they were.
+//! past the answer, and on a refusal all slots, lists and the record, as they were; after an accepted
+//! edit the record as the image's totals have moved.
 
 use crate::language::{Answer, Stop};
 use crate::zeros::Zeros;
 pub use counter_sys::ENTRY_WORDS;
 use counter_sys::guarded::{Element, Guarded};
-use counter_sys::{CLUSTER_WORDS, DOL_WORDS, HEADER_SIZE, REGION_WORDS, call};
+use counter_sys::{CLUSTER_WORDS, DOL_WORDS, HEADER_SIZE, RECORD_WORDS, REGION_WORDS, call};
 
 /// Words of a list lent beyond what an answer takes.
 const SPARE: usize = 3;
@@ -15,6 +16,12 @@ const SPARE: usize = 3;
 /// (16,385 regions of three words), so a longer list gives the same, and memory cannot hold 2^64.
 const LONGEST_LIST: usize = 1 << 20;
 
+/// The most entries of an image that opens, with the root.
+const MOST_ENTRIES: usize = 16_384;
+
+/// Used bytes, the largest free region, accepted edits.
+pub type Record = [u32; RECORD_WORDS];
+
 pub struct Lender {
     pub image: Guarded<u8>,
     before: Vec<u8>,
@@ -22,6 +29,8 @@ pub struct Lender {
     bytes: Guarded<u8>,
     /// Words of the list that the free regions are written to; none: long enough.
     list: Option<usize>,
+    /// The record in use: every edit takes it, and what comes back is kept.
+    pub record: Option<Record>,
 }
 
 /// A call on the image and the working words that fills a list; how many regions goes into the slot.
@@ -73,6 +82,7 @@ impl Lender {
             words: Guarded::new(65_544),
             bytes: Guarded::new(2_097_152),
             list: None,
+            record: None,
         }
     }
 
@@ -123,15 +133,79 @@ impl Lender {
         })
     }
 
-    /// An edit with `N` slots for its answer.
+    /// An edit with `N` slots for its answer. It takes the record in use; where there is none, a fresh
+    /// one of the image, which is dropped.
     fn edit<const N: usize>(
         &mut self,
-        run: impl FnOnce(&mut [u8], &mut [u32], &mut [u8], &mut [u32; N]) -> u32,
+        run: impl FnOnce(&mut [u8], &mut [u32], &mut [u8], &mut Record, &mut [u32; N]) -> u32,
     ) -> Answer<[u32; N]> {
-        self.call(Does::Edit, |lender, answer| {
+        let fresh = match self.fresh_record() {
+            Err(Stop::Refused(number)) => Err(number),
+            made => Ok(made?),
+        };
+        let given = self.record.or(fresh.ok()).unwrap_or([u32::MARK; RECORD_WORDS]);
+        let mut record = Guarded::of(&given);
+        let lent = &mut record;
+        let result = self.call(Does::Edit, |lender, answer| {
             let (words, bytes) = (lender.words.slice_mut(), lender.bytes.slice_mut());
-            run(lender.image.slice_mut(), words, bytes, answer)
+            run(lender.image.slice_mut(), words, bytes, lent.slots(), answer)
+        });
+        let back: Record = *record.slots();
+        self.record = self.record.map(|_| back);
+        hold(record.margins_stay(), "beside record")?;
+        match (&result, fresh) {
+            (Ok(_), Ok(before)) => hold(self.has_moved(given, back, before)?, "record")?,
+            (Ok(_), Err(_)) => hold(false, "record: refused where the edit is not")?,
+            (Err(Stop::Refused(number)), made) => {
+                hold(back == given, "record")?;
+                hold(made.is_ok() || made == Err(*number), "record: refused with another number")?;
+            }
+            (Err(_), _) => (),
+        }
+        result
+    }
+
+    // Records -------------------------------------------------------------------------------
+
+    fn fresh_record(&mut self) -> Answer<Record> {
+        self.look(|image, words, record| unsafe {
+            call!(counter_make_record(in image, mut words, = record))
         })
+    }
+
+    /// Used bytes and the largest free region as the calls tell them that have them. An image that
+    /// does not open is dirty, whatever its header holds.
+    fn totals_afresh(&self) -> Answer<[u32; 2]> {
+        let count = self.word(self.word(0x424)? as usize + 8)? as usize;
+        hold(count <= MOST_ENTRIES, "image: does not open")?;
+        let (mut words, mut list) = (vec![0; 4 * (count + 2)], vec![0; REGION_WORDS * (count + 1)]);
+        let (mut totals, mut regions) = ([0; 2], [0; 1]);
+        let image = self.image.slice();
+        let causes = unsafe {
+            [
+                call!(counter_totals(in image, mut words, = &mut totals)),
+                call!(counter_free_regions(in image, mut words, mut list, = &mut regions)),
+            ]
+        };
+        hold(causes == [0; 2], "image: does not open")?;
+        let found = list.chunks(REGION_WORDS).take(regions[0] as usize);
+        Ok([totals[1], found.map(|region| region[1]).max().unwrap_or(0)])
+    }
+
+    /// `back` is what an accepted edit makes of `given`; `before`: a record of the image before it.
+    fn has_moved(&self, given: Record, back: Record, before: Record) -> Answer<bool> {
+        let [given, back, before] = [given, back, before].map(|record| record.map(i64::from));
+        let [used, largest] = self.totals_afresh()?.map(i64::from);
+        Ok(back == [given[0] + used - before[0], largest, given[2] + 1])
+    }
+
+    /// Makes a record of the image and takes it into use; a refusal leaves what was in use.
+    pub fn make_record(&mut self) -> Answer<Record> {
+        let record = self.fresh_record()?;
+        let [used, largest] = self.totals_afresh()?;
+        hold(record == [used, largest, 0], "record: not as the other calls")?;
+        self.record = Some(record);
+        Ok(record)
     }
 
     // Reading -------------------------------------------------------------------------------
@@ -151,12 +225,14 @@ impl Lender {
         let opened: [u32; 5] = self.look(|image, words, answer| unsafe {
             call!(counter_open(in image, mut words, = answer))
         })?;
-        hold(opened[..2] == [self.word(0x424), self.word(0x428)], "open: not the header's FST")?;
+        hold(opened[..2] == [self.word(0x424)?, self.word(0x428)?], "open: not the header's FST")?;
         Ok(opened)
     }
 
-    fn word(&self, at: usize) -> u32 {
-        u32::from_be_bytes(self.image.slice()[at..at + 4].try_into().unwrap())
+    /// A word of an image that a call accepted, so that it is there.
+    fn word(&self, at: usize) -> Answer<u32> {
+        let word = self.image.slice().get(at..).and_then(|rest| rest.first_chunk());
+        word.map(|word| u32::from_be_bytes(*word)).ok_or(Stop::Dirty("image: does not open"))
     }
 
     pub fn totals(&mut self) -> Answer<[u32; 2]> {
@@ -319,9 +395,10 @@ impl Lender {
         });
         hold(header.stays_from(if result.is_ok() { DOL_WORDS } else { 0 }), "DOL header")?;
         let (header, window) = (*header.slots(), result?);
-        let at = self.word(0x420) as usize;
-        let same = (0..DOL_WORDS).all(|i| header[i] == self.word(at + 4 * i));
-        hold(same, "DOL header: not the image's")?;
+        let at = self.word(0x420)? as usize;
+        for (i, word) in header.iter().enumerate() {
+            hold(*word == self.word(at + 4 * i)?, "DOL header: not the image's")?;
+        }
         hold(window[0] == at as u64 && window[2] == 0, "DOL window")?;
         Ok((header, window))
     }
@@ -361,9 +438,9 @@ impl Lender {
     pub fn insert_file(&mut self, parent: u32, name: &[u8]) -> Answer<u32> {
         let name = Guarded::of(name);
         let name = name.slice();
-        let [number] = self.edit(|image, words, bytes, answer| unsafe {
+        let [number] = self.edit(|image, words, bytes, record, answer| unsafe {
             call!(counter_insert_file(
-                mut image, mut words, mut bytes, = parent, in name, = answer
+                mut image, mut words, mut bytes, = record, = parent, in name, = answer
             ))
         })?;
         Ok(number)
@@ -372,9 +449,9 @@ impl Lender {
     pub fn insert_directory(&mut self, parent: u32, name: &[u8]) -> Answer<u32> {
         let name = Guarded::of(name);
         let name = name.slice();
-        let [number] = self.edit(|image, words, bytes, answer| unsafe {
+        let [number] = self.edit(|image, words, bytes, record, answer| unsafe {
             call!(counter_insert_directory(
-                mut image, mut words, mut bytes, = parent, in name, = answer
+                mut image, mut words, mut bytes, = record, = parent, in name, = answer
             ))
         })?;
         Ok(number)
@@ -383,31 +460,31 @@ impl Lender {
     pub fn make_directories(&mut self, start: u32, path: &[u8]) -> Answer<u32> {
         let path = Guarded::of(path);
         let path = path.slice();
-        let [number] = self.edit(|image, words, bytes, answer| unsafe {
+        let [number] = self.edit(|image, words, bytes, record, answer| unsafe {
             call!(counter_make_directories(
-                mut image, mut words, mut bytes, = start, in path, = answer
+                mut image, mut words, mut bytes, = record, = start, in path, = answer
             ))
         })?;
         Ok(number)
     }
 
     pub fn move_file(&mut self, number: u32, new_offset: u32) -> Answer<()> {
-        let [] = self.edit(|image, words, bytes, _| unsafe {
-            call!(counter_move_file(mut image, mut words, mut bytes, = number, = new_offset))
+        let [] = self.edit(|image, words, bytes, record, _| unsafe {
+            call!(counter_move_file(mut image, mut words, mut bytes, = record, = number, = new_offset))
         })?;
         Ok(())
     }
 
     pub fn resize_file(&mut self, number: u32, new_size: u32) -> Answer<()> {
-        let [] = self.edit(|image, words, bytes, _| unsafe {
-            call!(counter_resize_file(mut image, mut words, mut bytes, = number, = new_size))
+        let [] = self.edit(|image, words, bytes, record, _| unsafe {
+            call!(counter_resize_file(mut image, mut words, mut bytes, = record, = number, = new_size))
         })?;
         Ok(())
     }
 
     fn fill_with(&mut self, number: u32, clip: &[u8]) -> Answer<()> {
-        let [] = self.edit(|image, words, bytes, _| unsafe {
-            call!(counter_fill_file(mut image, mut words, mut bytes, = number, in clip))
+        let [] = self.edit(|image, words, bytes, record, _| unsafe {
+            call!(counter_fill_file(mut image, mut words, mut bytes, = record, = number, in clip))
         })?;
         Ok(())
     }
@@ -440,9 +517,35 @@ impl Lender {
     }
 
     pub fn rewrite(&mut self) -> Answer<()> {
-        let [] = self.edit(|image, words, bytes, _| unsafe {
-            call!(counter_rewrite(mut image, mut words, mut bytes))
+        let [] = self.edit(|image, words, bytes, record, _| unsafe {
+            call!(counter_rewrite(mut image, mut words, mut bytes, = record))
         })?;
         Ok(())
+    }
+}
+
+#[cfg(test)]
+mod tests {
+    use super::*;
+
+    /// What an accepted edit must not leave: no header, no table, more entries than there may be, a
+    /// table that does not open.
+    #[test]
+    fn a_broken_header_is_dirty() {
+        let mut header = vec![0; HEADER_SIZE + 12];
+        header[0x427] = 0x40;
+        let mut images = vec![vec![], header[..0x426].to_vec(), header];
+        for table in [[0xff; 4], [0, 0, 4, 0x45], [0, 0, 4, 0x40]] {
+            let mut image = images[2].clone();
+            image[0x424..0x428].copy_from_slice(&table);
+            image[0x448..].fill(0xff);
+            images.push(image);
+        }
+        for image in images {
+            let mut lender = Lender::new();
+            lender.image = Guarded::of(&image);
+            assert!(matches!(lender.totals_afresh(), Err(Stop::Dirty(_))), "{}", image.len());
+            assert!(lender.has_moved([0; 3], [0; 3], [0; 3]).is_err());
+        }
     }
 }

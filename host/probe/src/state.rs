@@ -3,8 +3,8 @@
 use crate::calls::{CLUSTERS, ENTRY_WORDS, Lender, PerRegion, REGIONS};
 use crate::language::{Answer, FNV_START, Stop, Words, fnv, hex, number, signed};
 use crate::zeros::Zeros;
-use counter_sys::ffi;
 use counter_sys::guarded::Guarded;
+use counter_sys::{RECORD_WORDS, ffi};
 use std::collections::HashMap;
 use std::fmt::Write as _;
 use std::fs;
@@ -66,6 +66,7 @@ impl State {
                 self.bytes(command, words)
             }
             "window" | "filewindow" | "dolwindow" => self.window(command, words),
+            "make_record" | "set_record" | "record" | "drop_record" => self.record(command, words),
             "insert_file" | "insert_dir" | "mkdirs" | "move" | "resize" | "replace"
             | "replace_zeros" | "rewrite" => self.edit(command, words),
             _ => self.look(command, words),
@@ -341,6 +342,34 @@ impl State {
             }
         }
         Ok(out)
+    }
+
+    // The record ----------------------------------------------------------------------------
+
+    fn record(&mut self, command: &str, mut words: Words) -> Answer<String> {
+        let mut given = [0; RECORD_WORDS];
+        if command == "set_record" {
+            for slot in &mut given {
+                *slot = words.word()?;
+            }
+        }
+        words.end()?;
+        let lender = &mut self.lender;
+        match command {
+            "make_record" => {
+                lender.make_record()?;
+            }
+            "set_record" => lender.record = Some(given),
+            "drop_record" => {
+                lender.record = None;
+                return Ok("ok".into());
+            }
+            _ => (),
+        }
+        Ok(match lender.record {
+            Some([used, largest, edits]) => format!("ok {used} {largest} {edits}"),
+            None => "ok none".into(),
+        })
     }
 
     // Editing -------------------------------------------------------------------------------

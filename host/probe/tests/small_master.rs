@@ -1,6 +1,6 @@
 //! The probe on the scope paper's small master: its listing, P1 to P12, every refusal number once,
 //! free regions in clusters, a program behind the table or before it, lists of edits, files filled
-//! from given bytes, and calls with too little memory or too short a list.
+//! from given bytes, records, and calls with too little memory or too short a list.
 //! `dirty` is never an answer.
 
 use std::io::{Read, Write};
@@ -138,6 +138,7 @@ fn every_refusal() {
         (&["window 1 1 e:-3"], "ok e=18446744073709551614"),
         (&["patch 0x420 00001f1d", "dol"], "err 24"),
         (&["patch 0x420 00001f1c", "dol"], "ok 0 0 0 cbf29ce484222325"),
+        (&["lend 16 0x1a", "set_record 0 0 4294967295", "rewrite"], "err 25"),
     ]);
 }
 
@@ -333,6 +334,7 @@ fn lists_of_a_named_length() {
 fn usage() {
     let mut commands = MASTER.map(String::from).to_vec();
     commands.extend(["lend_list 5", "lend 16 0x1a", "save here", "hash"].map(String::from));
+    commands.push("set_record 7 8 9".into());
     let wrong = [
         ("lend 16", "usage a word is missing"),
         ("lend 15 0 0", "usage too many words"),
@@ -364,17 +366,41 @@ fn usage() {
         ("replace_zeros 1 8589934593", "usage too long"),
         ("replace_zeros 1 18446744073709551615", "usage too long"),
         ("replace_zeros 1 18446744073709551616", "usage not a number"),
+        ("make_record 1", "usage too many words"),
+        ("make_record 4294967296", "usage too many words"),
+        ("make_record 1 2 3", "usage too many words"),
+        ("set_record", "usage a word is missing"),
+        ("set_record 1", "usage a word is missing"),
+        ("set_record 1 2", "usage a word is missing"),
+        ("set_record 1 2 3 4", "usage too many words"),
+        ("set_record 1 2 3 4294967296", "usage too many words"),
+        ("set_record 4294967296 2 3", "usage above 32 bits"),
+        ("set_record 1 4294967296 3", "usage above 32 bits"),
+        ("set_record 1 2 4294967296", "usage above 32 bits"),
+        ("set_record 0x100000000 0x0 0x1", "usage above 32 bits"),
+        ("set_record 18446744073709551616 2 3", "usage not a number"),
+        ("set_record 1 2 -1", "usage not a number"),
+        ("set_record 1 2 -", "usage not a number"),
+        ("record 1", "usage too many words"),
+        ("record 1 2 3", "usage too many words"),
+        ("record 4294967296", "usage too many words"),
+        ("drop_record 1", "usage too many words"),
+        ("drop_record 1 2 3", "usage too many words"),
+        ("drop_record 4294967296", "usage too many words"),
+        ("drop", "usage no such command"),
+        ("rewrite 1", "usage too many words"),
     ];
     commands.extend(wrong.map(|(line, _)| line.into()));
-    commands.extend(["hash", "rewrite", "clusters"].map(String::from));
+    commands.extend(["hash", "record", "rewrite", "clusters"].map(String::from));
     let answers = said(&commands);
-    let from = MASTER.len() + 4;
+    let from = MASTER.len() + 5;
     for ((line, expected), answer) in wrong.iter().zip(&answers[from..]) {
         assert_eq!(answer, expected, "{line}");
     }
     let end = from + wrong.len();
-    assert_eq!(answers[from - 1], answers[end], "the image");
-    assert_eq!(answers[end + 1..], ["ok", "err 9"], "the memory and the list");
+    assert_eq!(answers[from - 2], answers[end], "the image");
+    assert_eq!(answers[end + 1], "ok 7 8 9", "the record");
+    assert_eq!(answers[end + 2..], ["ok", "err 9"], "the memory and the list");
 }
 
 #[test]
@@ -496,6 +522,162 @@ fn fills_refused() {
     ]);
 }
 
+/// Used bytes, the largest free region and the count after each edit.
+#[test]
+fn records() {
+    let zeros = format!("replace 1 {}", hex(&[0; 0x100]));
+    hold(&[
+        (&["record"], "ok none"),
+        (&["rewrite", "record"], "ok none"),
+        // None in use, and none can be made: the edit's number, and still none.
+        (&["size 0x43f", "resize 1 0"], "err 1"),
+        (&["record"], "ok none"),
+        (&["patch 0x450 00000459", "rewrite"], "err 14"),
+        (&["record"], "ok none"),
+        (&["lend 15 0x1a", "rewrite"], "err 9"),
+        (&["record"], "ok none"),
+        (&["insert_file 0 62"], "err 9"),
+        (&["record"], "ok none"),
+        (&["lend 65544 2097152", "drop_record"], "ok"),
+        (&["make_record"], "ok 1370 6656 0"),
+        (&["record"], "ok 1370 6656 0"),
+        (&["make_record", "resize 1 756", "record"], "ok 1870 6156 1"),
+        // Made anew: no edit.
+        (&["resize 1 756", "make_record"], "ok 1870 6156 0"),
+        // All else that is accepted counts too.
+        (&["make_record", "resize 1 256", "record"], "ok 1370 6656 1"),
+        (&["make_record", "rewrite", "record"], "ok 1370 6656 1"),
+        (&["make_record", "mkdirs 0 -", "record"], "ok 1370 6656 1"),
+        (&["make_record", &zeros, "record"], "ok 1370 6656 1"),
+        (&["make_record", "replace_zeros 1 256", "record"], "ok 1370 6656 1"),
+        (&["make_record", "insert_file 0 62", "record"], "ok 1384 6656 1"),
+        (&["make_record", "insert_dir 0 6262", "record"], "ok 1385 6656 1"),
+        (&["make_record", "mkdirs 0 6e2f6d", "record"], "ok 1398 6656 1"),
+        (&["make_record", "move 1 0x600", "record"], "ok 1370 6400 1"),
+        (&["make_record", "replace 1 aabb", "record"], "ok 1116 6910 1"),
+        (&["make_record", "replace_zeros 1 756", "record"], "ok 1870 6156 1"),
+        (&["make_record", "resize 1 0x1b00", "record"], "ok 8026 166 1"),
+        // The table's last six bytes are slack: a write of the table gives them back.
+        (&["patch 0x428 00000020", "make_record"], "ok 1376 6656 0"),
+        (&["patch 0x428 00000020", "make_record", "rewrite", "record"], "ok 1370 6656 1"),
+        (&["patch 0x428 00000020", "make_record", "move 1 0x600", "record"], "ok 1370 6400 1"),
+        (&["patch 0x428 00000020", "make_record", "resize 1 256", "record"], "ok 1376 6656 1"),
+        (&["patch 0x428 00000020", "make_record", "resize 1 257", "record"], "ok 1371 6655 1"),
+        // No free region.
+        (&["patch 0x434 0000045a", "patch 0x454 00000000", "make_record"], "ok 1114 0 0"),
+        (&["patch 0x434 0000045a", "patch 0x454 00000000", "rewrite", "record"], "ok 1114 0 1"),
+        // A program of 0xe4 bytes behind the table.
+        (&["patch 0x420 00001000", "make_record"], "ok 1598 3868 0"),
+        (&["patch 0x420 00001000", "make_record", "resize 1 0xb00", "record"], "ok 4158 3868 1"),
+        (&["patch 0x420 00001000", "make_record", "move 1 0x10e4", "record"], "ok 1598 3612 1"),
+        // Handed on, with refusals between.
+        (
+            &[
+                "make_record",
+                "resize 1 756",
+                "resize 1 0x1b01",
+                "move 1 2048",
+                "move 1 2049",
+                "insert_file 1 62",
+                "resize 1 0",
+                "record",
+            ],
+            "ok 1114 7078 3",
+        ),
+        (&["drop_record", "resize 1 756", "record"], "ok none"),
+    ]);
+}
+
+/// A refusal, and every other command, leaves the record that is in use.
+#[test]
+fn records_stay() {
+    let file = format!("{}/records_stay", env!("CARGO_TARGET_TMPDIR"));
+    let (dump, image) = (format!("dump {file}"), format!("image {file}"));
+    hold(&[
+        (&["set_record 0xffffffff 0x0 0x1"], "ok 4294967295 0 1"),
+        (&["record"], "ok 4294967295 0 1"),
+        (&["set_record 1 2 3"], "ok 1 2 3"),
+        (&["record"], "ok 1 2 3"),
+        (&["move 1 0x501", "record"], "ok 1 2 3"),
+        (&["resize 0 0", "record"], "ok 1 2 3"),
+        (&["insert_file 0 61", "record"], "ok 1 2 3"),
+        (&["insert_dir 0 2f", "record"], "ok 1 2 3"),
+        (&["mkdirs 0 61", "record"], "ok 1 2 3"),
+        (&["replace 2 00", "record"], "ok 1 2 3"),
+        (&["replace_zeros 1 4294967296", "record"], "ok 1 2 3"),
+        (&["lend 16 0x19", "rewrite", "record"], "ok 1 2 3"),
+        (&["lend 65544 2097152", "record"], "ok 1 2 3"),
+        // An image that does not open.
+        (&["size 0x43f", "make_record"], "err 1"),
+        (&["size 0x43f", "rewrite"], "err 1"),
+        (&["patch 0x1c 00", "make_record"], "err 3"),
+        (&["patch 0x450 00000459", "make_record"], "err 14"),
+        (&["patch 0x420 00001f1d", "make_record"], "err 24"),
+        (&["lend 15 0", "make_record"], "err 9"),
+        (&["record"], "ok 1 2 3"),
+        (&["lend 65544 2097152", &dump, &image, "record"], "ok 1 2 3"),
+        (&["save x", "size 0", "load x", "record"], "ok 1 2 3"),
+        (&["listing", "free", "used", "alloc 1 1", "lend_list -", "record"], "ok 1 2 3"),
+        (&["drop_record", "size 0", "make_record"], "err 1"),
+        (&["record"], "ok none"),
+        (&["lend 16 0", "make_record"], "ok 1370 6656 0"),
+    ]);
+}
+
+/// 25, on the numbers that the record holds, behind all other tests.
+#[test]
+fn records_that_hold_anything() {
+    hold(&[
+        // The count.
+        (&["set_record 1370 6656 4294967294", "rewrite", "record"], "ok 1370 6656 4294967295"),
+        (&["set_record 1370 6656 4294967295", "rewrite"], "err 25"),
+        (&["record"], "ok 1370 6656 4294967295"),
+        (&["resize 1 256"], "err 25"),
+        (&["mkdirs 0 -"], "err 25"),
+        (&["mkdirs 0 62"], "err 25"),
+        (&["insert_file 0 62"], "err 25"),
+        (&["insert_dir 0 62"], "err 25"),
+        (&["move 1 0x600"], "err 25"),
+        (&["replace 1 -"], "err 25"),
+        (&["replace_zeros 1 256"], "err 25"),
+        // Used bytes: below 0.
+        (&["set_record 0 0 0", "resize 1 255"], "err 25"),
+        (&["set_record 0 0 0", "replace 1 -"], "err 25"),
+        (&["set_record 1 0 0", "resize 1 255", "record"], "ok 0 6657 1"),
+        (&["set_record 5 0 0", "patch 0x428 00000020", "rewrite"], "err 25"),
+        (&["set_record 6 0 0", "patch 0x428 00000020", "rewrite", "record"], "ok 0 6656 1"),
+        (&["set_record 0 0 0", "patch 0x428 00000020", "resize 1 262", "record"], "ok 0 6650 1"),
+        // And above 2^32 - 1.
+        (&["set_record 4294967295 0 0", "resize 1 257"], "err 25"),
+        (&["set_record 4294967294 0 0", "resize 1 257", "record"], "ok 4294967295 6655 1"),
+        (&["set_record 4294967282 0 0", "insert_file 0 62"], "err 25"),
+        (&["set_record 4294967281 0 0", "insert_file 0 62", "record"], "ok 4294967295 6656 1"),
+        (&["set_record 4294967295 0 0", "move 1 0x600", "record"], "ok 4294967295 6400 1"),
+        // Whatever the largest region is said to be.
+        (&["set_record 5 4294967295 7", "resize 1 256", "record"], "ok 5 6656 8"),
+        (&["set_record 5 0 7", "rewrite", "record"], "ok 5 6656 8"),
+        // Every other cause comes first; the table's 9 and 21 too.
+        (&["set_record 0 0 4294967295", "patch 0x1c 00", "rewrite"], "err 3"),
+        (&["patch 0x450 00000459", "resize 1 0"], "err 14"),
+        (&["resize 2 0"], "err 15"),
+        (&["resize 0 0"], "err 16"),
+        (&["insert_file 1 62"], "err 17"),
+        (&["mkdirs 0 2e2e"], "err 18"),
+        (&["insert_dir 0 61"], "err 19"),
+        (&["insert_dir 0 ff"], "err 12"),
+        (&["move 1 0x500"], "err 20"),
+        (&["move 1 0x400"], "err 21"),
+        (&["resize 1 0x1b01"], "err 21"),
+        (&["replace_zeros 1 4294967296"], "err 21"),
+        (&["patch 0x450 00000600", "patch 0x420 0000045a", "insert_file 0 62"], "err 21"),
+        (&["patch 0x450 00000600", "patch 0x420 0000045a", "rewrite"], "err 25"),
+        (&["lend 16 0x19", "rewrite"], "err 9"),
+        (&["lend 16 0x1a", "rewrite"], "err 25"),
+        (&["lend 16 0", "resize 1 256"], "err 25"),
+        (&["record"], "ok 0 0 4294967295"),
+    ]);
+}
+
 /// A list of calls made up by a small generator: nothing is ever left dirty.
 #[test]
 fn never_dirty() {
@@ -513,6 +695,13 @@ fn never_dirty() {
             commands.push(match random(3) {
                 0 => "lend_list -".into(),
                 _ => format!("lend_list {}", random(16)),
+            });
+            commands.extend(match random(24) {
+                0 => Some("make_record".into()),
+                1 => Some("drop_record".into()),
+                2 => Some(format!("set_record {} 0 {}", random(300), u32::MAX - 1)),
+                3 => Some(format!("set_record {} 0 {}", u32::MAX - random(300) as u32, random(9))),
+                _ => None,
             });
             commands.push(match random(17) {
                 0 => format!("move {entry} {at}"),

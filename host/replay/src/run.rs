@@ -3,7 +3,7 @@
 use crate::script::Part;
 use crate::zeros::Zeros;
 use counter_sys::guarded::{Element, Guarded};
-use counter_sys::{DOL_WORDS, HEADER_SIZE, call};
+use counter_sys::{DOL_WORDS, HEADER_SIZE, RECORD_WORDS, call};
 
 /// What a call gave, in the form of a script's answer: its number, the words of the answer, and a text.
 #[derive(Debug, Default, PartialEq, Eq)]
@@ -19,6 +19,8 @@ pub struct Stage {
     bytes: usize,
     list: usize,
     window: [u64; 3],
+    /// The record that edits take and give back, if one is in use.
+    record: Option<[u32; RECORD_WORDS]>,
 }
 
 /// What one call is lent; none of it is zero before.
@@ -100,7 +102,8 @@ fn listed(
 
 impl Stage {
     pub fn new() -> Stage {
-        Stage { image: vec![], kept: vec![], words: 0, bytes: 0, list: 0, window: [0; 3] }
+        let window = [0; 3];
+        Stage { image: vec![], kept: vec![], words: 0, bytes: 0, list: 0, window, record: None }
     }
 
     pub fn image(&self) -> &[u8] {
@@ -127,6 +130,12 @@ impl Stage {
             "load" => self.image = self.kept.clone(),
             "lend" => (self.words, self.bytes, self.list) = (at(0)?, at(1)?, at(2)?),
             "window" => self.window = [at(0)? as u64, at(1)? as u64, at(2)? as u64],
+            "record" if numbers.is_empty() => self.record = None,
+            "record" => {
+                holds(numbers.len() <= RECORD_WORDS, "a number too many")?;
+                let word = |i| u32::try_from(at(i)?).map_err(|_| "a number above 32 bits");
+                self.record = Some([word(0)?, word(1)?, word(2)?]);
+            }
             _ => return Ok(false),
         }
         Ok(true)
@@ -168,17 +177,24 @@ impl Stage {
         text: &[u8],
         l: &mut Lent,
     ) -> Result<Given, String> {
+        let fresh = fresh_record(&self.image, self.words)?;
+        let taken = self.record.or(fresh.ok()).unwrap_or([u32::MARK; RECORD_WORDS]);
+        let mut record = Guarded::of(&taken);
         let (image, words, bytes) = (l.image.slice_mut(), l.words.slice_mut(), l.bytes.slice_mut());
-        // A call lent all three, with what else it takes.
+        // A call lent all three, with the record and what else it takes.
         macro_rules! change {
             ($name:ident($($given:tt)*)) => {
-                slots::<u32, 0>(|_| unsafe { call!($name(mut image, mut words, mut bytes $($given)*)) })?
+                slots::<u32, 0>(|_| unsafe {
+                    call!($name(mut image, mut words, mut bytes, = record.slots() $($given)*))
+                })?
             };
         }
         macro_rules! insert {
             ($name:ident) => {
                 slots::<u32, 1>(|s| unsafe {
-                    call!($name(mut image, mut words, mut bytes, = a, in text, = s))
+                    call!($name(
+                        mut image, mut words, mut bytes, = record.slots(), = a, in text, = s
+                    ))
                 })?
             };
         }
@@ -194,7 +210,22 @@ impl Stage {
         holds(l.words.is_zero() && l.bytes.is_zero(), "working memory is not zero")?;
         holds(numbers[0] == 0 || l.image.slice() == self.image, "a refusal changed the image")?;
         self.image.copy_from_slice(l.image.slice());
+        holds(record.margins_stay(), "something beside the record was written")?;
+        let given: [u32; RECORD_WORDS] = *record.slots();
+        holds(numbers[0] == 0 || given == taken, "a refusal changed the record")?;
+        holds(
+            fresh.is_ok() || fresh == Err(numbers[0] as u32),
+            "the edit and a record of the image are not refused alike",
+        )?;
         numbers.insert(1, checksum(&self.image));
+        if self.record.is_some() {
+            numbers.extend(given.map(u64::from));
+            self.record = Some(given);
+        } else if numbers[0] == 0 {
+            let [used, largest, _] = fresh_record(&self.image, self.words)?
+                .map_err(|number| format!("the image is refused afterwards: {number}"))?;
+            holds(given == [used, largest, 1], "the record is not the new image's")?;
+        }
         Ok(Given { numbers, text: vec![] })
     }
 
@@ -235,13 +266,14 @@ impl Stage {
             Guarded::<u8>::new(if matches!(name, "list" | "report") { a as usize } else { 0 });
         // A call on the image and the words, with what else it takes.
         macro_rules! ask {
-            ($kind:ty, $slots:literal, $name:ident($($given:tt)*)) => {
-                slots::<$kind, $slots>(|s| unsafe { call!($name(in image, mut words $($given)*, = s)) })?
+            ($kind:ty, $slots:expr, $name:ident($($given:tt)*)) => {
+                slots::<$kind, { $slots }>(|s| unsafe { call!($name(in image, mut words $($given)*, = s)) })?
             };
         }
         let mut given = match name {
             "open" => ask!(u32, 5, counter_open()),
             "totals" => ask!(u32, 2, counter_totals()),
+            "make_record" => ask!(u32, RECORD_WORDS, counter_make_record()),
             "program" => ask!(u32, 2, counter_program()),
             "entry" => ask!(u32, 4, counter_entry(, = a)),
             "lookup" => ask!(u32, 4, counter_lookup(, = a, in text)),
@@ -273,6 +305,9 @@ impl Stage {
             "free_clusters" => listed(&mut given, &l.list, 3, 1)?,
             "open_file" | "open_dol" if given[0] == 0 => {
                 self.window = [given[1], given[2], given[3]]
+            }
+            "make_record" if given[0] == 0 => {
+                self.record = Some([given[1], given[2], given[3]].map(|number| number as u32))
             }
             _ => {}
         }
@@ -327,11 +362,23 @@ fn header(image: &[u8]) -> Result<Given, String> {
     Ok(Given { numbers, text: vec![] })
 }
 
+/// A record of an image, with so many words lent; or the number of its refusal.
+fn fresh_record(image: &[u8], words: usize) -> Result<Result<[u32; RECORD_WORDS], u32>, String> {
+    let mut words = vec![0; words];
+    let made = slots::<u32, RECORD_WORDS>(|s| unsafe {
+        call!(counter_make_record(in image, mut words, = s))
+    })?;
+    Ok(match made[..] {
+        [0, used, largest, edits] => Ok([used, largest, edits].map(|number| number as u32)),
+        _ => Err(made[0] as u32),
+    })
+}
+
 /// How many numbers a call takes.
 fn arity(name: &str) -> usize {
     match name {
-        "open" | "totals" | "program" | "entries" | "free_regions" | "free_clusters"
-        | "open_dol" | "header" | "rewrite" => 0,
+        "open" | "totals" | "make_record" | "program" | "entries" | "free_regions"
+        | "free_clusters" | "open_dol" | "header" | "rewrite" => 0,
         "max_region_size" | "allocate" | "move_file" | "resize_file" | "fill_zeros" => 2,
         _ => 1,
     }

@@ -15,7 +15,7 @@ fn every_call_of_every_script() {
         assert!(outcome.differ.is_empty(), "{}", outcome.differ.join("\n"));
         calls += outcome.calls;
     }
-    assert_eq!(calls, 7115, "all of them, so that none is lost");
+    assert_eq!(calls, 7272, "all of them, so that none is lost");
 }
 
 const MASTER: &str =
@@ -43,6 +43,14 @@ fn right_answers_of_the_paper() {
         "fill_file 0 :00 = 16 0x203a64a4776abcd2",
         "fill_zeros 1 0x1b01 = 21 0x203a64a4776abcd2",
         "fill_zeros 1 0x100000000 = 21 0x203a64a4776abcd2",
+        // Records: none in use, made, set, refused, set aside.
+        "rewrite = 0 0x203a64a4776abcd2",
+        "make_record = 0 1370 6656 0\nrewrite = 0 0x203a64a4776abcd2 1370 6656 1",
+        "record 5 6 7\nrewrite = 0 0x203a64a4776abcd2 5 6656 8",
+        "record 5 6 0xffffffff\nrewrite = 25 0x203a64a4776abcd2 5 6 0xffffffff",
+        "record 5 6 7\nmove_file 1 0x500 = 20 0x203a64a4776abcd2 5 6 7",
+        "record 5 6 7\nsize 4\nmake_record = 1\nrewrite = 1 0x4d25767f9dce13f5 5 6 7",
+        "record 5 6 7\nrecord\nrewrite = 0 0x203a64a4776abcd2",
         "list 0x46 = 0 0x46 \"total 8192 used 1370\nd 0 0 2 /\nf 1 1280 256 /a\nr 1114 166\nr 1536 6656\n\"",
     ] {
         assert_eq!(of(line), [""; 0], "{line}");
@@ -73,6 +81,11 @@ fn a_wrong_answer_is_told() {
             "fill_zeros 1 0x100 = 0 1",
             "s:7: fill_zeros 1 0x100: gave 0x0 0x203a64a4776abcd2, has to give 0x0 0x1",
         ),
+        (
+            "record 5 6 7\nrewrite = 0 0x203a64a4776abcd2 5 6 8",
+            "s:8: rewrite: gave 0x0 0x203a64a4776abcd2 0x5 0x1a00 0x8, has to give 0x0 0x203a64a4776abcd2 0x5 0x6 0x8",
+        ),
+        ("make_record 1 = 0", "s:7: make_record 1: a number too many or too few"),
         ("rewrite = 0 1", "s:7: rewrite: gave 0x0 0x203a64a4776abcd2, has to give 0x0 0x1"),
         ("read 2 = 0 0 0 \"\"", "s:7: read 2: gave 0x0 0x0 0x0 \"..\", has to give 0x0 0x0 0x0"),
         ("fly 1 = 0", "s:7: fly 1: `fly` is no call"),
@@ -90,4 +103,15 @@ fn a_script_that_cannot_be_read_is_told() {
     assert_eq!(replay("s", "size 4\nfill 0 4\n").unwrap_err(), "s:2: fill 0 4: a text is missing");
     assert_eq!(replay("s", "turn 4\n").unwrap_err(), "s:1: turn 4: no such line");
     assert_eq!(replay("s", "lend 1 2\n").unwrap_err(), "s:1: lend 1 2: a number is missing");
+    assert_eq!(replay("s", "record 1 2\n").unwrap_err(), "s:1: record 1 2: a number is missing");
+    for line in ["record 1 2 3 4", "record 1 2 3 0x100000000", "record 1 2 3 4 5 6"] {
+        assert_eq!(
+            replay("s", &format!("{line}\n")).unwrap_err(),
+            format!("s:1: {line}: a number too many")
+        );
+    }
+    assert_eq!(
+        replay("s", "record 1 2 0x100000000\n").unwrap_err(),
+        "s:1: record 1 2 0x100000000: a number above 32 bits"
+    );
 }

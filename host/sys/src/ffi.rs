@@ -142,6 +142,13 @@ unsafe extern "C" {
         answer: *mut [u64; 1],
     ) -> u32;
 
+    pub fn counter_make_record(
+        image: *const u8,
+        image_len: usize,
+        words: *mut u32,
+        words_len: usize,
+        record: *mut [u32; 3],
+    ) -> u32;
     pub fn counter_insert_file(
         image: *mut u8,
         image_len: usize,
@@ -149,6 +156,7 @@ unsafe extern "C" {
         words_len: usize,
         bytes: *mut u8,
         bytes_len: usize,
+        record: *mut [u32; 3],
         parent: u32,
         name: *const u8,
         name_len: usize,
@@ -161,6 +169,7 @@ unsafe extern "C" {
         words_len: usize,
         bytes: *mut u8,
         bytes_len: usize,
+        record: *mut [u32; 3],
         parent: u32,
         name: *const u8,
         name_len: usize,
@@ -173,6 +182,7 @@ unsafe extern "C" {
         words_len: usize,
         bytes: *mut u8,
         bytes_len: usize,
+        record: *mut [u32; 3],
         start: u32,
         path: *const u8,
         path_len: usize,
@@ -185,6 +195,7 @@ unsafe extern "C" {
         words_len: usize,
         bytes: *mut u8,
         bytes_len: usize,
+        record: *mut [u32; 3],
         number: u32,
         new_offset: u32,
     ) -> u32;
@@ -195,6 +206,7 @@ unsafe extern "C" {
         words_len: usize,
         bytes: *mut u8,
         bytes_len: usize,
+        record: *mut [u32; 3],
         number: u32,
         new_size: u32,
     ) -> u32;
@@ -205,6 +217,7 @@ unsafe extern "C" {
         words_len: usize,
         bytes: *mut u8,
         bytes_len: usize,
+        record: *mut [u32; 3],
         number: u32,
         clip: *const u8,
         clip_len: usize,
@@ -216,5 +229,6 @@ unsafe extern "C" {
         words_len: usize,
         bytes: *mut u8,
         bytes_len: usize,
+        record: *mut [u32; 3],
     ) -> u32;
 }

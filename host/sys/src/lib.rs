@@ -1,6 +1,6 @@
 //! libcounter.a from Rust: the C functions (`ffi`), and beside each a call on slices.
 //!
-//! A call answers `Ok` or the number of the cause (1 to 24). Working memory is lent in a `Memory`;
+//! A call answers `Ok` or the number of the cause (1 to 25). Working memory is lent in a `Memory`;
 //! it is zero after every call, whatever it held.
 
 pub mod ffi;
@@ -53,12 +53,24 @@ pub struct Window {
     pub position: u64,
 }
 
+/// Goes into every edit and comes back: used bytes, the size of the largest free region (0 if there
+/// is none), and how many edits were accepted.
+#[derive(Debug, Clone, Copy, PartialEq, Eq)]
+pub struct Record {
+    pub used: u32,
+    pub largest: u32,
+    pub edits: u32,
+}
+
 /// Words of one entry in the list that `entries` fills.
 pub const ENTRY_WORDS: usize = 6;
 
 /// Words of one region in the lists that `free_regions` and `free_clusters` fill.
 pub const REGION_WORDS: usize = 2;
 pub const CLUSTER_WORDS: usize = 3;
+
+/// Words of a record.
+pub const RECORD_WORDS: usize = 3;
 
 /// Words of a DOL header.
 pub const DOL_WORDS: usize = 57;
@@ -269,12 +281,44 @@ impl Window {
 
 // Edits -----------------------------------------------------------------------------------
 
+impl Record {
+    pub fn slots(&self) -> [u32; RECORD_WORDS] {
+        [self.used, self.largest, self.edits]
+    }
+
+    pub fn of(slots: [u32; RECORD_WORDS]) -> Record {
+        let [used, largest, edits] = slots;
+        Record { used, largest, edits }
+    }
+
+    /// An edit that takes this record and gives it back, a refused one too.
+    fn through(&mut self, edit: impl FnOnce(&mut [u32; RECORD_WORDS]) -> u32) -> Answer<()> {
+        let mut slots = self.slots();
+        let number = edit(&mut slots);
+        *self = Record::of(slots);
+        told(number)
+    }
+}
+
+/// A record of the image: its used total, its largest free region, no edit.
+pub fn make_record(image: &[u8], memory: &mut Memory) -> Answer<Record> {
+    let mut slots = [0; RECORD_WORDS];
+    told(unsafe { call!(counter_make_record(in image, mut memory.words, = &mut slots)) })?;
+    Ok(Record::of(slots))
+}
+
 /// The new entry's number.
-pub fn insert_file(image: &mut [u8], memory: &mut Memory, parent: u32, name: &[u8]) -> Answer<u32> {
+pub fn insert_file(
+    image: &mut [u8],
+    memory: &mut Memory,
+    record: &mut Record,
+    parent: u32,
+    name: &[u8],
+) -> Answer<u32> {
     let mut answer = [0; 1];
-    told(unsafe {
+    record.through(|r| unsafe {
         call!(counter_insert_file(
-            mut image, mut memory.words, mut memory.bytes, = parent, in name, = &mut answer
+            mut image, mut memory.words, mut memory.bytes, = r, = parent, in name, = &mut answer
         ))
     })?;
     Ok(answer[0])
@@ -284,13 +328,14 @@ pub fn insert_file(image: &mut [u8], memory: &mut Memory, parent: u32, name: &[u
 pub fn insert_directory(
     image: &mut [u8],
     memory: &mut Memory,
+    record: &mut Record,
     parent: u32,
     name: &[u8],
 ) -> Answer<u32> {
     let mut answer = [0; 1];
-    told(unsafe {
+    record.through(|r| unsafe {
         call!(counter_insert_directory(
-            mut image, mut memory.words, mut memory.bytes, = parent, in name, = &mut answer
+            mut image, mut memory.words, mut memory.bytes, = r, = parent, in name, = &mut answer
         ))
     })?;
     Ok(answer[0])
@@ -300,13 +345,14 @@ pub fn insert_directory(
 pub fn make_directories(
     image: &mut [u8],
     memory: &mut Memory,
+    record: &mut Record,
     start: u32,
     path: &[u8],
 ) -> Answer<u32> {
     let mut answer = [0; 1];
-    told(unsafe {
+    record.through(|r| unsafe {
         call!(counter_make_directories(
-            mut image, mut memory.words, mut memory.bytes, = start, in path, = &mut answer
+            mut image, mut memory.words, mut memory.bytes, = r, = start, in path, = &mut answer
         ))
     })?;
     Ok(answer[0])
@@ -315,12 +361,13 @@ pub fn make_directories(
 pub fn move_file(
     image: &mut [u8],
     memory: &mut Memory,
+    record: &mut Record,
     number: u32,
     new_offset: u32,
 ) -> Answer<()> {
-    told(unsafe {
+    record.through(|r| unsafe {
         call!(counter_move_file(
-            mut image, mut memory.words, mut memory.bytes, = number, = new_offset
+            mut image, mut memory.words, mut memory.bytes, = r, = number, = new_offset
         ))
     })
 }
@@ -328,12 +375,13 @@ pub fn move_file(
 pub fn resize_file(
     image: &mut [u8],
     memory: &mut Memory,
+    record: &mut Record,
     number: u32,
     new_size: u32,
 ) -> Answer<()> {
-    told(unsafe {
+    record.through(|r| unsafe {
         call!(counter_resize_file(
-            mut image, mut memory.words, mut memory.bytes, = number, = new_size
+            mut image, mut memory.words, mut memory.bytes, = r, = number, = new_size
         ))
     })
 }
@@ -342,17 +390,20 @@ pub fn resize_file(
 pub fn fill_file(
     image: &mut [u8],
     memory: &mut Memory,
+    record: &mut Record,
     number: u32,
     clip: &[u8],
 ) -> Answer<()> {
-    told(unsafe {
+    record.through(|r| unsafe {
         call!(counter_fill_file(
-            mut image, mut memory.words, mut memory.bytes, = number, in clip
+            mut image, mut memory.words, mut memory.bytes, = r, = number, in clip
         ))
     })
 }
 
 /// Writes the table anew.
-pub fn rewrite(image: &mut [u8], memory: &mut Memory) -> Answer<()> {
-    told(unsafe { call!(counter_rewrite(mut image, mut memory.words, mut memory.bytes)) })
+pub fn rewrite(image: &mut [u8], memory: &mut Memory, record: &mut Record) -> Answer<()> {
+    record.through(|r| unsafe {
+        call!(counter_rewrite(mut image, mut memory.words, mut memory.bytes, = r))
+    })
 }

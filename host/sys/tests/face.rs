@@ -1,7 +1,7 @@
 //! What the probe's language does not reach: windows that no call gives; each call on slices; the
 //! program's region; an image with nothing in it.
 
-use counter_sys::{Entry, Memory, Opened, Region, Window};
+use counter_sys::{Entry, Memory, Opened, Record, Region, Window};
 
 /// The scope paper's small master.
 fn small_master() -> Vec<u8> {
@@ -84,15 +84,24 @@ fn the_calls_on_slices() {
     assert_eq!(counter_sys::open_file(&image, &mut memory, 1), Ok(window));
     let (header, window) = counter_sys::open_dol(&image, &mut memory).unwrap();
     assert_eq!((header[7], window.start), (0xc233_9f3d, 0));
-    assert_eq!(counter_sys::insert_file(&mut image, &mut memory, 0, b"b"), Ok(2));
-    assert_eq!(counter_sys::insert_directory(&mut image, &mut memory, 0, b"c"), Ok(3));
-    assert_eq!(counter_sys::make_directories(&mut image, &mut memory, 3, b"d"), Ok(4));
-    assert_eq!(counter_sys::move_file(&mut image, &mut memory, 1, 0x600), Ok(()));
-    assert_eq!(counter_sys::resize_file(&mut image, &mut memory, 1, 0x10), Ok(()));
-    assert_eq!(counter_sys::fill_file(&mut image, &mut memory, 1, b"the clip"), Ok(()));
+    let mut record = counter_sys::make_record(&image, &mut memory).unwrap();
+    assert_eq!(record, Record { used: 1370, largest: 0x1a00, edits: 0 });
+    let (m, r) = (&mut memory, &mut record);
+    assert_eq!(counter_sys::insert_file(&mut image, m, r, 0, b"b"), Ok(2));
+    assert_eq!(counter_sys::insert_directory(&mut image, m, r, 0, b"c"), Ok(3));
+    assert_eq!(counter_sys::make_directories(&mut image, m, r, 3, b"d"), Ok(4));
+    assert_eq!(*r, Record { used: 1370 + 42, largest: 0x1a00, edits: 3 });
+    assert_eq!(counter_sys::move_file(&mut image, m, r, 1, 0x600), Ok(()));
+    assert_eq!(*r, Record { used: 1370 + 42, largest: 0x1900, edits: 4 });
+    assert_eq!(counter_sys::resize_file(&mut image, m, r, 1, 0x10), Ok(()));
+    assert_eq!(*r, Record { used: 1370 + 42 - 0xf0, largest: 0x19f0, edits: 5 });
+    assert_eq!(counter_sys::fill_file(&mut image, m, r, 1, b"the clip"), Ok(()));
     assert_eq!(&image[0x600..0x610], b"the clip\0\0\0\0\0\0\0\0");
-    assert_eq!(counter_sys::rewrite(&mut image, &mut memory), Ok(()));
-    assert_eq!(counter_sys::insert_file(&mut image, &mut memory, 0, b"e"), Err(9));
+    assert_eq!(*r, Record { used: 1370 + 42 - 0xf8, largest: 0x19f8, edits: 6 });
+    assert_eq!(counter_sys::rewrite(&mut image, m, r), Ok(()));
+    assert_eq!(*r, Record { used: 1370 + 42 - 0xf8, largest: 0x19f8, edits: 7 });
+    assert_eq!(counter_sys::insert_file(&mut image, m, r, 0, b"e"), Err(9));
+    assert_eq!(*r, Record { used: 1370 + 42 - 0xf8, largest: 0x19f8, edits: 7 });
     assert!(words == [0; 28] && bytes == [0; 68]);
 }
 
@@ -102,7 +111,9 @@ fn a_file_filled_with_a_clip() {
     let fill = |image: &mut [u8], bytes: usize, number, clip: &[u8]| {
         let (mut words, mut bytes) = ([9; 16], vec![9; bytes]);
         let mut memory = Memory { words: &mut words, bytes: &mut bytes };
-        let got = counter_sys::fill_file(image, &mut memory, number, clip);
+        let mut record = Record { used: 0x8000_0000, largest: 7, edits: 0 };
+        let got = counter_sys::fill_file(image, &mut memory, &mut record, number, clip);
+        assert_eq!(record.edits, u32::from(got.is_ok()));
         assert!(words == [0; 16] && bytes.iter().all(|&b| b == 0));
         got
     };
@@ -126,6 +137,35 @@ fn a_file_filled_with_a_clip() {
     assert_eq!(fill(&mut image, 0, 1, b"x"), Ok(()));
     wanted[0x500] = b'x';
     assert!(image == wanted);
+}
+
+/// Used bytes and the count move from the numbers that went in, whatever the image; the largest region
+/// is the new image's. A refusal gives back what went in, and 25 is one.
+#[test]
+fn a_record_that_holds_anything() {
+    const MOST: u32 = u32::MAX;
+    let resize = |used, edits, new_size| {
+        let (mut image, mut words, mut bytes) = (small_master(), [9; 16], [9; 26]);
+        let mut memory = Memory { words: &mut words, bytes: &mut bytes };
+        let mut record = Record { used, largest: 7, edits };
+        let got = counter_sys::resize_file(&mut image, &mut memory, &mut record, 1, new_size);
+        assert!(words == [0; 16] && bytes == [0; 26]);
+        assert!(got.is_ok() || image == small_master());
+        (got, record.used, record.largest, record.edits)
+    };
+    // A byte more, a byte less, the present size, one that finds no place.
+    assert_eq!(resize(0, 0, 0x101), (Ok(()), 1, 0x19ff, 1));
+    assert_eq!(resize(MOST, 0, 0x101), (Err(25), MOST, 7, 0));
+    assert_eq!(resize(MOST - 1, 0, 0x101), (Ok(()), MOST, 0x19ff, 1));
+    assert_eq!(resize(0, 0, 0xff), (Err(25), 0, 7, 0));
+    assert_eq!(resize(1, 0, 0xff), (Ok(()), 0, 0x1a01, 1));
+    assert_eq!(resize(1, MOST, 0xff), (Err(25), 1, 7, MOST));
+    assert_eq!(resize(1, MOST - 1, 0xff), (Ok(()), 0, 0x1a01, MOST));
+    assert_eq!(resize(MOST, 5, 0x100), (Ok(()), MOST, 0x1a00, 6));
+    assert_eq!(resize(0, MOST, 0x100), (Err(25), 0, 7, MOST));
+    assert_eq!(resize(MOST, MOST, 0x1b01), (Err(21), MOST, 7, MOST));
+    // It is all one file then.
+    assert_eq!(resize(0, 0, 0x1b00), (Ok(()), 0x1a00, 166, 1));
 }
 
 /// A program is at least as long as its header; its window is not. Behind the table it is used, and there
@@ -193,6 +233,7 @@ fn an_empty_image() {
     let (mut words, mut bytes) = ([9; 2], [9; 2]);
     let mut memory = Memory { words: &mut words, bytes: &mut bytes };
     let m = &mut memory;
+    let r = &mut Record { used: 7, largest: 8, edits: 9 };
     assert_eq!(counter_sys::header(&image), Err(1));
     assert_eq!(counter_sys::open(&image, m), Err(1));
     assert_eq!(counter_sys::totals(&image, m), Err(1));
@@ -208,12 +249,14 @@ fn an_empty_image() {
     assert_eq!(counter_sys::allocate(&image, m, 1, 0), Err(1));
     assert_eq!(counter_sys::open_file(&image, m, 9), Err(1));
     assert_eq!(counter_sys::open_dol(&image, m), Err(1));
-    assert_eq!(counter_sys::insert_file(&mut image, m, 9, b""), Err(1));
-    assert_eq!(counter_sys::insert_directory(&mut image, m, 9, b""), Err(1));
-    assert_eq!(counter_sys::make_directories(&mut image, m, 9, &[0; 1025]), Err(1));
-    assert_eq!(counter_sys::move_file(&mut image, m, 9, 0), Err(1));
-    assert_eq!(counter_sys::resize_file(&mut image, m, 9, 0), Err(1));
-    assert_eq!(counter_sys::fill_file(&mut image, m, 9, b""), Err(1));
-    assert_eq!(counter_sys::rewrite(&mut image, m), Err(1));
+    assert_eq!(counter_sys::make_record(&image, m), Err(1));
+    assert_eq!(counter_sys::insert_file(&mut image, m, r, 9, b""), Err(1));
+    assert_eq!(counter_sys::insert_directory(&mut image, m, r, 9, b""), Err(1));
+    assert_eq!(counter_sys::make_directories(&mut image, m, r, 9, &[0; 1025]), Err(1));
+    assert_eq!(counter_sys::move_file(&mut image, m, r, 9, 0), Err(1));
+    assert_eq!(counter_sys::resize_file(&mut image, m, r, 9, 0), Err(1));
+    assert_eq!(counter_sys::fill_file(&mut image, m, r, 9, b""), Err(1));
+    assert_eq!(counter_sys::rewrite(&mut image, m, r), Err(1));
+    assert_eq!(*r, Record { used: 7, largest: 8, edits: 9 });
     assert_eq!((words, bytes), ([0; 2], [0; 2]));
 }

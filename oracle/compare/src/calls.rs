@@ -13,6 +13,7 @@ pub enum Call {
     Free,
     Used,
     Total,
+    MakeRecord,
     Entry(u32),
     Lookup(u32, Vec<u8>),
     MaxFile(u32),
@@ -65,6 +66,7 @@ impl Call {
             Call::Free => "free",
             Call::Used => "used",
             Call::Total => "total",
+            Call::MakeRecord => "make_record",
             Call::Entry(_) => "entry",
             Call::Lookup(..) => "lookup",
             Call::MaxFile(_) => "maxfile",
@@ -162,6 +164,11 @@ impl Call {
         self.line_with(&hex(self.text().unwrap_or(b"")))
     }
 
+    /// The command for the original, which has no records: its free regions tell what one would hold.
+    pub fn line_of_original(&self) -> String {
+        if *self == Call::MakeRecord { Call::Free.line() } else { self.line() }
+    }
+
     /// The command for the original, with the text that it reads these bytes as, even if they do not
     /// come back.
     pub fn line_of_any(&self, text: &[u8]) -> String {
@@ -178,7 +185,7 @@ fn near(r: &mut Random, value: u64) -> u32 {
     value.min(u32::MAX as u64) as u32
 }
 
-fn any_number(r: &mut Random) -> u32 {
+pub fn any_number(r: &mut Random) -> u32 {
     let number = r.next() as u32;
     match r.below(4) {
         0 => u32::MAX - r.below(3) as u32,

@@ -1,8 +1,8 @@
 //! Boundaries that calls meet, counted so that a run shows that it met them.
 
 use crate::calls::Call;
-use crate::judge::{New, new_place};
-use crate::paper::{self, Entry, Refusal, Tree, stray, word};
+use crate::judge::{New, new_place, record_after, used_after};
+use crate::paper::{self, Entry, Record, Refusal, Tree, stray, word};
 use std::collections::BTreeMap;
 
 /// Those that are met.
@@ -170,6 +170,71 @@ pub fn of_text(call: &Call, expected: &str) -> Vec<&'static str> {
         ],
     };
     of(&cases)
+}
+
+/// What stands out about the record that an edit takes, on `tree` if the image opens; `made`: of this image.
+pub fn of_record(
+    tree: Option<&Tree>,
+    call: &Call,
+    record: Record,
+    made: bool,
+    expected: &str,
+) -> Vec<&'static str> {
+    const MOST: u64 = u32::MAX as u64;
+    let full = record.edits == MOST;
+    let Some(tree) = tree else {
+        return of(&[(full, "record: 25 due, and the image does not open")]);
+    };
+    let (before, after) = (tree.used(), used_after(tree, call));
+    let change = after.unwrap_or(before) as i64 - before as i64;
+    let used = record.used as i64 + change;
+    let outside = used < 0 || used > MOST as i64;
+    if expected == "err 25" {
+        return of(&[
+            (full && !outside, "record: 25 for the count"),
+            (!full && used < 0, "record: 25 for used bytes below 0"),
+            (!full && used > MOST as i64, "record: 25 for used bytes above 2^32 - 1"),
+            (full && outside, "record: 25 for both"),
+            (used == -1, "record: used bytes one below 0"),
+            (used == MOST as i64 + 1, "record: used bytes one above 2^32 - 1"),
+            (full && change == 0, "record: 25 for the count, and used bytes stay"),
+        ]);
+    }
+    let table = expected == "err 21" && new_place(tree, call).is_some() && after.is_some();
+    if !expected.starts_with("ok") {
+        let due = full || outside;
+        return of(&[
+            (due && table, "record: 25 due, and the table's 21 comes first"),
+            (
+                due && expected == "err 21" && !table,
+                "record: 25 due, and the file's 21 comes first",
+            ),
+            (due && expected == "err 9", "record: 25 due, and 9 comes first"),
+            (
+                due && expected != "err 21" && expected != "err 9",
+                "record: 25 due, and a number of 12 to 20 comes first",
+            ),
+            (outside && table, "record: used bytes would leave, and the table's 21 comes first"),
+        ]);
+    }
+    let Ok(Some(moved)) = record_after(tree, call, record) else { return vec![] };
+    let afresh = Record::of(tree);
+    let true_one = record.used == afresh.used && record.largest == afresh.largest;
+    of(&[
+        (made, "record: made at opening"),
+        (!made && true_one, "record: handed on"),
+        (record.largest != afresh.largest, "record: another largest region goes in"),
+        (moved.largest == 0, "record: no free region afterwards"),
+        (moved.largest == afresh.largest, "record: the largest region stays"),
+        (moved.largest > afresh.largest, "record: the largest region grows"),
+        (moved.largest < afresh.largest, "record: the largest region shrinks"),
+        (change > 0, "record: used bytes rise"),
+        (change < 0, "record: used bytes fall"),
+        (change == 0, "record: used bytes stay"),
+        (moved.used == 0, "record: used bytes 0 afterwards"),
+        (moved.used == MOST, "record: used bytes 2^32 - 1 afterwards"),
+        (moved.edits == MOST, "record: count 2^32 - 1 afterwards"),
+    ])
 }
 
 /// What stands out about a call on `tree` that is answered `expected`, with the memory lent.

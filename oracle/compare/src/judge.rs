@@ -3,7 +3,7 @@
 
 use crate::calls::{Call, hex, unhex};
 use crate::codec::Codec;
-use crate::paper::{self, Bound, Entry, Refusal, Tree, word};
+use crate::paper::{self, Bound, Entry, Record, Refusal, Tree, word};
 use std::fmt::Write as _;
 
 /// The entries of docs/DIFFERENCES.md that a comparison can meet.
@@ -36,9 +36,10 @@ pub enum Class {
     ProgramSpace,
     ProgramEdits,
     LongClip,
+    Totals,
 }
 
-pub const CLASSES: [(Class, &str); 26] = [
+pub const CLASSES: [(Class, &str); 27] = [
     (Class::NameWithoutZero, "Game name without a zero byte"),
     (Class::NameBehindZero, "Game name with bytes behind its first zero byte"),
     (Class::Bounds, "FST offset below 0x440; image shorter than the disc end"),
@@ -78,6 +79,7 @@ pub const CLASSES: [(Class, &str); 26] = [
     (Class::ProgramSpace, "Largest sizes and allocation with a program behind the table"),
     (Class::ProgramEdits, "Edits that would take some of a program behind the table"),
     (Class::LongClip, "A clip above 2^32 - 1 bytes"),
+    (Class::Totals, "A record whose used bytes or edit count would leave 0 to 2^32 - 1"),
 ];
 
 /// A call and what it is made on.
@@ -88,6 +90,8 @@ pub struct Given<'a> {
     pub call: &'a Call,
     pub words: usize,
     pub bytes: usize,
+    /// What an edit takes; none: a fresh one of the image, which never meets 25.
+    pub record: Option<Record>,
     pub codec: &'a Codec,
     /// The entry for the image's names, if some do not come back.
     pub others: Option<Class>,
@@ -365,6 +369,46 @@ pub fn new_place(tree: &Tree, call: &Call) -> Option<(u64, u64)> {
     Some((tree.place(size, paper::ALIGN)?.0, size))
 }
 
+/// The table's end and all other used regions after an edit, by its new table and the place that it
+/// gives to its file; none if it has no place, or its path leads into trouble. An edit that is refused
+/// may have regions that overlap.
+fn regions_after(tree: &Tree, call: &Call) -> Option<(u64, Vec<(u64, u64)>)> {
+    if call.target().is_some_and(|target| target as usize >= tree.entries.len()) {
+        return None;
+    }
+    let (mut table_end, mut moved) = (tree.table_end(), None);
+    if !keeps_size(tree, call) {
+        table_end = tree.fst_offset + New::of(tree, call)?.size();
+        let place = new_place(tree, call)?;
+        let of_file = matches!(call, Call::Move(..)) || call.resizes().is_some();
+        moved = call.target().filter(|_| of_file).map(|number| (number as usize, place));
+    }
+    let files = tree.entries.iter().enumerate().filter(|(_, entry)| !entry.directory);
+    let place = |(number, file): (usize, &Entry)| match moved {
+        Some((edited, place)) if edited == number => place,
+        _ => (file.offset as u64, file.size as u64),
+    };
+    let mut regions: Vec<(u64, u64)> = files.map(place).filter(|(_, size)| *size > 0).collect();
+    regions.extend(tree.behind());
+    Some((table_end, regions))
+}
+
+/// The used bytes after an edit; none as above.
+pub fn used_after(tree: &Tree, call: &Call) -> Option<u64> {
+    let (table_end, regions) = regions_after(tree, call)?;
+    Some(table_end + regions.iter().map(|(_, size)| size).sum::<u64>())
+}
+
+/// What an edit that is accepted but for its record makes of it; none is 25.
+pub fn record_after(tree: &Tree, call: &Call, record: Record) -> Result<Option<Record>, String> {
+    let (table_end, regions) =
+        regions_after(tree, call).ok_or("accepted, and there is no place")?;
+    let used = used_after(tree, call).unwrap();
+    let free =
+        paper::free(regions, table_end, tree.disc_end).map_err(|_| "accepted over a file")?;
+    Ok(record.moved(tree.used(), used, paper::largest(&free)))
+}
+
 /// A growth that finds another place, on an image with a program behind its table: the original
 /// would grow over the program, or look for a place in it, so it is told the place that 02 leaves.
 /// A fill is then asked for once more, of the file's own size.
@@ -533,6 +577,18 @@ pub fn listing_after(answer: &str, image_after: &Tree) -> Result<String, String>
     }
 }
 
+/// Regions as `free` writes them.
+fn regions_of(told: &str) -> Regions {
+    let words: Vec<u64> = told.split([' ', ':']).skip(1).map(|n| n.parse().unwrap()).collect();
+    words.chunks(2).map(|c| (c[0], c[1])).collect()
+}
+
+/// The record that is made of an image with these free regions: what is not free is used.
+fn record_by(regions: &Regions, disc_end: u64) -> String {
+    let used = disc_end - regions.iter().map(|(_, size)| size).sum::<u64>();
+    format!("ok {}", Record { used, largest: paper::largest(regions), edits: 0 })
+}
+
 /// What the original says of free space, on an image with a program behind its table. 02: "The
 /// Rust's free list is compared after the program is taken out of it, and its largest sizes,
 /// allocations and edits only on images whose program lies before the table or is absent."
@@ -551,11 +607,16 @@ fn judge_space(
         Ok(Some(Verdict { expected, class }))
     };
     match given.call {
-        Call::Free => {
-            let words: Vec<u64> = numbers().collect();
-            let regions = without(words.chunks(2).map(|c| (c[0], c[1])).collect(), program)?;
+        Call::Free | Call::MakeRecord => {
+            let regions = without(regions_of(told), program)?;
             if regions != tree.free {
                 return Err("the original's free list without the program".into());
+            }
+            if *given.call == Call::MakeRecord {
+                let [theirs, expected] =
+                    [&regions_of(told), &regions].map(|r| record_by(r, tree.disc_end));
+                let class = (expected != theirs).then_some(Class::ProgramFree);
+                return Ok(Some(Verdict { expected, class }));
             }
             let words: Vec<String> = regions.iter().map(|(at, n)| format!(" {at}:{n}")).collect();
             differs(format!("ok{}", words.concat()), Class::ProgramFree)
@@ -634,11 +695,31 @@ fn judge_look(tree: &Tree, given: &Given, answer: &str) -> Result<Verdict, Strin
     {
         return Ok(verdict);
     }
+    if *given.call == Call::MakeRecord && told.starts_with("ok") {
+        let regions = regions_of(&told);
+        if regions != tree.free {
+            return Err("the original's free list".into());
+        }
+        return Ok(Verdict { expected: record_by(&regions, tree.disc_end), class: None });
+    }
     Ok(Verdict { expected: told, class: None })
 }
 
-/// `answer`: the original's; `twin`: its answer to the call's twin, if it has one.
+/// `answer`: the original's; `twin`: its answer to the call's twin, if it has one. 02: "New numbers: 25,
+/// used bytes or edit count would leave 0 to 2^32 - 1, tested last."
 pub fn judge(given: &Given, answer: &str, twin: Option<&str>) -> Result<Verdict, String> {
+    let verdict = judge_call(given, answer, twin)?;
+    if let (Some(record), Ok(tree)) = (given.record, given.opened)
+        && verdict.expected.starts_with("ok")
+        && record_after(tree, given.call, record)?.is_none()
+    {
+        return Ok(Verdict { expected: refused(25), class: Some(Class::Totals) });
+    }
+    Ok(verdict)
+}
+
+/// The same, whatever the record holds.
+fn judge_call(given: &Given, answer: &str, twin: Option<&str>) -> Result<Verdict, String> {
     let told = mapped(answer);
     if let Call::Window(..) = given.call {
         return Ok(Verdict { expected: told, class: None });

@@ -1,8 +1,9 @@
 //! The ledger of 01's demand 3, written down here a second time: it is fed the first image and then
-//! each accepted call alone. After the list the image has to be what it says.
+//! each accepted call alone. After the list the image has to be what it says, and so has a record that
+//! went through the list.
 
 use crate::calls::Call;
-use crate::paper::{self, Tree};
+use crate::paper::{self, Record, Tree};
 
 struct Entry {
     directory: bool,
@@ -142,6 +143,13 @@ impl Ledger {
             }
         }
         None
+    }
+
+    /// 02: a record made at opening and passed through every later edit "always holds the used bytes and
+    /// largest region worked out afresh, and the number of edits accepted since".
+    pub fn wrong_record(&self, tree: &Tree, record: Option<Record>) -> Option<&'static str> {
+        let afresh = Record { edits: self.accepted.len() as u64, ..Record::of(tree) };
+        record.is_some_and(|record| record != afresh).then_some("the record after a list of edits")
     }
 
     pub fn features(&self) -> Vec<&'static str> {

@@ -14,6 +14,7 @@ mod names;
 mod paper;
 mod programs;
 mod random;
+mod records;
 mod run;
 mod sample;
 mod suites;
@@ -24,8 +25,8 @@ use sample::Sample;
 use std::process::exit;
 use std::time::Instant;
 
-const SUITES: [&str; 8] =
-    ["limits", "numbers", "fills", "programs", "names", "tables", "trees", "random"];
+const SUITES: [&str; 9] =
+    ["limits", "numbers", "fills", "records", "programs", "names", "tables", "trees", "random"];
 
 struct Options {
     probe: String,
@@ -179,6 +180,7 @@ fn main() {
             "limits" => suites::limits(&mut run),
             "numbers" => suites::numbers(&mut run),
             "fills" => suites::fills(&mut run),
+            "records" => records::records(&mut run),
             "programs" => programs::programs(&mut run),
             "names" => names::names(&mut run),
             "tables" => suites::tables(&mut run),

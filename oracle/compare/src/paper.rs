@@ -1,7 +1,9 @@
-//! Document 01's opening with the program and the names of document 02, and the few sums that the
-//! sorting of differences needs, written down here a second time and from the papers alone, so that
-//! a difference is sorted by what they say of its input and not by what either side answers.
+//! Document 01's opening with the program and the names of document 02, its totals record, and the few
+//! sums that the sorting of differences needs, written down here a second time and from the papers
+//! alone, so that a difference is sorted by what they say of its input and not by what either side
+//! answers.
 
+use std::fmt;
 use std::ops::Range;
 
 pub const ENTRIES: usize = 16_384;
@@ -44,6 +46,42 @@ pub struct Tree {
     pub program: Option<(u64, u64)>,
     /// Free regions: offset and size.
     pub free: Vec<(u64, u64)>,
+}
+
+/// 02: "used bytes, the largest free region's size (0 if none) and accepted edits".
+#[derive(Clone, Copy, Debug, PartialEq, Eq)]
+pub struct Record {
+    pub used: u64,
+    pub largest: u64,
+    pub edits: u64,
+}
+
+impl Record {
+    /// "A record made at opening, its count 0."
+    pub fn of(tree: &Tree) -> Self {
+        Self { used: tree.used(), largest: largest(&tree.free), edits: 0 }
+    }
+
+    /// "Used bytes move by the edit's change, the count by one; the largest region is the new
+    /// image's." None is 25, "used bytes or edit count would leave 0 to 2^32 - 1".
+    pub fn moved(self, before: u64, after: u64, largest: u64) -> Option<Self> {
+        let used = (self.used + after).checked_sub(before)?;
+        let edits = self.edits + 1;
+        let most = u32::MAX as u64;
+        (used <= most && edits <= most).then_some(Self { used, largest, edits })
+    }
+}
+
+/// The words of a record, as the probe takes and tells them.
+impl fmt::Display for Record {
+    fn fmt(&self, f: &mut fmt::Formatter) -> fmt::Result {
+        write!(f, "{} {} {}", self.used, self.largest, self.edits)
+    }
+}
+
+/// The size of the largest of these regions, 0 if there is none.
+pub fn largest(regions: &[(u64, u64)]) -> u64 {
+    regions.iter().map(|(_, size)| *size).max().unwrap_or(0)
 }
 
 /// The header alone: 1, 2, 3 or accepted.
@@ -138,7 +176,11 @@ fn beside_the_table(
 }
 
 /// The free regions, or 14.
-fn free(mut used: Vec<(u64, u64)>, table_end: u64, disc_end: u64) -> Result<Vec<(u64, u64)>, u32> {
+pub fn free(
+    mut used: Vec<(u64, u64)>,
+    table_end: u64,
+    disc_end: u64,
+) -> Result<Vec<(u64, u64)>, u32> {
     used.push((0, table_end));
     used.sort();
     let mut free = vec![];

@@ -4,12 +4,15 @@
 use crate::calls::{self, Call, hex, unhex};
 use crate::child::{Side, batch};
 use crate::codec::{Codec, Mixed, Others, StandIns};
-use crate::features::{features, of_names, of_program, of_text};
-use crate::judge::{Class, Given, New, Verdict, judge, listing_after, odd_name, told_where};
+use crate::features::{features, of_names, of_program, of_record, of_text};
+use crate::judge::{
+    Class, Given, New, Verdict, judge, listing_after, odd_name, record_after, told_where,
+};
 use crate::ledger::Ledger;
 use crate::masters;
-use crate::paper::{self, Refusal, Tree};
+use crate::paper::{self, Record, Refusal, Tree};
 use crate::random::Random;
+use crate::records;
 use std::collections::BTreeMap;
 use std::fs;
 use std::path::{Path, PathBuf};
@@ -62,6 +65,8 @@ pub struct Run {
 /// One image under way.
 struct Case {
     r: Random,
+    /// For what is asked of records, so that all else stays the same.
+    aside: Random,
     image: Vec<u8>,
     /// 01's opening, however many words are lent.
     opened: Result<Tree, Refusal>,
@@ -71,6 +76,9 @@ struct Case {
     program: Option<(usize, Vec<u8>)>,
     /// Kept where a list of edits is made, of an image that opens.
     ledger: Option<Ledger>,
+    /// Whether a record is made at opening and handed on through the list, and what it holds.
+    hands_on: bool,
+    record: Option<Record>,
     codec: Rc<Codec>,
     stand_ins: StandIns,
     /// Where the image has names that do not come back; the oracle then keeps it with stand-ins.
@@ -87,14 +95,19 @@ impl Case {
         let program = program.map(|(at, size)| (at as usize, size as usize));
         let program = program.map(|(at, size)| (at, image[at..at + size].to_vec()));
         let (codec, stand_ins) = (codec.clone(), StandIns::default());
+        let mut aside = Random::new(r.clone().next());
+        let hands_on = aside.chance(50);
         let mut case = Self {
             r,
+            aside,
             image,
             opened,
             odd,
             name,
             program,
             ledger: None,
+            hands_on,
+            record: None,
             codec,
             stand_ins,
             others: None,
@@ -116,7 +129,9 @@ impl Case {
     /// The call as the original has to be asked in place of it, where it has a name or path, or the
     /// image has names, that do not come back or that 02 has not.
     fn twin(&mut self, call: &Call) -> Option<String> {
-        let Some(text) = call.text() else { return self.others.as_ref().map(|_| call.line()) };
+        let Some(text) = call.text() else {
+            return self.others.as_ref().map(|_| call.line_of_original());
+        };
         let twin = self.stand_ins.twin(&self.codec, text);
         (self.others.is_some() || twin != text).then(|| call.line_of_any(&twin))
     }
@@ -172,6 +187,12 @@ impl Case {
         }
     }
 
+    /// The record that an edit in the list takes.
+    fn hand_on(&self) -> Option<Take> {
+        let tree = self.opened.as_ref().ok().filter(|_| self.hands_on)?;
+        Some(self.record.map_or(Take::Made(Record::of(tree)), Take::Set))
+    }
+
     /// How much memory to lend for a call: often just enough, sometimes one too little.
     fn lend(&mut self, call: &Call) -> (usize, usize) {
         let r = &mut self.r;
@@ -211,6 +232,22 @@ impl Case {
     }
 }
 
+/// The record that an edit takes: made of the image as it is, or set. Either way it holds these numbers.
+#[derive(Clone, Copy)]
+enum Take {
+    Made(Record),
+    Set(Record),
+}
+
+/// What an edit took, and where in the batch the record is told, before it and behind it.
+#[derive(Clone, Copy)]
+struct Taken {
+    record: Record,
+    made: bool,
+    before: usize,
+    after: usize,
+}
+
 /// A call that was asked, and where in the batch its answers are.
 struct Asked {
     case: usize,
@@ -220,6 +257,9 @@ struct Asked {
     probe: usize,
     oracle: usize,
     twin: Option<usize>,
+    taken: Option<Taken>,
+    /// Asked once more with another record; the list goes on from the other one.
+    again: bool,
     /// The original's hash after an edit that it was not told a place for.
     alone: Option<usize>,
     /// Hashes after an edit: Counter's; the original's, as it is and with the game name put back.
@@ -242,7 +282,7 @@ impl Asked {
         [probe, oracle]: [usize; 2],
         twin: Option<usize>,
     ) -> Self {
-        let (alone, hashes, whole, listing, program) = (None, None, None, None, None);
+        let (taken, alone, hashes, whole, listing, program) = (None, None, None, None, None, None);
         Self {
             case,
             call,
@@ -251,6 +291,8 @@ impl Asked {
             probe,
             oracle,
             twin,
+            taken,
+            again: false,
             alone,
             hashes,
             whole,
@@ -287,6 +329,32 @@ impl Batch {
     fn oracle(&mut self, line: String) -> usize {
         self.oracle.push(line);
         self.oracle.len() - 1
+    }
+
+    /// A call that Counter is asked for, with the memory lent and the record that an edit takes; `ample`:
+    /// enough words to make it.
+    fn ask(
+        &mut self,
+        call: &Call,
+        [words, bytes]: [usize; 2],
+        take: Option<Take>,
+        ample: usize,
+    ) -> (usize, Option<Taken>) {
+        let taken = take.map(|take| match take {
+            Take::Made(record) => {
+                self.probe(format!("lend {ample} 0"));
+                (record, true, self.probe(Call::MakeRecord.line()))
+            }
+            Take::Set(record) => (record, false, self.probe(format!("set_record {record}"))),
+        });
+        self.probe(format!("lend {words} {bytes}"));
+        let answer = self.probe(call.line());
+        let taken = taken.map(|(record, made, before)| {
+            let after = self.probe("record".into());
+            self.probe("drop_record".into());
+            Taken { record, made, before, after }
+        });
+        (answer, taken)
     }
 }
 
@@ -406,6 +474,11 @@ impl Run {
                 }
                 asked.push(ask_look(&mut lines, i, case, call));
             }
+            if case.aside.chance(50) {
+                std::mem::swap(&mut case.r, &mut case.aside);
+                asked.push(ask_look(&mut lines, i, case, Call::MakeRecord));
+                std::mem::swap(&mut case.r, &mut case.aside);
+            }
         }
         let (probe, oracle) = self.ask(&lines);
         for at in odd {
@@ -428,18 +501,26 @@ impl Run {
                 0 | 1 => calls::fill(&mut case.r, tree, case.image.len()),
                 _ => calls::edit(&mut case.r, tree, self.inserts),
             };
-            asked.push(ask_edit(&mut lines, i, case, call));
+            let edit = ask_edit(&mut lines, i, case, call);
+            // The same once more, with a record for which 25 is just due or just not.
+            asked.extend(case.aside.chance(15).then(|| ask_again(&mut lines, case, &edit)));
+            asked.push(edit);
         }
         if asked.is_empty() {
             return;
         }
         let (probe, oracle) = self.ask(&lines);
         for asked in &asked {
-            if self.hold(&cases[asked.case], asked, &probe, &oracle)
-                && probe[asked.probe].starts_with("ok")
-            {
+            if !self.hold(&cases[asked.case], asked, &probe, &oracle) || asked.again {
+                continue;
+            }
+            let (case, accepted) = (&mut cases[asked.case], probe[asked.probe].starts_with("ok"));
+            if let (Some(taken), Ok(tree)) = (asked.taken, &case.opened) {
+                let moved = || record_after(tree, &asked.call, taken.record).ok().flatten();
+                case.record = if accepted { moved() } else { Some(taken.record) };
+            }
+            if accepted {
                 self.counts.states += 1;
-                let case = &mut cases[asked.case];
                 (case.image, case.opened) = case.edited(&probe[asked.peek]);
                 case.name = other(&case.name);
                 case.find_others();
@@ -467,13 +548,19 @@ impl Run {
                     (lines.probe(format!("peek {at} {}", bytes.len())), bytes)
                 })
                 .collect();
-            asked.push((tree, ledger, peeks));
+            asked.push((tree, ledger, case.record, peeks));
         }
         let (probe, _) = self.ask(&lines);
-        for (tree, ledger, peeks) in asked {
+        for (tree, ledger, record, peeks) in asked {
             let lost = peeks.iter().any(|(at, bytes)| probe[*at] != format!("ok {}", hex(bytes)));
-            match ledger.wrong(tree).or(lost.then_some("the ledger: a file's first bytes")) {
-                None => self.met(ledger.features()),
+            let wrong = ledger.wrong(tree).or(lost.then_some("the ledger: a file's first bytes"));
+            match wrong.or(ledger.wrong_record(tree, record)) {
+                None => {
+                    self.met(ledger.features());
+                    if record.is_some() {
+                        self.met(vec!["record: made at opening, and held to the list of edits"]);
+                    }
+                }
                 Some(what) => {
                     let lines = [image_lines(&ledger.first), ledger.accepted.clone()].concat();
                     self.fault(what, &lines, "", "", "", "");
@@ -489,6 +576,14 @@ impl Run {
                 self.count(&asked.call, &verdict);
                 self.count_afterwards(case, asked, probe, oracle);
                 let opened = case.opened_with(asked.words);
+                if let Some(taken) = &asked.taken {
+                    let tree = opened.as_ref().ok();
+                    let expected = &verdict.expected;
+                    self.met(of_record(tree, &asked.call, taken.record, taken.made, expected));
+                }
+                if asked.again {
+                    return true;
+                }
                 if let Ok(tree) = &opened {
                     let (words, bytes) = (asked.words, asked.bytes);
                     self.met(features(tree, &asked.call, &verdict.expected, words, bytes));
@@ -608,6 +703,7 @@ impl Run {
         }
         let mut lines = image_lines(&image);
         lines.push(format!("lend {} {}", asked.words, asked.bytes));
+        lines.extend(asked.taken.map(|taken| format!("set_record {}", taken.record)));
         lines
     }
 
@@ -616,11 +712,12 @@ impl Run {
         let mut case = Case::new(Random::new(0), image.to_vec(), "shrinka".into(), &self.codec);
         let mut lines = Batch::default();
         case.load(&mut lines, &self.place.join("shrink"));
-        let (call, words, bytes) = (asked.call.clone(), asked.words, asked.bytes);
+        let (call, memory) = (asked.call.clone(), [asked.words, asked.bytes]);
+        let take = asked.taken.map(|taken| Take::Set(taken.record));
         let asked = if call.edits() && case.opened.is_ok() {
-            ask_edit_with(&mut lines, 0, &mut case, call, words, bytes)
+            ask_edit_with(&mut lines, 0, &mut case, call, memory, take)
         } else {
-            ask_look_with(&mut lines, 0, &mut case, call, words, bytes)
+            ask_look_with(&mut lines, 0, &mut case, call, memory, take)
         };
         let (probe, oracle) = self.ask(&lines);
         trouble(&case, &asked, &probe, &oracle).is_err_and(|(other, _)| other == what)
@@ -635,6 +732,13 @@ impl Run {
 
     /// Each call on the image as it is, edits too: nothing is carried on.
     pub fn each(&mut self, image: Vec<u8>, calls: &[(Call, usize, usize)]) {
+        let with =
+            |(call, words, bytes): &(Call, usize, usize)| (call.clone(), *words, *bytes, None);
+        self.each_with(image, &calls.iter().map(with).collect::<Vec<_>>());
+    }
+
+    /// The same with records that the edits take.
+    pub fn each_with(&mut self, image: Vec<u8>, calls: &[(Call, usize, usize, Option<Record>)]) {
         self.counts.images += 1;
         self.counts.refused_images += u64::from(paper::open(&image, usize::MAX).is_err());
         for part in calls.chunks(512) {
@@ -642,20 +746,13 @@ impl Run {
             assert!(case.mixed.is_none(), "an image that the original can only be asked to open");
             let (mut lines, mut asked) = (Batch::default(), vec![]);
             case.load(&mut lines, &self.place.join("each"));
-            for (call, words, bytes) in part {
+            for (call, words, bytes, record) in part {
+                let (call, memory, take) = (call.clone(), [*words, *bytes], record.map(Take::Set));
                 if call.edits() && case.opened.is_ok() {
-                    asked.push(ask_edit_with(
-                        &mut lines,
-                        0,
-                        &mut case,
-                        call.clone(),
-                        *words,
-                        *bytes,
-                    ));
+                    asked.push(ask_edit_with(&mut lines, 0, &mut case, call, memory, take));
                 } else {
                     lines.both("load each".into());
-                    let call = call.clone();
-                    asked.push(ask_look_with(&mut lines, 0, &mut case, call, *words, *bytes));
+                    asked.push(ask_look_with(&mut lines, 0, &mut case, call, memory, take));
                 }
             }
             let (probe, oracle) = self.ask(&lines);
@@ -684,11 +781,11 @@ impl Run {
                 }
                 let mut case = Case::new(Random::new(0), image, String::new(), &self.codec);
                 case.stand_in(&mut lines);
-                asked.push(ask_look_with(&mut lines, i, &mut case, Call::Open, 64, 0));
+                asked.push(ask_look_with(&mut lines, i, &mut case, Call::Open, [64, 0], None));
                 if case.opened.is_ok() && case.mixed.is_none() {
                     for call in calls {
                         let call = call.clone();
-                        asked.push(ask_look_with(&mut lines, i, &mut case, call, 64, 0));
+                        asked.push(ask_look_with(&mut lines, i, &mut case, call, [64, 0], None));
                     }
                 }
                 self.counts.images += 1;
@@ -752,13 +849,28 @@ fn trouble(
     let (words, bytes) = (asked.words, asked.bytes);
     let others = case.others.as_ref().map(|others| others.class).or(case.mixed);
     let (call, codec) = (&asked.call, &*case.codec);
-    let given = Given { image: &case.image, opened: &opened, call, words, bytes, codec, others };
+    let record = asked.taken.map(|taken| taken.record);
+    let image = &case.image;
+    let given = Given { image, opened: &opened, call, words, bytes, record, codec, others };
     let twin = asked.twin.map(|at| case.back(call, &oracle[at]));
     let verdict = judge(&given, &oracle[asked.oracle], twin.as_deref())
         .map_err(|what| (format!("on no list: {what}"), String::new()))?;
     let wrong = |what: &str| Err((what.to_string(), verdict.expected.clone()));
     if verdict.expected != probe[asked.probe] {
         return wrong("Counter's answer");
+    }
+    let accepted = verdict.expected.starts_with("ok");
+    let moved = match (&opened, record) {
+        (Ok(tree), Some(record)) if accepted => record_after(tree, call, record).unwrap(),
+        _ => record,
+    };
+    if let (Some(taken), Some(moved)) = (&asked.taken, moved) {
+        if probe[taken.before] != format!("ok {}", taken.record) {
+            return wrong("the record before an edit");
+        }
+        if probe[taken.after] != format!("ok {moved}") {
+            return Err(("the record after an edit".into(), format!("ok {moved}")));
+        }
     }
     if !both_accept(asked, probe, oracle) || !asked.call.edits() {
         return Ok(verdict);
@@ -777,6 +889,12 @@ fn trouble(
     let Ok(after) = case.edited(&probe[asked.peek]).1 else {
         return wrong("the image afterwards does not open");
     };
+    // What the sums say of the new image, and what it says itself.
+    if let (Ok(tree), Some(moved), Some(record)) = (&opened, moved, record)
+        && record.moved(tree.used(), after.used(), paper::largest(&after.free)) != Some(moved)
+    {
+        return wrong("the record and the image afterwards");
+    }
     if let Some((ours, theirs)) = asked.listing
         && listing_after(&case.back(&Call::Listing, &oracle[theirs]), &after).as_ref()
             != Ok(&probe[ours])
@@ -856,7 +974,9 @@ fn edit_of_refused(r: &mut Random, inserts: bool) -> Call {
 
 fn ask_look(lines: &mut Batch, i: usize, case: &mut Case, call: Call) -> Asked {
     let (words, bytes) = case.lend(&call);
-    ask_look_with(lines, i, case, call, words, bytes)
+    // No edit of an image that does not open alters a record.
+    let take = (call.edits() && case.hands_on).then(|| records::any(&mut case.aside));
+    ask_look_with(lines, i, case, call, [words, bytes], take.map(Take::Set))
 }
 
 fn ask_look_with(
@@ -864,25 +984,48 @@ fn ask_look_with(
     i: usize,
     case: &mut Case,
     call: Call,
-    words: usize,
-    bytes: usize,
+    memory: [usize; 2],
+    take: Option<Take>,
 ) -> Asked {
-    lines.probe(format!("lend {words} {bytes}"));
-    let probe = lines.probe(call.line());
+    let (probe, taken) = lines.ask(&call, memory, take, 0);
+    if call == Call::MakeRecord {
+        lines.probe("drop_record".into());
+    }
     if let Some(others) = &case.others {
         lines.oracle(others.real());
     }
     // An edit of an image that 01 refuses is held to opening.
-    let oracle = lines.oracle(if call.edits() { "open".into() } else { call.line() });
+    let oracle = if call.edits() { "open".into() } else { call.line_of_original() };
+    let oracle = lines.oracle(oracle);
     case.stand_in(lines);
     let twin = if call.edits() { None } else { case.twin(&call) };
     let twin = twin.map(|twin| lines.oracle(twin));
-    Asked::new(i, call, [words, bytes], [probe, oracle], twin)
+    Asked { taken, ..Asked::new(i, call, memory, [probe, oracle], twin) }
 }
 
 fn ask_edit(lines: &mut Batch, i: usize, case: &mut Case, call: Call) -> Asked {
     let (words, bytes) = case.lend(&call);
-    ask_edit_with(lines, i, case, call, words, bytes)
+    let take = case.hand_on();
+    ask_edit_with(lines, i, case, call, [words, bytes], take)
+}
+
+/// The edit `asked` once more, with a record at the boundaries of 25. The original's answers are those
+/// to `asked`, and so is the new image, if both are accepted.
+fn ask_again(lines: &mut Batch, case: &mut Case, asked: &Asked) -> Asked {
+    let (call, memory) = (asked.call.clone(), [asked.words, asked.bytes]);
+    let record = match &case.opened {
+        Ok(tree) => records::beside(&mut case.aside, tree, &call),
+        Err(_) => records::any(&mut case.aside),
+    };
+    lines.probe(format!("load {}", case.name));
+    let (probe, taken) = lines.ask(&call, memory, Some(Take::Set(record)), 0);
+    let hashes =
+        asked.hashes.map(|(_, theirs, repaired)| (lines.probe("hash".into()), theirs, repaired));
+    let whole = asked
+        .whole
+        .map(|(_, theirs)| (lines.probe(format!("peek 0 {}", case.image.len())), theirs));
+    let again = Asked::new(asked.case, call, memory, [probe, asked.oracle], asked.twin);
+    Asked { taken, again: true, hashes, whole, peek: asked.peek, ..again }
 }
 
 fn ask_edit_with(
@@ -890,16 +1033,17 @@ fn ask_edit_with(
     i: usize,
     case: &mut Case,
     call: Call,
-    words: usize,
-    bytes: usize,
+    memory: [usize; 2],
+    take: Option<Take>,
 ) -> Asked {
     let twin = case.twin(&call);
     let fit = |text: &[u8]| paper::units(text).all(paper::fit);
     let whole = case.others.is_some() || twin.is_some() && call.text().is_some_and(fit);
     let (from, to) = (&case.name, other(&case.name));
     lines.probe(format!("load {from}"));
-    lines.probe(format!("lend {words} {bytes}"));
-    let probe = lines.probe(call.line());
+    // Enough words for the image as it is and as it will be.
+    let ample = case.opened.as_ref().map_or(0, |tree| 4 * tree.entries.len()) + 0x1000;
+    let (probe, taken) = lines.ask(&call, memory, take, ample);
     let ours = lines.probe("hash".into());
     let all = format!("peek 0 {}", case.image.len());
     let whole = whole.then(|| (lines.probe(all.clone()), 0));
@@ -932,8 +1076,7 @@ fn ask_edit_with(
         twin
     });
     let listing = if case.r.chance(40) {
-        let words = case.opened.as_ref().map_or(0, |tree| 4 * tree.entries.len()) + 0x1000;
-        lines.probe(format!("lend {words} 0"));
+        lines.probe(format!("lend {ample} 0"));
         Some((lines.probe("listing".into()), lines.oracle("listing".into())))
     } else {
         None
@@ -951,11 +1094,10 @@ fn ask_edit_with(
     lines.oracle(format!("save {to}"));
     let hashes = Some((ours, theirs, repaired));
     let program = case.program.as_ref().map(|(at, bytes)| {
-        let words = case.opened.as_ref().map_or(0, |tree| 4 * tree.entries.len()) + 0x1000;
-        lines.probe(format!("lend {words} 0"));
+        lines.probe(format!("lend {ample} 0"));
         let [total, used, free] = ["total", "used", "free"].map(|line| lines.probe(line.into()));
         Program { total, used, free, bytes: lines.probe(format!("peek {at} {}", bytes.len())) }
     });
-    let asked = Asked::new(i, call, [words, bytes], [probe, oracle], twin);
-    Asked { alone, hashes, whole, peek, listing, program, ..asked }
+    let asked = Asked::new(i, call, memory, [probe, oracle], twin);
+    Asked { taken, alone, hashes, whole, peek, listing, program, ..asked }
 }

@@ -29,7 +29,7 @@ pub fn small_master() -> Vec<u8> {
 }
 
 /// `/a/b`, `/a/a/`, `/ab`, `/b/`, with names shared in one text; the table abuts on the file `/ab`.
-fn nested_master() -> Vec<u8> {
+pub fn nested_master() -> Vec<u8> {
     let mut image = small_master();
     let table = [
         [0x0100_0000, 0, 6],
@@ -302,7 +302,8 @@ fn open_tables(run: &mut Run, base: &[u8], tables: Vec<Vec<u8>>) {
 
 /// Calls at the limits of 01: entries, texts, depth, memory.
 pub fn limits(run: &mut Run) {
-    let looks = [Call::Open, Call::Free, Call::Used, Call::Total, Call::Lookup(0, b"..".to_vec())];
+    let up = Call::Lookup(0, b"..".to_vec());
+    let looks = [Call::Open, Call::Free, Call::Used, Call::Total, Call::MakeRecord, up];
     let edits = |run: &Run| {
         let mut edits = vec![Call::Rewrite];
         if run.inserts {

@@ -23,16 +23,16 @@ use Rattle.edits.specs.Edits.{noPlace, planVerdict, planImage}
 -- ---- the numbers of a change
 
 abbrev pub changeWith : List Node → Writing → Change
-changeWith nodes w = record { nodes = nodes; place = w .place; source = w .source; kept = w .kept; lost = record { offset = w .lost; size = w .«lost_size» } }
+changeWith nodes w = record { nodes = nodes; old = w .old; place = w .place; kept = w .kept; lost = record { offset = w .lost; size = w .«lost_size» } }
 
 -- a change with a place, for the tests of its table
 abbrev pub placing : List Node → DiscRegion → Change
-placing nodes place = record { nodes = nodes; place = place; source = 0; kept = 0; lost = noPlace }
+placing nodes place = record { nodes = nodes; old = noPlace; place = place; kept = 0; lost = noPlace }
 
 -- the image with the change written, where the table's bytes are these
 unfoldable pub writtenWith : Writing → List ℕ → List ℕ → List ℕ
 writtenWith w table image =
-    put (withTable (fstOffset image) (fstSize image) table (put image (w .place .offset) (span image (w .source) (w .kept)))) (w .lost) (replicate (w .«lost_size») 0)
+    put (withTable (fstOffset image) (fstSize image) table (put image (w .place .offset) (span image (w .old .offset) (w .kept)))) (w .lost) (replicate (w .«lost_size») 0)
 
 -- ---- the table's tests after the limits of the tree
 
@@ -57,7 +57,7 @@ pub record TableFits (long room f size new : ℕ) : Type 0 where
   pub small : new < 2 ^ 32
 
 pub record InImage (long : ℕ) (w : Writing) : Type 0 where
-  pub copied : CopyFits long (w .source) (w .place .offset) (w .kept)
+  pub copied : CopyFits long (w .old .offset) (w .place .offset) (w .kept)
   pub zeroed : ZeroFits long (w .lost) (w .«lost_size»)
 
 pub record Fits (image : List ℕ) (room size : ℕ) (w : Writing) : Type 0 where
@@ -93,9 +93,13 @@ Carries (decision.Write size w) bytes (refused v) = ⊥
 Carries (decision.Write size w) bytes nothing = ⊥
 Carries (decision.Write size w) bytes (filled k clip p) = ⊥
 
--- d, with these working bytes, is what the plan comes to
-pub record Decided (p : Plan) (image : List ℕ) (words room : ℕ) (bytes : List ℕ) (d : Decision) : Type 0 where
+-- d, with these working bytes, is what the plan comes to where its tests say v
+pub record DecidedAs (v : Verdict) (p : Plan) (image : List ℕ) (room : ℕ) (bytes : List ℕ) (d : Decision) : Type 0 where
   pub fits : CanCarry image room d
   pub carries : Carries d bytes p
-  pub answer : carriedVerdict d ≡ planVerdict p image words room
-  pub after : carriedImage d bytes image ≡ cond (isRefused (planVerdict p image words room)) image (planImage p image)
+  pub answer : carriedVerdict d ≡ v
+  pub after : carriedImage d bytes image ≡ cond (isRefused v) image (planImage p image)
+
+-- by all tests but 25
+abbrev pub Decided : Plan → List ℕ → ℕ → ℕ → List ℕ → Decision → Type 0
+Decided p image words room bytes d = DecidedAs (planVerdict p image words room) p image room bytes d

@@ -1,9 +1,18 @@
--- `edit::decide_move` meets its contract: refused by opening, or what is decided on the open image.
+-- `edit::decide_move` meets its contract: refused by opening, or what is decided on the open image, entered in the record.
 -- Assumes nothing.
-use Rattle.commit.proofs.Decisions.{is-open, open-decided, unopened-decided}
+use Rattle.edit.proofs.Accounts.{move-accounted}
+use Rattle.commit.proofs.Decisions.{is-open}
+use Rattle.totals_after.specs.Laws.AccountLaws.{may-account}
+use Rattle.totals_after.proofs.Edited.{unopened-accounted}
+use native.Mathlib.Omega.{arith}
+use denote.Ref.{now}
+use Rattle.endian.specs.Bytes.{AllBytes}
 use borrow.Author.Needs.{needs}
 use Rattle.edit.proofs.decide_move.Statement.{statement}
 use Rattle.edit.proofs.decide_move.Tie as tie
+
+image-bytes : (c : tie.After-shared-slice-known) → AllBytes (now (c .before .args .image))
+image-bytes c i = omega (arith, c .shared-slice-known .given i)
 
 prepare-requires : tie.Need-prepare-requires
 prepare-requires c κs = search needs
@@ -17,11 +26,17 @@ enum-known-prepared-2 c = search needs
 move-file-requires : tie.Need-move-file-requires
 move-file-requires c κs = search is-open
 
+account-requires : tie.Need-account-requires
+account-requires c κs =
+    let s : tie.After-shared-slice-known = search in
+    let d : tie.After-move-file = search in
+    may-account _ _ _ _ _ _ _ (d .move-file .ensures) (search is-open) (image-bytes s) (search needs)
+
 same-length : tie.Need-same-length
 same-length c = search needs
 
 returns : tie.Need-returns
-returns c = search unopened-decided
+returns c = search unopened-accounted
 
 same-length-2 : tie.Need-same-length-2
 same-length-2 c = search needs
@@ -30,7 +45,7 @@ same-length-3 : tie.Need-same-length-3
 same-length-3 c = search needs
 
 returns-2 : tie.Need-returns-2
-returns-2 c = search open-decided
+returns-2 c = search (move-accounted, image-bytes)
 
 pub decide-move-spec : {M : Type 1} → statement M
 decide-move-spec =
@@ -40,6 +55,7 @@ decide-move-spec =
     enum-known-prepared
     enum-known-prepared-2
     move-file-requires
+    account-requires
     same-length
     returns
     same-length-2

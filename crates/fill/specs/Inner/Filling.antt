@@ -11,14 +11,17 @@ use Rattle.refusal.specs.declared.Verdict.{Verdict}
 use Rattle.refusal.specs.declared.Verdict.the-variants.{Passed, Refused}
 use Rattle.refusal.specs.Refusal.{isRefused}
 use Rattle.header.specs.Verdicts.{fstOffset, tableEnd}
+use Rattle.totals.specs.declared.Totals.{Totals}
 use Rattle.commit.specs.declared.Writing.{Writing}
 use Rattle.commit.specs.declared.Decision.{Decision}
 use Rattle.commit.specs.declared.Decision.the-variants as decision
 use Rattle.commit.specs.Inner.Decision.{Fits, writtenWith}
 use Rattle.edits.specs.Change.{Plan}
-use Rattle.edits.specs.Edits.{planVerdict, planImage}
+use Rattle.edits.specs.Edits.{planImage, countedVerdict}
+use Rattle.totals_after.specs.Inner.Accounting.{countedTotals}
 use Rattle.fill.specs.declared.Filling.{Filling}
 use Rattle.fill.specs.declared.Filling.the-variants as filling
+use Rattle.fill.specs.declared.AccountedFilling.{AccountedFilling}
 
 -- a resize's decision with the clip; where nothing is to be resized the file lies at `at`
 abbrev pub fillingOf : Decision → ℕ → Filling
@@ -44,7 +47,7 @@ clippedImage (filling.Write size w) clip image = put image (w .place .offset) cl
 
 -- nothing is copied
 abbrev pub uncopied : Writing → Writing
-uncopied w = record { place = w .place; source = 0; kept = 0; lost = w .lost; «lost_size» = w .«lost_size» }
+uncopied w = record { old = w .old; place = w .place; kept = 0; lost = w .lost; «lost_size» = w .«lost_size» }
 
 abbrev pub restOf : Filling → Decision
 restOf (filling.Refused c) = decision.Refused c
@@ -78,8 +81,18 @@ CanFill image room n (filling.Refused c) = Unit {0}
 CanFill image room n (filling.Clip at) = Into (length image) at n
 CanFill image room n (filling.Write size w) = Fits image room size w × Clear image size w n
 
--- f, with these working bytes, is what the plan of a fill comes to
-pub record Filled (p : Plan) (image : List ℕ) (words room : ℕ) (bytes clip : List ℕ) (f : Filling) : Type 0 where
+-- f, with these working bytes, is what the plan of a fill comes to where its tests say v
+pub record FilledAs (v : Verdict) (p : Plan) (image : List ℕ) (room : ℕ) (bytes clip : List ℕ) (f : Filling) : Type 0 where
   pub fits : CanFill image room (length clip) f
-  pub answer : filledVerdict f ≡ planVerdict p image words room
-  pub after : filledImage f bytes clip image ≡ cond (isRefused (planVerdict p image words room)) image (planImage p image)
+  pub answer : filledVerdict f ≡ v
+  pub after : filledImage f bytes clip image ≡ cond (isRefused v) image (planImage p image)
+
+-- ---- and the totals record
+
+abbrev pub accountedFilling : Filling → Totals → AccountedFilling
+accountedFilling f t = record { filling = f; totals = t }
+
+-- a, with these working bytes, is what the plan comes to by all its tests, 25 too, where the record t went in
+pub record FilledFor (p : Plan) (image : List ℕ) (words room : ℕ) (bytes clip : List ℕ) (t : Totals) (a : AccountedFilling) : Type 0 where
+  pub filled : FilledAs (countedVerdict p t image words room) p image room bytes clip (a .filling)
+  pub totals : a .totals ≡ countedTotals p t image words room

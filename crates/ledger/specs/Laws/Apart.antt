@@ -42,7 +42,7 @@ some-used [] k i h = absurd (omega arith)
 some-used (x ∷ fs) zero i h = or-left (inside x i) (usesByte fs i) (inside-in x i (h .0) (h .1))
 some-used (x ∷ fs) (suc k) i h = or-right (inside x i) (usesByte fs i) (some-used fs k i h)
 
-used-some : (fs : List DiscRegion) (i : ℕ) → usesByte fs i ≡ true → (k : ℕ) × Has (region fs k) i
+pub used-some : (fs : List DiscRegion) (i : ℕ) → usesByte fs i ≡ true → (k : ℕ) × Has (region fs k) i
 unfolding usesByte
 used-some [] i u = absurd (false≢true u)
 used-some (x ∷ fs) i u =

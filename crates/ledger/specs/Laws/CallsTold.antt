@@ -14,8 +14,10 @@ use Rattle.refusal.specs.Laws.Chains.{first-passed}
 use Rattle.tree.specs.Table.{file, none}
 use Rattle.tree.specs.Lookup.{isDirectory}
 use Rattle.space.specs.declared.DiscRegion.{DiscRegion}
+use Rattle.totals.specs.declared.Totals.{Totals}
 use Rattle.opening.specs.Opening.{nodesIn, freeOf, opening}
 use Rattle.edits.specs.Edits.{Edit, insertFile, insertDirectory, makeDirectories, moveFile, resizeFile, fillFile, rewrite, fileVerdict, relocateVerdict, clipVerdict, planMove, planResize, planFill, verdictOf, imageAfter}
+use Rattle.edits.specs.Laws.Accepted.{accepted}
 use Rattle.ledger.specs.Ledger.{Ledger, filesBefore, firstLedger, entered, Report, ledgerAfter}
 use Rattle.ledger.specs.Runs.{Call, reportsOf, AllWithin}
 use Rattle.ledger.specs.Laws.Bare.{kind-bare}
@@ -38,28 +40,28 @@ module _ (w : ℕ) (image : List ℕ) (l : Ledger) (K : Kept w image l) (words b
   kind-is k v = rw (← K .shape) (kind-bare (nodesIn image) k ∙ is-file (nodesIn image) k v)
 
   -- "file wanted" is 16
-  of-file : (ed : Edit) → verdictOf ed image words bytes ≡ Passed → ofFile ed l
-  unfolding verdictOf planMove planResize planFill
-  of-file (insertFile p nm) v = tt
-  of-file (insertDirectory p nm) v = tt
-  of-file (makeDirectories from path) v = tt
-  of-file (moveFile k to) v =
+  of-file : (totals : Totals) (ed : Edit) → verdictOf ed totals image words bytes ≡ Passed → ofFile ed l
+  unfolding planMove planResize planFill
+  of-file totals (insertFile p nm) v = tt
+  of-file totals (insertDirectory p nm) v = tt
+  of-file totals (makeDirectories from path) v = tt
+  of-file totals (moveFile k to) v =
       let new : DiscRegion = record { offset = to; size = placeIn image k .size } in
-      let t = passed-plan (first (fileVerdict (nodesIn image) k) (relocateVerdict (freeOf image) (placeIn image k) new)) _ image words bytes (first-passed (opening image words) _ v .1) in
+      let t = passed-plan (first (fileVerdict (nodesIn image) k) (relocateVerdict (freeOf image) (placeIn image k) new)) _ image words bytes (accepted (moveFile k to) totals image words bytes v .own) in
       kind-is k (first-passed (fileVerdict (nodesIn image) k) _ (t .0) .0)
-  of-file (resizeFile k n) v = kind-is k (passed-plan (fileVerdict (nodesIn image) k) _ image words bytes (first-passed (opening image words) _ v .1) .0)
-  of-file (fillFile k clip) v =
-      let t = passed-plan (clipVerdict (nodesIn image) k (length clip)) _ image words bytes (first-passed (opening image words) _ v .1) in
+  of-file totals (resizeFile k n) v = kind-is k (passed-plan (fileVerdict (nodesIn image) k) _ image words bytes (accepted (resizeFile k n) totals image words bytes v .own) .0)
+  of-file totals (fillFile k clip) v =
+      let t = passed-plan (clipVerdict (nodesIn image) k (length clip)) _ image words bytes (accepted (fillFile k clip) totals image words bytes v .own) in
       kind-is k (first-passed (fileVerdict (nodesIn image) k) _ (t .0) .0)
-  of-file rewrite v = tt
+  of-file totals rewrite v = tt
 
 of-files : (w : ℕ) (calls : List Call) (image : List ℕ) (l : Ledger) → AllWithin w calls → Kept w image l → OfFiles (reportsOf calls image) l
 unfolding reportsOf
 of-files w [] image l a K = tt
 of-files w (c ∷ calls) image l a K = (
-  λ e. of-file w image l K (c .words) (c .bytes) (c .edit) (accepted-passed (verdictOf (c .edit) image (c .words) (c .bytes)) e),
-  of-files w calls (imageAfter (c .edit) image (c .words) (c .bytes)) (cond (not (isRefused (verdictOf (c .edit) image (c .words) (c .bytes)))) (entered (c .edit) l) l) (a .2)
-      (step w image l K (c .words) (c .bytes) (a .0) (c .edit) (a .1)),
+  λ e. of-file w image l K (c .words) (c .bytes) (c .totals) (c .edit) (accepted-passed (verdictOf (c .edit) (c .totals) image (c .words) (c .bytes)) e),
+  of-files w calls (imageAfter (c .edit) (c .totals) image (c .words) (c .bytes)) (cond (not (isRefused (verdictOf (c .edit) (c .totals) image (c .words) (c .bytes)))) (entered (c .edit) l) l) (a .2)
+      (step w image l K (c .words) (c .bytes) (a .0) (c .totals) (c .edit) (a .1)),
 )
 
 -- LAW: the reports of any list of calls

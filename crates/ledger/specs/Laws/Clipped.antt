@@ -15,8 +15,9 @@ use Rattle.header.specs.Laws.FieldTests.{GoodHeader, Bounded}
 use Rattle.tree.specs.Table.{none}
 use Rattle.tree.specs.Lookup.{isDirectory}
 use Rattle.program.specs.Program.{programIn}
-use Rattle.opening.specs.Opening.{tableOf, nodesIn, behindTable, usedIn, opening}
+use Rattle.opening.specs.Opening.{tableOf, nodesIn, behindTable, usedIn, freeOf, usedOf, opening}
 use Rattle.opening.specs.Laws.OpeningLaws.{table-accepted}
+use Rattle.edits.specs.Change.{Plan}
 use Rattle.edits.specs.Edits.{noPlace}
 use Rattle.ledger.specs.Ledger.{History, Ledger, refilled}
 use Rattle.edits.specs.Laws.Puts.{Fits, put-length, put-all, put-else, put-below, field-below}
@@ -28,6 +29,7 @@ use Rattle.ledger.specs.Laws.Room.{outside}
 use Rattle.ledger.specs.Laws.Kept.{Kept, opened-kept}
 use Rattle.ledger.specs.Laws.Placed.{placeIn, numberIn, placeNumber, place-is, place-lies, not-there}
 use Rattle.ledger.specs.Laws.ProgramKept.{ProgramKept, program-spared}
+use Rattle.ledger.specs.Laws.Layout.{Lays, places-are, laid-on}
 
 -- the image with the clip over file k
 abbrev pub withClip : List ℕ → ℕ → List ℕ → List ℕ
@@ -94,6 +96,21 @@ module _ (w : ℕ) (image : List ℕ) (l : Ledger) (K : Kept w image l) (k : ℕ
 
   end-same : discEnd (withClip image k clip) ≡ discEnd image
   end-same = rw (field-same 0x434 (omega arith), field-same 0x438 (omega arith))
+
+  -- what was laid out before the clip is laid out with it
+  pub layout-clipped : (first : List ℕ) (p : Plan) → Lays p first image → Lays p first (withClip image k clip)
+  layout-clipped first p =
+      let start = field-same 0x424 (omega arith) in
+      laid-on first image (withClip image k clip) p end-same start (field-same 0x428 (omega arith)) (places-are image (withClip image k clip) end-same start (program-clipped .program) (filesIn image) (rw tree-clipped))
+
+  -- LAW: as many bytes are used, and the same are free
+  pub used-clipped : usedOf (withClip image k clip) ≡ usedOf image
+  unfolding usedOf behindTable programIn
+  used-clipped = rw (tree-clipped, field-same 0x424 (omega arith), field-same 0x428 (omega arith), program-clipped .program)
+
+  pub free-clipped : freeOf (withClip image k clip) ≡ freeOf image
+  unfolding freeOf usedIn behindTable programIn
+  free-clipped = rw (tree-clipped, field-same 0x424 (omega arith), field-same 0x428 (omega arith), end-same, program-clipped .program)
 
   bounds-clipped : Bounded (withClip image k clip)
   bounds-clipped = record {

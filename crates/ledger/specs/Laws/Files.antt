@@ -84,7 +84,7 @@ module _ {A : Type 0} (g : List ℕ → ℕ → ℕ → A) where
   insert-file p nm a n nodes = splice-file p nm a n 0 (nextOf (getD nodes p none)) nodes
 
 -- an empty file put in uses no byte
-nonempty-put-in : (j a : ℕ) (fs : List DiscRegion) → nonempty (putIn j (record { offset = a; size = 0 }) fs) ≡ nonempty fs
+pub nonempty-put-in : (j a : ℕ) (fs : List DiscRegion) → nonempty (putIn j (record { offset = a; size = 0 }) fs) ≡ nonempty fs
 unfolding nonempty putIn
 nonempty-put-in zero a fs = refl
 nonempty-put-in (suc j) a [] = refl

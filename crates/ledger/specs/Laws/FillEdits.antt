@@ -16,7 +16,7 @@ use Rattle.tree.specs.Table.{Node, file, directory, none}
 use Rattle.tree.specs.Lookup.{isDirectory}
 use Rattle.tree.specs.Insert.{placed, setPlace}
 use Rattle.tree.specs.Laws.PlaceLaws.{setPlace-at}
-use Rattle.opening.specs.Opening.{nodesIn, freeOf, regionOf}
+use Rattle.opening.specs.Opening.{nodesIn, freeOf, usedOf, regionOf}
 use Rattle.edits.specs.Change.{Plan, filled}
 use Rattle.edits.specs.Edits.{resizeFile, fillFile, fileVerdict, clipVerdict, planResize, planFill, planVerdict, planTree, planImage}
 use Rattle.ledger.specs.Ledger.{Ledger, bare, filesBefore, historyOf, refilled, lowered, entered}
@@ -27,7 +27,8 @@ use Rattle.ledger.specs.Laws.PlaceEdits.{is-file, file-of, step-resize}
 use Rattle.ledger.specs.Laws.Plans.{Good, good-planned}
 use Rattle.ledger.specs.Laws.ProgramKept.{ProgramKept, kept-trans}
 use Rattle.ledger.specs.Laws.Arrives.{Arrives, arrives-planned, resize}
-use Rattle.ledger.specs.Laws.Clipped.{withClip, Shown, clip-shown, tree-clipped, program-clipped, clipped-kept}
+use Rattle.ledger.specs.Laws.Layout.{Lays}
+use Rattle.ledger.specs.Laws.Clipped.{withClip, Shown, clip-shown, tree-clipped, program-clipped, layout-clipped, used-clipped, free-clipped, clipped-kept}
 
 -- an entry that is set is not one of those before it
 before-set : (k : ℕ) (xs : List Node) (y : Node) → filesBefore k (set xs k y) ≡ filesBefore k xs
@@ -66,7 +67,7 @@ module _ (w : ℕ) (image : List ℕ) (l : Ledger) (K : Kept w image l) (words b
     K′ : Kept w image′ (entered (resizeFile k n) l)
     K′ = step-resize w image l K words bytes lent k n (verdicts .1) u
 
-    arrived : (nodesIn image′ ≡ planTree p (nodesIn image)) × ProgramKept image image′
+    arrived : (nodesIn image′ ≡ planTree p (nodesIn image)) × ProgramKept image image′ × Lays p image image′
     arrived = resize image words bytes w l K lent k n (verdicts .1) u
 
     -- the file there has the clip's length
@@ -86,10 +87,11 @@ module _ (w : ℕ) (image : List ℕ) (l : Ledger) (K : Kept w image l) (words b
         (clipped-kept w image′ (entered (resizeFile k n) l) K′ k (there .0) clip b (sym (there .1)) (historyOf l k))
 
     -- with the resize's tree
-    fill-arrived : (nodesIn (withClip image′ k clip) ≡ nodesIn image′) × ProgramKept image (withClip image′ k clip)
+    fill-arrived : (nodesIn (withClip image′ k clip) ≡ nodesIn image′) × ProgramKept image (withClip image′ k clip) × Lays p image (withClip image′ k clip)
     fill-arrived = (
       tree-clipped w image′ (entered (resizeFile k n) l) K′ k (there .0) clip b (sym (there .1)),
       kept-trans image image′ (withClip image′ k clip) (arrived .1) (program-clipped w image′ (entered (resizeFile k n) l) K′ k (there .0) clip b (sym (there .1))),
+      layout-clipped w image′ (entered (resizeFile k n) l) K′ k (there .0) clip b (sym (there .1)) image p (arrived .2),
     )
 
     -- LAW: the file as it is then
@@ -102,6 +104,13 @@ module _ (w : ℕ) (image : List ℕ) (l : Ledger) (K : Kept w image l) (words b
     pub fill-is : planImage (planFill (freeOf image) (nodesIn image) k clip) image ≡ withClip image′ k clip
     unfolding planFill
     fill-is = rw (v, ← arrived .0)
+
+    -- LAW: what is used and what is free are the resize's
+    pub fill-used : usedOf (planImage (planFill (freeOf image) (nodesIn image) k clip) image) ≡ usedOf image′
+    fill-used = rw fill-is (used-clipped w image′ (entered (resizeFile k n) l) K′ k (there .0) clip b (sym (there .1)))
+
+    pub fill-free : freeOf (planImage (planFill (freeOf image) (nodesIn image) k clip) image) ≡ freeOf image′
+    fill-free = rw fill-is (free-clipped w image′ (entered (resizeFile k n) l) K′ k (there .0) clip b (sym (there .1)))
 
   pub step-fill : Good w image words bytes (planFill (freeOf image) (nodesIn image) k clip) (entered (fillFile k clip) l)
   unfolding planFill

@@ -8,14 +8,14 @@ use borrow.Author.Tests.{lt-ltb}
 use lib.ListN.{length, getD}
 use Rattle.endian.specs.Bytes.{put}
 use Rattle.refusal.specs.declared.Verdict.the-variants.{Passed}
-use Rattle.refusal.specs.Laws.Chains.{first-passed}
 use Rattle.refusal.specs.Laws.Tests.{lt-or-le}
 use Rattle.tree.specs.Table.{Node, file, none}
 use Rattle.window.specs.Window.{newWindow, countOf}
 use Rattle.files.specs.Files.{openFileAnswer, entryAnswer}
 use Rattle.opening.specs.Opening.{nodesIn, freeOf, opening}
 use Rattle.edits.specs.Change.{filled}
-use Rattle.edits.specs.Edits.{fillFile, clipVerdict, planResize, planFill, planImage, verdictOf, imageAfter}
+use Rattle.edits.specs.Edits.{fillFile, clipVerdict, planResize, planFill, planImage, imageAfter}
+use Rattle.edits.specs.Laws.Accepted.{accepted}
 use Rattle.ledger.specs.Ledger.{Ledger, firstLedger}
 use Rattle.ledger.specs.Theorem.{ShowsClip, FillReads}
 use Rattle.ledger.specs.Laws.Kept.{Kept}
@@ -49,12 +49,12 @@ module _ (image : List ℕ) (w k : ℕ) (opens : opening image w ≡ Passed) (nm
 
 -- THEOREM
 pub fill-reads : FillReads
-unfolding verdictOf imageAfter planFill
-fill-reads image clip k words bytes w b c lent v =
-    let e = first-passed (opening image words) _ v in
+unfolding imageAfter planFill
+fill-reads totals image clip k words bytes w b c lent v =
+    let e = accepted (fillFile k clip) totals image words bytes v in
     let l : Ledger = firstLedger image in
-    let K : Kept w image l = start image words w lent b (e .0) in
-    let q = passed-plan (clipVerdict (nodesIn image) k (length clip)) (filled k clip (planResize (freeOf image) (nodesIn image) k (length clip))) image words bytes (e .1) in
+    let K : Kept w image l = start image words w lent b (e .opens) in
+    let q = passed-plan (clipVerdict (nodesIn image) k (length clip)) (filled k clip (planResize (freeOf image) (nodesIn image) k (length clip))) image words bytes (e .own) in
     let s = fill-shows w image l K words bytes lent k clip c (q .0) (q .1) in
-    let i : imageAfter (fillFile k clip) image words bytes ≡ withClip (planImage (planResize (freeOf image) (nodesIn image) k (length clip)) image) k clip = rw v (fill-is w image l K words bytes lent k clip c (q .0) (q .1)) in
-    rw i (shows _ w k (rw i at (step w image l K words bytes lent (fillFile k clip) c .opens)) (s .0) _ clip (s .1) (s .2))
+    let i : imageAfter (fillFile k clip) totals image words bytes ≡ withClip (planImage (planResize (freeOf image) (nodesIn image) k (length clip)) image) k clip = rw v (fill-is w image l K words bytes lent k clip c (q .0) (q .1)) in
+    rw i (shows _ w k (rw i at (step w image l K words bytes lent totals (fillFile k clip) c .opens)) (s .0) _ clip (s .1) (s .2))

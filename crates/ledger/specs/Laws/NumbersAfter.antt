@@ -12,16 +12,18 @@ use Rattle.endian.specs.Bytes.{AllBytes}
 use Rattle.refusal.specs.declared.Refusal.the-variants.{LimitOrMemory, NoSuchEntry}
 use Rattle.refusal.specs.declared.Verdict.the-variants.{Passed}
 use Rattle.refusal.specs.Refusal.{refuse}
-use Rattle.refusal.specs.Laws.Chains.{refuse-passed, first-passed}
+use Rattle.refusal.specs.Laws.Chains.{refuse-passed}
 use Rattle.tree.specs.declared.Located.{Located}
 use Rattle.tree.specs.declared.Located.the-variants.{At}
 use Rattle.tree.specs.Table.{Node, nameOf, none}
 use Rattle.tree.specs.Lookup.{isDirectory, components, lookup}
 use Rattle.tree.specs.Insert.{insertAt, emptyFile, emptyDirectory}
 use Rattle.tree.specs.Laws.InsertedList.{Nested, Fresh, well-nested}
+use Rattle.totals.specs.declared.Totals.{Totals}
 use Rattle.opening.specs.Opening.{nodesIn, opening}
 use Rattle.edits.specs.Change.{Plan, change}
 use Rattle.edits.specs.Edits.{insertFile, insertDirectory, makeDirectories, tableOnly, newNumber, insertVerdict, Made, stopped, made, make, planMade, planMakeDirectories, planVerdict, planTree, verdictOf, imageAfter, planNumber, planOf, numberedAs, Edit}
+use Rattle.edits.specs.Laws.Accepted.{accepted}
 use Rattle.ledger.specs.Ledger.{madeNodes}
 use Rattle.ledger.specs.Laws.Opened.{opened}
 use Rattle.ledger.specs.Laws.TreeAfter.{tree-after}
@@ -30,8 +32,8 @@ use Rattle.edits.specs.Laws.MakeNumber.{made-found}
 use Rattle.edits.specs.Laws.InsertNumber.{new-entry, new-found, new-from-root}
 
 -- what the edits that give an entry's number answer
-abbrev answerOf : Edit → List ℕ → ℕ → ℕ → Located
-answerOf ed image words bytes = numberedAs (verdictOf ed image words bytes) (planNumber (planOf ed image))
+abbrev answerOf : Edit → Totals → List ℕ → ℕ → ℕ → Located
+answerOf ed totals image words bytes = numberedAs (verdictOf ed totals image words bytes) (planNumber (planOf ed image))
 
 -- what an insert of `new` below p, which answered so, leaves in the image
 pub record Inserted (image after : List ℕ) (answer : Located) (p : ℕ) (new : Node) : Type 0 where
@@ -56,7 +58,7 @@ pub record MadeFrom (image after : List ℕ) (answer : Located) (start : ℕ) (p
   pub found : lookup (nodesIn after) start path ≡ At number
   pub kind : isDirectory (getD (nodesIn after) number none) ≡ true
 
-module _ (image : List ℕ) (words bytes : ℕ) (b : AllBytes image) where
+module _ (totals : Totals) (image : List ℕ) (words bytes : ℕ) (b : AllBytes image) where
   nested : opening image words ≡ Passed → Nested (nodesIn image)
   nested e = well-nested (nodesIn image) (opened image words e b .well)
 
@@ -75,25 +77,23 @@ module _ (image : List ℕ) (words bytes : ℕ) (b : AllBytes image) where
       }
 
   -- THEOREM: an accepted insert of a file
-  pub inserted-file : (p : ℕ) (nm : List ℕ) → verdictOf (insertFile p nm) image words bytes ≡ Passed →
-      Inserted image (imageAfter (insertFile p nm) image words bytes) (answerOf (insertFile p nm) image words bytes) p (emptyFile nm)
-  unfolding verdictOf
+  pub inserted-file : (p : ℕ) (nm : List ℕ) → verdictOf (insertFile p nm) totals image words bytes ≡ Passed →
+      Inserted image (imageAfter (insertFile p nm) totals image words bytes) (answerOf (insertFile p nm) totals image words bytes) p (emptyFile nm)
   inserted-file p nm v =
-      let o = first-passed (opening image words) _ v in
-      let t = passed-plan (insertVerdict (nodesIn image) p nm) (change (newNumber (nodesIn image) p) (tableOnly (insertAt p (emptyFile nm) (nodesIn image)))) image words bytes (o .1) in
-      inserted (imageAfter (insertFile p nm) image words bytes) _ p (emptyFile nm) (o .0) (t .0) (omega arith, omega arith) (rw (v, t .2))
-      (tree-after (insertFile p nm) image words bytes b tt v ∙ ap (λ (x : Plan). planTree x (nodesIn image)) (t .2))
+      let o = accepted (insertFile p nm) totals image words bytes v in
+      let t = passed-plan (insertVerdict (nodesIn image) p nm) (change (newNumber (nodesIn image) p) (tableOnly (insertAt p (emptyFile nm) (nodesIn image)))) image words bytes (o .own) in
+      inserted (imageAfter (insertFile p nm) totals image words bytes) _ p (emptyFile nm) (o .opens) (t .0) (omega arith, omega arith) (rw (v, t .2))
+      (tree-after (insertFile p nm) totals image words bytes b tt v ∙ ap (λ (x : Plan). planTree x (nodesIn image)) (t .2))
 
   -- THEOREM: and of a directory
-  pub inserted-directory : (p : ℕ) (nm : List ℕ) → verdictOf (insertDirectory p nm) image words bytes ≡ Passed →
-      Inserted image (imageAfter (insertDirectory p nm) image words bytes) (answerOf (insertDirectory p nm) image words bytes) p (emptyDirectory nm (newNumber (nodesIn image) p))
-  unfolding verdictOf
+  pub inserted-directory : (p : ℕ) (nm : List ℕ) → verdictOf (insertDirectory p nm) totals image words bytes ≡ Passed →
+      Inserted image (imageAfter (insertDirectory p nm) totals image words bytes) (answerOf (insertDirectory p nm) totals image words bytes) p (emptyDirectory nm (newNumber (nodesIn image) p))
   inserted-directory p nm v =
       let q : ℕ = newNumber (nodesIn image) p in
-      let o = first-passed (opening image words) _ v in
-      let t = passed-plan (insertVerdict (nodesIn image) p nm) (change q (tableOnly (insertAt p (emptyDirectory nm q) (nodesIn image)))) image words bytes (o .1) in
-      inserted (imageAfter (insertDirectory p nm) image words bytes) _ p (emptyDirectory nm q) (o .0) (t .0) refl (rw (v, t .2))
-      (tree-after (insertDirectory p nm) image words bytes b tt v ∙ ap (λ (x : Plan). planTree x (nodesIn image)) (t .2))
+      let o = accepted (insertDirectory p nm) totals image words bytes v in
+      let t = passed-plan (insertVerdict (nodesIn image) p nm) (change q (tableOnly (insertAt p (emptyDirectory nm q) (nodesIn image)))) image words bytes (o .own) in
+      inserted (imageAfter (insertDirectory p nm) totals image words bytes) _ p (emptyDirectory nm q) (o .opens) (t .0) refl (rw (v, t .2))
+      (tree-after (insertDirectory p nm) totals image words bytes b tt v ∙ ap (λ (x : Plan). planTree x (nodesIn image)) (t .2))
 
   made-as : (start : ℕ) (path : List ℕ) (m : Made) → opening image words ≡ Passed → make (nodesIn image) [] start false (components path) ≡ m → start < length (nodesIn image) →
       planVerdict (planMade m) image words bytes ≡ Passed → (after : List ℕ) → nodesIn after ≡ planTree (planMade m) (nodesIn image) → (answer : Located) → answer ≡ At (planNumber (planMade m)) →
@@ -105,14 +105,14 @@ module _ (image : List ℕ) (words bytes : ℕ) (b : AllBytes image) where
       record { number = k; answered = a; tree = t ∙ rw q; found = rw t (f .0); kind = rw t (f .1) }
 
   -- THEOREM: an accepted make-directories
-  pub made-directories : (start : ℕ) (path : List ℕ) → verdictOf (makeDirectories start path) image words bytes ≡ Passed →
-      MadeFrom image (imageAfter (makeDirectories start path) image words bytes) (answerOf (makeDirectories start path) image words bytes) start path
-  unfolding verdictOf planMakeDirectories
+  pub made-directories : (start : ℕ) (path : List ℕ) → verdictOf (makeDirectories start path) totals image words bytes ≡ Passed →
+      MadeFrom image (imageAfter (makeDirectories start path) totals image words bytes) (answerOf (makeDirectories start path) totals image words bytes) start path
+  unfolding planMakeDirectories
   made-directories start path v =
       let nodes : List Node = nodesIn image in
-      let o = first-passed (opening image words) _ v in
-      let t = passed-plan (refuse (ltb 1024 (length path)) LimitOrMemory (refuse (leb (length nodes) start) NoSuchEntry Passed)) (planMade (make nodes [] start false (components path))) image words bytes (o .1) in
+      let o = accepted (makeDirectories start path) totals image words bytes v in
+      let t = passed-plan (refuse (ltb 1024 (length path)) LimitOrMemory (refuse (leb (length nodes) start) NoSuchEntry Passed)) (planMade (make nodes [] start false (components path))) image words bytes (o .own) in
       let v₁ = refuse-passed (ltb 1024 (length path)) LimitOrMemory _ (t .0) in
       let v₂ = refuse-passed (leb (length nodes) start) NoSuchEntry Passed (v₁ .1) in
-      made-as start path (make nodes [] start false (components path)) (o .0) refl (leb-false _ _ (v₂ .0)) (t .1) (imageAfter (makeDirectories start path) image words bytes)
-      (tree-after (makeDirectories start path) image words bytes b tt v ∙ ap (λ (x : Plan). planTree x nodes) (t .2)) _ (rw (v, t .2))
+      made-as start path (make nodes [] start false (components path)) (o .opens) refl (leb-false _ _ (v₂ .0)) (t .1) (imageAfter (makeDirectories start path) totals image words bytes)
+      (tree-after (makeDirectories start path) totals image words bytes b tt v ∙ ap (λ (x : Plan). planTree x nodes) (t .2)) _ (rw (v, t .2))

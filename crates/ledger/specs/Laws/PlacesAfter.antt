@@ -27,9 +27,11 @@ use Rattle.free_space.specs.MaxRegionSize.{maxRegionSize}
 use Rattle.free_space.specs.Allocate.{allocationOf}
 use Rattle.free_space.specs.Laws.AllocateLaws.{found-region}
 use Rattle.header.specs.Verdicts.{discEnd}
-use Rattle.opening.specs.Opening.{nodesIn, usedIn, freeOf, regionOf, opening}
+use Rattle.totals.specs.declared.Totals.{Totals}
+use Rattle.opening.specs.Opening.{nodesIn, usedIn, freeOf, regionOf}
 use Rattle.edits.specs.Change.{Plan, nothing, change, filled}
 use Rattle.edits.specs.Edits.{moveFile, resizeFile, fillFile, planned, fileVerdict, relocated, relocateVerdict, planMove, resized, planElsewhere, clipVerdict, planResize, planFill, planVerdict, planTree, verdictOf, imageAfter}
+use Rattle.edits.specs.Laws.Accepted.{accepted}
 use Rattle.ledger.specs.Laws.TreeAfter.{tree-after}
 
 -- entry k of the tree afterwards is a file at this place, and every other entry is as it was
@@ -61,7 +63,7 @@ same-place : (nodes : List Node) (k : ℕ) (nm : List ℕ) (o n : ℕ) → getD 
 unfolding setPlace
 same-place nodes k nm o n e = rw e (rw e at (set-getD nodes k none))
 
-module _ (image : List ℕ) (words bytes : ℕ) (b : AllBytes image) (k : ℕ) (nm : List ℕ) (offset size : ℕ) (here : getD (nodesIn image) k none ≡ file nm offset size) where
+module _ (totals : Totals) (image : List ℕ) (words bytes : ℕ) (b : AllBytes image) (k : ℕ) (nm : List ℕ) (offset size : ℕ) (here : getD (nodesIn image) k none ≡ file nm offset size) where
   place-is : regionOf (getD (nodesIn image) k none) ≡ record { offset = offset; size = size }
   place-is = rw here
 
@@ -72,16 +74,16 @@ module _ (image : List ℕ) (words bytes : ℕ) (b : AllBytes image) (k : ℕ) (
   }
 
   -- THEOREM: an accepted move of the file to `to`
-  pub moved : (to : ℕ) → to < 2 ^ 32 → verdictOf (moveFile k to) image words bytes ≡ Passed → PlacedAt image (imageAfter (moveFile k to) image words bytes) k nm to size
-  unfolding verdictOf planMove
+  pub moved : (to : ℕ) → to < 2 ^ 32 → verdictOf (moveFile k to) totals image words bytes ≡ Passed → PlacedAt image (imageAfter (moveFile k to) totals image words bytes) k nm to size
+  unfolding planMove
   moved to h v =
       let old : DiscRegion = regionOf (getD (nodesIn image) k none) in
       let new : DiscRegion = record { offset = to; size = old .size } in
       let t = first (fileVerdict (nodesIn image) k) (relocateVerdict (freeOf image) old new) in
-      let p = passed-plan t (change k (relocated (nodesIn image) k old new)) image words bytes (first-passed (opening image words) _ v .1) in
-      let e : nodesIn (imageAfter (moveFile k to) image words bytes) ≡ setPlace k to size (nodesIn image) =
-      tree-after (moveFile k to) image words bytes b h v ∙ ap (λ (x : Plan). planTree x (nodesIn image)) (p .2) ∙ rw here in
-      placed-at (imageAfter (moveFile k to) image words bytes) to size (file-number (nodesIn image) k (first-passed (fileVerdict (nodesIn image) k) _ (p .0) .0)) e
+      let p = passed-plan t (change k (relocated (nodesIn image) k old new)) image words bytes (accepted (moveFile k to) totals image words bytes v .own) in
+      let e : nodesIn (imageAfter (moveFile k to) totals image words bytes) ≡ setPlace k to size (nodesIn image) =
+      tree-after (moveFile k to) totals image words bytes b h v ∙ ap (λ (x : Plan). planTree x (nodesIn image)) (p .2) ∙ rw here in
+      placed-at (imageAfter (moveFile k to) totals image words bytes) to size (file-number (nodesIn image) k (first-passed (fileVerdict (nodesIn image) k) _ (p .0) .0)) e
 
   -- ---- a resize
 
@@ -129,23 +131,23 @@ module _ (image : List ℕ) (words bytes : ℕ) (b : AllBytes image) (k : ℕ) (
         away r q (leb-false n size (o .0)) (leb-false n _ (o .1)) (w ∙ ap (λ (x : Plan). planTree x (nodesIn image)) (p .2))
 
   -- THEOREM: an accepted resize of the file to n bytes
-  pub sized : (n : ℕ) → n < 2 ^ 32 → verdictOf (resizeFile k n) image words bytes ≡ Passed → ResizedTo image (imageAfter (resizeFile k n) image words bytes) k nm offset size n
-  unfolding verdictOf planResize
+  pub sized : (n : ℕ) → n < 2 ^ 32 → verdictOf (resizeFile k n) totals image words bytes ≡ Passed → ResizedTo image (imageAfter (resizeFile k n) totals image words bytes) k nm offset size n
+  unfolding planResize
   sized n h v =
-      let after : List ℕ = imageAfter (resizeFile k n) image words bytes in
-      let p = passed-plan (fileVerdict (nodesIn image) k) _ image words bytes (first-passed (opening image words) _ v .1) in
-      let t = tree-after (resizeFile k n) image words bytes b h v ∙ ap (λ (x : Plan). planTree x (nodesIn image)) (p .2) in
+      let after : List ℕ = imageAfter (resizeFile k n) totals image words bytes in
+      let p = passed-plan (fileVerdict (nodesIn image) k) _ image words bytes (accepted (resizeFile k n) totals image words bytes v .own) in
+      let t = tree-after (resizeFile k n) totals image words bytes b h v ∙ ap (λ (x : Plan). planTree x (nodesIn image)) (p .2) in
       by-cases n after (file-number (nodesIn image) k (p .0)) (eqb n size) refl (leb n size || leb n (maxRegionSize offset size (freeOf image))) refl (allocationOf 0x8000 n (freeOf image)) refl
       (rw place-is at (p .1)) (rw place-is at t)
 
   -- THEOREM: an accepted fill of the file: it lies where a resize to the clip's length would leave it
-  pub filled-to : (clip : List ℕ) → AllBytes clip → verdictOf (fillFile k clip) image words bytes ≡ Passed → ResizedTo image (imageAfter (fillFile k clip) image words bytes) k nm offset size (length clip)
-  unfolding verdictOf planResize planFill
+  pub filled-to : (clip : List ℕ) → AllBytes clip → verdictOf (fillFile k clip) totals image words bytes ≡ Passed → ResizedTo image (imageAfter (fillFile k clip) totals image words bytes) k nm offset size (length clip)
+  unfolding planResize planFill
   filled-to clip c v =
       let n : ℕ = length clip in
-      let after : List ℕ = imageAfter (fillFile k clip) image words bytes in
-      let f = passed-plan (clipVerdict (nodesIn image) k n) (filled k clip (planResize (freeOf image) (nodesIn image) k n)) image words bytes (first-passed (opening image words) _ v .1) in
+      let after : List ℕ = imageAfter (fillFile k clip) totals image words bytes in
+      let f = passed-plan (clipVerdict (nodesIn image) k n) (filled k clip (planResize (freeOf image) (nodesIn image) k n)) image words bytes (accepted (fillFile k clip) totals image words bytes v .own) in
       let p = passed-plan (fileVerdict (nodesIn image) k) _ image words bytes (f .1) in
-      let t = tree-after (fillFile k clip) image words bytes b c v ∙ ap (λ (x : Plan). planTree x (nodesIn image)) (f .2) ∙ ap (λ (x : Plan). planTree x (nodesIn image)) (p .2) in
+      let t = tree-after (fillFile k clip) totals image words bytes b c v ∙ ap (λ (x : Plan). planTree x (nodesIn image)) (f .2) ∙ ap (λ (x : Plan). planTree x (nodesIn image)) (p .2) in
       by-cases n after (file-number (nodesIn image) k (p .0)) (eqb n size) refl (leb n size || leb n (maxRegionSize offset size (freeOf image))) refl (allocationOf 0x8000 n (freeOf image)) refl
       (rw place-is at (p .1)) (rw place-is at t)

@@ -32,9 +32,9 @@ pub program-along : (w : ℕ) (calls : List Call) (image : List ℕ) (l : Ledger
 unfolding imageAfterAll
 program-along w [] image l a k = nothing-done image
 program-along w (c ∷ calls) image l a k =
-    let next : List ℕ = imageAfter (c .edit) image (c .words) (c .bytes) in
-    kept-trans image next (imageAfterAll calls next) (program-after (c .edit) image (c .words) (c .bytes) (k .bytes) (a .1))
-    (program-along w calls next (cond (not (isRefused (verdictOf (c .edit) image (c .words) (c .bytes)))) (entered (c .edit) l) l) (a .2) (step w image l k (c .words) (c .bytes) (a .0) (c .edit) (a .1)))
+    let next : List ℕ = imageAfter (c .edit) (c .totals) image (c .words) (c .bytes) in
+    kept-trans image next (imageAfterAll calls next) (program-after (c .edit) (c .totals) image (c .words) (c .bytes) (k .bytes) (a .1))
+    (program-along w calls next (cond (not (isRefused (verdictOf (c .edit) (c .totals) image (c .words) (c .bytes)))) (entered (c .edit) l) l) (a .2) (step w image l k (c .words) (c .bytes) (a .0) (c .totals) (c .edit) (a .1)))
 
 -- ---- what it comes to
 

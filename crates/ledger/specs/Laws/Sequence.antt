@@ -51,8 +51,8 @@ pub along : (w : ℕ) (calls : List Call) (image : List ℕ) (l : Ledger) → Al
 unfolding imageAfterAll reportsOf ledgerAfter
 along w [] image l a k = k
 along w (c ∷ calls) image l a k =
-    along w calls (imageAfter (c .edit) image (c .words) (c .bytes)) (cond (not (isRefused (verdictOf (c .edit) image (c .words) (c .bytes)))) (entered (c .edit) l) l) (a .2)
-    (step w image l k (c .words) (c .bytes) (a .0) (c .edit) (a .1))
+    along w calls (imageAfter (c .edit) (c .totals) image (c .words) (c .bytes)) (cond (not (isRefused (verdictOf (c .edit) (c .totals) image (c .words) (c .bytes)))) (entered (c .edit) l) l) (a .2)
+    (step w image l k (c .words) (c .bytes) (a .0) (c .totals) (c .edit) (a .1))
 
 -- ---- what it comes to
 

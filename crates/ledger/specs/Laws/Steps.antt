@@ -6,9 +6,9 @@ use mathlib.Core.List.{List}
 use Rattle.refusal.specs.declared.Verdict.{Verdict}
 use Rattle.refusal.specs.declared.Verdict.the-variants.{Passed, Refused}
 use Rattle.refusal.specs.Refusal.{isRefused}
-use Rattle.refusal.specs.Laws.Chains.{first-passed}
-use Rattle.opening.specs.Opening.{opening}
-use Rattle.edits.specs.Edits.{Edit, insertFile, insertDirectory, makeDirectories, moveFile, resizeFile, fillFile, rewrite, planOf, planVerdict, verdictOf, planImage, imageAfter}
+use Rattle.totals.specs.declared.Totals.{Totals}
+use Rattle.edits.specs.Edits.{Edit, insertFile, insertDirectory, makeDirectories, moveFile, resizeFile, fillFile, rewrite, planOf, verdictOf, planImage, imageAfter}
+use Rattle.edits.specs.Laws.Accepted.{accepted}
 use Rattle.ledger.specs.Ledger.{Ledger, entered}
 use Rattle.ledger.specs.Runs.{Passable}
 use Rattle.ledger.specs.Laws.Kept.{Kept}
@@ -18,7 +18,8 @@ use Rattle.ledger.specs.Laws.PlaceEdits.{step-move, step-resize}
 use Rattle.ledger.specs.Laws.FillEdits.{step-fill}
 
 module _ (w : ℕ) (image : List ℕ) (l : Ledger) (K : Kept w image l) (words bytes : ℕ) (lent : words ≤ w) where
-  step-accepted : (ed : Edit) → Passable ed → Good w image words bytes (planOf ed image) (entered ed l)
+  -- LAW: a plan whose own tests pass keeps what holds
+  pub step-accepted : (ed : Edit) → Passable ed → Good w image words bytes (planOf ed image) (entered ed l)
   step-accepted (insertFile p nm) h = step-insert-file w image l K words bytes lent p nm
   step-accepted (insertDirectory p nm) h = step-insert-directory w image l K words bytes lent p nm
   step-accepted (makeDirectories start path) h = step-make-directories w image l K words bytes lent start path
@@ -28,13 +29,10 @@ module _ (w : ℕ) (image : List ℕ) (l : Ledger) (K : Kept w image l) (words b
   step-accepted rewrite h = step-rewrite w image l K words bytes lent
 
   -- LAW: a call keeps what holds; a refused one changes neither image nor ledger
-  pub step : (ed : Edit) → Passable ed → Kept w (imageAfter ed image words bytes) (cond (not (isRefused (verdictOf ed image words bytes))) (entered ed l) l)
+  pub step : (totals : Totals) (ed : Edit) → Passable ed → Kept w (imageAfter ed totals image words bytes) (cond (not (isRefused (verdictOf ed totals image words bytes))) (entered ed l) l)
   unfolding imageAfter
-  step ed h = go (verdictOf ed image words bytes) refl
+  step totals ed h = go (verdictOf ed totals image words bytes) refl
     where
-      go : (v : Verdict) → verdictOf ed image words bytes ≡ v → Kept w (cond (isRefused v) image (planImage (planOf ed image) image)) (cond (not (isRefused v)) (entered ed l) l)
-      go Passed e = step-accepted ed h (own e)
-        where
-          own : verdictOf ed image words bytes ≡ Passed → planVerdict (planOf ed image) image words bytes ≡ Passed
-          own = unfold verdictOf in λ q. first-passed (opening image words) _ q .1
+      go : (v : Verdict) → verdictOf ed totals image words bytes ≡ v → Kept w (cond (isRefused v) image (planImage (planOf ed image) image)) (cond (not (isRefused v)) (entered ed l) l)
+      go Passed e = step-accepted ed h (accepted ed totals image words bytes e .own)
       go (Refused c) e = K

@@ -30,7 +30,7 @@ pub record Safe (c : Change) (image : List ℕ) : Type 0 where
   pub bounds : Bounded image
   pub well : WellFormed (c .nodes)
   pub table : newEnd c image ≤ discEnd image
-  pub copied : 0 < c .kept → (tableEnd image ≤ c .place .offset) × (newEnd c image ≤ c .place .offset) × (c .place .offset + c .kept ≤ discEnd image) × (c .source + c .kept ≤ discEnd image)
+  pub copied : 0 < c .kept → (tableEnd image ≤ c .place .offset) × (newEnd c image ≤ c .place .offset) × (c .place .offset + c .kept ≤ discEnd image) × (c .old .offset + c .kept ≤ discEnd image)
   pub zeroed : 0 < c .lost .size → (tableEnd image ≤ c .lost .offset) × (newEnd c image ≤ c .lost .offset) × (c .lost .offset + c .lost .size ≤ discEnd image)
 
 length-padded : (tab : List ℕ) (n : ℕ) → length (padded tab n) ≡ length tab + (n - length tab)
@@ -39,7 +39,7 @@ length-padded tab n = length-append tab (replicate (n - length tab) 0) ∙ ap (�
 -- ---- the image after each of the four writes
 
 abbrev image₁ : Change → List ℕ → List ℕ
-image₁ c image = put image (c .place .offset) (span image (c .source) (c .kept))
+image₁ c image = put image (c .place .offset) (span image (c .old .offset) (c .kept))
 
 abbrev image₂ : Change → List ℕ → List ℕ
 image₂ c image = put (image₁ c image) (fstOffset image) (padded (encode (c .nodes)) (fstSize image))
@@ -52,20 +52,20 @@ unfolding written withTable
 is-written c image = refl
 
 module _ (c : Change) (image : List ℕ) (s : Safe c image) where
-  source-fits : Fits image (c .source) (c .kept)
+  source-fits : Fits image (c .old .offset) (c .kept)
   source-fits h = omega (arith, s .copied h .3, s .bounds .image-holds)
 
-  copy-length : length (span image (c .source) (c .kept)) ≡ c .kept
-  copy-length = span-length image (c .source) (c .kept) source-fits
+  copy-length : length (span image (c .old .offset) (c .kept)) ≡ c .kept
+  copy-length = span-length image (c .old .offset) (c .kept) source-fits
 
-  fits₁ : Fits image (c .place .offset) (length (span image (c .source) (c .kept)))
+  fits₁ : Fits image (c .place .offset) (length (span image (c .old .offset) (c .kept)))
   fits₁ h = let z : 0 < c .kept = rw copy-length at h in omega (arith, copy-length, s .copied z .2, s .bounds .image-holds)
 
   length₁ : length (image₁ c image) ≡ length image
-  length₁ = put-length image (c .place .offset) (span image (c .source) (c .kept)) fits₁
+  length₁ = put-length image (c .place .offset) (span image (c .old .offset) (c .kept)) fits₁
 
   all₁ : AllBytes (image₁ c image)
-  all₁ = put-all image (c .place .offset) (span image (c .source) (c .kept)) fits₁ (s .bytes) (span-bytes image (c .source) (c .kept) (s .bytes))
+  all₁ = put-all image (c .place .offset) (span image (c .old .offset) (c .kept)) fits₁ (s .bytes) (span-bytes image (c .old .offset) (c .kept) (s .bytes))
 
   fits₂ : fstOffset image + length (padded (encode (c .nodes)) (fstSize image)) ≤ length (image₁ c image)
   fits₂ = rw length₁ (omega (arith, length-padded (encode (c .nodes)) (fstSize image), s .table, s .bounds .table, s .bounds .image-holds))
@@ -102,7 +102,7 @@ module _ (c : Change) (image : List ℕ) (s : Safe c image) where
 
   -- a byte of the image after each write
   at₁ : (i : ℕ) → (0 < c .kept → Outside (c .place .offset) (c .kept) i) → getD (image₁ c image) i 0 ≡ getD image i 0
-  at₁ i o = put-else image (c .place .offset) (span image (c .source) (c .kept)) fits₁ i (λ h. rw copy-length (o (rw copy-length at h)))
+  at₁ i o = put-else image (c .place .offset) (span image (c .old .offset) (c .kept)) fits₁ i (λ h. rw copy-length (o (rw copy-length at h)))
 
   below₂ : (i : ℕ) → i < fstOffset image → getD (image₂ c image) i 0 ≡ getD (image₁ c image) i 0
   below₂ i h = put-before (image₁ c image) (fstOffset image) (padded (encode (c .nodes)) (fstSize image)) fits₂ i h
@@ -199,10 +199,10 @@ module _ (c : Change) (image : List ℕ) (s : Safe c image) where
   rest-written i h k p l = at₄ i l ∙ behind₃ i (omega (arith, s .bounds .after-header)) ∙ behind₂ i h k ∙ at₁ i p
 
   pub copy-written : (i : ℕ) → i < c .kept → (0 < c .lost .size → Outside (c .lost .offset) (c .lost .size) (c .place .offset + i)) →
-      getD (written c image) (c .place .offset + i) 0 ≡ getD image (c .source + i) 0
+      getD (written c image) (c .place .offset + i) 0 ≡ getD image (c .old .offset + i) 0
   copy-written i h l =
       let z : 0 < c .kept = omega arith in
       let t : tableEnd image ≤ c .place .offset = s .copied z .0 in
       let t′ : newEnd c image ≤ c .place .offset = s .copied z .1 in
       at₄ (c .place .offset + i) l ∙ behind₃ (c .place .offset + i) (omega (arith, s .bounds .after-header)) ∙ behind₂ (c .place .offset + i) (omega arith) (omega arith)
-      ∙ put-in image (c .place .offset) (span image (c .source) (c .kept)) (fits₁ (rw copy-length z)) i (rw copy-length h) ∙ getD-span image (c .source) (c .kept) i h
+      ∙ put-in image (c .place .offset) (span image (c .old .offset) (c .kept)) (fits₁ (rw copy-length z)) i (rw copy-length h) ∙ getD-span image (c .old .offset) (c .kept) i h

@@ -14,17 +14,19 @@ use Rattle.header.specs.Verdicts.{fieldVerdict, fieldsVerdict, headerVerdict, b
 use Rattle.tree.specs.Units.{units}
 use Rattle.tree.specs.Table.{file, directory, plain, safe, count, nameAt, nodeAt, nodesFrom, nodesOf, entryVerdict, entriesVerdict, unended, shut, nameVerdict, nextVerdict, walk, check, parentBelow, parentOf, entriesBytes, textsOf, encode, shallowFrom, shallow, limits}
 use Rattle.tree.specs.Insert.{setPlace}
-use Rattle.space.specs.Used.{usesByte, nonempty}
+use Rattle.space.specs.Used.{usesByte, nonempty, totalSize}
 use Rattle.space.specs.Layout.{disjoint, disjointFromAll, pairwiseDisjoint, endBy, disjointBelow}
 use Rattle.space.specs.Free.{runs, freeRegions}
 use Rattle.space.specs.Align.{alignUp}
 use Rattle.free_space.specs.MaxRegionSize.{besideFree, maxSizeFrom}
 use Rattle.free_space.specs.Allocate.{betterOf, largest, powers, allocationOf}
+use Rattle.totals.specs.Totals.{totalsVerdict}
 use Rattle.program.specs.Program.{programOf, programIn, ownRegion}
-use Rattle.opening.specs.Opening.{tableOf, nodesIn, opening, freeOf, usedIn, behindTable, layoutVerdict}
+use Rattle.opening.specs.Opening.{tableOf, nodesIn, opening, freeOf, usedOf, usedIn, behindTable, layoutVerdict}
 use Rattle.edits.specs.Change.{withTable, written, tableVerdict, placeVerdict}
-use Rattle.edits.specs.Edits.{fillFile, planResize, planFill, verdictOf, imageAfter}
-use Rattle.small_master.specs.Laws.Worked.{verdictOn, after, small, large, ofB, large-opens, large-nodes, large-free, large-header, grown}
+use Rattle.edits.specs.Edits.{fillFile, planResize, planFill, countedVerdict, verdictOf, imageAfter}
+use Rattle.disc.specs.Calls.{totalsOf}
+use Rattle.small_master.specs.Laws.Worked.{verdictOn, after, small, large, ofB, large-opens, large-nodes, large-free, large-used, large-header, grown}
 
 abbrev three : List ℕ
 three = 0x11 ∷ 0x12 ∷ 0x13 ∷ []
@@ -39,7 +41,7 @@ twelve = eight ++ (0x31 ∷ 0x32 ∷ 0x33 ∷ 0x34 ∷ [])
 
 pub record Fills : Type 0 where
   -- the file's own size: the clip alone is written, and no working byte is wanted; the table keeps its lost tail
-  pub same : (verdictOf (fillFile 1 eight) small 20 0 ≡ verdict.Passed) × (imageAfter (fillFile 1 eight) small 20 0 ≡ put small 0x500 eight)
+  pub same : (verdictOf (fillFile 1 eight) (totalsOf small 0) small 20 0 ≡ verdict.Passed) × (imageAfter (fillFile 1 eight) (totalsOf small 0) small 20 0 ≡ put small 0x500 eight)
   -- shorter: the old tail is zeroed
   pub shorter : (verdictOn (fillFile 1 three) small ≡ verdict.Passed) × (span (after (fillFile 1 three) small) 0x500 12 ≡ three ++ (replicate 5 0 ++ ofB))
   -- none: a resize to 0
@@ -49,14 +51,14 @@ pub record Fills : Type 0 where
   -- as far as it can grow, and one byte more: no multiple of 0x8000 is free
   pub most : (verdictOn (fillFile 2 (replicate 0xF8 1)) small ≡ verdict.Passed) × (verdictOn (fillFile 2 (replicate 0xF9 1)) small ≡ verdict.Refused NotEnoughSpace) × (numberOf NotEnoughSpace ≡ 21)
   -- one working byte too few for the table: nothing is written
-  pub table : (verdictOf (fillFile 1 three) small 20 39 ≡ verdict.Refused LimitOrMemory) × (imageAfter (fillFile 1 three) small 20 39 ≡ small)
+  pub table : (verdictOf (fillFile 1 three) (totalsOf small 0) small 20 39 ≡ verdict.Refused LimitOrMemory) × (imageAfter (fillFile 1 three) (totalsOf small 0) small 20 39 ≡ small)
   -- above 2^32 - 1 bytes
   pub longest : (clip : List ℕ) → 0xFFFFFFFF < length clip → verdictOn (fillFile 1 clip) small ≡ verdict.Refused NotEnoughSpace
   -- 15, 16
   pub refused : (verdictOn (fillFile 3 three) small ≡ verdict.Refused NoSuchEntry) × (verdictOn (fillFile 0 three) small ≡ verdict.Refused ExpectedFile)
 
 pub fills : Fills
-unfolding small planResize planFill put opening layoutVerdict headerVerdict fieldsVerdict fieldVerdict fields boundsVerdict tableOf check nodesIn nodesOf nodesFrom nodeAt nameAt count entriesVerdict entryVerdict unended walk nameVerdict nextVerdict shut plain safe be24 be32 usedIn behindTable programOf programIn ownRegion nonempty disjointBelow pairwiseDisjoint disjointFromAll disjoint endBy freeOf freeRegions runs usesByte imageAfter verdictOf tableVerdict placeVerdict limits shallow shallowFrom textsOf encode entriesBytes parentOf parentBelow setPlace written withTable maxSizeFrom besideFree allocationOf powers largest betterOf alignUp units
+unfolding small planResize planFill put opening layoutVerdict headerVerdict fieldsVerdict fieldVerdict fields boundsVerdict tableOf check nodesIn nodesOf nodesFrom nodeAt nameAt count entriesVerdict entryVerdict unended walk nameVerdict nextVerdict shut plain safe be24 be32 usedIn behindTable programOf programIn ownRegion nonempty disjointBelow pairwiseDisjoint disjointFromAll disjoint endBy freeOf freeRegions runs usesByte usedOf totalSize totalsVerdict imageAfter verdictOf countedVerdict tableVerdict placeVerdict limits shallow shallowFrom textsOf encode entriesBytes parentOf parentBelow setPlace written withTable maxSizeFrom besideFree allocationOf powers largest betterOf alignUp units
 fills = record {
   same = (refl, refl);
   shorter = (refl, refl);
@@ -70,9 +72,13 @@ fills = record {
 
 -- ---- up to 0x8040: `a` cannot grow before `b`, and goes to 0x8000
 
+moved-used : usedOf (put grown 0x8000 twelve) ≡ 1144
+unfolding large put tableOf nodesIn nodesOf nodesFrom nodeAt nameAt count be24 be32 textsOf encode entriesBytes parentOf parentBelow written withTable usedOf behindTable programOf programIn ownRegion totalSize
+moved-used = refl
+
 moves : verdictOn (fillFile 1 twelve) large ≡ verdict.Passed
-unfolding verdictOf planFill planResize maxSizeFrom besideFree allocationOf powers largest betterOf alignUp tableVerdict placeVerdict limits shallow shallowFrom shut textsOf encode entriesBytes parentOf parentBelow setPlace
-moves = rw (large-opens, large-nodes, large-free, large-header .0, large-header .1, large-free)
+unfolding verdictOf countedVerdict totalsVerdict planFill planResize maxSizeFrom besideFree allocationOf powers largest betterOf alignUp tableVerdict placeVerdict limits shallow shallowFrom shut textsOf encode entriesBytes parentOf parentBelow setPlace
+moves = rw (large-opens, large-nodes, large-free, large-header .0, large-header .1, large-free, large-used, moved-used)
 
 moved-is : after (fillFile 1 twelve) large ≡ put grown 0x8000 twelve
 unfolding imageAfter planFill planResize maxSizeFrom besideFree allocationOf powers largest betterOf alignUp setPlace

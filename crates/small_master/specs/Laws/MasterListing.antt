@@ -3,18 +3,15 @@ use Prim.Native.Nat.{ℕ}
 use mathlib.Core.Path.{_≡_, refl, _∙_}
 use mathlib.Core.List.{List, [], _∷_, _++_}
 use lib.ListN.{length}
-use Rattle.endian.specs.Bytes.{be24, be32, put}
-use Rattle.tree.specs.Table.{Node, file, directory, count, nameAt, nodeAt, nodesFrom, nodesOf, parentBelow, parentOf}
+use Rattle.endian.specs.Bytes.{put}
+use Rattle.tree.specs.Table.{Node, file, directory, parentBelow, parentOf}
 use Rattle.space.specs.declared.DiscRegion.{DiscRegion}
-use Rattle.space.specs.Used.{totalSize}
-use Rattle.program.specs.Program.{programOf, programIn, ownRegion}
-use Rattle.opening.specs.Opening.{tableOf, nodesIn, usedOf, behindTable}
 use Rattle.listing.specs.declared.Listed.the-variants.{Text}
 use Rattle.listing_text.specs.Lines.{totalsLine, pathWithin, entryLine, entryLines, regionLines}
 use Rattle.text_buffer.specs.Decimal.{digits}
 use Rattle.listing.specs.Listing.{listingText, listingVerdict, listAnswer, reportVerdict, reportText, reportAnswer}
 use Rattle.small_master.specs.Image.{master, masterWords}
-use Rattle.small_master.specs.Laws.Marked.{opens, nodes, header, free}
+use Rattle.small_master.specs.Laws.Marked.{opens, nodes, header, free, used}
 
 -- `total 8192 used 1370`
 abbrev totals : List ℕ
@@ -38,10 +35,6 @@ behindA = 0x72 ∷ 0x20 ∷ 0x31 ∷ 0x35 ∷ 0x33 ∷ 0x36 ∷ 0x20 ∷ 0x36 �
 
 abbrev pub listing : List ℕ
 listing = totals ++ (root ++ (fileA ++ (before ++ behindA)))
-
-used : usedOf master ≡ 1370
-unfolding master put tableOf nodesIn nodesOf nodesFrom nodeAt nameAt count be24 be32 usedOf behindTable programOf programIn ownRegion totalSize
-used = refl
 
 -- the entries and the free regions
 abbrev tree : List Node

@@ -22,12 +22,14 @@ use Rattle.space.specs.Free.{runs, freeRegions}
 use Rattle.space.specs.Align.{alignUp}
 use Rattle.free_space.specs.MaxRegionSize.{besideFree, maxSizeFrom}
 use Rattle.free_space.specs.Allocate.{betterOf, largest, powers, allocationOf}
+use Rattle.totals.specs.Totals.{totalsVerdict}
 use Rattle.dol.specs.Dol.{wordsAt, largestOf}
 use Rattle.program.specs.declared.Program.the-variants.{At}
 use Rattle.program.specs.Program.{programOf, programIn, ownRegion}
 use Rattle.opening.specs.Opening.{tableOf, nodesIn, behindTable, usedIn, layoutVerdict, opening, freeOf, usedOf}
-use Rattle.edits.specs.Change.{tableVerdict, placeVerdict}
-use Rattle.edits.specs.Edits.{insertFile, moveFile, resizeFile, rewrite, insertVerdict, planMove, planResize, verdictOf}
+use Rattle.edits.specs.Change.{withTable, written, tableVerdict, placeVerdict}
+use Rattle.edits.specs.Edits.{tableOnly, insertFile, moveFile, resizeFile, rewrite, insertVerdict, planMove, planResize, countedVerdict, verdictOf}
+use Rattle.disc.specs.Calls.{totalsOf}
 
 -- a disc that ends at 0x900, in an image of so many bytes: the table at `fst`, file `a` of 0x100 bytes at `place`, with this name's byte
 abbrev disc : ℕ → ℕ → ℕ → ℕ → List ℕ
@@ -90,7 +92,7 @@ pub free : freeOf one ≡ at 0x45A 0xA6 ∷ at 0x723 0x1DD ∷ []
 unfolding freeOf
 free = rw (used .0, header .2) runs-of-one
 
--- ---- edits keep off it; 40 working bytes are enough for three entries
+-- ---- edits keep off it; 40 working bytes are enough for three entries, and the record is one made of the image
 
 -- the table ends where the program begins
 unfoldable pub two : List ℕ
@@ -108,9 +110,9 @@ two-header : (fstOffset two ≡ 0x440) × (fstSize two ≡ 0x1A) × (discEnd two
 unfolding two put be32
 two-header = (refl, refl, refl)
 
-two-used : usedIn two ≡ at 0 0x45A ∷ at 0x45A 0xE4 ∷ at 0x600 0x100 ∷ []
-unfolding usedIn behindTable programIn ownRegion nonempty
-two-used = rw (two-nodes, two-opens .1, two-header .0, two-header .1)
+two-used : (usedIn two ≡ at 0 0x45A ∷ at 0x45A 0xE4 ∷ at 0x600 0x100 ∷ []) × (usedOf two ≡ 0x45A + 0xE4 + 0x100)
+unfolding usedIn usedOf behindTable programIn ownRegion nonempty totalSize
+two-used = (rw (two-nodes, two-opens .1, two-header .0, two-header .1), rw (two-nodes, two-opens .1, two-header .0, two-header .1))
 
 runs-of-two : freeRegions 0x900 (at 0 0x45A ∷ at 0x45A 0xE4 ∷ at 0x600 0x100 ∷ []) ≡ at 0x53E 0xC2 ∷ at 0x700 0x200 ∷ []
 unfolding freeRegions runs usesByte
@@ -118,23 +120,28 @@ runs-of-two = refl
 
 two-free : freeOf two ≡ at 0x53E 0xC2 ∷ at 0x700 0x200 ∷ []
 unfolding freeOf
-two-free = rw (two-used, two-header .2) runs-of-two
+two-free = rw (two-used .0, two-header .2) runs-of-two
+
+-- the table written as it is
+two-written : usedOf (written (tableOnly (directory [] 2 ∷ file (0x61 ∷ []) 0x600 0x100 ∷ [])) two) ≡ 0x45A + 0xE4 + 0x100
+unfolding two put tableOf nodesIn nodesOf nodesFrom nodeAt nameAt count be24 be32 textsOf encode entriesBytes parentOf parentBelow written withTable usedOf behindTable programOf programIn ownRegion wordsAt largestOf totalSize
+two-written = refl
 
 pub record Kept : Type 0 where
   -- `a` to where the program lies; grown into it, with no multiple of 0x8000 below the disc end
-  pub move-onto : verdictOf (moveFile 1 0x700) one 16 40 ≡ verdict.Refused NotEnoughSpace
-  pub grow-onto : verdictOf (resizeFile 1 0x101) one 16 40 ≡ verdict.Refused NotEnoughSpace
+  pub move-onto : verdictOf (moveFile 1 0x700) (totalsOf one 0) one 16 40 ≡ verdict.Refused NotEnoughSpace
+  pub grow-onto : verdictOf (resizeFile 1 0x101) (totalsOf one 0) one 16 40 ≡ verdict.Refused NotEnoughSpace
   -- a table that a program abuts may be written as it is, and may not grow
-  pub same-table : verdictOf rewrite two 20 40 ≡ verdict.Passed
-  pub grown-table : verdictOf (insertFile 0 (0x62 ∷ [])) two 20 40 ≡ verdict.Refused NotEnoughSpace
+  pub same-table : verdictOf rewrite (totalsOf two 0) two 20 40 ≡ verdict.Passed
+  pub grown-table : verdictOf (insertFile 0 (0x62 ∷ [])) (totalsOf two 0) two 20 40 ≡ verdict.Refused NotEnoughSpace
   pub twenty-one : numberOf NotEnoughSpace ≡ 21
 
 pub kept : Kept
-unfolding verdictOf planMove planResize insertVerdict insertAt splice childOf firstChild sameBytes plain safe maxSizeFrom besideFree allocationOf powers largest betterOf alignUp tableVerdict placeVerdict limits shallow shallowFrom shut textsOf encode entriesBytes parentOf parentBelow setPlace units
+unfolding verdictOf countedVerdict totalsVerdict planMove planResize insertVerdict insertAt splice childOf firstChild sameBytes plain safe maxSizeFrom besideFree allocationOf powers largest betterOf alignUp tableVerdict placeVerdict limits shallow shallowFrom shut textsOf encode entriesBytes parentOf parentBelow setPlace units
 kept = record {
   move-onto = rw (opened .at-file .0, nodes, free);
   grow-onto = rw (opened .at-file .0, nodes, free);
-  same-table = rw (two-opens .0, two-nodes, two-free, two-header .0, two-header .1);
+  same-table = rw (two-opens .0, two-nodes, two-free, two-header .0, two-header .1, two-used .1, two-written);
   grown-table = rw (two-opens .0, two-nodes, two-free, two-header .0, two-header .1);
   twenty-one = refl;
 }

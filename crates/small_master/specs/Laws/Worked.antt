@@ -16,16 +16,18 @@ use Rattle.tree.specs.Table.{file, directory, plain, safe, count, nameAt, nodeA
 use Rattle.tree.specs.Lookup.{firstChild, childOf}
 use Rattle.tree.specs.Insert.{setPlace}
 use Rattle.space.specs.declared.DiscRegion.{DiscRegion}
-use Rattle.space.specs.Used.{usesByte, nonempty}
+use Rattle.space.specs.Used.{usesByte, nonempty, totalSize}
 use Rattle.space.specs.Layout.{disjoint, disjointFromAll, pairwiseDisjoint, endBy, disjointBelow}
 use Rattle.space.specs.Free.{runs, freeRegions}
 use Rattle.free_space.specs.MaxRegionSize.{besideFree, maxSizeFrom}
 use Rattle.space.specs.Align.{alignUp}
 use Rattle.free_space.specs.Allocate.{betterOf, largest, powers, allocationOf}
+use Rattle.totals.specs.Totals.{totalsVerdict}
 use Rattle.program.specs.Program.{programOf, programIn, ownRegion}
-use Rattle.opening.specs.Opening.{tableOf, nodesIn, opening, freeOf, usedIn, behindTable, layoutVerdict}
+use Rattle.opening.specs.Opening.{tableOf, nodesIn, opening, freeOf, usedOf, usedIn, behindTable, layoutVerdict}
 use Rattle.edits.specs.Change.{withTable, written, tableVerdict, placeVerdict}
-use Rattle.edits.specs.Edits.{Edit, insertFile, insertDirectory, moveFile, resizeFile, rewrite, insertVerdict, planMove, planResize, verdictOf, imageAfter}
+use Rattle.edits.specs.Edits.{Edit, insertFile, insertDirectory, moveFile, resizeFile, rewrite, insertVerdict, planMove, planResize, countedVerdict, verdictOf, imageAfter}
+use Rattle.disc.specs.Calls.{totalsOf}
 
 -- ---- an image that ends at e: file `a` of 8 bytes at 0x500, `b` of 4 bytes right behind it; the table's last text, `zz`, is no entry's
 
@@ -49,12 +51,12 @@ abbrev imageTo : ℕ → List ℕ
 imageTo e =
     put (put (put (put (put (put (put (replicate e 0) (gcnMagicField .at) (be32Bytes gcnMagic)) (fstOffsetField .at) (be32Bytes 0x440)) (fstSizeField .at) (be32Bytes 43)) (userSizeField .at) (be32Bytes e)) 0x440 (entries ++ lost)) 0x500 ofA) 0x508 ofB
 
--- 20 working words are enough for three entries, and 40 working bytes for their table
+-- 20 working words are enough for three entries, and 40 working bytes for their table; the record is one made of the image
 abbrev pub verdictOn : Edit → List ℕ → Verdict
-verdictOn ed image = verdictOf ed image 20 40
+verdictOn ed image = verdictOf ed (totalsOf image 0) image 20 40
 
 abbrev pub after : Edit → List ℕ → List ℕ
-after ed image = imageAfter ed image 20 40
+after ed image = imageAfter ed (totalsOf image 0) image 20 40
 
 -- ---- up to 0x600
 
@@ -72,7 +74,7 @@ pub record Worked : Type 0 where
   pub exists : (verdictOn (insertFile 0 (0x62 ∷ [])) small ≡ verdict.Refused AlreadyExists) × (verdictOn (insertDirectory 0 (0x62 ∷ [])) small ≡ verdict.Refused AlreadyExists) × (numberOf AlreadyExists ≡ 19)
 
 pub worked : Worked
-unfolding small planMove planResize insertVerdict childOf firstChild sameBytes put opening layoutVerdict headerVerdict fieldsVerdict fieldVerdict fields boundsVerdict tableOf check nodesIn nodesOf nodesFrom nodeAt nameAt count entriesVerdict entryVerdict unended walk nameVerdict nextVerdict shut plain safe be24 be32 usedIn behindTable programOf programIn ownRegion nonempty disjointBelow pairwiseDisjoint disjointFromAll disjoint endBy freeOf freeRegions runs usesByte imageAfter verdictOf tableVerdict placeVerdict limits shallow shallowFrom textsOf encode entriesBytes parentOf parentBelow setPlace written withTable maxSizeFrom besideFree units
+unfolding small planMove planResize insertVerdict childOf firstChild sameBytes put opening layoutVerdict headerVerdict fieldsVerdict fieldVerdict fields boundsVerdict tableOf check nodesIn nodesOf nodesFrom nodeAt nameAt count entriesVerdict entryVerdict unended walk nameVerdict nextVerdict shut plain safe be24 be32 usedIn behindTable programOf programIn ownRegion nonempty disjointBelow pairwiseDisjoint disjointFromAll disjoint endBy freeOf freeRegions runs usesByte usedOf totalSize totalsVerdict imageAfter verdictOf countedVerdict tableVerdict placeVerdict limits shallow shallowFrom textsOf encode entriesBytes parentOf parentBelow setPlace written withTable maxSizeFrom besideFree units
 worked = record {
   moved = (refl, refl, refl);
   rewritten = (refl, refl, refl, refl);
@@ -100,23 +102,31 @@ pub large-free : freeOf large ≡ at 0x46B 0x95 ∷ at 0x50C 0x7B34 ∷ []
 unfolding large put tableOf nodesIn nodesOf nodesFrom nodeAt nameAt count be24 be32 freeOf usedIn behindTable programOf programIn ownRegion freeRegions runs usesByte nonempty
 large-free = refl
 
+pub large-used : usedOf large ≡ 1143
+unfolding large put tableOf nodesIn nodesOf nodesFrom nodeAt nameAt count be24 be32 usedOf behindTable programOf programIn ownRegion totalSize
+large-used = refl
+
 pub large-header : (fstOffset large ≡ 0x440) × (fstSize large ≡ 43)
 unfolding large put be32
 large-header = (refl, refl)
-
-grows : verdictOn (resizeFile 1 12) large ≡ verdict.Passed
-unfolding verdictOf planResize maxSizeFrom besideFree allocationOf powers largest betterOf alignUp tableVerdict placeVerdict limits shallow shallowFrom shut textsOf encode entriesBytes parentOf parentBelow setPlace
-grows = rw (large-opens, large-nodes, large-free, large-header .0, large-header .1, large-free)
 
 -- what is written then
 abbrev pub grown : List ℕ
 grown = written (record {
   nodes = directory [] 3 ∷ file (0x61 ∷ []) 0x8000 12 ∷ file (0x62 ∷ []) 0x508 4 ∷ [];
+  old = at 0x500 8;
   place = at 0x8000 12;
-  source = 0x500;
   kept = 8;
   lost = at 0x500 8;
 }) large
+
+grown-used : usedOf grown ≡ 1144
+unfolding large put tableOf nodesIn nodesOf nodesFrom nodeAt nameAt count be24 be32 textsOf encode entriesBytes parentOf parentBelow written withTable usedOf behindTable programOf programIn ownRegion totalSize
+grown-used = refl
+
+grows : verdictOn (resizeFile 1 12) large ≡ verdict.Passed
+unfolding verdictOf countedVerdict totalsVerdict planResize maxSizeFrom besideFree allocationOf powers largest betterOf alignUp tableVerdict placeVerdict limits shallow shallowFrom shut textsOf encode entriesBytes parentOf parentBelow setPlace
+grows = rw (large-opens, large-nodes, large-free, large-header .0, large-header .1, large-free, large-used, grown-used)
 
 grown-is : after (resizeFile 1 12) large ≡ grown
 unfolding imageAfter planResize maxSizeFrom besideFree allocationOf powers largest betterOf alignUp setPlace

@@ -531,16 +531,38 @@ impl Table {
         free
     }
 
+    pub fn used(&self) -> u64 {
+        let files: u64 = self.entries.iter().filter(|e| !e.folder).map(|e| u64::from(e.size)).sum();
+        self.table_end + files + self.program.map_or(0, |(start, end)| end - start)
+    }
+
+    /// The largest free region's size, 0 if there is none.
+    pub fn largest(&self) -> u64 {
+        self.free().into_iter().map(|(_, size)| size).max().unwrap_or(0)
+    }
+
+    /// What an edit says of its record.
+    pub fn record_line(&self, edits: u64) -> String {
+        let (used, largest) = (self.used(), self.largest());
+        let [used, free, largest, edits] = [used, self.end - used, largest, edits].map(grouped);
+        format!(
+            "used {used} bytes, free {free} bytes, largest free region {largest} bytes, edits {edits}\n"
+        )
+    }
+
+    /// The same in the record's file.
+    pub fn record_file(&self, edits: u64) -> String {
+        let (used, largest) = (self.used(), self.largest());
+        format!("counter record 1\nused {used} largest {largest} edits {edits}\n")
+    }
+
     /// The scope paper's listing of it.
     pub fn listing(&self) -> String {
         String::from_utf8_lossy(&self.listing_bytes()).into_owned()
     }
 
     pub fn listing_bytes(&self) -> Vec<u8> {
-        let files: u64 = self.entries.iter().filter(|e| !e.folder).map(|e| u64::from(e.size)).sum();
-        let program = self.program.map_or(0, |(start, end)| end - start);
-        let used = self.table_end + files + program;
-        let mut out = format!("total {} used {used}\n", self.end).into_bytes();
+        let mut out = format!("total {} used {}\n", self.end, self.used()).into_bytes();
         for (i, e) in self.entries.iter().enumerate() {
             let (letter, first, end) = match e.folder {
                 true => ('d', e.parent, "/\n"),
@@ -553,6 +575,14 @@ impl Table {
             out.extend(format!("r {offset} {size}\n").as_bytes());
         }
         out
+    }
+}
+
+/// A number with a comma before each three digits.
+pub fn grouped(number: u64) -> String {
+    match number {
+        0..1000 => number.to_string(),
+        _ => format!("{},{:03}", grouped(number / 1000), number % 1000),
     }
 }
 

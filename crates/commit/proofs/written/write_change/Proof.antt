@@ -1,7 +1,7 @@
 -- `commit::written::write_change` meets its contract: copy, table and zeros in the order of the definition.
 -- Assumes nothing.
 use Rattle.commit.proofs.Asked.{zero-still-fits}
-use Rattle.commit.specs.Inner.Decision.{writtenWith}
+use Rattle.commit.proofs.Carried.{all-written}
 use borrow.Author.Needs.{needs}
 use Rattle.commit.proofs.written.write_change.Statement.{statement}
 use Rattle.commit.proofs.written.write_change.Tie as tie
@@ -21,6 +21,9 @@ cast-fst-size c = search needs
 cast-copy-kept : tie.Need-cast-copy-kept
 cast-copy-kept c = search needs
 
+cast-copy-kept-2 : tie.Need-cast-copy-kept-2
+cast-copy-kept-2 c = search needs
+
 copy-kept-requires : tie.Need-copy-kept-requires
 copy-kept-requires c κs = search needs
 
@@ -34,8 +37,7 @@ same-length : tie.Need-same-length
 same-length c = search needs
 
 returns : tie.Need-returns
-unfolding writtenWith
-returns c = cc
+returns c = search all-written
 
 pub write-change-spec : {M : Type 1} → statement M
 write-change-spec =
@@ -46,6 +48,7 @@ write-change-spec =
     fst-size-requires
     cast-fst-size
     cast-copy-kept
+    cast-copy-kept-2
     copy-kept-requires
     commit-requires
     zero-lost-requires

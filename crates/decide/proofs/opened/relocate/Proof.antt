@@ -32,20 +32,17 @@ returns c = search relocate-refused
 enum-told : tie.Need-enum-told
 enum-told c = search needs
 
-cast-t13 : tie.Need-cast-t13
-cast-t13 c = search needs
-
 least-requires : tie.Need-least-requires
 least-requires c κs = search needs
+
+cast-t14 : tie.Need-cast-t14
+cast-t14 c = search needs
 
 cast-t15 : tie.Need-cast-t15
 cast-t15 c = search needs
 
 cast-t16 : tie.Need-cast-t16
 cast-t16 c = search needs
-
-cast-t17 : tie.Need-cast-t17
-cast-t17 c = search needs
 
 set-place-requires : tie.Need-set-place-requires
 set-place-requires c κs = search (relocated-in-image, known)
@@ -66,11 +63,10 @@ relocate-spec =
     enum-known-verdict
     returns
     enum-told
-    cast-t13
     least-requires
+    cast-t14
     cast-t15
     cast-t16
-    cast-t17
     set-place-requires
     same-length
     returns-2)

@@ -29,8 +29,10 @@ cast-at c = search needs
 
 put-clip-requires-2 : tie.Need-put-clip-requires-2
 put-clip-requires-2 c κs =
-    let f = c .before .before .before .before .filling3 .given in
-    let s = c .before .before .before .before .before .before .before .before in
+    let g : tie.After-filling3 = search in
+    let k : tie.After-shared-slice-known = search in
+    let f = g .filling3 .given in
+    let s = k .before .before in
     λ z. omega (arith, placed-into (s .args .filling) (f .0 .0) (f .0 .1 .0) (f .1) (length (now (s .args .image))) (length (now (s .args .clip))) (s .pre) z)
 
 returns : tie.Need-returns
@@ -47,8 +49,10 @@ same-length-2 c = search needs
 
 returns-3 : tie.Need-returns-3
 returns-3 c =
-    let f = c .before .before .before .before .before .before .before .filling3 .given in
-    let s = c .before .before .before .before .before .before .before .before .before .before .before in
+    let g : tie.After-filling3 = search in
+    let k : tie.After-shared-slice-known = search in
+    let f = g .filling3 .given in
+    let s = k .before .before in
     (placed-rest (s .args .filling) (f .0 .0) (f .0 .1 .0) (f .1) _ (omega arith), search placed-image)
 
 pub write-clip-spec : {M : Type 1} → statement M

@@ -1,0 +1,3 @@
+pub mod Totals
+pub mod Inner
+pub mod Laws

@@ -1,0 +1,59 @@
+-- What `account` asks of the words and of the table's end, and that each of its cases is the definition's. Assumes nothing.
+use Prim.Native.Nat.{ℕ, _+_, _-_, _<_, _≤_}
+use mathlib.Core.Path.{_≡_}
+use mathlib.Core.List.{List}
+use native.Mathlib.Omega.{arith}
+use lib.ListN.{length}
+use mir.Syntax.{w32}
+use mir.Val.{Fits}
+use Rattle.header.specs.Verdicts.{fstOffset, fstSize, discEnd, tableEnd}
+use Rattle.space.specs.declared.DiscRegion.{DiscRegion}
+use Rattle.space.specs.Inner.Sort.{regionsIn}
+use Rattle.totals.specs.declared.Totals.{Totals}
+use Rattle.totals.specs.declared.Moved.{Moved}
+use Rattle.totals.specs.Totals.{totalsVerdict, totalsMoved}
+use Rattle.totals.specs.Inner.Scan.{longestFrom, goneOf, movedAs}
+use Rattle.totals.specs.Laws.LargestLaws.{words-some}
+use Rattle.opening.specs.Opening.{usedIn, behindTable}
+use Rattle.opening.specs.Inner.Prepared.{IsOpen}
+use Rattle.opening.specs.Laws.OpeningLaws.{OpenImage}
+use Rattle.edits.specs.Edits.{noPlace}
+use Rattle.commit.specs.declared.Writing.{Writing}
+use Rattle.commit.specs.declared.Decision.{Decision}
+use Rattle.commit.specs.declared.Decision.the-variants as decision
+use Rattle.totals_after.specs.declared.Accounted.{Accounted}
+use Rattle.totals_after.specs.Inner.Accounting.{OnDisc, settledAs, enteredAs, accountOf}
+
+module _ (image w : List ℕ) (m : ℕ) (o : IsOpen image w m) (known : OpenImage image (length w)) where
+  -- the words hold the table's region at least
+  pub some-region : 0 < m
+  unfolding usedIn
+  some-region = words-some w m (discEnd image) (tableEnd image) (behindTable image) (o .used .sorted) (omega (arith, known .reads .bounds .after-header)) (o .used .regions)
+
+  -- the old table ends on the disc
+  pub table-on-disc : (s : ℕ) → s ≡ fstSize image → fstOffset image + s ≤ discEnd image
+  table-on-disc s q = omega (arith, known .reads .bounds .table)
+
+  pub end-fits-word : (f size : ℕ) → f ≡ fstOffset image → fstOffset image + size ≤ discEnd image → Fits w32 (f + size)
+  end-fits-word f size p on = record { fits = omega (arith, known .reads .bounds .small) }
+
+  module _ (d : Decision) (size : ℕ) (x : Writing) (is : d ≡ decision.Write size x) (h : OnDisc image d) where
+    pub new-on-disc : fstOffset image + size ≤ discEnd image
+    new-on-disc = rw is at h
+
+    pub size-fits-word : Fits w32 size
+    size-fits-word = record { fits = omega (arith, new-on-disc, known .reads .bounds .small) }
+
+-- the table has s bytes and then n, and the edited file o and then n′
+pub entered : (image w : List ℕ) (m e f s s′ o n n′ size largest : ℕ) (d : Decision) (t : Totals) (old new : DiscRegion) (moved : Moved) (a : Accounted) → e ≡ discEnd image → f ≡ fstOffset image → s ≡ fstSize image → s′ ≡ s → o ≡ old .size →
+    n ≡ size → n′ ≡ new .size → largest ≡ longestFrom e (goneOf old) new (f + size) 0 (regionsIn w 1 (m - 1)) → moved ≡ movedAs (totalsVerdict t (s′ + o) (n + n′)) t (totalsMoved t (s′ + o) (n + n′) largest) →
+    a ≡ settledAs d moved → a ≡ enteredAs image (regionsIn w 1 (m - 1)) d t size old new
+entered image w m e f s s′ o n n′ size largest d t old new moved a end start old-size q₀ q₁ q₂ q₃ l q g = rw (q, l, end, start, q₀, old-size, q₁, q₂, q₃) at g
+
+-- ---- by the cases of the decision
+
+pub nothing-accounted : (image : List ℕ) (xs : List DiscRegion) (d : Decision) (t : Totals) (s : ℕ) (a : Accounted) → d ≡ decision.Nothing → s ≡ fstSize image → a ≡ enteredAs image xs d t s noPlace noPlace → a ≡ accountOf image xs d t
+nothing-accounted image xs d t s a is e g = rw is (rw (is, e) at g)
+
+pub write-accounted : (image : List ℕ) (xs : List DiscRegion) (d : Decision) (t : Totals) (size : ℕ) (x : Writing) (a : Accounted) → d ≡ decision.Write size x → a ≡ enteredAs image xs (decision.Write size x) t size (x .old) (x .place) → a ≡ accountOf image xs d t
+write-accounted image xs d t size x a is g = rw is g

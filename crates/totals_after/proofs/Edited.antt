@@ -1,0 +1,120 @@
+-- What is decided on, entered in the record, is what the plan comes to by all its tests; and with the working memory zeroed it is the edit.
+-- Assumes nothing.
+use Prim.Native.Nat.{ℕ, _-_}
+use mathlib.Core.Path.{_≡_, refl, sym, ap, _∙_}
+use mathlib.Core.Bool.{cond}
+use mathlib.Core.List.{List}
+use lib.ListN.{length, replicate}
+use Rattle.endian.specs.Bytes.{AllBytes}
+use Rattle.refusal.specs.declared.Refusal.{Refusal}
+use Rattle.refusal.specs.declared.Verdict.{Verdict}
+use Rattle.refusal.specs.declared.Verdict.the-variants.{Passed, Refused}
+use Rattle.refusal.specs.Refusal.{first, isRefused}
+use Rattle.refusal.specs.Laws.Chains.{first-passed}
+use Rattle.space.specs.Inner.Sort.{regionsIn}
+use Rattle.totals.specs.declared.Totals.{Totals}
+use Rattle.opening.specs.Opening.{opening}
+use Rattle.opening.specs.declared.Prepared.{Prepared}
+use Rattle.opening.specs.declared.Prepared.the-variants as prepared
+use Rattle.opening.specs.Inner.Prepared.{Prepares, IsOpen}
+use Rattle.edits.specs.Change.{Plan, refused}
+use Rattle.edits.specs.Edits.{Edit, planned, planOf, planVerdict, planImage, planNumber, countedVerdict, verdictOf, imageAfter, totalsTo, totalsAfter}
+use Rattle.edits.specs.Promise.{lent, onlyVerdict, Edited}
+use Rattle.edits.specs.Laws.Behind.{behind-passed, behind-refused}
+use Rattle.ledger.specs.Runs.{Passable}
+use Rattle.ledger.specs.Laws.Layout.{Lays}
+use Rattle.ledger.specs.Laws.TreeAfter.{arrives}
+use Rattle.commit.specs.declared.Decision.{Decision}
+use Rattle.commit.specs.declared.Decision.the-variants as decision
+use Rattle.commit.specs.Inner.Decision.{CanCarry, carriedVerdict, carriedImage, Decided, DecidedAs}
+use Rattle.commit.proofs.Decisions.{is-open, opened, unopened}
+use Rattle.totals_after.specs.declared.Accounted.{Accounted}
+use Rattle.totals_after.specs.Inner.Accounting.{accounted, accountOf, AccountedFor}
+use Rattle.totals_after.specs.Laws.AccountLaws as laws
+
+-- ---- a plan, of an open image
+
+module _ (p : Plan) (image : List ℕ) (words room : ℕ) (bytes : List ℕ) (t : Totals) where
+  -- refused by the plan's tests, or by 25
+  pub refused-accounted : (c : Refusal) (a : Accounted) → countedVerdict p t image words room ≡ Refused c → a ≡ accounted (decision.Refused c) t → AccountedFor p image words room bytes t a
+  refused-accounted c a e q = rw q (record {
+    decided = record { fits = tt; carries = tt; answer = sym e; after = rw e };
+    totals = rw e;
+  })
+
+  passed-accounted : (d : Decision) (a : Accounted) → countedVerdict p t image words room ≡ Passed → Decided p image words room bytes d → a ≡ accounted d (totalsTo t image (planImage p image)) → AccountedFor p image words room bytes t a
+  unfolding countedVerdict
+  passed-accounted d a e h q =
+      let o : planVerdict p image words room ≡ Passed = first-passed (planVerdict p image words room) _ e .0 in
+      let k : DecidedAs Passed p image room bytes d = rw o at h in
+      rw q (record { decided = rw e k; totals = rw e })
+
+  -- as the law of AccountLaws has it
+  pub entered-accounted : (d : Decision) (a : Accounted) → Decided p image words room bytes d →
+      laws.Entered (countedVerdict p t image words room) d t (totalsTo t image (planImage p image)) a → AccountedFor p image words room bytes t a
+  entered-accounted d a h n = go (countedVerdict p t image words room) refl
+    where
+      go : (v : Verdict) → countedVerdict p t image words room ≡ v → AccountedFor p image words room bytes t a
+      go Passed e = passed-accounted d a e h (n .passed e)
+      go (Refused c) e = refused-accounted c a e (n .refused c e)
+
+-- ---- an edit: opening, then its plan
+
+module _ (ed : Edit) (h : Passable ed) (image w w′ : List ℕ) (r : Prepared) (m room : ℕ) (bytes : List ℕ) (d : Decision) (b : AllBytes image) (ready : Prepares image (length w) w′ r) (is : r ≡ prepared.Ready m)
+    (same : length w′ ≡ length w) (long : length bytes ≡ room) (decided : Decided (planOf ed image) image (length w′) room bytes d) where
+  ready-words : IsOpen image w′ m
+  ready-words = is-open image w w′ r m ready is same
+
+  lays : planVerdict (planOf ed image) image (length w′) room ≡ Passed → Lays (planOf ed image) image (planImage (planOf ed image) image)
+  lays v = arrives image (length w′) room b (ready-words .passed) ed h v .2
+
+  pub open-accounted : (t : Totals) (a : Accounted) → a ≡ accountOf image (regionsIn w′ 1 (m - 1)) d t → AccountedFor (planned (opening image (length w)) (planOf ed image)) image (length w) room bytes t a
+  open-accounted t a q =
+      let n = laws.entered image w′ m room bytes long t ready-words b (planImage (planOf ed image) image) (planOf ed image) d decided lays in
+      let f : AccountedFor (planOf ed image) image (length w′) room bytes t a = entered-accounted (planOf ed image) image (length w′) room bytes t d a decided (unfold countedVerdict in rw q n) in
+      rw (behind-passed (opening image (length w)) (planOf ed image) (opened image w w′ r m ready is)) (rw same at f)
+
+pub unopened-accounted : (p : Plan) (image w w′ : List ℕ) (r : Prepared) (c : Refusal) (room : ℕ) (bytes : List ℕ) (t : Totals) (a : Accounted) → Prepares image (length w) w′ r → r ≡ prepared.Refused c → a ≡ accounted (decision.Refused c) t →
+    AccountedFor (planned (opening image (length w)) p) image (length w) room bytes t a
+unopened-accounted p image w w′ r c room bytes t a q e =
+    rw (behind-refused (opening image (length w)) p c (unopened image w w′ r c q e)) (refused-accounted (refused (Refused c)) image (length w) room bytes t c a (unfold countedVerdict in refl))
+
+-- ---- the whole edit
+
+-- with as many working bytes as when it was decided on
+pub still-carries : (p : Plan) (image : List ℕ) (words room : ℕ) (bytes : List ℕ) (t : Totals) (a : Accounted) → AccountedFor p image words room bytes t a → length bytes ≡ room → CanCarry image (length bytes) (a .decision)
+still-carries p image words room bytes t a f l = rw l (f .decided .fits)
+
+module _ (ed : Edit) (image : List ℕ) (words room : ℕ) (bytes : List ℕ) (t : Totals) (a : Accounted) where
+  -- opening and the plan are the whole edit
+  pub edit-accounted : AccountedFor (planned (opening image words) (planOf ed image)) image words room bytes t a →
+      (carriedVerdict (a .decision) ≡ verdictOf ed t image words room) × (carriedImage (a .decision) bytes image ≡ imageAfter ed t image words room) × (a .totals ≡ totalsAfter ed t image words room)
+  unfolding verdictOf imageAfter totalsAfter
+  edit-accounted f = go (opening image words) f
+    where
+      go : (v : Verdict) → AccountedFor (planned v (planOf ed image)) image words room bytes t a →
+          (carriedVerdict (a .decision) ≡ first v (countedVerdict (planOf ed image) t image words room))
+          × (carriedImage (a .decision) bytes image ≡ cond (isRefused (first v (countedVerdict (planOf ed image) t image words room))) image (planImage (planOf ed image) image))
+          × (a .totals ≡ cond (isRefused (first v (countedVerdict (planOf ed image) t image words room))) t (totalsTo t image (planImage (planOf ed image) image)))
+      go Passed k = (k .decided .answer, k .decided .after, k .totals)
+      go (Refused c) k =
+          let e : countedVerdict (refused (Refused c)) t image words room ≡ Refused c = unfold countedVerdict in refl in
+          (k .decided .answer ∙ e, k .decided .after ∙ rw e, k .totals ∙ rw e)
+
+module _ (ed : Edit) (image words bytes w b image′ words′ bytes′ : List ℕ) (t : Totals) (a : Accounted) (f : AccountedFor (planned (opening image (length words)) (planOf ed image)) image (length words) (length bytes) b t a)
+    (kw : length w ≡ length words) (kb : length b ≡ length bytes) (i : image′ ≡ carriedImage (a .decision) b image) (zw : words′ ≡ replicate (length w) 0) (zb : bytes′ ≡ replicate (length b) 0) where
+  -- an edit that gives its answer in its own way
+  pub edited-as : {A : Type 0} (answer : Verdict → ℕ → A) (r : A) → r ≡ answer (verdictOf ed t image (length words) (length bytes)) (planNumber (planOf ed image)) →
+      Edited answer ed (lent image words bytes t) (lent image′ words′ bytes′ (a .totals)) r
+  edited-as answer r q =
+      let e = edit-accounted ed image (length words) (length bytes) b t a f in
+      record {
+        answered = q;
+        image = i ∙ e .1;
+        totals = e .2;
+        words = zw ∙ ap (λ (n : ℕ). replicate n 0) kw;
+        bytes = zb ∙ ap (λ (n : ℕ). replicate n 0) kb;
+      }
+
+  pub edited : (r : Verdict) → r ≡ carriedVerdict (a .decision) → Edited onlyVerdict ed (lent image words bytes t) (lent image′ words′ bytes′ (a .totals)) r
+  edited r q = edited-as onlyVerdict r (q ∙ edit-accounted ed image (length words) (length bytes) b t a f .0)

@@ -1,0 +1,143 @@
+-- What is decided on, entered in the record, gives the totals of the image that the edit leaves. Assumes nothing.
+use Prim.Native.Nat.{ℕ, _+_, _-_}
+use mathlib.Core.Path.{_≡_, refl, sym, ap, _∙_}
+use mathlib.Core.List.{List}
+use native.Mathlib.Omega.{arith}
+use lib.ListN.{length}
+use Rattle.endian.specs.Bytes.{AllBytes}
+use Rattle.endian.specs.Laws.Stored.{length-span}
+use Rattle.refusal.specs.declared.Refusal.{Refusal}
+use Rattle.refusal.specs.declared.Verdict.{Verdict}
+use Rattle.refusal.specs.declared.Verdict.the-variants.{Passed, Refused}
+use Rattle.refusal.specs.Refusal.{first}
+use Rattle.header.specs.Verdicts.{fstOffset, fstSize, discEnd, tableEnd}
+use Rattle.tree.specs.Table.{encode}
+use Rattle.space.specs.declared.DiscRegion.{DiscRegion}
+use Rattle.space.specs.Used.{usedRegions, totalSize}
+use Rattle.space.specs.Free.{largestSize}
+use Rattle.space.specs.Inner.Sort.{regionsIn}
+use Rattle.space.specs.Laws.TotalLaws.{total-used}
+use Rattle.totals.specs.declared.Totals.{Totals}
+use Rattle.totals.specs.Totals.{totalsVerdict}
+use Rattle.totals.specs.Inner.Scan.{longestFrom, goneOf}
+use Rattle.totals.specs.Laws.LargestLaws.{largest-after}
+use Rattle.totals.specs.Laws.TotalsLaws.{same-verdict, same-moved}
+use Rattle.program.specs.Program.{programBehind}
+use Rattle.opening.specs.Opening.{nodesIn, behindTable, usedIn, usedOf, freeOf}
+use Rattle.opening.specs.Inner.Prepared.{IsOpen}
+use Rattle.edits.specs.Change.{Change, Plan, refused, nothing, change, filled}
+use Rattle.edits.specs.Edits.{noPlace, planVerdict, totalsTo}
+use Rattle.ledger.specs.Laws.Files.{placesIn, used-files}
+use Rattle.ledger.specs.Laws.Opened.{opened}
+use Rattle.ledger.specs.Laws.Room as room-law
+use Rattle.ledger.specs.Laws.Layout.{LaidOut, Lays}
+use Rattle.commit.specs.declared.Writing.{Writing}
+use Rattle.commit.specs.declared.Decision.{Decision}
+use Rattle.commit.specs.declared.Decision.the-variants as decision
+use Rattle.commit.specs.Inner.Decision.{Decided, DecidedAs}
+use Rattle.totals_after.specs.declared.Accounted.{Accounted}
+use Rattle.totals_after.specs.Inner.Accounting.{OnDisc, accounted, movedTo, enteredAs, accountOf}
+
+-- ---- by what lies behind the table
+
+used-places : (image : List ℕ) → usedIn image ≡ usedRegions (tableEnd image) (placesIn image)
+unfolding usedIn behindTable
+used-places image = used-files (tableEnd image) (programBehind image) (nodesIn image)
+
+total-places : (image : List ℕ) → usedOf image ≡ tableEnd image + totalSize (placesIn image)
+unfolding usedOf behindTable
+total-places image =
+    sym (total-used (tableEnd image) (behindTable image)) ∙ ap totalSize (used-files (tableEnd image) (programBehind image) (nodesIn image)) ∙ total-used (tableEnd image) (placesIn image)
+
+module _ (image w : List ℕ) (m : ℕ) (o : IsOpen image w m) (b : AllBytes image) (image′ : List ℕ) (size : ℕ) (old new : DiscRegion) (l : LaidOut image image′ size old new) where
+  -- LAW: what the table and the edited file gain and lose is the change of used bytes
+  pub used-moves : (size + new .size) + usedOf image ≡ (fstSize image + old .size) + usedOf image′
+  used-moves = omega (arith, total-places image, total-places image′, l .start, l .table, l .places .total)
+
+  -- LAW: the used regions in the words tell the largest free region of the new image
+  largest-moves : longestFrom (discEnd image) (goneOf old) new (fstOffset image + size) 0 (regionsIn w 1 (m - 1)) ≡ largestSize (freeOf image′)
+  unfolding freeOf
+  largest-moves =
+      let q = opened image (length w) (o .passed) b in
+      let u = used-places image in
+      let e : tableEnd image′ ≡ fstOffset image + size = omega (arith, l .start, l .table) in
+      largest-after w m (discEnd image) (tableEnd image) (fstOffset image + size) (placesIn image) (placesIn image′) old new (o .used .sorted) (omega (arith, q .bounds .after-header))
+      (λ r. rw (← u) (o .used .regions r)) (rw (← u) (q .regions)) (l .held) (l .fits) (l .clear) (l .places)
+      ∙ rw (used-places image′, e, l .end)
+
+  -- LAW: so the record moves to the totals of the new image
+  pub moves : (d : Decision) (t : Totals) → enteredAs image (regionsIn w 1 (m - 1)) d t size old new ≡ movedTo d t (usedOf image) (usedOf image′) (largestSize (freeOf image′))
+  moves d t =
+      let before : ℕ = fstSize image + old .size in
+      let after : ℕ = size + new .size in
+      rw (largest-moves, same-verdict t before after (usedOf image) (usedOf image′) used-moves, same-moved t before after (usedOf image) (usedOf image′) used-moves (largestSize (freeOf image′)))
+
+-- ---- what is decided on
+
+-- a passes the decision on with the new record, or refuses it with the old one
+pub record Entered (v : Verdict) (d : Decision) (t t′ : Totals) (a : Accounted) : Type 0 where
+  pub passed : v ≡ Passed → a ≡ accounted d t′
+  pub refused : (c : Refusal) → v ≡ Refused c → a ≡ accounted (decision.Refused c) t
+
+-- the table in the working bytes has the size that was decided on
+table-size : {v : Verdict} (image : List ℕ) (room : ℕ) (bytes : List ℕ) → length bytes ≡ room → (k : ℕ) (c : Change) (size : ℕ) (x : Writing) → DecidedAs v (change k c) image room bytes (decision.Write size x) → length (encode (c .nodes)) ≡ size
+table-size image room bytes long k c size x h = ap length (sym (h .carries .0)) ∙ length-span bytes 0 size (omega (arith, h .fits .table .held))
+
+module _ (image w : List ℕ) (m room : ℕ) (bytes : List ℕ) (long : length bytes ≡ room) (t : Totals) (o : IsOpen image w m) (b : AllBytes image) (image′ : List ℕ) where
+  -- the plan's tests, and then 25
+  abbrev pub tested : Plan → Verdict
+  tested p = first (planVerdict p image (length w) room) (totalsVerdict t (usedOf image) (usedOf image′))
+
+  refused-entered : (p : Plan) (c : Refusal) → Refused c ≡ planVerdict p image (length w) room → Entered (tested p) (decision.Refused c) t (totalsTo t image image′) (accounted (decision.Refused c) t)
+  refused-entered p c h =
+      let e : tested p ≡ Refused c = rw (← h) in
+      record {
+        passed = λ q. let y : Refused c ≡ Passed = sym e ∙ q in let z : _≡_ {A = ℕ} 0 1 = cc in absurd (omega arith);
+        refused = λ x q. let y : Refused c ≡ Refused x = sym e ∙ q in cc;
+      }
+
+  moved-entered : (p : Plan) (d : Decision) (a : Accounted) → Passed ≡ planVerdict p image (length w) room → a ≡ movedTo d t (usedOf image) (usedOf image′) (largestSize (freeOf image′)) →
+      Entered (tested p) d t (totalsTo t image image′) a
+  moved-entered p d a h e = record { passed = λ q. e ∙ go q; refused = λ c q. e ∙ stop c q }
+    where
+      25-is : tested p ≡ totalsVerdict t (usedOf image) (usedOf image′)
+      25-is = rw (← h)
+
+      go : tested p ≡ Passed → movedTo d t (usedOf image) (usedOf image′) (largestSize (freeOf image′)) ≡ accounted d (totalsTo t image image′)
+      go q = rw (sym 25-is ∙ q)
+
+      stop : (c : Refusal) → tested p ≡ Refused c → movedTo d t (usedOf image) (usedOf image′) (largestSize (freeOf image′)) ≡ accounted (decision.Refused c) t
+      stop c q = rw (sym 25-is ∙ q)
+
+  -- LAW: of what a plan comes to, whose layout the new image has
+  pub entered : (p : Plan) (d : Decision) → Decided p image (length w) room bytes d → (planVerdict p image (length w) room ≡ Passed → Lays p image image′) → Entered (tested p) d t (totalsTo t image image′) (accountOf image (regionsIn w 1 (m - 1)) d t)
+  entered p (decision.Refused c) h l = refused-entered p c (h .answer)
+  entered (refused v) decision.Nothing h l = absurd (h .carries)
+  entered nothing decision.Nothing h l =
+      moved-entered nothing decision.Nothing _ refl (moves image w m o b image′ (fstSize image) noPlace noPlace (l refl) decision.Nothing t)
+  entered (change k c) decision.Nothing h l = absurd (h .carries)
+  entered (filled k clip p) decision.Nothing h l = absurd (h .carries)
+  entered (refused v) (decision.Write size x) h l = absurd (h .carries)
+  entered nothing (decision.Write size x) h l = absurd (h .carries)
+  entered (change k c) (decision.Write size x) h l =
+      let f = h .carries in
+      let n : length (encode (c .nodes)) ≡ size = table-size image room bytes long k c size x h in
+      let eo : c .old ≡ x .old = ap (λ (y : Change). y .old) (f .1) in
+      let ep : c .place ≡ x .place = ap (λ (y : Change). y .place) (f .1) in
+      let s : LaidOut image image′ size (x .old) (x .place) = rw (n, eo, ep) at (l (sym (h .answer))) in
+      moved-entered (change k c) (decision.Write size x) _ (h .answer) (moves image w m o b image′ size (x .old) (x .place) s (decision.Write size x) t)
+  entered (filled k clip p) (decision.Write size x) h l = absurd (h .carries)
+
+-- LAW: a table that is to be written ends on the disc
+on-disc : (p : Plan) (image w : List ℕ) (m room : ℕ) (bytes : List ℕ) (d : Decision) → IsOpen image w m → AllBytes image → length bytes ≡ room → Decided p image (length w) room bytes d → OnDisc image d
+on-disc p image w m room bytes (decision.Refused c) o b long h = tt
+on-disc p image w m room bytes decision.Nothing o b long h = tt
+on-disc (refused v) image w m room bytes (decision.Write size x) o b long h = absurd (h .carries)
+on-disc nothing image w m room bytes (decision.Write size x) o b long h = absurd (h .carries)
+on-disc (change k c) image w m room bytes (decision.Write size x) o b long h =
+    let n : length (encode (c .nodes)) ≡ size = table-size image room bytes long k c size x h in
+    rw n at (room-law.room c image (length w) room (opened image (length w) (o .passed) b) (sym (h .answer)) .end)
+on-disc (filled k clip p) image w m room bytes (decision.Write size x) o b long h = absurd (h .carries)
+
+pub may-account : (p : Plan) (image w : List ℕ) (m room : ℕ) (bytes : List ℕ) (d : Decision) → Decided p image (length w) room bytes d → IsOpen image w m → AllBytes image → length bytes ≡ room → IsOpen image w m × OnDisc image d
+may-account p image w m room bytes d h o b long = (o, on-disc p image w m room bytes d o b long h)
