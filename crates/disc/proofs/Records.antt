@@ -38,6 +38,7 @@ module _ (image w : List ℕ) (m : ℕ) (used : UsedWords image w m) (known : Op
     pub sorted-to : SortedDisjoint w m (d .«disc_end»)
     sorted-to = rw is (used .sorted)
 
-    pub recorded : (largest : ℕ) → largest ≡ longestFrom (d .«disc_end») 0 (record { offset = 0; size = 0 }) (d .«fst_offset» + d .«fst_size») 0 (regionsIn w 1 (m - 1)) →
-        _≡_ {A = Totals} (record { used = d .used; largest = largest; edits = 0 }) (totalsOf image 0)
-    recorded largest e = let l : largest ≡ largestSize (freeOf image) = rw is at e ∙ largest-is in rw (l, is)
+    -- t is where the table ends, and n edits are counted
+    pub recorded : (t largest n : ℕ) → largest ≡ longestFrom (d .«disc_end») 0 (record { offset = 0; size = 0 }) t 0 (regionsIn w 1 (m - 1)) → t ≡ d .«fst_offset» + d .«fst_size» → n ≡ 0 →
+        _≡_ {A = Totals} (record { used = d .used; largest = largest; edits = n }) (totalsOf image 0)
+    recorded t largest n e q z = let l : largest ≡ largestSize (freeOf image) = rw is at (rw q at e) ∙ largest-is in rw (l, is, z)

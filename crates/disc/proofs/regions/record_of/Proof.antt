@@ -23,7 +23,11 @@ largest-free-requires : tie.Need-largest-free-requires
 largest-free-requires c κs = search (sorted-to, some-region, known)
 
 returns : tie.Need-returns
-returns c = search (recorded, known)
+returns c =
+    let k : tie.After-shared-slice-known = search in
+    let d : tie.After-disc-of = search in
+    let l : tie.After-largest-free = search in
+    recorded _ _ _ (k .before .pre .1) (known k) _ (d .disc-of .ensures) _ _ _ (l .largest-free .ensures) (omega arith) (omega arith)
 
 pub record-of-spec : {M : Type 1} → statement M
 record-of-spec = tie.close (tie.spec disc-of-requires add-table-end largest-free-requires returns)
