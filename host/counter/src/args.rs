@@ -135,6 +135,11 @@ const ANYWAY: Flag = Flag {
     value: None,
     words: "lets a journal pass that was written for another file with the same contents",
 };
+const WITHOUT: Flag = Flag {
+    name: "--without-record",
+    value: None,
+    words: "finishes the edit and leaves the FILE of its --record as it is, without this edit",
+};
 const BYTES: Flag = Flag {
     name: "--bytes",
     value: None,
@@ -399,7 +404,7 @@ pub const FORMS: &[Form] = &[
         )
     },
     Form {
-        flags: &[&ANYWAY, &JSON, &WAIT],
+        flags: &[&ANYWAY, &WITHOUT, &JSON, &WAIT],
         more: RECOVER,
         ..edit(
             "recover",
@@ -422,11 +427,19 @@ is none), and how many edits were accepted since the record was made, those too 
 Without --record one is made for the one edit, so that edits is 1.
 With --record an edit takes the record in FILE and leaves there what comes back; where there is no FILE, \
 a new record is made of the image first. A refused edit and a dry run leave FILE as it was. FILE is a \
-text of two lines. It goes with the edit: when an edit was cut, `counter recover` or the next edit \
-finishes both; until then the new text is in FILE.counter-new.
-If used bytes or largest free region in FILE are not the image's, somebody edited without it: the edit is \
-not begun (65). Then make a new record with --force, or take FILE away. An edit after the 4,294,967,295th \
-is refused (25).";
+text of two lines. A link to it is followed, and its mode is kept. It may not be the image, a clip, a \
+journal, a folder or a special file (64). While an edit uses it, another one that wants it is told to wait \
+(75), or waits with --wait.
+What comes back is in the edit's journal, and in FILE before the journal goes. So an edit that was cut is \
+counted when `counter recover` or the next edit finishes it, and only then. If FILE cannot be written then, or \
+somebody changed it, the journal stays (78): `counter recover` tries it again, and with --without-record it \
+leaves FILE as it is. The journal names FILE by its absolute path: an image that is moved takes its journal \
+and its clip along, and FILE stays where it is. A cut can leave a file counter-record.N beside FILE, which is \
+of no use.
+If used bytes or largest free region in FILE are not the image's, somebody edited without it, or it is \
+another image's: the edit is not begun (65). Then make a new record with --force, or take FILE away. An edit \
+without FILE that left both numbers as they were is not noticed, and not counted. An edit after the \
+4,294,967,295th is refused (25).";
 
 const COMPARE: &str = "\
 LIST is a text file in UTF-8, one path a line as PATH is given; a line that ends in / stands for that folder and all in it. / \
@@ -458,7 +471,9 @@ status is that of compare; the page is written in either case.";
 
 const RECOVER: &str = "\
 Where there is no journal, no edit was cut, and the image is not touched. A journal that is torn, or of another \
-image, or of one that was changed since, is not applied (78), and neither it nor the image is touched.";
+image, or of one that was changed since, is not applied (78), and neither it nor the image is touched.
+An edit with --record is counted in its FILE before the journal goes. If FILE cannot be written, the image is \
+what the edit makes of it, and the journal stays (78).";
 
 // The arguments ---------------------------------------------------------------------------
 
@@ -474,6 +489,7 @@ pub struct Args {
     pub only_differences: bool,
     pub as_is: bool,
     pub anyway: bool,
+    pub without_record: bool,
     pub force: bool,
     pub all: bool,
     pub number: bool,
@@ -520,6 +536,7 @@ impl Args {
             only_differences: false,
             as_is: false,
             anyway: false,
+            without_record: false,
             force: false,
             all: false,
             number: false,
@@ -545,6 +562,9 @@ impl Args {
             }
         }
         args.place_operands(bare)?;
+        if args.force && args.record.is_none() {
+            return Err(Failure::usage("--force is for --record FILE"));
+        }
         Ok(args)
     }
 
@@ -570,6 +590,7 @@ impl Args {
             "--only-differences" => self.only_differences = true,
             "--as-is" => self.as_is = true,
             "--anyway" => self.anyway = true,
+            "--without-record" => self.without_record = true,
             "--force" => self.force = true,
             "--all" => self.all = true,
             "--number" => self.number = true,
@@ -578,6 +599,9 @@ impl Args {
             "--bytes" => self.raw = true,
             "--demo" => self.demo = true,
             "--given" => self.given.push(file()?),
+            "--record" if self.record.is_some() => {
+                return Err(Failure::usage("--record is given twice"));
+            }
             "--record" => self.record = Some(file()?),
             "--map" => self.map = Some(file()?),
             _ => self.out = Some(file()?),

@@ -8,6 +8,7 @@ use crate::image::{Desk, Image};
 use crate::names::{parts, text, trouble};
 use crate::text::{grouped, number};
 use counter_sys::{self as counter, Memory, Record};
+use std::fs::Metadata;
 use std::path::Path;
 
 /// What was asked, in the words of the command line.
@@ -46,6 +47,14 @@ impl Wish {
             | Wish::Resize(path, _)
             | Wish::Fill(path, _) => Some(path),
             Wish::Rewrite => None,
+        }
+    }
+
+    /// What is told of the clip's file, where there is a clip.
+    pub fn clip(&self) -> Option<Metadata> {
+        match self {
+            Wish::Fill(_, clip) => clip.told(),
+            _ => None,
         }
     }
 
@@ -198,9 +207,10 @@ pub fn refused(wish: &Wish, number: u32) -> Failure {
              or the table has no room; see `counter free`",
         ),
         (21, _) => failure.because("something lies right behind the table"),
-        (25, _) => {
-            failure.because("the record's count is at its end; `counter record` makes a new one")
-        }
+        (25, _) => failure.because(
+            "the record's count is at its end; `counter record IMAGE --record FILE --force` makes a \
+             new one",
+        ),
         _ => failure,
     }
 }

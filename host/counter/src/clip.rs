@@ -54,6 +54,11 @@ impl Clip {
         Ok(Clip { name, file, start, len, goes_on, zeros })
     }
 
+    /// What is told of its file.
+    pub fn told(&self) -> Option<Metadata> {
+        self.file.metadata().ok()
+    }
+
     pub fn words(&self) -> String {
         let (more, len) = match self.goes_on {
             true => ("more than ", self.len - 1),

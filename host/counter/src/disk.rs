@@ -104,7 +104,14 @@ pub fn rename(on: On, from: &Path, to: &Path) -> io::Result<()> {
     Ok(())
 }
 
-/// The journal or the clip goes.
+/// The same, unless that name is taken.
+pub fn rename_new(on: On, from: &Path, to: &Path) -> io::Result<()> {
+    os::rename_new(from, to)?;
+    log(b'r', on, 0, &[]);
+    Ok(())
+}
+
+/// The journal goes, or the clip, or a record that did not get its name.
 pub fn remove(on: On, path: &Path) -> io::Result<()> {
     fs::remove_file(path)?;
     log(b'd', on, 0, &[]);

@@ -8,16 +8,16 @@ use crate::disc::Disc;
 use crate::disk::{self, Watch};
 use crate::failure::{CANNOT_CREATE, Failure, INPUT_OUTPUT, INTERNAL, Outcome};
 use crate::image::{Desk, Image};
-use crate::journal::{self, Journal, Owner, Record};
+use crate::journal::{self, Journal, Owner, Plan, Totals};
 use crate::names;
 use crate::os::{Access, Mapping};
 use crate::out::say;
 use crate::progress::Progress;
-use crate::recover::{finish, given_up, put_right, still_there, stuck, unrecorded};
+use crate::recover::{How, finish, given_up, put_right, still_there, stuck, unrecorded};
 use crate::text::human;
 use crate::told::report;
 use crate::trial::{Trial, try_out};
-use crate::{edited, record, redo, room, signals};
+use crate::{edited, kept, record, redo, room, signals};
 use counter_sys as counter;
 use std::fs::File;
 use std::io;
@@ -26,11 +26,11 @@ use std::path::Path;
 pub fn edit(args: &Args) -> Outcome<()> {
     let path = args.image.as_deref().expect("an edit has an image");
     let wish = Wish::read(args, path)?;
+    let file = kept::place(args, wish.clip())?;
     let mut image = open(path, args.dry)?;
     let mut desk = Desk::new();
     let before = Disc::read(&image, &mut desk)?;
-    let (given, totals) = record::in_use(args.record.as_deref(), &image, &mut desk)?;
-    let totals = totals.as_deref();
+    let (given, kept) = record::in_use(file.as_deref(), args.dry, &image, &mut desk)?;
     let call = Call::new(&wish, &image, &mut desk)?;
     let progress = Progress::start("trying", 0);
     let trial = try_out(&wish, &call, &image, &mut desk, &before, given)?;
@@ -41,28 +41,34 @@ pub fn edit(args: &Args) -> Outcome<()> {
         .json
         .then(|| edited::json(args, &wish, &call, &before, &trial).document().into_bytes());
     if args.dry {
-        if let Some(told) = told {
-            return say(&told);
-        }
-        let last = &b"all this would be done; nothing was written\n"[..];
-        let lines = text.split_inclusive(|&b| b == b'\n').chain([last]);
-        return say(&lines.flat_map(|line| [b"dry run: ", line].concat()).collect::<Vec<_>>());
+        return say(&told.unwrap_or_else(|| dry(&text)));
     }
     let done = |words: &str| {
         told.unwrap_or_else(|| [&text, format!("done: {words}\n").as_bytes()].concat())
     };
+    let totals = kept.as_ref().map(|kept| kept.totals(record::text(&trial.record)));
     if nothing {
         let last = done("there was nothing to write");
-        let Some(file) = totals else {
-            return say(&last);
-        };
-        signals::begin_writing();
-        record::keep(file, &trial.record)?;
-        return finish(&last);
+        return totals.map_or_else(|| say(&last), |totals| only_count(&totals, &last));
     }
     enough_room(&image, &trial.change)?;
     carry_out(args, &wish, &call, &mut image, &mut desk, trial, totals)?;
     finish(&done("written and synced"))
+}
+
+/// What a dry run says.
+fn dry(text: &[u8]) -> Vec<u8> {
+    let last = &b"all this would be done; nothing was written\n"[..];
+    let lines = text.split_inclusive(|&b| b == b'\n').chain([last]);
+    lines.flat_map(|line| [b"dry run: ", line].concat()).collect()
+}
+
+/// The image stays as it is, and the edit counts.
+fn only_count(totals: &Totals, last: &[u8]) -> Outcome<()> {
+    signals::begin_writing();
+    kept::put(totals)
+        .map_err(|why| Failure::error(why.status(), format!("{why}; the image is as it was")))?;
+    finish(last)
 }
 
 /// To be edited, after an edit that was cut is finished; for a dry run only to be read.
@@ -71,7 +77,7 @@ fn open(path: &Path, dry: bool) -> Outcome<Image> {
         return Image::read(Some(path));
     }
     let image = Image::edit(path)?;
-    if let Some(finished) = put_right(&image, false)? {
+    if let Some(finished) = put_right(&image, &How::default())? {
         eprintln!("counter: finished an edit that was cut: {}", finished.words);
     }
     Ok(image)
@@ -126,7 +132,7 @@ fn enough_room(image: &Image, change: &Change) -> Outcome<()> {
 
 // The writing -----------------------------------------------------------------------------
 
-/// Record, clip, journal, copy, the proved call, sync. What a cut leaves at any point, recovery finishes.
+/// Clip, journal, copy, the proved call, sync, record. What a cut leaves at any point, recovery finishes.
 fn carry_out(
     args: &Args,
     wish: &Wish,
@@ -134,7 +140,7 @@ fn carry_out(
     image: &mut Image,
     desk: &mut Desk,
     trial: Trial,
-    totals: Option<&Path>,
+    totals: Option<Totals>,
 ) -> Outcome<()> {
     // Threads that start from here on leave signals alone too.
     signals::begin_writing();
@@ -145,11 +151,9 @@ fn carry_out(
     };
     let (file, path) = (file.try_clone().map_err(failed)?, path.to_path_buf());
     let owner = Owner::new(&file.metadata().map_err(failed)?, image.bytes());
-    totals.map_or(Ok(()), |totals| record::prepare(totals, &trial.record))?;
-    let mut journal = begin(wish, &file, &path, owner, trial.change, totals, &progress)
-        .inspect_err(|_| totals.map_or((), record::discard))?;
+    let mut journal = begin(wish, &file, &path, owner, trial.change, totals, &progress)?;
     signals::rescue(&path, args.json);
-    if journal.record.change.is_apart() {
+    if journal.plan.change.is_apart() {
         redo::bring(&file, &mut journal, &progress)
             .map_err(|e| stuck(&file, &path, &journal, &e))?;
     }
@@ -161,7 +165,8 @@ fn carry_out(
         .sync()
         .or_else(|failed| redo::once_more(&file, &mut journal, &failed, &progress))
         .map_err(|e| stuck(&file, &path, &journal, &e))?;
-    totals.map_or(Ok(()), record::settle).map_err(|e| unrecorded(&path, &journal, &e))?;
+    let totals = journal.plan.totals.as_ref();
+    totals.map_or(Ok(()), kept::put).map_err(|why| unrecorded(&path, &why))?;
     journal.remove().map_err(|e| still_there(&journal, &e))
 }
 
@@ -172,7 +177,7 @@ fn begin(
     path: &Path,
     owner: Owner,
     change: Change,
-    totals: Option<&Path>,
+    totals: Option<Totals>,
     progress: &Progress,
 ) -> Outcome<Journal> {
     let hole = change.is_apart() && room::holes(file, change.copy_span()) == change.brought;
@@ -182,9 +187,8 @@ fn begin(
         }
         _ => (None, 0),
     };
-    let totals = totals.map(Path::to_path_buf);
-    let record = Record { owner, change, hole, clip_sum, totals };
-    Journal::start(path, record, clip).map_err(|e| no_journal(path, &e))
+    let plan = Plan { owner, change, hole, clip_sum, totals };
+    Journal::start(path, plan, clip).map_err(|e| no_journal(path, &e))
 }
 
 /// The proved call on the image itself. It was tried, so it is not refused now. The clip is the one that
@@ -197,7 +201,7 @@ fn write(
     mut totals: counter::Record,
     answer: (Option<u32>, counter::Record),
 ) -> Outcome<()> {
-    let change = &journal.record.change;
+    let change = &journal.plan.change;
     let clip = match &journal.clip {
         Some(file) => Mapping::new(file, change.brought as usize, Access::Read),
         None => Mapping::zeros(0),

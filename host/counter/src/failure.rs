@@ -17,8 +17,9 @@ pub const BUSY: u8 = 75;
 /// The edit is written and synced, but its answer could not be printed.
 pub const UNSAID: u8 = 76;
 pub const NOT_ALLOWED: u8 = 77;
-/// An edit was cut: the image may hold a part of it, and there is a journal. The only status with
-/// which the image is neither as it was nor as the edit makes it. (signals.rs has its number too.)
+/// An edit was cut: the image may hold a part of it, or its record is not written, and there is a
+/// journal. The only status with which the image may be neither as it was nor as the edit makes it.
+/// (signals.rs has its number too.)
 pub const CUT: u8 = 78;
 
 /// The signal that says that nobody reads the output.

@@ -198,8 +198,8 @@ const COMPARED: &str = "before after manifest passed covers_all order_changed fr
 
 const EDITED: &str = "status edit path path_bytes dry_run written table{before after} \
     entries[number path path_bytes kind before{offset size} after{offset size}] notes[...] \
-    record{used free largest_free edits}; entries: \
-    those that are new or differ; where all paths take more than 64 MiB, path is `entry N` and \
+    record{used free largest_free edits}; written: whether the image was, whatever became of the \
+    FILE of --record; entries: those that are new or differ; where all paths take more than 64 MiB, path is `entry N` and \
     path_bytes null";
 
 fn json(forms: &[Form]) -> String {
@@ -276,7 +276,8 @@ Safety
   - While there is a journal, commands that only read refuse (78), unless they are told --as-is.
   - A journal that is torn, or of another image, or of one that was changed since, is never applied;
     what to do is told. If you bring an image back from a copy, take its journal away; if you rename
-    the image, rename the journal with it, and the clip that is kept.
+    the image, rename the journal with it, and the clip that is kept. The FILE of a record (--record)
+    may stay where it is: the journal names it by its absolute path.
   - Every signal that comes during an edit (Ctrl-C, a hang-up, a kill and all others but SIGKILL)
     waits until it is done and synced; the program then says so and ends by the signal.
   - A program (main.dol) that lies behind the table is used like a file, and no edit writes there.
@@ -285,9 +286,10 @@ Safety
     ZFS), all blocks take new room when they are written. It is looked for first; if there is too
     little, nothing is written (74). If room fails in the midst of an edit all the same, the edit is
     finished from the journal at once; if that fails too (78), make room, then `counter recover`.
-  - A record (--record FILE) goes with the edit: what comes back is on the disk beside FILE before the
-    journal is, and in FILE before the journal goes. So it counts an edit that was cut once it is
-    finished, and only then. `counter help record` says more.
+  - A record (--record FILE) goes with the edit: what comes back is in the journal, and in FILE before
+    the journal goes. So it counts an edit that was cut once it is finished, and only then. If FILE
+    cannot be written then, the journal stays (78), and what to do is told. `counter help record` says
+    more.
   - Not promised: a disk that says it has synced what it has not; programs that ignore the lock.
   - So keep a copy of an image that cannot be had again, on another disk, try with --dry-run, and
     let `counter compare` tell what changed.
@@ -302,21 +304,24 @@ fn statuses() -> String {
         out.push_str(&format!("  {:2}  refused: {cause}\n", i + 1));
     }
     out.push_str(
-        "  64  wrong usage; a PATH that is no UTF-8, or has a character that Shift-JIS does not have\n\
+        "  64  wrong usage; a PATH that is no UTF-8, or has a character that Shift-JIS does not have;\n\
+         \x20     --record: a FILE that is the image, a clip, a journal, a folder or a special file\n\
          \x20 65  compare, report: an image too short for a header, a LIST or a manifest that is wrong;\n\
          \x20     a command that shows every path: more than 64 MiB of them;\n\
-         \x20     --record: a FILE that is torn or no record, or not that of the image as it is\n\
+         \x20     --record: a FILE that is torn or no record, or whose used bytes or largest free region\n\
+         \x20     are not the image's\n\
          \x20 66  no such image or clip, or a folder in its place, or a special file in the image's\n\
          \x20 70  the library answered what it never should\n\
          \x20 73  an output, a journal, a clip that is kept or a record cannot be created, or is there already;\n\
          \x20     extract: two entries would be one file, or a name has too many bytes for a file\n\
          \x20 74  input/output error; the disk is full\n\
-         \x20 75  another program is using the image\n\
+         \x20 75  another program is using the image, or the record's FILE\n\
          \x20 77  not allowed: a read-only file or disk, or no permission\n\
          \x20     64 to 75 and 77: an edit wrote nothing; header, table and files are as they were\n\
          \x20 76  the edit is written and synced, but its answer could not be printed\n\
          \x20 78  an edit was cut: the image may hold a part of it, and its journal is there;\n\
-         \x20     `counter recover IMAGE` finishes the edit\n\
+         \x20     `counter recover IMAGE` finishes the edit. Or only its record is not written yet: the\n\
+         \x20     last line says so\n\
          \x20 128 + n  ended by signal n: before an edit wrote anything, or when it was written and\n\
          \x20     synced; the last line says which. After SIGKILL (137) there may be a journal: see 78\n",
     );

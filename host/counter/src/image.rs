@@ -190,8 +190,8 @@ pub fn wait_for_others() {
     WAIT.store(true, Ordering::Relaxed);
 }
 
-/// Readers share an image; an editor has it alone.
-fn lock(path: &Path, file: &File, access: Access) -> Outcome<()> {
+/// Readers share an image; an editor has it alone, and its record.
+pub fn lock(path: &Path, file: &File, access: Access) -> Outcome<()> {
     let mut got = match access {
         Access::Shared => file.try_lock(),
         _ => file.try_lock_shared(),

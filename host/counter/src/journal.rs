@@ -9,11 +9,11 @@
 use crate::change::{Change, HEADER};
 use crate::disk::{self, On};
 use crate::sum;
-use std::ffi::OsStr;
+use std::ffi::{OsStr, OsString};
 use std::fs::{self, File, Metadata};
 use std::io;
 use std::ops::Range;
-use std::os::unix::ffi::OsStrExt;
+use std::os::unix::ffi::{OsStrExt, OsStringExt};
 use std::os::unix::fs::MetadataExt;
 use std::path::{Path, PathBuf};
 
@@ -42,25 +42,34 @@ impl Owner {
     }
 }
 
+/// The totals record that goes with an edit: its file, the text in it (none if there is no file), and the text
+/// that it gets.
 #[derive(Debug, Clone, PartialEq, Eq)]
-pub struct Record {
+pub struct Totals {
+    pub file: PathBuf,
+    pub old: Vec<u8>,
+    pub new: Vec<u8>,
+}
+
+/// What the edit does, and to which file.
+#[derive(Debug, Clone, PartialEq, Eq)]
+pub struct Plan {
     pub owner: Owner,
     pub change: Change,
     /// Whether the file's new place was one hole, so that it can be made one again.
     pub hole: bool,
     /// The sum of the clip; 0 without one.
     pub clip_sum: u64,
-    /// The file of the totals record that goes with the edit, if there is one.
-    pub totals: Option<PathBuf>,
+    pub totals: Option<Totals>,
 }
 
 pub struct Journal {
     image: PathBuf,
     path: PathBuf,
     file: File,
-    /// Where the first record ends.
+    /// Where the plan ends.
     end: u64,
-    pub record: Record,
+    pub plan: Plan,
     /// The sum of the bytes that are whole at the new place, once they are.
     pub copied: Option<u64>,
     /// Whether they were found spoiled there, and are to be copied again.
@@ -79,6 +88,12 @@ pub fn clip_beside(path: &Path) -> PathBuf {
     with(path, ".counter-clip")
 }
 
+/// Whether a file of this name can be the journal or the clip of an image.
+pub fn is_ours(name: &OsStr) -> bool {
+    let ends = [".counter-journal", ".counter-journal.new", ".counter-clip"];
+    ends.iter().any(|end| name.as_bytes().ends_with(end.as_bytes()))
+}
+
 fn with(path: &Path, end: &str) -> PathBuf {
     let mut name = path.as_os_str().to_os_string();
     name.push(end);
@@ -93,7 +108,7 @@ pub fn is_there(image: &Path) -> bool {
 /// The edit whose journal it is, in words.
 pub fn words(image: &Path) -> Option<String> {
     let bytes = read(&beside(image)).ok()??.ok()?;
-    decode(&bytes).map(|(record, _)| record.change.words)
+    decode(&bytes).map(|(plan, _)| plan.change.words)
 }
 
 /// The journal's bytes: None, or what keeps it from being one.
@@ -122,10 +137,10 @@ fn clip_of(image: &Path) -> Option<File> {
 impl Journal {
     /// Writes the journal of an edit that is about to begin; its clip is there. On an error there is
     /// neither.
-    pub fn start(image: &Path, record: Record, clip: Option<File>) -> io::Result<Journal> {
+    pub fn start(image: &Path, plan: Plan, clip: Option<File>) -> io::Result<Journal> {
         let path = beside(image);
         let early = with(&path, ".new");
-        let begun = begin(&early, &path, &encode(&record));
+        let begun = begin(&early, &path, &encode(&plan));
         if begun.is_err() {
             let _ = fs::remove_file(&early);
             let _ = fs::remove_file(&path);
@@ -133,7 +148,7 @@ impl Journal {
         }
         let (file, end) = begun?;
         let image = image.to_path_buf();
-        Ok(Journal { image, path, file, end, record, copied: None, spoiled: false, clip })
+        Ok(Journal { image, path, file, end, plan, copied: None, spoiled: false, clip })
     }
 
     /// The journal beside the image: None, a whole one, or what is wrong with it. For whoever has the
@@ -150,14 +165,14 @@ impl Journal {
                 return Ok(None);
             }
         };
-        let Some((record, end)) = decode(&bytes) else {
+        let Some((plan, end)) = decode(&bytes) else {
             return Ok(Some(Err(unfit(&bytes))));
         };
         let file = File::options().read(true).write(true).open(&path)?;
         let copied = decode_copied(&bytes, end);
-        let clip = if record.change.clip { clip_of(image) } else { None };
+        let clip = if plan.change.clip { clip_of(image) } else { None };
         let (image, end) = (image.to_path_buf(), end as u64);
-        Ok(Some(Ok(Journal { image, path, file, end, record, copied, spoiled: false, clip })))
+        Ok(Some(Ok(Journal { image, path, file, end, plan, copied, spoiled: false, clip })))
     }
 
     /// Notes that the file's bytes are on the disk at the new place.
@@ -174,7 +189,7 @@ impl Journal {
     pub fn remove(&self) -> io::Result<()> {
         disk::remove(On::Journal, &self.path)?;
         disk::sync_folder(&self.path)?;
-        if self.record.change.clip {
+        if self.plan.change.clip {
             let clip = clip_beside(&self.image);
             // If it stays, the next edit takes it away.
             let _ = disk::remove(On::Clip, &clip).and_then(|()| disk::sync_folder(&clip));
@@ -198,8 +213,8 @@ fn begin(early: &Path, path: &Path, bytes: &[u8]) -> io::Result<(File, u64)> {
 
 // Its form --------------------------------------------------------------------------------
 
-fn encode(record: &Record) -> Vec<u8> {
-    let Record { owner, change, hole, clip_sum, totals } = record;
+fn encode(plan: &Plan) -> Vec<u8> {
+    let Plan { owner, change, hole, clip_sum, totals } = plan;
     let mut out = MAGIC.to_vec();
     let numbers = [
         VERSION,
@@ -218,8 +233,11 @@ fn encode(record: &Record) -> Vec<u8> {
         *clip_sum,
     ];
     out.extend(numbers.iter().flat_map(|number| number.to_le_bytes()));
-    let totals = totals.as_ref().map_or(&[][..], |path| path.as_os_str().as_bytes());
-    for part in [&owner.header, change.words.as_bytes(), &change.old, &change.new, totals] {
+    let [file, old, new] = totals.as_ref().map_or([&[][..]; 3], |totals| {
+        [totals.file.as_os_str().as_bytes(), &totals.old, &totals.new]
+    });
+    let words = change.words.as_bytes();
+    for part in [&owner.header, words, &change.old, &change.new, file, old, new] {
         out.extend((part.len() as u64).to_le_bytes());
         out.extend(part);
     }
@@ -262,8 +280,8 @@ fn unfit(bytes: &[u8]) -> &'static str {
     }
 }
 
-/// The record, and where it ends; None for anything that is not one, whole and sound.
-fn decode(bytes: &[u8]) -> Option<(Record, usize)> {
+/// The plan, and where it ends; None for anything that is not one, whole and sound.
+fn decode(bytes: &[u8]) -> Option<(Plan, usize)> {
     let mut reader = Reader { bytes, at: 0 };
     if reader.take(16)? != MAGIC {
         return None;
@@ -277,8 +295,7 @@ fn decode(bytes: &[u8]) -> Option<(Record, usize)> {
     let header = reader.part()?.to_vec();
     let words = String::from_utf8(reader.part()?.to_vec()).ok()?;
     let (old, new) = (reader.part()?.to_vec(), reader.part()?.to_vec());
-    let totals = if version < 3 { &[] } else { reader.part()? };
-    let totals = (!totals.is_empty()).then(|| PathBuf::from(OsStr::from_bytes(totals)));
+    let totals = if version < 3 { None } else { decode_totals(&mut reader)? };
     let sum = sum::of(&bytes[..reader.at]);
     if reader.number()? != sum {
         return None;
@@ -287,13 +304,20 @@ fn decode(bytes: &[u8]) -> Option<(Record, usize)> {
     let change =
         Change { words, table, old, new, old_size, new_size, from, to, brought, clip, lost };
     let owner = Owner { inode, len, header };
-    let record = Record { owner, change, hole, clip_sum, totals };
-    is_sound(&record).then_some((record, reader.at))
+    let plan = Plan { owner, change, hole, clip_sum, totals };
+    is_sound(&plan).then_some((plan, reader.at))
 }
 
-/// What the sum says of a record is that it is whole; this, that it can be acted on.
-fn is_sound(record: &Record) -> bool {
-    let Record { owner, change, .. } = record;
+fn decode_totals(reader: &mut Reader) -> Option<Option<Totals>> {
+    let mut part = || reader.part().map(<[u8]>::to_vec);
+    let (file, old, new) = (part()?, part()?, part()?);
+    let totals = Totals { file: OsString::from_vec(file).into(), old, new };
+    Some((!totals.new.is_empty()).then_some(totals))
+}
+
+/// What the sum says of a plan is that it is whole; this, that it can be acted on.
+fn is_sound(plan: &Plan) -> bool {
+    let Plan { owner, change, .. } = plan;
     let below = |span: Range<u64>| span.end < 1 << 33;
     let numbers = [change.table, change.from, change.to, change.brought];
     owner.header.len() as u64 == HEADER

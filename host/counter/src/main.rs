@@ -23,6 +23,7 @@ mod help;
 mod image;
 mod journal;
 mod json;
+mod kept;
 mod layout;
 mod look;
 mod manifest;

@@ -1,12 +1,15 @@
 //! What the program asks of the operating system beyond std: a mapped file, memory that stands in for
-//! parts of it, and holes in a file. (Signals and room on the disk have files of their own.)
+//! parts of it, holes in a file, and a name that nothing has yet. (Signals and room on the disk have files
+//! of their own.)
 
 pub use crate::signals::{SIGPIPE, catch_signals, end_by, holding, unfinished};
-use std::ffi::c_char;
-use std::fs::File;
-use std::io;
+use std::ffi::{CString, c_char};
+use std::fs::{self, File};
+use std::io::{self, ErrorKind};
 use std::ops::Range;
 use std::os::fd::{AsRawFd, FromRawFd};
+use std::os::unix::ffi::OsStrExt;
+use std::path::Path;
 use std::ptr;
 use std::sync::mpsc::{self, RecvTimeoutError, Sender};
 use std::thread::{self, JoinHandle};
@@ -27,6 +30,12 @@ const MADV_DONTNEED: i32 = 4;
 const MFD_CLOEXEC: u32 = 1;
 const PUNCH_HOLE_KEEP_SIZE: i32 = 3;
 
+const READ_WRITE_SEARCH: i32 = 7;
+const AT_FDCWD: i32 = -100;
+const RENAME_NOREPLACE: u32 = 1;
+const ENOSYS: i32 = 38;
+const EINVAL: i32 = 22;
+
 pub const O_NONBLOCK: i32 = 0x800;
 pub const EROFS: i32 = 30;
 
@@ -36,6 +45,14 @@ unsafe extern "C" {
     fn msync(addr: *mut u8, len: usize, flags: i32) -> i32;
     fn madvise(addr: *mut u8, len: usize, advice: i32) -> i32;
     fn memfd_create(name: *const c_char, flags: u32) -> i32;
+    fn access(path: *const c_char, mode: i32) -> i32;
+    fn renameat2(
+        from_folder: i32,
+        from: *const c_char,
+        to_folder: i32,
+        to: *const c_char,
+        flags: u32,
+    ) -> i32;
     fn fallocate(fd: i32, mode: i32, offset: i64, len: i64) -> i32;
 }
 
@@ -197,6 +214,37 @@ pub fn punch(file: &File, at: u64, len: u64) -> io::Result<()> {
     match unsafe { fallocate(file.as_raw_fd(), PUNCH_HOLE_KEEP_SIZE, at as i64, len as i64) } {
         0 => Ok(()),
         _ => Err(io::Error::last_os_error()),
+    }
+}
+
+fn c_path(path: &Path) -> io::Result<CString> {
+    Ok(CString::new(path.as_os_str().as_bytes())?)
+}
+
+fn answer(got: i32) -> io::Result<()> {
+    if got == 0 { Ok(()) } else { Err(io::Error::last_os_error()) }
+}
+
+/// Whether names in a folder may be made, changed and synced.
+pub fn may_write(folder: &Path) -> io::Result<()> {
+    let folder = c_path(folder)?;
+    answer(unsafe { access(folder.as_ptr(), READ_WRITE_SEARCH) })
+}
+
+/// Gives a file a name that nothing has yet.
+pub fn rename_new(from: &Path, to: &Path) -> io::Result<()> {
+    let (old, new) = (c_path(from)?, c_path(to)?);
+    let (old, new) = (old.as_ptr(), new.as_ptr());
+    let done = answer(unsafe { renameat2(AT_FDCWD, old, AT_FDCWD, new, RENAME_NOREPLACE) });
+    match done {
+        // A disk that cannot do it at once.
+        Err(e) if matches!(e.raw_os_error(), Some(EINVAL | ENOSYS)) => {
+            match fs::symlink_metadata(to).is_ok() {
+                true => Err(ErrorKind::AlreadyExists.into()),
+                false => fs::rename(from, to),
+            }
+        }
+        done => done,
     }
 }
 

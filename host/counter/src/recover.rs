@@ -4,8 +4,9 @@ use crate::args::Args;
 use crate::disk::{self, reason};
 use crate::failure::{CUT, Failure, INPUT_OUTPUT, Outcome, UNSAID};
 use crate::image::{Desk, Image};
-use crate::journal::{self, Journal};
+use crate::journal::{self, Journal, Totals};
 use crate::json::Json;
+use crate::kept;
 use crate::names;
 use crate::names::for_terminal;
 use crate::out::say;
@@ -22,7 +23,8 @@ use std::path::Path;
 pub fn recover(args: &Args) -> Outcome<()> {
     let path = args.image.as_deref().expect("recover has an image");
     let image = Image::edit(path)?;
-    let finished = put_right(&image, args.anyway)?;
+    let how = How { anyway: args.anyway, without_record: args.without_record };
+    let finished = put_right(&image, &how)?;
     let told = match &finished {
         _ if args.json => json(finished.as_ref()).document(),
         None => "there is no journal: no edit was cut, nothing is to be done\n".into(),
@@ -69,9 +71,17 @@ pub fn finish(text: &[u8]) -> Outcome<()> {
     }
 }
 
-/// Finishes the edit whose journal is there. `anyway` lets a journal pass that was written for another file
-/// with the same contents.
-pub fn put_right(image: &Image, anyway: bool) -> Outcome<Option<Finished>> {
+/// What `recover` may be told.
+#[derive(Default)]
+pub struct How {
+    /// A journal passes that was written for another file with the same contents.
+    anyway: bool,
+    /// The record's file stays as it is.
+    without_record: bool,
+}
+
+/// Finishes the edit whose journal is there.
+pub fn put_right(image: &Image, how: &How) -> Outcome<Option<Finished>> {
     let (Some(file), Some(path)) = (image.file(), image.path()) else {
         return Ok(None);
     };
@@ -81,21 +91,35 @@ pub fn put_right(image: &Image, anyway: bool) -> Outcome<Option<Finished>> {
         Some(Err(why)) => return Err(useless(path, why)),
         Some(Ok(journal)) => journal,
     };
-    may_be_applied(file, path, &mut journal, anyway)?;
+    let totals = journal.plan.totals.clone();
+    let counted = totals.as_ref().map(|totals| {
+        record::of(totals).ok_or_else(|| useless(path, "what it has for a record is none"))
+    });
+    let counted = counted.transpose()?;
+    may_be_applied(file, path, &mut journal, how.anyway)?;
     signals::begin_writing();
-    let progress = Progress::start("recovering", journal.record.change.brought);
-    let words = journal.record.change.words.clone();
+    let progress = Progress::start("recovering", journal.plan.change.brought);
+    let words = journal.plan.change.words.clone();
     redo::redo(file, &mut journal, &progress).map_err(|why| stuck(file, path, &journal, &why))?;
     let mut desk = Desk::new();
     let opened = counter::open(image.bytes(), &mut desk.lend())
         .map_err(|number| not_opened(path, &journal, number))?;
-    let record = record::finished(journal.record.totals.as_deref(), image, &mut desk)?;
+    match &totals {
+        Some(totals) if how.without_record => left(totals),
+        Some(totals) => kept::put_again(totals).map_err(|why| unrecorded(path, &why))?,
+        None => {}
+    }
+    let record = counted.map_or_else(|| record::alone(image, &mut desk), Ok)?;
     journal.remove().map_err(|why| still_there(&journal, &why))?;
     Ok(Some(Finished { words, record, disc_end: opened.disc_end }))
 }
 
+fn left(totals: &Totals) {
+    eprintln!("counter: {}: left as it is, without this edit", names::file(&totals.file));
+}
+
 fn may_be_applied(file: &File, path: &Path, journal: &mut Journal, anyway: bool) -> Outcome<()> {
-    let words = journal.record.change.words.clone();
+    let words = journal.plan.change.words.clone();
     let unread = |e: io::Error| unread(path, &words, &e);
     match redo::owned(file, journal).map_err(unread)? {
         Owned::No => return Err(useless(path, "it belongs to another image")),
@@ -141,7 +165,7 @@ fn not_opened(path: &Path, journal: &Journal, number: u32) -> Failure {
         "{}: the edit that was cut ({}) was finished as its journal says, but the image does not open \
          (refused {number}). The journal is kept: {}. Go back to your copy",
         names::file(path),
-        journal.record.change.words,
+        journal.plan.change.words,
         names::file(journal.path())
     ))
 }
@@ -162,7 +186,7 @@ fn changed(path: &Path, journal: &Journal, why: &str) -> Failure {
          {why}. Another program has changed it since. Nothing was touched. Look at it with `counter check \
          --as-is {0}`; once you know that it is as it should be, take {2} away",
         names::file(path),
-        journal.record.change.words,
+        journal.plan.change.words,
         names::file(journal.path())
     ))
 }
@@ -177,27 +201,27 @@ fn clip_lost(path: &Path, journal: &Journal) -> Failure {
          holds other bytes. Nothing was touched. Copy the same clip to that name, then `counter recover \
          {0}` finishes the edit; {back} take {3} away",
         names::file(path),
-        journal.record.change.words,
+        journal.plan.change.words,
         names::file(journal::clip_beside(path)),
         names::file(journal.path())
     ))
 }
 
 fn only_free_space(journal: &Journal) -> bool {
-    journal.record.change.is_apart() && journal.copied.is_none()
+    journal.plan.change.is_apart() && journal.copied.is_none()
 }
 
 /// The disk does not let the edit be finished. Where only free space was written so far, the edit is
 /// given up instead, and the image is as it was.
 pub fn stuck(file: &File, path: &Path, journal: &Journal, why: &io::Error) -> Failure {
-    let change = &journal.record.change;
+    let change = &journal.plan.change;
     if only_free_space(journal) && given_up(file, journal) {
         let mut text = format!(
             "{}: {}: nothing was written to the header, the table and the files: they are as they were",
             names::file(path),
             reason(why)
         );
-        if !journal.record.hole {
+        if !journal.plan.hole {
             text.push_str(&format!(
                 "; free space from {:#x} on, {} at most, may hold a part of a copy",
                 change.to,
@@ -215,14 +239,11 @@ pub fn stuck(file: &File, path: &Path, journal: &Journal, why: &io::Error) -> Fa
     ))
 }
 
-/// All is on the disk, but for the record's name.
-pub fn unrecorded(path: &Path, journal: &Journal, why: &io::Error) -> Failure {
-    let file = journal.record.totals.as_deref().unwrap_or(path);
+/// All is on the disk, but for the record.
+pub fn unrecorded(path: &Path, why: &Failure) -> Failure {
     cut(format!(
-        "{}: {}: the edit is written and synced, but its record is not in place; `counter recover {}` puts \
-         it there",
-        names::file(file),
-        reason(why),
+        "{why}. The edit is written and synced, and its journal is kept: `counter recover {0}` writes the \
+         record once that can be done; `counter recover {0} --without-record` leaves the record as it is",
         names::file(path)
     ))
 }
@@ -239,14 +260,10 @@ pub fn still_there(journal: &Journal, why: &io::Error) -> Failure {
 
 /// Takes an edit back that only wrote to free space.
 pub fn given_up(file: &File, journal: &Journal) -> bool {
-    let span = journal.record.change.copy_span();
-    if journal.record.hole && !span.is_empty() {
+    let span = journal.plan.change.copy_span();
+    if journal.plan.hole && !span.is_empty() {
         // If it fails, free space is not what it was, and nothing else is different.
         let _ = disk::punch(file, span.start, span.end - span.start);
     }
-    let removed = journal.remove().is_ok();
-    if let Some(totals) = journal.record.totals.as_deref().filter(|_| removed) {
-        record::discard(totals);
-    }
-    removed
+    journal.remove().is_ok()
 }

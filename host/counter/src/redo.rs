@@ -3,7 +3,7 @@
 
 use crate::change::{Change, FST_SIZE};
 use crate::disk::{self, On, PART, parts};
-use crate::journal::{Journal, Record};
+use crate::journal::{Journal, Plan};
 use crate::progress::Progress;
 use crate::sum::Sum;
 use std::fs::File;
@@ -14,14 +14,14 @@ use std::os::unix::fs::{FileExt, MetadataExt};
 /// Brings the file's bytes or the clip's to their place, and waits until they are on the disk. For a place
 /// that was free, that is marked in the journal. A clip that is gone lies there already.
 pub fn bring(file: &File, journal: &mut Journal, progress: &Progress) -> io::Result<()> {
-    let change = &journal.record.change;
+    let change = &journal.plan.change;
     let source = match change.clip {
         true => journal.clip.as_ref().map(|clip| (clip, 0)),
         false => Some((file, change.from)),
     };
     let sum = match source {
         Some(from) => disk::copy(from, On::Image, (file, change.to), change.brought, progress)?,
-        None => journal.record.clip_sum,
+        None => journal.plan.clip_sum,
     };
     disk::sync(On::Image, file)?;
     match change.is_apart() && journal.copied != Some(sum) {
@@ -55,13 +55,13 @@ pub fn once_more(
     failed: &io::Error,
     progress: &Progress,
 ) -> io::Result<()> {
-    let change = &journal.record.change;
+    let change = &journal.plan.change;
     match journal.copied.is_some() && disk::is_full(failed) {
         true => {}
         false if change.clip => bring(file, journal, progress)?,
         false => refresh(file, change)?,
     }
-    finish(file, &journal.record.change)
+    finish(file, &journal.plan.change)
 }
 
 /// Writes the bytes at the new place once more, over themselves: after a failed sync the system may take
@@ -78,11 +78,11 @@ fn refresh(file: &File, change: &Change) -> io::Result<()> {
 /// Does all of it again that may be missing. The clip is brought in any case: where it was halfway, nothing
 /// says so.
 pub fn redo(file: &File, journal: &mut Journal, progress: &Progress) -> io::Result<()> {
-    let change = &journal.record.change;
+    let change = &journal.plan.change;
     if change.clip || change.is_apart() && (journal.copied.is_none() || journal.spoiled) {
         bring(file, journal, progress)?;
     }
-    finish(file, &journal.record.change)
+    finish(file, &journal.plan.change)
 }
 
 // Whether the image is one that the edit can have left ------------------------------------
@@ -98,7 +98,7 @@ pub enum Owned {
 }
 
 pub fn owned(file: &File, journal: &Journal) -> io::Result<Owned> {
-    let owner = &journal.record.owner;
+    let owner = &journal.plan.owner;
     let told = file.metadata()?;
     if told.len() != owner.len {
         return Ok(Owned::No);
@@ -117,7 +117,7 @@ pub fn owned(file: &File, journal: &Journal) -> io::Result<Owned> {
 /// and nothing may be written. Where the new place does not hold the file whole, but the old one does,
 /// the journal is told so.
 pub fn misfit(file: &File, journal: &mut Journal) -> io::Result<Option<&'static str>> {
-    let change = &journal.record.change;
+    let change = &journal.plan.change;
     let (table, word) = table_and_size(file, change)?;
     let (old, new) = (change.old_size.to_be_bytes(), change.new_size.to_be_bytes());
     if !is_mix(&table, &change.old, &change.new) || !is_mix(&word, &old, &new) {
@@ -149,7 +149,7 @@ pub fn misfit(file: &File, journal: &mut Journal) -> io::Result<Option<&'static 
 /// knows of none, and the edit is finished without it. While it is written, its place holds any mix of
 /// what was there and the clip, which tells nothing of the image.
 pub fn has_clip(file: &File, journal: &mut Journal) -> io::Result<bool> {
-    let Record { change, clip_sum, .. } = &journal.record;
+    let Plan { change, clip_sum, .. } = &journal.plan;
     if !change.clip {
         return Ok(true);
     }

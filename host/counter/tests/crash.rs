@@ -136,6 +136,7 @@ impl Disk {
             (b'r', RECORD) => self.names.push(Change::Record(Name::Own)),
             (b'r', _) => self.names.push(Change::Journal(Name::Own)),
             (b'd', CLIP) => self.names.push(Change::Clip(false)),
+            (b'd', RECORD) => self.names.push(Change::Record(Name::None)),
             (b'd', _) => self.names.push(Change::Journal(Name::None)),
             (b'f', _) => self.names.drain(..).for_each(|change| self.sure.change(change)),
             other => panic!("step {other:?}"),
@@ -310,8 +311,8 @@ struct Bench {
     image: PathBuf,
     before: Vec<u8>,
     after: Vec<u8>,
-    /// The record's text before and after, where there is a record.
-    record: Option<(String, String)>,
+    /// The record's text before, if it is there, and after, where there is a record.
+    record: Option<(Option<String>, String)>,
 }
 
 impl Bench {
@@ -326,7 +327,7 @@ impl Bench {
     }
 
     fn early_record(&self) -> PathBuf {
-        self.temp.at("totals.counter-new")
+        self.temp.at("counter-record.1")
     }
 
     fn journal(&self) -> PathBuf {
@@ -365,7 +366,8 @@ impl Bench {
             return;
         };
         let _ = fs::remove_file(self.early_record());
-        fs::write(self.record(), old).unwrap();
+        let _ = fs::remove_file(self.record());
+        old.as_ref().map_or(Ok(()), |old| fs::write(self.record(), old)).unwrap();
         match found.record_name {
             Name::None => {}
             Name::Early => fs::write(self.early_record(), &found.record).unwrap(),
@@ -407,12 +409,16 @@ impl Bench {
             assert!(now == found.image, "{what}: without a journal nothing is written");
             assert!(run.out.contains("no edit was cut"), "{what}: {}", run.out);
         }
-        if let Some(texts) = &self.record {
-            let wanted = if new { &texts.1 } else { &texts.0 };
-            assert_eq!(fs::read_to_string(self.record()).unwrap(), *wanted, "{what}");
-            assert!(!new || !self.early_record().exists(), "{what}");
+        if let Some((old, text)) = &self.record {
+            let wanted = if new { Some(text) } else { old.as_ref() };
+            assert_eq!(self.kept().as_ref(), wanted, "{what}");
         }
         new
+    }
+
+    /// The record's text as it is.
+    fn kept(&self) -> Option<String> {
+        fs::read_to_string(self.record()).ok()
     }
 
     fn differences(&self, now: &[u8]) -> String {
@@ -442,19 +448,51 @@ fn cut_fill(before: Vec<u8>, path: &str, len: usize, seed: u64) {
     assert!(span(&image, entry.offset.into(), entry.size.into()) == bytes, "{path}");
 }
 
-/// The same with a record, which has counted the edit exactly if the image is the one after it.
+/// The same with a record, which has counted the edit exactly if the image is the one after it: one that is
+/// there, and one that the edit makes.
 fn cut_with_record(before: Vec<u8>, args: &[&str], seed: u64) {
-    let mut bench = Bench::new(before);
-    let text = |edits| Table::of(&bench.image).record_file(edits);
-    let old = text(41);
-    fs::write(bench.record(), &old).unwrap();
+    for count in [Some(41), None] {
+        let mut bench = Bench::new(before.clone());
+        let old = count.map(|count| Table::of(&bench.image).record_file(count));
+        let record = bench.record().to_str().unwrap().to_string();
+        let args = [args, &["--record", &record]].concat();
+        done(args[0], &bench.image, &args[1..args.len() - 2]);
+        let new = Table::of(&bench.image).record_file(count.unwrap_or(0) + 1);
+        bench.record = Some((old, new));
+        bench.lay(&Found::new(before.clone()));
+        cut_on(bench, &args, seed);
+    }
+}
+
+/// Cuts a run that writes nothing but the record: it is the old one or the new one, and can be used.
+fn cut_record_alone(args: &[&str], old: Option<u64>, new: u64, seed: u64) {
+    let mut bench = Bench::new(master(0));
+    let text = |count| Table::of(&bench.image).record_file(count);
+    bench.record = Some((old.map(text), text(new)));
+    let start = Found::new(bench.before.clone());
+    bench.lay(&start);
     let record = bench.record().to_str().unwrap().to_string();
     let args = [args, &["--record", &record]].concat();
-    assert_eq!(on(args[0], &bench.image, &args[1..]).status, 0, "{args:?}");
-    let new = text(42);
-    bench.record = Some((old, new));
-    bench.lay(&Found::new(bench.before.clone()));
-    cut_on(bench, &args, seed);
+    let (run, steps) = bench.logged(&args);
+    assert_eq!(run.status, 0, "{args:?}: {}", run.err);
+    assert!(fs::read(&bench.image).unwrap() == bench.before, "{args:?}");
+    assert!(steps.iter().all(|step| step.on == RECORD || step.what == b'f'), "{args:?}");
+    let (before, after) = bench.record.clone().unwrap();
+    assert_eq!(bench.kept().as_ref(), Some(&after), "{args:?}");
+    let (mut olds, mut news) = (0, 0);
+    for found in cuts(&start, &steps, &mut Random(seed)) {
+        bench.lay(&found);
+        let kept = bench.kept();
+        match kept.as_ref() == Some(&after) {
+            true => news += 1,
+            false => olds += 1,
+        }
+        assert!(kept == before || kept.as_ref() == Some(&after), "{args:?}: {kept:?}");
+        done("rewrite", &bench.image, &["--dry-run", "--record", &record]);
+        assert!(done("recover", &bench.image, &[]).contains("no edit was cut"), "{args:?}");
+    }
+    assert!(olds > 2 && news > 0, "{args:?}: {olds} before, {news} after");
+    println!("{args:?}: {} steps; cut: {olds} before, {news} after", steps.len());
 }
 
 fn cut_on(mut bench: Bench, args: &[&str], seed: u64) -> Bench {
@@ -585,6 +623,15 @@ fn a_record_goes_with_its_edit_through_a_power_cut() {
     let temp = Temp::new();
     let given = temp.write("given", &clip(0x700, 28));
     cut_with_record(master(0), &["fill", "next", given.to_str().unwrap()], 28);
+}
+
+#[test]
+fn a_record_alone_survives_a_power_cut() {
+    let nothing = ["resize", "film", "0x3210"];
+    cut_record_alone(&nothing, Some(41), 42, 29);
+    cut_record_alone(&nothing, None, 1, 30);
+    cut_record_alone(&["record", "--force"], Some(41), 0, 31);
+    cut_record_alone(&["record"], None, 0, 32);
 }
 
 /// Edits one after another, at random: files and table that share sectors, places right beside each

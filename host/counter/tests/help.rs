@@ -77,6 +77,7 @@ fn help_comes_in_every_way_and_is_about_its_command_alone() {
         "--map",
         "--as-is",
         "--anyway",
+        "--without-record",
         "--record",
         "--force",
     ];

@@ -272,7 +272,39 @@ fn a_torn_or_foreign_journal_is_never_applied() {
     cut.is_finished();
 }
 
-/// The second version had no record: a length of 0 less. The first had no clips: two numbers less.
+/// A journal with another plan, and its mark.
+fn with_sums(mut plan: Vec<u8>, mark: &[u8]) -> Vec<u8> {
+    plan.extend(sum::of(&plan).to_le_bytes());
+    let len = (plan.len() as u64).to_le_bytes();
+    plan.extend(mark);
+    plan.extend(sum::of(&[&len, mark].concat()).to_le_bytes());
+    plan
+}
+
+/// What a journal says of a record is written if it is one, and over nothing but a record.
+#[test]
+fn a_journal_writes_no_file_but_a_record() {
+    let record = &b"counter record 1\nused 1 largest 1 edits 2\n"[..];
+    for (old, new) in [(&b""[..], &b"my notes\n"[..]), (b"my notes\n", record)] {
+        let cut = Cut::new();
+        let file = cut.temp.at("notes");
+        if !old.is_empty() {
+            fs::write(&file, old).unwrap();
+        }
+        let whole = fs::read(journal_of(&cut.image)).unwrap();
+        let end = whole.len() - 24;
+        let mut plan = whole[..end - 32].to_vec();
+        for part in [file.as_os_str().as_encoded_bytes(), old, new] {
+            plan.extend((part.len() as u64).to_le_bytes());
+            plan.extend(part);
+        }
+        fs::write(journal_of(&cut.image), with_sums(plan, &whole[end..end + 16])).unwrap();
+        cut.is_left_alone("what it has for a record is none");
+        assert_eq!(fs::read(&file).unwrap_or_default(), old);
+    }
+}
+
+/// The second version had no record: three lengths of 0 less. The first had no clips: two numbers less.
 #[test]
 fn a_journal_of_an_earlier_version_is_carried_on() {
     for version in [1, 2] {
@@ -281,14 +313,9 @@ fn a_journal_of_an_earlier_version_is_carried_on() {
         let whole = fs::read(&path).unwrap();
         let end = whole.len() - 24;
         let clip = 16 + if version == 1 { 12 } else { 14 } * 8;
-        let mut early = [&whole[..clip], &whole[16 + 14 * 8..end - 16]].concat();
+        let mut early = [&whole[..clip], &whole[16 + 14 * 8..end - 32]].concat();
         early[16] = version;
-        early.extend(sum::of(&early).to_le_bytes());
-        let len = (early.len() as u64).to_le_bytes();
-        let mark = &whole[end..end + 16];
-        early.extend(mark);
-        early.extend(sum::of(&[&len, mark].concat()).to_le_bytes());
-        fs::write(&path, &early).unwrap();
+        fs::write(&path, with_sums(early, &whole[end..end + 16])).unwrap();
         assert!(on("list", &cut.image, &[]).err.contains("was cut (move film to 0x20000)"));
         cut.is_finished();
     }

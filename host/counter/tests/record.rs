@@ -5,8 +5,9 @@
 mod support;
 
 use std::fs::{self, File};
-use std::os::unix::fs::symlink;
+use std::os::unix::fs::{PermissionsExt, symlink};
 use std::path::{Path, PathBuf};
+use std::process::Stdio;
 use support::*;
 
 /// The small master: its table ends at 1114, /a has 256 bytes at 1280, the disc ends at 8192.
@@ -18,11 +19,12 @@ fn read(file: &Path) -> String {
     fs::read_to_string(file).unwrap()
 }
 
-/// The new text of a record, until the edit is done.
-fn early(file: &Path) -> PathBuf {
-    let mut name = file.as_os_str().to_os_string();
-    name.push(".counter-new");
-    name.into()
+/// Whether anything is left beside the record's file or the image.
+fn is_left(image: &Path, file: &Path) -> bool {
+    let folder = fs::read_dir(file.parent().unwrap());
+    let early =
+        |entry: fs::DirEntry| entry.file_name().as_encoded_bytes().starts_with(b"counter-record.");
+    journal_of(image).exists() || folder.is_ok_and(|found| found.flatten().any(early))
 }
 
 /// The record's numbers in JSON.
@@ -38,7 +40,7 @@ fn with(image: &Path, file: &Path, args: &[&str]) -> Run {
 fn said(image: &Path, file: &Path, args: &[&str]) -> String {
     let run = with(image, file, args);
     assert_eq!(run.status, 0, "{args:?}: {}", run.err);
-    assert!(!early(file).exists() && !journal_of(image).exists(), "{args:?}");
+    assert!(!is_left(image, file), "{args:?}");
     let line = run.out.lines().rev().nth(1).unwrap();
     format!("{line}\n")
 }
@@ -53,7 +55,7 @@ fn not_done(image: &Path, file: &Path, args: &[&str], status: i32, words: &str) 
         assert_eq!(run.out, "", "{args:?}");
         assert_eq!(State::of(image), before, "{args:?}");
         assert_eq!(fs::read(file).ok(), kept, "{args:?}");
-        assert!(!early(file).exists() && !journal_of(image).exists(), "{args:?}");
+        assert!(!is_left(image, file), "{args:?}");
     }
 }
 
@@ -222,12 +224,58 @@ fn a_refused_edit_and_a_dry_run_make_no_file() {
     not_done(&image, &file, &["move", "a", "0x580"], 20, "refused 20");
     let run = with(&image, &file, &["rewrite", "--dry-run"]);
     assert_eq!(run.status, 0, "{}", run.err);
-    assert!(!file.exists() && !early(&file).exists());
-    for name in ["", "/", "."] {
-        let run = on("rewrite", &image, &["--record", name]);
-        assert!([64, 65].contains(&run.status), "{name:?}: {}", run.err);
+    assert!(!file.exists() && !is_left(&image, &file));
+}
+
+#[test]
+fn a_file_that_has_another_use_is_no_record() {
+    let temp = Temp::new();
+    let image = small(&temp);
+    let clip = temp.write("clip", &[7; 300]);
+    let folder = temp.at("folder");
+    fs::create_dir(&folder).unwrap();
+    let (link, hard) = (temp.at("link"), temp.at("hard"));
+    symlink(&image, &link).unwrap();
+    fs::hard_link(&image, &hard).unwrap();
+    let journal = journal_of(&image);
+    let early = temp.at("small.iso.counter-journal.new");
+    let to_journal = temp.at("to-journal");
+    let foreign = temp.write("other.iso.counter-journal", b"counter record 1\n");
+    symlink(&foreign, &to_journal).unwrap();
+    let (kept, slash) = (clip_of(&image), temp.at("totals/"));
+    let edits: [&[&str]; 4] = [
+        &["move", "a", "0x600"],
+        &["resize", "a", "256"],
+        &["fill", "a", clip.to_str().unwrap()],
+        &["record"],
+    ];
+    let names =
+        [&image, &link, &hard, &journal, &early, &to_journal, &foreign, &kept, &folder, &slash];
+    let names = names.map(|name| name.to_str().unwrap());
+    let before = (State::of(&image), fs::read(&foreign).unwrap());
+    for args in edits {
+        for name in names.iter().copied().chain(["", "/", ".", "..", "/dev/null"]) {
+            let run = on(args[0], &image, &[&args[1..], &["--record", name]].concat());
+            assert_eq!(run.status, 64, "{args:?} {name}: {}", run.err);
+            assert_eq!((State::of(&image), fs::read(&foreign).unwrap()), before, "{args:?} {name}");
+        }
+        let run = on(args[0], &image, &[&args[1..], &["--record"]].concat());
+        assert_eq!(run.status, 64, "{args:?}: {}", run.err);
+        let twice = ["--record", "one", "--record", "two"];
+        let run = on(args[0], &image, &[&args[1..], &twice].concat());
+        assert_eq!(run.status, 64, "{args:?}: {}", run.err);
+        assert!(run.err.contains("--record is given twice"), "{}", run.err);
     }
-    assert_eq!(on("rewrite", &image, &["--record"]).status, 64);
+    // The clip of a fill, by its name or as standard input.
+    let (name, words) = (clip.to_str().unwrap(), "this is the clip; name another file");
+    not_done(&image, &clip, &["fill", "a", name], 64, words);
+    let mut command = program();
+    command.arg("fill").arg(&image).args(["a", "-", "--record", name]);
+    let run: Run = command.stdin(File::open(&clip).unwrap()).output().unwrap().into();
+    assert!(run.status == 64 && run.err.contains(words), "{}", run.err);
+    assert_eq!(State::of(&image), before.0);
+    let run = on("record", &image, &["--force"]);
+    assert!(run.status == 64 && run.err.contains("--force is for --record"), "{}", run.err);
 }
 
 /// It is counted although nobody hears of it.
@@ -265,6 +313,35 @@ fn a_record_reached_through_a_link_is_written_in_its_place() {
         .into();
     assert!(run.out.contains(", edits 3\n"), "{}{}", run.out, run.err);
     assert_eq!(read(&file), Table::of(&image).record_file(3));
+}
+
+#[test]
+fn a_link_that_leads_nowhere_is_not_replaced() {
+    let temp = Temp::new();
+    let image = small(&temp);
+    let link = temp.at("link");
+    symlink(temp.at("nothing"), &link).unwrap();
+    for args in [&["move", "a", "0x600"][..], &["resize", "a", "256"]] {
+        not_done(&image, &link, args, 73, "a link that leads nowhere");
+    }
+    let run = on("record", &image, &["--record", link.to_str().unwrap()]);
+    assert_eq!(run.status, 73, "{}", run.err);
+    assert!(fs::symlink_metadata(&link).unwrap().is_symlink() && !temp.at("nothing").exists());
+}
+
+#[test]
+fn the_mode_of_the_file_is_kept() {
+    let temp = Temp::new();
+    let image = small(&temp);
+    let file = temp.at("totals");
+    said(&image, &file, &["rewrite"]);
+    for mode in [0o600, 0o640, 0o666] {
+        fs::set_permissions(&file, fs::Permissions::from_mode(mode)).unwrap();
+        for args in [&["move", "a", "0x600"][..], &["rewrite"], &["move", "a", "0x1000"]] {
+            said(&image, &file, args);
+            assert_eq!(fs::metadata(&file).unwrap().permissions().mode() & 0o777, mode, "{args:?}");
+        }
+    }
 }
 
 // Records that do not fit -----------------------------------------------------------------
@@ -332,16 +409,16 @@ fn a_spoiled_record_is_told() {
     ];
     for (i, text) in spoiled.iter().enumerate() {
         fs::write(&file, text).unwrap();
-        not_done(
-            &image,
-            &file,
-            &["move", "a", "0x600"],
-            65,
-            "this cannot be used: it is torn, or ",
-        );
+        // Nobody is told to take a file away that is not the program's.
+        let begins = text.starts_with("counter record ") && text.len() <= 0x400;
+        let words = match begins {
+            true => ": this record is torn, or of another version of counter. Take it away: ",
+            false => ": this is no record; name another file. Nothing was written\n",
+        };
+        not_done(&image, &file, &["move", "a", "0x600"], 65, words);
+        not_done(&image, &file, &["resize", "a", "256"], 65, words);
         // What begins as a record does may be replaced, and nothing else.
         let run = on("record", &image, &["--record", file.to_str().unwrap(), "--force"]);
-        let begins = text.starts_with("counter record ") && text.len() <= 0x400;
         assert_eq!(run.status, if begins { 0 } else { 73 }, "{i}: {}", run.err);
     }
     for len in 0..good.len() {
@@ -350,10 +427,6 @@ fn a_spoiled_record_is_told() {
     }
     fs::write(&file, "counter record 2\nused 1370 largest 6656 teams 16\n").unwrap();
     not_done(&image, &file, &["rewrite"], 65, "of another version of counter");
-    not_done(&image, &image, &["rewrite"], 65, "it is torn, or no record");
-    let folder = temp.at("folder");
-    fs::create_dir(&folder).unwrap();
-    not_done(&image, &folder, &["rewrite"], 65, "it is torn, or no record");
 }
 
 /// The count ends at 2^32 - 1.
@@ -375,7 +448,7 @@ fn an_edit_past_the_last_count_is_refused() {
     ];
     for args in edits {
         let words = "refused 25: used bytes or edit count would leave 0 to 2^32 - 1 (the record's count is \
-                     at its end; `counter record` makes a new one)";
+                     at its end; `counter record IMAGE --record FILE --force` makes a new one)";
         not_done(&image, &file, args, 25, words);
         assert!(fs::read(&image).unwrap() == filled_master(), "{args:?}");
         assert_eq!(read(&file), full);
@@ -407,7 +480,7 @@ fn record_makes_a_new_one() {
     assert_eq!(done("record", &image, &["--record", name]), format!("{line}written to {name}\n"));
     let text = "counter record 1\nused 1370 largest 6656 edits 0\n";
     assert_eq!(read(&file), text);
-    assert!(!early(&file).exists());
+    assert!(!is_left(&image, &file));
     let told = json("record", &image, &[]);
     let numbers = FIELDS.map(|name| told.at("record").at(name).number());
     assert_eq!((numbers, told.at("out")), ([1370, 6822, 6656, 0], &Json::Null));
@@ -423,13 +496,11 @@ fn record_makes_a_new_one() {
     assert_eq!(told.at("out").text(), name);
     assert_eq!(read(&file), "counter record 1\nused 1370 largest 6400 edits 0\n");
     let notes = temp.write("notes", b"my notes\n");
-    for other in [&notes, &image] {
-        let before = State::of(other);
-        let run = on("record", &image, &["--force", "--record", other.to_str().unwrap()]);
-        assert_eq!(run.status, 73, "{}", run.err);
-        assert!(run.err.contains("is there already, and is no record"), "{}", run.err);
-        assert_eq!(State::of(other), before);
-    }
+    let before = State::of(&notes);
+    let run = on("record", &image, &["--force", "--record", notes.to_str().unwrap()]);
+    assert_eq!(run.status, 73, "{}", run.err);
+    assert!(run.err.contains("is there already, and is no record"), "{}", run.err);
+    assert_eq!(State::of(&notes), before);
     assert!(said(&image, &file, &["rewrite"]).ends_with(", edits 1\n"));
 }
 
@@ -450,32 +521,26 @@ fn an_image_that_does_not_open_has_no_record() {
 // Disks and cuts --------------------------------------------------------------------------
 
 #[test]
-fn a_record_that_cannot_be_written_ends_the_edit_before_it_begins() {
+fn a_folder_that_is_not_there_ends_the_edit_before_it_begins() {
     let temp = Temp::new();
     let image = small(&temp);
-    let before = State::of(&image);
-    let taken = temp.at("taken");
-    // Something else has the name that the new text gets; it is longer than a record.
-    let other = temp.write("taken.counter-new", &[7; 0x401]);
-    for (file, words) in [(temp.at("no/folder/totals"), "No such file"), (taken, "File exists")] {
-        for args in [&["move", "a", "0x600"][..], &["resize", "a", "256"]] {
-            let run = with(&image, &file, args);
-            assert_eq!(run.status, 73, "{args:?}: {}", run.err);
-            assert!(run.err.contains("the record cannot be written: "), "{}", run.err);
-            assert!(
-                run.err.contains(words) && run.err.contains("nothing was written"),
-                "{}",
-                run.err
-            );
-            assert_eq!(State::of(&image), before, "{args:?}");
-            assert!(!journal_of(&image).exists() && !file.exists(), "{args:?}");
-        }
+    let file = temp.at("no/folder/totals");
+    for args in [&["move", "a", "0x600"][..], &["resize", "a", "256"]] {
+        not_done(&image, &file, args, 73, "the record cannot be written: No such file");
     }
-    assert_eq!(fs::read(&other).unwrap(), [7; 0x401]);
-    // One that a cut left before there was a journal is no hindrance.
+    // A file that a cut left has its name for good.
     let file = temp.at("totals");
-    fs::write(early(&file), "counter record 1\nused").unwrap();
-    assert!(said(&image, &file, &["move", "a", "0x600"]).ends_with(", edits 1\n"));
+    for n in 1..200 {
+        let number = std::process::id() + n;
+        temp.write(&format!("counter-record.{number}"), b"counter record 1\nused");
+    }
+    let run = with(&image, &file, &["move", "a", "0x600"]);
+    assert_eq!(run.status, 0, "{}", run.err);
+    assert_eq!(read(&file), Table::of(&image).record_file(1));
+    // A name as long as a name may be.
+    let file = temp.at(&"n".repeat(255));
+    assert_eq!(with(&image, &file, &["move", "a", "0x1000"]).status, 0);
+    assert_eq!(read(&file), Table::of(&image).record_file(1));
 }
 
 /// Runs an edit with a record on a disk that is full from the n-th step on.
@@ -498,6 +563,7 @@ fn the_record_goes_with_the_edit_when_the_disk_is_full() {
         &["resize", "a", "256"],
     ];
     let first = "counter record 1\nused 1370 largest 6656 edits 4\n";
+    let mut unrecorded = 0;
     for args in edits {
         let mut seen = Vec::new();
         for n in 1.. {
@@ -508,9 +574,17 @@ fn the_record_goes_with_the_edit_when_the_disk_is_full() {
             let what = format!("{args:?}, full from {n}: {}{}", run.out, run.err);
             match run.status {
                 0 => {}
-                74 => assert_eq!(read(&file), first, "{what}"),
+                74 => {
+                    assert_eq!(read(&file), first, "{what}");
+                    let kept = ["nothing was written", "the image is as it was"];
+                    assert!(kept.iter().any(|words| run.err.contains(words)), "{what}");
+                }
                 78 => {
                     assert_eq!(read(&file), first, "{what}");
+                    let whole = run.err.contains("The edit is written and synced");
+                    assert_eq!(run.err.contains("the record cannot be written"), whole, "{what}");
+                    assert!(whole || run.err.contains("holds a part of the edit"), "{what}");
+                    unrecorded += usize::from(whole);
                     let out = done("recover", &image, &[]);
                     let line = Table::of(&image).record_line(5);
                     assert!(out.contains(&format!("\n{line}done: ")), "{what}: {out}");
@@ -519,7 +593,7 @@ fn the_record_goes_with_the_edit_when_the_disk_is_full() {
             }
             let count = if run.status == 74 { 4 } else { 5 };
             assert_eq!(read(&file), Table::of(&image).record_file(count), "{what}");
-            assert!(!early(&file).exists() && !journal_of(&image).exists(), "{what}");
+            assert!(!is_left(&image, &file), "{what}");
             if run.status == 0 && !run.err.contains("finished from the journal") {
                 break;
             }
@@ -527,18 +601,28 @@ fn the_record_goes_with_the_edit_when_the_disk_is_full() {
         println!("{args:?}: {seen:?}");
         assert!(seen.contains(&74), "{args:?}: {seen:?}");
     }
+    // Create, write, sync, of the four that write to the image; more where a page failed first.
+    assert!(unrecorded >= 12, "{unrecorded}");
 }
+
+const FIRST: &str = "counter record 1\nused 1370 largest 6656 edits 4\n";
+const SECOND: &str = "counter record 1\nused 1370 largest 3840 edits 5\n";
 
 /// A move that is cut when its table was written, with its record in a folder of its own.
 fn cut(temp: &Temp) -> (PathBuf, PathBuf) {
+    let _ = fs::remove_dir_all(temp.at("desk"));
+    fs::create_dir(temp.at("desk")).unwrap();
+    cut_with(temp, temp.write("desk/totals", FIRST.as_bytes()))
+}
+
+fn cut_with(temp: &Temp, file: PathBuf) -> (PathBuf, PathBuf) {
     let image = small(temp);
-    fs::create_dir_all(temp.at("desk")).unwrap();
-    let file = temp.write("desk/totals", b"counter record 1\nused 1370 largest 6656 edits 4\n");
-    // Record: create, write, sync. Journal: the same. Image: write, sync. Journal: write, sync. The call.
-    // Sync.
-    let run = full_from(12, &image, &file, &["move", "a", "0x1000"]);
+    let kept = fs::read(&file).ok();
+    // Journal: create, write, sync. Image: write, sync. Journal: write, sync. The call. Sync.
+    let run = full_from(9, &image, &file, &["move", "a", "0x1000"]);
     assert_eq!(run.status, 78, "{}", run.err);
-    assert!(early(&file).exists() && journal_of(&image).exists());
+    assert!(journal_of(&image).exists());
+    assert_eq!(fs::read(&file).ok(), kept);
     (image, file)
 }
 
@@ -559,37 +643,158 @@ fn a_cut_edit_is_counted_when_it_is_finished() {
     assert!(run.err.contains("finished an edit that was cut: move a to 0x1000"), "{}", run.err);
     assert!(run.out.contains(", edits 6\n"), "{}", run.out);
     assert_eq!(read(&file), "counter record 1\nused 1384 largest 3840 edits 6\n");
-    assert!(!early(&file).exists());
+    assert!(!is_left(&image, &file));
+
+    // The first one, after which there is a file.
+    fs::remove_file(&file).unwrap();
+    let (image, file) = cut_with(&temp, file);
+    assert!(done("recover", &image, &[]).contains(", edits 1\n"));
+    assert_eq!(read(&file), "counter record 1\nused 1370 largest 3840 edits 1\n");
+    assert!(!is_left(&image, &file));
+    // The file has its new text already.
+    let (image, file) = cut(&temp);
+    fs::write(&file, SECOND).unwrap();
+    assert!(done("recover", &image, &[]).contains(", edits 5\n"));
+    assert_eq!(read(&file), SECOND);
+    assert!(!is_left(&image, &file));
+}
+
+/// The edit is whole, its record cannot be written: nothing is lost, whoever comes next.
+fn is_unrecorded(image: &Path, words: &str) {
+    for args in [&["recover"][..], &["rewrite"], &["recover", "--json"]] {
+        let run = on(args[0], image, &args[1..]);
+        assert_eq!(run.status, 78, "{args:?}: {}", run.err);
+        assert!(run.err.contains(words), "{args:?}: {}", run.err);
+        assert!(run.err.contains("The edit is written and synced, and its journal is kept: "));
+        let without = format!("`counter recover {} --without-record`", image.display());
+        assert!(run.err.contains(&without), "{args:?}: {}", run.err);
+        assert_eq!(Table::of(image).entry("/a").offset, 0x1000);
+        assert!(journal_of(image).exists(), "{args:?}");
+    }
 }
 
 #[test]
-fn a_record_that_is_lost_keeps_no_edit_from_being_finished() {
+fn a_record_that_cannot_be_written_keeps_the_journal() {
     let temp = Temp::in_memory();
-    // The new text; the file too; their folder.
-    for lost in 1..=3 {
-        let (image, file) = cut(&temp);
-        match lost {
-            1 => fs::remove_file(early(&file)).unwrap(),
-            2 => [early(&file), file.clone()]
-                .map(fs::remove_file)
-                .into_iter()
-                .for_each(Result::unwrap),
-            _ => fs::remove_dir_all(temp.at("desk")).unwrap(),
-        }
-        let run = on("recover", &image, &[]);
-        assert_eq!(run.status, 0, "{}", run.err);
-        assert!(run.err.contains("the edit's record is lost: "), "{}", run.err);
-        assert!(run.out.contains(&Table::of(&image).record_line(1)), "{}", run.out);
-        assert_eq!(Table::of(&image).entry("/a").offset, 0x1000);
-        assert!(!journal_of(&image).exists());
-        assert_eq!(file.exists(), lost == 1);
-    }
-    // The one that is there is not the image's any more.
+    // Its folder is away, and comes back.
     let (image, file) = cut(&temp);
-    fs::remove_file(early(&file)).unwrap();
+    fs::rename(temp.at("desk"), temp.at("away")).unwrap();
+    is_unrecorded(&image, "the record cannot be written: No such file");
+    fs::rename(temp.at("away"), temp.at("desk")).unwrap();
+    assert!(done("recover", &image, &[]).contains(", edits 5\n"));
+    assert_eq!(read(&file), SECOND);
+
+    // It is gone, which an empty folder in the place of a disk looks like too.
+    let (image, file) = cut(&temp);
+    fs::remove_file(&file).unwrap();
+    is_unrecorded(&image, "the record cannot be written: it is not there any more");
+    assert!(!file.exists());
+    symlink(temp.at("nothing"), &file).unwrap();
+    is_unrecorded(&image, "a link that leads nowhere");
+    fs::remove_file(&file).unwrap();
+    // Once it lies elsewhere, a link to it will do.
+    fs::write(temp.at("elsewhere"), FIRST).unwrap();
+    symlink(temp.at("elsewhere"), &file).unwrap();
     done("recover", &image, &[]);
-    let words = "the image 1,370 and 3,840";
-    not_done(&image, &file, &["rewrite"], 65, words);
+    assert_eq!(read(&temp.at("elsewhere")), SECOND);
+    assert!(fs::symlink_metadata(&file).unwrap().is_symlink());
+
+    // Somebody changed it.
+    let (image, file) = cut(&temp);
+    for other in [FIRST.replace("edits 4", "edits 6"), "my notes".into(), "".into()] {
+        fs::write(&file, &other).unwrap();
+        is_unrecorded(&image, "the record cannot be written: another program changed it meanwhile");
+        assert_eq!(read(&file), other);
+    }
+    // And goes on with it.
+    let run = on("recover", &image, &["--without-record"]);
+    assert_eq!(run.status, 0, "{}", run.err);
+    assert!(run.err.contains("totals: left as it is, without this edit"), "{}", run.err);
+    assert!(run.out.contains(&Table::of(&image).record_line(5)), "{}", run.out);
+    assert_eq!(read(&file), "");
+    assert!(!is_left(&image, &file));
+}
+
+// Two at the same time --------------------------------------------------------------------
+
+/// What came meanwhile is not overwritten, and the edit is told of.
+#[test]
+fn a_record_that_came_meanwhile_is_kept() {
+    let temp = Temp::in_memory();
+    let (image, file) = cut_with(&temp, temp.at("totals"));
+    for other in ["counter record 1\nused 1370 largest 6656 edits 1\n", "my notes", ""] {
+        fs::write(&file, other).unwrap();
+        is_unrecorded(&image, "the record cannot be written: another program changed it meanwhile");
+        assert_eq!(read(&file), other);
+    }
+}
+
+#[test]
+fn a_record_in_use_is_told_or_waited_for() {
+    let temp = Temp::in_memory();
+    let image = small(&temp);
+    let file = temp.write("totals", FIRST.as_bytes());
+    let other = File::open(&file).unwrap();
+    other.lock().unwrap();
+    let before = State::of(&image);
+    for args in [&["move", "a", "0x1000"][..], &["resize", "a", "256"], &["record", "--force"]] {
+        let run = with(&image, &file, args);
+        assert_eq!(run.status, 75, "{args:?}: {}", run.err);
+        assert!(run.err.contains("totals: another program is using it"), "{}", run.err);
+        assert_eq!(State::of(&image), before, "{args:?}");
+        assert_eq!(read(&file), FIRST, "{args:?}");
+        assert!(!is_left(&image, &file), "{args:?}");
+    }
+    // A dry run reads it.
+    assert_eq!(with(&image, &file, &["move", "a", "0x1000", "--dry-run"]).status, 0);
+    let mut command = program();
+    command.arg("move").arg(&image).args(["a", "0x1000", "--wait", "--record"]).arg(&file);
+    let waits = command.stdout(Stdio::null()).stderr(Stdio::piped()).spawn().unwrap();
+    std::thread::sleep(std::time::Duration::from_millis(200));
+    // Another takes its place before it is free.
+    let new = temp.write("new", FIRST.replace("edits 4", "edits 7").as_bytes());
+    fs::rename(&new, &file).unwrap();
+    other.unlock().unwrap();
+    let run: Run = waits.wait_with_output().unwrap().into();
+    assert_eq!(run.status, 0, "{}", run.err);
+    assert_eq!(read(&file), SECOND.replace("edits 5", "edits 8"));
+    // The edit that was cut is told of it too.
+    let (image, file) = cut(&temp);
+    let other = File::open(&file).unwrap();
+    other.lock().unwrap();
+    is_unrecorded(&image, "totals: another program is using it");
+    other.unlock().unwrap();
+    done("recover", &image, &[]);
+    assert_eq!(read(&file), SECOND);
+}
+
+/// Whoever is not told otherwise is counted.
+#[test]
+fn one_record_for_many_images_loses_no_edit_unsaid() {
+    let temp = Temp::in_memory();
+    let file = temp.at("totals");
+    let clip = temp.write("given", &[9; 256]);
+    let images: Vec<PathBuf> =
+        (0..12).map(|i| temp.write(&format!("{i}.iso"), &filled_master())).collect();
+    let run = |image: &PathBuf| {
+        let mut command = program();
+        command.arg("fill").arg(image).arg("a").arg(&clip).arg("--wait").arg("--record").arg(&file);
+        command.stdout(Stdio::null()).stderr(Stdio::piped()).spawn().unwrap()
+    };
+    let runs: Vec<_> = images.iter().map(run).collect();
+    let runs = runs.into_iter().map(|run| Run::from(run.wait_with_output().unwrap()));
+    let mut counted = 0;
+    for (run, image) in runs.zip(&images) {
+        assert!(span(image, 0x500, 256) == [9; 256], "{}", run.err);
+        assert_eq!(journal_of(image).exists(), run.status == 78, "{}", run.err);
+        match run.status {
+            0 => counted += 1,
+            78 => assert!(run.err.contains("the record cannot be written"), "{}", run.err),
+            _ => panic!("{}: {}", run.status, run.err),
+        }
+    }
+    println!("{counted} of {} counted", images.len());
+    assert_eq!(read(&file), Table::of(&images[0]).record_file(counted));
 }
 
 /// Each reads the record when it has the image alone.
@@ -602,7 +807,7 @@ fn edits_at_the_same_time_are_all_counted() {
         .map(|i| {
             let mut command = program();
             command.arg("add").arg(&image).arg(format!("new{i}")).arg("--wait");
-            command.arg("--record").arg(&file).stderr(std::process::Stdio::null());
+            command.arg("--record").arg(&file).stderr(Stdio::null());
             command.stdout(File::create(temp.at("out")).unwrap()).spawn().unwrap()
         })
         .collect();
