@@ -45,10 +45,10 @@ module _ (image w : List ℕ) (m : ℕ) (o : IsOpen image w m) (known : OpenImag
     size-fits-word = record { fits = omega (arith, new-on-disc, known .reads .bounds .small) }
 
 -- the table has s bytes and then n, and the edited file o and then n′
-pub entered : (image w : List ℕ) (m e f s s′ o n n′ size largest : ℕ) (d : Decision) (t : Totals) (old new : DiscRegion) (moved : Moved) (a : Accounted) → e ≡ discEnd image → f ≡ fstOffset image → s ≡ fstSize image → s′ ≡ s → o ≡ old .size →
-    n ≡ size → n′ ≡ new .size → largest ≡ longestFrom e (goneOf old) new (f + size) 0 (regionsIn w 1 (m - 1)) → moved ≡ movedAs (totalsVerdict t (s′ + o) (n + n′)) t (totalsMoved t (s′ + o) (n + n′) largest) →
-    a ≡ settledAs d moved → a ≡ enteredAs image (regionsIn w 1 (m - 1)) d t size old new
-entered image w m e f s s′ o n n′ size largest d t old new moved a end start old-size q₀ q₁ q₂ q₃ l q g = rw (q, l, end, start, q₀, old-size, q₁, q₂, q₃) at g
+pub entered : (image w : List ℕ) (m e f s s′ o n n′ size largest : ℕ) (d : Decision) (t : Totals) (old new : DiscRegion) (moved : Moved) (a : Accounted) → largest ≡ longestFrom e (goneOf old) new (f + size) 0 (regionsIn w 1 (m - 1)) →
+    moved ≡ movedAs (totalsVerdict t (s′ + o) (n + n′)) t (totalsMoved t (s′ + o) (n + n′) largest) → a ≡ settledAs d moved → e ≡ discEnd image → f ≡ fstOffset image → s ≡ fstSize image → s′ ≡ s → o ≡ old .size → n ≡ size →
+    n′ ≡ new .size → a ≡ enteredAs image (regionsIn w 1 (m - 1)) d t size old new
+entered image w m e f s s′ o n n′ size largest d t old new moved a l q g end start old-size q₀ q₁ q₂ q₃ = rw (q, l, end, start, q₀, old-size, q₁, q₂, q₃) at g
 
 -- ---- by the cases of the decision
 

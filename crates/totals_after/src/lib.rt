@@ -1,6 +1,7 @@
 // The totals record after what an edit decides on: its test, which comes last, and the record that comes back.
 use commit::Decision;
 use endian::wide;
+use header::Field;
 use refusal::Verdict;
 use space::DiscRegion;
 use totals::Moved;
@@ -46,7 +47,7 @@ fn settled(decision: Decision, moved: Moved) -> Accounted
 }
 
 // A decision with the record after it: used bytes move by what the table and the edited file gain and lose, and the largest free region comes
-// from the used regions in the words. The new table has `size` bytes, and the file goes from `old` to `new`.
+// from the used regions in the words. The header of an open image is whole, so its words are read at once. The new table has `size` bytes, and the file goes from `old` to `new`.
 fn enter(
     image: &[u8],
     words: &[u32],
@@ -60,10 +61,11 @@ fn enter(
     requires { ⌜ IsOpen (now image) (now words) m × (fstOffset (now image) + size ≤ discEnd (now image)) ⌝ }
     ensures { λ r. ⌜ r ≡ enteredAs (now (image .entry)) (regionsIn (now (words .entry)) 1 (m - 1)) decision totals size old new ⌝ }
 {
-    let disc_end = header::disc_end(image) as u32;
-    let table_end = header::fst_offset(image) + size;
+    let user_size = endian::read_u32(image, Field::USER_SIZE.at);
+    let disc_end = user_size + endian::read_u32(image, Field::DISC_SIZE.at);
+    let table_end = endian::read_u32(image, Field::FST_OFFSET.at) + size;
     let largest = totals::largest_free(words, m, disc_end, table_end, old, new);
-    let fst_size = header::fst_size(image);
+    let fst_size = endian::read_u32(image, Field::FST_SIZE.at);
     let before = wide(fst_size) + wide(old.size);
     let after = wide(size) + wide(new.size);
     let moved = totals::move_totals(totals, before, after, largest);
@@ -84,7 +86,7 @@ pub fn account(
     match decision {
         Decision::Refused(_) => Accounted { decision, totals },
         Decision::Nothing => {
-            let size = header::fst_size(image);
+            let size = endian::read_u32(image, Field::FST_SIZE.at);
             let none = DiscRegion { offset: 0, size: 0 };
             enter(image, words, m, decision, totals, size, none, none)
         }

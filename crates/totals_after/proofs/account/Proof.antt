@@ -16,11 +16,12 @@ known c = let s = c .before in opens (now (s .args .image)) (length (now (s .arg
 enum-told : tie.Need-enum-told
 enum-told c = search needs
 
+-- /work/main/target/rlib/header.rlib/interface/lang/src/lib.rt:21:30
 enum-told-2 : tie.Need-enum-told-2
 enum-told-2 c = search needs
 
-fst-size-requires : tie.Need-fst-size-requires
-fst-size-requires c κs = search needs
+read-u32-requires : tie.Need-read-u32-requires
+read-u32-requires c κs = let k : tie.After-shared-slice-known = search in omega (arith, known k .reads .header .whole)
 
 enter-requires : tie.Need-enter-requires
 enter-requires c κs = search (table-on-disc, known)
@@ -52,7 +53,7 @@ account-spec =
     (tie.spec
     enum-told
     enum-told-2
-    fst-size-requires
+    read-u32-requires
     enter-requires
     enum-known-decision
     cast-enter
