@@ -45,15 +45,16 @@ module _ (image w : List ℕ) (m : ℕ) (o : IsOpen image w m) (known : OpenImag
     size-fits-word = record { fits = omega (arith, new-on-disc, known .reads .bounds .small) }
 
 -- the table has s bytes and then n, and the edited file o and then n′
-pub entered : (image w : List ℕ) (m e f s s′ o n n′ size largest : ℕ) (d : Decision) (t : Totals) (old new : DiscRegion) (moved : Moved) (a : Accounted) → largest ≡ longestFrom e (goneOf old) new (f + size) 0 (regionsIn w 1 (m - 1)) →
-    moved ≡ movedAs (totalsVerdict t (s′ + o) (n + n′)) t (totalsMoved t (s′ + o) (n + n′) largest) → a ≡ settledAs d moved → e ≡ discEnd image → f ≡ fstOffset image → s ≡ fstSize image → s′ ≡ s → o ≡ old .size → n ≡ size →
-    n′ ≡ new .size → a ≡ enteredAs image (regionsIn w 1 (m - 1)) d t size old new
-entered image w m e f s s′ o n n′ size largest d t old new moved a l q g end start old-size q₀ q₁ q₂ q₃ = rw (q, l, end, start, q₀, old-size, q₁, q₂, q₃) at g
+pub entered : (image w : List ℕ) (m e f s s′ o n n′ size largest : ℕ) (t : Totals) (old new : DiscRegion) (moved : Moved) → largest ≡ longestFrom e (goneOf old) new (f + size) 0 (regionsIn w 1 (m - 1)) →
+    moved ≡ movedAs (totalsVerdict t (s′ + o) (n + n′)) t (totalsMoved t (s′ + o) (n + n′) largest) → e ≡ discEnd image → f ≡ fstOffset image → s ≡ fstSize image → s′ ≡ s → o ≡ old .size → n ≡ size → n′ ≡ new .size →
+    moved ≡ enteredAs image (regionsIn w 1 (m - 1)) t size old new
+entered image w m e f s s′ o n n′ size largest t old new moved l q end start old-size q₀ q₁ q₂ q₃ = rw (l, end, start, q₀, old-size, q₁, q₂, q₃) at q
 
 -- ---- by the cases of the decision
 
-pub nothing-accounted : (image : List ℕ) (xs : List DiscRegion) (d : Decision) (t : Totals) (s : ℕ) (a : Accounted) → d ≡ decision.Nothing → s ≡ fstSize image → a ≡ enteredAs image xs d t s noPlace noPlace → a ≡ accountOf image xs d t
-nothing-accounted image xs d t s a is e g = rw is (rw (is, e) at g)
+module _ (image : List ℕ) (xs : List DiscRegion) (d : Decision) (t : Totals) (moved : Moved) (a : Accounted) where
+  pub nothing-accounted : (s : ℕ) → d ≡ decision.Nothing → s ≡ fstSize image → moved ≡ enteredAs image xs t s noPlace noPlace → a ≡ settledAs d moved → a ≡ accountOf image xs d t
+  nothing-accounted s is e q g = rw is (rw (is, q, e) at g)
 
-pub write-accounted : (image : List ℕ) (xs : List DiscRegion) (d : Decision) (t : Totals) (size : ℕ) (x : Writing) (a : Accounted) → d ≡ decision.Write size x → a ≡ enteredAs image xs (decision.Write size x) t size (x .old) (x .place) → a ≡ accountOf image xs d t
-write-accounted image xs d t size x a is g = rw is g
+  pub write-accounted : (size : ℕ) (x : Writing) → d ≡ decision.Write size x → moved ≡ enteredAs image xs t size (x .old) (x .place) → a ≡ settledAs (decision.Write size x) moved → a ≡ accountOf image xs d t
+  write-accounted size x is q g = rw is (rw q at g)

@@ -46,20 +46,20 @@ fn settled(decision: Decision, moved: Moved) -> Accounted
     }
 }
 
-// A decision with the record after it: used bytes move by what the table and the edited file gain and lose, and the largest free region comes
-// from the used regions in the words. The header of an open image is whole, so its words are read at once. The new table has `size` bytes, and the file goes from `old` to `new`.
+// The record after an edit: used bytes move by what the table and the edited file gain and lose, and the largest free region comes from the
+// used regions in the words. The header of an open image is whole, so its words are read at once. The new table has `size` bytes, and the file
+// goes from `old` to `new`.
 fn enter(
     image: &[u8],
     words: &[u32],
     m: usize,
-    decision: Decision,
     totals: Totals,
     size: u32,
     old: DiscRegion,
     new: DiscRegion,
-) -> Accounted
+) -> Moved
     requires { ⌜ IsOpen (now image) (now words) m × (fstOffset (now image) + size ≤ discEnd (now image)) ⌝ }
-    ensures { λ r. ⌜ r ≡ enteredAs (now (image .entry)) (regionsIn (now (words .entry)) 1 (m - 1)) decision totals size old new ⌝ }
+    ensures { λ r. ⌜ r ≡ enteredAs (now (image .entry)) (regionsIn (now (words .entry)) 1 (m - 1)) totals size old new ⌝ }
 {
     let user_size = endian::read_u32(image, Field::USER_SIZE.at);
     let disc_end = user_size + endian::read_u32(image, Field::DISC_SIZE.at);
@@ -68,8 +68,7 @@ fn enter(
     let fst_size = endian::read_u32(image, Field::FST_SIZE.at);
     let before = wide(fst_size) + wide(old.size);
     let after = wide(size) + wide(new.size);
-    let moved = totals::move_totals(totals, before, after, largest);
-    settled(decision, moved)
+    totals::move_totals(totals, before, after, largest)
 }
 
 // What is decided on, once the record is tested too: a refused edit hands it back as it is.
@@ -88,12 +87,14 @@ pub fn account(
         Decision::Nothing => {
             let size = endian::read_u32(image, Field::FST_SIZE.at);
             let none = DiscRegion { offset: 0, size: 0 };
-            enter(image, words, m, decision, totals, size, none, none)
+            let moved = enter(image, words, m, totals, size, none, none);
+            settled(decision, moved)
         }
         Decision::Write(size, w) => {
             let old = w.old;
             let new = w.place;
-            enter(image, words, m, decision, totals, size as u32, old, new)
+            let moved = enter(image, words, m, totals, size as u32, old, new);
+            settled(decision, moved)
         }
     }
 }

@@ -26,6 +26,9 @@ read-u32-requires c κs = let k : tie.After-shared-slice-known = search in omega
 enter-requires : tie.Need-enter-requires
 enter-requires c κs = search (table-on-disc, known)
 
+settled-requires : tie.Need-settled-requires
+settled-requires c κs = search needs
+
 enum-known-decision : tie.Need-enum-known-decision
 enum-known-decision c = search needs
 
@@ -34,6 +37,9 @@ cast-enter c = search (size-fits-word, known)
 
 enter-requires-2 : tie.Need-enter-requires-2
 enter-requires-2 c κs = search (new-on-disc, known)
+
+settled-requires-2 : tie.Need-settled-requires-2
+settled-requires-2 c κs = search needs
 
 returns : tie.Need-returns
 returns c = rw (c .enum-told .given .1)
@@ -44,8 +50,9 @@ returns-2 c = search nothing-accounted
 returns-3 : tie.Need-returns-3
 returns-3 c =
     let d : tie.After-decision = search in
-    let g : tie.After-enter2 = search in
-    write-accounted _ _ _ _ _ _ _ (d .decision .given .1) (g .enter2 .ensures)
+    let e : tie.After-enter2 = search in
+    let g : tie.After-settled2 = search in
+    write-accounted _ _ _ _ _ _ _ _ (d .decision .given .1) (e .enter2 .ensures) (g .settled2 .ensures)
 
 pub account-spec : {M : Type 1} → statement M
 account-spec =
@@ -55,9 +62,11 @@ account-spec =
     enum-told-2
     read-u32-requires
     enter-requires
+    settled-requires
     enum-known-decision
     cast-enter
     enter-requires-2
+    settled-requires-2
     returns
     returns-2
     returns-3)

@@ -64,9 +64,6 @@ add-after c = search needs
 move-totals-requires : tie.Need-move-totals-requires
 move-totals-requires c κs = search needs
 
-settled-requires : tie.Need-settled-requires
-settled-requires c κs = search needs
-
 returns : tie.Need-returns
 returns c =
     let u : tie.After-read-u32 = search in
@@ -79,8 +76,7 @@ returns c =
     let w₃ : tie.After-wide3 = search in
     let w₄ : tie.After-wide4 = search in
     let m : tie.After-move-totals = search in
-    let g : tie.After-settled = search in
-    entered _ _ _ _ _ _ _ _ _ _ _ _ _ _ _ _ _ _ (l .largest-free .ensures) (m .move-totals .ensures) (g .settled .ensures) (omega (arith, u .read-u32 .ensures, d .read-u322 .ensures)) (f .read-u323 .ensures) (s .read-u324 .ensures)
+    entered _ _ _ _ _ _ _ _ _ _ _ _ _ _ _ _ (l .largest-free .ensures) (m .move-totals .ensures) (omega (arith, u .read-u32 .ensures, d .read-u322 .ensures)) (f .read-u323 .ensures) (s .read-u324 .ensures)
     (w₁ .wide .ensures .0) (omega (arith, w₂ .wide2 .ensures .0)) (omega (arith, w₃ .wide3 .ensures .0)) (omega (arith, w₄ .wide4 .ensures .0))
 
 pub enter-spec : {M : Type 1} → statement M
@@ -101,5 +97,4 @@ enter-spec =
     wide-requires-4
     add-after
     move-totals-requires
-    settled-requires
     returns)

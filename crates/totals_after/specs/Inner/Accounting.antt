@@ -37,18 +37,18 @@ abbrev pub settledAs : Decision → Moved → Accounted
 settledAs d m = accounted (unless (m .verdict) d) (m .totals)
 
 -- used bytes move from `before` to `after`, in any two numbers with that difference
-abbrev pub movedTo : Decision → Totals → ℕ → ℕ → ℕ → Accounted
-movedTo d t before after largest = settledAs d (movedAs (totalsVerdict t before after) t (totalsMoved t before after largest))
+abbrev pub movedBy : Totals → ℕ → ℕ → ℕ → Moved
+movedBy t before after largest = movedAs (totalsVerdict t before after) t (totalsMoved t before after largest)
 
 -- the new table has `size` bytes, and the edited file goes from `old` to `new`; xs are the used regions behind the table, in order
-abbrev pub enteredAs : List ℕ → List DiscRegion → Decision → Totals → ℕ → DiscRegion → DiscRegion → Accounted
-enteredAs image xs d t size old new =
-    movedTo d t (fstSize image + old .size) (size + new .size) (longestFrom (discEnd image) (goneOf old) new (fstOffset image + size) 0 xs)
+abbrev pub enteredAs : List ℕ → List DiscRegion → Totals → ℕ → DiscRegion → DiscRegion → Moved
+enteredAs image xs t size old new =
+    movedBy t (fstSize image + old .size) (size + new .size) (longestFrom (discEnd image) (goneOf old) new (fstOffset image + size) 0 xs)
 
 abbrev pub accountOf : List ℕ → List DiscRegion → Decision → Totals → Accounted
 accountOf image xs (decision.Refused c) t = accounted (decision.Refused c) t
-accountOf image xs decision.Nothing t = enteredAs image xs decision.Nothing t (fstSize image) noPlace noPlace
-accountOf image xs (decision.Write size w) t = enteredAs image xs (decision.Write size w) t size (w .old) (w .place)
+accountOf image xs decision.Nothing t = settledAs decision.Nothing (enteredAs image xs t (fstSize image) noPlace noPlace)
+accountOf image xs (decision.Write size w) t = settledAs (decision.Write size w) (enteredAs image xs t size (w .old) (w .place))
 
 -- the record afterwards
 abbrev pub countedTotals : Plan → Totals → List ℕ → ℕ → ℕ → Totals

@@ -36,7 +36,7 @@ use Rattle.commit.specs.declared.Decision.{Decision}
 use Rattle.commit.specs.declared.Decision.the-variants as decision
 use Rattle.commit.specs.Inner.Decision.{Decided, DecidedAs}
 use Rattle.totals_after.specs.declared.Accounted.{Accounted}
-use Rattle.totals_after.specs.Inner.Accounting.{OnDisc, accounted, movedTo, enteredAs, accountOf}
+use Rattle.totals_after.specs.Inner.Accounting.{OnDisc, accounted, settledAs, movedBy, enteredAs, accountOf}
 
 -- ---- by what lies behind the table
 
@@ -66,8 +66,8 @@ module _ (image w : List ℕ) (m : ℕ) (o : IsOpen image w m) (b : AllBytes ima
       ∙ rw (used-places image′, e, l .end)
 
   -- LAW: so the record moves to the totals of the new image
-  pub moves : (d : Decision) (t : Totals) → enteredAs image (regionsIn w 1 (m - 1)) d t size old new ≡ movedTo d t (usedOf image) (usedOf image′) (largestSize (freeOf image′))
-  moves d t =
+  pub moves : (t : Totals) → enteredAs image (regionsIn w 1 (m - 1)) t size old new ≡ movedBy t (usedOf image) (usedOf image′) (largestSize (freeOf image′))
+  moves t =
       let before : ℕ = fstSize image + old .size in
       let after : ℕ = size + new .size in
       rw (largest-moves, same-verdict t before after (usedOf image) (usedOf image′) used-moves, same-moved t before after (usedOf image) (usedOf image′) used-moves (largestSize (freeOf image′)))
@@ -96,17 +96,17 @@ module _ (image w : List ℕ) (m room : ℕ) (bytes : List ℕ) (long : length b
         refused = λ x q. let y : Refused c ≡ Refused x = sym e ∙ q in cc;
       }
 
-  moved-entered : (p : Plan) (d : Decision) (a : Accounted) → Passed ≡ planVerdict p image (length w) room → a ≡ movedTo d t (usedOf image) (usedOf image′) (largestSize (freeOf image′)) →
+  moved-entered : (p : Plan) (d : Decision) (a : Accounted) → Passed ≡ planVerdict p image (length w) room → a ≡ settledAs d (movedBy t (usedOf image) (usedOf image′) (largestSize (freeOf image′))) →
       Entered (tested p) d t (totalsTo t image image′) a
   moved-entered p d a h e = record { passed = λ q. e ∙ go q; refused = λ c q. e ∙ stop c q }
     where
       25-is : tested p ≡ totalsVerdict t (usedOf image) (usedOf image′)
       25-is = rw (← h)
 
-      go : tested p ≡ Passed → movedTo d t (usedOf image) (usedOf image′) (largestSize (freeOf image′)) ≡ accounted d (totalsTo t image image′)
+      go : tested p ≡ Passed → settledAs d (movedBy t (usedOf image) (usedOf image′) (largestSize (freeOf image′))) ≡ accounted d (totalsTo t image image′)
       go q = rw (sym 25-is ∙ q)
 
-      stop : (c : Refusal) → tested p ≡ Refused c → movedTo d t (usedOf image) (usedOf image′) (largestSize (freeOf image′)) ≡ accounted (decision.Refused c) t
+      stop : (c : Refusal) → tested p ≡ Refused c → settledAs d (movedBy t (usedOf image) (usedOf image′) (largestSize (freeOf image′))) ≡ accounted (decision.Refused c) t
       stop c q = rw (sym 25-is ∙ q)
 
   -- LAW: of what a plan comes to, whose layout the new image has
@@ -114,7 +114,7 @@ module _ (image w : List ℕ) (m room : ℕ) (bytes : List ℕ) (long : length b
   entered p (decision.Refused c) h l = refused-entered p c (h .answer)
   entered (refused v) decision.Nothing h l = absurd (h .carries)
   entered nothing decision.Nothing h l =
-      moved-entered nothing decision.Nothing _ refl (moves image w m o b image′ (fstSize image) noPlace noPlace (l refl) decision.Nothing t)
+      moved-entered nothing decision.Nothing _ refl (ap (settledAs decision.Nothing) (moves image w m o b image′ (fstSize image) noPlace noPlace (l refl) t))
   entered (change k c) decision.Nothing h l = absurd (h .carries)
   entered (filled k clip p) decision.Nothing h l = absurd (h .carries)
   entered (refused v) (decision.Write size x) h l = absurd (h .carries)
@@ -125,7 +125,7 @@ module _ (image w : List ℕ) (m room : ℕ) (bytes : List ℕ) (long : length b
       let eo : c .old ≡ x .old = ap (λ (y : Change). y .old) (f .1) in
       let ep : c .place ≡ x .place = ap (λ (y : Change). y .place) (f .1) in
       let s : LaidOut image image′ size (x .old) (x .place) = rw (n, eo, ep) at (l (sym (h .answer))) in
-      moved-entered (change k c) (decision.Write size x) _ (h .answer) (moves image w m o b image′ size (x .old) (x .place) s (decision.Write size x) t)
+      moved-entered (change k c) (decision.Write size x) _ (h .answer) (ap (settledAs (decision.Write size x)) (moves image w m o b image′ size (x .old) (x .place) s t))
   entered (filled k clip p) (decision.Write size x) h l = absurd (h .carries)
 
 -- LAW: a table that is to be written ends on the disc
