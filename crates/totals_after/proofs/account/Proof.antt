@@ -16,7 +16,6 @@ known c = let s = c .before in opens (now (s .args .image)) (length (now (s .arg
 enum-told : tie.Need-enum-told
 enum-told c = search needs
 
--- /work/main/target/rlib/header.rlib/interface/lang/src/lib.rt:21:30
 enum-told-2 : tie.Need-enum-told-2
 enum-told-2 c = search needs
 
