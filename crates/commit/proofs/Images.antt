@@ -8,7 +8,7 @@ use native.Mathlib.Omega.{arith}
 use borrow.Author.Tests.{ltb-false, le-ltb, leb-true, eqb-true}
 use lib.Dec.{ltb, leb, eqb}
 use lib.ListN.{length, getD}
-use Rattle.refusal.specs.declared.Refusal.the-variants.{LimitOrMemory, NotEnoughSpace, OverlappingMove}
+use Rattle.refusal.specs.declared.Refusal.the-variants.{LimitOrMemory, NotEnoughSpace, OverlappingMove, TableAboveMaximum}
 use Rattle.refusal.specs.declared.Verdict.{Verdict}
 use Rattle.refusal.specs.declared.Verdict.the-variants.{Passed, Refused}
 use Rattle.refusal.specs.Refusal.{refuse, first}
@@ -32,7 +32,7 @@ use Rattle.free_space.specs.Laws.GrowthLaws.{table-largest, place-free}
 use Rattle.free_space.specs.Laws.PassedLayout.{passes}
 use Rattle.opening.specs.Opening.{tableOf, nodesIn, regionOf, behindTable, usedIn, freeOf, opening}
 use Rattle.opening.specs.Laws.OpeningLaws.{OpenImage}
-use Rattle.edits.specs.Change.{tableVerdict, placeVerdict}
+use Rattle.edits.specs.Change.{aboveMaximum, tableVerdict, placeVerdict}
 use Rattle.edits.specs.Edits.{overlapsItself, relocateVerdict}
 use Rattle.edits.specs.Laws.PlaceTests.{place-passed, free-byte}
 use Rattle.space.specs.Inner.Sort.{regionsIn}
@@ -171,11 +171,11 @@ free-size image w m e o n r o′ n′ u p q s t =
 -- the tests of a table's place, by their results
 pub place-verdict : (image : List ℕ) (room size : ℕ) (place : DiscRegion) (most : ℕ) (r : Bool) → most ≡ maxRegionSize (fstOffset image) (fstSize image) (freeOf image) →
     r ≡ (ltb 0 (place .size) && ltb (place .offset) (fstOffset image + size)) →
-    placeVerdict image room size place ≡ refuse (ltb room size) LimitOrMemory (refuse (ltb most size) NotEnoughSpace (refuse r NotEnoughSpace Passed))
+    placeVerdict image room size place ≡ refuse (ltb room size) LimitOrMemory (refuse (aboveMaximum image size) TableAboveMaximum (refuse (ltb most size) NotEnoughSpace (refuse r NotEnoughSpace Passed)))
 unfolding placeVerdict
 place-verdict image room size place most r p q =
-    ap (λ (m : ℕ). refuse (ltb room size) LimitOrMemory (refuse (ltb m size) NotEnoughSpace (refuse (ltb 0 (place .size) && ltb (place .offset) (fstOffset image + size)) NotEnoughSpace Passed))) (sym p)
-    ∙ ap (λ (b : Bool). refuse (ltb room size) LimitOrMemory (refuse (ltb most size) NotEnoughSpace (refuse b NotEnoughSpace Passed))) (sym q)
+    ap (λ (m : ℕ). refuse (ltb room size) LimitOrMemory (refuse (aboveMaximum image size) TableAboveMaximum (refuse (ltb m size) NotEnoughSpace (refuse (ltb 0 (place .size) && ltb (place .offset) (fstOffset image + size)) NotEnoughSpace Passed)))) (sym p)
+    ∙ ap (λ (b : Bool). refuse (ltb room size) LimitOrMemory (refuse (aboveMaximum image size) TableAboveMaximum (refuse (ltb most size) NotEnoughSpace (refuse b NotEnoughSpace Passed)))) (sym q)
 
 -- the limits were passed, or the table's place was judged
 pub table-past : (nodes : List Node) (place : DiscRegion) (image : List ℕ) (words room : ℕ) → limits nodes words ≡ Refused LimitOrMemory → table.Refused LimitOrMemory ≡ sizedAs (tableVerdict (placing nodes place) image words room) (length (encode nodes))

@@ -10,9 +10,9 @@ use lib.Dec.{ltb}
 use lib.ListN.{length}
 use mir.Syntax.{w32}
 use mir.Val.{Fits}
-use Rattle.refusal.specs.declared.Refusal.the-variants.{LimitOrMemory, NotEnoughSpace}
+use Rattle.refusal.specs.declared.Refusal.the-variants.{LimitOrMemory, NotEnoughSpace, TableAboveMaximum}
 use Rattle.refusal.specs.declared.Verdict.the-variants.{Passed, Refused}
-use Rattle.header.specs.Verdicts.{fstOffset, fstSize, discEnd}
+use Rattle.header.specs.Verdicts.{fstOffset, fstSize, fstMaxSize, discEnd}
 use Rattle.space.specs.declared.DiscRegion.{DiscRegion}
 use Rattle.space.specs.Free.{freeRegions}
 use Rattle.space.specs.Inner.Sort.{regionsIn}
@@ -21,7 +21,7 @@ use Rattle.free_space.specs.MaxRegionSize.{maxRegionSize}
 use Rattle.opening.specs.Opening.{freeOf}
 use Rattle.opening.specs.Laws.OpeningLaws.{OpenImage}
 use Rattle.opening.specs.Inner.Prepared.{UsedWords, IsOpen}
-use Rattle.edits.specs.Change.{placeVerdict}
+use Rattle.edits.specs.Change.{aboveMaximum, placeVerdict}
 use Rattle.commit.proofs.Images.{free-size, place-verdict}
 
 pub end-fits : (image w : List ℕ) (m e : ℕ) → IsOpen image w m → OpenImage image (length w) → e ≡ discEnd image → Fits w32 e
@@ -38,26 +38,41 @@ empty-reaches-not size offset end e = rw (le-ltb 0 size (omega arith))
 pub reaches-by-start : (size offset end : ℕ) → (size ≡ 0 → ⊥) → ltb offset end ≡ (ltb 0 size && ltb offset end)
 reaches-by-start size offset end h = rw (lt-ltb 0 size (omega arith))
 
+-- ---- whether a table is above the stated maximum
+
+pub none-stated : (image : List ℕ) (m size : ℕ) → m ≡ fstMaxSize image → m ≡ 0 → false ≡ aboveMaximum image size
+none-stated image m size e z = rw (← e) (empty-reaches-not m m size z)
+
+pub some-stated : (image : List ℕ) (m size : ℕ) → m ≡ fstMaxSize image → (m ≡ 0 → ⊥) → ltb m size ≡ aboveMaximum image size
+some-stated image m size e h = rw (← e) (reaches-by-start m m size h)
+
 -- ---- the verdict
 
 pub too-few-bytes : (image : List ℕ) (room size : ℕ) (place : DiscRegion) → room < size → Refused LimitOrMemory ≡ placeVerdict image room size place
 unfolding placeVerdict
 too-few-bytes image room size place h = rw (lt-ltb room size h)
 
+pub above-stated : (image : List ℕ) (room size : ℕ) (place : DiscRegion) (a : Bool) → a ≡ aboveMaximum image size → size ≤ room → a ≡ true → Refused TableAboveMaximum ≡ placeVerdict image room size place
+unfolding placeVerdict
+above-stated image room size place a e held t = rw (le-ltb room size held, ← e, t)
+
 module _ (image w : List ℕ) (room size m e o n most : ℕ) (place : DiscRegion) (used : UsedWords image w m) (end : e ≡ discEnd image) (start : o ≡ fstOffset image) (long : n ≡ fstSize image)
-    (found : most ≡ maxRegionSize o n (freeRegions e (regionsIn w 0 m))) (held : size ≤ room) where
+    (found : most ≡ maxRegionSize o n (freeRegions e (regionsIn w 0 m))) (held : size ≤ room) (a : Bool) (stated : a ≡ aboveMaximum image size) (within : a ≡ false) where
   most-is : most ≡ maxRegionSize (fstOffset image) (fstSize image) (freeOf image)
   most-is = free-size image w m e o n most (fstOffset image) (fstSize image) used end start long found
 
+  not-above : aboveMaximum image size ≡ false
+  not-above = sym stated ∙ within
+
   pub no-room-to-grow : most < size → Refused NotEnoughSpace ≡ placeVerdict image room size place
-  no-room-to-grow h = sym (place-verdict image room size place most _ most-is refl ∙ rw (le-ltb room size held, lt-ltb most size h))
+  no-room-to-grow h = sym (place-verdict image room size place most _ most-is refl ∙ rw (le-ltb room size held, not-above, lt-ltb most size h))
 
   module _ (r : Bool) (h : size ≤ most) (reached : r ≡ (ltb 0 (place .size) && ltb (place .offset) (o + size))) where
     reached-is : r ≡ (ltb 0 (place .size) && ltb (place .offset) (fstOffset image + size))
     reached-is = reached ∙ ap (λ (f : ℕ). ltb 0 (place .size) && ltb (place .offset) (f + size)) start
 
     pub place-taken : r ≡ true → Refused NotEnoughSpace ≡ placeVerdict image room size place
-    place-taken t = sym (place-verdict image room size place most r most-is reached-is ∙ rw (le-ltb room size held, le-ltb most size h, t))
+    place-taken t = sym (place-verdict image room size place most r most-is reached-is ∙ rw (le-ltb room size held, not-above, le-ltb most size h, t))
 
     pub place-clear : r ≡ false → Passed ≡ placeVerdict image room size place
-    place-clear t = sym (place-verdict image room size place most r most-is reached-is ∙ rw (le-ltb room size held, le-ltb most size h, t))
+    place-clear t = sym (place-verdict image room size place most r most-is reached-is ∙ rw (le-ltb room size held, not-above, le-ltb most size h, t))

@@ -12,7 +12,7 @@ ghost use lib.ListN.{length};
 ghost use Rattle.endian.specs.Bytes.{put};
 ghost use Rattle.tree.specs.Table.{encode};
 ghost use Rattle.opening.specs.Opening.{nodesIn};
-ghost use Rattle.edits.specs.Change.{tableVerdict, placeVerdict};
+ghost use Rattle.edits.specs.Change.{aboveMaximum, tableVerdict, placeVerdict};
 ghost use Rattle.opening.specs.Inner.Prepared.{OpensImage, IsOpen};
 ghost use Rattle.commit.specs.Inner.Decision.{sizedAs, placing};
 
@@ -26,7 +26,18 @@ fn reaches(place: DiscRegion, end: usize) -> bool
     (place.offset as usize) < end
 }
 
-// The tests of a table of that size: the working bytes, the room behind the old table, and the edited file's new place.
+// Whether the header states a maximum, and a table of that size is above it.
+fn above_maximum(image: &[u8], size: usize) -> bool
+    ensures { λ r. ⌜ r ≡ aboveMaximum (now (image .entry)) size ⌝ }
+{
+    let most = header::fst_max_size(image);
+    if most == 0 {
+        return false;
+    }
+    (most as usize) < size
+}
+
+// The tests of a table of that size: the working bytes, the stated maximum, the room behind the old table, and the edited file's new place.
 pub fn check_place(
     image: &[u8],
     words: &[u32],
@@ -40,6 +51,9 @@ pub fn check_place(
 {
     if room < size {
         return Verdict::Refused(Refusal::LimitOrMemory);
+    }
+    if above_maximum(image, size) {
+        return Verdict::Refused(Refusal::TableAboveMaximum);
     }
     let fst_offset = header::fst_offset(image);
     let fst_size = header::fst_size(image);

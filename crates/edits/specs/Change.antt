@@ -1,17 +1,17 @@
 -- What an accepted edit does to an image, and the tests that each edit which writes a table ends with (document 01, "Edits").
 -- Assumes nothing: these are definitions.
 use Prim.Native.Nat.{ℕ, _+_, _-_}
-use mathlib.Core.Bool.{_&&_}
+use mathlib.Core.Bool.{Bool, _&&_}
 use mathlib.Core.List.{List, _++_}
 use lib.Dec.{ltb}
 use lib.ListN.{length, replicate}
 use Rattle.endian.specs.Bytes.{put, span, be32Bytes}
-use Rattle.refusal.specs.declared.Refusal.the-variants.{LimitOrMemory, NotEnoughSpace}
+use Rattle.refusal.specs.declared.Refusal.the-variants.{LimitOrMemory, NotEnoughSpace, TableAboveMaximum}
 use Rattle.refusal.specs.declared.Verdict.{Verdict}
 use Rattle.refusal.specs.declared.Verdict.the-variants.{Passed}
 use Rattle.refusal.specs.Refusal.{refuse, first}
 use Rattle.header.specs.Fields.{fstSizeField}
-use Rattle.header.specs.Verdicts.{fstOffset, fstSize}
+use Rattle.header.specs.Verdicts.{fstOffset, fstSize, fstMaxSize}
 use Rattle.tree.specs.Table.{Node, encode, limits}
 use Rattle.space.specs.declared.DiscRegion.{DiscRegion}
 use Rattle.free_space.specs.MaxRegionSize.{maxRegionSize}
@@ -42,14 +42,19 @@ written c image =
     put (withTable (fstOffset image) (fstSize image) (encode (c .nodes)) (put image (c .place .offset) (span image (c .old .offset) (c .kept))))
     (c .lost .offset) (replicate (c .lost .size) 0)
 
+-- document 02, Point 7: "If it is nonzero, no edit may write a larger table."
+abbrev pub aboveMaximum : List ℕ → ℕ → Bool
+aboveMaximum image size = ltb 0 (fstMaxSize image) && ltb (fstMaxSize image) size
+
 -- "working bytes fewer than the new table's size (9), then the table's place (21)": "A new table must fit the table's own
--- `max_region_size`, taken from the free regions before the edit, and end at or before the edited file's new nonempty place, else 21."
+-- `max_region_size`, taken from the free regions before the edit, and end at or before the edited file's new nonempty place, else 21." Between them "26, new table above the maximum, tested just before the table's 21".
 unfoldable pub placeVerdict : List ℕ → ℕ → ℕ → DiscRegion → Verdict
 placeVerdict image room size place =
     refuse (ltb room size) LimitOrMemory
+    (refuse (aboveMaximum image size) TableAboveMaximum
     (refuse (ltb (maxRegionSize (fstOffset image) (fstSize image) (freeOf image)) size) NotEnoughSpace
     (refuse (ltb 0 (place .size) && ltb (place .offset) (fstOffset image + size)) NotEnoughSpace
-    Passed))
+    Passed)))
 
 -- "Each edit that writes a table ends with the new tree's limits as at opening (entries, texts, working words, depth) and working bytes .."
 unfoldable pub tableVerdict : Change → List ℕ → ℕ → ℕ → Verdict

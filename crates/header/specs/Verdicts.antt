@@ -10,7 +10,7 @@ use Rattle.refusal.specs.declared.Verdict.{Verdict}
 use Rattle.refusal.specs.declared.Verdict.the-variants.{Passed}
 use Rattle.refusal.specs.Refusal.{refuse, first}
 use Rattle.header.specs.declared.Field.{Field}
-use Rattle.header.specs.Fields.{fields, wiiMagicField, gcnMagicField, dolOffsetField, fstOffsetField, fstSizeField, userSizeField, discSizeField}
+use Rattle.header.specs.Fields.{fields, wiiMagicField, gcnMagicField, dolOffsetField, fstOffsetField, fstSizeField, fstMaxSizeField, userSizeField, discSizeField}
 
 -- "the GameCube magic is 0xC2339F3D, the Wii magic 0x5D1C9EA3"
 abbrev pub gcnMagic : ℕ
@@ -49,6 +49,9 @@ fstOffset image = wordOf fstOffsetField image
 
 abbrev pub fstSize : List ℕ → ℕ
 fstSize image = wordOf fstSizeField image
+
+abbrev pub fstMaxSize : List ℕ → ℕ
+fstMaxSize image = wordOf fstMaxSizeField image
 
 abbrev pub userSize : List ℕ → ℕ
 userSize image = wordOf userSizeField image

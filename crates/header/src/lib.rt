@@ -7,7 +7,7 @@ ghost use lib.ListN.{getD};
 ghost use Rattle.refusal.specs.Refusal.{first};
 ghost use Rattle.endian.specs.Bytes.{be32};
 ghost use Rattle.header.specs.Inner.Judged.{fieldAt};
-ghost use Rattle.header.specs.Verdicts.{fieldVerdict, headerVerdict, dolOffset, fstOffset, fstSize, discEnd, tableEnd, boundsVerdict};
+ghost use Rattle.header.specs.Verdicts.{fieldVerdict, headerVerdict, dolOffset, fstOffset, fstSize, fstMaxSize, discEnd, tableEnd, boundsVerdict};
 ghost use Rattle.header.specs.Inner.Judged.{Judged};
 
 pub const GCN_MAGIC: u32 = 0xC2339F3D;
@@ -174,6 +174,12 @@ pub fn fst_size(image: &[u8]) -> u32
     ensures { λ r. ⌜ r ≡ fstSize (now (image .entry)) ⌝ }
 {
     word_at(image, Field::FST_SIZE.at)
+}
+
+pub fn fst_max_size(image: &[u8]) -> u32
+    ensures { λ r. ⌜ r ≡ fstMaxSize (now (image .entry)) ⌝ }
+{
+    word_at(image, Field::FST_MAX_SIZE.at)
 }
 
 // The sum of two words: it never wraps.

@@ -1,4 +1,6 @@
 -- What follows from the definitions.
+pub mod Alike
+pub mod AnyMaximum
 pub mod Apart
 pub mod Arrives
 pub mod Bare
@@ -12,6 +14,7 @@ pub mod Histories
 pub mod Kept
 pub mod Layout
 pub mod Making
+pub mod MaximumKept
 pub mod Opened
 pub mod PlaceEdits
 pub mod Placed

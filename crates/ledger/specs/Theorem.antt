@@ -1,15 +1,16 @@
 -- Demand 3, "a single claim about the list and not one for each call": what holds of the image after any list of calls, by the ledger of the
--- list. Beside it, what it comes to for a file that no accepted edit named, and for one that was just filled; and what a record says that was
--- handed on through the list. All are proved: `demand-3` and `unnamed-stays` of Laws/Demand3, `fill-reads` of Laws/FillReads, `record-tells` of
--- Laws/RecordTells. Assumes nothing: these are definitions.
-use Prim.Native.Nat.{ℕ, _+_, _≤_}
+-- list. Beside it, what it comes to for a file that no accepted edit named, and for one that was just filled; what a record says that was
+-- handed on through the list; and that no table was written above the stated maximum. All are proved: `demand-3` and `unnamed-stays` of
+-- Laws/Demand3, `fill-reads` of Laws/FillReads, `record-tells` of Laws/RecordTells, `maximum-kept` of Laws/MaximumKept. Assumes nothing: these
+-- are definitions.
+use Prim.Native.Nat.{ℕ, _+_, _<_, _≤_}
 use mathlib.Core.Path.{_≡_}
 use mathlib.Core.Bool.{true, false}
 use mathlib.Core.List.{List, map}
 use lib.ListN.{length, getD, take}
 use Rattle.endian.specs.Bytes.{put, span, AllBytes}
 use Rattle.refusal.specs.declared.Verdict.the-variants.{Passed}
-use Rattle.header.specs.Verdicts.{dolOffset, tableEnd, discEnd}
+use Rattle.header.specs.Verdicts.{dolOffset, fstSize, fstMaxSize, tableEnd, discEnd}
 use Rattle.tree.specs.Table.{file, none}
 use Rattle.space.specs.Used.{endOf, inside, totalSize}
 use Rattle.free_space.specs.Listing.{regionRow, listingOf, listAfter}
@@ -114,3 +115,19 @@ abbrev pub RecordTells : Type 0
 RecordTells =
     (image : List ℕ) (w₀ w : ℕ) (t : Totals) (calls : List Call) → AllBytes image → recordAnswer image w₀ ≡ recordMade t → w₀ ≤ w → AllWithin w calls → HandedOn t calls image →
     Tells (imageAfterAll calls image) w (acceptedIn (reportsOf calls image)) (totalsAfterAll t calls image)
+
+-- ---- "If it is nonzero, no edit may write a larger table." (document 02, Point 7)
+
+-- the stated maximum of the first image, and the table of the last one
+pub record WithinMaximum (first last : List ℕ) : Type 0 where
+  -- the field is never written
+  pub field : fstMaxSize last ≡ fstMaxSize first
+  -- a table within a nonzero maximum at first is within it at last
+  pub within : 0 < fstMaxSize first → fstSize first ≤ fstMaxSize first → fstSize last ≤ fstMaxSize first
+  -- "An image whose table is already larger": a larger table at last is as large as the first one was, for none was written
+  pub larger : 0 < fstMaxSize first → fstMaxSize first < fstSize last → fstSize last ≡ fstSize first
+
+-- THEOREM: the same images, lists and memory as above
+abbrev pub MaximumKept : Type 0
+MaximumKept =
+    (image : List ℕ) (w₀ w : ℕ) (calls : List Call) → AllBytes image → opening image w₀ ≡ Passed → w₀ ≤ w → AllWithin w calls → WithinMaximum image (imageAfterAll calls image)

@@ -1,10 +1,11 @@
 -- The causes of a refusal and their numbers, in the order of document 01's table "Causes and their numbers", and
--- those of document 02 ("It and each later new number join 01's table"): 25, "used bytes or edit count would leave 0 to 2^32 - 1".
+-- those of document 02 ("It and each later new number join 01's table"): 25, "used bytes or edit count would leave 0 to 2^32 - 1", and
+-- 26, "new table above the maximum".
 -- Assumes nothing: these are definitions.
 use Prim.Native.Nat.{ℕ}
 use mathlib.Core.Bool.{Bool, true, false}
 use Rattle.refusal.specs.declared.Refusal.{Refusal}
-use Rattle.refusal.specs.declared.Refusal.the-variants.{HeaderPastImage, WiiNotSupported, InvalidMagic, InvalidBounds, EntryPastTable, UnrecognizedKind, RootIsNotDirectory, MissingNullTerminator, LimitOrMemory, InvalidNextIndex, InvalidNameOffset, InvalidNameByte, UnsafeName, OverlappingRegions, NoSuchEntry, ExpectedFile, ExpectedDirectory, NotFound, AlreadyExists, OverlappingMove, NotEnoughSpace, InvalidAlignment, InvalidSeek, InvalidDol, TotalsOutOfRange}
+use Rattle.refusal.specs.declared.Refusal.the-variants.{HeaderPastImage, WiiNotSupported, InvalidMagic, InvalidBounds, EntryPastTable, UnrecognizedKind, RootIsNotDirectory, MissingNullTerminator, LimitOrMemory, InvalidNextIndex, InvalidNameOffset, InvalidNameByte, UnsafeName, OverlappingRegions, NoSuchEntry, ExpectedFile, ExpectedDirectory, NotFound, AlreadyExists, OverlappingMove, NotEnoughSpace, InvalidAlignment, InvalidSeek, InvalidDol, TotalsOutOfRange, TableAboveMaximum}
 use Rattle.refusal.specs.declared.Verdict.{Verdict}
 use Rattle.refusal.specs.declared.Verdict.the-variants.{Passed, Refused}
 
@@ -34,6 +35,7 @@ numberOf InvalidAlignment = 22
 numberOf InvalidSeek = 23
 numberOf InvalidDol = 24
 numberOf TotalsOutOfRange = 25
+numberOf TableAboveMaximum = 26
 
 -- ---- chains of tests, in the order in which a call makes them
 

@@ -28,6 +28,7 @@ pub enum Refusal {
     InvalidSeek,
     InvalidDol,
     TotalsOutOfRange,
+    TableAboveMaximum,
 }
 
 impl Refusal {
@@ -61,6 +62,7 @@ impl Refusal {
             Refusal::InvalidSeek => 23,
             Refusal::InvalidDol => 24,
             Refusal::TotalsOutOfRange => 25,
+            Refusal::TableAboveMaximum => 26,
         }
     }
 }

@@ -30,7 +30,7 @@ use Rattle.opening.specs.Opening.{nodesIn, freeOf}
 use Rattle.edits.specs.Change.{Change, written, Plan, refused, nothing, change}
 use Rattle.edits.specs.Edits.{tableOnly, planned, newNumber, insertVerdict, planInsert, Made, stopped, made, make, planMade, planMakeDirectories, fileVerdict, relocated, relocateVerdict, planMove, resized, planElsewhere, planResize, planVerdict, planTree, planImage}
 use Rattle.ledger.specs.Ledger.{Ledger, filesBefore}
-use Rattle.ledger.specs.Laws.Written.{fst-offset-written, fst-size-written, disc-end-written}
+use Rattle.ledger.specs.Laws.Written.{fst-offset-written, fst-size-written, fst-max-size-written, disc-end-written}
 use Rattle.ledger.specs.Laws.Files as files-insert
 use Rattle.ledger.specs.Laws.Files.{placeOf, filesOf, filesIn, nonempty-put-in}
 use Rattle.ledger.specs.Laws.Opened.{Opened, nodes-written}
@@ -49,7 +49,7 @@ module _ (image : List ℕ) (words bytes : ℕ) where
   Arrives p = planVerdict p image words bytes ≡ Passed → (nodesIn (planImage p image) ≡ planTree p (nodesIn image)) × ProgramKept image (planImage p image) × Lays p image (planImage p image)
 
   arrives-refused : (c : Refusal) → Arrives (refused (Refused c))
-  arrives-refused c e = (refl, nothing-done image, tt)
+  arrives-refused c e = (refl, nothing-done image, refl)
 
   pub arrives-planned : (v : Verdict) (p : Plan) → (v ≡ Passed → Arrives p) → Arrives (planned v p)
   arrives-planned Passed p f = f refl
@@ -74,7 +74,7 @@ module _ (image : List ℕ) (words bytes : ℕ) where
         let image′ : List ℕ = written (tableOnly new) image in (
           t,
           p,
-          laid-same image image′ (disc-end-written (tableOnly new) image s) (fst-offset-written (tableOnly new) image s) (p .program) (length (encode new)) (fst-size-written (tableOnly new) image s) (r .end) (r .clear) (rw t same),
+          laid-same image image′ (disc-end-written (tableOnly new) image s) (fst-offset-written (tableOnly new) image s) (p .program) (length (encode new)) (fst-size-written (tableOnly new) image s) (fst-max-size-written (tableOnly new) image s) (r .end) (r .clear) (rw t same),
         )
 
     pub insert-file : (p : ℕ) (nm : List ℕ) → Arrives (planInsert (λ q. emptyFile nm) (nodesIn image) p nm)
@@ -146,6 +146,6 @@ module _ (image : List ℕ) (words bytes : ℕ) where
         let in₂ : Plan = planElsewhere (nodesIn image) (freeOf image) k old n (allocationOf 0x8000 n (freeOf image)) in
         arrives-planned (fileVerdict (nodesIn image) k) _ (λ v.
         let isFile = is-file (nodesIn image) k v in
-        arrives-cond (eqb n (old .size)) nothing (cond t in₁ in₂) (λ q u. (refl, nothing-done image, laid-same image image refl refl refl (fstSize image) refl (o .bounds .table) (λ k i h. o .places .lie k i h .0) refl))
+        arrives-cond (eqb n (old .size)) nothing (cond t in₁ in₂) (λ q u. (refl, nothing-done image, laid-same image image refl refl refl (fstSize image) refl refl (o .bounds .table) (λ k i h. o .places .lie k i h .0) refl))
         (λ q. arrives-cond t in₁ in₂ (stay k isFile n h (eqb-false n (old .size) q))
         (λ g. elsewhere k isFile n h (leb-false n (old .size) (or-false (leb n (old .size)) _ g .0)) (allocationOf 0x8000 n (freeOf image)))))

@@ -1,22 +1,19 @@
 -- A clip put over a file, as long as the file: the image opens with the same tree and program, every other file stays, and the file is the clip.
 -- Assumes nothing.
 use Prim.Native.Nat.{ℕ, suc, _+_, _-_, _<_, _≤_}
-use mathlib.Core.Path.{_≡_, refl, sym, ap, _∙_}
+use mathlib.Core.Path.{_≡_, refl, ap}
+use mathlib.Core.Logic.{⊎-elim}
 use mathlib.Core.Bool.{false, true≢false}
 use mathlib.Core.List.{List, [], _∷_}
 use native.Mathlib.Omega.{arith}
 use lib.ListN.{length, getD, set}
 use lib.Seq.{set-getD}
 use Rattle.endian.specs.Bytes.{put, span, be32, AllBytes}
-use Rattle.endian.specs.Laws.Stored.{put-in, span-put, span-ext}
-use Rattle.refusal.specs.declared.Verdict.the-variants.{Passed}
-use Rattle.header.specs.Verdicts.{fstOffset, fstSize, discEnd, tableEnd}
-use Rattle.header.specs.Laws.FieldTests.{GoodHeader, Bounded}
+use Rattle.endian.specs.Laws.Stored.{put-in, span-put}
+use Rattle.header.specs.Verdicts.{discEnd, tableEnd}
 use Rattle.tree.specs.Table.{none}
 use Rattle.tree.specs.Lookup.{isDirectory}
-use Rattle.program.specs.Program.{programIn}
-use Rattle.opening.specs.Opening.{tableOf, nodesIn, behindTable, usedIn, freeOf, usedOf, opening}
-use Rattle.opening.specs.Laws.OpeningLaws.{table-accepted}
+use Rattle.opening.specs.Opening.{nodesIn, freeOf, usedOf}
 use Rattle.edits.specs.Change.{Plan}
 use Rattle.edits.specs.Edits.{noPlace}
 use Rattle.ledger.specs.Ledger.{History, Ledger, refilled}
@@ -24,7 +21,8 @@ use Rattle.edits.specs.Laws.Puts.{Fits, put-length, put-all, put-else, put-belo
 use Rattle.ledger.specs.Laws.Files.{filesIn, placesIn}
 use Rattle.ledger.specs.Laws.Apart.{Has, region}
 use Rattle.ledger.specs.Laws.Histories.{True, SameIn, trues-set}
-use Rattle.ledger.specs.Laws.Opened.{Opened, opening-passes}
+use Rattle.ledger.specs.Laws.Alike.{Alike, start-same, size-same, end-same, tree-same, total-same, free-same, opens-same}
+use Rattle.ledger.specs.Laws.Opened.{Opened}
 use Rattle.ledger.specs.Laws.Room.{outside}
 use Rattle.ledger.specs.Laws.Kept.{Kept, opened-kept}
 use Rattle.ledger.specs.Laws.Placed.{placeIn, numberIn, placeNumber, place-is, place-lies, not-there}
@@ -72,59 +70,34 @@ module _ (w : ℕ) (image : List ℕ) (l : Ledger) (K : Kept w image l) (k : ℕ
   field-same : (at : ℕ) → at + 4 ≤ 0x440 → be32 (withClip image k clip) at ≡ be32 image at
   field-same at h = field-below image (placeIn image k .offset) clip (tableEnd image) fits behind at (omega (arith, o .bounds .after-header))
 
-  table-same : tableOf (withClip image k clip) ≡ tableOf image
-  unfolding tableOf
-  table-same =
-      let e : fstOffset image + fstSize image ≤ length image = omega (arith, o .bounds .table, o .bounds .image-holds) in
-      rw (field-same 0x424 (omega arith), field-same 0x428 (omega arith))
-      (span-ext (withClip image k clip) image (fstOffset image) (fstSize image) (rw length-clipped e) e (λ i h. low-same (fstOffset image + i) (omega arith)))
-
-  pub tree-clipped : nodesIn (withClip image k clip) ≡ nodesIn image
-  unfolding nodesIn
-  tree-clipped = rw table-same
-
   pub program-clipped : ProgramKept image (withClip image k clip)
   program-clipped =
       program-spared image (withClip image k clip) o length-clipped (λ i h. low-same i (omega (arith, o .bounds .after-header))) (λ i h g. low-same i (omega arith)) (others-same 0 (λ e. omega arith))
 
-  header-clipped : GoodHeader (withClip image k clip)
-  header-clipped = record {
-    whole = rw length-clipped (o .header .whole);
-    not-wii = λ e. o .header .not-wii (sym (field-same 0x18 (omega arith)) ∙ e);
-    is-gcn = field-same 0x1C (omega arith) ∙ o .header .is-gcn;
+  alike : Alike image (withClip image k clip)
+  alike = record {
+    len = length-clipped;
+    field = λ at h. field-same at (⊎-elim (λ z. omega arith) (λ z. z .1) h);
+    table = λ i h l. low-same i l;
+    program = program-clipped .program;
   }
 
-  end-same : discEnd (withClip image k clip) ≡ discEnd image
-  end-same = rw (field-same 0x434 (omega arith), field-same 0x438 (omega arith))
+  pub tree-clipped : nodesIn (withClip image k clip) ≡ nodesIn image
+  tree-clipped = tree-same image (withClip image k clip) alike o
 
   -- what was laid out before the clip is laid out with it
   pub layout-clipped : (first : List ℕ) (p : Plan) → Lays p first image → Lays p first (withClip image k clip)
   layout-clipped first p =
-      let start = field-same 0x424 (omega arith) in
-      laid-on first image (withClip image k clip) p end-same start (field-same 0x428 (omega arith)) (places-are image (withClip image k clip) end-same start (program-clipped .program) (filesIn image) (rw tree-clipped))
+      let end = end-same image (withClip image k clip) alike in
+      let start = start-same image (withClip image k clip) alike in
+      laid-on first image (withClip image k clip) p end start (size-same image (withClip image k clip) alike) (field-same 0x42C (omega arith)) (places-are image (withClip image k clip) end start (program-clipped .program) (filesIn image) (rw tree-clipped))
 
   -- LAW: as many bytes are used, and the same are free
   pub used-clipped : usedOf (withClip image k clip) ≡ usedOf image
-  unfolding usedOf behindTable programIn
-  used-clipped = rw (tree-clipped, field-same 0x424 (omega arith), field-same 0x428 (omega arith), program-clipped .program)
+  used-clipped = total-same image (withClip image k clip) alike o
 
   pub free-clipped : freeOf (withClip image k clip) ≡ freeOf image
-  unfolding freeOf usedIn behindTable programIn
-  free-clipped = rw (tree-clipped, field-same 0x424 (omega arith), field-same 0x428 (omega arith), end-same, program-clipped .program)
-
-  bounds-clipped : Bounded (withClip image k clip)
-  bounds-clipped = record {
-    after-header = rw (field-same 0x424 (omega arith)) (o .bounds .after-header);
-    small = rw end-same (o .bounds .small);
-    table = rw (field-same 0x424 (omega arith), field-same 0x428 (omega arith), end-same) (o .bounds .table);
-    image-holds = rw (end-same, length-clipped) (o .bounds .image-holds);
-  }
-
-  opens-clipped : opening (withClip image k clip) w ≡ Passed
-  unfolding usedIn behindTable programIn
-  opens-clipped =
-      opening-passes (withClip image k clip) w header-clipped bounds-clipped (rw table-same (table-accepted image w (K .opens))) (rw (program-clipped .program) (o .program))
-      (rw (tree-clipped, field-same 0x424 (omega arith), field-same 0x428 (omega arith), end-same, program-clipped .program) (o .regions))
+  free-clipped = free-same image (withClip image k clip) alike o
 
   -- ---- the file
 
@@ -150,7 +123,7 @@ module _ (w : ℕ) (image : List ℕ) (l : Ledger) (K : Kept w image l) (k : ℕ
       let p : region (filesIn image) r ≡ placeIn image k = place-is w image l K k isFile in
       record {
         bytes = put-all image (placeIn image k .offset) clip fits (K .bytes) bytes;
-        opens = opens-clipped;
+        opens = opens-same image (withClip image k clip) alike o w (K .opens);
         shape = rw tree-clipped (K .shape);
         trues = rw tree-clipped (rw (set-getD (filesIn image) r noPlace) at (trues-set image (withClip image k clip) r (region (filesIn image) r) (refilled clip h) (filesIn image) (l .histories)
             (λ j d. others-same (suc j) (λ e. d (omega arith))) (rw p (file-clipped h)) (K .trues)));

@@ -9,8 +9,9 @@ use borrow.Author.Tests.{eqb-true, eqb-false, eq-eqb}
 use lib.ListN.{length, set}
 use lib.Seq.{getD-set-same, getD-set-other}
 use lib.Dec.{eqb}
+use Rattle.refusal.specs.Refusal.{isRefused}
 use Rattle.refusal.specs.Laws.Tests.{and-left, and-right, and-both, or-cases, or-left, or-right, is-false, never-both, same-test}
-use Rattle.header.specs.Verdicts.{fstOffset, fstSize, discEnd}
+use Rattle.header.specs.Verdicts.{fstOffset, fstSize, fstMaxSize, discEnd}
 use Rattle.tree.specs.Table.{encode}
 use Rattle.space.specs.declared.DiscRegion.{DiscRegion}
 use Rattle.space.specs.Used.{inside, usesByte, nonempty, totalSize}
@@ -27,11 +28,12 @@ use Rattle.ledger.specs.Laws.Apart.{Has, region, Apart, some-used, used-
 use Rattle.ledger.specs.Laws.Opened.{Opened}
 use Rattle.ledger.specs.Laws.ProgramKept.{same-place}
 
--- the table then has that size, and of what lies behind it `new` stands in the place of `old`
+-- the table then has that size, its stated maximum is as it was, and of what lies behind it `new` stands in the place of `old`
 pub record LaidOut (image image′ : List ℕ) (size : ℕ) (old new : DiscRegion) : Type 0 where
   pub end : discEnd image′ ≡ discEnd image
   pub start : fstOffset image′ ≡ fstOffset image
   pub table : fstSize image′ ≡ size
+  pub stated : fstMaxSize image′ ≡ fstMaxSize image
   pub fits : fstOffset image + size ≤ discEnd image
   pub clear : (i : ℕ) → usesByte (placesIn image) i ≡ true → fstOffset image + size ≤ i
   pub held : 0 < old .size → holds old (placesIn image) ≡ true
@@ -39,7 +41,7 @@ pub record LaidOut (image image′ : List ℕ) (size : ℕ) (old new : DiscRegio
 
 -- the image afterwards has the layout of the plan
 abbrev pub Lays : Plan → List ℕ → List ℕ → Type 0
-Lays (refused v) image image′ = Unit {0}
+Lays (refused v) image image′ = isRefused v ≡ true
 Lays nothing image image′ = LaidOut image image′ (fstSize image) noPlace noPlace
 Lays (change k c) image image′ = LaidOut image image′ (length (encode (c .nodes))) (c .old) (c .place)
 Lays (filled k clip p) image image′ = Lays p image image′
@@ -109,7 +111,7 @@ module _ (image image′ : List ℕ) (end : discEnd image′ ≡ discEnd image) 
   pub places-are : (fs : List DiscRegion) → filesIn image′ ≡ fs → placesIn image′ ≡ programBehind image ∷ fs
   places-are fs e = rw (start, same-place image image′ program, e)
 
-  module _ (size : ℕ) (table : fstSize image′ ≡ size) (fits : fstOffset image + size ≤ discEnd image) (clear : (k i : ℕ) → Has (region (placesIn image) k) i → fstOffset image + size ≤ i) where
+  module _ (size : ℕ) (table : fstSize image′ ≡ size) (stated : fstMaxSize image′ ≡ fstMaxSize image) (fits : fstOffset image + size ≤ discEnd image) (clear : (k i : ℕ) → Has (region (placesIn image) k) i → fstOffset image + size ≤ i) where
     clear-of : (i : ℕ) → usesByte (placesIn image) i ≡ true → fstOffset image + size ≤ i
     clear-of i u = let s = used-some (placesIn image) i u in clear (s .0) i (s .1)
 
@@ -119,6 +121,7 @@ module _ (image image′ : List ℕ) (end : discEnd image′ ≡ discEnd image) 
       end = end;
       start = start;
       table = table;
+      stated = stated;
       fits = fits;
       clear = clear-of;
       held = λ h. absurd (omega arith);
@@ -131,18 +134,20 @@ module _ (image image′ : List ℕ) (end : discEnd image′ ≡ discEnd image) 
       end = end;
       start = start;
       table = table;
+      stated = stated;
       fits = fits;
       clear = clear-of;
       held = λ z. holds-at (placesIn image) (suc r) (omega arith);
       places = rw (places-are (set (filesIn image) r new) e) (exchanged-set _ _ (placesIn image) (o .places) (suc r) new (omega arith));
     }
 
-laid-out-on : (image image′ image″ : List ℕ) (size : ℕ) (old new : DiscRegion) → discEnd image″ ≡ discEnd image′ → fstOffset image″ ≡ fstOffset image′ → fstSize image″ ≡ fstSize image′ → placesIn image″ ≡ placesIn image′ →
+laid-out-on : (image image′ image″ : List ℕ) (size : ℕ) (old new : DiscRegion) → discEnd image″ ≡ discEnd image′ → fstOffset image″ ≡ fstOffset image′ → fstSize image″ ≡ fstSize image′ → fstMaxSize image″ ≡ fstMaxSize image′ → placesIn image″ ≡ placesIn image′ →
     LaidOut image image′ size old new → LaidOut image image″ size old new
-laid-out-on image image′ image″ size old new d f s q l = record {
+laid-out-on image image′ image″ size old new d f s m q l = record {
   end = d ∙ l .end;
   start = f ∙ l .start;
   table = s ∙ l .table;
+  stated = m ∙ l .stated;
   fits = l .fits;
   clear = l .clear;
   held = l .held;
@@ -150,9 +155,9 @@ laid-out-on image image′ image″ size old new d f s q l = record {
 }
 
 -- LAW: what does not touch header, tree and program leaves the layout as it is
-pub laid-on : (image image′ image″ : List ℕ) (p : Plan) → discEnd image″ ≡ discEnd image′ → fstOffset image″ ≡ fstOffset image′ → fstSize image″ ≡ fstSize image′ → placesIn image″ ≡ placesIn image′ →
+pub laid-on : (image image′ image″ : List ℕ) (p : Plan) → discEnd image″ ≡ discEnd image′ → fstOffset image″ ≡ fstOffset image′ → fstSize image″ ≡ fstSize image′ → fstMaxSize image″ ≡ fstMaxSize image′ → placesIn image″ ≡ placesIn image′ →
     Lays p image image′ → Lays p image image″
-laid-on image image′ image″ (refused v) d f s q l = tt
-laid-on image image′ image″ nothing d f s q l = laid-out-on image image′ image″ (fstSize image) noPlace noPlace d f s q l
-laid-on image image′ image″ (change k c) d f s q l = laid-out-on image image′ image″ (length (encode (c .nodes))) (c .old) (c .place) d f s q l
-laid-on image image′ image″ (filled k clip p) d f s q l = laid-on image image′ image″ p d f s q l
+laid-on image image′ image″ (refused v) d f s m q l = l
+laid-on image image′ image″ nothing d f s m q l = laid-out-on image image′ image″ (fstSize image) noPlace noPlace d f s m q l
+laid-on image image′ image″ (change k c) d f s m q l = laid-out-on image image′ image″ (length (encode (c .nodes))) (c .old) (c .place) d f s m q l
+laid-on image image′ image″ (filled k clip p) d f s m q l = laid-on image image′ image″ p d f s m q l

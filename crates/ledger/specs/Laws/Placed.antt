@@ -19,7 +19,7 @@ use Rattle.opening.specs.Opening.{nodesIn, opening, regionOf}
 use Rattle.edits.specs.Change.{Change, written}
 use Rattle.edits.specs.Edits.{relocated, resized}
 use Rattle.ledger.specs.Ledger.{History, Ledger, filesBefore, newHistory, lowered}
-use Rattle.ledger.specs.Laws.Written.{newEnd, Safe, bytes-written, rest-written, copy-written, fst-offset-written, fst-size-written, disc-end-written}
+use Rattle.ledger.specs.Laws.Written.{newEnd, Safe, bytes-written, rest-written, copy-written, fst-offset-written, fst-size-written, fst-max-size-written, disc-end-written}
 use Rattle.ledger.specs.Laws.Layout.{LaidOut, laid-place}
 use Rattle.ledger.specs.Laws.Files.{filesOf, filesIn, placesIn, files-setPlace, files-at, files-count}
 use Rattle.ledger.specs.Laws.Apart.{Has, region, apart-test, apart-table, apart-set}
@@ -82,7 +82,7 @@ module _ (w : ℕ) (image : List ℕ) (l : Ledger) (K : Kept w image l) (words :
   placed-laid c p =
       let e : filesIn (written c image) ≡ set (filesIn image) (numberIn image k) new = rw (placed-tree c p) (files-setPlace (new .offset) (new .size) k (nodesIn image) isFile) in
       rw (files-at k (nodesIn image) isFile) at
-      (laid-place image (written c image) (disc-end-written c image (p .safe)) (fst-offset-written c image (p .safe)) (placed-program c p .program) (length (encode (c .nodes))) (fst-size-written c image (p .safe)) (p .room .end)
+      (laid-place image (written c image) (disc-end-written c image (p .safe)) (fst-offset-written c image (p .safe)) (placed-program c p .program) (length (encode (c .nodes))) (fst-size-written c image (p .safe)) (fst-max-size-written c image (p .safe)) (p .room .end)
       (p .room .clear) o (numberIn image k) new (files-count k (nodesIn image) isFile) e)
 
   pub placed-trues : (c : Change) → Placed c → (g : History) → True (written c image) new g → Trues (written c image) (filesIn (written c image)) (set (l .histories) (numberIn image k) g)

@@ -9,7 +9,7 @@ use lib.ListN.{length, getD, replicate, length-append, length-replicate, List·g
 use lib.Seq.{ext-getD}
 use Rattle.endian.specs.Bytes.{put, span, be32, be32Bytes, AllBytes}
 use Rattle.endian.specs.Laws.Stored.{put-in, put-bytes, put-before, put-after, length-put, be32-put, be32-same, Outside, length-span, getD-span}
-use Rattle.header.specs.Verdicts.{fstOffset, fstSize, discEnd, tableEnd}
+use Rattle.header.specs.Verdicts.{fstOffset, fstSize, fstMaxSize, discEnd, tableEnd}
 use Rattle.header.specs.Laws.FieldTests.{GoodHeader, Bounded}
 use Rattle.tree.specs.Table.{encode}
 use Rattle.tree.specs.Inner.WellFormed.{WellFormed}
@@ -153,6 +153,10 @@ module _ (c : Change) (image : List ℕ) (s : Safe c image) where
 
   pub disc-end-written : discEnd (written c image) ≡ discEnd image
   disc-end-written = rw (field-high 0x434 (omega arith) (omega arith), field-high 0x438 (omega arith) (omega arith))
+
+  -- the FST maximum is never written
+  pub fst-max-size-written : fstMaxSize (written c image) ≡ fstMaxSize image
+  fst-max-size-written = field-high 0x42C (omega arith) (omega arith)
 
   small : length (encode (c .nodes)) < 2 ^ 32
   small = omega (arith, s .table, s .bounds .small)

@@ -6,7 +6,7 @@ use native.Mathlib.Omega.{arith}
 use mathlib.Core.List.{List, [], _∷_}
 use lib.ListN.{getD}
 use Rattle.refusal.specs.declared.Refusal.{Refusal}
-use Rattle.refusal.specs.declared.Refusal.the-variants.{HeaderPastImage, WiiNotSupported, InvalidMagic, InvalidBounds, EntryPastTable, UnrecognizedKind, RootIsNotDirectory, MissingNullTerminator, LimitOrMemory, InvalidNextIndex, InvalidNameOffset, InvalidNameByte, UnsafeName, OverlappingRegions, NoSuchEntry, ExpectedFile, ExpectedDirectory, NotFound, AlreadyExists, OverlappingMove, NotEnoughSpace, InvalidAlignment, InvalidSeek, InvalidDol, TotalsOutOfRange}
+use Rattle.refusal.specs.declared.Refusal.the-variants.{HeaderPastImage, WiiNotSupported, InvalidMagic, InvalidBounds, EntryPastTable, UnrecognizedKind, RootIsNotDirectory, MissingNullTerminator, LimitOrMemory, InvalidNextIndex, InvalidNameOffset, InvalidNameByte, UnsafeName, OverlappingRegions, NoSuchEntry, ExpectedFile, ExpectedDirectory, NotFound, AlreadyExists, OverlappingMove, NotEnoughSpace, InvalidAlignment, InvalidSeek, InvalidDol, TotalsOutOfRange, TableAboveMaximum}
 use Rattle.refusal.specs.declared.Verdict.{Verdict}
 use Rattle.refusal.specs.declared.Verdict.the-variants.{Passed, Refused}
 use Rattle.refusal.specs.Refusal.{numberOf, refuse, first, isRefused}
@@ -35,7 +35,7 @@ not-refused (Refused c) e = let z : _≡_ {A = ℕ} 0 1 = cc in absurd (omega ar
 
 -- the causes in the order of their numbers, with a first element for number 0, which is none
 abbrev causes : List Refusal
-causes = HeaderPastImage ∷ HeaderPastImage ∷ WiiNotSupported ∷ InvalidMagic ∷ InvalidBounds ∷ EntryPastTable ∷ UnrecognizedKind ∷ RootIsNotDirectory ∷ MissingNullTerminator ∷ LimitOrMemory ∷ InvalidNextIndex ∷ InvalidNameOffset ∷ InvalidNameByte ∷ UnsafeName ∷ OverlappingRegions ∷ NoSuchEntry ∷ ExpectedFile ∷ ExpectedDirectory ∷ NotFound ∷ AlreadyExists ∷ OverlappingMove ∷ NotEnoughSpace ∷ InvalidAlignment ∷ InvalidSeek ∷ InvalidDol ∷ TotalsOutOfRange ∷ []
+causes = HeaderPastImage ∷ HeaderPastImage ∷ WiiNotSupported ∷ InvalidMagic ∷ InvalidBounds ∷ EntryPastTable ∷ UnrecognizedKind ∷ RootIsNotDirectory ∷ MissingNullTerminator ∷ LimitOrMemory ∷ InvalidNextIndex ∷ InvalidNameOffset ∷ InvalidNameByte ∷ UnsafeName ∷ OverlappingRegions ∷ NoSuchEntry ∷ ExpectedFile ∷ ExpectedDirectory ∷ NotFound ∷ AlreadyExists ∷ OverlappingMove ∷ NotEnoughSpace ∷ InvalidAlignment ∷ InvalidSeek ∷ InvalidDol ∷ TotalsOutOfRange ∷ TableAboveMaximum ∷ []
 
 numbered : (c : Refusal) → getD causes (numberOf c) HeaderPastImage ≡ c
 numbered HeaderPastImage = refl
@@ -63,6 +63,7 @@ numbered InvalidAlignment = refl
 numbered InvalidSeek = refl
 numbered InvalidDol = refl
 numbered TotalsOutOfRange = refl
+numbered TableAboveMaximum = refl
 
 -- equal numbers, equal causes
 pub number-one-cause : (a b : Refusal) → numberOf a ≡ numberOf b → a ≡ b

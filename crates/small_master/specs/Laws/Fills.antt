@@ -78,7 +78,7 @@ moved-used = refl
 
 moves : verdictOn (fillFile 1 twelve) large ≡ verdict.Passed
 unfolding verdictOf countedVerdict totalsVerdict planFill planResize maxSizeFrom besideFree allocationOf powers largest betterOf alignUp tableVerdict placeVerdict limits shallow shallowFrom shut textsOf encode entriesBytes parentOf parentBelow setPlace
-moves = rw (large-opens, large-nodes, large-free, large-header .0, large-header .1, large-free, large-used, moved-used)
+moves = rw (large-opens, large-nodes, large-free, large-header .2, large-header .0, large-header .1, large-free, large-used, moved-used)
 
 moved-is : after (fillFile 1 twelve) large ≡ put grown 0x8000 twelve
 unfolding imageAfter planFill planResize maxSizeFrom besideFree allocationOf powers largest betterOf alignUp setPlace

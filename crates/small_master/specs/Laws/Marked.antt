@@ -10,7 +10,7 @@ use Rattle.refusal.specs.declared.Verdict.{Verdict}
 use Rattle.refusal.specs.declared.Verdict.the-variants as verdict
 use Rattle.refusal.specs.Refusal.{numberOf}
 use Rattle.header.specs.Fields.{fields}
-use Rattle.header.specs.Verdicts.{fieldVerdict, fieldsVerdict, headerVerdict, boundsVerdict, fstOffset, fstSize, discEnd}
+use Rattle.header.specs.Verdicts.{fieldVerdict, fieldsVerdict, headerVerdict, boundsVerdict, fstOffset, fstSize, fstMaxSize, discEnd}
 use Rattle.window.specs.declared.Window.{Window}
 use Rattle.window.specs.declared.SeekFrom.the-variants.{Current}
 use Rattle.window.specs.declared.Sought.the-variants as sought
@@ -62,10 +62,10 @@ pub no-program : programOf master ≡ None
 unfolding master put be32 programOf
 no-program = refl
 
--- the table's own place, and the disc end
-pub header : (fstOffset master ≡ 0x440) × (fstSize master ≡ 0x1A) × (discEnd master ≡ 0x2000)
+-- the table's own place, the disc end, and no stated maximum
+pub header : (fstOffset master ≡ 0x440) × (fstSize master ≡ 0x1A) × (discEnd master ≡ 0x2000) × (fstMaxSize master ≡ 0)
 unfolding master put be32
-header = (refl, refl, refl)
+header = (refl, refl, refl, refl)
 
 abbrev pub at : ℕ → ℕ → DiscRegion
 at o n = record { offset = o; size = n }
@@ -140,7 +140,7 @@ four = 0 ∷ 0 ∷ 0 ∷ 0 ∷ []
 
 moves : onMaster (moveFile 1 0x600) ≡ verdict.Passed
 unfolding verdictOf countedVerdict totalsVerdict planMove maxSizeFrom besideFree tableVerdict placeVerdict limits shallow shallowFrom shut textsOf encode entriesBytes parentOf parentBelow setPlace
-moves = rw (opens, nodes, free, header .0, header .1, free, used, moved-used)
+moves = rw (opens, nodes, free, header .3, header .0, header .1, free, used, moved-used)
 
 moved-is : movedTo 0x600 ≡ movedA 0x600
 unfolding imageAfter planMove maxSizeFrom besideFree setPlace
@@ -187,7 +187,7 @@ marked = record {
   P4 = (rw (opens, nodes), refl);
   P5 = (moves, moved);
   P6 = (rw (opens, nodes, free), refl);
-  P7 = rw (opens, nodes, free, header .0, header .1, free, used, resized-used);
+  P7 = rw (opens, nodes, free, header .3, header .0, header .1, free, used, resized-used);
   P8 = (rw (opens, nodes, free), refl);
   P9 = rw (opens, nodes);
   P10 = (rw (opens, nodes), refl);

@@ -10,7 +10,7 @@ use Rattle.refusal.specs.declared.Verdict.{Verdict}
 use Rattle.refusal.specs.declared.Verdict.the-variants as verdict
 use Rattle.refusal.specs.Refusal.{numberOf}
 use Rattle.header.specs.Fields.{fields, gcnMagicField, dolOffsetField, fstOffsetField, fstSizeField, userSizeField}
-use Rattle.header.specs.Verdicts.{gcnMagic, fieldVerdict, fieldsVerdict, headerVerdict, boundsVerdict, fstOffset, fstSize, discEnd}
+use Rattle.header.specs.Verdicts.{gcnMagic, fieldVerdict, fieldsVerdict, headerVerdict, boundsVerdict, fstOffset, fstSize, fstMaxSize, discEnd}
 use Rattle.tree.specs.Units.{units}
 use Rattle.tree.specs.Table.{file, directory, plain, safe, count, nameAt, nodeAt, nodesFrom, nodesOf, entryVerdict, entriesVerdict, unended, shut, nameVerdict, nextVerdict, walk, check, parentBelow, parentOf, entriesBytes, textsOf, encode, shallowFrom, shallow, limits}
 use Rattle.tree.specs.Lookup.{firstChild, childOf}
@@ -106,9 +106,9 @@ two-nodes : nodesIn two ≡ directory [] 2 ∷ file (0x61 ∷ []) 0x600 0x100 �
 unfolding two put tableOf nodesIn nodesOf nodesFrom nodeAt nameAt count be24 be32
 two-nodes = refl
 
-two-header : (fstOffset two ≡ 0x440) × (fstSize two ≡ 0x1A) × (discEnd two ≡ 0x900)
+two-header : (fstOffset two ≡ 0x440) × (fstSize two ≡ 0x1A) × (discEnd two ≡ 0x900) × (fstMaxSize two ≡ 0)
 unfolding two put be32
-two-header = (refl, refl, refl)
+two-header = (refl, refl, refl, refl)
 
 two-used : (usedIn two ≡ at 0 0x45A ∷ at 0x45A 0xE4 ∷ at 0x600 0x100 ∷ []) × (usedOf two ≡ 0x45A + 0xE4 + 0x100)
 unfolding usedIn usedOf behindTable programIn ownRegion nonempty totalSize
@@ -141,7 +141,7 @@ unfolding verdictOf countedVerdict totalsVerdict planMove planResize insertVerdi
 kept = record {
   move-onto = rw (opened .at-file .0, nodes, free);
   grow-onto = rw (opened .at-file .0, nodes, free);
-  same-table = rw (two-opens .0, two-nodes, two-free, two-header .0, two-header .1, two-used .1, two-written);
-  grown-table = rw (two-opens .0, two-nodes, two-free, two-header .0, two-header .1);
+  same-table = rw (two-opens .0, two-nodes, two-free, two-header .3, two-header .0, two-header .1, two-used .1, two-written);
+  grown-table = rw (two-opens .0, two-nodes, two-free, two-header .3, two-header .0, two-header .1);
   twenty-one = refl;
 }

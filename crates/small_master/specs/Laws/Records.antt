@@ -64,12 +64,12 @@ module _ (t : Totals) where
   counted : Counted
   unfolding verdictOf countedVerdict planMove planResize maxSizeFrom besideFree tableVerdict placeVerdict limits shallow shallowFrom shut textsOf encode entriesBytes parentOf parentBelow setPlace
   counted = record {
-    rewritten = rw (opens, nodes, free, header .0, header .1, used, useds .0);
+    rewritten = rw (opens, nodes, free, header .3, header .0, header .1, used, useds .0);
     same-size = rw (opens, nodes, used);
-    resized = rw (opens, nodes, free, header .0, header .1, free, used, useds .1);
-    less = rw (opens, nodes, free, header .0, header .1, used, useds .2);
-    more = rw (opens, nodes, free, header .0, header .1, free, used, useds .3);
-    moved = rw (opens, nodes, free, header .0, header .1, free, used, moved-used);
+    resized = rw (opens, nodes, free, header .3, header .0, header .1, free, used, useds .1);
+    less = rw (opens, nodes, free, header .3, header .0, header .1, used, useds .2);
+    more = rw (opens, nodes, free, header .3, header .0, header .1, free, used, useds .3);
+    moved = rw (opens, nodes, free, header .3, header .0, header .1, free, used, moved-used);
   }
 
   -- accepted: the new record

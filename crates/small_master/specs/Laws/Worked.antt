@@ -10,7 +10,7 @@ use Rattle.refusal.specs.declared.Verdict.{Verdict}
 use Rattle.refusal.specs.declared.Verdict.the-variants as verdict
 use Rattle.refusal.specs.Refusal.{numberOf}
 use Rattle.header.specs.Fields.{fields, gcnMagicField, fstOffsetField, fstSizeField, userSizeField}
-use Rattle.header.specs.Verdicts.{gcnMagic, fieldVerdict, fieldsVerdict, headerVerdict, boundsVerdict, fstOffset, fstSize}
+use Rattle.header.specs.Verdicts.{gcnMagic, fieldVerdict, fieldsVerdict, headerVerdict, boundsVerdict, fstOffset, fstSize, fstMaxSize}
 use Rattle.tree.specs.Units.{units}
 use Rattle.tree.specs.Table.{file, directory, plain, safe, count, nameAt, nodeAt, nodesFrom, nodesOf, entryVerdict, entriesVerdict, unended, shut, nameVerdict, nextVerdict, walk, check, parentBelow, parentOf, entriesBytes, textsOf, encode, shallowFrom, shallow, limits}
 use Rattle.tree.specs.Lookup.{firstChild, childOf}
@@ -106,9 +106,9 @@ pub large-used : usedOf large ≡ 1143
 unfolding large put tableOf nodesIn nodesOf nodesFrom nodeAt nameAt count be24 be32 usedOf behindTable programOf programIn ownRegion totalSize
 large-used = refl
 
-pub large-header : (fstOffset large ≡ 0x440) × (fstSize large ≡ 43)
+pub large-header : (fstOffset large ≡ 0x440) × (fstSize large ≡ 43) × (fstMaxSize large ≡ 0)
 unfolding large put be32
-large-header = (refl, refl)
+large-header = (refl, refl, refl)
 
 -- what is written then
 abbrev pub grown : List ℕ
@@ -126,7 +126,7 @@ grown-used = refl
 
 grows : verdictOn (resizeFile 1 12) large ≡ verdict.Passed
 unfolding verdictOf countedVerdict totalsVerdict planResize maxSizeFrom besideFree allocationOf powers largest betterOf alignUp tableVerdict placeVerdict limits shallow shallowFrom shut textsOf encode entriesBytes parentOf parentBelow setPlace
-grows = rw (large-opens, large-nodes, large-free, large-header .0, large-header .1, large-free, large-used, grown-used)
+grows = rw (large-opens, large-nodes, large-free, large-header .2, large-header .0, large-header .1, large-free, large-used, grown-used)
 
 grown-is : after (resizeFile 1 12) large ≡ grown
 unfolding imageAfter planResize maxSizeFrom besideFree allocationOf powers largest betterOf alignUp setPlace

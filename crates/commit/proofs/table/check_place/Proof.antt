@@ -1,6 +1,6 @@
 -- `commit::table::check_place` meets its contract: each test is the definition's, once the largest size found in the words is that of the free regions.
 -- Assumes nothing.
-use Rattle.commit.proofs.Judged.{end-fits, sorted-to, too-few-bytes, no-room-to-grow, place-taken, place-clear}
+use Rattle.commit.proofs.Judged.{end-fits, sorted-to, too-few-bytes, above-stated, no-room-to-grow, place-taken, place-clear}
 use native.Mathlib.Omega.{arith}
 use denote.Ref.{now}
 use lib.ListN.{length}
@@ -15,6 +15,12 @@ known c = let s = c .before in opens (now (s .args .image)) (length (now (s .arg
 
 returns : tie.Need-returns
 returns c = search too-few-bytes
+
+above-maximum-requires : tie.Need-above-maximum-requires
+above-maximum-requires c κs = search needs
+
+returns-2 : tie.Need-returns-2
+returns-2 c = search above-stated
 
 fst-offset-requires : tie.Need-fst-offset-requires
 fst-offset-requires c κs = search needs
@@ -31,11 +37,11 @@ cast-disc-end c = search (end-fits, known)
 max-region-size-requires : tie.Need-max-region-size-requires
 max-region-size-requires c κs = search sorted-to
 
-cast-if2 : tie.Need-cast-if2
-cast-if2 c = search needs
+cast-if3 : tie.Need-cast-if3
+cast-if3 c = search needs
 
-returns-2 : tie.Need-returns-2
-returns-2 c = search no-room-to-grow
+returns-3 : tie.Need-returns-3
+returns-3 c = search no-room-to-grow
 
 cast-reaches : tie.Need-cast-reaches
 cast-reaches c = search needs
@@ -46,26 +52,28 @@ add-reaches c = search needs
 reaches-requires : tie.Need-reaches-requires
 reaches-requires c κs = search needs
 
-returns-3 : tie.Need-returns-3
-returns-3 c = search place-taken
-
 returns-4 : tie.Need-returns-4
-returns-4 c = search place-clear
+returns-4 c = search place-taken
+
+returns-5 : tie.Need-returns-5
+returns-5 c = search place-clear
 
 pub check-place-spec : {M : Type 1} → statement M
 check-place-spec =
     tie.close
     (tie.spec
     returns
+    above-maximum-requires
+    returns-2
     fst-offset-requires
     fst-size-requires
     disc-end-requires
     cast-disc-end
     max-region-size-requires
-    cast-if2
-    returns-2
+    cast-if3
+    returns-3
     cast-reaches
     add-reaches
     reaches-requires
-    returns-3
-    returns-4)
+    returns-4
+    returns-5)
