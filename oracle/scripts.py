@@ -1,5 +1,5 @@
 #!/usr/bin/env python3
-"""Makes the scripts of host/replay (host/replay/scripts, format: host/replay/SOURCES.md), but for sampled.txt and sampled_fills.txt.
+"""Makes the scripts of host/replay (host/replay/scripts, format: host/replay/SOURCES.md), but for the sampled ones.
 
     oracle/scripts.py ORACLE    ORACLE: the program that oracle/build makes
 
@@ -1874,6 +1874,242 @@ def records_last(s):
     s.record()
 
 
+STATED = "new table above the maximum"
+
+
+def state(s, maximum):
+    """The image as it was kept, with this FST maximum."""
+    s.load()
+    s.patch(0x42C, word(maximum))
+
+
+def above(s, name, *arguments, why=STATED):
+    """An edit whose table is above the maximum, which the Rust does not look at: it says something else."""
+    s.edit(name, *arguments, paper=26, why=why, of="02", differs=True)
+
+
+# Each edit that writes a table of the small master, how long that is, and the record that it makes of one of the image.
+WRITES = [("rewrite", (), 0x1A, (1370, 6656, 1)), ("move", (1, 0x600), 0x1A, (1370, 6400, 1)), ("resize", (1, 0xFF), 0x1A, (1369, 6657, 1)),
+          ("resize", (1, 0x101), 0x1A, (1371, 6655, 1)), ("resize", (1, 0), 0x1A, (1114, 7078, 1)), ("replace", (1, b"clip"), 0x1A, (1118, 6908, 1)),
+          ("replace", (1, Clip(0x101)), 0x1A, (1371, 6655, 1)), ("replace_zeros", (1, 756), 0x1A, (1870, 6156, 1)),
+          ("make_directories", (0, b""), 0x1A, (1370, 6656, 1)), ("insert_file", (0, b"b"), 0x28, (1384, 6656, 1)),
+          ("insert_directory", (0, b"bb"), 0x29, (1385, 6656, 1)), ("make_directories", (0, b"b"), 0x28, (1384, 6656, 1)),
+          ("make_directories", (0, b"n/m"), 0x36, (1398, 6656, 1))]
+# Those that write none.
+KEEPS = [("resize", (1, 0x100)), ("replace", (1, Clip(0x100))), ("replace_zeros", (1, 0x100))]
+
+
+def maxima_of_the_small_master(s):
+    s.lend(0x40, 0x100)
+    new_image(s, "small master of document 01, with a table of 0x1a bytes", 0x2000, A_AT_500, free=False)
+    s.heading("FST maximum 0x1a")
+    state(s, 0x1A)
+    s.look("open")
+    s.edit("rewrite")
+    above(s, "insert_file", 0, b"b")
+    above(s, "insert_directory", 0, b"b")
+    above(s, "make_directories", 0, b"b")
+    s.heading("FST maximum 0x19")
+    state(s, 0x19)
+    s.look("open", note="its table is larger already")
+    s.look("header")
+    above(s, "rewrite")
+    s.look("totals")
+    s.look("free_regions")
+    s.text("list", 0x46)
+    for name, arguments in KEEPS:
+        s.edit(name, *arguments, note="no table is written")
+    s.heading("FST maximum 0")
+    state(s, 0)
+    s.look("open")
+    for name, arguments, _, _ in WRITES:
+        s.load()
+        s.edit(name, *arguments)
+
+
+def maxima_around_the_new_table(s):
+    s.lend(0x40, 0x100)
+    new_image(s, "small master: each edit with a maximum a byte too small for its table, just enough and a byte more, 1, and 2^32 - 1", 0x2000, A_AT_500,
+              files=[(0x500, 0x100)])
+    for name, arguments, size, record in WRITES:
+        s.heading(f"{CALLS.get(name, name)}: a table of {n(size)} bytes")
+        for maximum in (1, size - 1, size, size + 1, MOST):
+            state(s, maximum)
+            s.make_record(1370, 6656, "whatever the maximum is")
+            if maximum < size:
+                above(s, name, *arguments)
+            else:
+                s.edit(name, *arguments, note="02's record", record=record)
+                s.peek(0x424, 0xC)
+    for name, arguments in KEEPS:
+        state(s, 1)
+        s.make_record(1370, 6656, "whatever the maximum is")
+        s.edit(name, *arguments, note="02's record; no table is written", record=(1370, 6656, 1))
+    s.record()
+
+
+def maxima_of_larger_tables(s):
+    s.lend(0x40, 0x100)
+    new_image(s, "small master with six bytes of slack behind the texts: its table is edited down to the maximum", 0x2000, A_AT_500, free=False)
+    s.patch(0x428, word(0x20))
+    s.save()
+    for maximum in (0x1A, 0x1F, 0x20):
+        state(s, maximum)
+        s.look("open")
+        s.edit("resize", 1, 0x100, note="no table is written")
+        above(s, "insert_file", 0, b"b")
+        s.edit("move", 1, 0x600)
+        s.look("open")
+        s.peek(0x424, 0xC)
+    state(s, 0x19)
+    s.look("open")
+    above(s, "rewrite", why=STATED + ", though shorter than the present one")
+    above(s, "move", 1, 0x600)
+    s.edit("replace", 1, Clip(0x100), note="no table is written")
+    state(s, 0x28)
+    s.edit("insert_file", 0, b"b", note="exactly as long")
+    above(s, "insert_file", 0, b"c")
+    s.edit("resize", 2, 1)
+    s.edit("move", 1, 0x600)
+    table = directory(0, 0, 3) + file(0, 0x500, 0x100) + file(0, 0x700, 0x10) + b"a\0"
+    new_image(s, "two files share a text: a table of 0x26 bytes, and of 0x28 when it is written", 0x2000, table, files=[(0x500, 0x100), (0x700, 0x10)])
+    shared = STATED + ": texts are never shared in it"
+    for maximum in (0x25, 0x26, 0x27):
+        state(s, maximum)
+        s.look("open")
+        above(s, "rewrite", why=shared)
+        above(s, "make_directories", 0, b"", why=shared)
+        above(s, "resize", 2, 0xF, why=shared)
+        above(s, "move", 2, 0x800, why=shared)
+        s.edit("resize", 2, 0x10, note="no table is written")
+    state(s, 0x28)
+    s.edit("rewrite", note="exactly as long")
+    s.peek(0x424, 0xC)
+    above(s, "insert_file", 0, b"b")
+
+
+def maxima_of_lists(s):
+    s.lend(0x40, 0x100)
+    new_image(s, "small master, FST maximum 0x36: a list of edits, with a record", 0x2000, A_AT_500, free=False)
+    state(s, 0x36)
+    s.make_record(1370, 6656, "at opening")
+    s.edit("insert_directory", 0, b"d", note="02's record", record=(1384, 6656, 1))
+    above(s, "make_directories", 0, b"d/e/f")
+    above(s, "insert_file", 2, b"ff")
+    s.edit("insert_file", 2, b"f", note="02's record; exactly as long", record=(1398, 6656, 2))
+    above(s, "make_directories", 0, b"d/e")
+    above(s, "insert_file", 0, b"e")
+    s.edit("make_directories", 0, b"d", note="02's record; all are there", record=(1398, 6656, 3))
+    s.edit("replace", 3, b"x")
+    s.edit("move", 3, 0x1000, note="02's record", record=(1398, 6656, 4))
+    s.edit("replace", 3, Clip(0x10), note="02's record", record=(1414, 4080, 5))
+    s.edit("move", 1, 0x1F00, note="02's record", record=(1414, 3824, 6))
+    s.edit("resize", 1, 0x80, note="02's record", record=(1286, 3824, 7))
+    s.edit("rewrite", note="02's record", record=(1286, 3824, 8))
+    s.look("open")
+    s.peek(0x424, 0xC)
+    s.record()
+
+
+def maxima_and_other_numbers(s):
+    s.lend(0x14, 0x28)
+    new_image(s, "small master, FST maximum 1: what comes before 26", 0x2000, A_AT_500, free=False)
+    state(s, 1)
+    s.save()
+    for name, arguments in [("resize", (2, 0)), ("resize", (0, 0)), ("move", (1, 0x500)), ("move", (1, 0x580)), ("move", (1, 0x400)),
+                            ("resize", (1, 0x1B01)), ("insert_file", (0, b"a")), ("insert_file", (1, b"b")), ("insert_file", (0, b"..")),
+                            ("make_directories", (0, b"..")), ("make_directories", (0, b"a")), ("make_directories", (0, b"b/:")),
+                            ("replace", (0, b"")), ("replace_zeros", (1, MOST))]:
+        s.edit(name, *arguments)
+    s.edit("replace_zeros", 1, MOST + 1, paper=21, why=LONG, of="02")
+    s.edit("insert_file", 0, b"\x01", paper=12, why=BYTES)
+    s.edit("make_directories", 0, b"b/\x01", paper=12, why=BYTES)
+    s.edit("make_directories", 0, b"/" * 1025, paper=9, why="a path over 1,024 bytes")
+    above(s, "insert_file", 0, b"b")
+    s.edit("insert_file", 0, b"bb", paper=9, why="one working byte too few")
+    s.edit("make_directories", 0, b"b/c", paper=9, why="four working words too few")
+    s.lend(0x13, 0x28)
+    s.edit("insert_file", 0, b"b", paper=9, why="one working word too few")
+    s.lend(0x10, 0x1A)
+    above(s, "rewrite")
+    s.lend(0x10, 0x19)
+    s.edit("rewrite", paper=9, why="one working byte too few")
+    s.edit("move", 1, 0x600, paper=9, why="one working byte too few")
+    s.lend(0x10, 0)
+    for name, arguments in KEEPS:
+        s.edit(name, *arguments, note="no table is written")
+    s.lend(0x40, 0x100)
+    for text, change, number, why in [
+            ("image of 0x43f bytes", lambda: s.size(0x43F), None, ""), ("no GameCube magic", lambda: s.patch(0x1C, word(0)), None, ""),
+            ("image of 0x1fff bytes", lambda: s.size(0x1FFF), 4, "bounds that the Rust does not test"),
+            ("FST size 23", lambda: s.patch(0x428, word(23)), None, ""), ("name `.`", lambda: s.patch(0x458, b"."), None, ""),
+            ("file in the table", lambda: s.patch(0x450, word(0x459)), 14, "the Rust panics")]:
+        s.load()
+        s.heading(text)
+        change()
+        s.edit("rewrite", paper=number, why=why)
+    s.load()
+    s.heading("25 comes behind it")
+    for record in [(MOST, 0, MOST), (0, 0, 0), (MOST, 0, 0)]:
+        s.record(*record)
+        for name, arguments, _, _ in WRITES:
+            above(s, name, *arguments)
+    s.record(1370, 6656, MOST)
+    s.edit("resize", 1, 0x100, paper=25, why=COUNT, of="02", differs=True)
+    s.patch(0x42C, word(0x1A))
+    s.edit("rewrite", paper=25, why=COUNT, of="02", differs=True)
+    above(s, "insert_file", 0, b"b")
+    s.record()
+
+
+def maxima_and_the_tables_place(s):
+    s.lend(0x40, 0x100)
+    table = directory(0, 0, 3) + file(0, 0x466, 0x10) + file(0, 0x700, 0x10) + b"a\0"
+    new_image(s, "two names share a text, and there is no room for both: 26 before the table's 21", 0x2000, table, files=[(0x466, 0x10), (0x700, 0x10)])
+    for maximum in (0x26, 0x27):
+        state(s, maximum)
+        for name, arguments in [("rewrite", ()), ("make_directories", (0, b"")), ("insert_directory", (0, b"b")), ("resize", (2, 0x11)),
+                                ("resize", (1, 0)), ("move", (2, 0x900)), ("move", (1, 0x900)), ("replace", (2, b"clip"))]:
+            above(s, name, *arguments)
+        s.edit("move", 2, 0x701, note="before the table")
+        s.edit("move", 2, 0x466, note="before the table")
+        s.edit("resize", 2, 0x10, note="no table is written")
+    for maximum in (0x28, MOST, 0):
+        state(s, maximum)
+        s.edit("rewrite")
+        s.edit("resize", 1, 0)
+        s.edit("move", 2, 0x900, paper=21, why=HALF)
+    state(s, 0x28)
+    above(s, "insert_file", 0, b"b")
+    table = directory(0, 0, 3) + file(0, 0x500, 0x100) + file(0, 0x700, 0x10) + b"a\0"
+    new_image(s, "the same with room, and the second file is moved in where the table will stand", 0x2000, table, files=[(0x500, 0x100), (0x700, 0x10)])
+    for maximum in (0x27, 0x28):
+        state(s, maximum)
+        for at in (0x466, 0x467):
+            if maximum < 0x28:
+                above(s, "move", 2, at)
+            else:
+                s.edit("move", 2, at, paper=21, why=SHARED)
+        if maximum < 0x28:
+            above(s, "move", 2, 0x468)
+        else:
+            s.edit("move", 2, 0x468, note="right behind the grown table")
+    new_image(s, "a program right behind the table of 0x1a bytes", 0x2000, A_AT_800, files=[(0x800, 0x100)])
+    put_program(s, 0x45A)
+    s.save()
+    for maximum, number in [(0x19, 26), (0x1A, 26), (0x27, 26), (0x28, 21), (0, 21)]:
+        state(s, maximum)
+        s.edit("insert_file", 0, b"b", paper=number, why=STATED if number == 26 else "14 bytes more", of="02", differs=True)
+        if maximum == 0x19:
+            above(s, "rewrite")
+            above(s, "move", 1, 0x900)
+        else:
+            s.edit("rewrite", paper="ok", why="a table of the same size", of="02")
+            s.edit("move", 1, 0x900, paper="ok", why="a table of the same size", image=moved(s, 0x800, 0x900, 0x100), of="02")
+        s.edit("move", 1, 0x500, paper=21, why="over the program", of="02")
+    s.program(0x45A, 0xE4, "as it was")
+
+
 def tables(s):
     """An image whose table is each of these, written anew, and every entry read back; and with just as many working bytes as that takes."""
     shared = (directory(0, 7, 8) + directory(1, 5, 5) + file(1, 0x10000, 0x10) + directory(3, 0, 5) + file(4, 0x10100, 0x20) + file(6, 0x10200, 0x30)
@@ -2154,7 +2390,9 @@ def make(oracle):
             ("listing", (listings,)), ("program", (none_named, before_table, behind_table, abutting, unread)),
             ("names", (names_opened, names_shared, names_looked_up, names_edited, names_that_do_not_come_back)),
             ("fills", (filled, memory_of_fills, fills_elsewhere, fills_and_the_table, fills_of_unopened, fills_beside_the_program)),
-            ("record", (records_of_edits, records_made, records_handed_on, records_that_hold_anything, records_last))]:
+            ("record", (records_of_edits, records_made, records_handed_on, records_that_hold_anything, records_last)),
+            ("maximum", (maxima_of_the_small_master, maxima_around_the_new_table, maxima_of_larger_tables, maxima_of_lists, maxima_and_other_numbers,
+                         maxima_and_the_tables_place))]:
         s.lines = []
         for part in parts:
             part(s)

@@ -113,6 +113,7 @@ static inline const char *counter_cause(uint32_t number)
         "seek",
         "DOL header past the image, or a sum above 2^32 - 1",
         "used bytes or edit count would leave 0 to 2^32 - 1",
+        "new table above the maximum",
     };
     return number < sizeof causes / sizeof causes[0] ? causes[number] : NULL;
 }
@@ -218,7 +219,12 @@ uint32_t counter_make_record(const uint8_t *image, size_t image_len, uint32_t *w
     uint32_t record[COUNTER_RECORD_SLOTS]);
 
 /* ---- edits: each opens the image, makes all its tests, and only then writes it; with a number other than 0 image and record are as they
- * were. The table is written anew: limits of the new tree or too few working bytes 9, no place for it 21.
+ * were. The table is written anew: limits of the new tree or too few working bytes 9, larger than the FST maximum 26, no place for it 21.
+ *
+ * The FST maximum is the header's word at 0x42C: the memory that a game on two discs has for the table of either. 0 states none. It binds
+ * the table that an edit would write, in which no name is shared, and no other: an image whose table is larger opens, and an edit whose
+ * table is no larger than the maximum is accepted. A resize to the present size and a clip of the file's own size write no table. No edit
+ * writes the field.
  *
  * A record goes into every edit and comes back. Where the edit is accepted, used bytes have moved by as many as the image uses more or
  * less than before, the largest region is the new image's, and the count is larger by one; also where the image stays as it was, as after

@@ -9,6 +9,7 @@ use counter_sys::{self as counter, Memory, REGION_WORDS, Record};
 use std::time::Duration;
 
 const BAR: f64 = 1.1;
+const FST_MAXIMUM: usize = 0x42C;
 const BUDGET: Duration = Duration::from_secs(2);
 
 /// What comes of an edit: the file in the middle stays where it is, or goes elsewhere, or nothing changes.
@@ -47,11 +48,14 @@ fn cases(plan: &Plan) -> Vec<(&'static str, Call, u32, End)> {
     ]
 }
 
-/// The image, with the memory that an edit wants which adds entries.
+/// The image, with the memory that an edit wants which adds entries. It states a maximum that no table
+/// passes, so that an edit has one to judge.
 fn case(plan: &Plan) -> Case {
     let table = images::table_of(&plan.nodes).len();
     let Lent { words, bytes, .. } = Lent::new(plan.nodes.len() + NEW, table + 20 * NEW, 0);
-    Case { image: images::image(plan), words, bytes }
+    let mut image = images::image(plan);
+    image[FST_MAXIMUM..FST_MAXIMUM + 4].copy_from_slice(&u32::MAX.to_be_bytes());
+    Case { image, words, bytes }
 }
 
 /// Before and now, each at the best of its four places in memory.

@@ -212,7 +212,7 @@ pub const FORMS: &[Form] = &[
     look(
         "info",
         &[&BARE],
-        "the header's fields, the totals and where the program lies",
+        "the header's fields, the totals, what is left of the table's maximum and where the program lies",
         &["counter info disc.iso", "counter info"],
     ),
     Form {
@@ -315,7 +315,7 @@ pub const FORMS: &[Form] = &[
         ..look(
             "check",
             &[&IMAGE],
-            "opens the image, or says which refusal it meets and why",
+            "opens the image, or says which refusal it meets and why; tells of a table above its maximum",
             &["counter check disc.iso"],
         )
     },

@@ -142,12 +142,8 @@ pub struct Disc {
 impl Disc {
     /// Opens the image and reads its entries and free regions.
     pub fn read(image: &Image, desk: &mut Desk) -> Outcome<Disc> {
-        let bytes = image.bytes();
-        let mut list = vec![0; MOST_ENTRIES * ENTRY_WORDS];
-        let opened = counter::entries(bytes, &mut desk.lend(), &mut list)
-            .map_err(|number| not_opened(image, number))?;
-        let words = list.chunks_exact(ENTRY_WORDS).take(opened.entries as usize);
-        let nodes: Vec<Node> = words.enumerate().map(|(i, words)| node(i as u32, words)).collect();
+        let (opened, list) = listed(image, desk)?;
+        let nodes = list.iter().enumerate().map(|(i, words)| node(i as u32, words)).collect();
         let free = free_regions(image, desk)?;
         let mut disc = Disc { opened, nodes, free, named: false };
         disc.keep_paths(image)?;
@@ -220,9 +216,9 @@ impl Disc {
         [b"/", &parts.join(&b'/')[..], end].concat()
     }
 
-    /// The table's size as an edit writes it: each name by itself.
+    /// The table's size as an edit writes it.
     pub fn written_size(&self) -> u64 {
-        self.nodes.iter().skip(1).map(|node| 13 + u64::from(node.place.1)).sum::<u64>() + 12
+        written(self.nodes.iter().map(|node| node.place.1))
     }
 
     /// The entry at `path`, from the root on.
@@ -233,8 +229,27 @@ impl Disc {
     }
 }
 
+/// What opening tells, and six words of each entry.
+fn listed(image: &Image, desk: &mut Desk) -> Outcome<(Opened, Vec<[u32; ENTRY_WORDS]>)> {
+    let mut list = vec![[0; ENTRY_WORDS]; MOST_ENTRIES];
+    let opened = counter::entries(image.bytes(), &mut desk.lend(), list.as_flattened_mut())
+        .map_err(|number| not_opened(image, number))?;
+    list.truncate(opened.entries as usize);
+    Ok((opened, list))
+}
+
+/// The size of the image's table as an edit writes it.
+pub fn written_size(image: &Image, desk: &mut Desk) -> Outcome<u64> {
+    Ok(written(listed(image, desk)?.1.iter().map(|words| words[5])))
+}
+
+/// The size of a table in which each name stands by itself, from the names' lengths, the root's first.
+fn written(lengths: impl Iterator<Item = u32>) -> u64 {
+    12 + lengths.skip(1).map(|length| 13 + u64::from(length)).sum::<u64>()
+}
+
 /// The entry that six words tell, without its path.
-fn node(number: u32, words: &[u32]) -> Node {
+fn node(number: u32, words: &[u32; ENTRY_WORDS]) -> Node {
     let kind = match words[0] {
         0 => Kind::File { offset: words[2], size: words[3] },
         _ => Kind::Directory { next: words[3] },

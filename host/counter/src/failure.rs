@@ -26,7 +26,7 @@ pub const CUT: u8 = 78;
 const SIGPIPE: u8 = 13;
 
 /// The causes of a refusal in words; the cause with number n is the n-th.
-pub const CAUSES: [&str; 25] = [
+pub const CAUSES: [&str; 26] = [
     "header field past the image",
     "Wii magic",
     "not GameCube magic",
@@ -52,6 +52,7 @@ pub const CAUSES: [&str; 25] = [
     "seek",
     "DOL header past the image, or a sum above 2^32 - 1",
     "used bytes or edit count would leave 0 to 2^32 - 1",
+    "new table above the maximum",
 ];
 
 pub fn cause(number: u32) -> &'static str {
@@ -63,14 +64,24 @@ pub fn cause(number: u32) -> &'static str {
 
 #[derive(Debug)]
 pub enum Failure {
-    /// The proved library said no. `what` is what it was asked about, `detail` more than the number.
-    Refused { number: u32, what: String, detail: Option<String> },
+    /// The proved library said no. `what` is what it was asked about, `detail` more than the number,
+    /// `above` what 26 is about.
+    Refused { number: u32, what: String, detail: Option<String>, above: Option<Above> },
     /// Anything else that went wrong.
     Error { status: u8, text: String },
     /// A signal came at a place where the program could stop.
     Signal { number: i32, text: String },
     /// Whoever read the output went away.
     Pipe,
+}
+
+/// A table that an edit would write: its size before and after, the maximum, and by how many bytes it is above.
+#[derive(Debug, Clone, Copy)]
+pub struct Above {
+    pub before: u64,
+    pub after: u64,
+    pub maximum: u64,
+    pub bytes: u64,
 }
 
 pub type Outcome<T> = Result<T, Failure>;
@@ -81,14 +92,24 @@ impl Failure {
             let text = format!("libcounter answered {number}, which is no number of a cause");
             return Failure::Error { status: INTERNAL, text };
         }
-        Failure::Refused { number, what: what.into(), detail: None }
+        Failure::Refused { number, what: what.into(), detail: None, above: None }
     }
 
     /// The same refusal with more said about it.
     pub fn because(self, more: impl Into<String>) -> Failure {
         match self {
-            Failure::Refused { number, what, .. } => {
-                Failure::Refused { number, what, detail: Some(more.into()) }
+            Failure::Refused { number, what, above, .. } => {
+                Failure::Refused { number, what, detail: Some(more.into()), above }
+            }
+            other => other,
+        }
+    }
+
+    /// The same refusal with the table's sizes.
+    pub fn above(self, above: Above) -> Failure {
+        match self {
+            Failure::Refused { number, what, detail, .. } => {
+                Failure::Refused { number, what, detail, above: Some(above) }
             }
             other => other,
         }
@@ -127,7 +148,7 @@ impl Failure {
 impl fmt::Display for Failure {
     fn fmt(&self, f: &mut fmt::Formatter<'_>) -> fmt::Result {
         match self {
-            Failure::Refused { number, what, detail } => {
+            Failure::Refused { number, what, detail, .. } => {
                 write!(f, "{what}: refused {number}: {}", cause(*number))?;
                 match detail {
                     Some(more) => write!(f, " ({more})"),

@@ -18,6 +18,11 @@ impl Header {
         u32::from_be_bytes(self.0[at..at + 4].try_into().expect("four bytes"))
     }
 
+    /// The most bytes that the table may have; 0 states no maximum.
+    pub fn fst_maximum(&self) -> u32 {
+        self.word(0x42C)
+    }
+
     pub fn disc_end(&self) -> u64 {
         u64::from(self.word(0x434)) + u64::from(self.word(0x438))
     }

@@ -151,7 +151,7 @@ const FIELDS: &[(&str, &str)] = &[
         "image image_bytes game_code maker game_name disc version audio_streaming stream_buffer wii_magic \
          gamecube_magic debug_offset debug_address dol_offset fst_offset fst_size fst_maximum \
          user_position user_size disc_size unused_43c disc_end table_end entries files directories used \
-         free free_regions largest_free program_behind_table program{offset size behind_table}",
+         free free_regions largest_free fst_left fst_above fst_rewritten program_behind_table program{offset size behind_table}",
     ),
     ("list", "total used entries[ENTRY] free[offset size]"),
     (
@@ -174,7 +174,10 @@ const FIELDS: &[(&str, &str)] = &[
         "map",
         "out disc_end pieces[kind name name_bytes offset size]; kind: system program table file free",
     ),
-    ("check", "status opens entries files disc_end used free"),
+    (
+        "check",
+        "status opens entries files disc_end used free fst_size fst_maximum fst_left fst_above fst_rewritten",
+    ),
     ("compare", COMPARED),
     ("report", COMPARED),
     ("mkdir", EDITED),
@@ -216,6 +219,11 @@ fn json(forms: &[Form]) -> String {
     if forms.iter().any(|form| form.name == "info") {
         out.push_str("  game_code, maker, game_name: character n is byte n\n");
     }
+    if forms.iter().any(|form| ["info", "check"].contains(&form.name)) {
+        out.push_str(
+            "  fst_left: what is left of fst_maximum, or null where that is 0 (no maximum); fst_above: by how many\n  bytes the table is above it, or 0; fst_rewritten: the table's size as an edit writes it, no name\n  shared, or null where there is no maximum\n",
+        );
+    }
     if forms.iter().any(|form| ["info", "tree", "free"].contains(&form.name)) {
         out.push_str("  program: null where the image names none\n");
     }
@@ -224,7 +232,7 @@ fn json(forms: &[Form]) -> String {
             "  clip{name size}: of a fill; entries has the file that was filled in any case\n",
         );
     }
-    out.push_str("  A refusal: status refused cause about detail. Another error: status error.\n");
+    out.push_str("  A refusal: status refused cause about detail; 26 also table{before after maximum above}. Another\n  error: status error.\n");
     out
 }
 
@@ -282,6 +290,10 @@ Safety
     waits until it is done and synced; the program then says so and ends by the signal.
   - A program (main.dol) that lies behind the table is used like a file, and no edit writes there.
     `info` and `free` tell where it lies.
+  - A header may state a maximum for the table (FST maximum, at 0x42c): games on two discs load the
+    table of either into one place in memory. An edit that would write a larger one is refused (26)
+    and says by how many bytes; `info` tells how much is left. An image whose table is above it opens,
+    which `check` tells, and may be edited down to it. 0 states no maximum; no edit writes the field.
   - Holes of a sparse image, blocks that a reflink copy shares and, on a copy-on-write disk (btrfs,
     ZFS), all blocks take new room when they are written. It is looked for first; if there is too
     little, nothing is written (74). If room fails in the midst of an edit all the same, the edit is

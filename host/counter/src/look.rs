@@ -8,6 +8,7 @@ use crate::failure::{Failure, Outcome};
 use crate::header::Header;
 use crate::image::Image;
 use crate::json::{self, Json, latin};
+use crate::maximum::Maximum;
 use crate::names::{self, shown as shown_name};
 use crate::out::say;
 use crate::program::Program;
@@ -45,14 +46,17 @@ const SMALL: [(&str, &str, usize); 4] = [
 pub fn info(args: &Args) -> Outcome<()> {
     let (image, mut desk, disc) = space(args.image.as_deref())?;
     let header = Header::read(image.bytes()).map_err(|n| not_opened(&image, n))?;
+    let maximum = Maximum::read(&image, &mut desk, &disc.opened)?;
     let program = Program::read(&image, &mut desk, &disc.opened)?;
     if args.json {
         let mut fields = info_fields(&image, &header, &disc);
+        fields.extend(maximum.fields());
         fields.push(("program_behind_table", program.is_some_and(|at| at.behind).into()));
         fields.push(("program", program.into()));
         return say(Json::Object(fields).document().as_bytes());
     }
     let mut text = info_text(&image, &header, &disc);
+    maximum.lines(&mut text);
     line(&mut text, "program", program.map_or("none".into(), |program| program.words()));
     say(text.as_bytes())
 }
@@ -269,9 +273,10 @@ pub fn place(args: &Args) -> Outcome<()> {
 }
 
 pub fn check(args: &Args) -> Outcome<()> {
-    let (image, _, disc) = space(args.image.as_deref())?;
+    let (image, mut desk, disc) = space(args.image.as_deref())?;
+    let maximum = Maximum::read(&image, &mut desk, &disc.opened)?;
     if args.json {
-        let json = Json::Object(vec![
+        let mut fields = vec![
             ("status", 0u32.into()),
             ("opens", true.into()),
             ("entries", disc.opened.entries.into()),
@@ -279,10 +284,13 @@ pub fn check(args: &Args) -> Outcome<()> {
             ("disc_end", disc.opened.disc_end.into()),
             ("used", disc.opened.used.into()),
             ("free", disc.free_bytes().into()),
-        ]);
-        return say(json.document().as_bytes());
+            ("fst_size", disc.opened.fst_size.into()),
+            ("fst_maximum", maximum.stated.into()),
+        ];
+        fields.extend(maximum.fields());
+        return say(Json::Object(fields).document().as_bytes());
     }
-    let text = format!(
+    let mut text = format!(
         "{}: opens: {}, {}, {} used and {} free of {}\n",
         image.name,
         counted(disc.files, "file", "files"),
@@ -291,5 +299,8 @@ pub fn check(args: &Args) -> Outcome<()> {
         human(disc.free_bytes()),
         human(disc.opened.disc_end.into())
     );
+    if let Some(note) = maximum.note() {
+        let _ = writeln!(text, "note: {note}");
+    }
     say(text.as_bytes())
 }

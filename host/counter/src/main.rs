@@ -28,6 +28,7 @@ mod layout;
 mod look;
 mod manifest;
 mod map;
+mod maximum;
 mod names;
 mod os;
 mod pages;
@@ -160,11 +161,20 @@ fn finish(outcome: Outcome<u8>, json: bool) -> i32 {
 fn told(failure: &Failure) -> Json {
     let mut fields = vec![("status", Json::from(u32::from(failure.status())))];
     match failure {
-        Failure::Refused { number, what, detail } => {
+        Failure::Refused { number, what, detail, above } => {
             fields.push(("refused", (*number).into()));
             fields.push(("cause", cause(*number).into()));
             fields.push(("about", what.as_str().into()));
             fields.push(("detail", detail.as_deref().into()));
+            fields.extend(above.map(|table| {
+                let numbers = vec![
+                    ("before", table.before.into()),
+                    ("after", table.after.into()),
+                    ("maximum", table.maximum.into()),
+                    ("above", table.bytes.into()),
+                ];
+                ("table", Json::Object(numbers))
+            }));
         }
         other => fields.push(("error", other.to_string().into())),
     }

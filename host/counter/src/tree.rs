@@ -18,13 +18,12 @@ use std::io::Write;
 pub fn list(args: &Args) -> Outcome<()> {
     let (image, mut desk, disc) = match opened(args.image.as_deref()) {
         Ok(opened) => opened,
-        Err(Failure::Refused { number, what, detail }) => {
-            if !args.json {
+        Err(failure) => {
+            if let (Failure::Refused { number, .. }, false) = (&failure, args.json) {
                 say(format!("refused {number}\n").as_bytes())?;
             }
-            return Err(Failure::Refused { number, what, detail });
+            return Err(failure);
         }
-        Err(other) => return Err(other),
     };
     match args.json {
         true => say(list_json(&disc.with_paths()?).document().as_bytes()),

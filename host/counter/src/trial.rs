@@ -7,6 +7,7 @@ use crate::clip::Clip;
 use crate::disc::{CLUSTER, Disc, Kind, table_end};
 use crate::failure::{Failure, INTERNAL, Outcome};
 use crate::image::{Desk, Image};
+use crate::maximum::{Maximum, new_size};
 use counter_sys::{self as counter, Record};
 use std::ops::Range;
 
@@ -30,9 +31,11 @@ pub fn try_out(
 ) -> Outcome<Trial> {
     let mut copy = image.trial(&stand_ins(call, image, desk, before))?;
     let mut record = given;
-    let found = call
-        .run(copy.bytes_mut(), desk.lend(), &mut record)
-        .map_err(|number| refused(wish, number))?;
+    let found =
+        call.run(copy.bytes_mut(), desk.lend(), &mut record).map_err(|number| match number {
+            26 => above_maximum(wish, call, &mut copy, desk, before, given),
+            number => refused(wish, number),
+        })?;
     let after = Disc::read(&copy, desk)?;
     let table = before.opened.fst_offset as usize;
     let (old_size, new_size) = (before.opened.fst_size, after.opened.fst_size);
@@ -62,6 +65,22 @@ pub fn try_out(
         return Err(Failure::error(INTERNAL, text));
     }
     Ok(Trial { found, after, change, given, record })
+}
+
+/// 26, with by how many bytes.
+fn above_maximum(
+    wish: &Wish,
+    call: &Call,
+    copy: &mut Image,
+    desk: &mut Desk,
+    before: &Disc,
+    given: Record,
+) -> Failure {
+    let new = new_size(call, copy.bytes_mut(), desk, given);
+    match Maximum::read(copy, desk, &before.opened) {
+        Ok(maximum) => maximum.explain(refused(wish, 26), new),
+        Err(failure) => failure,
+    }
 }
 
 /// What the edit does to the file's bytes, told by its place before and after.

@@ -183,7 +183,7 @@ int main(void)
 fn the_header_compiles_alone_as_c_and_as_c_plus_plus() {
     let temp = Temp::new();
     let text = "#include \"counter.h\"\n#include \"counter.h\"\n\
-                int main(void) { return counter_cause(26) != 0 || counter_cause(0) == 0; }\n";
+                int main(void) { return counter_cause(27) != 0 || counter_cause(0) == 0; }\n";
     for (compiler, name, standard) in [
         ("cc", "alone.c", "-std=c99"),
         ("cc", "alone.c", "-std=c17"),
@@ -206,7 +206,7 @@ fn causes_and_limits_are_those_of_the_paper() {
         .lines()
         .filter_map(|line| line.trim().strip_prefix('"')?.strip_suffix("\","))
         .collect();
-    assert_eq!(causes.len(), 26);
+    assert_eq!(causes.len(), 27);
     let exit = run(&["help", "exit"]).out;
     for (number, cause) in causes.iter().enumerate().skip(1) {
         assert!(exit.contains(&format!("{number:2}  refused: {cause}\n")), "{number} {cause}");

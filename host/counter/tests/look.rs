@@ -915,7 +915,7 @@ fn help_documents_commands_statuses_and_safety() {
         assert!(run_help.out.contains(&format!("counter {command} ")), "{command}");
         assert!(run(&["help", command]).out.contains(&format!("counter {command} ")));
     }
-    // The causes are the scope paper's table, word for word.
+    // The causes are the scope paper's table, word for word, and what joined it.
     let causes = [
         "header field past the image",
         "Wii magic",
@@ -941,7 +941,10 @@ fn help_documents_commands_statuses_and_safety() {
         "alignment no power of two",
         "seek",
         "DOL header past the image, or a sum above 2^32 - 1",
+        "used bytes or edit count would leave 0 to 2^32 - 1",
+        "new table above the maximum",
     ];
+    assert!(run_help.out.contains(&format!("\n      1 to {}: refused", causes.len())));
     for (i, cause) in causes.iter().enumerate() {
         assert!(run_help.out.contains(&format!("{:2}  refused: {cause}\n", i + 1)), "{cause}");
     }

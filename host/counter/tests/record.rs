@@ -200,7 +200,7 @@ fn any_edits_one_after_another() {
             _ => vec!["rewrite"],
         };
         let run = with(&image, &file, &args);
-        assert!(run.status <= 25, "{args:?}: {}", run.err);
+        assert!(run.status <= 26, "{args:?}: {}", run.err);
         let table = Table::of(&image);
         match run.status {
             0 => {

@@ -64,7 +64,7 @@ fn no_image_makes_the_program_fall_over() {
         damage(&mut bytes, &mut random);
         let image = temp.write("spoiled.iso", &bytes);
         let check = on("check", &image, &[]);
-        assert!((0..=25).contains(&check.status), "turn {turn}: {} {}", check.status, check.err);
+        assert!((0..=26).contains(&check.status), "turn {turn}: {} {}", check.status, check.err);
         let listed = on("list", &image, &[]);
         assert_eq!(listed.status, check.status, "turn {turn}");
         if check.status == 0 {
@@ -94,7 +94,7 @@ fn no_image_makes_the_program_fall_over() {
         let count = if turn % 5 == 0 { reading.len() } else { 8 };
         for args in &reading[..count] {
             let run = on(args[0], &image, &args[1..]);
-            assert!(run.status <= 25 || run.status == 65, "turn {turn} {args:?}: {}", run.err);
+            assert!(run.status <= 26 || run.status == 65, "turn {turn} {args:?}: {}", run.err);
             assert!(
                 run.signal.is_none() && !run.err.contains("panicked"),
                 "turn {turn}: {}",
@@ -114,7 +114,7 @@ fn no_image_makes_the_program_fall_over() {
         ];
         let edit = edits[turn % edits.len()];
         let run = on(edit[0], &image, &edit[1..]);
-        assert!(run.status <= 25, "turn {turn} {edit:?}: {}", run.err);
+        assert!(run.status <= 26, "turn {turn} {edit:?}: {}", run.err);
         match run.status {
             0 => assert!(done("list", &image, &[]) == Table::of(&image).listing(), "turn {turn}"),
             _ => assert!(fs::read(&image).unwrap() == bytes, "turn {turn} {edit:?}"),

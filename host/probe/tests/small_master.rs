@@ -1,6 +1,7 @@
 //! The probe on the scope paper's small master: its listing, P1 to P12, every refusal number once,
 //! free regions in clusters, a program behind the table or before it, lists of edits, files filled
-//! from given bytes, records, and calls with too little memory or too short a list.
+//! from given bytes, records, the stated table maximum, and calls with too little memory or too short
+//! a list.
 //! `dirty` is never an answer.
 
 use std::io::{Read, Write};
@@ -139,6 +140,7 @@ fn every_refusal() {
         (&["patch 0x420 00001f1d", "dol"], "err 24"),
         (&["patch 0x420 00001f1c", "dol"], "ok 0 0 0 cbf29ce484222325"),
         (&["lend 16 0x1a", "set_record 0 0 4294967295", "rewrite"], "err 25"),
+        (&["patch 0x42c 00000019", "rewrite"], "err 26"),
     ]);
 }
 
@@ -678,6 +680,225 @@ fn records_that_hold_anything() {
     ]);
 }
 
+/// The table has 26 bytes (0x1a): 12 for the root, 12, a name and a zero byte for `a`.
+const EXACT: &str = "patch 0x42c 0000001a";
+const SHORT: &str = "patch 0x42c 00000019";
+
+/// A maximum of the table's size: every edit that adds no entry writes as much.
+#[test]
+fn a_table_of_exactly_the_maximum() {
+    hold(&[
+        (&[EXACT, "rewrite"], "ok"),
+        (&[EXACT, "mkdirs 0 -"], "ok 0"),
+        (&[EXACT, "mkdirs 0 2e"], "ok 0"),
+        (&[EXACT, "move 1 0x600"], "ok"),
+        (&[EXACT, "resize 1 255"], "ok"),
+        (&[EXACT, "resize 1 0x1b00"], "ok"),
+        (&[EXACT, "replace 1 aabb"], "ok"),
+        (&[EXACT, "replace_zeros 1 0x1b00"], "ok"),
+        (&[EXACT, "insert_file 0 62"], "err 26"),
+        (&[EXACT, "insert_dir 0 62"], "err 26"),
+        (&[EXACT, "mkdirs 0 62"], "err 26"),
+        // An entry called `b` takes 14 bytes: 40 in all.
+        (&["patch 0x42c 00000027", "insert_file 0 62"], "err 26"),
+        (&["patch 0x42c 00000028", "insert_file 0 62"], "ok 2"),
+        (&["patch 0x42c 00000027", "insert_dir 0 62"], "err 26"),
+        (&["patch 0x42c 00000028", "insert_dir 0 62"], "ok 2"),
+        (&["patch 0x42c 00000028", "insert_file 0 6262"], "err 26"),
+        (&["patch 0x42c 00000029", "insert_file 0 6262"], "ok 2"),
+        (&["patch 0x42c 00000028", "insert_file 0 62", "insert_file 0 63"], "err 26"),
+        // Two directories, 54 bytes; the same one found again, 40.
+        (&["patch 0x42c 00000035", "mkdirs 0 6e2f6d"], "err 26"),
+        (&["patch 0x42c 00000036", "mkdirs 0 6e2f6d"], "ok 3"),
+        (&["patch 0x42c 00000027", "mkdirs 0 6e2f2e2e2f6e"], "err 26"),
+        (&["patch 0x42c 00000028", "mkdirs 0 6e2f2e2e2f6e"], "ok 2"),
+        // No edit writes the field.
+        (&["patch 0x42c 00000028", "insert_file 0 62", "peek 0x428 8"], "ok 0000002800000028"),
+        (&[EXACT, "move 1 0x600", "peek 0x428 8"], "ok 0000001a0000001a"),
+        (&[EXACT, "insert_file 0 62", "peek 0x428 8"], "ok 0000001a0000001a"),
+        // 0 states no maximum; the largest number is one.
+        (&["patch 0x42c 00000000", "insert_file 0 62"], "ok 2"),
+        (&["patch 0x42c 00000000", "rewrite"], "ok"),
+        (&["patch 0x42c ffffffff", "insert_file 0 62"], "ok 2"),
+    ]);
+}
+
+/// The table is above the maximum: the image opens, and what writes no table is done.
+#[test]
+fn a_table_above_the_maximum() {
+    let listing = format!("ok {}", hex(LISTING.as_bytes()));
+    let own = format!("replace 1 {}", hex(&[7; 0x100]));
+    hold(&[
+        (&[SHORT, "open"], "ok"),
+        (&[SHORT, "listing"], &listing),
+        (&[SHORT, "used"], "ok 1370"),
+        (&[SHORT, "maxfile 1"], "ok 6912"),
+        (&[SHORT, "alloc 0x100 0x100"], "ok 1536 6656"),
+        (&["patch 0x42c 00000001", "listing"], &listing),
+        (&[SHORT, "rewrite"], "err 26"),
+        (&[SHORT, "mkdirs 0 -"], "err 26"),
+        (&[SHORT, "mkdirs 0 62"], "err 26"),
+        (&[SHORT, "insert_file 0 62"], "err 26"),
+        (&[SHORT, "insert_dir 0 62"], "err 26"),
+        (&[SHORT, "move 1 0x600"], "err 26"),
+        (&[SHORT, "resize 1 255"], "err 26"),
+        (&[SHORT, "resize 1 257"], "err 26"),
+        (&[SHORT, "resize 1 0"], "err 26"),
+        (&[SHORT, "replace 1 aabb"], "err 26"),
+        (&[SHORT, "replace_zeros 1 257"], "err 26"),
+        (&["patch 0x42c 00000001", "rewrite"], "err 26"),
+        // The present size.
+        (&[SHORT, "resize 1 256"], "ok"),
+        (&[SHORT, &own], "ok"),
+        (&[SHORT, &own, "peek 0x5fe 3"], "ok 070700"),
+        (&[SHORT, "replace_zeros 1 256"], "ok"),
+        (&[SHORT, "lend 16 0", "resize 1 256"], "ok"),
+        (&[SHORT, "patch 0x454 00000000", "replace 1 -"], "ok"),
+        (&[SHORT, "lend 65544 2097152", "patch 0x454 00000000", "move 1 0xffffffff"], "err 26"),
+    ]);
+}
+
+/// What is judged is the table that the edit would write, and not the one that is there.
+#[test]
+fn a_table_edited_down() {
+    // 6 bytes behind the names that no name uses: 32 bytes, written anew 26.
+    const SLACK: &str = "patch 0x428 00000020";
+    // 38 bytes of slack: 64 bytes.
+    const MORE: &str = "patch 0x428 00000040";
+    // Two files share the text `a`: 38 bytes, written anew 40.
+    const SHARED: [&str; 3] = [
+        "patch 0x428 00000026",
+        "patch 0x440 010000000000000000000003000000000000050000000010",
+        "patch 0x458 0000000000000700000000106100",
+    ];
+    // `ab` and its end, with 5 bytes of slack: 44 bytes, written anew 41.
+    const BOTH: [&str; 3] = [
+        "patch 0x428 0000002c",
+        "patch 0x440 010000000000000000000003000000000000050000000010",
+        "patch 0x458 00000001000006000000001061620000000000",
+    ];
+    hold(&[
+        (&[SLACK, EXACT, "open"], "ok"),
+        (&[SLACK, EXACT, "used"], "ok 1376"),
+        (&[SLACK, EXACT, "rewrite"], "ok"),
+        (&[SLACK, EXACT, "rewrite", "peek 0x428 8"], "ok 0000001a0000001a"),
+        (&[SLACK, EXACT, "move 1 0x600", "used"], "ok 1370"),
+        (&[SLACK, EXACT, "resize 1 257", "used"], "ok 1371"),
+        (&[SLACK, EXACT, "replace 1 -", "used"], "ok 1114"),
+        (&[SLACK, EXACT, "mkdirs 0 -", "used"], "ok 1370"),
+        (&[SLACK, SHORT, "rewrite"], "err 26"),
+        (&[SLACK, SHORT, "move 1 0x600"], "err 26"),
+        (&[SLACK, EXACT, "insert_file 0 62"], "err 26"),
+        // The present size: the table stays as it is, above the maximum.
+        (&[SLACK, EXACT, "resize 1 256", "peek 0x428 8"], "ok 000000200000001a"),
+        (&[SLACK, EXACT, "replace_zeros 1 256", "used"], "ok 1376"),
+        (&[MORE, "patch 0x42c 00000028", "insert_file 0 62"], "ok 2"),
+        (
+            &[MORE, "patch 0x42c 00000028", "insert_file 0 62", "peek 0x428 8"],
+            "ok 0000002800000028",
+        ),
+        (&[MORE, "patch 0x42c 00000027", "insert_file 0 62"], "err 26"),
+    ]);
+    for (table, cases) in [
+        (
+            SHARED,
+            &[
+                (&["patch 0x42c 00000026", "used"][..], "ok 1158"),
+                (&["patch 0x42c 00000026", "rewrite"], "err 26"),
+                (&["patch 0x42c 00000027", "rewrite"], "err 26"),
+                (&["patch 0x42c 00000027", "resize 1 15"], "err 26"),
+                (&["patch 0x42c 00000027", "resize 1 16"], "ok"),
+                (&["patch 0x42c 00000028", "rewrite", "peek 0x428 8"], "ok 0000002800000028"),
+                (&["patch 0x42c 00000028", "resize 1 15", "used"], "ok 1159"),
+            ][..],
+        ),
+        (
+            BOTH,
+            &[
+                (&["patch 0x42c 00000028", "used"], "ok 1164"),
+                (&["patch 0x42c 00000028", "rewrite"], "err 26"),
+                (&["patch 0x42c 00000029", "rewrite", "peek 0x428 8"], "ok 0000002900000029"),
+                (&["patch 0x42c 00000029", "move 2 0x700", "used"], "ok 1161"),
+            ],
+        ),
+    ] {
+        let lists: Vec<Vec<&str>> =
+            cases.iter().map(|(lines, _)| [&table[..], lines].concat()).collect();
+        let cases: Vec<(&[&str], &str)> =
+            lists.iter().zip(cases).map(|(list, (_, said))| (&list[..], *said)).collect();
+        hold(&cases);
+    }
+}
+
+/// Opening and the edit's own numbers; the limits' and the memory's 9; 26; the table's 21; 25.
+#[test]
+fn twenty_six_in_its_order() {
+    let deep = |levels: usize| format!("mkdirs 0 {}", "782f".repeat(levels));
+    let (deepest, too_deep) = (deep(64), deep(65));
+    // `a` lies right behind the table, which has no room then.
+    const TIGHT: &str = "patch 0x450 0000045a";
+    // Two files share the text `a`. The table ends at 0x466, written anew at 0x468.
+    const SHARED: [&str; 3] = [
+        "patch 0x428 00000026",
+        "patch 0x440 010000000000000000000003000000000000050000000010",
+        "patch 0x458 0000000000000700000000106100",
+    ];
+    let [one, two, three] = SHARED;
+    hold(&[
+        // Opening.
+        (&[SHORT, "size 0x43f", "rewrite"], "err 1"),
+        (&[SHORT, "patch 0x450 00000459", "rewrite"], "err 14"),
+        (&[SHORT, "patch 0x420 00001f1d", "rewrite"], "err 24"),
+        // The edit's own.
+        (&[SHORT, "resize 2 0"], "err 15"),
+        (&[SHORT, "resize 0 0"], "err 16"),
+        (&[SHORT, "insert_file 1 62"], "err 17"),
+        (&[SHORT, "insert_file 0 61"], "err 19"),
+        (&[SHORT, "insert_file 0 3a"], "err 13"),
+        (&[SHORT, "insert_file 0 ff"], "err 12"),
+        (&[SHORT, "mkdirs 0 2e2e"], "err 18"),
+        (&[SHORT, "mkdirs 0 61"], "err 17"),
+        (&[SHORT, "mkdirs 0 ff"], "err 12"),
+        (&[SHORT, "move 1 0x580"], "err 20"),
+        (&[SHORT, "move 1 0x500"], "err 20"),
+        (&[SHORT, "move 1 0x400"], "err 21"),
+        (&[SHORT, "resize 1 0x1b01"], "err 21"),
+        (&[SHORT, "replace_zeros 1 0x1b01"], "err 21"),
+        (&[SHORT, "replace_zeros 1 4294967296"], "err 21"),
+        // 9: the limits of the new tree, words, bytes.
+        (&[EXACT, &too_deep], "err 9"),
+        (&[EXACT, &deepest], "err 26"),
+        (&[SHORT, "lend 15 0x1a", "rewrite"], "err 9"),
+        (&[SHORT, "lend 16 0x19", "rewrite"], "err 9"),
+        (&[SHORT, "lend 16 0x1a", "rewrite"], "err 26"),
+        (&[SHORT, "lend 16 0", "move 1 0x600"], "err 9"),
+        (&[EXACT, "lend 19 0x28", "insert_file 0 62"], "err 9"),
+        (&[EXACT, "lend 20 0x27", "insert_file 0 62"], "err 9"),
+        (&[EXACT, "lend 20 0x28", "insert_file 0 62"], "err 26"),
+        (&["lend 65544 2097152", "drop_record"], "ok"),
+        // The table's 21: no room behind it, or the file's new place in its way.
+        (&[TIGHT, "insert_file 0 62"], "err 21"),
+        (&[TIGHT, EXACT, "insert_file 0 62"], "err 26"),
+        (&[TIGHT, "patch 0x42c 00000027", "mkdirs 0 62"], "err 26"),
+        (&[TIGHT, "patch 0x42c 00000028", "mkdirs 0 62"], "err 21"),
+        (&[one, two, three, "move 2 0x466"], "err 21"),
+        (&[one, two, three, "patch 0x42c 00000027", "move 2 0x466"], "err 26"),
+        (&[one, two, three, "patch 0x42c 00000028", "move 2 0x466"], "err 21"),
+        (&[one, two, three, "patch 0x42c 00000028", "move 2 0x468"], "ok"),
+        // 25, and the record as it was.
+        (&[SHORT, "set_record 0 0 4294967295", "rewrite"], "err 26"),
+        (&["record"], "ok 0 0 4294967295"),
+        (&[SHORT, "insert_dir 0 62"], "err 26"),
+        (&[SHORT, "resize 1 255"], "err 26"),
+        (&[SHORT, "resize 1 256"], "err 25"),
+        (&[EXACT, "rewrite"], "err 25"),
+        (&["set_record 7 8 9"], "ok 7 8 9"),
+        (&[SHORT, "move 1 0x600"], "err 26"),
+        (&["record"], "ok 7 8 9"),
+        (&["drop_record"], "ok"),
+    ]);
+}
+
 /// A list of calls made up by a small generator: nothing is ever left dirty.
 #[test]
 fn never_dirty() {
@@ -703,7 +924,7 @@ fn never_dirty() {
                 3 => Some(format!("set_record {} 0 {}", u32::MAX - random(300) as u32, random(9))),
                 _ => None,
             });
-            commands.push(match random(17) {
+            commands.push(match random(18) {
                 0 => format!("move {entry} {at}"),
                 1 => format!("resize {entry} {len}"),
                 2 => "rewrite".into(),
@@ -721,6 +942,7 @@ fn never_dirty() {
                     format!("replace {entry} {}", hex(&vec![random(256) as u8; len as usize]))
                 }
                 15 => format!("replace_zeros {entry} {}", len << random(24)),
+                16 => format!("patch 0x42f {:02x}", random(100)),
                 _ => format!("patch {} {:02x}", 0x420 + random(0x44), random(4)),
             });
         }

@@ -1,6 +1,6 @@
 //! libcounter.a from Rust: the C functions (`ffi`), and beside each a call on slices.
 //!
-//! A call answers `Ok` or the number of the cause (1 to 25). Working memory is lent in a `Memory`;
+//! A call answers `Ok` or the number of the cause (1 to 26). Working memory is lent in a `Memory`;
 //! it is zero after every call, whatever it held.
 
 pub mod ffi;

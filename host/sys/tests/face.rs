@@ -168,6 +168,41 @@ fn a_record_that_holds_anything() {
     assert_eq!(resize(0, 0, 0x1b00), (Ok(()), 0x1a00, 166, 1));
 }
 
+/// The header's word at 0x42c bounds the table that an edit writes; 0 does not. The small master's has 26 bytes,
+/// with an entry called `b` 40.
+#[test]
+fn a_stated_maximum() {
+    for (most, rewritten, inserted) in [
+        (0, Ok(()), Ok(2)),
+        (1, Err(26), Err(26)),
+        (25, Err(26), Err(26)),
+        (26, Ok(()), Err(26)),
+        (39, Ok(()), Err(26)),
+        (40, Ok(()), Ok(2)),
+        (u32::MAX, Ok(()), Ok(2)),
+    ] {
+        let mut image = small_master();
+        image[0x42c..0x430].copy_from_slice(&most.to_be_bytes());
+        let (before, given) = (image.clone(), Record { used: 1, largest: 7, edits: 3 });
+        let (mut words, mut bytes, mut record) = ([9; 20], [9; 40], given);
+        let mut memory = Memory { words: &mut words, bytes: &mut bytes };
+        let m = &mut memory;
+        assert_eq!(counter_sys::open(&image, m).unwrap().used, 1370);
+        assert_eq!(counter_sys::rewrite(&mut image, m, &mut record), rewritten, "{most}");
+        assert!(image == before);
+        assert_eq!(record.edits, 3 + u32::from(rewritten.is_ok()));
+        // The present size writes no table.
+        assert_eq!(counter_sys::resize_file(&mut image, m, &mut record, 1, 0x100), Ok(()));
+        assert_eq!(counter_sys::fill_file(&mut image, m, &mut record, 1, &[0; 0x100]), Ok(()));
+        assert!(image == before);
+        let kept = record;
+        assert_eq!(counter_sys::insert_file(&mut image, m, &mut record, 0, b"b"), inserted);
+        assert_eq!((image == before, record == kept), (inserted.is_err(), inserted.is_err()));
+        assert_eq!(image[0x42c..0x430], most.to_be_bytes());
+        assert!(words == [0; 20] && bytes == [0; 40]);
+    }
+}
+
 /// A program is at least as long as its header; its window is not. Behind the table it is used, and there
 /// is a free region more than entries.
 #[test]

@@ -351,9 +351,10 @@ fn path(r: &mut Random, tree: Option<&Tree>, start: u32, lookup: bool) -> Vec<u8
     path
 }
 
-/// A name that makes the new table as long as the room behind it, or nearly.
+/// A name that makes the new table as long as the room behind it, or as its maximum, or nearly.
 fn fitting(r: &mut Random, tree: &Tree) -> Option<usize> {
     let room = tree.most(tree.fst_offset, tree.fst_size);
+    let room = if tree.forbids(room) { tree.maximum } else { room };
     let present = (12 * (tree.entries.len() + 1) + tree.texts() + 1) as u64;
     let length = room.checked_sub(present)? + r.below(3) as u64;
     Some(length.checked_sub(1)? as usize).filter(|length| (1..0x900).contains(length))

@@ -1,7 +1,7 @@
 //! Boundaries that calls meet, counted so that a run shows that it met them.
 
 use crate::calls::Call;
-use crate::judge::{New, new_place, record_after, used_after};
+use crate::judge::{New, keeps_size, new_place, no_room, record_after, used_after};
 use crate::paper::{self, Entry, Record, Refusal, Tree, stray, word};
 use std::collections::BTreeMap;
 
@@ -200,10 +200,11 @@ pub fn of_record(
             (full && change == 0, "record: 25 for the count, and used bytes stay"),
         ]);
     }
-    let table = expected == "err 21" && new_place(tree, call).is_some() && after.is_some();
+    let table = no_room(tree, call, expected) && after.is_some();
     if !expected.starts_with("ok") {
         let due = full || outside;
         return of(&[
+            (due && expected == "err 26", "record: 25 due, and 26 comes first"),
             (due && table, "record: 25 due, and the table's 21 comes first"),
             (
                 due && expected == "err 21" && !table,
@@ -211,7 +212,7 @@ pub fn of_record(
             ),
             (due && expected == "err 9", "record: 25 due, and 9 comes first"),
             (
-                due && expected != "err 21" && expected != "err 9",
+                due && !matches!(expected, "err 9" | "err 21" | "err 26"),
                 "record: 25 due, and a number of 12 to 20 comes first",
             ),
             (outside && table, "record: used bytes would leave, and the table's 21 comes first"),
@@ -235,6 +236,79 @@ pub fn of_record(
         (moved.used == MOST, "record: used bytes 2^32 - 1 afterwards"),
         (moved.edits == MOST, "record: count 2^32 - 1 afterwards"),
     ])
+}
+
+/// What stands out about the maximum that an image states, and a call on it that is answered `expected`.
+pub fn of_maximum(tree: &Tree, call: &Call, expected: &str) -> Vec<&'static str> {
+    let (most, present, rewritten) = (tree.maximum, tree.fst_size, tree.written());
+    let above = tree.forbids(present);
+    if *call == Call::Open {
+        return of(&[
+            (most == 0, "maximum: none, and the image opens"),
+            (above, "maximum: the table is above it, and the image opens"),
+            (most != 0 && present == most, "maximum: the table is just within it"),
+        ]);
+    }
+    if !call.edits() || most == 0 {
+        return vec![];
+    }
+    let accepted = expected.starts_with("ok");
+    if keeps_size(tree, call) {
+        let due = accepted && tree.forbids(rewritten);
+        return of(&[
+            (due && call.fills(), "maximum: a fill of the file's size writes no table"),
+            (due && !call.fills(), "maximum: a resize to the present size writes no table"),
+        ]);
+    }
+    if !matches!(expected, "err 9" | "err 21" | "err 26") && !accepted {
+        let due = tree.forbids(rewritten);
+        return of(&[(due, "maximum: 26 due, and a number of 12 to 20 comes first")]);
+    }
+    if call.target().is_some_and(|target| target as usize >= tree.entries.len()) {
+        return vec![];
+    }
+    let Some(size) = New::of(tree, call).map(|new| new.size()) else { return vec![] };
+    let place = new_place(tree, call);
+    let over = place.is_some_and(|(at, length)| length > 0 && tree.fst_offset + size > at);
+    let no_table = size > tree.most(tree.fst_offset, present) || over;
+    let cases = match expected {
+        "err 26" => vec![
+            (size == most + 1, "maximum: 26, by one byte"),
+            (no_table, "maximum: 26, and the table's 21 is due too"),
+            (
+                no_table && size == most + 1,
+                "maximum: 26, by one byte, and the table's 21 is due too",
+            ),
+            (present == most, "maximum: 26, and the present table is just within it"),
+            (above && size > present, "maximum: 26, and the present table is above it"),
+            (above && size == present, "maximum: 26 for a table as long as the present one"),
+            (above && size < present, "maximum: 26 for a table shorter than the present one"),
+            (
+                *call == Call::Rewrite && !above,
+                "maximum: 26 for a rewrite of names that share a text",
+            ),
+            (most == 1, "maximum: 26, and it is 1"),
+        ],
+        "err 9" => vec![(place.is_some() && size > most, "maximum: 26 due, and 9 comes first")],
+        "err 21" if no_room(tree, call, expected) => {
+            vec![
+                (size == most, "maximum: just met, and the table's 21"),
+                (size < most, "maximum: not met, and the table's 21"),
+            ]
+        }
+        "err 21" => vec![(size > most, "maximum: 26 due, and the file's 21 comes first")],
+        _ => vec![
+            (size == most, "maximum: accepted, with a table exactly as long"),
+            (size + 1 == most, "maximum: accepted, with a table one byte shorter"),
+            (above, "maximum: accepted, and the table was above it"),
+            (
+                above && size == most,
+                "maximum: accepted, exactly as long, and the table was above it",
+            ),
+            (most == u32::MAX as u64, "maximum: accepted, and it is 2^32 - 1"),
+        ],
+    };
+    of(&cases)
 }
 
 /// What stands out about a call on `tree` that is answered `expected`, with the memory lent.

@@ -37,9 +37,10 @@ pub enum Class {
     ProgramEdits,
     LongClip,
     Totals,
+    Maximum,
 }
 
-pub const CLASSES: [(Class, &str); 27] = [
+pub const CLASSES: [(Class, &str); 28] = [
     (Class::NameWithoutZero, "Game name without a zero byte"),
     (Class::NameBehindZero, "Game name with bytes behind its first zero byte"),
     (Class::Bounds, "FST offset below 0x440; image shorter than the disc end"),
@@ -80,6 +81,7 @@ pub const CLASSES: [(Class, &str); 27] = [
     (Class::ProgramEdits, "Edits that would take some of a program behind the table"),
     (Class::LongClip, "A clip above 2^32 - 1 bytes"),
     (Class::Totals, "A record whose used bytes or edit count would leave 0 to 2^32 - 1"),
+    (Class::Maximum, "A new table above the stated maximum"),
 ];
 
 /// A call and what it is made on.
@@ -348,7 +350,7 @@ fn file(tree: &Tree, number: u32) -> Option<&Entry> {
 }
 
 /// A file that gets its present size: no table is measured or written.
-fn keeps_size(tree: &Tree, call: &Call) -> bool {
+pub fn keeps_size(tree: &Tree, call: &Call) -> bool {
     let same = |(number, size)| file(tree, number).is_some_and(|file| file.size as u64 == size);
     call.resizes().is_some_and(same)
 }
@@ -705,10 +707,30 @@ fn judge_look(tree: &Tree, given: &Given, answer: &str) -> Result<Verdict, Strin
     Ok(Verdict { expected: told, class: None })
 }
 
-/// `answer`: the original's; `twin`: its answer to the call's twin, if it has one. 02: "New numbers: 25,
-/// used bytes or edit count would leave 0 to 2^32 - 1, tested last."
+/// Whether an edit that is answered `expected` is refused for its table's place, and not for its file's.
+pub fn no_room(tree: &Tree, call: &Call, expected: &str) -> bool {
+    expected == "err 21" && call.edits() && new_place(tree, call).is_some()
+}
+
+/// Whether an edit writes a table that is larger than the image allows: the new one, as it is written,
+/// whatever the present one is. One that gives a file its present size writes none.
+fn above_maximum(tree: &Tree, call: &Call) -> bool {
+    call.edits()
+        && !keeps_size(tree, call)
+        && New::of(tree, call).is_some_and(|new| tree.forbids(new.size()))
+}
+
+/// `answer`: the original's; `twin`: its answer to the call's twin, if it has one. 02: "New numbers: 26,
+/// new table above the maximum, tested just before the table's 21"; "New numbers: 25, used bytes or edit
+/// count would leave 0 to 2^32 - 1, tested last."
 pub fn judge(given: &Given, answer: &str, twin: Option<&str>) -> Result<Verdict, String> {
     let verdict = judge_call(given, answer, twin)?;
+    if let Ok(tree) = given.opened
+        && (verdict.expected.starts_with("ok") || no_room(tree, given.call, &verdict.expected))
+        && above_maximum(tree, given.call)
+    {
+        return Ok(Verdict { expected: refused(26), class: Some(Class::Maximum) });
+    }
     if let (Some(record), Ok(tree)) = (given.record, given.opened)
         && verdict.expected.starts_with("ok")
         && record_after(tree, given.call, record)?.is_none()
@@ -718,7 +740,7 @@ pub fn judge(given: &Given, answer: &str, twin: Option<&str>) -> Result<Verdict,
     Ok(verdict)
 }
 
-/// The same, whatever the record holds.
+/// The same, whatever maximum the image states and the record holds.
 fn judge_call(given: &Given, answer: &str, twin: Option<&str>) -> Result<Verdict, String> {
     let told = mapped(answer);
     if let Call::Window(..) = given.call {

@@ -10,6 +10,7 @@ mod features;
 mod judge;
 mod ledger;
 mod masters;
+mod maxima;
 mod names;
 mod paper;
 mod programs;
@@ -25,8 +26,10 @@ use sample::Sample;
 use std::process::exit;
 use std::time::Instant;
 
-const SUITES: [&str; 9] =
-    ["limits", "numbers", "fills", "records", "programs", "names", "tables", "trees", "random"];
+const SUITES: [&str; 10] = [
+    "limits", "numbers", "fills", "records", "maxima", "programs", "names", "tables", "trees",
+    "random",
+];
 
 struct Options {
     probe: String,
@@ -38,6 +41,7 @@ struct Options {
     suites: Vec<String>,
     inserts: bool,
     fills: bool,
+    maxima: bool,
     sample: Option<String>,
 }
 
@@ -52,6 +56,7 @@ fn options() -> Options {
         suites: vec![],
         inserts: true,
         fills: false,
+        maxima: false,
         sample: None,
     };
     let mut words = std::env::args().skip(1);
@@ -67,6 +72,7 @@ fn options() -> Options {
             "--sample" => options.sample = Some(value()),
             "--no-inserts" => options.inserts = false,
             "--fills" => options.fills = true,
+            "--maxima" => options.maxima = true,
             name if SUITES.contains(&name) => options.suites.push(word),
             _ => usage(),
         }
@@ -81,7 +87,7 @@ fn usage() -> ! {
     eprintln!(
         "compare [--probe PROGRAM] [--oracle PROGRAM] [--list DIFFERENCES.md] [--seed N] \
          [--images N] [--faults N] [{}]\n\
-         compare [--oracle PROGRAM] [--seed N] [--images N] [--fills] --sample FILE",
+         compare [--oracle PROGRAM] [--seed N] [--images N] [--fills] [--maxima] --sample FILE",
         SUITES.join("] [")
     );
     exit(2)
@@ -138,7 +144,7 @@ fn report(counts: &Counts) {
 
 /// Writes a sample of the original's answers for host/replay.
 fn write_sample(options: &Options, path: &str) -> std::io::Result<()> {
-    let sample = Sample::new(&options.oracle, options.inserts, options.fills)?;
+    let sample = Sample::new(&options.oracle, options.inserts, options.fills, options.maxima)?;
     let (script, sample) = sample.make(options.seed, options.images);
     std::fs::write(path, &script)?;
     let numbers: Vec<String> =
@@ -181,6 +187,7 @@ fn main() {
             "numbers" => suites::numbers(&mut run),
             "fills" => suites::fills(&mut run),
             "records" => records::records(&mut run),
+            "maxima" => maxima::maxima(&mut run),
             "programs" => programs::programs(&mut run),
             "names" => names::names(&mut run),
             "tables" => suites::tables(&mut run),

@@ -1,7 +1,7 @@
-//! Document 01's opening with the program and the names of document 02, its totals record, and the few
-//! sums that the sorting of differences needs, written down here a second time and from the papers
-//! alone, so that a difference is sorted by what they say of its input and not by what either side
-//! answers.
+//! Document 01's opening with the program and the names of document 02, its totals record and its table
+//! maximum, and the few sums that the sorting of differences needs, written down here a second time and
+//! from the papers alone, so that a difference is sorted by what they say of its input and not by what
+//! either side answers.
 
 use std::fmt;
 use std::ops::Range;
@@ -12,6 +12,8 @@ pub const DEPTH: usize = 64;
 pub const PATH: usize = 1_024;
 pub const ALIGN: u64 = 0x8000;
 pub const DOL_HEADER: u64 = 0xe4;
+/// Where the header states the table maximum.
+pub const MAXIMUM: usize = 0x42c;
 
 pub const WII: u32 = 0x5d1c_9ea3;
 pub const GAMECUBE: u32 = 0xc233_9f3d;
@@ -41,6 +43,8 @@ pub struct Tree {
     pub entries: Vec<Entry>,
     pub fst_offset: u64,
     pub fst_size: u64,
+    /// 02: "sized by header field 0x42C. YAGCD names it the FST maximum." Opening does not judge it.
+    pub maximum: u64,
     pub disc_end: u64,
     /// The program, before the table or behind it: offset and size.
     pub program: Option<(u64, u64)>,
@@ -328,7 +332,8 @@ pub fn open(image: &[u8], words: usize) -> Result<Tree, Refusal> {
     let mut used = files(table, n);
     used.extend(beside_the_table(program, fst_offset, table_end).map_err(number)?);
     let free = free(used, table_end, disc_end).map_err(number)?;
-    Ok(Tree { entries, fst_offset, fst_size, disc_end, program, free })
+    let maximum = word(image, MAXIMUM) as u64;
+    Ok(Tree { entries, fst_offset, fst_size, maximum, disc_end, program, free })
 }
 
 /// Where in the texts the name of a record lies.
@@ -414,6 +419,16 @@ impl Tree {
     /// Texts of the table written anew.
     pub fn texts(&self) -> usize {
         self.entries[1..].iter().map(|e| e.name.len() + 1).sum()
+    }
+
+    /// The size of the table written anew, of the entries as they are.
+    pub fn written(&self) -> u64 {
+        (12 * self.entries.len() + self.texts()) as u64
+    }
+
+    /// "If it is nonzero, no edit may write a larger table."
+    pub fn forbids(&self, size: u64) -> bool {
+        self.maximum != 0 && size > self.maximum
     }
 
     pub fn depth(&self, mut number: usize) -> usize {

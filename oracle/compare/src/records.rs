@@ -47,7 +47,7 @@ pub fn beside(r: &mut Random, tree: &Tree, call: &Call) -> Record {
 
 /// Images with room behind the table and without, with slack and shared names in the texts, with a
 /// program, with no free byte, and with places to grow elsewhere.
-fn images() -> Vec<Vec<u8>> {
+pub fn images() -> Vec<Vec<u8>> {
     let mut slack = small_master();
     set_word(&mut slack, 0x428, 0x20);
     slack[0x45a..0x460].fill(0);
@@ -71,7 +71,7 @@ fn images() -> Vec<Vec<u8>> {
 }
 
 /// Edits that are accepted and edits that are refused, on any of these images.
-fn edits(tree: &Tree) -> Vec<Call> {
+pub fn edits(tree: &Tree) -> Vec<Call> {
     let mut calls = vec![Call::Rewrite];
     let names: [&[u8]; 5] = [b"a", b"x", b"long name", b":", b"\x01"];
     let paths: [&[u8]; 7] = [b"", b"x", b"x/y/z", b"a", b"..", b"x/:", b"x/\x01"];

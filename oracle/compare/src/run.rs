@@ -4,13 +4,15 @@
 use crate::calls::{self, Call, hex, unhex};
 use crate::child::{Side, batch};
 use crate::codec::{Codec, Mixed, Others, StandIns};
-use crate::features::{features, of_names, of_program, of_record, of_text};
+use crate::features::{features, of_maximum, of_names, of_program, of_record, of_text};
 use crate::judge::{
-    Class, Given, New, Verdict, judge, listing_after, odd_name, record_after, told_where,
+    Class, Given, New, Verdict, judge, keeps_size, listing_after, odd_name, record_after,
+    told_where,
 };
 use crate::ledger::Ledger;
 use crate::masters;
-use crate::paper::{self, Record, Refusal, Tree};
+use crate::maxima;
+use crate::paper::{self, MAXIMUM, Record, Refusal, Tree, set_word};
 use crate::random::Random;
 use crate::records;
 use std::collections::BTreeMap;
@@ -65,7 +67,7 @@ pub struct Run {
 /// One image under way.
 struct Case {
     r: Random,
-    /// For what is asked of records, so that all else stays the same.
+    /// For records and maxima, so that all else stays the same.
     aside: Random,
     image: Vec<u8>,
     /// 01's opening, however many words are lent.
@@ -79,6 +81,8 @@ struct Case {
     /// Whether a record is made at opening and handed on through the list, and what it holds.
     hands_on: bool,
     record: Option<Record>,
+    /// Whether the table's maximum is near the table's size, and is stated anew between edits.
+    states: bool,
     codec: Rc<Codec>,
     stand_ins: StandIns,
     /// Where the image has names that do not come back; the oracle then keeps it with stand-ins.
@@ -108,6 +112,7 @@ impl Case {
             ledger: None,
             hands_on,
             record: None,
+            states: false,
             codec,
             stand_ins,
             others: None,
@@ -165,6 +170,33 @@ impl Case {
         if let Some(others) = &self.others {
             lines.oracle(others.twin());
         }
+    }
+
+    /// A third of the images as they are, which state any number, a third without a maximum, and a third
+    /// with one that counts.
+    fn with_maximum(mut self) -> Self {
+        let kind = self.aside.below(3);
+        if kind > 0 && self.image.len() >= 0x440 {
+            self.states = kind == 1;
+            let maximum = if self.states { maxima::any(&mut self.aside, &self.image) } else { 0 };
+            self.state(maximum);
+        }
+        self
+    }
+
+    fn state(&mut self, maximum: u32) {
+        set_word(&mut self.image, MAXIMUM, maximum);
+        self.opened = paper::open(&self.image, usize::MAX);
+    }
+
+    /// States another maximum, for which 26 is just due for this edit or just not, on both sides.
+    fn state_for(&mut self, lines: &mut Batch, call: &Call) {
+        let Ok(tree) = &self.opened else { return };
+        let maximum = maxima::beside(&mut self.aside, tree, call);
+        self.state(maximum);
+        lines.both(format!("load {}", self.name));
+        lines.both(format!("patch {MAXIMUM:#x} {}", hex(&maximum.to_be_bytes())));
+        lines.both(format!("save {}", self.name));
     }
 
     fn with_ledger(mut self) -> Self {
@@ -419,7 +451,7 @@ impl Run {
                     if r.chance(35) { masters::damaged(&mut r) } else { masters::master(&mut r) };
                 let case = Case::new(r, image, format!("c{}a", cases.len()), &self.codec);
                 self.counts.left_out += u64::from(case.mixed.is_some());
-                cases.extend(case.mixed.is_none().then(|| case.with_ledger()));
+                cases.extend(case.mixed.is_none().then(|| case.with_maximum().with_ledger()));
                 begun += 1;
             }
             self.looks(&mut cases, looks);
@@ -501,6 +533,9 @@ impl Run {
                 0 | 1 => calls::fill(&mut case.r, tree, case.image.len()),
                 _ => calls::edit(&mut case.r, tree, self.inserts),
             };
+            if case.states && case.aside.chance(40) {
+                case.state_for(&mut lines, &call);
+            }
             let edit = ask_edit(&mut lines, i, case, call);
             // The same once more, with a record for which 25 is just due or just not.
             asked.extend(case.aside.chance(15).then(|| ask_again(&mut lines, case, &edit)));
@@ -562,7 +597,10 @@ impl Run {
                     }
                 }
                 Some(what) => {
-                    let lines = [image_lines(&ledger.first), ledger.accepted.clone()].concat();
+                    // What was accepted is so without a maximum too.
+                    let without = vec![format!("patch {MAXIMUM:#x} 00000000")];
+                    let lines = [image_lines(&ledger.first), without, ledger.accepted.clone()];
+                    let lines = lines.concat();
                     self.fault(what, &lines, "", "", "", "");
                 }
             }
@@ -586,6 +624,7 @@ impl Run {
                 }
                 if let Ok(tree) = &opened {
                     let (words, bytes) = (asked.words, asked.bytes);
+                    self.met(of_maximum(tree, &asked.call, &verdict.expected));
                     self.met(features(tree, &asked.call, &verdict.expected, words, bytes));
                 }
                 if asked.call == Call::Open {
@@ -889,6 +928,13 @@ fn trouble(
     let Ok(after) = case.edited(&probe[asked.peek]).1 else {
         return wrong("the image afterwards does not open");
     };
+    // No edit writes the field, or a table that it forbids.
+    if let Ok(tree) = &opened
+        && (after.maximum != tree.maximum
+            || !keeps_size(tree, call) && after.forbids(after.fst_size))
+    {
+        return wrong("the stated maximum and the table afterwards");
+    }
     // What the sums say of the new image, and what it says itself.
     if let (Ok(tree), Some(moved), Some(record)) = (&opened, moved, record)
         && record.moved(tree.used(), after.used(), paper::largest(&after.free)) != Some(moved)

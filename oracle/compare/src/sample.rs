@@ -7,7 +7,8 @@ use crate::child::Side;
 use crate::codec::{Codec, StandIns};
 use crate::judge::{Given, New, judge, told_where};
 use crate::masters;
-use crate::paper::{self, Refusal, Tree, word};
+use crate::maxima;
+use crate::paper::{self, MAXIMUM, Refusal, Tree, set_word, word};
 use crate::random::Random;
 use std::collections::BTreeMap;
 
@@ -32,6 +33,8 @@ pub struct Sample {
     inserts: bool,
     /// Whether two of five edits are fills.
     fills: bool,
+    /// Whether images state maxima near the sizes of their tables.
+    maxima: bool,
 }
 
 /// FNV-1a of 64 bits.
@@ -60,7 +63,7 @@ fn numbers(answer: &str) -> Vec<u32> {
 }
 
 impl Sample {
-    pub fn new(oracle: &str, inserts: bool, fills: bool) -> std::io::Result<Self> {
+    pub fn new(oracle: &str, inserts: bool, fills: bool, maxima: bool) -> std::io::Result<Self> {
         let mut oracle = Side::start(oracle)?;
         let codec = Codec::of(&mut oracle);
         Ok(Self {
@@ -75,6 +78,7 @@ impl Sample {
             long: 0,
             inserts,
             fills,
+            maxima,
         })
     }
 
@@ -83,7 +87,7 @@ impl Sample {
         for i in 0..images {
             let mut r = Random::new(seed.wrapping_mul(0x9e37_79b9).wrapping_add(i));
             let damaged = r.chance(30);
-            let image = loop {
+            let mut image = loop {
                 let image =
                     if damaged { masters::damaged(&mut r) } else { masters::master(&mut r) };
                 let table = if image.len() < 0x440 { 0 } else { word(&image, 0x428) };
@@ -91,6 +95,10 @@ impl Sample {
                     break image;
                 }
             };
+            if self.maxima && image.len() >= 0x440 {
+                let maximum = maxima::any(&mut r, &image);
+                set_word(&mut image, MAXIMUM, maximum);
+            }
             self.begin(&mut r, image);
             let looks = if self.opened.is_ok() { r.within(4, 8) } else { r.within(1, 3) };
             for _ in 0..looks {
@@ -401,6 +409,15 @@ impl Sample {
         words.into_iter().map(u64::from).collect()
     }
 
+    /// From here on the image states this maximum.
+    fn state(&mut self, maximum: u32) {
+        set_word(&mut self.image, MAXIMUM, maximum);
+        self.opened = paper::open(&self.image, WORDS);
+        let bytes = hex(&maximum.to_be_bytes());
+        self.line(&format!("patch {MAXIMUM:#x} :{bytes}"));
+        self.ask(format!("patch {MAXIMUM} {bytes}"));
+    }
+
     fn edit(&mut self, r: &mut Random) {
         let Ok(tree) = &self.opened else { return };
         let mut call = if self.fills && r.chance(40) {
@@ -421,8 +438,12 @@ impl Sample {
             }
             _ => true,
         };
+        let maximum = (self.maxima && r.chance(40)).then(|| maxima::beside(r, tree, &call));
         if self.too_long(&call) {
             return;
+        }
+        if let Some(maximum) = maximum {
+            self.state(maximum);
         }
         if inside {
             self.lend_for(r, &call);

@@ -3,7 +3,7 @@
 
 use crate::calls::Call;
 use crate::masters::{chain, crowd, deep_crowd};
-use crate::paper::{GAMECUBE, set_word};
+use crate::paper::{GAMECUBE, MAXIMUM, set_word};
 use crate::run::Run;
 
 /// Memory that is enough for any image.
@@ -437,8 +437,8 @@ fn small_image(tree: &[(bool, u8, u32)], gap: u32) -> Vec<u8> {
     image
 }
 
-/// Every small tree, with little room behind its table and much, and on each the edits that its
-/// entries allow or just do not allow.
+/// Every small tree, with little room behind its table and much, or with a maximum, and on each the
+/// edits that its entries allow or just do not allow.
 pub fn trees(run: &mut Run) {
     let names: [&[u8]; 7] = [b"a", b"b", b"x", b"", b":", b"\x01", b"x\x01"];
     let paths: [&[u8]; 14] = [
@@ -459,8 +459,12 @@ pub fn trees(run: &mut Run) {
     ];
     for tree in small_trees() {
         let count = tree.len() as u32 + 1;
-        for gap in [0, 1, 2, 13, 14, 15, 28, 0x80] {
-            let image = small_image(&tree, gap);
+        let rooms = [0, 1, 2, 13, 14, 15, 28, 0x80].map(|gap| (gap, 0));
+        // A maximum a byte short of the table written anew, and one that lets a short name in.
+        let written = 12 * count + 2 * (count - 1);
+        for (gap, maximum) in rooms.into_iter().chain([(0, written - 1), (0x80, written + 14)]) {
+            let mut image = small_image(&tree, gap);
+            set_word(&mut image, MAXIMUM, maximum);
             if crate::paper::open(&image, usize::MAX).is_err() {
                 break;
             }

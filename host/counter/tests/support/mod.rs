@@ -334,7 +334,8 @@ pub fn start_of_disc(entries: &[Wish], end: u32) -> Vec<u8> {
     put(&mut image, 0x420, DOL as u32);
     put(&mut image, 0x424, FST as u32);
     put(&mut image, 0x428, table.len() as u32);
-    put(&mut image, 0x42C, 0x8000);
+    // The FST maximum: the table may grow.
+    put(&mut image, 0x42C, 0x8000.max(2 * table.len() as u32));
     put(&mut image, 0x430, 0x8_0000);
     put(&mut image, 0x434, end - 0x10_0000);
     put(&mut image, 0x438, 0x10_0000);
