@@ -146,7 +146,7 @@ module _ (image : List ℕ) (words : ℕ) (known : OpenImage image words) where
       let b = refuse-passed (ltb (maxRegionSize (new .offset) 0 (freeOf image)) (new .size)) NotEnoughSpace _ (a .1) in
       place-lies (new .offset) (new .size) (ltb-false _ (new .size) (b .0)) z
 
--- the tests of a table: the limits, then its place
+-- the tests of a table: the limits, then its size and place
 pub table-tests : (nodes : List Node) (place : DiscRegion) (image : List ℕ) (words room : ℕ) →
     tableVerdict (placing nodes place) image words room ≡ first (limits nodes words) (placeVerdict image room (length (encode nodes)) place)
 unfolding tableVerdict placeVerdict

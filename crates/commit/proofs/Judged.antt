@@ -1,4 +1,5 @@
--- The tests of a new table's place, by what the code found: the largest size in the working words, and whether the place reaches the table.
+-- The tests of a new table's size and place, by what the code found: whether the maximum is passed, the largest size in the working words, and whether
+-- the place reaches the table.
 -- Assumes nothing.
 use Prim.Native.Nat.{ℕ, _+_, _≤_, _<_}
 use mathlib.Core.Path.{_≡_, refl, sym, ap, _∙_}
@@ -22,6 +23,7 @@ use Rattle.opening.specs.Opening.{freeOf}
 use Rattle.opening.specs.Laws.OpeningLaws.{OpenImage}
 use Rattle.opening.specs.Inner.Prepared.{UsedWords, IsOpen}
 use Rattle.edits.specs.Change.{aboveMaximum, placeVerdict}
+use Rattle.edits.specs.Laws.PlaceTests.{stated-first}
 use Rattle.commit.proofs.Images.{free-size, place-verdict}
 
 pub end-fits : (image w : List ℕ) (m e : ℕ) → IsOpen image w m → OpenImage image (length w) → e ≡ discEnd image → Fits w32 e
@@ -53,16 +55,15 @@ unfolding placeVerdict
 too-few-bytes image room size place h = rw (lt-ltb room size h)
 
 pub above-stated : (image : List ℕ) (room size : ℕ) (place : DiscRegion) (a : Bool) → a ≡ aboveMaximum image size → size ≤ room → a ≡ true → Refused TableAboveMaximum ≡ placeVerdict image room size place
-unfolding placeVerdict
-above-stated image room size place a e held t = rw (le-ltb room size held, ← e, t)
+above-stated image room size place a e held t = sym (stated-first image room size place held (sym e ∙ t))
 
 module _ (image w : List ℕ) (room size m e o n most : ℕ) (place : DiscRegion) (used : UsedWords image w m) (end : e ≡ discEnd image) (start : o ≡ fstOffset image) (long : n ≡ fstSize image)
-    (found : most ≡ maxRegionSize o n (freeRegions e (regionsIn w 0 m))) (held : size ≤ room) (a : Bool) (stated : a ≡ aboveMaximum image size) (within : a ≡ false) where
+    (found : most ≡ maxRegionSize o n (freeRegions e (regionsIn w 0 m))) (held : size ≤ room) (a : Bool) (above : a ≡ aboveMaximum image size) (no : a ≡ false) where
   most-is : most ≡ maxRegionSize (fstOffset image) (fstSize image) (freeOf image)
   most-is = free-size image w m e o n most (fstOffset image) (fstSize image) used end start long found
 
   not-above : aboveMaximum image size ≡ false
-  not-above = sym stated ∙ within
+  not-above = sym above ∙ no
 
   pub no-room-to-grow : most < size → Refused NotEnoughSpace ≡ placeVerdict image room size place
   no-room-to-grow h = sym (place-verdict image room size place most _ most-is refl ∙ rw (le-ltb room size held, not-above, lt-ltb most size h))

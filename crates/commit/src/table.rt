@@ -30,11 +30,11 @@ fn reaches(place: DiscRegion, end: usize) -> bool
 fn above_maximum(image: &[u8], size: usize) -> bool
     ensures { λ r. ⌜ r ≡ aboveMaximum (now (image .entry)) size ⌝ }
 {
-    let most = header::fst_max_size(image);
-    if most == 0 {
+    let maximum = header::fst_max_size(image);
+    if maximum == 0 {
         return false;
     }
-    (most as usize) < size
+    (maximum as usize) < size
 }
 
 // The tests of a table of that size: the working bytes, the stated maximum, the room behind the old table, and the edited file's new place.

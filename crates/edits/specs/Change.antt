@@ -1,4 +1,4 @@
--- What an accepted edit does to an image, and the tests that each edit which writes a table ends with (document 01, "Edits").
+-- What an accepted edit does to an image, and the tests that each edit which writes a table ends with (document 01, "Edits"; document 02, Point 7).
 -- Assumes nothing: these are definitions.
 use Prim.Native.Nat.{ℕ, _+_, _-_}
 use mathlib.Core.Bool.{Bool, _&&_}
@@ -46,15 +46,21 @@ written c image =
 abbrev pub aboveMaximum : List ℕ → ℕ → Bool
 aboveMaximum image size = ltb 0 (fstMaxSize image) && ltb (fstMaxSize image) size
 
--- "working bytes fewer than the new table's size (9), then the table's place (21)": "A new table must fit the table's own
--- `max_region_size`, taken from the free regions before the edit, and end at or before the edited file's new nonempty place, else 21." Between them "26, new table above the maximum, tested just before the table's 21".
+-- "A new table must fit the table's own `max_region_size`, taken from the free regions before the edit, and end at or before the edited
+-- file's new nonempty place, else 21."
+abbrev pub roomVerdict : List ℕ → ℕ → DiscRegion → Verdict
+roomVerdict image size place =
+    refuse (ltb (maxRegionSize (fstOffset image) (fstSize image) (freeOf image)) size) NotEnoughSpace
+    (refuse (ltb 0 (place .size) && ltb (place .offset) (fstOffset image + size)) NotEnoughSpace
+    Passed)
+
+-- "working bytes fewer than the new table's size (9), then the table's place (21)"; "26, new table above the maximum, tested just before the
+-- table's 21"
 unfoldable pub placeVerdict : List ℕ → ℕ → ℕ → DiscRegion → Verdict
 placeVerdict image room size place =
     refuse (ltb room size) LimitOrMemory
     (refuse (aboveMaximum image size) TableAboveMaximum
-    (refuse (ltb (maxRegionSize (fstOffset image) (fstSize image) (freeOf image)) size) NotEnoughSpace
-    (refuse (ltb 0 (place .size) && ltb (place .offset) (fstOffset image + size)) NotEnoughSpace
-    Passed)))
+    (roomVerdict image size place))
 
 -- "Each edit that writes a table ends with the new tree's limits as at opening (entries, texts, working words, depth) and working bytes .."
 unfoldable pub tableVerdict : Change → List ℕ → ℕ → ℕ → Verdict

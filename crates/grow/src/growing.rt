@@ -1,4 +1,4 @@
-// The table in the working bytes: the tree as it is written there, then one entry more at a time, and at last its place in the image.
+// The table in the working bytes: the tree as it is written there, then one entry more at a time, and at last its size and place are judged.
 use commit::TableSize;
 use fst_measure::Measured;
 use refusal::Refusal;
@@ -126,7 +126,7 @@ pub fn grow(
     TableSize::Bytes(grown)
 }
 
-// The new table stands in the bytes: its place in the image is judged.
+// The new table stands in the bytes: its size and its place in the image are judged.
 pub fn place_table(image: &[u8], words: &[u32], m: usize, bytes: &[u8], size: usize) -> TableSize
     requires { ⌜ IsOpen (now image) (now words) m × Stands (now bytes) size (length (now words)) ⌝ }
     ensures { λ r. ⌜ Decided (change 0 (tableOnly (treeIn (now (bytes .entry)) size))) (now (image .entry)) (length (now (words .entry))) (length (now (bytes .entry))) (now (bytes .entry)) (tableDecision r) ⌝ }

@@ -73,7 +73,7 @@ fn number_in(image: &[u8], parent: u32, name: &[u8]) -> Located
     new_number(&image[from..to], parent, name)
 }
 
-// The table in the bytes with the new entry, and its place.
+// The table in the bytes with the new entry, its size and place judged.
 fn add_entry(
     image: &[u8],
     words: &[u32],
@@ -94,7 +94,7 @@ fn add_entry(
     }
 }
 
-// The tree with the new entry: its table, and its place.
+// The tree with the new entry: its table, its size and place judged.
 fn build(
     image: &[u8],
     words: &[u32],

@@ -1,6 +1,6 @@
 -- Demand 3, "a single claim about the list and not one for each call": what holds of the image after any list of calls, by the ledger of the
 -- list. Beside it, what it comes to for a file that no accepted edit named, and for one that was just filled; what a record says that was
--- handed on through the list; and that no table was written above the stated maximum. All are proved: `demand-3` and `unnamed-stays` of
+-- handed on through the list; and what the stated maximum keeps the table to. All are proved: `demand-3` and `unnamed-stays` of
 -- Laws/Demand3, `fill-reads` of Laws/FillReads, `record-tells` of Laws/RecordTells, `maximum-kept` of Laws/MaximumKept. Assumes nothing: these
 -- are definitions.
 use Prim.Native.Nat.{ℕ, _+_, _<_, _≤_}
@@ -16,7 +16,7 @@ use Rattle.space.specs.Used.{endOf, inside, totalSize}
 use Rattle.free_space.specs.Listing.{regionRow, listingOf, listAfter}
 use Rattle.program.specs.Program.{programOf, programIn, programBehind}
 use Rattle.totals.specs.declared.Totals.{Totals}
-use Rattle.opening.specs.Opening.{nodesIn, regionOf, usedIn, freeOf, opening}
+use Rattle.opening.specs.Opening.{tableOf, nodesIn, regionOf, usedIn, freeOf, opening}
 use Rattle.disc.specs.Calls.{totalsAnswer, programAnswer, freeRegionsAnswer, freeRegionsList, totalsOf, recordMade, recordAnswer}
 use Rattle.disc.specs.declared.TotalsAnswer.the-variants.{Found}
 use Rattle.window.specs.Window.{newWindow, countOf, bufferOf}
@@ -124,8 +124,8 @@ pub record WithinMaximum (first last : List ℕ) : Type 0 where
   pub field : fstMaxSize last ≡ fstMaxSize first
   -- a table within a nonzero maximum at first is within it at last
   pub within : 0 < fstMaxSize first → fstSize first ≤ fstMaxSize first → fstSize last ≤ fstMaxSize first
-  -- "An image whose table is already larger": a larger table at last is as large as the first one was, for none was written
-  pub larger : 0 < fstMaxSize first → fstMaxSize first < fstSize last → fstSize last ≡ fstSize first
+  -- "An image whose table is already larger": a larger table at last is the first one, byte for byte
+  pub larger : 0 < fstMaxSize first → fstMaxSize first < fstSize last → (fstSize last ≡ fstSize first) × (tableOf last ≡ tableOf first)
 
 -- THEOREM: the same images, lists and memory as above
 abbrev pub MaximumKept : Type 0

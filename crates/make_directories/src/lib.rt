@@ -57,7 +57,7 @@ fn check_path(image: &[u8], start: u32, path: &[u8]) -> Verdict
     check_start(&image[from..to], start, path)
 }
 
-// The missing directories are made in the table that stands in the bytes, and the table's place is judged.
+// The missing directories are made in the table that stands in the bytes, and the table's size and place are judged.
 fn make_in(
     image: &[u8],
     words: &[u32],

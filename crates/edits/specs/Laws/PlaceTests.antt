@@ -10,7 +10,6 @@ use borrow.Author.Tests.{ltb-false, lt-ltb, le-ltb}
 use lib.Dec.{ltb}
 use lib.ListN.{length, getD}
 use Rattle.refusal.specs.declared.Refusal.the-variants.{LimitOrMemory, NotEnoughSpace, TableAboveMaximum}
-use Rattle.refusal.specs.declared.Verdict.{Verdict}
 use Rattle.refusal.specs.declared.Verdict.the-variants.{Passed, Refused}
 use Rattle.refusal.specs.Refusal.{refuse}
 use Rattle.refusal.specs.Laws.Chains.{refuse-passed}
@@ -23,34 +22,24 @@ use Rattle.space.specs.Laws.UsedLaws.{used-is}
 use Rattle.space.specs.Laws.FreeLaws.{In}
 use Rattle.free_space.specs.MaxRegionSize.{maxRegionSize}
 use Rattle.opening.specs.Opening.{freeOf}
-use Rattle.edits.specs.Change.{aboveMaximum, placeVerdict}
+use Rattle.edits.specs.Change.{aboveMaximum, roomVerdict, placeVerdict}
 use Rattle.edits.specs.Edits.{noPlace}
 
 -- ---- the stated maximum
 
 module _ (image : List ℕ) (room size : ℕ) (place : DiscRegion) where
-  -- LAW: "tested just before the table's 21": a table above a nonzero maximum that the working bytes hold is 26, whatever room there is
-  pub stated-first : size ≤ room → 0 < fstMaxSize image → fstMaxSize image < size → placeVerdict image room size place ≡ Refused TableAboveMaximum
+  -- LAW: "tested just before the table's 21": a table above the maximum that the working bytes hold is 26, whatever room there is
+  pub stated-first : size ≤ room → aboveMaximum image size ≡ true → placeVerdict image room size place ≡ Refused TableAboveMaximum
   unfolding placeVerdict
-  stated-first held some above = rw (le-ltb room size held, lt-ltb 0 (fstMaxSize image) some, lt-ltb (fstMaxSize image) size above)
+  stated-first held above = rw (le-ltb room size held, above)
 
   -- LAW: "a publisher who sets the field to 0 sees the old rule", and so does a table that is no larger than the maximum
-  pub stated-apart : (fstMaxSize image ≡ 0) ⊎ (size ≤ fstMaxSize image) → placeVerdict image room size place ≡
-      refuse (ltb room size) LimitOrMemory
-      (refuse (ltb (maxRegionSize (fstOffset image) (fstSize image) (freeOf image)) size) NotEnoughSpace
-      (refuse (ltb 0 (place .size) && ltb (place .offset) (fstOffset image + size)) NotEnoughSpace
-      Passed))
+  pub stated-apart : (fstMaxSize image ≡ 0) ⊎ (size ≤ fstMaxSize image) → placeVerdict image room size place ≡ refuse (ltb room size) LimitOrMemory (roomVerdict image size place)
   unfolding placeVerdict
   stated-apart (inl none) = rw none
   stated-apart (inr within) = rw (le-ltb (fstMaxSize image) size within) (go (ltb 0 (fstMaxSize image)))
     where
-      rest : Verdict
-      rest =
-          refuse (ltb (maxRegionSize (fstOffset image) (fstSize image) (freeOf image)) size) NotEnoughSpace
-          (refuse (ltb 0 (place .size) && ltb (place .offset) (fstOffset image + size)) NotEnoughSpace
-          Passed)
-
-      go : (b : Bool) → refuse (ltb room size) LimitOrMemory (refuse (b && false) TableAboveMaximum rest) ≡ refuse (ltb room size) LimitOrMemory rest
+      go : (b : Bool) → refuse (ltb room size) LimitOrMemory (refuse (b && false) TableAboveMaximum (roomVerdict image size place)) ≡ refuse (ltb room size) LimitOrMemory (roomVerdict image size place)
       go true = refl
       go false = refl
 
@@ -58,7 +47,7 @@ module _ (image : List ℕ) (room size : ℕ) (place : DiscRegion) where
 
 pub record PlacePassed (image : List ℕ) (room size : ℕ) (place : DiscRegion) : Type 0 where
   pub held : size ≤ room
-  pub stated : 0 < fstMaxSize image → size ≤ fstMaxSize image
+  pub within : 0 < fstMaxSize image → size ≤ fstMaxSize image
   pub grows : size ≤ maxRegionSize (fstOffset image) (fstSize image) (freeOf image)
   pub before : 0 < place .size → fstOffset image + size ≤ place .offset
 
@@ -71,7 +60,7 @@ place-passed image room size place e =
     let d = refuse-passed (ltb 0 (place .size) && ltb (place .offset) (fstOffset image + size)) NotEnoughSpace Passed (c .1) in
     record {
       held = ltb-false room size (a .0);
-      stated = λ z. ltb-false (fstMaxSize image) size (rw (lt-ltb 0 (fstMaxSize image) z) at (b .0));
+      within = λ z. ltb-false (fstMaxSize image) size (rw (lt-ltb 0 (fstMaxSize image) z) at (b .0));
       grows = ltb-false _ size (c .0);
       before = λ z. ltb-false (place .offset) (fstOffset image + size) (rw (lt-ltb 0 (place .size) z) at (d .0));
     }

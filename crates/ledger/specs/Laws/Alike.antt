@@ -39,7 +39,7 @@ module _ (image image′ : List ℕ) (a : Alike image image′) where
   end-same = rw (user-same, disc-same)
 
   module _ (o : Opened image) where
-    table-same : tableOf image′ ≡ tableOf image
+    pub table-same : tableOf image′ ≡ tableOf image
     unfolding tableOf
     table-same =
         let e : fstOffset image + fstSize image ≤ length image = omega (arith, o .bounds .table, o .bounds .image-holds) in

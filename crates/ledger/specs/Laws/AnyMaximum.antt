@@ -9,12 +9,10 @@ use lib.ListN.{length, getD}
 use Rattle.endian.specs.Bytes.{AllBytes}
 use Rattle.endian.specs.Laws.Stored.{be32-same, Outside}
 use Rattle.refusal.specs.declared.Verdict.the-variants.{Passed}
-use Rattle.header.specs.Verdicts.{fstOffset}
-use Rattle.program.specs.Program.{programIn}
-use Rattle.program.specs.Laws.ProgramLaws.{own-cases, program-same}
 use Rattle.opening.specs.Opening.{nodesIn, freeOf, opening}
 use Rattle.ledger.specs.Laws.Alike.{Alike, tree-same, free-same, opens-same}
 use Rattle.ledger.specs.Laws.Opened.{Opened, opened}
+use Rattle.ledger.specs.Laws.ProgramKept.{program-spared}
 
 module _ (image image′ : List ℕ) (w : ℕ) (b : AllBytes image) (e : opening image w ≡ Passed) (len : length image′ ≡ length image)
     (else : (i : ℕ) → Outside 0x42C 4 i → getD image′ i 0 ≡ getD image i 0) where
@@ -29,9 +27,7 @@ module _ (image image′ : List ℕ) (w : ℕ) (b : AllBytes image) (e : opening
     len = len;
     field = λ at h. be32-same image′ image at (λ i l. else (at + i) (⊎-elim (λ z. inl (omega arith)) (λ z. inr (omega (arith, z .0))) h));
     table = λ i h l. behind i (omega (arith, o .bounds .after-header));
-    -- the program lies behind the header, before the table or behind it
-    program = program-same image image′ len (be32-same image′ image 0x420 (λ i l. else (0x420 + i) (inl (omega arith)))) (o .program) (λ i l h. behind i
-        (⊎-elim (λ z. omega (arith, z .0)) (λ z. omega (arith, o .bounds .after-header, o .places .lie 0 i (rw z (l, h)) .0)) (own-cases (fstOffset image) (programIn image))));
+    program = program-spared image image′ o len (λ i h. else i (inl (omega arith))) (λ i h g. behind i (omega arith)) (λ i h. behind i (omega (arith, o .bounds .after-header, o .places .lie 0 i h .0))) .program;
   }
 
   -- THEOREM

@@ -146,6 +146,6 @@ module _ (image : List ℕ) (words bytes : ℕ) where
         let in₂ : Plan = planElsewhere (nodesIn image) (freeOf image) k old n (allocationOf 0x8000 n (freeOf image)) in
         arrives-planned (fileVerdict (nodesIn image) k) _ (λ v.
         let isFile = is-file (nodesIn image) k v in
-        arrives-cond (eqb n (old .size)) nothing (cond t in₁ in₂) (λ q u. (refl, nothing-done image, laid-same image image refl refl refl (fstSize image) refl refl (o .bounds .table) (λ k i h. o .places .lie k i h .0) refl))
+        arrives-cond (eqb n (old .size)) nothing (cond t in₁ in₂) (λ q u. (refl, nothing-done image, (laid-same image image refl refl refl (fstSize image) refl refl (o .bounds .table) (λ k i h. o .places .lie k i h .0) refl, refl)))
         (λ q. arrives-cond t in₁ in₂ (stay k isFile n h (eqb-false n (old .size) q))
         (λ g. elsewhere k isFile n h (leb-false n (old .size) (or-false (leb n (old .size)) _ g .0)) (allocationOf 0x8000 n (freeOf image)))))

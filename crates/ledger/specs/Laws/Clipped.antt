@@ -21,13 +21,13 @@ use Rattle.edits.specs.Laws.Puts.{Fits, put-length, put-all, put-else, put-belo
 use Rattle.ledger.specs.Laws.Files.{filesIn, placesIn}
 use Rattle.ledger.specs.Laws.Apart.{Has, region}
 use Rattle.ledger.specs.Laws.Histories.{True, SameIn, trues-set}
-use Rattle.ledger.specs.Laws.Alike.{Alike, start-same, size-same, end-same, tree-same, total-same, free-same, opens-same}
+use Rattle.ledger.specs.Laws.Alike.{Alike, tree-same, total-same, free-same, opens-same}
 use Rattle.ledger.specs.Laws.Opened.{Opened}
 use Rattle.ledger.specs.Laws.Room.{outside}
 use Rattle.ledger.specs.Laws.Kept.{Kept, opened-kept}
 use Rattle.ledger.specs.Laws.Placed.{placeIn, numberIn, placeNumber, place-is, place-lies, not-there}
 use Rattle.ledger.specs.Laws.ProgramKept.{ProgramKept, program-spared}
-use Rattle.ledger.specs.Laws.Layout.{Lays, places-are, laid-on}
+use Rattle.ledger.specs.Laws.Layout.{Lays, laid-on}
 
 -- the image with the clip over file k
 abbrev pub withClip : List ℕ → ℕ → List ℕ → List ℕ
@@ -87,10 +87,7 @@ module _ (w : ℕ) (image : List ℕ) (l : Ledger) (K : Kept w image l) (k : ℕ
 
   -- what was laid out before the clip is laid out with it
   pub layout-clipped : (first : List ℕ) (p : Plan) → Lays p first image → Lays p first (withClip image k clip)
-  layout-clipped first p =
-      let end = end-same image (withClip image k clip) alike in
-      let start = start-same image (withClip image k clip) alike in
-      laid-on first image (withClip image k clip) p end start (size-same image (withClip image k clip) alike) (field-same 0x42C (omega arith)) (places-are image (withClip image k clip) end start (program-clipped .program) (filesIn image) (rw tree-clipped))
+  layout-clipped first = laid-on first image (withClip image k clip) o alike (field-same 0x42C (omega arith))
 
   -- LAW: as many bytes are used, and the same are free
   pub used-clipped : usedOf (withClip image k clip) ≡ usedOf image

@@ -21,10 +21,12 @@ use Rattle.space.specs.Laws.LayoutLaws.{inside-from, inside-to}
 use Rattle.space.specs.Laws.TotalLaws.{total-nonempty}
 use Rattle.totals.specs.Laws.LargestLaws.{Exchanged}
 use Rattle.program.specs.Program.{programOf, programBehind}
+use Rattle.opening.specs.Opening.{tableOf}
 use Rattle.edits.specs.Change.{Plan, refused, nothing, change, filled}
 use Rattle.edits.specs.Edits.{noPlace}
 use Rattle.ledger.specs.Laws.Files.{filesIn, placesIn}
 use Rattle.ledger.specs.Laws.Apart.{Has, region, Apart, some-used, used-some}
+use Rattle.ledger.specs.Laws.Alike.{Alike, start-same, size-same, end-same, table-same, tree-same}
 use Rattle.ledger.specs.Laws.Opened.{Opened}
 use Rattle.ledger.specs.Laws.ProgramKept.{same-place}
 
@@ -33,16 +35,16 @@ pub record LaidOut (image image′ : List ℕ) (size : ℕ) (old new : DiscRegio
   pub end : discEnd image′ ≡ discEnd image
   pub start : fstOffset image′ ≡ fstOffset image
   pub table : fstSize image′ ≡ size
-  pub stated : fstMaxSize image′ ≡ fstMaxSize image
+  pub maximum : fstMaxSize image′ ≡ fstMaxSize image
   pub fits : fstOffset image + size ≤ discEnd image
   pub clear : (i : ℕ) → usesByte (placesIn image) i ≡ true → fstOffset image + size ≤ i
   pub held : 0 < old .size → holds old (placesIn image) ≡ true
   pub places : Exchanged (placesIn image) (placesIn image′) old new
 
--- the image afterwards has the layout of the plan
+-- the image afterwards has the layout of the plan: one that is refused has none, and one that writes no table leaves it byte for byte
 abbrev pub Lays : Plan → List ℕ → List ℕ → Type 0
 Lays (refused v) image image′ = isRefused v ≡ true
-Lays nothing image image′ = LaidOut image image′ (fstSize image) noPlace noPlace
+Lays nothing image image′ = LaidOut image image′ (fstSize image) noPlace noPlace × (tableOf image′ ≡ tableOf image)
 Lays (change k c) image image′ = LaidOut image image′ (length (encode (c .nodes))) (c .old) (c .place)
 Lays (filled k clip p) image image′ = Lays p image image′
 
@@ -111,7 +113,7 @@ module _ (image image′ : List ℕ) (end : discEnd image′ ≡ discEnd image) 
   pub places-are : (fs : List DiscRegion) → filesIn image′ ≡ fs → placesIn image′ ≡ programBehind image ∷ fs
   places-are fs e = rw (start, same-place image image′ program, e)
 
-  module _ (size : ℕ) (table : fstSize image′ ≡ size) (stated : fstMaxSize image′ ≡ fstMaxSize image) (fits : fstOffset image + size ≤ discEnd image) (clear : (k i : ℕ) → Has (region (placesIn image) k) i → fstOffset image + size ≤ i) where
+  module _ (size : ℕ) (table : fstSize image′ ≡ size) (maximum : fstMaxSize image′ ≡ fstMaxSize image) (fits : fstOffset image + size ≤ discEnd image) (clear : (k i : ℕ) → Has (region (placesIn image) k) i → fstOffset image + size ≤ i) where
     clear-of : (i : ℕ) → usesByte (placesIn image) i ≡ true → fstOffset image + size ≤ i
     clear-of i u = let s = used-some (placesIn image) i u in clear (s .0) i (s .1)
 
@@ -121,7 +123,7 @@ module _ (image image′ : List ℕ) (end : discEnd image′ ≡ discEnd image) 
       end = end;
       start = start;
       table = table;
-      stated = stated;
+      maximum = maximum;
       fits = fits;
       clear = clear-of;
       held = λ h. absurd (omega arith);
@@ -134,30 +136,31 @@ module _ (image image′ : List ℕ) (end : discEnd image′ ≡ discEnd image) 
       end = end;
       start = start;
       table = table;
-      stated = stated;
+      maximum = maximum;
       fits = fits;
       clear = clear-of;
       held = λ z. holds-at (placesIn image) (suc r) (omega arith);
       places = rw (places-are (set (filesIn image) r new) e) (exchanged-set _ _ (placesIn image) (o .places) (suc r) new (omega arith));
     }
 
-laid-out-on : (image image′ image″ : List ℕ) (size : ℕ) (old new : DiscRegion) → discEnd image″ ≡ discEnd image′ → fstOffset image″ ≡ fstOffset image′ → fstSize image″ ≡ fstSize image′ → fstMaxSize image″ ≡ fstMaxSize image′ → placesIn image″ ≡ placesIn image′ →
-    LaidOut image image′ size old new → LaidOut image image″ size old new
-laid-out-on image image′ image″ size old new d f s m q l = record {
-  end = d ∙ l .end;
-  start = f ∙ l .start;
-  table = s ∙ l .table;
-  stated = m ∙ l .stated;
-  fits = l .fits;
-  clear = l .clear;
-  held = l .held;
-  places = rw q (l .places);
-}
+-- ---- another image that opens alike
 
--- LAW: what does not touch header, tree and program leaves the layout as it is
-pub laid-on : (image image′ image″ : List ℕ) (p : Plan) → discEnd image″ ≡ discEnd image′ → fstOffset image″ ≡ fstOffset image′ → fstSize image″ ≡ fstSize image′ → fstMaxSize image″ ≡ fstMaxSize image′ → placesIn image″ ≡ placesIn image′ →
-    Lays p image image′ → Lays p image image″
-laid-on image image′ image″ (refused v) d f s m q l = l
-laid-on image image′ image″ nothing d f s m q l = laid-out-on image image′ image″ (fstSize image) noPlace noPlace d f s m q l
-laid-on image image′ image″ (change k c) d f s m q l = laid-out-on image image′ image″ (length (encode (c .nodes))) (c .old) (c .place) d f s m q l
-laid-on image image′ image″ (filled k clip p) d f s m q l = laid-on image image′ image″ p d f s m q l
+module _ (image image′ image″ : List ℕ) (o : Opened image′) (a : Alike image′ image″) (m : fstMaxSize image″ ≡ fstMaxSize image′) where
+  laid-out-on : (size : ℕ) (old new : DiscRegion) → LaidOut image image′ size old new → LaidOut image image″ size old new
+  laid-out-on size old new l = record {
+    end = end-same image′ image″ a ∙ l .end;
+    start = start-same image′ image″ a ∙ l .start;
+    table = size-same image′ image″ a ∙ l .table;
+    maximum = m ∙ l .maximum;
+    fits = l .fits;
+    clear = l .clear;
+    held = l .held;
+    places = rw (places-are image′ image″ (end-same image′ image″ a) (start-same image′ image″ a) (a .program) (filesIn image′) (rw (tree-same image′ image″ a o))) (l .places);
+  }
+
+  -- LAW: what does not touch header, table and program leaves the layout as it is
+  pub laid-on : (p : Plan) → Lays p image image′ → Lays p image image″
+  laid-on (refused v) l = l
+  laid-on nothing l = (laid-out-on (fstSize image) noPlace noPlace (l .0), table-same image′ image″ a o ∙ l .1)
+  laid-on (change k c) l = laid-out-on (length (encode (c .nodes))) (c .old) (c .place) l
+  laid-on (filled k clip p) l = laid-on p l

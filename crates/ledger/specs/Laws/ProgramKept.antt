@@ -36,7 +36,7 @@ kept-trans a b c p q = record {
 }
 
 -- LAW: an image of the same length, that has the bytes before the table and the program's behind it
-pub program-spared : (image image′ : List ℕ) → Opened image → length image′ ≡ length image → ((i : ℕ) → i < 0x428 → getD image′ i 0 ≡ getD image i 0) → ((i : ℕ) → 0x42C ≤ i → i < fstOffset image → getD image′ i 0 ≡ getD image i 0) →
+pub program-spared : (image image′ : List ℕ) → Opened image → length image′ ≡ length image → ((i : ℕ) → i < 0x428 → getD image′ i 0 ≡ getD image i 0) → ((i : ℕ) → 0x440 ≤ i → i < fstOffset image → getD image′ i 0 ≡ getD image i 0) →
     SameIn image image′ (programBehind image) → ProgramKept image image′
 program-spared image image′ o len header system behind = record {
   len = len;
@@ -54,4 +54,4 @@ program-spared image image′ o len header system behind = record {
 module _ (c : Change) (image : List ℕ) (o : Opened image) (s : Safe c image) (behind : SameIn image (written c image) (programBehind image)) where
   -- LAW: wherever the program lies
   pub program-kept : ProgramKept image (written c image)
-  program-kept = program-spared image (written c image) o (length-written c image s) (header-low c image s) (system-written c image s) behind
+  program-kept = program-spared image (written c image) o (length-written c image s) (header-low c image s) (λ i h. system-written c image s i (omega arith)) behind

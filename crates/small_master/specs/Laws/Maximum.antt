@@ -84,6 +84,38 @@ tight-free : freeOf (tight 0) ≡ at 1370 6822 ∷ []
 unfolding tight stating master put tableOf nodesIn nodesOf nodesFrom nodeAt nameAt count be24 be32 freeOf usedIn behindTable programOf programIn ownRegion freeRegions runs usesByte nonempty
 tight-free = refl
 
+-- the same, with a zero byte more behind the texts: 0x1B bytes, written anew 0x1A
+unfoldable pub slack : ℕ → List ℕ
+slack m = put (stating m) 0x428 (be32Bytes 0x1B)
+
+slack-opens : opening (slack 0x1A) masterWords ≡ Passed
+unfolding slack stating master put opening layoutVerdict headerVerdict fieldsVerdict fieldVerdict fields boundsVerdict tableOf check nodesIn nodesOf nodesFrom nodeAt nameAt count entriesVerdict entryVerdict unended walk nameVerdict nextVerdict shut plain safe be24 be32 usedIn behindTable programOf programIn ownRegion nonempty disjointBelow pairwiseDisjoint disjointFromAll disjoint endBy units
+slack-opens = refl
+
+few-opens : opening (stating 0x1A) 19 ≡ Passed
+unfolding stating master put opening layoutVerdict headerVerdict fieldsVerdict fieldVerdict fields boundsVerdict tableOf check nodesIn nodesOf nodesFrom nodeAt nameAt count entriesVerdict entryVerdict unended walk nameVerdict nextVerdict shut plain safe be24 be32 usedIn behindTable programOf programIn ownRegion nonempty disjointBelow pairwiseDisjoint disjointFromAll disjoint endBy units
+few-opens = refl
+
+slack-nodes : nodesIn (slack 0x1A) ≡ directory [] 2 ∷ file (0x61 ∷ []) 0x500 0x100 ∷ []
+unfolding slack stating master put tableOf nodesIn nodesOf nodesFrom nodeAt nameAt count be24 be32
+slack-nodes = refl
+
+slack-header : (fstOffset (slack 0x1A) ≡ 0x440) × (fstSize (slack 0x1A) ≡ 0x1B) × (fstMaxSize (slack 0x1A) ≡ 0x1A)
+unfolding slack stating master put be32
+slack-header = (refl, refl, refl)
+
+slack-free : freeOf (slack 0x1A) ≡ at 1115 165 ∷ at 1536 6656 ∷ []
+unfolding slack stating master put tableOf nodesIn nodesOf nodesFrom nodeAt nameAt count be24 be32 freeOf usedIn behindTable programOf programIn ownRegion freeRegions runs usesByte nonempty
+slack-free = refl
+
+slack-used : usedOf (slack 0x1A) ≡ 1371
+unfolding slack stating master put tableOf nodesIn nodesOf nodesFrom nodeAt nameAt count be24 be32 usedOf behindTable programOf programIn ownRegion totalSize
+slack-used = refl
+
+slack-rewritten : usedOf (written (tableOnly (directory [] 2 ∷ file (0x61 ∷ []) 0x500 0x100 ∷ [])) (slack 0x1A)) ≡ 1370
+unfolding slack stating master put tableOf nodesIn nodesOf nodesFrom nodeAt nameAt count be24 be32 textsOf encode entriesBytes parentOf parentBelow written withTable usedOf behindTable programOf programIn ownRegion totalSize
+slack-rewritten = refl
+
 -- ---- the images that are written
 
 rewritten : (m : ℕ) → usedOf (written (tableOnly (directory [] 2 ∷ file (0x61 ∷ []) 0x500 0x100 ∷ [])) (stating m)) ≡ 1370
@@ -140,7 +172,10 @@ pub record Maximum : Type 0 where
   pub none : (on 0 rewrite ≡ Passed) × (on 0 insertB ≡ Passed)
   -- the table with `b` has 0x28 bytes
   pub grown : (on 0x28 insertB ≡ Passed) × (on 0x27 insertB ≡ Refused TableAboveMaximum)
-  -- one working byte too few: 9 comes before 26
+  -- "may be edited down to the maximum": a table of 0x1B bytes, one of which no name uses
+  pub edited-down : verdictOf rewrite fresh (slack 0x1A) masterWords 0x1A ≡ Passed
+  -- 9 comes before 26: one working word too few for three entries, one working byte too few for their table
+  pub limits-first : verdictOf insertB fresh (stating 0x1A) 19 0x28 ≡ Refused LimitOrMemory
   pub bytes-first : verdictOf insertB fresh (stating 0x1A) masterWords 0x27 ≡ Refused LimitOrMemory
   -- 26 comes before the table's 21: `a` lies right behind the table
   pub room-last : (verdictOf insertB fresh (tight 0x1A) masterWords 0x28 ≡ Refused TableAboveMaximum) × (verdictOf insertB fresh (tight 0) masterWords 0x28 ≡ Refused NotEnoughSpace)
@@ -161,6 +196,8 @@ maximum = record {
   same-size = (rw (opens 0x19, nodes 0x19, used 0x19), rw (opens 0x19, plan-clip, nodes 0x19, used 0x19, clipped));
   none = (rw (opens 0, nodes 0, free 0, stated .2, table 0 .0, table 0 .1, used 0, rewritten 0), rw (opens 0, plan-b 0, free 0, stated .2, table 0 .0, table 0 .1, used 0, inserted 0));
   grown = (rw (opens 0x28, plan-b 0x28, free 0x28, stated .3, table 0x28 .0, table 0x28 .1, used 0x28, inserted 0x28), rw (opens 0x27, plan-b 0x27, stated .4));
+  edited-down = rw (slack-opens, slack-nodes, slack-free, slack-header .2, slack-header .0, slack-header .1, slack-used, slack-rewritten);
+  limits-first = rw (few-opens, plan-b 0x1A);
   bytes-first = rw (opens 0x1A, plan-b 0x1A);
   room-last = (rw (tight-opens 0x1A, tight-plan 0x1A, tight-header .3), rw (tight-opens 0, tight-plan 0, tight-free, tight-header .2, tight-header .0, tight-header .1));
   record-last = rw (opens 0x19, nodes 0x19, stated .1);

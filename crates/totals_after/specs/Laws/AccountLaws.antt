@@ -114,7 +114,7 @@ module _ (image w : List ℕ) (m room : ℕ) (bytes : List ℕ) (long : length b
   entered p (decision.Refused c) h l = refused-entered p c (h .answer)
   entered (refused v) decision.Nothing h l = absurd (h .carries)
   entered nothing decision.Nothing h l =
-      moved-entered nothing decision.Nothing _ refl (ap (settledAs decision.Nothing) (moves image w m o b image′ (fstSize image) noPlace noPlace (l refl) t))
+      moved-entered nothing decision.Nothing _ refl (ap (settledAs decision.Nothing) (moves image w m o b image′ (fstSize image) noPlace noPlace (l refl .0) t))
   entered (change k c) decision.Nothing h l = absurd (h .carries)
   entered (filled k clip p) decision.Nothing h l = absurd (h .carries)
   entered (refused v) (decision.Write size x) h l = absurd (h .carries)
