@@ -223,8 +223,8 @@ uint32_t counter_make_record(const uint8_t *image, size_t image_len, uint32_t *w
  *
  * The FST maximum is the header's word at 0x42C: the memory that a game on two discs has for the table of either. 0 states none. It binds
  * the table that an edit would write, in which no name is shared, and no other: an image whose table is larger opens, and an edit whose
- * table is no larger than the maximum is accepted. A resize to the present size and a clip of the file's own size write no table. No edit
- * writes the field.
+ * table is no larger than the maximum is not refused for it. A resize to the present size and a clip of the file's own size write no table.
+ * No edit writes the field.
  *
  * A record goes into every edit and comes back. Where the edit is accepted, used bytes have moved by as many as the image uses more or
  * less than before, the largest region is the new image's, and the count is larger by one; also where the image stays as it was, as after

@@ -142,8 +142,7 @@ pub struct Disc {
 impl Disc {
     /// Opens the image and reads its entries and free regions.
     pub fn read(image: &Image, desk: &mut Desk) -> Outcome<Disc> {
-        let (opened, list) = listed(image, desk)?;
-        let nodes = list.iter().enumerate().map(|(i, words)| node(i as u32, words)).collect();
+        let (opened, nodes) = entries(image, desk)?;
         let free = free_regions(image, desk)?;
         let mut disc = Disc { opened, nodes, free, named: false };
         disc.keep_paths(image)?;
@@ -216,11 +215,6 @@ impl Disc {
         [b"/", &parts.join(&b'/')[..], end].concat()
     }
 
-    /// The table's size as an edit writes it.
-    pub fn written_size(&self) -> u64 {
-        written(self.nodes.iter().map(|node| node.place.1))
-    }
-
     /// The entry at `path`, from the root on.
     pub fn find(&self, image: &Image, desk: &mut Desk, path: &[u8]) -> Outcome<&Node> {
         let found = counter::lookup(image.bytes(), &mut desk.lend(), 0, path)
@@ -229,23 +223,19 @@ impl Disc {
     }
 }
 
-/// What opening tells, and six words of each entry.
-fn listed(image: &Image, desk: &mut Desk) -> Outcome<(Opened, Vec<[u32; ENTRY_WORDS]>)> {
+/// What opening tells, and the entries, without names and paths.
+pub fn entries(image: &Image, desk: &mut Desk) -> Outcome<(Opened, Vec<Node>)> {
     let mut list = vec![[0; ENTRY_WORDS]; MOST_ENTRIES];
     let opened = counter::entries(image.bytes(), &mut desk.lend(), list.as_flattened_mut())
         .map_err(|number| not_opened(image, number))?;
     list.truncate(opened.entries as usize);
-    Ok((opened, list))
+    let nodes = list.iter().enumerate().map(|(i, words)| node(i as u32, words)).collect();
+    Ok((opened, nodes))
 }
 
-/// The size of the image's table as an edit writes it.
-pub fn written_size(image: &Image, desk: &mut Desk) -> Outcome<u64> {
-    Ok(written(listed(image, desk)?.1.iter().map(|words| words[5])))
-}
-
-/// The size of a table in which each name stands by itself, from the names' lengths, the root's first.
-fn written(lengths: impl Iterator<Item = u32>) -> u64 {
-    12 + lengths.skip(1).map(|length| 13 + u64::from(length)).sum::<u64>()
+/// The size of the table of these entries, the root first, as an edit writes it: each name by itself.
+pub fn written_size(nodes: &[Node]) -> u64 {
+    12 + nodes.iter().skip(1).map(|node| 13 + u64::from(node.place.1)).sum::<u64>()
 }
 
 /// The entry that six words tell, without its path.

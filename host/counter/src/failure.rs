@@ -81,7 +81,7 @@ pub struct Above {
     pub before: u64,
     pub after: u64,
     pub maximum: u64,
-    pub bytes: u64,
+    pub above: u64,
 }
 
 pub type Outcome<T> = Result<T, Failure>;

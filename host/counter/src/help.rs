@@ -151,7 +151,8 @@ const FIELDS: &[(&str, &str)] = &[
         "image image_bytes game_code maker game_name disc version audio_streaming stream_buffer wii_magic \
          gamecube_magic debug_offset debug_address dol_offset fst_offset fst_size fst_maximum \
          user_position user_size disc_size unused_43c disc_end table_end entries files directories used \
-         free free_regions largest_free fst_left fst_above fst_rewritten program_behind_table program{offset size behind_table}",
+         free free_regions largest_free fst_left fst_above fst_rewritten fst_rewritten_above \
+         program_behind_table program{offset size behind_table}",
     ),
     ("list", "total used entries[ENTRY] free[offset size]"),
     (
@@ -176,7 +177,8 @@ const FIELDS: &[(&str, &str)] = &[
     ),
     (
         "check",
-        "status opens entries files disc_end used free fst_size fst_maximum fst_left fst_above fst_rewritten",
+        "status opens entries files disc_end used free fst_size fst_maximum fst_left fst_above fst_rewritten \
+         fst_rewritten_above",
     ),
     ("compare", COMPARED),
     ("report", COMPARED),
@@ -221,7 +223,10 @@ fn json(forms: &[Form]) -> String {
     }
     if forms.iter().any(|form| ["info", "check"].contains(&form.name)) {
         out.push_str(
-            "  fst_left: what is left of fst_maximum, or null where that is 0 (no maximum); fst_above: by how many\n  bytes the table is above it, or 0; fst_rewritten: the table's size as an edit writes it, no name\n  shared, or null where there is no maximum\n",
+            "  fst_left: what is left of fst_maximum, or null where that is 0 (no maximum); fst_above: by how many\n\
+             \x20 bytes the table is above it, or 0; fst_rewritten: the table's size as an edit writes it, no name\n\
+             \x20 shared; fst_rewritten_above: by how many bytes that is above it, or 0 (where it is not 0 every edit\n\
+             \x20 that writes a table is refused); both are null where there is no maximum\n",
         );
     }
     if forms.iter().any(|form| ["info", "tree", "free"].contains(&form.name)) {

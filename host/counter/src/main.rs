@@ -171,7 +171,7 @@ fn told(failure: &Failure) -> Json {
                     ("before", table.before.into()),
                     ("after", table.after.into()),
                     ("maximum", table.maximum.into()),
-                    ("above", table.bytes.into()),
+                    ("above", table.above.into()),
                 ];
                 ("table", Json::Object(numbers))
             }));

@@ -2,7 +2,7 @@
 //! place in memory. An edit that would write a larger one is refused (26); an image that has one opens.
 
 use crate::call::Call;
-use crate::disc::{not_opened, written_size};
+use crate::disc::{Disc, entries, not_opened, written_size};
 use crate::failure::{Above, Failure, Outcome};
 use crate::header::Header;
 use crate::image::{Desk, Image};
@@ -10,21 +10,27 @@ use crate::json::Json;
 use crate::text::{counted, grouped, line, size};
 use counter_sys::{Memory, Opened, Record};
 
+/// The least that an entry adds to the table: 12 bytes, a name of one, and its zero byte.
+const LEAST_ENTRY: u64 = 14;
+
 /// Sizes in bytes.
 pub struct Maximum {
     /// 0 where the header states none.
     pub stated: u64,
-    /// The table's as it is, and as an edit writes it: each name by itself. The latter is looked for only
-    /// where there is a maximum.
+    /// The table's as it is.
     table: u64,
-    rewritten: u64,
+    /// The table's as an edit writes it, each name by itself; not looked for where no maximum is stated.
+    rewritten: Option<u64>,
 }
 
 impl Maximum {
     pub fn read(image: &Image, desk: &mut Desk, opened: &Opened) -> Outcome<Maximum> {
         let header = Header::read(image.bytes()).map_err(|n| not_opened(image, n))?;
         let (stated, table) = (header.fst_maximum().into(), opened.fst_size.into());
-        let rewritten = if stated > 0 { written_size(image, desk)? } else { table };
+        let rewritten = match stated {
+            0 => None,
+            _ => Some(written_size(&entries(image, desk)?.1)),
+        };
         Ok(Maximum { stated, table, rewritten })
     }
 
@@ -38,24 +44,24 @@ impl Maximum {
 
     // What is said ------------------------------------------------------------------------
 
-    pub fn fields(&self) -> [(&'static str, Json); 3] {
+    pub fn fields(&self) -> [(&'static str, Json); 4] {
         [
             ("fst_left", self.left(self.table).into()),
             ("fst_above", self.above(self.table).into()),
-            ("fst_rewritten", (self.stated > 0).then_some(self.rewritten).into()),
+            ("fst_rewritten", self.rewritten.into()),
+            ("fst_rewritten_above", self.rewritten.map(|size| self.above(size)).into()),
         ]
     }
 
     pub fn lines(&self, out: &mut String) {
         line(out, "table", self.held(self.table));
-        if self.rewritten != self.table {
-            line(out, "table, rewritten", self.held(self.rewritten));
+        if let Some(rewritten) = self.rewritten.filter(|&size| size != self.table) {
+            line(out, "table, rewritten", self.held(rewritten));
         }
     }
 
     /// A size held against the maximum.
     fn held(&self, table: u64) -> String {
-        let bytes = |number: u64| counted(number as usize, "byte", "bytes");
         let most = grouped(self.stated);
         let words = match (self.left(table), self.above(table)) {
             (None, _) => "no maximum stated".into(),
@@ -67,52 +73,66 @@ impl Maximum {
 
     /// What an editor should know before the first edit.
     pub fn note(&self) -> Option<String> {
-        let [table, rewritten] = [self.table, self.rewritten].map(|size| (size, self.above(size)));
-        let told = |(size, above)| {
-            let [size, above, most] = [size, above, self.stated].map(grouped);
-            format!("{size} bytes, {above} above the maximum of {most} that the header states")
+        const ALL_REFUSED: &str = "every edit that writes a table is refused";
+        let (table, rewritten) = (self.table, self.rewritten?);
+        let told = |size| {
+            let [above, most] = [self.above(size), self.stated].map(grouped);
+            format!("{}, {above} above the maximum of {most} that the header states", bytes(size))
         };
-        const NONE: &str = "every edit that writes a table is refused";
-        match (table.1, rewritten.1) {
+        match (self.above(table), self.above(rewritten)) {
             (0, 0) => None,
             (0, _) => Some(format!(
-                "the table, rewritten with no name shared, has {}; {NONE}",
+                "the table, rewritten with no name shared, has {}; {ALL_REFUSED}",
                 told(rewritten)
             )),
             (_, 0) => Some(format!(
                 "the table has {}; a rewrite brings it down to {}",
                 told(table),
-                grouped(rewritten.0)
+                grouped(rewritten)
             )),
-            _ => Some(format!("the table has {}; {NONE}", told(table))),
+            _ if rewritten == table => {
+                Some(format!("the table has {}; {ALL_REFUSED}", told(table)))
+            }
+            (_, above) => Some(format!(
+                "the table has {}; rewritten it would have {}, {} above; {ALL_REFUSED}",
+                told(table),
+                grouped(rewritten),
+                grouped(above)
+            )),
         }
     }
+}
 
-    // Refusals ----------------------------------------------------------------------------
+fn bytes(number: u64) -> String {
+    counted(number as usize, "byte", "bytes")
+}
 
-    /// The same refusal with the size of the table that the edit would write.
-    pub fn explain(&self, failure: Failure, new: u64) -> Failure {
-        let above =
-            Above { before: self.table, after: new, maximum: self.stated, bytes: self.above(new) };
-        let shared = if self.rewritten > self.table { ", with no name shared," } else { "" };
-        let room = match self.above(self.rewritten) {
-            0 => format!(
-                "there is room for {} bytes of new entries, 13 and the name's each; the publisher may state \
-                 more, or 0 for no maximum",
-                grouped(self.stated - self.rewritten)
-            ),
-            _ => "so is every table that an edit would write, until the publisher states more, or 0 for no \
-                  maximum"
-                .into(),
-        };
-        let [after, most, more] = [new, self.stated, above.bytes].map(grouped);
-        failure
-            .because(format!(
-                "the new table{shared} has {after} bytes, {more} above the maximum of {most} that the header \
-                 states at 0x42c; {room}"
-            ))
-            .above(above)
-    }
+// Refusals --------------------------------------------------------------------------------
+
+/// The refusal with 26 of an edit that would write a table of `after` bytes, with what it is about.
+pub fn explained(refusal: Failure, before: &Disc, maximum: u64, after: u64) -> Failure {
+    const MORE: &str = "the publisher may state more, or 0 for no maximum";
+    let (table, rewritten) = (before.opened.fst_size.into(), written_size(&before.nodes));
+    let shared = if rewritten > table { ", with no name shared," } else { "" };
+    let room = match maximum.checked_sub(rewritten) {
+        None => "so is every table that an edit would write, until the publisher states more, or 0 for no \
+                 maximum"
+            .into(),
+        Some(..LEAST_ENTRY) => format!("no further entry fits; {MORE}"),
+        Some(left) => {
+            let room = bytes(left);
+            format!("there is room for {room} of new entries, 13 and the name's each; {MORE}")
+        }
+    };
+    let above = after.saturating_sub(maximum);
+    let [most, more] = [maximum, above].map(grouped);
+    refusal
+        .because(format!(
+            "the new table{shared} has {}, {more} above the maximum of {most} that the header states at \
+             0x42c; {room}",
+            bytes(after)
+        ))
+        .above(Above { before: table, after, maximum, above })
 }
 
 /// The size of the table that an edit which is refused with 26 would write. Too few working bytes for it are

@@ -4,10 +4,11 @@
 use crate::call::{Call, Wish, refused};
 use crate::change::Change;
 use crate::clip::Clip;
-use crate::disc::{CLUSTER, Disc, Kind, table_end};
+use crate::disc::{CLUSTER, Disc, Kind, table_end, written_size};
 use crate::failure::{Failure, INTERNAL, Outcome};
+use crate::header::Header;
 use crate::image::{Desk, Image};
-use crate::maximum::{Maximum, new_size};
+use crate::maximum::{explained, new_size};
 use counter_sys::{self as counter, Record};
 use std::ops::Range;
 
@@ -67,7 +68,7 @@ pub fn try_out(
     Ok(Trial { found, after, change, given, record })
 }
 
-/// 26, with by how many bytes.
+/// 26, with by how many bytes: whatever else could fail here leaves the number as it is.
 fn above_maximum(
     wish: &Wish,
     call: &Call,
@@ -76,11 +77,10 @@ fn above_maximum(
     before: &Disc,
     given: Record,
 ) -> Failure {
-    let new = new_size(call, copy.bytes_mut(), desk, given);
-    match Maximum::read(copy, desk, &before.opened) {
-        Ok(maximum) => maximum.explain(refused(wish, 26), new),
-        Err(failure) => failure,
-    }
+    let refusal = refused(wish, 26);
+    let Ok(header) = Header::read(copy.bytes()) else { return refusal };
+    let after = new_size(call, copy.bytes_mut(), desk, given);
+    explained(refusal, before, header.fst_maximum().into(), after)
 }
 
 /// What the edit does to the file's bytes, told by its place before and after.
@@ -137,7 +137,7 @@ fn stand_ins(call: &Call, image: &Image, desk: &mut Desk, disc: &Disc) -> Vec<Ra
     }
     // A table that grows must find its own bytes behind it.
     let tables =
-        table_end(&disc.opened).max(u64::from(disc.opened.fst_offset) + disc.written_size());
+        table_end(&disc.opened).max(u64::from(disc.opened.fst_offset) + written_size(&disc.nodes));
     let free = |place: &Range<u64>| {
         place.start >= tables
             && disc.free.iter().any(|region| {

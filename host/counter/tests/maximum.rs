@@ -39,10 +39,24 @@ fn shared(temp: &Temp, maximum: u32) -> PathBuf {
     temp.write("shared.iso", &bytes)
 }
 
+/// `a`, `b/` and `b/a`, two of which share a text: 52 bytes, written anew 54.
+fn nested(temp: &Temp, maximum: u32) -> PathBuf {
+    let mut bytes = small_master();
+    let table =
+        [0x0100_0000u32, 0, 4, 0, 0x500, 0x10, 0x0100_0002, 0, 4, 0, 0x700, 0x10, 0x6100_6200];
+    for (i, word) in table.into_iter().enumerate() {
+        put(&mut bytes, 0x440 + 4 * i, word);
+    }
+    put(&mut bytes, 0x428, 52);
+    put(&mut bytes, FIELD, maximum);
+    temp.write("nested.iso", &bytes)
+}
+
 // Looking -----------------------------------------------------------------------------------
 
-/// Lines of `info` about the table, what is left, above and rewritten in JSON, and the note of `check`.
-type Told = (&'static [&'static str], Option<u64>, u64, Option<u64>, &'static str);
+/// Lines of `info` about the table; in JSON what is left, by how much the table is above, its size rewritten and by
+/// how much that is; and the note of `check`.
+type Told = (&'static [&'static str], Option<u64>, u64, Option<(u64, u64)>, &'static str);
 
 fn told(image: &Path, maximum: u32, wanted: Told) {
     let before = State::of(image);
@@ -60,7 +74,8 @@ fn told(image: &Path, maximum: u32, wanted: Told) {
             ("fst_maximum", Some(maximum.into())),
             ("fst_left", left),
             ("fst_above", Some(above)),
-            ("fst_rewritten", rewritten),
+            ("fst_rewritten", rewritten.map(|(size, _)| size)),
+            ("fst_rewritten_above", rewritten.map(|(_, above)| above)),
         ] {
             assert_eq!(*json.at(name), number(value), "{command} {name}");
         }
@@ -102,12 +117,13 @@ fn info_and_check_tell_of_the_maximum() {
     ];
     for (maximum, lines, left, above, note) in cases {
         let image = stated(&temp, maximum);
-        told(&image, maximum, (lines, Some(left), above, Some(26), note));
+        // Written anew the table is the same.
+        told(&image, maximum, (lines, Some(left), above, Some((26, above)), note));
     }
     let lines: &[&str] = &[
         "table             0x1a (26 bytes), 4,294,967,269 bytes left of the maximum of 4,294,967,295",
     ];
-    told(&stated(&temp, u32::MAX), u32::MAX, (lines, Some(4_294_967_269), 0, Some(26), ""));
+    told(&stated(&temp, u32::MAX), u32::MAX, (lines, Some(4_294_967_269), 0, Some((26, 0)), ""));
 }
 
 /// An edit writes another size than the table has now: that is told too.
@@ -120,29 +136,62 @@ fn the_size_that_an_edit_writes_is_told() {
     ];
     let note = "note: the table has 32 bytes, 6 above the maximum of 26 that the header states; a rewrite brings \
                 it down to 26\n";
-    told(&slack(&temp, 26), 26, (lines, Some(0), 6, Some(26), note));
+    told(&slack(&temp, 26), 26, (lines, Some(0), 6, Some((26, 0)), note));
     let lines: &[&str] = &[
         "table             0x20 (32 bytes), 7 bytes above the maximum of 25",
         "table, rewritten  0x1a (26 bytes), 1 byte above the maximum of 25",
     ];
-    let note = "note: the table has 32 bytes, 7 above the maximum of 25 that the header states; every edit that \
-                writes a table is refused\n";
-    told(&slack(&temp, 25), 25, (lines, Some(0), 7, Some(26), note));
+    let note = "note: the table has 32 bytes, 7 above the maximum of 25 that the header states; rewritten it would \
+                have 26, 1 above; every edit that writes a table is refused\n";
+    told(&slack(&temp, 25), 25, (lines, Some(0), 7, Some((26, 1)), note));
     let lines: &[&str] = &[
         "table             0x20 (32 bytes), 8 bytes left of the maximum of 40",
         "table, rewritten  0x1a (26 bytes), 14 bytes left of the maximum of 40",
     ];
-    told(&slack(&temp, 40), 40, (lines, Some(8), 0, Some(26), ""));
+    told(&slack(&temp, 40), 40, (lines, Some(8), 0, Some((26, 0)), ""));
     let lines: &[&str] = &[
         "table             0x27 (39 bytes), 1 byte left of the maximum of 40",
         "table, rewritten  0x29 (41 bytes), 1 byte above the maximum of 40",
     ];
     let note = "note: the table, rewritten with no name shared, has 41 bytes, 1 above the maximum of 40 that the \
                 header states; every edit that writes a table is refused\n";
-    told(&shared(&temp, 40), 40, (lines, Some(1), 0, Some(41), note));
+    told(&shared(&temp, 40), 40, (lines, Some(1), 0, Some((41, 1)), note));
     // Without a maximum it does not matter.
     let none: &[&str] = &["table             0x27 (39 bytes), no maximum stated"];
     told(&shared(&temp, 0), 0, (none, None, 0, None, ""));
+}
+
+/// A publisher who states what `check` tells is not refused: the size that an edit writes is told, and by how much
+/// it is above.
+#[test]
+fn the_size_that_has_to_be_stated_is_told() {
+    let temp = Temp::new();
+    let lines: &[&str] = &[
+        "table             0x34 (52 bytes), 22 bytes above the maximum of 30",
+        "table, rewritten  0x36 (54 bytes), 24 bytes above the maximum of 30",
+    ];
+    let note = "note: the table has 52 bytes, 22 above the maximum of 30 that the header states; rewritten it would \
+                have 54, 24 above; every edit that writes a table is refused\n";
+    told(&nested(&temp, 30), 30, (lines, Some(0), 22, Some((54, 24)), note));
+    let lines: &[&str] = &[
+        "table             0x34 (52 bytes), 0 bytes left of the maximum of 52",
+        "table, rewritten  0x36 (54 bytes), 2 bytes above the maximum of 52",
+    ];
+    let note = "note: the table, rewritten with no name shared, has 54 bytes, 2 above the maximum of 52 that the \
+                header states; every edit that writes a table is refused\n";
+    told(&nested(&temp, 52), 52, (lines, Some(0), 0, Some((54, 2)), note));
+    for maximum in [30, 52, 53] {
+        above(&temp, &nested(&temp, maximum), &["rewrite"], 54, ", with no name shared,");
+    }
+    let lines: &[&str] = &[
+        "table             0x34 (52 bytes), 2 bytes left of the maximum of 54",
+        "table, rewritten  0x36 (54 bytes), 0 bytes left of the maximum of 54",
+    ];
+    let image = nested(&temp, 54);
+    told(&image, 54, (lines, Some(2), 0, Some((54, 0)), ""));
+    accepted(&image, &["rewrite"]);
+    let lines: &[&str] = &["table             0x36 (54 bytes), 0 bytes left of the maximum of 54"];
+    told(&image, 54, (lines, Some(0), 0, Some((54, 0)), ""));
 }
 
 // Refusals ----------------------------------------------------------------------------------
@@ -263,8 +312,7 @@ fn what_is_added_is_counted() {
         let run = on(args[0], &image, &args[1..]);
         assert!(
             run.err.ends_with(
-                "; there is room for 0 bytes of new entries, 13 and the name's each; the publisher may state more, \
-                 or 0 for no maximum)\n"
+                "; no further entry fits; the publisher may state more, or 0 for no maximum)\n"
             ),
             "{}",
             run.err
@@ -290,8 +338,39 @@ fn what_is_added_is_counted() {
         // 0 is the old rule.
         accepted(&stated(&temp, 0), args);
     }
-    let run = on("add", &stated(&temp, 39), &["b"]);
-    assert!(run.err.contains("; there is room for 13 bytes of new entries, "), "{}", run.err);
+}
+
+/// An entry takes 14 bytes at least: 12, one of a name and a zero byte.
+#[test]
+fn room_is_told_where_an_entry_fits() {
+    let temp = Temp::new();
+    let long = "n".repeat(2000);
+    for (maximum, words) in [
+        (26, "no further entry fits"),
+        (27, "no further entry fits"),
+        (39, "no further entry fits"),
+        (40, "there is room for 14 bytes of new entries, 13 and the name's each"),
+        (41, "there is room for 15 bytes of new entries, 13 and the name's each"),
+        (1_026, "there is room for 1,000 bytes of new entries, 13 and the name's each"),
+    ] {
+        let image = stated(&temp, maximum);
+        let run = on("add", &image, &[&long]);
+        let wanted = format!("; {words}; the publisher may state more, or 0 for no maximum)\n");
+        assert!(run.status == 26 && run.err.ends_with(&wanted), "{maximum}: {}", run.err);
+        // And it is so.
+        let short = on("mkdir", &image, &["b"]);
+        assert_eq!(short.status, if maximum < 40 { 26 } else { 0 }, "{maximum}: {}", short.err);
+        assert!(maximum >= 40 || short.err.ends_with(&wanted), "{maximum}: {}", short.err);
+    }
+    // What shared texts take when they are written apart is no room: 41 bytes, and 55.
+    for (maximum, words) in [
+        (41, "no further entry fits"),
+        (54, "no further entry fits"),
+        (55, "there is room for 14 bytes of new entries, "),
+    ] {
+        let run = on("add", &shared(&temp, maximum), &["cc"]);
+        assert!(run.status == 26 && run.err.contains(&format!("; {words}")), "{}", run.err);
+    }
 }
 
 /// Where 21 would follow, 26 comes first, with its size.
@@ -339,8 +418,8 @@ fn a_limit_comes_before_the_maximum() {
     let notes = [
         (
             1,
-            "the table has 1,048,612 bytes, 1,048,611 above the maximum of 1 that the header states; every edit that \
-             writes a table is refused",
+            "the table has 1,048,612 bytes, 1,048,611 above the maximum of 1 that the header states; rewritten it \
+             would have 2,097,188, 2,097,187 above; every edit that writes a table is refused",
         ),
         (
             1_048_612,
@@ -488,9 +567,13 @@ fn help_tells_of_the_maximum() {
     }
     for command in ["info", "check", "json"] {
         let help = run(&["help", command]).out;
-        for name in ["fst_maximum", "fst_left", "fst_above", "fst_rewritten"] {
-            assert!(help.contains(name), "{command} {name}: {help}");
+        // Each is in the list of fields, and what it is is told.
+        let words: Vec<&str> = help.split_whitespace().collect();
+        for name in ["fst_left", "fst_above", "fst_rewritten", "fst_rewritten_above"] {
+            let told = words.contains(&name) && words.contains(&format!("{name}:").as_str());
+            assert!(told, "{command} {name}: {help}");
         }
+        assert!(words.contains(&"fst_maximum"), "{command}: {help}");
     }
     let help = run(&["help", "json"]).out;
     assert!(help.contains("26 also table{before after maximum above}"), "{help}");

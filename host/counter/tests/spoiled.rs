@@ -58,17 +58,22 @@ fn damage(image: &mut [u8], random: &mut Random) {
 fn no_image_makes_the_program_fall_over() {
     let temp = Temp::in_memory();
     let mut random = Random(0x1234_5678);
-    let mut opened = 0;
+    let (mut opened, mut above, mut refused) = (0, 0, 0);
     for turn in 0..250 {
         let mut bytes = master();
+        // Some state a maximum for the table, which has 98 bytes.
+        if turn % 4 == 3 {
+            put(&mut bytes, 0x42C, turn as u32 % 128);
+        }
         damage(&mut bytes, &mut random);
         let image = temp.write("spoiled.iso", &bytes);
         let check = on("check", &image, &[]);
-        assert!((0..=26).contains(&check.status), "turn {turn}: {} {}", check.status, check.err);
+        assert!((0..=24).contains(&check.status), "turn {turn}: {} {}", check.status, check.err);
         let listed = on("list", &image, &[]);
         assert_eq!(listed.status, check.status, "turn {turn}");
         if check.status == 0 {
             opened += 1;
+            above += usize::from(check.out.contains("\nnote: "));
             assert!(listed.out == Table::of(&image).listing(), "turn {turn}: {}", listed.out);
         }
         let out = temp.at(&format!("out{turn}"));
@@ -94,7 +99,8 @@ fn no_image_makes_the_program_fall_over() {
         let count = if turn % 5 == 0 { reading.len() } else { 8 };
         for args in &reading[..count] {
             let run = on(args[0], &image, &args[1..]);
-            assert!(run.status <= 26 || run.status == 65, "turn {turn} {args:?}: {}", run.err);
+            // 25 and 26 are for edits.
+            assert!(run.status <= 24 || run.status == 65, "turn {turn} {args:?}: {}", run.err);
             assert!(
                 run.signal.is_none() && !run.err.contains("panicked"),
                 "turn {turn}: {}",
@@ -115,10 +121,13 @@ fn no_image_makes_the_program_fall_over() {
         let edit = edits[turn % edits.len()];
         let run = on(edit[0], &image, &edit[1..]);
         assert!(run.status <= 26, "turn {turn} {edit:?}: {}", run.err);
+        refused += usize::from(run.status == 26);
         match run.status {
             0 => assert!(done("list", &image, &[]) == Table::of(&image).listing(), "turn {turn}"),
             _ => assert!(fs::read(&image).unwrap() == bytes, "turn {turn} {edit:?}"),
         }
     }
     assert!((20..230).contains(&opened), "{opened} of 250 open");
+    // There are tables above their maximum, and edits that are refused for it.
+    assert!(above > 4 && refused > 4, "{above} are above their maximum, {refused} refused with 26");
 }
