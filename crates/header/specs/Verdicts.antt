@@ -50,6 +50,7 @@ fstOffset image = wordOf fstOffsetField image
 abbrev pub fstSize : List ℕ → ℕ
 fstSize image = wordOf fstSizeField image
 
+-- document 02, Point 7: "sized by header field 0x42C. YAGCD names it the FST maximum."
 abbrev pub fstMaxSize : List ℕ → ℕ
 fstMaxSize image = wordOf fstMaxSizeField image
 

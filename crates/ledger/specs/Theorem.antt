@@ -122,7 +122,7 @@ RecordTells =
 pub record WithinMaximum (first last : List ℕ) : Type 0 where
   -- the field is never written
   pub field : fstMaxSize last ≡ fstMaxSize first
-  -- a table within a nonzero maximum at first is within it at last
+  -- a table within a nonzero maximum at first is within it at last (this follows from `larger`)
   pub within : 0 < fstMaxSize first → fstSize first ≤ fstMaxSize first → fstSize last ≤ fstMaxSize first
   -- "An image whose table is already larger": a larger table at last is the first one, byte for byte
   pub larger : 0 < fstMaxSize first → fstMaxSize first < fstSize last → (fstSize last ≡ fstSize first) × (tableOf last ≡ tableOf first)

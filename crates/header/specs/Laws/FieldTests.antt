@@ -19,7 +19,7 @@ use Rattle.header.specs.Laws.Tiling.{fields-count, every-at}
 use Rattle.header.specs.Verdicts.{gcnMagic, wiiMagic, wordOf, fieldVerdict, fieldsVerdict, headerVerdict, fstOffset, fstSize, userSize, discSize, discEnd, tableEnd, boundsVerdict}
 use Rattle.header.specs.Inner.Judged.{Judged}
 
--- the places that the header gives are judged by four fields and the image's length: not by the FST maximum
+-- LAW: the places that the header gives are judged by four fields and the image's length: not by the FST maximum
 pub bounds-same : (image image′ : List ℕ) → length image′ ≡ length image → fstOffset image′ ≡ fstOffset image → fstSize image′ ≡ fstSize image → userSize image′ ≡ userSize image → discSize image′ ≡ discSize image →
     boundsVerdict image′ ≡ boundsVerdict image
 unfolding boundsVerdict
