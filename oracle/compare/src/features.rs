@@ -280,7 +280,10 @@ pub fn of_maximum(tree: &Tree, call: &Call, expected: &str) -> Vec<&'static str>
                 "maximum: 26, by one byte, and the table's 21 is due too",
             ),
             (present == most, "maximum: 26, and the present table is just within it"),
-            (above && size > present, "maximum: 26 for a table longer than the present one, which is above it"),
+            (
+                above && size > present,
+                "maximum: 26 for a table longer than the present one, which is above it",
+            ),
             (above && size == present, "maximum: 26 for a table as long as the present one"),
             (above && size < present, "maximum: 26 for a table shorter than the present one"),
             (
