@@ -238,8 +238,9 @@ pub fn of_record(
     ])
 }
 
-/// What stands out about the maximum that an image states, and a call on it that is answered `expected`.
-pub fn of_maximum(tree: &Tree, call: &Call, expected: &str) -> Vec<&'static str> {
+/// What stands out about the maximum that an image states, and a call on it that is answered `expected`,
+/// with so many working bytes lent.
+pub fn of_maximum(tree: &Tree, call: &Call, expected: &str, bytes: usize) -> Vec<&'static str> {
     let (most, present, rewritten) = (tree.maximum, tree.fst_size, tree.written());
     let above = tree.forbids(present);
     if *call == Call::Open {
@@ -292,7 +293,13 @@ pub fn of_maximum(tree: &Tree, call: &Call, expected: &str) -> Vec<&'static str>
             ),
             (most == 1, "maximum: 26, and it is 1"),
         ],
-        "err 9" => vec![(place.is_some() && size > most, "maximum: 26 due, and 9 comes first")],
+        "err 9" => {
+            let (due, short) = (place.is_some() && size > most, (bytes as u64) < size);
+            vec![
+                (due && short, "maximum: 26 due, and the working bytes' 9 comes first"),
+                (due && !short, "maximum: 26 due, and the 9 of limits or words comes first"),
+            ]
+        }
         "err 21" if no_room(tree, call, expected) => {
             vec![
                 (size == most, "maximum: just met, and the table's 21"),

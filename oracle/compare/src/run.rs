@@ -624,7 +624,7 @@ impl Run {
                 }
                 if let Ok(tree) = &opened {
                     let (words, bytes) = (asked.words, asked.bytes);
-                    self.met(of_maximum(tree, &asked.call, &verdict.expected));
+                    self.met(of_maximum(tree, &asked.call, &verdict.expected, bytes));
                     self.met(features(tree, &asked.call, &verdict.expected, words, bytes));
                 }
                 if asked.call == Call::Open {
