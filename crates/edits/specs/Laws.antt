@@ -10,3 +10,4 @@ pub mod Making
 pub mod InsertNumber
 pub mod MakeNumber
 pub mod Names
+pub mod NoMaximum

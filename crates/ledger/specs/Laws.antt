@@ -5,6 +5,7 @@ pub mod Apart
 pub mod Arrives
 pub mod Bare
 pub mod Clipped
+pub mod EditedDown
 pub mod Files
 pub mod FillEdits
 pub mod FillReads

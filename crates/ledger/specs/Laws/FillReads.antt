@@ -1,4 +1,4 @@
--- After an accepted fill the file's window shows exactly the clip. Assumes nothing.
+-- After an accepted fill the file's window shows exactly the clip, and the file, opened and read, is the clip. Assumes nothing.
 use Prim.Native.Nat.{ℕ, zero, suc, _+_, _<_, _≤_}
 use mathlib.Core.Path.{_≡_, ap}
 use mathlib.Core.Logic.{⊎-elim}
@@ -6,15 +6,18 @@ use mathlib.Core.List.{List, [], _∷_}
 use native.Mathlib.Omega.{arith}
 use borrow.Author.Tests.{lt-ltb}
 use lib.ListN.{length, getD}
-use Rattle.endian.specs.Bytes.{put}
+use Rattle.endian.specs.Bytes.{put, AllBytes}
 use Rattle.refusal.specs.declared.Verdict.the-variants.{Passed}
 use Rattle.refusal.specs.Laws.Tests.{lt-or-le}
 use Rattle.tree.specs.Table.{Node, file, none}
-use Rattle.window.specs.Window.{newWindow, countOf}
+use Rattle.totals.specs.declared.Totals.{Totals}
+use Rattle.window.specs.Window.{newWindow, countOf, bufferOf}
 use Rattle.files.specs.Files.{openFileAnswer, entryAnswer}
+use Rattle.files.specs.declared.WindowAnswer.{WindowAnswer}
+use Rattle.files.specs.declared.WindowAnswer.the-variants as window
 use Rattle.opening.specs.Opening.{nodesIn, freeOf, opening}
 use Rattle.edits.specs.Change.{filled}
-use Rattle.edits.specs.Edits.{fillFile, clipVerdict, planResize, planFill, planImage, imageAfter}
+use Rattle.edits.specs.Edits.{fillFile, clipVerdict, planResize, planFill, planImage, verdictOf, imageAfter}
 use Rattle.edits.specs.Laws.Accepted.{accepted}
 use Rattle.ledger.specs.Ledger.{Ledger, firstLedger}
 use Rattle.ledger.specs.Theorem.{ShowsClip, FillReads}
@@ -58,3 +61,13 @@ fill-reads totals image clip k words bytes w b c lent v =
     let s = fill-shows w image l K words bytes lent k clip c (q .0) (q .1) in
     let i : imageAfter (fillFile k clip) totals image words bytes ≡ withClip (planImage (planResize (freeOf image) (nodesIn image) k (length clip)) image) k clip = rw v (fill-is w image l K words bytes lent k clip c (q .0) (q .1)) in
     rw i (shows _ w k (rw i at (step w image l K words bytes lent totals (fillFile k clip) c .opens)) (s .0) _ clip (s .1) (s .2))
+
+-- what opening file k and reading all of it puts in front of a buffer
+abbrev readInto : WindowAnswer → List ℕ → List ℕ → List ℕ
+readInto (window.Opened win) image buffer = bufferOf win image buffer
+readInto (window.Refused c) image buffer = buffer
+
+-- THEOREM: the file is opened and read: the clip, and the rest of the buffer as it was
+pub read-back : (totals : Totals) (image clip : List ℕ) (k words bytes w : ℕ) → AllBytes image → AllBytes clip → words ≤ w → verdictOf (fillFile k clip) totals image words bytes ≡ Passed → (buffer : List ℕ) → length clip ≤ length buffer →
+    readInto (openFileAnswer (imageAfter (fillFile k clip) totals image words bytes) w k) (imageAfter (fillFile k clip) totals image words bytes) buffer ≡ put buffer 0 clip
+read-back totals image clip k words bytes w b c lent v buffer h = let s = fill-reads totals image clip k words bytes w b c lent v in rw (s .window) (s .bytes buffer h)

@@ -3,6 +3,7 @@
 use Prim.Native.Nat.{ℕ, _<_, _≤_}
 use mathlib.Core.Path.{_≡_, refl, _∙_}
 use mathlib.Core.Bool.{cond, not}
+use mathlib.Core.Logic.{⊎-elim}
 use mathlib.Core.List.{List, [], _∷_}
 use native.Mathlib.Omega.{arith}
 use lib.ListN.{length}
@@ -11,8 +12,10 @@ use Rattle.refusal.specs.declared.Verdict.{Verdict}
 use Rattle.refusal.specs.declared.Verdict.the-variants.{Passed, Refused}
 use Rattle.refusal.specs.Refusal.{isRefused}
 use Rattle.refusal.specs.Laws.Chains.{first-passed}
+use Rattle.refusal.specs.Laws.Tests.{lt-or-le}
 use Rattle.header.specs.Verdicts.{fstSize, fstMaxSize}
 use Rattle.tree.specs.Table.{encode, limits}
+use Rattle.opening.specs.Opening.{tableOf}
 use Rattle.edits.specs.Change.{Change, tableVerdict, Plan, refused, nothing, change, filled}
 use Rattle.edits.specs.Edits.{Edit, planOf, planVerdict, planImage, verdictOf, imageAfter}
 use Rattle.edits.specs.Laws.Accepted.{accepted}
@@ -27,18 +30,23 @@ use Rattle.ledger.specs.Laws.Sequence.{start}
 use Rattle.ledger.specs.Laws.Steps.{step}
 use Rattle.ledger.specs.Laws.TreeAfter.{arrives}
 
+-- LAW: where a larger table is the first one, a table within the maximum at first is within it at last
+kept-within : (first last : List ℕ) → fstMaxSize last ≡ fstMaxSize first → (0 < fstMaxSize first → fstMaxSize first < fstSize last → (fstSize last ≡ fstSize first) × (tableOf last ≡ tableOf first)) → WithinMaximum first last
+kept-within first last same larger = record {
+  field = same;
+  within = λ z h. ⊎-elim (λ l. absurd (omega (arith, larger z l .0))) (λ l. l) (lt-or-le (fstMaxSize first) (fstSize last));
+  larger = larger;
+}
+
 same : (image : List ℕ) → WithinMaximum image image
-same image = record { field = refl; within = λ z h. h; larger = λ z h. (refl, refl) }
+same image = kept-within image image refl (λ z h. (refl, refl))
 
 trans : (a b c : List ℕ) → WithinMaximum a b → WithinMaximum b c → WithinMaximum a c
-trans a b c p q = record {
-  field = q .field ∙ p .field;
-  within = λ z h. omega (arith, p .field, q .within (omega (arith, p .field)) (omega (arith, p .field, p .within z h)));
-  larger = λ z h.
-      let e = q .larger (omega (arith, p .field)) (omega (arith, p .field)) in
-      let f = p .larger z (omega (arith, e .0)) in
-      (e .0 ∙ f .0, e .1 ∙ f .1);
-}
+trans a b c p q =
+    kept-within a c (q .field ∙ p .field) (λ z h.
+    let e = q .larger (omega (arith, p .field)) (omega (arith, p .field)) in
+    let f = p .larger z (omega (arith, e .0)) in
+    (e .0 ∙ f .0, e .1 ∙ f .1))
 
 -- ---- one call
 
@@ -51,10 +59,8 @@ table-within c image words bytes v = place-passed image bytes (length (encode (c
 laid-within : (p : Plan) (image image′ : List ℕ) (words bytes : ℕ) → planVerdict p image words bytes ≡ Passed → Lays p image image′ → WithinMaximum image image′
 laid-within (refused (Refused c)) image image′ words bytes v l = let z : _≡_ {A = ℕ} 0 1 = cc in absurd (omega arith)
 laid-within (refused Passed) image image′ words bytes v l = let z : _≡_ {A = ℕ} 0 1 = cc in absurd (omega arith)
-laid-within nothing image image′ words bytes v l = record { field = l .0 .maximum; within = λ z h. omega (arith, l .0 .table); larger = λ z h. (l .0 .table, l .1) }
-laid-within (change k c) image image′ words bytes v l =
-    let t : 0 < fstMaxSize image → fstSize image′ ≤ fstMaxSize image = λ z. omega (arith, l .table, table-within c image words bytes v z) in
-    record { field = l .maximum; within = λ z h. t z; larger = λ z h. absurd (omega (arith, t z)) }
+laid-within nothing image image′ words bytes v l = kept-within image image′ (l .0 .maximum) (λ z h. (l .0 .table, l .1))
+laid-within (change k c) image image′ words bytes v l = kept-within image image′ (l .maximum) (λ z h. absurd (omega (arith, l .table, table-within c image words bytes v z)))
 laid-within (filled k clip p) image image′ words bytes v l = laid-within p image image′ words bytes v l
 
 -- LAW: accepted or refused

@@ -19,7 +19,7 @@ use Rattle.disc.specs.Calls.{totalsOf, recordMade, recordAnswer}
 use Rattle.edits.specs.Edits.{Edit, planOf, planVerdict, planImage, countedVerdict, totalsTo, verdictOf, imageAfter, totalsAfter}
 use Rattle.ledger.specs.Ledger.{firstLedger}
 use Rattle.ledger.specs.Runs.{Call, imageAfterAll, reportsOf, totalsAfterAll, HandedOn, acceptedIn, Passable}
-use Rattle.ledger.specs.Theorem.{RecordTells}
+use Rattle.ledger.specs.Theorem.{Tells, RecordTells}
 use Rattle.ledger.specs.Laws.Opened.{opened}
 use Rattle.ledger.specs.Laws.Steps.{step-accepted}
 use Rattle.ledger.specs.Laws.Sequence.{start, along}
@@ -70,6 +70,12 @@ record-tells image w₀ w t calls b e h a on =
     let k = along w calls image (firstLedger image) a (start image w₀ w h b (m .0)) in
     let z : 0 + acceptedIn (reportsOf calls image) ≡ acceptedIn (reportsOf calls image) = omega arith in
     record { totals = tells-along calls image t 0 (m .1) on ∙ ap (λ (n : ℕ). totalsOf (imageAfterAll calls image) n) z; afresh = rw (k .opens) }
+
+-- THEOREM: a record made anew of the last image has the used bytes and the largest region of the one that was handed on, which has counted n edits
+pub made-anew : (image : List ℕ) (w n : ℕ) (t new : Totals) → Tells image w n t → recordAnswer image w ≡ recordMade new → (new .used ≡ t .used) × (new .largest ≡ t .largest) × (new .edits ≡ 0) × (t .edits ≡ n)
+made-anew image w n t new tells e =
+    let q : totalsOf image 0 ≡ new = ap (λ (m : RecordMade). m .totals) (sym (tells .afresh) ∙ e) in
+    rw (← q, tells .totals) (refl, refl, refl, refl)
 
 -- ---- 25 and a record that is the image's
 

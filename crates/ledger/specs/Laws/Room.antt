@@ -30,7 +30,7 @@ use Rattle.ledger.specs.Laws.Files.{placesIn, used-files}
 use Rattle.ledger.specs.Laws.Apart.{Has, region, free-clear}
 use Rattle.ledger.specs.Laws.Opened.{Opened}
 
-free-places : (image : List ℕ) → freeOf image ≡ freeRegions (discEnd image) (usedRegions (tableEnd image) (placesIn image))
+pub free-places : (image : List ℕ) → freeOf image ≡ freeRegions (discEnd image) (usedRegions (tableEnd image) (placesIn image))
 unfolding freeOf usedIn behindTable
 free-places image = rw (used-files (tableEnd image) (programBehind image) (nodesIn image))
 
