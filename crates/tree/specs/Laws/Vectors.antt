@@ -5,6 +5,7 @@ use mathlib.Core.Path.{_≡_, refl}
 use mathlib.Core.List.{List, [], _∷_, _++_}
 use lib.ListN.{set, take}
 use Rattle.endian.specs.Bytes.{be24, be32, put, be32Bytes, sameBytes}
+use Rattle.refusal.specs.declared.Verdict.{Verdict}
 use Rattle.refusal.specs.declared.Verdict.the-variants.{Passed, Refused}
 use Rattle.refusal.specs.declared.Refusal.the-variants.{EntryPastTable, UnrecognizedKind, RootIsNotDirectory, MissingNullTerminator, LimitOrMemory, InvalidNextIndex, InvalidNameOffset, InvalidNameByte, UnsafeName, NoSuchEntry, ExpectedDirectory, NotFound}
 use Rattle.tree.specs.declared.Located.the-variants as located
@@ -122,46 +123,76 @@ looked-up :
 unfolding lookup follow components componentsOf units childOf firstChild parentOf parentBelow sameBytes
 looked-up = (refl, refl, refl, refl, refl, refl, refl, refl)
 
--- ---- Japanese names, as the small master's one name: `表` (0x95 0x5C), half-width katakana, the first and last bytes of each range; a pair
--- of two lead bytes, and then one with the trail byte 0x5C
+-- ---- Japanese names: `表` (0x95 0x5C), half-width katakana from the first to the last, a pair of two lead bytes and then one with the trail
+-- byte 0x5C
 
 named : List ℕ → List ℕ
 named nm = take 24 master ++ (nm ++ (0 ∷ []))
 
-names-accepted :
-    (check (named (0x95 ∷ 0x5C ∷ [])) 16 ≡ Passed) ×
-    (check (named (0xA1 ∷ 0xB1 ∷ 0xDF ∷ [])) 16 ≡ Passed) ×
-    (check (named (0x81 ∷ 0x40 ∷ 0x9F ∷ 0x7E ∷ 0xE0 ∷ 0x80 ∷ 0xFC ∷ 0xFC ∷ [])) 16 ≡ Passed) ×
-    (check (named (0x81 ∷ 0x81 ∷ 0x81 ∷ 0x5C ∷ [])) 16 ≡ Passed)
-unfolding named check nodesFrom nodeAt nameAt count entriesVerdict entryVerdict unended walk nameVerdict nextVerdict shut plain safe units be24 be32
-names-accepted = (refl, refl, refl, refl)
+-- the verdict on a name, which is the small master's one
+judged : List ℕ → Verdict
+judged nm = check (named nm) 16
 
--- a lead byte at the end, before `:`, before `/` and before 0x7F; 0x80, 0xA0, 0xFD and 0xFF; 0xFC before 0xFD; `\` behind a pair, and `:`
+names-accepted :
+    (judged (0x95 ∷ 0x5C ∷ []) ≡ Passed) ×
+    (judged (0xA1 ∷ 0xB1 ∷ 0xDF ∷ []) ≡ Passed) ×
+    (judged (0x81 ∷ 0x81 ∷ 0x81 ∷ 0x5C ∷ []) ≡ Passed)
+unfolding judged named check nodesFrom nodeAt nameAt count entriesVerdict entryVerdict unended walk nameVerdict nextVerdict shut plain safe units be24 be32
+names-accepted = (refl, refl, refl)
+
+-- a lead byte at the end, before `:` and before `/`; 0x80, 0xA0, 0xE0, 0xFD and 0xFF; `\` behind a pair and behind 0xDF, and `:`
 names-refused :
-    (check (named (0x61 ∷ 0x81 ∷ [])) 16 ≡ Refused InvalidNameByte) ×
-    (check (named (0x95 ∷ 0x3A ∷ [])) 16 ≡ Refused InvalidNameByte) ×
-    (check (named (0x95 ∷ 0x2F ∷ [])) 16 ≡ Refused InvalidNameByte) ×
-    (check (named (0x95 ∷ 0x7F ∷ [])) 16 ≡ Refused InvalidNameByte) ×
-    (check (named (0x80 ∷ [])) 16 ≡ Refused InvalidNameByte) ×
-    (check (named (0xA0 ∷ [])) 16 ≡ Refused InvalidNameByte) ×
-    (check (named (0xFD ∷ [])) 16 ≡ Refused InvalidNameByte) ×
-    (check (named (0xFF ∷ [])) 16 ≡ Refused InvalidNameByte) ×
-    (check (named (0xFC ∷ 0xFD ∷ [])) 16 ≡ Refused InvalidNameByte) ×
-    (check (named (0x81 ∷ 0x81 ∷ 0x5C ∷ [])) 16 ≡ Refused UnsafeName) ×
-    (check (named (0x95 ∷ 0x5C ∷ 0x3A ∷ [])) 16 ≡ Refused UnsafeName)
-unfolding named check nodesFrom nodeAt nameAt count entriesVerdict entryVerdict unended walk nameVerdict nextVerdict shut plain safe units be24 be32
+    (judged (0x61 ∷ 0x81 ∷ []) ≡ Refused InvalidNameByte) ×
+    (judged (0x95 ∷ 0x3A ∷ []) ≡ Refused InvalidNameByte) ×
+    (judged (0x95 ∷ 0x2F ∷ []) ≡ Refused InvalidNameByte) ×
+    (judged (0x80 ∷ []) ≡ Refused InvalidNameByte) ×
+    (judged (0xA0 ∷ []) ≡ Refused InvalidNameByte) ×
+    (judged (0xE0 ∷ []) ≡ Refused InvalidNameByte) ×
+    (judged (0xFD ∷ []) ≡ Refused InvalidNameByte) ×
+    (judged (0xFF ∷ []) ≡ Refused InvalidNameByte) ×
+    (judged (0x81 ∷ 0x81 ∷ 0x5C ∷ []) ≡ Refused UnsafeName) ×
+    (judged (0xDF ∷ 0x5C ∷ []) ≡ Refused UnsafeName) ×
+    (judged (0x95 ∷ 0x5C ∷ 0x3A ∷ []) ≡ Refused UnsafeName)
+unfolding judged named check nodesFrom nodeAt nameAt count entriesVerdict entryVerdict unended walk nameVerdict nextVerdict shut plain safe units be24 be32
 names-refused = (refl, refl, refl, refl, refl, refl, refl, refl, refl, refl, refl)
+
+-- the first and the last lead byte of each range, and the first and the last trail byte
+pairs-accepted :
+    (judged (0x81 ∷ 0x40 ∷ []) ≡ Passed) ×
+    (judged (0x9F ∷ 0x40 ∷ []) ≡ Passed) ×
+    (judged (0xE0 ∷ 0x40 ∷ []) ≡ Passed) ×
+    (judged (0xFC ∷ 0x40 ∷ []) ≡ Passed) ×
+    (judged (0x81 ∷ 0x7E ∷ []) ≡ Passed) ×
+    (judged (0x81 ∷ 0x80 ∷ []) ≡ Passed) ×
+    (judged (0x81 ∷ 0xFC ∷ []) ≡ Passed)
+unfolding judged named check nodesFrom nodeAt nameAt count entriesVerdict entryVerdict unended walk nameVerdict nextVerdict shut plain safe units be24 be32
+pairs-accepted = (refl, refl, refl, refl, refl, refl, refl)
+
+-- the bytes beside the ranges are no lead bytes and no trail bytes; 0xDF, which is a name's byte, is among the paths below
+pairs-refused :
+    (judged (0x80 ∷ 0x40 ∷ []) ≡ Refused InvalidNameByte) ×
+    (judged (0xA0 ∷ 0x40 ∷ []) ≡ Refused InvalidNameByte) ×
+    (judged (0xFD ∷ 0x40 ∷ []) ≡ Refused InvalidNameByte) ×
+    (judged (0x81 ∷ 0x3F ∷ []) ≡ Refused InvalidNameByte) ×
+    (judged (0x81 ∷ 0x7F ∷ []) ≡ Refused InvalidNameByte) ×
+    (judged (0x81 ∷ 0xFD ∷ []) ≡ Refused InvalidNameByte)
+unfolding judged named check nodesFrom nodeAt nameAt count entriesVerdict entryVerdict unended walk nameVerdict nextVerdict shut plain safe units be24 be32
+pairs-refused = (refl, refl, refl, refl, refl, refl)
 
 -- a name that starts inside a pair of another text has units of its own: the text 0x81 0x5C read from its second byte is `\`
 inside-a-pair : check (set (named (0x81 ∷ 0x5C ∷ [])) 15 1) 16 ≡ Refused UnsafeName
 unfolding named check nodesFrom nodeAt nameAt count entriesVerdict entryVerdict unended walk nameVerdict nextVerdict shut plain safe units be24 be32
 inside-a-pair = refl
 
--- ---- paths with lead bytes: `表\b` is cut once; behind 0x81 0x81 a `\` cuts; 0x81 0x2F cuts at the 0x2F; a lead byte at the end stays
+-- ---- paths with lead bytes: `表\b` is cut once, 0x81 0x5C `b` not at all; behind 0x81 0x81 a `\` cuts, and behind 0xA0 and 0xDF, which are no
+-- lead bytes; 0x81 0x2F cuts at the 0x2F; a lead byte at the end stays
 paths-cut :
     (components (0x95 ∷ 0x5C ∷ 0x5C ∷ 0x62 ∷ []) ≡ (0x95 ∷ 0x5C ∷ []) ∷ (0x62 ∷ []) ∷ []) ×
+    (components (0x81 ∷ 0x5C ∷ 0x62 ∷ []) ≡ (0x81 ∷ 0x5C ∷ 0x62 ∷ []) ∷ []) ×
     (components (0x81 ∷ 0x81 ∷ 0x5C ∷ 0x62 ∷ []) ≡ (0x81 ∷ 0x81 ∷ []) ∷ (0x62 ∷ []) ∷ []) ×
+    (components (0xA0 ∷ 0x5C ∷ 0x62 ∷ []) ≡ (0xA0 ∷ []) ∷ (0x62 ∷ []) ∷ []) ×
+    (components (0xDF ∷ 0x5C ∷ 0x62 ∷ []) ≡ (0xDF ∷ []) ∷ (0x62 ∷ []) ∷ []) ×
     (components (0x81 ∷ 0x2F ∷ 0x62 ∷ []) ≡ (0x81 ∷ []) ∷ (0x62 ∷ []) ∷ []) ×
     (components (0x62 ∷ 0x2F ∷ 0x81 ∷ []) ≡ (0x62 ∷ []) ∷ (0x81 ∷ []) ∷ [])
 unfolding components componentsOf units
-paths-cut = (refl, refl, refl, refl)
+paths-cut = (refl, refl, refl, refl, refl, refl, refl)
