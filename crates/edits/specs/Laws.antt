@@ -11,3 +11,4 @@ pub mod InsertNumber
 pub mod MakeNumber
 pub mod Names
 pub mod NoMaximum
+pub mod Orders
