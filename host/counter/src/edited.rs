@@ -4,8 +4,9 @@ use crate::args::Args;
 use crate::call::{Call, Wish};
 use crate::disc::{Disc, Kind, Node};
 use crate::json::{self, Json};
+use crate::names;
 use crate::record;
-use crate::told::notes;
+use crate::told::{lost, notes, renumbered};
 use crate::trial::Trial;
 use std::collections::{HashMap, HashSet};
 
@@ -18,7 +19,10 @@ pub fn json(args: &Args, wish: &Wish, call: &Call, before: &Disc, trial: &Trial)
         ("before", before.opened.fst_size.into()),
         ("after", after.opened.fst_size.into()),
     ]);
-    let notes = notes(call, after).into_iter().map(Json::from);
+    let notes = notes(call, before, trial, |name| names::text(name).into_bytes());
+    let notes = notes.into_iter().map(|note| String::from_utf8_lossy(&note).into_owned().into());
+    let renumbered = renumbered(call, before, trial)
+        .map(|(first, last)| Json::Object(vec![("first", first.into()), ("last", last.into())]));
     let [path, path_bytes] = match wish.path() {
         Some(path) => json::path(path),
         None => [("path", Json::Null), ("path_bytes", Json::Null)],
@@ -32,6 +36,8 @@ pub fn json(args: &Args, wish: &Wish, call: &Call, before: &Disc, trial: &Trial)
         ("written", (!args.dry && !nothing).into()),
         ("table", table),
         ("entries", Json::List(entries(before, after, filled))),
+        ("renumbered", renumbered.into()),
+        ("lost", lost(wish, call, before, trial).into()),
         ("notes", Json::List(notes.collect())),
         ("record", record::json(&trial.record, after.opened.disc_end)),
     ];

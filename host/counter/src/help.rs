@@ -202,9 +202,11 @@ const COMPARED: &str = "before after manifest passed covers_all order_changed fr
     unknown; files and folders: only those that differ, with --only-differences";
 
 const EDITED: &str = "status edit path path_bytes dry_run written table{before after} \
-    entries[number path path_bytes kind before{offset size} after{offset size}] notes[...] \
+    entries[number path path_bytes kind before{offset size} after{offset size}] \
+    renumbered{first last} lost notes[...] \
     record{used free largest_free edits}; written: whether the image was, whatever became of the \
-    FILE of --record; entries: those that are new or differ; where all paths take more than 64 MiB, path is `entry N` and \
+    FILE of --record; entries: those that are new or differ; renumbered: those that have higher numbers \
+    afterwards, or null; lost: how many bytes that the file held are gone; where all paths take more than 64 MiB, path is `entry N` and \
     path_bytes null";
 
 fn json(forms: &[Form]) -> String {
@@ -265,6 +267,12 @@ Names
     in a manifest and in the names of extracted files. Standard error, JSON, pictures and pages
     keep text. A manifest says by itself which of both it has.
   - `counter list` always has the bytes; `counter tree --paths` has every path as PATH takes it.
+  - PATH goes by case, and many games do not: of two names in a folder that differ in case only they
+    find the first. Letter by letter that is A to Z and, as pairs, the full-width Latin, the Greek and
+    the Cyrillic letters; byte by byte, as C's tolower does it, A to Z also where it is a trail byte,
+    so that 0x83 0x41 and 0x83 0x61 are one. Names that are the same in either way are told.
+  - A new name of more than 255 bytes, which `extract` can give no file, and a new path of more than
+    1,024, which no command can reach, are told too.
 ";
 
 const SAFETY: &str = "

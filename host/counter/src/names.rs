@@ -5,6 +5,7 @@
 //! nothing else in the program knows the code.
 
 use crate::text::{one_line, wide};
+use std::collections::HashMap;
 use std::env;
 use std::ffi::{CStr, OsStr, c_char, c_int, c_void};
 use std::fmt::Write;
@@ -85,6 +86,47 @@ pub fn trouble(name: &[u8], number: u32) -> Option<String> {
         }
         _ => None,
     }
+}
+
+// Without case ----------------------------------------------------------------------------
+
+/// The small letter of a capital one: ASCII's, and as pairs the full-width Latin, the Greek and the Cyrillic
+/// ones. Any other unit is its own.
+fn small(unit: &[u8]) -> Vec<u8> {
+    match *unit {
+        [byte] => vec![byte.to_ascii_lowercase()],
+        [0x82, trail @ 0x60..=0x79] => vec![0x82, trail + 0x21],
+        [0x83, trail @ 0x9F..=0xB6] => vec![0x83, trail + 0x20],
+        // Between the small ones lies 0x7F, which is no trail byte.
+        [0x84, trail @ 0x40..=0x4E] => vec![0x84, trail + 0x30],
+        [0x84, trail @ 0x4F..=0x60] => vec![0x84, trail + 0x31],
+        _ => unit.to_vec(),
+    }
+}
+
+/// A name as a game takes it that looks up without case, in either of two ways: letter by letter, or byte by
+/// byte, as C's `tolower` does it, where the trail byte of a pair becomes a small letter too.
+fn folded(name: &[u8]) -> [Vec<u8>; 2] {
+    [units(name).flat_map(small).collect(), name.to_ascii_lowercase()]
+}
+
+/// Names of the same folder that differ, and are the same to a game that looks up without case: it finds the
+/// first of them. Each name is given with its folder; of each that is not found, the place of the one that is
+/// found, and its own.
+pub fn alike<'a>(names: impl Iterator<Item = (u32, &'a [u8])>) -> Vec<(usize, usize)> {
+    let names: Vec<(u32, &[u8])> = names.collect();
+    let mut first: HashMap<(u32, usize, Vec<u8>), usize> = HashMap::new();
+    let mut found = Vec::new();
+    for (at, (folder, name)) in names.iter().enumerate() {
+        let before = folded(name).into_iter().enumerate().map(|(way, folded)| {
+            let before = *first.entry((*folder, way, folded)).or_insert(at);
+            (names[before].1 != *name).then_some(before)
+        });
+        // Both ways are looked at, so that both know the name.
+        let before: Vec<Option<usize>> = before.collect();
+        found.extend(before.into_iter().flatten().min().map(|before| (before, at)));
+    }
+    found
 }
 
 // The code --------------------------------------------------------------------------------
@@ -280,6 +322,9 @@ pub fn columns(bytes: &[u8]) -> usize {
     }
 }
 
+/// How many bytes a file's name may have (Linux's NAME_MAX).
+pub const LONGEST_FILE: usize = 255;
+
 /// A name or a path in files that others read: text, or bytes where they are kept.
 pub fn written(bytes: &[u8]) -> Vec<u8> {
     if are_raw() { bytes.to_vec() } else { text(bytes).into_bytes() }
@@ -452,6 +497,35 @@ mod tests {
             tried += 1;
         }
         assert!(tried > 50_000, "{tried}");
+    }
+
+    /// The letters of the published table (CP932.TXT of the Unicode Consortium), by their characters.
+    #[test]
+    fn names_that_differ_in_case_only_are_alike() {
+        let alike = |a: &str, b: &str| {
+            let [a, b] = [a, b].map(|name| from_text(name.as_bytes()).unwrap());
+            !super::alike([(0, &a[..]), (0, &b[..])].into_iter()).is_empty()
+        };
+        let capitals = ["ABCXYZ", "ＡＢＣＭＮＸＹＺ", "ΑΒΓΜΝΧΨΩ", "АБЕЁМНОПЭЮЯ"];
+        for name in capitals {
+            for letter in name.chars() {
+                let small = letter.to_lowercase().to_string();
+                assert!(alike(&letter.to_string(), &small), "{letter}");
+                assert!(alike(&small, &format!("{letter}")), "{letter}");
+                assert!(!alike(&small, &small), "{letter}");
+            }
+            assert!(alike(&format!("/x{name}表.bin"), &format!("/X{}表.BIN", name.to_lowercase())));
+        }
+        // ア and ヂ, 0x8341 and 0x8361: byte by byte a capital A and a small one.
+        assert!(alike("ア", "ヂ"));
+        for (a, b) in [("a", "b"), ("A", "Ａ"), ("あ", "ア"), ("ｱ", "ア"), ("А", "П"), ("a", "a.")]
+        {
+            assert!(!alike(a, b), "{a} {b}");
+        }
+        // Of one folder, the first of them; an equal name is another matter.
+        let names: [(u32, &[u8]); 7] =
+            [(0, b"a"), (1, b"A"), (0, b"b"), (0, b"A"), (0, b"a"), (1, b"a"), (0, b"B")];
+        assert_eq!(super::alike(names.into_iter()), [(0, 3), (1, 5), (2, 6)]);
     }
 
     #[test]

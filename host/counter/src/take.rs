@@ -5,7 +5,7 @@ use crate::disc::{Disc, Kind, Node, opened};
 use crate::failure::{CANNOT_CREATE, Failure, Outcome};
 use crate::image::{Desk, Image};
 use crate::json::{self, Json};
-use crate::names::{self, shown};
+use crate::names::{self, LONGEST_FILE, shown};
 use crate::out::say;
 use crate::progress::Progress;
 use crate::save::{pump, save_window};
@@ -156,7 +156,7 @@ fn plan(disc: &Disc, top: &Node, to: &Path, number_equal: bool) -> Outcome<Plan>
             places.push(place);
         }
         let place = &places[(number - top.number) as usize];
-        if place.file_name().is_some_and(|name| name.len() > LONGEST_NAME) {
+        if place.file_name().is_some_and(|name| name.len() > LONGEST_FILE) {
             return Err(too_long(node, place));
         }
         match node.kind {
@@ -183,18 +183,15 @@ fn one_file(first: &Node, second: &Node, place: &Path) -> Failure {
     Failure::error(CANNOT_CREATE, text)
 }
 
-/// How many bytes a file's name may have (Linux's NAME_MAX).
-const LONGEST_NAME: usize = 255;
-
 /// A name that no file can have. In UTF-8 a half-width katakana takes three bytes, and a pair without a
 /// character eight.
 fn too_long(node: &Node, place: &Path) -> Failure {
     let has = place.file_name().map_or(0, |name| name.len());
     let mut text = format!(
-        "{}: as a file's name it has {has} bytes, and {LONGEST_NAME} are the most; nothing was written",
+        "{}: as a file's name it has {has} bytes, and {LONGEST_FILE} are the most; nothing was written",
         names::text(&node.path)
     );
-    if !names::are_raw() && node.name.len() <= LONGEST_NAME {
+    if !names::are_raw() && node.name.len() <= LONGEST_FILE {
         text += &format!(" (with --bytes it has {})", node.name.len());
     }
     Failure::error(CANNOT_CREATE, text)

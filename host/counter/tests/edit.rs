@@ -300,6 +300,145 @@ fn mkdir_makes_all_folders_of_a_path_or_none() {
     assert_eq!(done("list", &image, &[]), Table::of(&image).listing());
 }
 
+/// Entries behind a new one have other numbers: a script that kept them is told.
+#[test]
+fn entries_behind_a_new_one_are_told_to_have_other_numbers() {
+    let temp = Temp::new();
+    let image = usual_master(&temp);
+    let before = Table::of(&image).entries;
+    let told = json("add", &image, &["audio/se/se002.dsp", "--dry-run"]);
+    let out = accepted(&image, &["add", "audio/se/se002.dsp"]);
+    let after = Table::of(&image).entries;
+    let moved: Vec<usize> =
+        (0..before.len()).filter(|&at| before[at].path != after[at].path).collect();
+    let (first, last) = (moved[0], before.len() - 1);
+    assert!(
+        out.contains(&format!("\nentries {first} to {last} have higher numbers now\n")),
+        "{out}"
+    );
+    let told = told.at("renumbered");
+    assert_eq!((told.at("first").number(), told.at("last").number()), (first as u64, last as u64));
+    // Folders too; nothing is said where nothing stands behind.
+    let out = accepted(&image, &["mkdir", "audio/x/y"]);
+    assert!(out.contains(" have higher numbers now\n"), "{out}");
+    assert_eq!(json("add", &image, &["last", "--dry-run"]).at("renumbered"), &Json::Null);
+    let out = accepted(&image, &["add", "last"]);
+    assert!(!out.contains("higher numbers"), "{out}");
+    let out = accepted(&image, &["mkdir", "text/en"]);
+    assert!(!out.contains("higher numbers"), "{out}");
+}
+
+/// A game that looks up without case finds the first of two names, letter by letter or byte by byte. The
+/// bytes of a character are those of the published table (CP932.TXT of the Unicode Consortium).
+#[test]
+fn names_that_differ_in_case_only_are_told() {
+    let temp = Temp::new();
+    let image = usual_master(&temp);
+    let note = |hidden: &str, found: &str| {
+        format!("{hidden}: a game that looks up without case finds {found} in its place")
+    };
+    let cases: [(&[&str], &[(&str, &str)]); 8] = [
+        (&["add", "/OPENING.bnr"], &[("/OPENING.bnr", "/opening.bnr")]),
+        (&["add", "/audio/Theme.adp"], &[("/audio/Theme.adp", "/audio/theme.adp")]),
+        // A folder and a file; the folders on the way too, but not what is in the new one.
+        (&["add", "/Movie"], &[("/Movie", "/movie/")]),
+        (&["mkdir", "/Text/EN/x"], &[("/Text/", "/text/")]),
+        (&["mkdir", "/text/Ｗ/Я"], &[]),
+        (&["mkdir", "/text/ｗ/я"], &[("/text/ｗ/", "/text/Ｗ/")]),
+        // 0x8341 and 0x8361: byte by byte a capital letter and a small one.
+        (&["add", "/empty/ア"], &[]),
+        (&["add", "/empty/ヂ"], &[("/empty/ヂ", "/empty/ア")]),
+    ];
+    for (args, wanted) in cases {
+        let told = json(args[0], &image, &[args[1], "--dry-run"]);
+        let told: Vec<&str> = told.at("notes").list().iter().map(Json::text).collect();
+        let wanted: Vec<String> = wanted.iter().map(|(a, b)| note(a, b)).collect();
+        assert_eq!(told, wanted, "{args:?}");
+        let out = accepted(&image, args);
+        let lines: Vec<&str> = out.lines().filter_map(|line| line.strip_prefix("note: ")).collect();
+        assert_eq!(lines, wanted, "{args:?}");
+    }
+    // In the image's bytes where these are wanted.
+    let run = on("mkdir", &image, &["/TEXT", "--dry-run", "--bytes"]);
+    assert!(run.out.contains("note: /TEXT/: a game "), "{}", run.out);
+}
+
+/// A name that no file outside can have, and a path that no command takes.
+#[test]
+fn names_and_paths_that_are_too_long_are_told() {
+    let temp = Temp::new();
+    let image = usual_master(&temp);
+    let notes = |args: &[&str]| {
+        let out = accepted(&image, args);
+        let notes = out.lines().filter_map(|line| line.strip_prefix("note: "));
+        let notes = notes.map(|note| note.rsplit(": the ").next().unwrap().to_string());
+        notes.collect::<Vec<_>>()
+    };
+    let name = "the name has 256 bytes, and a file's at most 255: `extract` refuses it";
+    assert_eq!(notes(&["add", &"x".repeat(255)]), [""; 0]);
+    assert_eq!(notes(&["add", &"y".repeat(256)]), [name[4..].to_string()]);
+    assert_eq!(notes(&["mkdir", &"z".repeat(256)]), [name[4..].to_string()]);
+    // Half-width katakana have three bytes each in UTF-8.
+    assert_eq!(notes(&["add", &"ｱ".repeat(85)]), [""; 0]);
+    let long = "name has 258 bytes in UTF-8, and a file's at most 255: `extract` refuses it without --bytes";
+    assert_eq!(notes(&["add", &"ｱ".repeat(86)]), [long]);
+    // Folders of 204 bytes each: 1,019 bytes and a / for the fifth.
+    let deep = vec!["d".repeat(203); 5].join("/");
+    assert_eq!(notes(&["mkdir", &deep]), [""; 0]);
+    assert_eq!(notes(&["add", &format!("{deep}/abc")]), [""; 0]);
+    done("find", &image, &[&format!("/{deep}/abc")]);
+    let longest = format!("{deep}/abcd");
+    assert_eq!(
+        notes(&["add", &longest]),
+        ["path is at its longest: it is taken without its first / alone"]
+    );
+    done("find", &image, &[&longest]);
+    refused(&image, &["resize", &format!("/{longest}"), "1"], 9);
+    assert_eq!(
+        notes(&["add", &format!("{deep}/abcde")]),
+        ["path has 1,025 bytes, and PATH at most 1,024: no command can reach it"]
+    );
+    refused(&image, &["resize", &format!("{deep}/abcde"), "1"], 9);
+}
+
+/// What a shrink or a fill takes is told before it is done.
+#[test]
+fn bytes_that_are_lost_are_told() {
+    let temp = Temp::new();
+    let image = usual_master(&temp);
+    let clip = temp.write("clip", b"new");
+    let clip = clip.to_str().unwrap();
+    let cases: [(&[&str], u64, &str); 7] = [
+        (&["resize", "opening.bnr", "0x1960"], 0, ""),
+        (&["resize", "opening.bnr", "0x1961"], 0, ""),
+        (
+            &["resize", "opening.bnr", "0x1960"],
+            1,
+            "lost: 1 byte at its end; zeros are in their place",
+        ),
+        (
+            &["resize", "opening.bnr", "96"],
+            6400,
+            "lost: 6,400 bytes at its end; zeros are in their place",
+        ),
+        (
+            &["fill", "opening.bnr", clip],
+            96,
+            "lost: the 96 bytes that it held; the clip is in their place",
+        ),
+        (&["fill", "opening.bnr", clip], 0, ""),
+        (&["fill", "audio/silence.adp", clip], 0, ""),
+    ];
+    for (args, lost, words) in cases {
+        let told = json(args[0], &image, &[&args[1..], &["--dry-run"]].concat());
+        assert_eq!(told.at("lost").number(), lost, "{args:?}");
+        let out = accepted(&image, args);
+        let lines: Vec<&str> = out.lines().filter(|line| line.starts_with("lost: ")).collect();
+        assert_eq!(lines.join(""), words, "{args:?}");
+    }
+    assert_eq!(json("move", &image, &["opening.bnr", "auto"]).at("lost").number(), 0);
+}
+
 // Files that cannot be edited -------------------------------------------------------------
 
 #[test]
