@@ -125,7 +125,7 @@ fn check_used(image: &[u8], words: &mut [u32], program: DiscRegion) -> Prepared
     let end = header::disc_end(image) as u32;
     let count = endian::read_u32(image, from + 8) as usize;
     let m = collect(&image[from..to], words, count, to as u32, program);
-    let verdict = space::check_regions(words, count + 2, m, end);
+    let verdict = space_check::check_regions(words, count + 2, m, end);
     match verdict {
         Verdict::Passed => Prepared::Ready(m),
         Verdict::Refused(cause) => Prepared::Refused(cause),
