@@ -3,6 +3,7 @@
 
 use crate::failure::{Failure, Outcome};
 use crate::names;
+use crate::text::number;
 use std::ffi::{OsStr, OsString};
 use std::os::unix::ffi::OsStringExt;
 use std::path::PathBuf;
@@ -96,6 +97,22 @@ const SIZE: Operand = needed(
 );
 const CLIP: Operand =
     needed("CLIP", Value::File, "the new bytes, a file of the system, or `-`: standard input");
+const FROM: Flag = Flag {
+    name: "--from",
+    value: Some(("OTHER[:PATH]", Value::File)),
+    words: "takes the new bytes out of the image OTHER, in the place of CLIP: its file at PATH, or at the same \
+            path as in IMAGE",
+};
+const CLIP_SIZE: Flag = Flag {
+    name: "--size",
+    value: Some(("N", Value::Number)),
+    words: "how many bytes are expected; a clip that has more or fewer is not taken (65)",
+};
+const EMPTY: Flag = Flag {
+    name: "--empty",
+    value: None,
+    words: "lets a clip of no bytes pass, which empties the file",
+};
 const ALIGN: Operand = Operand {
     name: "ALIGN",
     value: Value::Number,
@@ -384,16 +401,22 @@ pub const FORMS: &[Form] = &[
          place on a multiple of 0x8000; new bytes are what the free space held",
         &["counter resize disc.iso /text/en/msg.bin 8K"],
     ),
-    edit(
-        "fill",
-        &[&IMAGE, &PATH, &CLIP],
-        "makes the file at PATH exactly the bytes of CLIP; what cannot grow where it lies goes to the \
-         largest free place on a multiple of 0x8000",
-        &[
-            "counter fill disc.iso /text/en/msg.bin msg.bin",
-            "counter cat before.iso /text/fr/msg.bin | counter fill disc.iso /text/fr/msg.bin -",
-        ],
-    ),
+    Form {
+        flags: &[&FROM, &CLIP_SIZE, &EMPTY, &RECORD, &DRY, &BYTES, &JSON, &WAIT],
+        more: FILL,
+        ..edit(
+            "fill",
+            &[&IMAGE, &PATH, &CLIP],
+            "makes the file at PATH exactly the bytes of CLIP; what cannot grow where it lies goes to the \
+             largest free place on a multiple of 0x8000",
+            &[
+                "counter fill disc.iso /text/en/msg.bin msg.bin",
+                "counter fill disc.iso /text/fr/msg.bin --from before.iso",
+                "counter fill disc.iso /text/en/msg.bin --from before.iso:/text/fr/msg.bin",
+                "counter cat before.iso /text/fr/msg.bin | counter fill disc.iso /text/fr/msg.bin - --size 4661",
+            ],
+        )
+    },
     Form {
         flags: &[&RECORD, &DRY, &JSON, &WAIT],
         ..edit(
@@ -440,6 +463,14 @@ If used bytes or largest free region in FILE are not the image's, somebody edite
 another image's: the edit is not begun (65). Then make a new record with --force, or take FILE away. An edit \
 without FILE that left both numbers as they were is not noticed, and not counted. An edit after the \
 4,294,967,295th is refused (25).";
+
+const FILL: &str = "\
+A clip of no bytes is not taken (65), from whatever source, unless --empty or --size 0 says that it is meant: \
+behind a | it most likely says that the command before it failed. Where that one is cut short, only --size can \
+tell. So rather take a file out of another image with --from than through a |.
+OTHER is read like any image: one that does not open is refused with its number, one with a journal is 78, and it \
+may not be IMAGE itself (64). What follows the last : is PATH, unless a file has the whole name. A CLIP by the \
+name of a journal or of a clip that is kept is not taken (64): the edit would take it away.";
 
 const COMPARE: &str = "\
 LIST is a text file in UTF-8, one path a line as PATH is given; a line that ends in / stands for that folder and all in it. / \
@@ -495,10 +526,16 @@ pub struct Args {
     pub number: bool,
     pub clusters: bool,
     pub paths: bool,
+    /// An empty clip is meant.
+    pub empty: bool,
+    /// How many bytes a clip is to have.
+    pub size: Option<u32>,
     /// Names are the image's bytes.
     pub raw: bool,
     demo: bool,
     pub given: Vec<PathBuf>,
+    /// The other image, and behind a `:` a path in it.
+    pub from: Option<PathBuf>,
     pub record: Option<PathBuf>,
     pub out: Option<PathBuf>,
     pub map: Option<PathBuf>,
@@ -542,9 +579,12 @@ impl Args {
             number: false,
             clusters: false,
             paths: false,
+            empty: false,
+            size: None,
             raw: false,
             demo: false,
             given: Vec::new(),
+            from: None,
             record: None,
             out: None,
             map: None,
@@ -579,10 +619,12 @@ impl Args {
         if flag.value.is_none() && value.is_some() {
             return Err(Failure::usage(format!("{name} takes no value")));
         }
-        let mut file = || match value.clone().or_else(|| rest.next()) {
-            Some(file) => Ok(PathBuf::from(file)),
-            None => Err(Failure::usage(format!("{name} wants the name of a file"))),
+        let mut given = |what| match value.clone().or_else(|| rest.next()) {
+            Some(given) => Ok(given),
+            None => Err(Failure::usage(format!("{name} wants {what}"))),
         };
+        let mut file = || given("the name of a file").map(PathBuf::from);
+        let twice = || Failure::usage(format!("{name} is given twice"));
         match name {
             "--json" => self.json = true,
             "--wait" => self.wait = true,
@@ -599,10 +641,16 @@ impl Args {
             "--bytes" => self.raw = true,
             "--demo" => self.demo = true,
             "--given" => self.given.push(file()?),
-            "--record" if self.record.is_some() => {
-                return Err(Failure::usage("--record is given twice"));
-            }
+            "--record" if self.record.is_some() => return Err(twice()),
             "--record" => self.record = Some(file()?),
+            "--from" if self.from.is_some() => return Err(twice()),
+            "--from" => self.from = Some(file()?),
+            "--size" if self.size.is_some() => return Err(twice()),
+            "--size" => {
+                let given = given("a number of bytes")?.into_vec();
+                self.size = Some(number(&given).map_err(Failure::usage)?);
+            }
+            "--empty" => self.empty = true,
             "--map" => self.map = Some(file()?),
             _ => self.out = Some(file()?),
         }
@@ -611,7 +659,8 @@ impl Args {
 
     /// Takes the image from the operands, and holds their number to the command's.
     fn place_operands(&mut self, bare: bool) -> Outcome<()> {
-        let left_out = usize::from(self.all) + usize::from(self.demo);
+        let left_out =
+            [self.all, self.demo, self.from.is_some()].map(usize::from).iter().sum::<usize>();
         let most = self.form.operands.len() - left_out;
         let least = self.form.operands.iter().filter(|operand| operand.needed).count() - left_out;
         let got = self.operands.len();
@@ -652,6 +701,7 @@ impl Form {
             let instead = match (self.name, operand.name) {
                 ("extract", "PATH") => "PATH|--all",
                 ("map", "IMAGE") => "IMAGE|--demo",
+                ("fill", "CLIP") => "CLIP|--from OTHER[:PATH]",
                 (_, name) => name,
             };
             out.push_str(&match operand.needed {
@@ -659,7 +709,8 @@ impl Form {
                 false => format!(" [{instead}]"),
             });
         }
-        for flag in self.flags.iter().filter(|flag| !["--all", "--demo"].contains(&flag.name)) {
+        let told = ["--all", "--demo", "--from"];
+        for flag in self.flags.iter().filter(|flag| !told.contains(&flag.name)) {
             out.push_str(&match flag.value {
                 Some((value, _)) => format!(" [{} {value}]", flag.name),
                 None => format!(" [{}]", flag.name),

@@ -32,7 +32,11 @@ impl Wish {
             "move" if args.bytes(1) == b"auto" => Wish::MoveAway(args.entry(0)?),
             "move" => Wish::Move(args.entry(0)?, wanted()?),
             "resize" => Wish::Resize(args.entry(0)?, wanted()?),
-            "fill" => Wish::Fill(args.entry(0)?, Clip::open(&args.path(1), image)?),
+            "fill" => {
+                let path = args.entry(0)?;
+                let clip = Clip::open(args, &path, image)?;
+                Wish::Fill(path, clip)
+            }
             _ => Wish::Rewrite,
         })
     }

@@ -1,19 +1,24 @@
-//! The clip of a fill: given bytes, from a file or from standard input. It is read before the image is
-//! locked, so whoever is waited for keeps nobody out.
+//! The clip of a fill: given bytes, from a file, from standard input or out of another image. It is read
+//! before the image is locked, so whoever is waited for keeps nobody out.
 
+use crate::args::Args;
+use crate::disc::{no_path, not_opened};
 use crate::disk::{self, On, PART, parts};
-use crate::failure::{CANNOT_CREATE, Failure, INPUT_OUTPUT, NO_INPUT, Outcome};
-use crate::image::{cannot_open, regular, same_file};
+use crate::failure::{CANNOT_CREATE, DATA, Failure, INPUT_OUTPUT, NO_INPUT, Outcome};
+use crate::image::{Desk, Image, cannot_open, regular, same_file};
 use crate::journal;
 use crate::names;
 use crate::os::{self, Mapping};
 use crate::progress::Progress;
-use crate::text::{grouped, one_line};
+use crate::text::{counted, grouped, one_line};
+use counter_sys as counter;
+use std::ffi::OsStr;
 use std::fs::{self, File, Metadata};
 use std::io::{self, Read, Seek};
 use std::os::fd::AsFd;
+use std::os::unix::ffi::OsStrExt;
 use std::os::unix::fs::FileExt;
-use std::path::Path;
+use std::path::{Path, PathBuf};
 
 /// The longest clip that a file can hold.
 const LONGEST: u64 = u32::MAX as u64;
@@ -31,11 +36,26 @@ pub struct Clip {
 }
 
 impl Clip {
-    /// The file at `path`, or standard input for `-`. The image cannot be filled with itself.
-    pub fn open(path: &Path, image: &Path) -> Outcome<Clip> {
-        let image = regular(image, fs::metadata(image))?;
+    /// The clip that the command line names, for the file at `entry` of the image. One of no bytes must be
+    /// meant, and one of another length than is expected is not taken.
+    pub fn open(args: &Args, entry: &[u8], image: &Path) -> Outcome<Clip> {
+        let clip = match &args.from {
+            Some(from) => Clip::out_of(from, entry, image)?,
+            None => Clip::read(&args.path(1), image)?,
+        };
+        let why = match args.size {
+            Some(size) if clip.has(size.into()) => return Ok(clip),
+            Some(size) => format!("--size says {}", grouped(size.into())),
+            None if clip.len > 0 || args.empty => return Ok(clip),
+            None => clip.why_empty(),
+        };
+        Err(not_begun(&clip.words(), DATA, &why))
+    }
+
+    /// The file at `path`, or standard input for `-`.
+    fn read(path: &Path, image: &Path) -> Outcome<Clip> {
         let (name, file) = match path.as_os_str() == "-" {
-            true => ("standard input".into(), io::stdin().as_fd().try_clone_to_owned()),
+            true => (STANDARD_INPUT.into(), io::stdin().as_fd().try_clone_to_owned()),
             false => (one_line(&names::file(path)), File::open(path).map(Into::into)),
         };
         let failed = |e: io::Error| cannot_open(Path::new(&name), &e);
@@ -44,14 +64,47 @@ impl Clip {
         if told.is_dir() {
             return Err(Failure::error(NO_INPUT, format!("{name}: a folder, not a clip")));
         }
-        if same_file(&told, &image) {
-            return Err(Failure::usage(format!("{name}: the image cannot be filled with itself")));
-        }
-        let most = image.len().min(LONGEST);
+        let most = may_be_used(&name, path, &told, image)?.len().min(LONGEST);
         let (file, start, len, goes_on) = measured(file, &told, most).map_err(failed)?;
+        Clip::of(name, file, start, len, goes_on)
+    }
+
+    /// A file of another image, which nobody edits as long as the clip is in use.
+    fn out_of(from: &Path, entry: &[u8], image: &Path) -> Outcome<Clip> {
+        let (path, entry) = other(from, entry)?;
+        let name = one_line(&format!("{}:{}", names::file(&path), names::text(&entry)));
+        may_be_used(&name, &path, &regular(&path, fs::metadata(&path))?, image)?;
+        let other = Image::read(Some(&path))?;
+        let mut desk = Desk::new();
+        let failed = |e: io::Error| cannot_open(&path, &e);
+        counter::open(other.bytes(), &mut desk.lend()).map_err(|n| not_opened(&other, n))?;
+        let window = counter::lookup(other.bytes(), &mut desk.lend(), 0, &entry)
+            .and_then(|found| counter::open_file(other.bytes(), &mut desk.lend(), found.number()))
+            .map_err(|number| no_path(number, &entry).about(&name))?;
+        // It has the lock of the other image, and gives it back with the last of both.
+        let file = other.file().ok_or_else(|| failed(io::ErrorKind::NotFound.into()))?;
+        let file = file.try_clone().map_err(failed)?;
+        Clip::of(name, file, window.start, window.length, false)
+    }
+
+    fn of(name: String, file: File, start: u64, len: u64, goes_on: bool) -> Outcome<Clip> {
         // Above the longest one as many bytes more as there may be make no difference.
-        let zeros = Mapping::zeros(len.min(LONGEST + 1) as usize).map_err(failed)?;
+        let zeros = Mapping::zeros(len.min(LONGEST + 1) as usize)
+            .map_err(|e| cannot_open(Path::new(&name), &e))?;
         Ok(Clip { name, file, start, len, goes_on, zeros })
+    }
+
+    /// Whether it can have so many bytes.
+    fn has(&self, size: u64) -> bool {
+        self.len == size || self.goes_on && size > self.len
+    }
+
+    fn why_empty(&self) -> String {
+        let pipe = match self.name == STANDARD_INPUT {
+            true => " (did the command before the | fail?)",
+            false => "",
+        };
+        format!("the clip is empty{pipe}; --empty says that this is meant")
     }
 
     /// What is told of its file.
@@ -64,7 +117,7 @@ impl Clip {
             true => ("more than ", self.len - 1),
             false => ("", self.len),
         };
-        format!("{} ({more}{} bytes)", self.name, grouped(len))
+        format!("{} ({more}{})", self.name, counted(len as usize, "byte", "bytes"))
     }
 
     /// As many zeros: what an edit is tried with, since the library never looks at the clip.
@@ -107,6 +160,37 @@ impl Clip {
             let _ = fs::remove_file(&path);
             failed(INPUT_OUTPUT, &e)
         })
+    }
+}
+
+/// How standard input is called.
+const STANDARD_INPUT: &str = "standard input";
+
+/// That the file has no other use in the edit; the answer is what is told of the image. The image cannot be
+/// filled with itself, and a clip that is kept goes when the edit begins.
+fn may_be_used(name: &str, path: &Path, told: &Metadata, image: &Path) -> Outcome<Metadata> {
+    let target = regular(image, fs::metadata(image))?;
+    if same_file(told, &target) {
+        return Err(Failure::usage(format!("{name}: the image cannot be filled with itself")));
+    }
+    let image = fs::canonicalize(image).unwrap_or(image.to_path_buf());
+    let beside = [journal::beside(&image), journal::clip_beside(&image)];
+    let is = |other: &PathBuf| fs::metadata(other).is_ok_and(|other| same_file(&other, told));
+    match journal::is_ours(path) || beside.iter().any(is) {
+        true => Err(Failure::usage(format!("{name}: this is {}; give it another", journal::OURS))),
+        false => Ok(target),
+    }
+}
+
+/// The other image, and the path in it: no name in an image has a `:`, and one of the system may.
+fn other(from: &Path, entry: &[u8]) -> Outcome<(PathBuf, Vec<u8>)> {
+    let bytes = from.as_os_str().as_bytes();
+    match bytes.iter().rposition(|&b| b == b':') {
+        Some(at) if fs::symlink_metadata(from).is_err() => {
+            let entry = names::taken(&bytes[at + 1..]).map_err(Failure::usage)?;
+            Ok((PathBuf::from(OsStr::from_bytes(&bytes[..at])), entry))
+        }
+        _ => Ok((from.to_path_buf(), entry.to_vec())),
     }
 }
 

@@ -105,6 +105,16 @@ impl Failure {
         }
     }
 
+    /// The same refusal of something that is called otherwise.
+    pub fn about(self, what: &str) -> Failure {
+        match self {
+            Failure::Refused { number, detail, above, .. } => {
+                Failure::Refused { number, what: what.into(), detail, above }
+            }
+            other => other,
+        }
+    }
+
     /// The same refusal with the table's sizes.
     pub fn above(self, above: Above) -> Failure {
         match self {

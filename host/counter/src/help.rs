@@ -330,11 +330,13 @@ fn statuses() -> String {
     }
     out.push_str(
         "  64  wrong usage; a PATH that is no UTF-8, or has a character that Shift-JIS does not have;\n\
-         \x20     --record: a FILE that is the image, a clip, a journal, a folder or a special file\n\
+         \x20     --record: a FILE that is the image, a clip, a journal, a folder or a special file;\n\
+         \x20     fill: a clip that is the image, a journal or a clip that is kept\n\
          \x20 65  compare, report: an image too short for a header, a LIST or a manifest that is wrong;\n\
          \x20     a command that shows every path: more than 64 MiB of them;\n\
          \x20     --record: a FILE that is torn or no record, or whose used bytes or largest free region\n\
-         \x20     are not the image's\n\
+         \x20     are not the image's;\n\
+         \x20     fill: a clip of no bytes without --empty, or of other than --size bytes\n\
          \x20 66  no such image or clip, or a folder in its place, or a special file in the image's\n\
          \x20 70  the library answered what it never should\n\
          \x20 73  an output, a journal, a clip that is kept or a record cannot be created, or is there already;\n\

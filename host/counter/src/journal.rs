@@ -9,7 +9,7 @@
 use crate::change::{Change, HEADER};
 use crate::disk::{self, On};
 use crate::sum;
-use std::ffi::{OsStr, OsString};
+use std::ffi::OsString;
 use std::fs::{self, File, Metadata};
 use std::io;
 use std::ops::Range;
@@ -88,11 +88,18 @@ pub fn clip_beside(path: &Path) -> PathBuf {
     with(path, ".counter-clip")
 }
 
-/// Whether a file of this name can be the journal or the clip of an image.
-pub fn is_ours(name: &OsStr) -> bool {
+/// Whether a file of this name, or the one that it leads to, can be the journal or the clip of an image.
+pub fn is_ours(path: &Path) -> bool {
     let ends = [".counter-journal", ".counter-journal.new", ".counter-clip"];
-    ends.iter().any(|end| name.as_bytes().ends_with(end.as_bytes()))
+    let ours = |path: &Path| {
+        let name = path.file_name().unwrap_or_default().as_bytes();
+        ends.iter().any(|end| name.ends_with(end.as_bytes()))
+    };
+    ours(path) || fs::canonicalize(path).is_ok_and(|path| ours(&path))
 }
+
+/// What is said of it.
+pub const OURS: &str = "a name that a journal has, or a clip that is kept";
 
 fn with(path: &Path, end: &str) -> PathBuf {
     let mut name = path.as_os_str().to_os_string();

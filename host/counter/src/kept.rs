@@ -37,9 +37,7 @@ pub fn place(args: &Args, clip: Option<Metadata>) -> Outcome<Option<PathBuf>> {
         Some(told) if !told.is_file() => "a special file",
         _ if is(image) => "the image",
         _ if is(clip) => "the clip",
-        _ if [file, &place].iter().any(|path| path.file_name().is_some_and(journal::is_ours)) => {
-            "a name that a journal has, or a clip that is kept"
-        }
+        _ if journal::is_ours(file) => journal::OURS,
         _ => return Ok(Some(place)),
     };
     Err(Failure::usage(format!(

@@ -109,15 +109,19 @@ fn subjects() -> String {
     commands().into_iter().chain(subjects).collect::<Vec<_>>().join(" ")
 }
 
-/// Options that take a value, between `|`.
-fn valued() -> String {
+/// Options that take such a value, between `|`.
+fn valued(fit: impl Fn(Value) -> bool) -> String {
     let mut found: Vec<&str> = Vec::new();
-    for flag in FORMS.iter().flat_map(|form| form.flags).filter(|flag| flag.value.is_some()) {
-        if !found.contains(&flag.name) {
+    for flag in FORMS.iter().flat_map(|form| form.flags) {
+        if flag.value.is_some_and(|(_, value)| fit(value)) && !found.contains(&flag.name) {
             found.push(flag.name);
         }
     }
     found.join("|")
+}
+
+fn is_file(value: Value) -> bool {
+    kind(value) == "file"
 }
 
 /// The paths of an image, as they are typed.
@@ -134,7 +138,7 @@ fn bash() -> String {
             kinds(form)
         );
     }
-    let (valued, subjects) = (valued(), subjects());
+    let (valued, filed, subjects) = (valued(|_| true), valued(is_file), subjects());
     let commands = commands().join(" ");
     format!(
         r#"# bash completion for counter; made by `counter help bash`
@@ -150,11 +154,12 @@ _counter() {{
 {cases}        help) COMPREPLY=($(compgen -W '{subjects}' -- "$cur")); return ;;
         *) return ;;
     esac
-    if [[ $prev == @({valued}) ]]; then
+    if [[ $prev == @({filed}) ]]; then
         compopt -o filenames
         mapfile -t COMPREPLY < <(compgen -f -- "$cur")
         return
     fi
+    [[ $prev == @({valued}) ]] && return
     if [[ $cur == -* ]]; then
         COMPREPLY=($(compgen -W "$options" -- "$cur"))
         return
@@ -256,7 +261,7 @@ fn fish() -> String {
     for form in FORMS {
         let _ = writeln!(out, "        case {}\n            set kinds {}", form.name, kinds(form));
     }
-    let valued = valued().replace('|', " ");
+    let valued = valued(|_| true).replace('|', " ");
     let _ = write!(
         out,
         "    end\n    set -l n 1\n    set -l skip 0\n    for word in $words[3..-1]\n        if test $skip = 1\n\
@@ -287,7 +292,11 @@ fn fish() -> String {
     );
     for form in FORMS {
         for flag in form.flags {
-            let value = if flag.value.is_some() { " -r -F" } else { "" };
+            let value = match flag.value {
+                Some((_, value)) if is_file(value) => " -r -F",
+                Some(_) => " -x",
+                None => "",
+            };
             let _ = writeln!(
                 out,
                 "complete -c counter -n '__fish_seen_subcommand_from {}' -l {}{value} -d {}",

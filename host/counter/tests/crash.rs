@@ -442,7 +442,7 @@ fn cut_fill(before: Vec<u8>, path: &str, len: usize, seed: u64) {
     let bytes = clip(len, seed as u32);
     let given = bench.clip(&bytes);
     let image = bench.image.clone();
-    let bench = cut_on(bench, &["fill", path, &given], seed);
+    let bench = cut_on(bench, &["fill", path, &given, "--empty"], seed);
     fs::write(&image, &bench.after).unwrap();
     let entry = Table::of(&image).entry(&format!("/{path}")).clone();
     assert!(span(&image, entry.offset.into(), entry.size.into()) == bytes, "{path}");
@@ -693,7 +693,7 @@ fn any_edit(image: &Path, turn: u32, given: String, random: &mut Random) -> Vec<
         4 => vec!["resize".into(), file.path.clone(), (file.size / 2).to_string()],
         5 => vec!["move".into(), file.path.clone(), table.table_end.to_string()],
         6 => vec!["move".into(), file.path.clone(), behind.to_string()],
-        7..=8 => vec!["fill".into(), file.path.clone(), given],
+        7..=8 => vec!["fill".into(), file.path.clone(), given, "--empty".into()],
         _ => vec!["move".into(), file.path.clone(), random.below(END as usize).to_string()],
     };
     words

@@ -14,7 +14,7 @@ fn fill(image: &Path, path: &str, bytes: &[u8]) -> String {
     let wanted = filled(image, path, bytes);
     let clip = image.with_extension("clip");
     fs::write(&clip, bytes).unwrap();
-    let out = accepted(image, &["fill", path, clip.to_str().unwrap()]);
+    let out = accepted(image, &["fill", path, clip.to_str().unwrap(), "--empty"]);
     assert!(fs::read(image).unwrap() == wanted, "{path}, {} bytes: {out}", bytes.len());
     assert!(on("cat", image, &[path]).bytes == bytes, "{path}");
     assert_eq!(done("list", image, &[]), Table::of(image).listing());
@@ -137,13 +137,13 @@ fn extract_and_fill_undo_each_other() {
         Table::of(&image).entries.into_iter().filter(|entry| !entry.folder).collect();
     for entry in &files {
         let file = out.join(&entry.path[1..]);
-        done("fill", &image, &[&entry.path, file.to_str().unwrap()]);
+        done("fill", &image, &[&entry.path, file.to_str().unwrap(), "--empty"]);
         assert!(fs::read(&image).unwrap() == before, "{}", entry.path);
         // Other bytes, and back.
         let other = temp.write("other", &clip(entry.size as usize, entry.offset));
-        done("fill", &image, &[&entry.path, other.to_str().unwrap()]);
+        done("fill", &image, &[&entry.path, other.to_str().unwrap(), "--empty"]);
         assert_eq!(fs::read(&image).unwrap() == before, entry.size == 0, "{}", entry.path);
-        done("fill", &image, &[&entry.path, file.to_str().unwrap()]);
+        done("fill", &image, &[&entry.path, file.to_str().unwrap(), "--empty"]);
         assert!(fs::read(&image).unwrap() == before, "{}", entry.path);
     }
     for (i, entry) in files.iter().enumerate() {
@@ -223,11 +223,236 @@ fn a_clip_from_standard_input() {
     let wanted = filled(&image, path, &bytes[0x123..]);
     assert_eq!(fill_from(&image, path, &[], file).status, 0);
     assert!(fs::read(&image).unwrap() == wanted);
-    // Nothing at all is an empty clip.
+    // Nothing at all is an empty clip, which is to be meant.
     let wanted = filled(&image, path, &[]);
-    assert_eq!(fill_from(&image, path, &[], Stdio::null()).status, 0);
+    assert_eq!(fill_from(&image, path, &["--empty"], Stdio::null()).status, 0);
     assert!(fs::read(&image).unwrap() == wanted);
     assert!(!journal_of(&image).exists() && !clip_of(&image).exists());
+}
+
+/// Runs a line of the shell in the folder, with the program on its way.
+fn shell(temp: &Temp, line: &str) -> Run {
+    let program = Path::new(env!("CARGO_BIN_EXE_counter")).parent().unwrap();
+    let path = format!("{}:{}", program.display(), std::env::var("PATH").unwrap());
+    let mut command = std::process::Command::new("bash");
+    command.args(["-c", line]).current_dir(temp.at("")).env("PATH", path);
+    command.env("LC_ALL", "C.UTF-8").output().unwrap().into()
+}
+
+/// What stands before a `|` can fail or be cut short, and a clip can be missing in other ways: the file of the
+/// only copy is left as it is.
+#[test]
+fn an_empty_clip_is_not_taken_unless_it_is_meant() {
+    let temp = Temp::new();
+    let image = usual_master(&temp);
+    temp.write("nothing", b"");
+    temp.write("short", &clip(0x1000, 20));
+    temp.write("none.iso", b"no image");
+    let before = State::of(&image);
+    let lines = [
+        "counter cat usual.iso /no/such | counter fill usual.iso /text/en/msg.bin -",
+        "counter cat none.iso /text/en/msg.bin | counter fill usual.iso /text/en/msg.bin -",
+        "counter fill usual.iso /text/en/msg.bin - </dev/null",
+        "counter fill usual.iso /text/en/msg.bin - <&-",
+        "counter fill usual.iso /text/en/msg.bin - <nothing",
+        "counter fill usual.iso /text/en/msg.bin nothing",
+        "counter fill usual.iso /text/en/msg.bin /dev/null",
+        "counter fill usual.iso /text/en/msg.bin nothing --size 1",
+        "counter fill usual.iso /text/en/msg.bin nothing --size 1 --empty",
+        "counter fill usual.iso /text/en/msg.bin --from usual2.iso:/audio/silence.adp",
+        "mkfifo pipe; true > pipe & counter fill usual.iso /text/en/msg.bin pipe",
+        // Whatever is read to its end before.
+        "exec <short; cat >/dev/null; counter fill usual.iso /text/en/msg.bin -",
+        // An empty one too: who filled a file that was just added takes it for done.
+        "counter fill usual.iso /audio/silence.adp - </dev/null",
+    ];
+    fs::copy(&image, temp.at("usual2.iso")).unwrap();
+    for line in lines {
+        for more in ["", " --dry-run", " --json"] {
+            let run = shell(&temp, &format!("rm -f pipe; {line}{more}"));
+            assert_eq!(run.status, 65, "{line}{more}: {}{}", run.out, run.err);
+            let words =
+                if line.contains("--size") { "--size says 1;" } else { "the clip is empty" };
+            assert!(run.err.contains(words), "{line}: {}", run.err);
+            assert!(run.err.ends_with("; nothing was written\n"), "{line}: {}", run.err);
+            assert_eq!(run.out.is_empty(), more != " --json", "{line}: {}", run.out);
+            assert_eq!(State::of(&image), before, "{line}");
+        }
+    }
+    let run = shell(&temp, "counter fill usual.iso /text/en/msg.bin - </dev/null");
+    assert!(run.err.contains("did the command before the | fail?"), "{}", run.err);
+    assert!(!journal_of(&image).exists() && !clip_of(&image).exists());
+    for meant in ["--empty", "--size 0", "--size=0 --empty"] {
+        fs::copy(temp.at("usual2.iso"), &image).unwrap();
+        let wanted = filled(&image, "/text/en/msg.bin", &[]);
+        let line = format!("counter fill usual.iso /text/en/msg.bin {meant} - </dev/null");
+        let run = shell(&temp, &line);
+        assert_eq!(run.status, 0, "{line}: {}", run.err);
+        assert!(fs::read(&image).unwrap() == wanted, "{line}");
+        // Another time there is nothing to be written.
+        assert!(shell(&temp, &line).out.ends_with("done: there was nothing to write\n"), "{line}");
+    }
+}
+
+/// A clip is held to the number of bytes that is expected, from wherever it comes.
+#[test]
+fn the_number_of_bytes_that_is_expected_is_held_to() {
+    let temp = Temp::new();
+    let image = usual_master(&temp);
+    fs::copy(&image, temp.at("other.iso")).unwrap();
+    temp.write("given", &clip(0x1234, 21));
+    let sources = [
+        ("given", "given", 0x1234),
+        ("- <given", "standard input", 0x1234),
+        ("- < <(cat given)", "standard input", 0x1234),
+        ("--from other.iso:/text/fr/msg.bin", "other.iso:/text/fr/msg.bin", 0x1235),
+    ];
+    for (source, name, len) in sources {
+        let before = State::of(&image);
+        for (size, more) in [(len - 1, ""), (len + 1, "--dry-run"), (0, ""), (u32::MAX, "--empty")]
+        {
+            let line =
+                format!("counter fill usual.iso /text/en/msg.bin --size {size} {more} {source}");
+            let run = shell(&temp, &line);
+            assert_eq!(run.status, 65, "{line}: {}", run.err);
+            let [has, says] = [len, size].map(|n| grouped(n.into()));
+            let words = format!("{name} ({has} bytes): --size says {says}; nothing was written");
+            assert!(run.err.contains(&words), "{line}: {}", run.err);
+        }
+        assert_eq!(State::of(&image), before, "{source}");
+        for size in [len.to_string(), format!("{len:#x}")] {
+            let line = format!("counter fill usual.iso /text/en/msg.bin --size {size} {source}");
+            assert_eq!(shell(&temp, &line).status, 0, "{line}");
+        }
+        assert_eq!(place(&image, "/text/en/msg.bin").1, len, "{source}");
+    }
+    // One without an end is as long as can be told.
+    let run = shell(&temp, "counter fill usual.iso /text/en/msg.bin /dev/zero --size 0x1000");
+    assert_eq!(run.status, 65, "{}", run.err);
+    assert!(run.err.contains("(more than 2,097,152 bytes): --size says 4,096"), "{}", run.err);
+    refused(&image, &["fill", "/text/en/msg.bin", "/dev/zero", "--size", "4294967295"], 21);
+    for size in ["", "x", "-1", "4294967296", "0x100000000"] {
+        let run = on("fill", &image, &["/text/en/msg.bin", "-", "--size", size]);
+        assert_eq!(run.status, 64, "{size}: {}", run.err);
+    }
+    for twice in [["--size", "1", "--size", "1"], ["--from", "a", "--from", "b"]] {
+        let run = on("fill", &image, &[&["/text/en/msg.bin"][..], &twice].concat());
+        assert!(run.status == 64 && run.err.contains("is given twice"), "{}", run.err);
+    }
+}
+
+#[test]
+fn a_file_of_another_image_is_a_clip() {
+    let temp = Temp::new();
+    let image = usual_master(&temp);
+    let other = temp.at("other.iso");
+    fs::copy(&image, &other).unwrap();
+    fill(&other, "/text/fr/msg.bin", &clip(0x3000, 22));
+    fill(&other, "/opening.bnr", &clip(0x1234, 23));
+    let kept = State::of(&other);
+    let name = other.to_str().unwrap();
+    // At the same path, at another one, as every path may be written.
+    let cases = [
+        ("/text/fr/msg.bin", name.to_string(), clip(0x3000, 22)),
+        ("text/en/msg.bin", format!("{name}:/opening.bnr"), clip(0x1234, 23)),
+        ("text/en/msg.bin", format!("{name}:text/../text\\fr/msg.bin"), clip(0x3000, 22)),
+    ];
+    for (path, from, bytes) in cases {
+        let entry = format!("/{}", path.trim_start_matches('/'));
+        let wanted = filled(&image, &entry, &bytes);
+        let out = accepted(&image, &["fill", path, "--from", &from]);
+        assert!(fs::read(&image).unwrap() == wanted, "{from}: {out}");
+        assert!(out.contains(" with ") && out.contains("other.iso:"), "{out}");
+        let told = json("fill", &image, &[path, "--from", &from]);
+        assert!(!told.at("written").flag());
+        assert_eq!(told.at("clip").at("size").number(), bytes.len() as u64);
+        assert!(told.at("clip").at("name").text().starts_with(name));
+    }
+    // A name of the system may have a `:`.
+    let odd = temp.at("a:b.iso");
+    fs::copy(&other, &odd).unwrap();
+    for from in [odd.to_str().unwrap().to_string(), format!("{}:opening.bnr", odd.display())] {
+        done("fill", &image, &["opening.bnr", "--from", &from]);
+        assert!(on("cat", &image, &["opening.bnr"]).bytes == clip(0x1234, 23), "{from}");
+    }
+    assert_eq!(State::of(&other), kept);
+    assert!(!journal_of(&image).exists() && !clip_of(&image).exists());
+}
+
+#[test]
+fn another_image_that_cannot_be_read_is_told_and_nothing_is_written() {
+    let temp = Temp::new();
+    let image = usual_master(&temp);
+    let (other, link) = (temp.at("other.iso"), temp.at("link.iso"));
+    fs::copy(&image, &other).unwrap();
+    fs::hard_link(&image, &link).unwrap();
+    fs::create_dir(temp.at("folder")).unwrap();
+    temp.write("none.iso", b"no image");
+    assert!(shell(&temp, "mkfifo pipe.iso").status == 0);
+    let before = State::of(&image);
+    let not_taken = |from: &str, status: i32, words: &str| {
+        for more in ["", "--dry-run", "--json"] {
+            let line = format!("counter fill usual.iso /opening.bnr --from {from} {more}");
+            let run = shell(&temp, &line);
+            assert_eq!(run.status, status, "{line}: {}", run.err);
+            assert!(run.err.contains(words), "{line}: {}", run.err);
+            assert_eq!(State::of(&image), before, "{line}");
+        }
+    };
+    not_taken("usual.iso", 64, "usual.iso:/opening.bnr: the image cannot be filled with itself");
+    not_taken("usual.iso:/text/en/msg.bin", 64, "cannot be filled with itself");
+    not_taken("link.iso", 64, "cannot be filled with itself");
+    not_taken("nothing.iso", 66, "nothing.iso: no such file");
+    not_taken("nothing.iso:/opening.bnr", 66, "nothing.iso: no such file");
+    not_taken("folder", 66, "folder: a folder, not an image");
+    not_taken("pipe.iso", 66, "pipe.iso: a special file, not an image");
+    not_taken("none.iso", 1, "none.iso: refused 1: ");
+    not_taken("other.iso:/audio", 16, "other.iso:/audio: refused 16: file wanted");
+    not_taken("other.iso:", 16, "refused 16: file wanted");
+    not_taken("other.iso:/nothing", 18, "other.iso:/nothing: refused 18: not found");
+    not_taken("other.iso:/opening.bnr/x", 17, "refused 17: directory wanted");
+    not_taken("other.iso:/caf\u{e9}", 64, "U+00E9");
+    not_taken("''", 66, "no such file");
+    // Both of it, or neither.
+    not_taken("other.iso other.iso", 64, "usage: counter fill IMAGE PATH CLIP|--from OTHER[:PATH]");
+    // Somebody edits it; an edit of it was cut.
+    let held = File::open(&other).unwrap();
+    held.lock().unwrap();
+    not_taken("other.iso", 75, "other.iso: another program is editing it");
+    drop(held);
+    temp.write("other.iso.counter-journal", b"counter journal\n");
+    not_taken("other.iso", 78, "other.iso: an edit of this image was cut");
+    fs::remove_file(temp.at("other.iso.counter-journal")).unwrap();
+    done("fill", &image, &["/opening.bnr", "--from", other.to_str().unwrap()]);
+}
+
+/// The edit takes such a file away before it begins.
+#[test]
+fn a_clip_by_the_name_of_a_kept_one_or_of_a_journal_is_not_taken() {
+    let temp = Temp::new();
+    let image = usual_master(&temp);
+    let before = State::of(&image);
+    let bytes = clip(0x1000, 24);
+    for name in ["usual.iso.counter-clip", "usual.iso.counter-journal", "k.iso.counter-journal.new"]
+    {
+        let left = temp.write(name, &bytes);
+        std::os::unix::fs::symlink(&left, temp.at("link")).unwrap();
+        let mut ways = vec![name, "link"];
+        // What standard input is called cannot be told; that it is beside this image can.
+        ways.extend((!name.starts_with('k')).then_some("- <link"));
+        for clip in ways {
+            for more in ["", "--dry-run"] {
+                let run =
+                    shell(&temp, &format!("counter fill usual.iso /opening.bnr {more} {clip}"));
+                assert_eq!(run.status, 64, "{name} {clip}: {}", run.err);
+                assert!(run.err.contains("or a clip that is kept; "), "{}", run.err);
+                assert!(fs::read(&left).unwrap() == bytes, "{name} {clip}");
+                assert_eq!(State::of(&image), before, "{name} {clip}");
+            }
+        }
+        fs::remove_file(temp.at("link")).unwrap();
+        fs::remove_file(&left).unwrap();
+    }
 }
 
 /// The image is locked when the whole clip is there: whoever makes it may look into the image.
@@ -418,11 +643,4 @@ fn a_clip_without_a_journal_is_taken_away_by_the_next_edit() {
         assert_eq!((run.status, run.err.as_str()), (0, ""), "{args:?}");
         assert!(!left.exists(), "{args:?}");
     }
-    // It may be the clip of the next fill, too.
-    let bytes = clip(0x1000, 16);
-    let left = clip_of(&image);
-    fs::write(&left, &bytes).unwrap();
-    let wanted = filled(&image, "/opening.bnr", &bytes);
-    done("fill", &image, &["opening.bnr", left.to_str().unwrap()]);
-    assert!(fs::read(&image).unwrap() == wanted && !left.exists());
 }

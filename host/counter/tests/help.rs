@@ -80,6 +80,9 @@ fn help_comes_in_every_way_and_is_about_its_command_alone() {
         "--without-record",
         "--record",
         "--force",
+        "--from",
+        "--size",
+        "--empty",
     ];
     for command in COMMANDS {
         let help = run(&["help", command]).out;
@@ -180,6 +183,11 @@ fn bash_completes_commands_options_files_and_paths() {
     assert_eq!(text, ["/text/", "/text/en/", "/text/en/msg.bin", "/text/fr/", "/text/fr/msg.bin"]);
     assert_eq!(offered(&["counter", "move", "disc.iso", "/opening.bnr", ""]), [""; 0]);
     assert_eq!(offered(&["counter", "fill", "disc.iso", "/opening.bnr", "ms"]), ["msg.bin"]);
+    let fill = ["counter", "fill", "disc.iso", "/opening.bnr", "--from", "before.i"];
+    assert_eq!(offered(&fill), ["before.iso"]);
+    // A number is not completed, and no operand.
+    assert_eq!(offered(&["counter", "fill", "--size", ""]), [""; 0]);
+    assert_eq!(offered(&["counter", "fill", "--size", "3", "disc.iso", "/op"]), ["/opening.bnr"]);
     assert_eq!(offered(&["counter", "help", "saf"]), ["safety"]);
 }
 

@@ -51,6 +51,7 @@ fn with_clip(temp: &Temp, args: &[&str]) -> Vec<String> {
     if args[0] == "fill" {
         let clip = temp.write("clip.bin", &clip(args[2].parse().unwrap(), 7));
         args[2] = clip.to_str().unwrap().into();
+        args.push("--empty".into());
     }
     args
 }
