@@ -1,4 +1,5 @@
 -- What follows from the definitions.
+pub mod Boundaries
 pub mod Alike
 pub mod AnyMaximum
 pub mod Apart
