@@ -113,6 +113,11 @@ const EMPTY: Flag = Flag {
     value: None,
     words: "lets a clip of no bytes pass, which empties the file",
 };
+const MAXIMUM: Operand = needed(
+    "N",
+    Value::Number,
+    "the most bytes that the table may have, as SIZE is written; 0 states none",
+);
 const ALIGN: Operand = Operand {
     name: "ALIGN",
     value: Value::Number,
@@ -427,6 +432,16 @@ pub const FORMS: &[Form] = &[
         )
     },
     Form {
+        flags: &[&DRY, &JSON, &WAIT],
+        more: STATED,
+        ..edit(
+            "maximum",
+            &[&IMAGE, &MAXIMUM],
+            "states N as the FST maximum, the four bytes at 0x42c, and writes nothing else",
+            &["counter maximum disc.iso 64K --dry-run", "counter maximum disc.iso 0"],
+        )
+    },
+    Form {
         flags: &[&ANYWAY, &WITHOUT, &JSON, &WAIT],
         more: RECOVER,
         ..edit(
@@ -471,6 +486,13 @@ tell. So rather take a file out of another image with --from than through a |.
 OTHER is read like any image: one that does not open is refused with its number, one with a journal is 78, and it \
 may not be IMAGE itself (64). What follows the last : is PATH, unless a file has the whole name. A CLIP by the \
 name of a journal or of a clip that is kept is not taken (64): the edit would take it away.";
+
+const STATED: &str = "\
+Many masters state just the size of their table, so that every mkdir and add is refused (26). How much more the game \
+has room for in memory only the publisher knows; of a game on two discs both state the same.
+N may be below the size of the table, which is told: then no edit that writes a table is done. The edit has a \
+journal like any other; it is none of the library's, and counts in no record (--record). `compare` tells it, and the \
+line `header: FST maximum` of LIST gives leave for it.";
 
 const COMPARE: &str = "\
 LIST is a text file in UTF-8, one path a line as PATH is given; a line that ends in / stands for that folder and all in it. / \

@@ -1,6 +1,8 @@
-//! The edits: what is asked on the command line, and the one call of the library that does it.
+//! The edits: what is asked on the command line, and the one call of the library that does it. Only the FST
+//! maximum is stated by the program: no call of the library writes it.
 
 use crate::args::Args;
+use crate::change::FST_MAXIMUM;
 use crate::clip::Clip;
 use crate::disc::{CLUSTER, LONGEST_PATH, TOO_LONG, no_path};
 use crate::failure::{Failure, Outcome};
@@ -21,11 +23,14 @@ pub enum Wish {
     Resize(Vec<u8>, u32),
     Fill(Vec<u8>, Clip),
     Rewrite,
+    /// Another FST maximum.
+    Maximum(u32),
 }
 
 impl Wish {
     pub fn read(args: &Args, image: &Path) -> Outcome<Wish> {
-        let wanted = || number(&args.bytes(1)).map_err(Failure::usage);
+        let given = |n| number(&args.bytes(n)).map_err(Failure::usage);
+        let wanted = || given(1);
         Ok(match args.form.name {
             "mkdir" => Wish::MakeFolders(args.entry(0)?),
             "add" => Wish::Add(args.entry(0)?),
@@ -37,6 +42,7 @@ impl Wish {
                 let clip = Clip::open(args, &path, image)?;
                 Wish::Fill(path, clip)
             }
+            "maximum" => Wish::Maximum(given(0)?),
             _ => Wish::Rewrite,
         })
     }
@@ -50,7 +56,7 @@ impl Wish {
             | Wish::MoveAway(path)
             | Wish::Resize(path, _)
             | Wish::Fill(path, _) => Some(path),
-            Wish::Rewrite => None,
+            Wish::Rewrite | Wish::Maximum(_) => None,
         }
     }
 
@@ -73,6 +79,7 @@ impl Wish {
             Wish::Resize(_, to) => format!("resize {path} to {} bytes", grouped((*to).into())),
             Wish::Fill(_, clip) => format!("fill {path} with {}", clip.words()),
             Wish::Rewrite => "rewrite".into(),
+            Wish::Maximum(to) => format!("maximum {}", grouped((*to).into())),
         }
     }
 
@@ -102,6 +109,7 @@ pub enum Call<'a> {
     /// With zeros in the place of the clip, until it is written.
     Fill(u32, &'a [u8]),
     Rewrite,
+    Maximum(u32),
 }
 
 impl<'a> Call<'a> {
@@ -126,6 +134,7 @@ impl<'a> Call<'a> {
             Wish::Resize(path, to) => Call::Resize(find(path)?, *to),
             Wish::Fill(path, clip) => Call::Fill(find(path)?, clip.zeros()),
             Wish::Rewrite => Call::Rewrite,
+            Wish::Maximum(to) => Call::Maximum(*to),
         })
     }
 
@@ -168,6 +177,10 @@ impl<'a> Call<'a> {
                 counter::fill_file(image, memory, record, at, clip).map(|()| None)
             }
             Call::Rewrite => counter::rewrite(image, memory, record).map(|()| None),
+            Call::Maximum(to) => {
+                image[FST_MAXIMUM as usize..][..4].copy_from_slice(&to.to_be_bytes());
+                Ok(None)
+            }
         }
     }
 }

@@ -1,10 +1,11 @@
 //! All that one edit writes, known before it writes: the table in its place with its size in the
-//! header, a file's bytes to a new place or a clip's to the file's, and zeros.
+//! header, a file's bytes to a new place or a clip's to the file's, and zeros; or another FST maximum.
 
 use std::ops::Range;
 
-/// Where the header has the table's size.
-pub const FST_SIZE: u64 = 0x428;
+/// Where the header has the table's size, and the most that it may have.
+const FST_SIZE: u64 = 0x428;
+pub const FST_MAXIMUM: u64 = 0x42C;
 
 /// Where the header ends.
 pub const HEADER: u64 = 0x440;
@@ -29,9 +30,20 @@ pub struct Change {
     pub clip: bool,
     /// What is zeroed at the end.
     pub lost: Range<u64>,
+    /// The FST maximum before and after, where the edit states another: then nothing else is written.
+    pub maximum: Option<(u32, u32)>,
 }
 
 impl Change {
+    /// The word of the header that is written: where it is, before and after.
+    pub fn word(&self) -> (u64, [u8; 4], [u8; 4]) {
+        let (at, (old, new)) = match self.maximum {
+            Some(stated) => (FST_MAXIMUM, stated),
+            None => (FST_SIZE, (self.old_size, self.new_size)),
+        };
+        (at, old.to_be_bytes(), new.to_be_bytes())
+    }
+
     pub fn table_span(&self) -> Range<u64> {
         self.table..self.table + self.new.len() as u64
     }
@@ -52,20 +64,24 @@ impl Change {
 
     /// Every byte that is written lies in one of these.
     pub fn spans(&self) -> [Range<u64>; 4] {
-        [FST_SIZE..FST_SIZE + 4, self.table_span(), self.copy_span(), self.lost.clone()]
+        let word = self.word().0;
+        [word..word + 4, self.table_span(), self.copy_span(), self.lost.clone()]
     }
 
     pub fn is_nothing(&self) -> bool {
-        self.old == self.new
-            && self.old_size == self.new_size
-            && self.brought == 0
-            && self.lost.is_empty()
+        let (_, old, new) = self.word();
+        self.old == self.new && old == new && self.brought == 0 && self.lost.is_empty()
     }
 
     /// Whether an edit of an image of `len` bytes can have this form: nothing is written twice, nothing
     /// outside, and what is copied lies where it is not written before it is zeroed.
     pub fn is_sound(&self, len: u64) -> bool {
-        let longer = u64::from(self.old_size.max(self.new_size));
+        // Another maximum alone leaves the table out.
+        let longer = match self.maximum {
+            Some(_) => 0,
+            None => u64::from(self.old_size.max(self.new_size)),
+        };
+        let alone = self.old_size == self.new_size && self.brought == 0 && self.lost.is_empty();
         let tables = self.old.len() == self.new.len() && self.new.len() as u64 == longer;
         let [_, table, copy, lost] = self.spans();
         let whole = [&table, &copy, &lost, &self.source_span()].iter().all(|span| {
@@ -76,6 +92,7 @@ impl Change {
         };
         let source = self.source_span();
         tables
+            && (self.maximum.is_none() || alone)
             && self.table >= HEADER
             && whole
             && apart(&table, &copy)

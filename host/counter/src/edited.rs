@@ -4,6 +4,7 @@ use crate::args::Args;
 use crate::call::{Call, Wish};
 use crate::disc::{Disc, Kind, Node};
 use crate::json::{self, Json};
+use crate::maximum::Maximum;
 use crate::names;
 use crate::record;
 use crate::told::{lost, notes, renumbered};
@@ -13,6 +14,9 @@ use std::collections::{HashMap, HashSet};
 /// `trial` is the edit as it was tried.
 pub fn json(args: &Args, wish: &Wish, call: &Call, before: &Disc, trial: &Trial) -> Json {
     let (after, nothing) = (&trial.after, trial.change.is_nothing());
+    if let Call::Maximum(to) = *call {
+        return stated(args, trial, &Maximum::of(to, after));
+    }
     // A fill writes other bytes where the place may be the same.
     let filled = call.file().filter(|_| trial.change.clip);
     let table = Json::Object(vec![
@@ -45,6 +49,23 @@ pub fn json(args: &Args, wish: &Wish, call: &Call, before: &Disc, trial: &Trial)
         let clip = vec![("name", clip.name.as_str().into()), ("size", clip.len.into())];
         fields.push(("clip", Json::Object(clip)));
     }
+    Json::Object(fields)
+}
+
+/// Another maximum, and the table held against it.
+fn stated(args: &Args, trial: &Trial, maximum: &Maximum) -> Json {
+    let (before, after) = trial.change.maximum.unwrap_or_default();
+    let stated = Json::Object(vec![("before", before.into()), ("after", after.into())]);
+    let mut fields = vec![
+        ("status", 0u32.into()),
+        ("edit", args.form.name.into()),
+        ("dry_run", args.dry.into()),
+        ("written", (!args.dry && !trial.change.is_nothing()).into()),
+        ("fst_maximum", stated),
+        ("fst_size", trial.after.opened.fst_size.into()),
+    ];
+    fields.extend(maximum.fields());
+    fields.push(("notes", Json::List(maximum.note().into_iter().map(Json::from).collect())));
     Json::Object(fields)
 }
 

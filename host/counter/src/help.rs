@@ -189,9 +189,14 @@ const FIELDS: &[(&str, &str)] = &[
     ("fill", EDITED),
     ("rewrite", EDITED),
     (
+        "maximum",
+        "status edit dry_run written fst_maximum{before after} fst_size fst_left fst_above fst_rewritten \
+         fst_rewritten_above notes[...]",
+    ),
+    (
         "recover",
         "status edit finished written record{used free largest_free edits}; finished: the edit that was \
-         cut, or null; record: as it is after that edit, or null",
+         cut, or null; record: as it is after that edit, or null (maximum has none)",
     ),
 ];
 
@@ -223,7 +228,7 @@ fn json(forms: &[Form]) -> String {
     if forms.iter().any(|form| form.name == "info") {
         out.push_str("  game_code, maker, game_name: character n is byte n\n");
     }
-    if forms.iter().any(|form| ["info", "check"].contains(&form.name)) {
+    if forms.iter().any(|form| ["info", "check", "maximum"].contains(&form.name)) {
         out.push_str(
             "  fst_left: what is left of fst_maximum, or null where that is 0 (no maximum); fst_above: by how many\n\
              \x20 bytes the table is above it, or 0; fst_rewritten: the table's size as an edit writes it, no name\n\
@@ -306,7 +311,8 @@ Safety
   - A header may state a maximum for the table (FST maximum, at 0x42c): games on two discs load the
     table of either into one place in memory. An edit that would write a larger one is refused (26)
     and says by how many bytes; `info` tells how much is left. An image whose table is above it opens,
-    which `check` tells, and may be edited down to it. 0 states no maximum; no edit writes the field.
+    which `check` tells, and may be edited down to it. 0 states no maximum. `counter maximum` writes the
+    field, and no other edit does; the line `header: FST maximum` of LIST gives leave for it.
   - Holes of a sparse image, blocks that a reflink copy shares and, on a copy-on-write disk (btrfs,
     ZFS), all blocks take new room when they are written. It is looked for first; if there is too
     little, nothing is written (74). If room fails in the midst of an edit all the same, the edit is

@@ -18,8 +18,8 @@ use std::os::unix::fs::MetadataExt;
 use std::path::{Path, PathBuf};
 
 const MAGIC: &[u8; 16] = b"counter journal\n";
-/// The first had no clips, the second no record.
-const VERSION: u64 = 3;
+/// The first had no clips, the second no record, the third no maximum.
+const VERSION: u64 = 4;
 const COPIED: &[u8; 8] = b"copied!\n";
 
 /// No journal is longer: two tables of the largest size, a header, and a few numbers.
@@ -244,7 +244,10 @@ fn encode(plan: &Plan) -> Vec<u8> {
         [totals.file.as_os_str().as_bytes(), &totals.old, &totals.new]
     });
     let words = change.words.as_bytes();
-    for part in [&owner.header, words, &change.old, &change.new, file, old, new] {
+    let maximum = change
+        .maximum
+        .map_or(Vec::new(), |(old, new)| [old.to_le_bytes(), new.to_le_bytes()].concat());
+    for part in [&owner.header, words, &change.old, &change.new, file, old, new, &maximum] {
         out.extend((part.len() as u64).to_le_bytes());
         out.extend(part);
     }
@@ -303,13 +306,26 @@ fn decode(bytes: &[u8]) -> Option<(Plan, usize)> {
     let words = String::from_utf8(reader.part()?.to_vec()).ok()?;
     let (old, new) = (reader.part()?.to_vec(), reader.part()?.to_vec());
     let totals = if version < 3 { None } else { decode_totals(&mut reader)? };
+    let maximum = if version < 4 { None } else { decode_maximum(reader.part()?)? };
     let sum = sum::of(&bytes[..reader.at]);
     if reader.number()? != sum {
         return None;
     }
     let (old_size, new_size) = (old_size.try_into().ok()?, new_size.try_into().ok()?);
-    let change =
-        Change { words, table, old, new, old_size, new_size, from, to, brought, clip, lost };
+    let change = Change {
+        words,
+        table,
+        old,
+        new,
+        old_size,
+        new_size,
+        from,
+        to,
+        brought,
+        clip,
+        lost,
+        maximum,
+    };
     let owner = Owner { inode, len, header };
     let plan = Plan { owner, change, hole, clip_sum, totals };
     is_sound(&plan).then_some((plan, reader.at))
@@ -320,6 +336,15 @@ fn decode_totals(reader: &mut Reader) -> Option<Option<Totals>> {
     let (file, old, new) = (part()?, part()?, part()?);
     let totals = Totals { file: OsString::from_vec(file).into(), old, new };
     Some((!totals.new.is_empty()).then_some(totals))
+}
+
+fn decode_maximum(part: &[u8]) -> Option<Option<(u32, u32)>> {
+    let word = |at: usize| Some(u32::from_le_bytes(part.get(at..at + 4)?.try_into().ok()?));
+    match part.len() {
+        0 => Some(None),
+        8 => Some(word(0).zip(word(4))),
+        _ => None,
+    }
 }
 
 /// What the sum says of a plan is that it is whole; this, that it can be acted on.

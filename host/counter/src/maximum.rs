@@ -24,6 +24,12 @@ pub struct Maximum {
 }
 
 impl Maximum {
+    /// Of a disc whose header states this.
+    pub fn of(stated: u32, disc: &Disc) -> Maximum {
+        let rewritten = (stated > 0).then(|| written_size(&disc.nodes));
+        Maximum { stated: stated.into(), table: disc.opened.fst_size.into(), rewritten }
+    }
+
     pub fn read(image: &Image, desk: &mut Desk, opened: &Opened) -> Outcome<Maximum> {
         let header = Header::read(image.bytes()).map_err(|n| not_opened(image, n))?;
         let (stated, table) = (header.fst_maximum().into(), opened.fst_size.into());
@@ -111,13 +117,12 @@ fn bytes(number: u64) -> String {
 
 /// The refusal with 26 of an edit that would write a table of `after` bytes, with what it is about.
 pub fn explained(refusal: Failure, before: &Disc, maximum: u64, after: u64) -> Failure {
-    const MORE: &str = "the publisher may state more, or 0 for no maximum";
+    const MORE: &str = "if the publisher allows it, `counter maximum IMAGE N` states more, or 0 for no \
+                        maximum, and the line `header: FST maximum` of LIST gives leave for it";
     let (table, rewritten) = (before.opened.fst_size.into(), written_size(&before.nodes));
     let shared = if rewritten > table { ", with no name shared," } else { "" };
     let room = match maximum.checked_sub(rewritten) {
-        None => "so is every table that an edit would write, until the publisher states more, or 0 for no \
-                 maximum"
-            .into(),
+        None => format!("so is every table that an edit would write; {MORE}"),
         Some(..LEAST_ENTRY) => format!("no further entry fits; {MORE}"),
         Some(left) => {
             let room = bytes(left);

@@ -30,7 +30,7 @@ pub fn recover(args: &Args) -> Outcome<()> {
         None => "there is no journal: no edit was cut, nothing is to be done\n".into(),
         Some(Finished { words, record, disc_end }) => format!(
             "finished an edit that was cut: {words}\n{}done: written and synced\n",
-            record::line(record, *disc_end)
+            record.map_or(String::new(), |record| record::line(&record, *disc_end))
         ),
     };
     let told = for_terminal(&told).into_bytes();
@@ -43,14 +43,20 @@ fn json(finished: Option<&Finished>) -> Json {
         ("edit", "recover".into()),
         ("finished", finished.map(|edit| edit.words.as_str()).into()),
         ("written", finished.is_some().into()),
-        ("record", finished.map(|edit| record::json(&edit.record, edit.disc_end)).into()),
+        (
+            "record",
+            finished
+                .and_then(|edit| edit.record.map(|record| record::json(&record, edit.disc_end)))
+                .into(),
+        ),
     ])
 }
 
-/// An edit that was cut and is finished now: in words, and what its record is then.
+/// An edit that was cut and is finished now: in words, and what its record is then. Another FST maximum counts
+/// in none.
 pub struct Finished {
     pub words: String,
-    record: Record,
+    record: Option<Record>,
     disc_end: u32,
 }
 
@@ -109,7 +115,10 @@ pub fn put_right(image: &Image, how: &How) -> Outcome<Option<Finished>> {
         Some(totals) => kept::put_again(totals).map_err(|why| unrecorded(path, &why))?,
         None => {}
     }
-    let record = counted.map_or_else(|| record::alone(image, &mut desk), Ok)?;
+    let record = match journal.plan.change.maximum {
+        Some(_) => None,
+        None => Some(counted.map_or_else(|| record::alone(image, &mut desk), Ok)?),
+    };
     journal.remove().map_err(|why| still_there(&journal, &why))?;
     Ok(Some(Finished { words, record, disc_end: opened.disc_end }))
 }

@@ -1,7 +1,7 @@
 //! An edit finished from its journal. Every step writes bytes that the journal holds or that lie whole
 //! in the image, so it can be cut and done again as often as need be.
 
-use crate::change::{Change, FST_SIZE};
+use crate::change::Change;
 use crate::disk::{self, On, PART, parts};
 use crate::journal::{Journal, Plan};
 use crate::progress::Progress;
@@ -30,10 +30,13 @@ pub fn bring(file: &File, journal: &mut Journal, progress: &Progress) -> io::Res
     }
 }
 
-/// Writes the table, its size and the zeros, and waits until they are on the disk.
+/// Writes the table, its size or the maximum, and the zeros, and waits until they are on the disk.
 pub fn finish(file: &File, change: &Change) -> io::Result<()> {
-    disk::write_at(On::Image, file, change.table, &change.new)?;
-    disk::write_at(On::Image, file, FST_SIZE, &change.new_size.to_be_bytes())?;
+    if !change.new.is_empty() {
+        disk::write_at(On::Image, file, change.table, &change.new)?;
+    }
+    let (at, _, new) = change.word();
+    disk::write_at(On::Image, file, at, &new)?;
     let zeros = vec![0; PART as usize];
     for (at, len) in parts(change.lost.clone()) {
         match disk::write_at(On::Image, file, at, &zeros[..len]) {
@@ -105,8 +108,9 @@ pub fn owned(file: &File, journal: &Journal) -> io::Result<Owned> {
     }
     let mut header = vec![0; owner.header.len()];
     file.read_exact_at(&mut header, 0)?;
-    let size = FST_SIZE as usize..FST_SIZE as usize + 4;
-    header[size.clone()].copy_from_slice(&owner.header[size]);
+    // All but the word that the edit writes.
+    let at = journal.plan.change.word().0 as usize;
+    header[at..at + 4].copy_from_slice(&owner.header[at..at + 4]);
     if header != owner.header {
         return Ok(Owned::No);
     }
@@ -118,10 +122,13 @@ pub fn owned(file: &File, journal: &Journal) -> io::Result<Owned> {
 /// the journal is told so.
 pub fn misfit(file: &File, journal: &mut Journal) -> io::Result<Option<&'static str>> {
     let change = &journal.plan.change;
-    let (table, word) = table_and_size(file, change)?;
-    let (old, new) = (change.old_size.to_be_bytes(), change.new_size.to_be_bytes());
+    let (table, word) = table_and_word(file, change)?;
+    let (_, old, new) = change.word();
     if !is_mix(&table, &change.old, &change.new) || !is_mix(&word, &old, &new) {
-        return Ok(Some("its table is neither the old nor the new one"));
+        return Ok(Some(match change.maximum {
+            Some(_) => "its FST maximum is neither the old nor the new one",
+            None => "its table is neither the old nor the new one",
+        }));
     }
     let untouched = table == change.old && word == old;
     if !change.is_apart() {
@@ -169,11 +176,12 @@ fn is_mix(now: &[u8], old: &[u8], new: &[u8]) -> bool {
     now.iter().zip(old).zip(new).all(|((now, old), new)| now == old || now == new)
 }
 
-fn table_and_size(file: &File, change: &Change) -> io::Result<(Vec<u8>, [u8; 4])> {
+/// The table's place, and the word of the header, as they are.
+fn table_and_word(file: &File, change: &Change) -> io::Result<(Vec<u8>, [u8; 4])> {
     let mut table = vec![0; change.new.len()];
     file.read_exact_at(&mut table, change.table)?;
     let mut word = [0; 4];
-    file.read_exact_at(&mut word, FST_SIZE)?;
+    file.read_exact_at(&mut word, change.word().0)?;
     Ok((table, word))
 }
 

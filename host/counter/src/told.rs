@@ -2,9 +2,10 @@
 
 use crate::call::{Call, Wish};
 use crate::disc::{Disc, Kind, LONGEST_PATH, Node};
+use crate::maximum::Maximum;
 use crate::names::{self, shown};
 use crate::record;
-use crate::text::{counted, grouped};
+use crate::text::{counted, grouped, size};
 use crate::trial::Trial;
 use std::collections::HashSet;
 use std::io::Write;
@@ -34,6 +35,10 @@ pub fn report(wish: &Wish, call: &Call, before: &Disc, trial: &Trial) -> Vec<u8>
                 lost => out.extend(lost_words(wish, lost).as_bytes()),
             }
         }
+        Call::Maximum(to) => {
+            stated(&mut out, trial.change.maximum, &Maximum::of(to, after));
+            return out;
+        }
         Call::Rewrite if nothing => out.extend(b"the table is as a rewrite leaves it\n"),
         Call::Rewrite => out.extend(b"the table was written anew\n"),
     }
@@ -49,6 +54,25 @@ pub fn report(wish: &Wish, call: &Call, before: &Disc, trial: &Trial) -> Vec<u8>
     }
     out.extend(record::line(&trial.record, after.opened.disc_end).as_bytes());
     out
+}
+
+/// Another maximum, and the table held against it.
+fn stated(out: &mut Vec<u8>, change: Option<(u32, u32)>, maximum: &Maximum) {
+    let bytes = |stated: u32| match stated {
+        0 => "0 (none stated)".into(),
+        _ => size(stated.into()),
+    };
+    let mut text = match change {
+        Some((old, new)) if old != new => {
+            format!("FST maximum: {} -> {}\n", bytes(old), bytes(new))
+        }
+        _ => format!("FST maximum: {} already\n", bytes(maximum.stated as u32)),
+    };
+    maximum.lines(&mut text);
+    if let Some(note) = maximum.note() {
+        text += &format!("note: {note}\n");
+    }
+    out.extend(text.as_bytes());
 }
 
 fn named_as(out: &mut Vec<u8>, what: &str, nodes: &[&Node]) {
@@ -161,13 +185,13 @@ fn without_case(
 /// How many bytes that the file holds are gone afterwards: those that a shrink cuts, and all of them where a
 /// fill writes.
 pub fn lost(wish: &Wish, call: &Call, before: &Disc, trial: &Trial) -> u64 {
-    let size = |disc: &Disc| match call.file().map(|at| disc.nodes[at as usize].kind) {
+    let of = |disc: &Disc| match call.file().map(|at| disc.nodes[at as usize].kind) {
         Some(Kind::File { size, .. }) => u64::from(size),
         _ => 0,
     };
     match wish {
-        Wish::Resize(..) => size(before).saturating_sub(size(&trial.after)),
-        Wish::Fill(..) if !trial.change.is_nothing() => size(before),
+        Wish::Resize(..) => of(before).saturating_sub(of(&trial.after)),
+        Wish::Fill(..) if !trial.change.is_nothing() => of(before),
         _ => 0,
     }
 }

@@ -53,7 +53,13 @@ pub fn try_out(
         brought: 0,
         clip: false,
         lost: 0..0,
+        maximum: None,
     };
+    if let Call::Maximum(to) = *call {
+        let header = Header::read(image.bytes()).map_err(|number| refused(wish, number))?;
+        change.maximum = Some((header.fst_maximum(), to));
+        (change.old, change.new) = Default::default();
+    }
     if let Some(at) = call.file() {
         let at = at as usize;
         place_file(&mut change, before.nodes[at].kind, after.nodes[at].kind);

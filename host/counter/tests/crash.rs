@@ -615,6 +615,24 @@ fn a_rewrite_that_shrinks_the_table_survives_a_power_cut() {
     cut_everywhere(master(2000), &["rewrite"], 16);
 }
 
+/// No byte is written but the four of the field, nor in the recovery.
+#[test]
+fn another_maximum_survives_a_power_cut() {
+    let bench = Bench::new(master(0));
+    let mut wanted = bench.before.clone();
+    put(&mut wanted, 0x42C, 0x1234_5678);
+    let bench = cut_on(bench, &["maximum", "0x12345678"], 33);
+    assert!(bench.after == wanted);
+    bench.lay(&Found::new(bench.before.clone()));
+    let (_, steps) = bench.logged(&["maximum", "0x12345678"]);
+    let sector = 0x42C..0x430;
+    let outside = |step: &&Step| {
+        let end = step.at + step.bytes.len() as u64;
+        step.on == IMAGE && step.what == b'w' && !(step.at <= sector.start && sector.end <= end)
+    };
+    assert_eq!(steps.iter().find(outside).map(|step| step.at), None);
+}
+
 #[test]
 fn a_record_goes_with_its_edit_through_a_power_cut() {
     cut_with_record(master(0), &["mkdir", "d/x"], 25);
@@ -685,7 +703,7 @@ fn any_edit(image: &Path, turn: u32, given: String, random: &mut Random) -> Vec<
         _ => files.iter().max_by_key(|file| file.size ^ (random.below(0x4000) as u32)).unwrap(),
     };
     let behind = u64::from(file.offset) + u64::from(file.size);
-    let words: Vec<String> = match random.below(10) {
+    let words: Vec<String> = match random.below(11) {
         0 => vec!["add".into(), format!("new{turn}")],
         1 => vec!["mkdir".into(), format!("d/m{turn}/n")],
         2 => vec!["rewrite".into()],
@@ -693,6 +711,7 @@ fn any_edit(image: &Path, turn: u32, given: String, random: &mut Random) -> Vec<
         4 => vec!["resize".into(), file.path.clone(), (file.size / 2).to_string()],
         5 => vec!["move".into(), file.path.clone(), table.table_end.to_string()],
         6 => vec!["move".into(), file.path.clone(), behind.to_string()],
+        10 => vec!["maximum".into(), (0x8000 + turn).to_string()],
         7..=8 => vec!["fill".into(), file.path.clone(), given, "--empty".into()],
         _ => vec!["move".into(), file.path.clone(), random.below(END as usize).to_string()],
     };

@@ -8,10 +8,10 @@ use std::path::Path;
 use std::process::{Command, Stdio};
 use support::*;
 
-const COMMANDS: [&str; 22] = [
+const COMMANDS: [&str; 23] = [
     "info", "list", "tree", "free", "find", "place", "record", "cat", "extract", "dol", "map",
     "check", "compare", "hash", "report", "mkdir", "add", "move", "resize", "fill", "rewrite",
-    "recover",
+    "maximum", "recover",
 ];
 
 /// A folder with the files that the examples name.

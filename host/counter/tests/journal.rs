@@ -265,7 +265,7 @@ fn a_torn_or_foreign_journal_is_never_applied() {
 
     // Of a version that is not known yet.
     let mut bytes = whole.clone();
-    bytes[16] = 4;
+    bytes[16] = 5;
     fs::write(&path, &bytes).unwrap();
     cut.is_left_alone("it is torn, or of a later version of counter");
 
@@ -294,8 +294,9 @@ fn a_journal_writes_no_file_but_a_record() {
         }
         let whole = fs::read(journal_of(&cut.image)).unwrap();
         let end = whole.len() - 24;
-        let mut plan = whole[..end - 32].to_vec();
-        for part in [file.as_os_str().as_encoded_bytes(), old, new] {
+        // No record, no maximum, and the sum.
+        let mut plan = whole[..end - 40].to_vec();
+        for part in [file.as_os_str().as_encoded_bytes(), old, new, &[]] {
             plan.extend((part.len() as u64).to_le_bytes());
             plan.extend(part);
         }
@@ -305,16 +306,18 @@ fn a_journal_writes_no_file_but_a_record() {
     }
 }
 
-/// The second version had no record: three lengths of 0 less. The first had no clips: two numbers less.
+/// The third version had no maximum: a length of 0 less. The second had no record: three more of them less. The
+/// first had no clips: two numbers less.
 #[test]
 fn a_journal_of_an_earlier_version_is_carried_on() {
-    for version in [1, 2] {
+    for version in [1, 2, 3] {
         let cut = Cut::new();
         let path = journal_of(&cut.image);
         let whole = fs::read(&path).unwrap();
         let end = whole.len() - 24;
         let clip = 16 + if version == 1 { 12 } else { 14 } * 8;
-        let mut early = [&whole[..clip], &whole[16 + 14 * 8..end - 32]].concat();
+        let end_of_plan = end - if version == 3 { 16 } else { 40 };
+        let mut early = [&whole[..clip], &whole[16 + 14 * 8..end_of_plan]].concat();
         early[16] = version;
         fs::write(&path, with_sums(early, &whole[end..end + 16])).unwrap();
         assert!(on("list", &cut.image, &[]).err.contains("was cut (move film to 0x20000)"));
@@ -377,6 +380,42 @@ fn a_journal_of_another_image_is_never_applied() {
     }
     done("recover", &cut.image, &["--anyway"]);
     assert!(fs::read(&cut.image).unwrap() == cut.after);
+}
+
+/// Another maximum writes four bytes, and recovery no other: the table's size is none of them.
+#[test]
+fn a_maximum_that_was_cut_is_finished() {
+    // Journal: create, write, sync. The call. Sync.
+    let cut = Cut::at(5, &["maximum", "0x12345678"]);
+    let run = on("check", &cut.image, &[]);
+    assert!(run.err.contains("was cut (maximum 305,419,896)"), "{}", run.err);
+    let whole = cut.state();
+    // Any mix of the old bytes and the new ones, and nothing else.
+    for word in [[0, 0, 0, 0], [0x12, 0, 0, 0x78], [0, 0x34, 0x56, 0]] {
+        let file = File::options().write(true).open(&cut.image).unwrap();
+        file.write_all_at(&word, 0x42C).unwrap();
+        fs::write(journal_of(&cut.image), &whole.1).unwrap();
+        assert_eq!(
+            done("recover", &cut.image, &[]),
+            "finished an edit that was cut: maximum 305,419,896\ndone: written and synced\n"
+        );
+        assert!(fs::read(&cut.image).unwrap() == cut.after);
+    }
+    fs::write(journal_of(&cut.image), &whole.1).unwrap();
+    cut.spoil(0x42D);
+    cut.is_left_alone("its FST maximum is neither the old nor the new one");
+    cut.spoil(0x42D);
+    cut.spoil(0x42B);
+    cut.is_left_alone("it belongs to another image");
+    cut.spoil(0x42B);
+    let told = json("recover", &cut.image, &[]);
+    assert_eq!(told.at("finished").text(), "maximum 305,419,896");
+    assert_eq!(told.at("record"), &Json::Null);
+    assert!(fs::read(&cut.image).unwrap() == cut.after);
+    // The other field of the header belongs to the image of another edit.
+    let cut = Cut::new();
+    cut.spoil(0x42D);
+    cut.is_left_alone("it belongs to another image");
 }
 
 #[test]
@@ -485,7 +524,7 @@ fn without(image: &[u8], place: std::ops::Range<usize>) -> Vec<u8> {
 
 #[test]
 fn each_status_says_what_the_image_is_when_the_disk_is_full() {
-    let edits: [(&[&str], std::ops::Range<usize>); 11] = [
+    let edits: [(&[&str], std::ops::Range<usize>); 12] = [
         (&MOVE, 0x2_0000..0x2_3210),
         (&["resize", "film", "0x5000"], 0x1_0000..0x1_5000),
         (&["resize", "film", "0x1001"], 0..0),
@@ -497,6 +536,7 @@ fn each_status_says_what_the_image_is_when_the_disk_is_full() {
         (&["fill", "next", "0"], 0..0),
         (&["mkdir", "d/x/y"], 0..0),
         (&["rewrite"], 0..0),
+        (&["maximum", "0x12345678"], 0..0),
     ];
     let mut rescued = 0;
     for (args, place) in edits {

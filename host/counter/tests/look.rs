@@ -976,7 +976,7 @@ fn help_names_every_field_of_the_json() {
     fs::copy(&image, &copy).unwrap();
     let copy = copy.to_str().unwrap();
     let lines = temp.write("lines.bin", b"lines");
-    let commands: [(&str, &[&str]); 20] = [
+    let commands: [(&str, &[&str]); 21] = [
         ("info", &[]),
         ("list", &[]),
         ("tree", &[]),
@@ -997,6 +997,7 @@ fn help_names_every_field_of_the_json() {
         ("resize", &["opening.bnr", "0"]),
         ("fill", &["opening.bnr", lines.to_str().unwrap()]),
         ("rewrite", &[]),
+        ("maximum", &["0"]),
     ];
     for (command, rest) in commands {
         let help = run(&["help", command]).out;

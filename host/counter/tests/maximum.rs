@@ -10,6 +10,10 @@ use support::*;
 
 const FIELD: usize = 0x42C;
 
+/// What is said where 26 is.
+const MORE: &str = "if the publisher allows it, `counter maximum IMAGE N` states more, or 0 for no maximum, and the \
+                    line `header: FST maximum` of LIST gives leave for it";
+
 /// The small master, whose table has 26 bytes, with `a` filled and this maximum.
 fn stated(temp: &Temp, maximum: u32) -> PathBuf {
     let mut bytes = filled_master();
@@ -268,10 +272,7 @@ fn a_table_above_its_maximum_is_not_written() {
         above(&temp, &image, args, after, "");
         let run = on(args[0], &image, &args[1..]);
         assert!(
-            run.err.ends_with(
-                "; so is every table that an edit would write, until the publisher states more, or 0 for no \
-                 maximum)\n"
-            ),
+            run.err.ends_with(&format!("; so is every table that an edit would write; {MORE})\n")),
             "{}",
             run.err
         );
@@ -310,13 +311,7 @@ fn what_is_added_is_counted() {
     for (args, after) in edits {
         above(&temp, &image, args, after, "");
         let run = on(args[0], &image, &args[1..]);
-        assert!(
-            run.err.ends_with(
-                "; no further entry fits; the publisher may state more, or 0 for no maximum)\n"
-            ),
-            "{}",
-            run.err
-        );
+        assert!(run.err.ends_with(&format!("; no further entry fits; {MORE})\n")), "{}", run.err);
     }
     for args in [
         &["rewrite"][..],
@@ -355,7 +350,7 @@ fn room_is_told_where_an_entry_fits() {
     ] {
         let image = stated(&temp, maximum);
         let run = on("add", &image, &[&long]);
-        let wanted = format!("; {words}; the publisher may state more, or 0 for no maximum)\n");
+        let wanted = format!("; {words}; {MORE})\n");
         assert!(run.status == 26 && run.err.ends_with(&wanted), "{maximum}: {}", run.err);
         // And it is so.
         let short = on("mkdir", &image, &["b"]);
@@ -577,4 +572,116 @@ fn help_tells_of_the_maximum() {
     }
     let help = run(&["help", "json"]).out;
     assert!(help.contains("26 also table{before after maximum above}"), "{help}");
+}
+
+// Another maximum ---------------------------------------------------------------------------
+
+/// States a maximum, dry and real: the four bytes of the field are all that is written.
+fn state(image: &Path, given: &str, stated: u32) -> String {
+    let mut wanted = fs::read(image).unwrap();
+    put(&mut wanted, FIELD, stated);
+    let out = accepted(image, &["maximum", given]);
+    assert!(fs::read(image).unwrap() == wanted, "{given}: {out}");
+    out
+}
+
+#[test]
+fn another_maximum_is_stated() {
+    let temp = Temp::new();
+    let image = stated(&temp, 26);
+    above(&temp, &image, &["mkdir", "fr"], 41, "");
+    let out = state(&image, "0x28", 40);
+    assert_eq!(
+        out,
+        "FST maximum: 0x1a (26 bytes) -> 0x28 (40 bytes)\n\
+         table             0x1a (26 bytes), 14 bytes left of the maximum of 40\n\
+         done: written and synced\n"
+    );
+    above(&temp, &image, &["mkdir", "fr"], 41, "");
+    let time = modified(&image);
+    let out = state(&image, "40", 40);
+    assert!(out.starts_with("FST maximum: 0x28 (40 bytes) already\n"), "{out}");
+    assert!(out.ends_with("done: there was nothing to write\n"), "{out}");
+    assert_eq!(modified(&image), time);
+    state(&image, "41", 41);
+    accepted(&image, &["mkdir", "fr"]);
+    // 0 states none, and the largest number is one.
+    let out = state(&image, "0", 0);
+    assert!(out.starts_with("FST maximum: 0x29 (41 bytes) -> 0 (none stated)\n"), "{out}");
+    accepted(&image, &["mkdir", "de"]);
+    state(&image, "4294967295", u32::MAX);
+    let out = state(&image, "64K", 0x1_0000);
+    assert!(out.contains(" -> 0x10000 (65,536 bytes, 64 KiB)\n"), "{out}");
+}
+
+/// Less than the table has may be stated, and is told.
+#[test]
+fn a_maximum_below_the_table_is_stated_and_told() {
+    let temp = Temp::new();
+    let image = stated(&temp, 0);
+    let out = state(&image, "25", 25);
+    let note = "the table has 26 bytes, 1 above the maximum of 25 that the header states; every edit that writes a \
+                table is refused";
+    assert!(out.contains(&format!("\nnote: {note}\n")), "{out}");
+    above(&temp, &image, &["rewrite"], 26, "");
+    let told = json("maximum", &image, &["1", "--dry-run"]);
+    assert!(told.at("notes").list()[0].text().contains("25 above the maximum of 1"));
+    assert!(!state(&image, "26", 26).contains("note: "));
+    // A table whose names share a text is held as an edit writes it.
+    let image = shared(&temp, 0);
+    let out = state(&image, "40", 40);
+    assert!(
+        out.contains("\ntable, rewritten  0x29 (41 bytes), 1 byte above the maximum of 40\n"),
+        "{out}"
+    );
+    assert!(
+        out.contains("\nnote: the table, rewritten with no name shared, has 41 bytes"),
+        "{out}"
+    );
+}
+
+#[test]
+fn a_maximum_that_is_stated_answers_in_json() {
+    let temp = Temp::new();
+    let image = stated(&temp, 26);
+    for (dry, given, before, written) in
+        [(true, "40", 26, false), (false, "40", 26, true), (false, "40", 40, false)]
+    {
+        let rest: &[&str] = if dry { &[given, "--dry-run"] } else { &[given] };
+        let told = json("maximum", &image, rest);
+        assert_eq!((told.at("status").number(), told.at("edit").text()), (0, "maximum"));
+        assert_eq!((told.at("dry_run").flag(), told.at("written").flag()), (dry, written));
+        let field = told.at("fst_maximum");
+        assert_eq!((field.at("before").number(), field.at("after").number()), (before, 40));
+        let numbers = ["fst_size", "fst_left", "fst_above", "fst_rewritten", "fst_rewritten_above"];
+        assert_eq!(numbers.map(|name| told.at(name).number()), [26, 14, 0, 26, 0]);
+        assert_eq!(told.at("notes").list(), []);
+    }
+}
+
+/// What cannot be stated, and images that are not edited.
+#[test]
+fn a_maximum_that_cannot_be_stated_is_told() {
+    let temp = Temp::new();
+    let image = stated(&temp, 26);
+    let before = State::of(&image);
+    for given in ["", "x", "-1", "auto", "4294967296", "0x100000000", "4G", "1.5"] {
+        let run = on("maximum", &image, &["--", given]);
+        assert_eq!(run.status, 64, "{given}: {}", run.err);
+    }
+    for rest in [&[][..], &["1", "2"], &["1", "--record", "totals"], &["1", "--bytes"]] {
+        assert_eq!(on("maximum", &image, rest).status, 64, "{rest:?}");
+    }
+    assert_eq!(on("maximum", &temp.at("nothing.iso"), &["1"]).status, 66);
+    assert_eq!(State::of(&image), before);
+    let mut bytes = filled_master();
+    put(&mut bytes, 0x450, 0x459);
+    refused(&temp.write("overlap.iso", &bytes), &["maximum", "40"], 14);
+    refused(&temp.write("short.iso", &bytes[..0x400]), &["maximum", "40"], 1);
+    // A record of the image is one still: no used byte is another, and no edit of it is counted.
+    let record = temp.at("totals");
+    done("resize", &image, &["a", "256", "--record", record.to_str().unwrap()]);
+    done("maximum", &image, &["0"]);
+    let out = done("add", &image, &["b", "--record", record.to_str().unwrap()]);
+    assert!(out.contains(", edits 2\n"), "{out}");
 }
