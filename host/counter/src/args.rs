@@ -195,7 +195,7 @@ const OUT: Flag = Flag {
 const GIVEN: Flag = Flag {
     name: "--given",
     value: Some(("LIST", Value::File)),
-    words: "what may differ, one path a line; a second --given adds to the first",
+    words: "what may differ, one path or `header: FIELD` a line; a second --given adds to the first",
 };
 const ONLY: Flag = Flag {
     name: "--only-differences",
@@ -337,7 +337,9 @@ pub const FORMS: &[Form] = &[
         ..look(
             "check",
             &[&IMAGE],
-            "opens the image, or says which refusal it meets and why; tells of a table above its maximum",
+            "opens the image, or says which refusal it meets and why; tells of a table above its maximum, of \
+             stored parents that are not the nesting's, of texts that no entry uses, and of a table that a rewrite \
+             would alter",
             &["counter check disc.iso"],
         )
     },
@@ -363,7 +365,7 @@ pub const FORMS: &[Form] = &[
         ..look(
             "hash",
             &[&IMAGE],
-            "a manifest: the SHA-256 of the header's parts, the program and each file",
+            "a manifest: the SHA-256 of the header's fields, the table, the program and each file",
             &["counter hash disc.iso > disc.sums", "counter compare disc.sums disc.iso"],
         )
     },
@@ -495,23 +497,35 @@ journal like any other; it is none of the library's, and counts in no record (--
 line `header: FST maximum` of LIST gives leave for it.";
 
 const COMPARE: &str = "\
-LIST is a text file in UTF-8, one path a line as PATH is given; a line that ends in / stands for that folder and all in it. / \
+LIST is a text file in UTF-8 of at most 16 MiB, one path a line as PATH is given; a line that ends in / stands for that folder and all in it. / \
 alone stands for everything, and that is said aloud. A line that leads to the root in another way, or \
 above it, is an error (65).
+A line `header: FIELD` gives leave for a field of the header, as `header: FST maximum`; no entry has a `:` in its \
+name, so it is no path. FIELD is game code, maker, disc, version, audio, stream buffer, unused 0x0A, Wii magic, \
+GameCube magic, game name, debug offset, debug address, unused 0x408, DOL offset, FST offset, FST size, FST \
+maximum, user position, user size, disc size or unused 0x43C; another name is an error (65).
 Exit status 1 if a file or folder that is not on LIST differs in place, size or bytes, is gone, or is \
-hidden by another entry of its name that stands before it now; also if the bytes before the table (but for the table's size), the program, the disc end or what lies \
-behind it differ. New files and folders, another order of the entries and other bytes in the free \
+hidden by another entry of its name that stands before it now; also if a field of the header without leave (but \
+for the table's size), the system area, the program, the disc end or what lies behind it differ, with the place of \
+the first byte. New files and folders, another order of the entries and other bytes in the free \
 space are told and do not fail the check.
+The table must be as it was, byte for byte, or exactly what a rewrite of this tree writes (`written anew`), which \
+it is after every edit that writes one. Any other, a stored parent that is not the nesting's or bytes behind the \
+names, fails the check.
 Files are matched by path, equal names in one folder by their order; a path on LIST means the first.
 With a manifest in the place of BEFORE the sums are compared. A file that became shorter has no sum to \
-be held against; its bytes are then not compared, which is told.
+be held against; its bytes are then not compared, which is told. Anyone can write a manifest, so its own SHA-256 is \
+told: hold it against what its maker told you elsewhere. One that leaves out a part of the disc, or that names the \
+sum of AFTER and says otherwise of it, is none (65). One of version 1 has no sum of the table: a table that is not \
+what a rewrite writes is then `unknown`, and fails the check.
+With --as-is an image of which an edit was cut does not pass (78), since it may hold a part of the edit.
 An image too short for a header ends compare with 65, since 1 says that something differs; every other \
 refusal ends it with its own number.";
 
 const MANIFEST: &str = "\
 A line for each file, as sha256sum writes it: the sum, two spaces, the path. Everything else is on \
-lines that begin with #: before each file its place and size, the folders, the header's parts, the \
-program, the table, the free regions and what lies behind the disc end. After `counter extract IMAGE \
+lines that begin with #: before each file its place and size, the folders, the header's fields, the system \
+area, the table, the program, the free regions and what lies behind the disc end. After `counter extract IMAGE \
 --all DIR`, `sha256sum -c` holds the files in DIR to the manifest. The last line is the sum of all \
 lines above it, so that a manifest that was cut is recognised.
 Paths are in UTF-8, with --bytes in the image's bytes, and compare and report see which. A \\ in a file's \
@@ -519,8 +533,9 @@ path is doubled and its line begins with one, as sha256sum has it.";
 
 const REPORT: &str = "\
 The page holds all it shows: verdict, LIST, each file that differs with place, size and SHA-256 before \
-and after, both maps, the sums of both images, this program's version and its library's sum. The exit \
-status is that of compare; the page is written in either case.";
+and after, both maps, the sums of both images and of a manifest, this program's version and its library's sum. \
+The exit status is that of compare; the page is written in either case. It is green only where the check passed by \
+a list that does not cover everything, of images of which no edit was cut.";
 
 const RECOVER: &str = "\
 Where there is no journal, no edit was cut, and the image is not touched. A journal that is torn, or of another \

@@ -1,21 +1,22 @@
 //! `compare`: what differs between two images, file by file, and whether it was given leave to.
 
+use crate::area::{Area, Was, header, old_header, program, system, table, tail};
 use crate::args::Args;
 use crate::disc::Disc;
-use crate::failure::{DATA, Failure, Outcome};
+use crate::failure::{CUT, DATA, Failure, Outcome};
 use crate::given::Given;
 use crate::image::{Desk, Image, same_file};
 use crate::json::{self, Json};
 use crate::layout::{Layout, Record};
-use crate::manifest::{Manifest, PROGRAM, Part, TAIL, is_manifest, sums};
+use crate::manifest::{Manifest, PROGRAM, Part, SYSTEM, TABLE, TAIL, is_manifest, of_field, sums};
 use crate::map::{self, Marks};
 use crate::names;
 use crate::out::say;
 use crate::progress::Progress;
 use crate::save::{save, vacant};
 use crate::sha256::{Sum, hex};
+use crate::stored::first_difference;
 use crate::text::{counted, grouped};
-use counter_sys::Region;
 use std::collections::{HashMap, HashSet};
 use std::fmt::Write as _;
 use std::io::Write as _;
@@ -26,7 +27,7 @@ const STEP: usize = 4 << 20;
 pub fn compare(args: &Args) -> Outcome<u8> {
     args.map.as_deref().map_or(Ok(()), vacant)?;
     let pair = Pair::read(args)?;
-    let found = pair.compare(Given::read(&args.given)?);
+    let found = pair.compare(Given::read(&args.given)?)?;
     if let Some(out) = &args.map {
         let both = map::side_by_side(pair.before.layout(), &pair.after, &found.marks());
         save(out, both.as_bytes())?;
@@ -61,7 +62,7 @@ pub struct Pair {
     pub image: Image,
     pub after: Layout,
     /// As they were given.
-    names: (String, String),
+    pub names: (String, String),
 }
 
 impl Pair {
@@ -85,6 +86,16 @@ impl Pair {
             return Err(Failure::usage(text));
         }
         Ok(Pair { before, image, after, names })
+    }
+
+    /// Those of which an edit was cut, so that they hold a part of it, maybe.
+    pub fn cut(&self) -> Vec<&str> {
+        let before = match &self.before {
+            Before::Image(image, _) => image.is_cut(),
+            Before::Manifest(manifest) => manifest.cut,
+        };
+        let sides = [(before, &self.names.0), (self.image.is_cut(), &self.names.1)];
+        sides.into_iter().filter(|(cut, _)| *cut).map(|(_, name)| name.as_str()).collect()
     }
 }
 
@@ -252,12 +263,6 @@ fn reordered(old: &[Item], new: &[Item]) -> bool {
 
 // Bytes -----------------------------------------------------------------------------------
 
-/// A part of the image that is no file, and whether it differs.
-pub struct Area {
-    pub name: &'static str,
-    pub changed: bool,
-}
-
 /// The bytes that are free before and after.
 pub enum FreeSpace {
     Unchanged,
@@ -306,22 +311,29 @@ struct Bytes<'a> {
 impl Bytes<'_> {
     /// Whether the two spans hold the same bytes.
     fn equal(&self, at: u64, to: u64, size: u64) -> bool {
+        self.first(at, to, size).is_none()
+    }
+
+    /// Where in the second one the spans differ first.
+    fn first(&self, at: u64, to: u64, size: u64) -> Option<u64> {
         // An empty file's place may be anything.
         if size == 0 {
-            return true;
+            return None;
         }
         let span = |bytes: &'_ [u8], at: u64| -> Option<std::ops::Range<usize>> {
             let end = at.checked_add(size)?;
             (end <= bytes.len() as u64).then_some(at as usize..end as usize)
         };
-        let (Some(a), Some(b)) = (span(self.a, at), span(self.b, to)) else { return false };
+        let (Some(a), Some(b)) = (span(self.a, at), span(self.b, to)) else { return Some(to) };
+        let mut before = to;
         for (a, b) in self.a[a].chunks(STEP).zip(self.b[b].chunks(STEP)) {
             self.progress.advance(a.len() as u64);
             if a != b {
-                return false;
+                return first_difference(a, b).map(|i| before + i as u64);
             }
+            before += a.len() as u64;
         }
-        true
+        None
     }
 
     /// How many bytes of the span differ, and where the first is.
@@ -344,40 +356,52 @@ impl Bytes<'_> {
     }
 }
 
-const SYSTEM: &str = "header and all before the table";
-const END: &str = "disc end and all behind it";
+/// So many lines of one kind are told, and the others counted.
+pub const TOLD: usize = 12;
 
 impl Pair {
-    pub fn compare(&self, given: Given) -> Comparison<'_> {
+    pub fn compare(&self, given: Given) -> Outcome<Comparison<'_>> {
         let before = self.before.layout();
         let (old, new) = (items(&before.records), items(&self.after.records));
         let mut rows = matched(&old, &new);
         for row in &mut rows {
             row.given = row.first && given.covers(&row.path);
         }
-        let (areas, free) = match &self.before {
-            Before::Image(image, layout) => self.bytes(image, layout, &mut rows),
-            Before::Manifest(manifest) => self.held(manifest, &mut rows),
+        let (areas, free, sum) = match &self.before {
+            Before::Image(image, layout) => self.bytes(image, layout, &mut rows, &given),
+            Before::Manifest(manifest) => self.held(manifest, &mut rows, &given),
         };
         let unknown = given.unknown(rows.iter().map(|row| &row.path[..]));
-        for path in &unknown {
+        for path in unknown.iter().take(TOLD) {
             let path = names::text(path);
             eprintln!("counter: the list has {path}, which neither image has (a folder ends in /)");
         }
+        if unknown.len() > TOLD {
+            let more = grouped((unknown.len() - TOLD) as u64);
+            eprintln!("counter: the list has {more} more that neither image has");
+        }
         let reordered = reordered(&old, &new);
-        Comparison { pair: self, rows, areas, reordered, free, given, unknown }
+        let found = Comparison { pair: self, rows, areas, reordered, free, given, unknown, sum };
+        found.holds_together()?;
+        Ok(found)
     }
 
     /// Byte by byte.
-    fn bytes(&self, image: &Image, old: &Layout, rows: &mut [Row]) -> (Vec<Area>, FreeSpace) {
+    fn bytes(
+        &self,
+        image: &Image,
+        old: &Layout,
+        rows: &mut [Row],
+        given: &Given,
+    ) -> (Vec<Area>, FreeSpace, Option<Sum>) {
         let new = &self.after;
         let shared = shared_free(old, new);
-        let tail = old.tail();
+        let behind = old.behind().map_or(0, |program| program.size.into());
         let total = rows.iter().map(Row::common).sum::<u64>()
-            + u64::from(old.fst.0)
+            + old.table_end()
             + shared.iter().map(|(start, end)| end - start).sum::<u64>()
-            + old.behind().map_or(0, |program| program.size.into())
-            + tail.1;
+            + behind
+            + old.tail().1;
         let progress = Progress::start("comparing", total);
         let bytes = Bytes { a: image.bytes(), b: self.image.bytes(), progress: &progress };
         for row in rows {
@@ -386,31 +410,35 @@ impl Pair {
                 _ => None,
             };
         }
-        let mut areas = Vec::new();
-        let system = old.fst.0 == new.fst.0
-            && old
-                .system()
-                .iter()
-                .all(|&(_, at, size)| bytes.equal(at.into(), at.into(), size.into()));
-        areas.push(Area { name: SYSTEM, changed: !system });
-        if let Some(Region { offset: at, size }) = old.behind() {
-            let same = bytes.equal(at.into(), at.into(), size.into());
-            areas.push(Area { name: PROGRAM, changed: !same });
-        }
-        let same = tail == new.tail() && bytes.equal(tail.0, tail.0, tail.1);
-        areas.push(Area { name: END, changed: !same });
-        let (mut count, mut first) = (0, None);
+        let first = |(at, size): (u64, u64)| bytes.first(at, at, size);
+        let mut areas = header(given, |field| first((field.at as u64, field.size as u64)));
+        areas.push(system(old, new, &first));
+        let tables = [(image, old), (&self.image, new)].map(|(image, layout)| {
+            let (at, size) = (layout.fst.0 as usize, layout.fst.1 as usize);
+            &image.bytes()[at..at + size]
+        });
+        let at = first_difference(tables[0], tables[1]);
+        let was = at.map(|at| u64::from(new.fst.0) + at as u64);
+        areas.push(table(new, tables[1], was.map_or(Was::Same, Was::Differs)));
+        areas.extend(program(old, new, given, &first));
+        areas.push(tail(old, new, given, &first));
+        let (mut count, mut at) = (0, None);
         for (start, end) in shared {
-            let (differing, at) = bytes.differing(start, end);
+            let (differing, first) = bytes.differing(start, end);
             count += differing;
-            first = first.or(at);
+            at = at.or(first);
         }
-        let free = first.map_or(FreeSpace::Unchanged, |at| FreeSpace::Changed(Some(count), at));
-        (areas, free)
+        let free = at.map_or(FreeSpace::Unchanged, |at| FreeSpace::Changed(Some(count), at));
+        (areas, free, None)
     }
 
     /// Sum by sum.
-    fn held(&self, manifest: &Manifest, rows: &mut [Row]) -> (Vec<Area>, FreeSpace) {
+    fn held(
+        &self,
+        manifest: &Manifest,
+        rows: &mut [Row],
+        given: &Given,
+    ) -> (Vec<Area>, FreeSpace, Option<Sum>) {
         let (old, new) = (&manifest.layout, &self.after);
         let shared = shared_free(old, new);
         let free_now = |part: &&Part| {
@@ -424,9 +452,11 @@ impl Pair {
             let end = part.offset.checked_add(part.size);
             end.is_some_and(|end| end <= new.bytes).then_some((part.offset, part.size))
         }));
+        wanted.push(Some((0, new.bytes)));
         let spans: Vec<(u64, u64)> = wanted.iter().map(|span| span.unwrap_or((0, 0))).collect();
         let progress = Progress::start("comparing", spans.iter().map(|span| span.1).sum());
         let mut found = sums(self.image.bytes(), &spans, &progress);
+        let whole = found.pop();
         let of_parts = found.split_off(rows.len());
         let held = parts.iter().zip(&of_parts).zip(&wanted[rows.len()..]);
         let mut same: Vec<bool> =
@@ -435,24 +465,46 @@ impl Pair {
             row.changed = span.map(|_| Some(sum) != row.sum);
         }
         let same_free = same.split_off(manifest.parts.len());
-        let named = |name: &str| {
-            let at = manifest.parts.iter().position(|part| part.name == name);
-            at.is_some_and(|at| same[at])
-        };
-        let system = old.fst.0 == new.fst.0 && old.system().iter().all(|(name, ..)| named(name));
-        let mut areas = vec![Area { name: SYSTEM, changed: !system }];
-        if old.behind().is_some() {
-            areas.push(Area { name: PROGRAM, changed: !named(PROGRAM) });
-        }
-        let tail = old.tail() == new.tail() && named(TAIL);
-        areas.push(Area { name: END, changed: !tail });
+        let areas = self.held_areas(manifest, &same, whole == Some(manifest.image), given);
         let spoiled = free.iter().zip(same_free).find(|(_, same)| !same);
         let told = match (spoiled, manifest.free.len() - free.len()) {
             (Some((part, _)), _) => FreeSpace::Changed(None, part.offset),
             (None, 0) => FreeSpace::Unchanged,
             (None, used) => FreeSpace::Unknown(used, manifest.free.len()),
         };
-        (areas, told)
+        (areas, told, whole)
+    }
+
+    /// What is no file, where `same` says of each part of the manifest whether its sum is the same. A sum
+    /// tells no byte: where it is another, the part's start stands for it.
+    fn held_areas(
+        &self,
+        manifest: &Manifest,
+        same: &[bool],
+        same_image: bool,
+        given: &Given,
+    ) -> Vec<Area> {
+        let (old, new) = (&manifest.layout, &self.after);
+        let differs = |name: &str| -> Option<u64> {
+            let at = manifest.parts.iter().position(|part| part.name == name);
+            at.map_or(Some(0), |at| (!same[at]).then_some(manifest.parts[at].offset))
+        };
+        let mut areas = match manifest.version {
+            1 => old_header(&differs),
+            _ => header(given, |field| differs(&of_field(field))),
+        };
+        areas.push(system(old, new, &|_| differs(SYSTEM)));
+        let was = match manifest.version {
+            1 if same_image => Was::Same,
+            1 => Was::Unknown,
+            _ if old.fst.1 == new.fst.1 && differs(TABLE).is_none() => Was::Same,
+            _ => Was::Other,
+        };
+        let (at, size) = (new.fst.0 as usize, new.fst.1 as usize);
+        areas.push(table(new, &self.image.bytes()[at..at + size], was));
+        areas.extend(program(old, new, given, &|_| differs(PROGRAM)));
+        areas.push(tail(old, new, given, &|_| differs(TAIL)));
+        areas
     }
 }
 
@@ -493,13 +545,75 @@ pub struct Comparison<'a> {
     pub free: FreeSpace,
     pub given: Given,
     pub unknown: Vec<Vec<u8>>,
+    /// The sum of the image as it is, where it was worked out.
+    pub sum: Option<Sum>,
 }
 
 impl Comparison<'_> {
     /// How many differences have no leave.
     pub fn broken(&self) -> usize {
         let rows = self.rows.iter().filter(|row| row.breaks()).count();
-        rows + self.areas.iter().filter(|area| area.changed).count()
+        rows + self.areas.iter().filter(|area| area.breaks()).count()
+    }
+
+    /// That a manifest which names the sum of the image at hand says of it what is so.
+    fn holds_together(&self) -> Outcome<()> {
+        let Before::Manifest(manifest) = &self.pair.before else { return Ok(()) };
+        if self.sum != Some(manifest.image) {
+            return Ok(());
+        }
+        let differs: Vec<&Row> =
+            self.rows.iter().filter(|row| row.status() != "unchanged").collect();
+        let area = self.areas.iter().find(|area| area.differs());
+        let what = match (differs.first(), area) {
+            (Some(row), _) if row.before.is_none() => format!("lacks {}", names::text(&row.path)),
+            (Some(row), _) => format!("says otherwise of {}", names::text(&row.path)),
+            (None, Some(area)) => format!("says otherwise of the {}", area.words()),
+            (None, None) => return Ok(()),
+        };
+        let more = match differs.len() {
+            0 | 1 => String::new(),
+            more => format!(" and {}", counted(more - 1, "entry more", "entries more")),
+        };
+        let text = format!(
+            "{}: the manifest names the sum of {}, and {what}{more}: lines of it were left out or changed",
+            self.pair.names.0, self.pair.names.1
+        );
+        Err(Failure::error(DATA, text))
+    }
+
+    /// Nothing differs without leave, and no edit was cut of what was compared.
+    pub fn passed(&self) -> bool {
+        self.broken() == 0 && self.pair.cut().is_empty()
+    }
+
+    /// What is to be known besides, in sentences.
+    pub fn remarks(&self) -> Vec<String> {
+        let mut remarks: Vec<String> = self.pair.cut().into_iter().map(cut_words).collect();
+        if let Before::Manifest(manifest) = &self.pair.before {
+            remarks.push(format!(
+                "the manifest {} has SHA-256 {}: hold that against what its maker told you elsewhere, since \
+                 anyone can write a manifest",
+                self.pair.names.0,
+                hex(&manifest.own)
+            ));
+            remarks.push(format!(
+                "it says that it is of {}, SHA-256 {}",
+                manifest.layout.name,
+                hex(&manifest.image)
+            ));
+            if manifest.version == 1 {
+                remarks.push(
+                    "it is of version 1, which has no sum of the table: `counter hash` of the image as it was \
+                     makes one that has"
+                        .into(),
+                );
+            }
+        }
+        if let Some(sum) = &self.sum {
+            remarks.push(format!("{} has SHA-256 {}", self.pair.names.1, hex(sum)));
+        }
+        remarks
     }
 
     /// The entries that differ, are gone or new, for the maps.
@@ -510,7 +624,11 @@ impl Comparison<'_> {
     }
 
     pub fn status(&self) -> u8 {
-        u8::from(self.broken() > 0)
+        match (self.broken(), self.passed()) {
+            (0, true) => 0,
+            (0, false) => CUT,
+            _ => 1,
+        }
     }
 
     fn count(&self, of: impl Fn(&Row) -> bool) -> usize {
@@ -544,7 +662,8 @@ impl Comparison<'_> {
         let list =
             if self.given.listed { "not on the list" } else { "not given (there is no list)" };
         match self.broken() {
-            0 => format!("passed: nothing differs that is {list}"),
+            0 if self.passed() => format!("passed: nothing differs that is {list}"),
+            0 => format!("UNFINISHED: nothing differs that is {list}, but an edit was cut"),
             broken => format!("FAILED: {} {list}", counted(broken, "difference", "differences")),
         }
     }
@@ -552,8 +671,8 @@ impl Comparison<'_> {
     /// What is no file: a word and what it is about.
     pub fn others(&self) -> Vec<(&'static str, String)> {
         let word = |changed| if changed { "changed" } else { "unchanged" };
-        let areas = self.areas.iter().map(|area| (word(area.changed), area.name.to_string()));
-        let mut told: Vec<(&str, String)> = areas.collect();
+        let mut told: Vec<(&str, String)> =
+            self.areas.iter().map(|area| (area.status, area.words())).collect();
         told.push((word(self.reordered), "order of the entries".into()));
         told.push((self.free.word(), self.free.words()));
         told
@@ -575,10 +694,18 @@ impl Comparison<'_> {
             }
             let _ = writeln!(out, "{line}");
         }
-        for (status, name) in self.others() {
+        for (i, (status, name)) in self.others().into_iter().enumerate() {
             if status != "unchanged" || !only_differences {
-                let _ = writeln!(out, "{status:<16} ({name})");
+                let leave = match self.areas.get(i).filter(|area| area.differs()) {
+                    None => "",
+                    Some(area) if area.given => "  [given]",
+                    Some(_) => "  [NOT GIVEN]",
+                };
+                let _ = writeln!(out, "{status:<16} ({name}){leave}");
             }
+        }
+        for remark in self.remarks() {
+            let _ = writeln!(out, "{remark}");
         }
         let _ = writeln!(out, "{}", self.totals());
         if self.given.covers_all() {
@@ -597,17 +724,26 @@ impl Comparison<'_> {
             fields.push(("given", row.given.into()));
             Json::Object(fields)
         });
-        let areas = self.areas.iter().map(|area| {
-            Json::Object(vec![("name", area.name.into()), ("changed", area.changed.into())])
-        });
+        let areas = self.areas.iter().map(Area::json);
+        let own = match &self.pair.before {
+            Before::Manifest(manifest) => Some((hex(&manifest.own), hex(&manifest.image))),
+            Before::Image(..) => None,
+        };
+        let (own, image) = own.unzip();
+        let cut = self.pair.cut().into_iter().map(Json::from);
         let counts = self.counts().into_iter().map(|(word, n)| (word, Json::from(n)));
         let unknown = self.unknown.iter().map(|path| names::text(path).into());
         let unknown_bytes = self.unknown.iter().map(|path| hex(path).into());
         Json::Object(vec![
+            ("status", u32::from(self.status()).into()),
             ("before", self.pair.names.0.as_str().into()),
             ("after", self.pair.names.1.as_str().into()),
-            ("manifest", matches!(self.pair.before, Before::Manifest(_)).into()),
-            ("passed", (self.broken() == 0).into()),
+            ("manifest", own.is_some().into()),
+            ("manifest_sum", own.into()),
+            ("before_sum", image.into()),
+            ("after_sum", self.sum.as_ref().map(|sum| hex(sum)).into()),
+            ("passed", self.passed().into()),
+            ("cut", Json::List(cut.collect())),
             ("covers_all", self.given.covers_all().into()),
             ("order_changed", self.reordered.into()),
             ("free_space", self.free.word().into()),
@@ -619,6 +755,12 @@ impl Comparison<'_> {
             ("unknown_bytes", Json::List(unknown_bytes.collect())),
         ])
     }
+}
+
+fn cut_words(name: &str) -> String {
+    format!(
+        "an edit of {name} was cut, and it may hold a part of it: `counter recover` finishes the edit"
+    )
 }
 
 fn difference(row: &Row) -> String {

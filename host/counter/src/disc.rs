@@ -46,6 +46,17 @@ impl Node {
     pub fn is_directory(&self) -> bool {
         matches!(self.kind, Kind::Directory { .. })
     }
+
+    /// Where its name lies in the image.
+    pub fn name_offset(&self) -> usize {
+        self.place.0 as usize
+    }
+
+    /// The name as the table has it, kept or not.
+    pub fn stored_name<'a>(&self, image: &'a Image) -> &'a [u8] {
+        let rest = image.bytes().get(self.name_offset()..).unwrap_or_default();
+        rest.get(..self.place.1 as usize).unwrap_or_default()
+    }
 }
 
 /// Opens the image at `path`, or without one the built-in small master, and reads it.
@@ -206,8 +217,7 @@ impl Disc {
         let mut parts: Vec<&[u8]> = Vec::new();
         let mut at = node;
         while at.number > 0 {
-            let (start, size) = (at.place.0 as usize, at.place.1 as usize);
-            parts.push(image.bytes().get(start..start + size).unwrap_or_default());
+            parts.push(at.stored_name(image));
             at = &self.nodes[at.parent as usize];
         }
         parts.reverse();

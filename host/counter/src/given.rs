@@ -1,18 +1,25 @@
-//! The list of what may differ: a text file, one path a line.
+//! The list of what may differ: a text file, one path a line, or one field of the header.
 
-use crate::failure::{DATA, Failure, INPUT_OUTPUT, NO_INPUT, Outcome};
+use crate::failure::{DATA, Failure, Outcome};
+use crate::header::Field;
+use crate::image::cannot_open;
 use crate::names;
 use std::collections::HashSet;
-use std::fs;
-use std::io;
+use std::fs::File;
+use std::io::Read;
 use std::path::{Path, PathBuf};
+
+/// Most bytes of a list: those of 16,384 paths, the longest that there are.
+const LONGEST: u64 = 16 << 20;
 
 /// The paths that may differ.
 #[derive(Default)]
 pub struct Given {
     files: HashSet<Vec<u8>>,
     /// Folders, with `/` at the end; `/` alone is all.
-    folders: Vec<Vec<u8>>,
+    folders: HashSet<Vec<u8>>,
+    /// Fields of the header, by their offsets.
+    fields: HashSet<usize>,
     /// The lines, for what is said about them.
     pub lines: Vec<String>,
     pub listed: bool,
@@ -31,11 +38,15 @@ impl Given {
     }
 
     fn add(&mut self, list: &Path) -> Outcome<()> {
-        let bytes = fs::read(list).map_err(|e| {
-            let missing = e.kind() == io::ErrorKind::NotFound;
-            Failure::file(if missing { NO_INPUT } else { INPUT_OUTPUT }, list, &e)
-        })?;
+        let mut bytes = Vec::new();
+        File::open(list)
+            .and_then(|file| file.take(LONGEST + 1).read_to_end(&mut bytes))
+            .map_err(|e| cannot_open(list, &e))?;
         let name = names::file(list);
+        if bytes.len() as u64 > LONGEST {
+            let text = format!("{name}: no list has more than 16 MiB");
+            return Err(Failure::error(DATA, text));
+        }
         if bytes.starts_with(&[0xFF, 0xFE]) || bytes.starts_with(&[0xFE, 0xFF]) {
             return Err(Failure::error(DATA, format!("{name}: UTF-16; the list has to be UTF-8")));
         }
@@ -45,7 +56,10 @@ impl Given {
         for (i, line) in lines.enumerate() {
             let line = line.strip_suffix(b"\r").unwrap_or(line);
             if !line.is_empty() {
-                let taken = names::read(line).and_then(|path| self.line(&path));
+                let taken = match of_header(line) {
+                    Some(field) => self.field(field),
+                    None => names::read(line).and_then(|path| self.line(&path)),
+                };
                 taken.map_err(|why| {
                     Failure::error(DATA, format!("{name}, line {}: {why}", i + 1))
                 })?;
@@ -57,26 +71,39 @@ impl Given {
     fn line(&mut self, line: &[u8]) -> Result<(), String> {
         let text = names::text(line);
         if line == b"/" {
-            self.folders.push(line.to_vec());
+            self.folders.insert(line.to_vec());
         } else {
             let path = walked(line).map_err(|why| format!("\"{text}\" {why}"))?;
             match names::parts(line).last() {
-                Some(&b"") => self.folders.push([&path[..], b"/"].concat()),
-                _ => _ = self.files.insert(path),
-            }
+                Some(&b"") => self.folders.insert([&path[..], b"/"].concat()),
+                _ => self.files.insert(path),
+            };
         }
         self.lines.push(text);
         Ok(())
     }
 
-    /// The list says that everything may differ.
-    pub fn covers_all(&self) -> bool {
-        self.folders.iter().any(|folder| folder == b"/")
+    fn field(&mut self, name: &str) -> Result<(), String> {
+        let field = Field::named(name)?;
+        self.fields.insert(field.at);
+        self.lines.push(format!("header: {}", field.name));
+        Ok(())
     }
 
-    /// A file's path, or a folder's with `/` at its end.
+    /// The list says that everything may differ.
+    pub fn covers_all(&self) -> bool {
+        self.folders.contains(&b"/"[..])
+    }
+
+    /// A file's path, or a folder's with `/` at its end; a `/` is in no pair.
     pub fn covers(&self, path: &[u8]) -> bool {
-        self.files.contains(path) || self.folders.iter().any(|folder| path.starts_with(folder))
+        let ends = (1..=path.len()).filter(|&end| path[end - 1] == b'/');
+        self.files.contains(path) || ends.into_iter().any(|end| self.folders.contains(&path[..end]))
+    }
+
+    /// Whether a field of the header may differ.
+    pub fn gives(&self, field: &Field) -> bool {
+        self.fields.contains(&field.at)
     }
 
     /// What the list has and none of `paths` is.
@@ -89,6 +116,12 @@ impl Given {
         unknown.dedup();
         unknown
     }
+}
+
+/// What a line `header: NAME` names. No entry has a `:` in its name, so it is no path.
+fn of_header(line: &[u8]) -> Option<&str> {
+    let (word, name) = std::str::from_utf8(line).ok()?.split_once(':')?;
+    word.trim().eq_ignore_ascii_case("header").then_some(name.trim())
 }
 
 /// A path as lookup walks it. One that ends at the root or goes above it means no file, and is more

@@ -178,7 +178,10 @@ const FIELDS: &[(&str, &str)] = &[
     (
         "check",
         "status opens entries files disc_end used free fst_size fst_maximum fst_left fst_above fst_rewritten \
-         fst_rewritten_above",
+         fst_rewritten_above stored_parents[number path path_bytes stored parent] root{name_offset parent} \
+         unused_texts unused_texts_at rewrite_alters_at notes[...]; stored_parents: folders whose stored parent \
+         is not the one that they are nested in; unused_texts: bytes of the table's texts that no entry uses; \
+         rewrite_alters_at: where a rewrite would begin to alter the table, or null",
     ),
     ("compare", COMPARED),
     ("report", COMPARED),
@@ -200,10 +203,13 @@ const FIELDS: &[(&str, &str)] = &[
     ),
 ];
 
-const COMPARED: &str = "before after manifest passed covers_all order_changed free_space \
-    counts{unchanged moved resized changed new gone} areas[name changed] \
+const COMPARED: &str = "status before after manifest manifest_sum before_sum after_sum passed cut[name] \
+    covers_all order_changed free_space \
+    counts{unchanged moved resized changed new gone} areas[name status changed given field offset] \
     folders[path path_bytes status given] unknown[path] unknown_bytes[path] files[path path_bytes first \
-    status moved resized changed hidden given before{offset size} after{offset size}]; changed: null where it cannot be told; free_space: unchanged, changed or \
+    status moved resized changed hidden given before{offset size} after{offset size}]; changed: null where it cannot be told; an area's status: unchanged, changed, unknown or, \
+    of the table, `written anew`; manifest_sum: of the manifest itself; before_sum: of the image that it names, \
+    both null without one; cut: those of which an edit was cut; free_space: unchanged, changed or \
     unknown; files and folders: only those that differ, with --only-differences";
 
 const EDITED: &str = "status edit path path_bytes dry_run written table{before after} \

@@ -43,11 +43,15 @@ impl Image {
             return Ok(Image { name: BUILT_IN.into(), path: None, bytes });
         };
         let image = Image::map(path, Access::Read)?;
-        match image.path.as_deref().is_some_and(journal::is_there) && !AS_IS.load(Ordering::SeqCst)
-        {
+        match image.is_cut() && !AS_IS.load(Ordering::SeqCst) {
             true => Err(unfinished(image.path().unwrap_or(path))),
             false => Ok(image),
         }
+    }
+
+    /// Whether an edit of it was cut: its journal is there.
+    pub fn is_cut(&self) -> bool {
+        self.path.as_deref().is_some_and(journal::is_there)
     }
 
     /// The file at `path`, to be edited. A journal is left to whoever edits.

@@ -7,8 +7,9 @@ use crate::image::{Desk, Image};
 use crate::names;
 use crate::program::Program;
 use crate::sha256::Sum;
+use crate::stored::departure;
 use crate::text::{one_line, shown};
-use counter_sys::Region;
+use counter_sys::{HEADER_SIZE, Region};
 
 /// An entry of the table.
 pub struct Record {
@@ -44,6 +45,9 @@ pub struct Layout {
     pub bytes: u64,
     pub disc_end: u32,
     pub fst: (u32, u32),
+    /// Where the table begins to be another than a rewrite of its tree writes, if it is; a manifest's is not
+    /// looked at.
+    pub departure: Option<u64>,
     pub program: Option<Program>,
     pub free: Vec<Region>,
     pub records: Vec<Record>,
@@ -70,6 +74,7 @@ impl Layout {
             bytes: image.bytes().len() as u64,
             disc_end: disc.opened.disc_end,
             fst: (disc.opened.fst_offset, disc.opened.fst_size),
+            departure: departure(image, disc),
             program: Program::read(image, desk, &disc.opened)?,
             free: disc.free.clone(),
             records: records.collect(),
@@ -93,14 +98,14 @@ impl Layout {
         self.free.iter().map(|region| u64::from(region.size)).sum()
     }
 
-    /// All before the table, a program there too, but for the table's size, which edits write.
-    pub fn system(&self) -> [(&'static str, u32, u32); 3] {
-        let fst = self.fst.0;
-        [
-            ("header up to the table's size", 0, 0x428),
-            ("header behind the table's size", 0x42C, 0x440 - 0x42C),
-            ("system area", 0x440, fst - 0x440),
-        ]
+    /// All before the table but the header, a program there too.
+    pub fn system(&self) -> (u64, u64) {
+        let header = HEADER_SIZE as u64;
+        (header, u64::from(self.fst.0).saturating_sub(header))
+    }
+
+    pub fn table(&self) -> (u64, u64) {
+        (self.fst.0.into(), self.fst.1.into())
     }
 
     /// What lies behind the disc end.

@@ -5,13 +5,14 @@ use crate::disc::{
     CLUSTER, Clusters, Kind, Space, free_clusters, not_opened, opened, space, table_end,
 };
 use crate::failure::{Failure, Outcome};
-use crate::header::Header;
+use crate::header::{FIELDS, Field, Header};
 use crate::image::Image;
 use crate::json::{self, Json, latin};
 use crate::maximum::Maximum;
 use crate::names::{self, shown as shown_name};
 use crate::out::say;
 use crate::program::Program;
+use crate::stored::Stored;
 use crate::text::{both, counted, grouped, hex, human, label, line, number, shown, size};
 use crate::tree::{free_json, node_fields, region_fields, weights};
 use counter_sys as counter;
@@ -19,29 +20,10 @@ use std::fmt::Write;
 
 // info ------------------------------------------------------------------------------------
 
-/// The header's 4-byte numbers: how JSON and people call them, and where they are.
-const WORDS: [(&str, &str, usize); 12] = [
-    ("wii_magic", "Wii magic", 0x18),
-    ("gamecube_magic", "GameCube magic", 0x1C),
-    ("debug_offset", "debug offset", 0x400),
-    ("debug_address", "debug address", 0x404),
-    ("dol_offset", "DOL offset", 0x420),
-    ("fst_offset", "FST offset", 0x424),
-    ("fst_size", "FST size", 0x428),
-    ("fst_maximum", "FST maximum", 0x42C),
-    ("user_position", "user position", 0x430),
-    ("user_size", "user size", 0x434),
-    ("disc_size", "disc size", 0x438),
-    ("unused_43c", "unused at 0x43c", 0x43C),
-];
-
-/// The header's single bytes.
-const SMALL: [(&str, &str, usize); 4] = [
-    ("disc", "disc", 6),
-    ("version", "version", 7),
-    ("audio_streaming", "audio streaming", 8),
-    ("stream_buffer", "stream buffer", 9),
-];
+/// The header's single bytes, and its 4-byte numbers.
+fn numbers(size: usize) -> impl Iterator<Item = &'static Field> {
+    FIELDS.iter().filter(move |field| field.size == size && field.name != "game code")
+}
 
 pub fn info(args: &Args) -> Outcome<()> {
     let (image, mut desk, disc) = space(args.image.as_deref())?;
@@ -69,11 +51,11 @@ fn info_fields(image: &Image, header: &Header, disc: &Space) -> Vec<(&'static st
         ("maker", latin(header.bytes(4, 2))),
         ("game_name", latin(header.game_name())),
     ];
-    for (name, _, at) in SMALL {
-        fields.push((name, u32::from(header.bytes(at, 1)[0]).into()));
+    for field in numbers(1) {
+        fields.push((field.key, u32::from(header.bytes(field.at, 1)[0]).into()));
     }
-    for (name, _, at) in WORDS {
-        fields.push((name, header.word(at).into()));
+    for field in numbers(4) {
+        fields.push((field.key, header.word(field.at).into()));
     }
     fields.push(("disc_end", disc.opened.disc_end.into()));
     fields.push(("table_end", table_end(&disc.opened).into()));
@@ -93,11 +75,11 @@ fn info_text(image: &Image, header: &Header, disc: &Space) -> String {
     line(&mut out, "file size", size(image.bytes().len() as u64));
     line(&mut out, "game", shown(header.game()));
     line(&mut out, "name", shown(header.game_name()));
-    for (_, name, at) in SMALL {
-        line(&mut out, name, header.bytes(at, 1)[0]);
+    for field in numbers(1) {
+        line(&mut out, field.shown, header.bytes(field.at, 1)[0]);
     }
-    for (_, name, at) in WORDS {
-        line(&mut out, name, hex(header.word(at)));
+    for field in numbers(4) {
+        line(&mut out, field.shown, hex(header.word(field.at)));
     }
     line(&mut out, "disc end", size(disc.opened.disc_end.into()));
     line(&mut out, "entries", disc.opened.entries);
@@ -273,34 +255,40 @@ pub fn place(args: &Args) -> Outcome<()> {
 }
 
 pub fn check(args: &Args) -> Outcome<()> {
-    let (image, mut desk, disc) = space(args.image.as_deref())?;
+    let (image, mut desk, disc) = opened(args.image.as_deref())?;
+    let space = Space::read(&image, &mut desk)?;
     let maximum = Maximum::read(&image, &mut desk, &disc.opened)?;
+    let stored = Stored::read(&image, &disc);
+    let mut notes: Vec<String> = maximum.note().into_iter().collect();
+    notes.extend(stored.notes());
     if args.json {
         let mut fields = vec![
             ("status", 0u32.into()),
             ("opens", true.into()),
             ("entries", disc.opened.entries.into()),
-            ("files", disc.files.into()),
+            ("files", space.files.into()),
             ("disc_end", disc.opened.disc_end.into()),
             ("used", disc.opened.used.into()),
-            ("free", disc.free_bytes().into()),
+            ("free", space.free_bytes().into()),
             ("fst_size", disc.opened.fst_size.into()),
             ("fst_maximum", maximum.stated.into()),
         ];
         fields.extend(maximum.fields());
+        fields.extend(stored.fields());
+        fields.push(("notes", Json::List(notes.into_iter().map(Json::from).collect())));
         return say(Json::Object(fields).document().as_bytes());
     }
     let mut text = format!(
         "{}: opens: {}, {}, {} used and {} free of {}\n",
         image.name,
-        counted(disc.files, "file", "files"),
-        counted(disc.folders(), "folder", "folders"),
+        counted(space.files, "file", "files"),
+        counted(space.folders(), "folder", "folders"),
         human(disc.opened.used.into()),
-        human(disc.free_bytes()),
+        human(space.free_bytes()),
         human(disc.opened.disc_end.into())
     );
-    if let Some(note) = maximum.note() {
+    for note in notes {
         let _ = writeln!(text, "note: {note}");
     }
-    say(text.as_bytes())
+    say(names::for_terminal(&text).as_bytes())
 }

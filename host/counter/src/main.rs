@@ -6,6 +6,7 @@
 #[macro_use]
 mod out;
 
+mod area;
 mod args;
 mod call;
 mod change;
@@ -42,6 +43,7 @@ mod room;
 mod save;
 mod sha256;
 mod signals;
+mod stored;
 mod sum;
 mod take;
 mod text;

@@ -3,6 +3,7 @@
 use crate::args::Args;
 use crate::disc::opened;
 use crate::failure::{DATA, Failure, INPUT_OUTPUT, Outcome};
+use crate::header::{FIELDS, FST_SIZE, Field};
 use crate::image::Image;
 use crate::layout::{Layout, Record};
 use crate::names;
@@ -10,14 +11,17 @@ use crate::out::say;
 use crate::program::Program;
 use crate::progress::Progress;
 use crate::sha256::{Sha256, Sum, hex};
-use counter_sys::Region;
+use counter_sys::{HEADER_SIZE, Region};
 use std::fs::{self, File};
 use std::io::{Read, Write};
 use std::path::Path;
 use std::sync::atomic::{AtomicUsize, Ordering};
 use std::thread;
 
-const FIRST: &str = "# counter manifest 1";
+/// The first version has no sum of the table and two of the header; it is read still.
+const FIRST: [&str; 2] = ["# counter manifest 1", "# counter manifest 2"];
+/// Says that an edit of the image was cut.
+const CUT: &str = "# cut";
 /// Says that paths are the image's bytes, and no UTF-8.
 const RAW: &str = "# names bytes";
 const LAST: &str = "# sum of the lines above ";
@@ -32,16 +36,56 @@ pub struct Part {
 
 /// An image's layout and sums.
 pub struct Manifest {
+    /// 1 has no sum of the table, and two of the header.
+    pub version: usize,
+    /// The sum of the manifest's own file, once it is read from one.
+    pub own: Sum,
+    /// Whether an edit of the image was cut when it was made.
+    pub cut: bool,
     pub layout: Layout,
     pub image: Sum,
-    /// Header and system area, program, what lies behind the disc end.
+    /// The header's fields, system area, table, program, what lies behind the disc end.
     pub parts: Vec<Part>,
     pub free: Vec<Part>,
 }
 
+impl Manifest {
+    /// The parts that a manifest of this version has, with what they are sums of.
+    fn fixed(layout: &Layout, version: usize) -> Vec<(String, (u64, u64))> {
+        let mut fixed = match version {
+            1 => OLD_HEADER.map(|(name, at, size)| (name.to_string(), (at, size))).to_vec(),
+            _ => FIELDS
+                .iter()
+                .filter(|field| field.name != FST_SIZE)
+                .map(|field| (of_field(field), (field.at as u64, field.size as u64)))
+                .collect(),
+        };
+        fixed.push((SYSTEM.into(), layout.system()));
+        if version > 1 {
+            fixed.push((TABLE.into(), layout.table()));
+        }
+        fixed.push((TAIL.into(), layout.tail()));
+        fixed
+    }
+}
+
+/// The header in a manifest of the first version.
+pub const OLD_HEADER: [(&str, u64, u64); 2] =
+    [("header up to the table's size", 0, 0x428), ("header behind the table's size", 0x42C, 0x14)];
+
+/// How a field of the header is called there.
+pub fn of_field(field: &Field) -> String {
+    format!("header: {}", field.name)
+}
+
+/// Most bytes of a manifest; that of a real disc has some hundred KiB.
+const LONGEST: u64 = 64 << 20;
+
 /// No file system holds a longer file; sums of sizes stay below 2^64.
 const MOST_BYTES: u64 = 1 << 60;
 
+pub const SYSTEM: &str = "system area";
+pub const TABLE: &str = "table";
 pub const PROGRAM: &str = "program";
 pub const TAIL: &str = "behind the disc end";
 const FREE: &str = "free";
@@ -51,7 +95,12 @@ pub fn hash(args: &Args) -> Outcome<()> {
     let disc = disc.with_paths()?;
     disc.tell_of_escapes();
     let layout = Layout::of(&image, &mut desk, &disc)?;
-    say(&Manifest::of(&image, layout).text())
+    let text = Manifest::of(&image, layout).text();
+    if text.len() as u64 > LONGEST {
+        let text = format!("{}: its manifest would have more than 64 MiB", image.name);
+        return Err(Failure::error(DATA, text));
+    }
+    say(&text)
 }
 
 // Sums ------------------------------------------------------------------------------------
@@ -102,13 +151,10 @@ impl Manifest {
         let wide = |(offset, size): (u32, u32)| (u64::from(offset), u64::from(size));
         let mut named: Vec<(String, (u64, u64))> = Vec::new();
         named.push(("image".into(), (0, layout.bytes)));
-        for (name, offset, size) in layout.system() {
-            named.push((name.into(), wide((offset, size))));
-        }
+        named.extend(Manifest::fixed(&layout, FIRST.len()));
         if let Some(program) = layout.program {
             named.push((PROGRAM.into(), wide((program.place.offset, program.place.size))));
         }
-        named.push((TAIL.into(), layout.tail()));
         let parts = named.len();
         for region in &layout.free {
             named.push((FREE.into(), wide((region.offset, region.size))));
@@ -129,15 +175,19 @@ impl Manifest {
             .map(|((name, (offset, size)), sum)| Part { name, offset, size, sum })
             .collect();
         let free = all.split_off(parts);
-        let image = all.remove(0).sum;
-        Manifest { layout, image, parts: all, free }
+        let sum = all.remove(0).sum;
+        let (version, cut) = (FIRST.len(), image.is_cut());
+        Manifest { version, own: [0; 32], cut, layout, image: sum, parts: all, free }
     }
 
     pub fn text(&self) -> Vec<u8> {
         let layout = &self.layout;
-        let mut out = format!("{FIRST}\n").into_bytes();
+        let mut out = format!("{}\n", FIRST[self.version - 1]).into_bytes();
         if names::are_raw() {
             let _ = writeln!(out, "{RAW}");
+        }
+        if self.cut {
+            let _ = writeln!(out, "{CUT}");
         }
         let _ = writeln!(out, "# image {} {} {}", hex(&self.image), layout.bytes, layout.name);
         let _ = writeln!(out, "# game {}", layout.game);
@@ -159,7 +209,7 @@ impl Manifest {
             }
             out.push(b'\n');
         }
-        let sum = hex(&of_lines(&out));
+        let sum = hex(&sum_of_bytes(&out));
         let _ = writeln!(out, "{LAST}{sum}");
         out
     }
@@ -192,7 +242,7 @@ fn of_sum_line(line: &[u8]) -> Option<(Sum, Vec<u8>)> {
     Some((sum, out))
 }
 
-fn of_lines(text: &[u8]) -> Sum {
+fn sum_of_bytes(text: &[u8]) -> Sum {
     let mut sha = Sha256::new();
     sha.update(text);
     sha.finish()
@@ -209,7 +259,7 @@ pub fn is_manifest(path: &Path) -> bool {
             let count = file.read(&mut start).unwrap_or(0);
             let start = &start[..count];
             let start = start.strip_prefix(b"\xEF\xBB\xBF").unwrap_or(start);
-            start.starts_with(&FIRST.as_bytes()[..18])
+            start.starts_with(&FIRST[0].as_bytes()[..18])
         })
 }
 
@@ -246,27 +296,34 @@ fn sum(line: &mut &str) -> Option<Sum> {
 
 impl Manifest {
     pub fn read(path: &Path) -> Outcome<Manifest> {
-        let bytes = fs::read(path).map_err(|e| Failure::file(INPUT_OUTPUT, path, &e))?;
         let wrong = |why: &str| Failure::error(DATA, format!("{}: {why}", names::file(path)));
+        let mut bytes = Vec::new();
+        File::open(path)
+            .and_then(|file| file.take(LONGEST + 1).read_to_end(&mut bytes))
+            .map_err(|e| Failure::file(INPUT_OUTPUT, path, &e))?;
+        if bytes.len() as u64 > LONGEST {
+            return Err(wrong("no manifest has more than 64 MiB"));
+        }
+        let own = sum_of_bytes(&bytes);
         let bytes = bytes.strip_prefix(b"\xEF\xBB\xBF").unwrap_or(&bytes);
         let lines: Vec<&[u8]> = bytes.split(|&b| b == b'\n').map(without_return).collect();
         let text = lines.join(&b'\n');
-        if lines[0] != FIRST.as_bytes() {
-            return Err(wrong("a manifest of another version of this program"));
-        }
+        let Some(version) = FIRST.iter().position(|first| lines[0] == first.as_bytes()) else {
+            return Err(wrong("a manifest of a later version of this program"));
+        };
         let cut = "the manifest was cut or changed: its last line is not the sum of the others";
         let end = text.iter().rposition(|&b| b != b'\n').map_or(0, |at| at + 1);
         let last = text[..end].iter().rposition(|&b| b == b'\n').map_or(0, |at| at + 1);
-        if text[last..end] != *format!("{LAST}{}", hex(&of_lines(&text[..last]))).as_bytes() {
+        if text[last..end] != *format!("{LAST}{}", hex(&sum_of_bytes(&text[..last]))).as_bytes() {
             return Err(wrong(cut));
         }
-        let mut reader = Reader::new();
+        let mut reader = Reader::new(version + 1, own);
         let lines = text[..last.saturating_sub(1)].split(|&b| b == b'\n');
         for (i, line) in lines.enumerate().skip(1) {
             let told = reader.line(line);
             told.map_err(|why| wrong(&format!("line {} {why}", i + 1)))?;
         }
-        reader.done().ok_or_else(|| wrong("the manifest lacks a line"))
+        reader.done().map_err(|why| wrong(&why))
     }
 }
 
@@ -286,7 +343,7 @@ struct Reader {
 }
 
 impl Reader {
-    fn new() -> Reader {
+    fn new(version: usize, own: Sum) -> Reader {
         let root = Record {
             number: 0,
             parent: 0,
@@ -301,19 +358,34 @@ impl Reader {
             bytes: 0,
             disc_end: 0,
             fst: (0, 0),
+            departure: None,
             program: None,
             free: Vec::new(),
             records: vec![root],
         };
-        let manifest = Manifest { layout, image: [0; 32], parts: Vec::new(), free: Vec::new() };
+        let manifest = Manifest {
+            version,
+            own,
+            cut: false,
+            layout,
+            image: [0; 32],
+            parts: Vec::new(),
+            free: Vec::new(),
+        };
         Reader { manifest, raw: false, place: None, open: vec![0] }
     }
 
     /// What is wrong where the line is none of a manifest.
     fn line(&mut self, line: &[u8]) -> Result<(), String> {
         let none = || "is none of a manifest".to_string();
+        // What stands behind a file's place is its sum.
+        if self.place.is_some() && line.starts_with(b"#") {
+            return Err("comes where a file's sum has to".into());
+        }
         if line == RAW.as_bytes() {
             self.raw = true;
+        } else if line == CUT.as_bytes() && self.manifest.version > 1 {
+            self.manifest.cut = true;
         } else if let Some(path) = line.strip_prefix(b"# folder ") {
             let path = self.path(path.strip_suffix(b"/").ok_or_else(none)?)?;
             self.record(&path, true, (0, 0), None).ok_or_else(none)?;
@@ -406,10 +478,48 @@ impl Reader {
         Some(())
     }
 
-    /// The whole, if nothing is missing that is used later.
-    fn done(self) -> Option<Manifest> {
-        let layout = &self.manifest.layout;
-        let whole = layout.fst.0 >= 0x440 && self.place.is_none() && self.manifest.parts.len() >= 4;
-        whole.then_some(self.manifest)
+    /// The whole, if nothing is missing: each part once and of what it has to be of, and every byte of the
+    /// disc in a part, a file or a free region.
+    fn done(self) -> Result<Manifest, String> {
+        let Manifest { layout, version, parts, .. } = &self.manifest;
+        let lacks =
+            |what: &str| format!("the manifest lacks {what}: a line was left out or changed");
+        let unnamed = self.manifest.image == [0; 32];
+        if unnamed || u64::from(layout.fst.0) < HEADER_SIZE as u64 || self.place.is_some() {
+            return Err(lacks("a line"));
+        }
+        let fixed = Manifest::fixed(layout, *version);
+        for (name, span) in &fixed {
+            let mut found = parts.iter().filter(|part| part.name == *name);
+            let is = |part: &Part| (part.offset, part.size) == *span;
+            if !found.next().is_some_and(is) || found.next().is_some() {
+                return Err(lacks(&format!("the one sum of the part \"{name}\"")));
+            }
+        }
+        if parts.len() != fixed.len() + usize::from(layout.program.is_some()) {
+            return Err("the manifest has a part that is none".into());
+        }
+        match uncovered(layout) {
+            Some((from, to)) => Err(lacks(&format!("what lies at {from:#x} to {to:#x}"))),
+            None => Ok(self.manifest),
+        }
     }
+}
+
+/// The first bytes of the disc that lie in nothing.
+fn uncovered(layout: &Layout) -> Option<(u64, u64)> {
+    let wide = |(offset, size): (u32, u32)| (u64::from(offset), u64::from(size));
+    let mut spans = vec![(0, layout.table_end())];
+    spans.extend(layout.files().map(|file| wide(file.place)));
+    spans.extend(layout.free.iter().chain(&layout.behind()).map(|r| wide((r.offset, r.size))));
+    spans.push((layout.disc_end.into(), 0));
+    spans.sort();
+    let mut at = 0;
+    for (offset, size) in spans {
+        if offset > at {
+            return (at < layout.disc_end.into()).then_some((at, offset));
+        }
+        at = at.max(offset + size);
+    }
+    None
 }

@@ -259,7 +259,19 @@ pub fn text(bytes: &[u8]) -> String {
     spelt(bytes, character)
 }
 
-/// The same with every byte from 0x80 on escaped.
+/// The start of a name or a path, which may be long, for what is said.
+pub fn short(name: &[u8]) -> String {
+    let mut len = 0;
+    for unit in units(name) {
+        if len + unit.len() > 60 {
+            return format!("{}...", text(&name[..len]));
+        }
+        len += unit.len();
+    }
+    text(name)
+}
+
+/// A name or a path with every byte from 0x80 on escaped.
 fn escaped(bytes: &[u8]) -> String {
     spelt(bytes, |_| None)
 }

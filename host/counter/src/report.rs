@@ -1,8 +1,8 @@
 //! `report`: what compare finds, as one page for the publisher.
 
 use crate::args::Args;
-use crate::compare::{Before, Comparison, Pair, Row};
-use crate::failure::Outcome;
+use crate::compare::{Before, Comparison, Pair, Row, TOLD};
+use crate::failure::{CUT, Outcome};
 use crate::given::Given;
 use crate::layout::Layout;
 use crate::manifest::sums;
@@ -22,11 +22,16 @@ pub fn report(args: &Args) -> Outcome<u8> {
     let out = args.path(1);
     vacant(&out)?;
     let pair = Pair::read(args)?;
-    let found = pair.compare(Given::read(&args.given)?);
+    let found = pair.compare(Given::read(&args.given)?)?;
     save(&out, page(&found).as_bytes())?;
     let text = match args.json {
         true => found.json(false).document(),
-        false => format!("{}\n{}: {}\n", found.totals(), names::file(&out), found.verdict()),
+        false => {
+            let remarks = found.remarks().into_iter().map(|remark| remark + "\n");
+            let remarks: String = remarks.collect();
+            let file = names::file(&out);
+            format!("{remarks}{}\n{file}: {}\n", found.totals(), found.verdict())
+        }
     };
     say(text.as_bytes())?;
     Ok(found.status())
@@ -47,7 +52,8 @@ fn hashed(found: &Comparison, rows: &[&Row]) -> Sums {
         let each = rows.iter().map(|row| of(row).map_or((0, 0), wide));
         std::iter::once((0, whole)).chain(each).collect()
     };
-    let new = spans(after.bytes, |row| row.after);
+    // The image's own may be known already.
+    let new = spans(if found.sum.is_some() { 0 } else { after.bytes }, |row| row.after);
     let old = spans(found.pair.before.layout().bytes, |row| row.before);
     let total: u64 = new.iter().chain(&old).map(|span| span.1).sum();
     let progress = Progress::start("hashing", total);
@@ -63,7 +69,7 @@ fn hashed(found: &Comparison, rows: &[&Row]) -> Sums {
         .iter()
         .enumerate()
         .map(|(i, row)| (row.before.map(|_| old[i + 1]), row.after.map(|_| new[i + 1])));
-    Sums { images: (old[0], new[0]), rows: told.collect() }
+    Sums { images: (old[0], found.sum.unwrap_or(new[0])), rows: told.collect() }
 }
 
 // The page --------------------------------------------------------------------------------
@@ -75,8 +81,7 @@ fn page(found: &Comparison) -> String {
     rows.sort_by_key(|row| (!row.breaks(), row.before.is_none()));
     let sums = hashed(found, &rows);
     let mut out = String::new();
-    let passed = found.broken() == 0;
-    let word = if passed { "Passed" } else { "Failed" };
+    let word = verdict_of(found).2;
     let game = &found.pair.after.game;
     let game = if game.is_empty() { &found.pair.after.name } else { game };
     let _ = write!(
@@ -88,7 +93,7 @@ fn page(found: &Comparison) -> String {
     );
     let _ = writeln!(out, "<header><p class=\"kind\">Licence check of a disc image</p>");
     let _ = writeln!(out, "<h1>{}</h1></header>", escape(game));
-    verdict(&mut out, found, passed);
+    verdict(&mut out, found);
     images(&mut out, found, &sums);
     listed(&mut out, found);
     files(&mut out, &rows, &sums);
@@ -106,13 +111,20 @@ fn page(found: &Comparison) -> String {
     out
 }
 
-fn verdict(out: &mut String, found: &Comparison, passed: bool) {
-    // A list that covers everything makes passing easy; that is no green.
-    let (class, mark, word) = match (passed, found.given.covers_all()) {
-        (true, false) => ("good", "&#10003;", "Passed"),
-        (true, true) => ("warn", "&#10003;", "Passed, by a list that covers everything"),
-        (false, _) => ("bad", "&#10007;", "Failed"),
-    };
+/// How the verdict looks: its class, its mark and its word.
+fn verdict_of(found: &Comparison) -> (&'static str, &'static str, &'static str) {
+    // A list that covers everything makes passing easy, and an image of which an edit was cut is to be
+    // another yet; both are no green.
+    match (found.status(), found.given.covers_all()) {
+        (0, false) => ("good", "&#10003;", "Passed"),
+        (0, true) => ("warn", "&#10003;", "Passed, by a list that covers everything"),
+        (CUT, _) => ("warn", "&#8226;", "Unfinished"),
+        _ => ("bad", "&#10007;", "Failed"),
+    }
+}
+
+fn verdict(out: &mut String, found: &Comparison) {
+    let (class, mark, word) = verdict_of(found);
     let verdict = found.verdict();
     let words = verdict.split_once(": ").map_or(verdict.as_str(), |(_, words)| words);
     let _ = writeln!(
@@ -122,7 +134,7 @@ fn verdict(out: &mut String, found: &Comparison, passed: bool) {
         escape(&found.totals())
     );
     let broken: Vec<&Row> = found.rows.iter().filter(|row| row.breaks()).collect();
-    let areas = found.areas.iter().filter(|area| area.changed).map(|area| escape(area.name));
+    let areas = found.areas.iter().filter(|area| area.breaks()).map(|area| escape(&area.words()));
     let told = broken.iter().take(8).map(|row| {
         format!("<code>{}</code> ({})", path(&row.path), row.status().replace('+', ", "))
     });
@@ -133,10 +145,19 @@ fn verdict(out: &mut String, found: &Comparison, passed: bool) {
     if !told.is_empty() {
         let _ = writeln!(out, "<p>Without leave: {}.</p>", told.join(", "));
     }
+    for name in found.pair.cut() {
+        let _ = writeln!(
+            out,
+            "<p class=\"loud\">An edit of <code>{}</code> was cut, and it was read as it is: it may hold a part of \
+             the edit. Finish the edit (<code>counter recover</code>) and make this page again.</p>",
+            escape(name)
+        );
+    }
     if found.given.covers_all() {
         out.push_str(
             "<p class=\"loud\">The list has the line <code>/</code>: it covers every file and folder, so \
-             that only the header, the program and what lies behind the disc end are checked.</p>\n",
+             that only the header, the system area, the table, the program and what lies behind the disc end \
+             are checked.</p>\n",
         );
     }
     out.push_str("</section>\n");
@@ -172,7 +193,22 @@ fn images(out: &mut String, found: &Comparison, sums: &Sums) {
     };
     side(&format!("Before{note}"), before, &sums.images.0);
     side("After", &found.pair.after, &sums.images.1);
-    out.push_str("</table></section>\n");
+    out.push_str("</table>\n");
+    if let Before::Manifest(manifest) = &found.pair.before {
+        let _ = writeln!(
+            out,
+            "<p class=\"loud\">The manifest itself, <code>{}</code>, has <span class=\"sum\">SHA-256 {}</span>. \
+             Anyone can write a manifest: hold this sum against the one that its maker gave you elsewhere.</p>",
+            escape(&found.pair.names.0),
+            hex(&manifest.own)
+        );
+        if manifest.version == 1 {
+            out.push_str(
+                "<p class=\"loud\">It is of version 1, which has no sum of the table.</p>\n",
+            );
+        }
+    }
+    out.push_str("</section>\n");
 }
 
 fn areas(out: &mut String, found: &Comparison) {
@@ -180,14 +216,16 @@ fn areas(out: &mut String, found: &Comparison) {
         "<section><h2>Header, program and the rest of the disc</h2>\n<table class=\"areas\">\n",
     );
     for (i, (word, name)) in found.others().into_iter().enumerate() {
-        let fails = found.areas.get(i).is_some_and(|area| area.changed);
-        let (class, mark) = match (word, fails) {
-            ("unchanged", _) => ("good", "&#10003;"),
-            (_, true) => ("bad", "&#10007;"),
+        let area = found.areas.get(i).filter(|area| area.differs());
+        let (class, mark) = match (word, area.map(|area| area.given)) {
+            ("unchanged", _) | (_, Some(true)) => ("good", "&#10003;"),
+            (_, Some(false)) => ("bad", "&#10007;"),
             _ => ("told", "&#8226;"),
         };
-        let note = match class {
-            "told" => " <span class=\"note\">(told; does not fail the check)</span>",
+        let note = match (class, area) {
+            ("told", _) => " <span class=\"note\">(told; does not fail the check)</span>",
+            ("good", Some(_)) => " <span class=\"tag good\">on the list</span>",
+            ("bad", _) => " <span class=\"tag bad\">NOT ON THE LIST</span>",
             _ => "",
         };
         let _ = writeln!(
@@ -213,8 +251,12 @@ fn listed(out: &mut String, found: &Comparison) {
         }
     }
     if !found.unknown.is_empty() {
-        let paths: Vec<String> =
-            found.unknown.iter().map(|unknown| format!("<code>{}</code>", path(unknown))).collect();
+        let told = found.unknown.iter().take(TOLD);
+        let mut paths: Vec<String> =
+            told.map(|unknown| format!("<code>{}</code>", path(unknown))).collect();
+        if found.unknown.len() > TOLD {
+            paths.push(format!("and {} more", grouped((found.unknown.len() - TOLD) as u64)));
+        }
         let _ = writeln!(out, "<p class=\"loud\">In neither image: {}.</p>", paths.join(", "));
     }
     out.push_str("</section>\n");

@@ -84,18 +84,6 @@ fn program(image: &[u8]) -> Option<String> {
     Some(format!("the program at {at:#x}: {name} has offset {offset:#x} and size {size:#x}"))
 }
 
-/// The start of a name, which may be long.
-fn short(name: &[u8]) -> String {
-    let mut len = 0;
-    for unit in units(name) {
-        if len + unit.len() > 60 {
-            return format!("{}...", names::text(&name[..len]));
-        }
-        len += unit.len();
-    }
-    names::text(name)
-}
-
 /// What a used region holds.
 #[derive(Clone, Copy, PartialEq, Eq, PartialOrd, Ord)]
 enum Used {
@@ -153,7 +141,7 @@ impl<'a> Table<'a> {
 
     /// The start of an entry's name, for what is said about it.
     fn called(&self, k: usize) -> String {
-        short(self.name(k))
+        names::short(self.name(k))
     }
 
     fn words(&self, number: u32) -> Option<String> {

@@ -159,22 +159,19 @@ fn one_byte_anywhere_in_a_file_is_found() {
 
 #[test]
 fn header_program_and_tail_are_watched() {
-    for (at, fails) in
-        [(0x21, true), (0x428, false), (APPLOADER as u64 + 0x30, true), (DOL as u64 + 0x1000, true)]
-    {
+    for (at, words) in [
+        (0x21, "changed          (header: game name at 0x21)  [NOT GIVEN]"),
+        (0x43F, "changed          (header: unused 0x43C at 0x43f)  [NOT GIVEN]"),
+        (APPLOADER as u64 + 0x30, "changed          (system area: at 0x2470)  [NOT GIVEN]"),
+        (DOL as u64 + 0x1000, "changed          (system area: at 0x1f800, in the program)"),
+    ] {
         let pair = pair();
-        // The table's size is the one thing that edits change there; here only slack is added.
-        if at == 0x428 {
-            let file = fs::OpenOptions::new().write(true).open(&pair.after).unwrap();
-            let size = (Table::of(&pair.after).table_end - FST as u64) as u32;
-            file.write_all_at(&(size + 1).to_be_bytes(), at).unwrap();
-        } else {
-            pair.spoil(at);
-        }
+        pair.spoil(at);
         let run = pair.compare(&[]);
-        assert_eq!(run.status, i32::from(fails), "{at:#x}: {}", run.out);
-        // No list gives leave for that.
-        assert_eq!(pair.given("/\n").status, i32::from(fails), "{at:#x}");
+        assert_eq!(run.status, 1, "{at:#x}: {}", run.out);
+        assert!(run.out.contains(words), "{at:#x}: {}", run.out);
+        // No path gives leave for that.
+        assert_eq!(pair.given("/\n").status, 1, "{at:#x}");
     }
     let pair = pair();
     for path in [&pair.before, &pair.after] {
@@ -186,7 +183,18 @@ fn header_program_and_tail_are_watched() {
     pair.spoil(END.into());
     let run = pair.compare(&[]);
     assert_eq!(run.status, 1);
-    assert!(run.out.contains("changed          (disc end and all behind it)"), "{}", run.out);
+    let line = "changed          (disc end and all behind it: at 0x200000)  [NOT GIVEN]";
+    assert!(run.out.contains(line), "{}", run.out);
+    // The manifest of it tells where the part begins, and the field.
+    let manifest = pair.manifest();
+    assert!(pair.against(&manifest, &[]).out.contains(line));
+    pair.spoil(END.into());
+    pair.spoil(0x42F);
+    for run in [pair.compare(&[]), pair.against(&manifest, &[])] {
+        assert_eq!(run.status, 1);
+        assert!(run.out.contains("changed          (header: FST maximum at 0x42"), "{}", run.out);
+        assert!(run.out.contains("FAILED: 1 difference "), "{}", run.out);
+    }
 }
 
 #[test]
@@ -214,7 +222,7 @@ fn a_program_behind_the_table_is_watched() {
         pair.spoil(at);
         for run in verdicts("/\n") {
             assert_eq!(run.status, 1, "{at:#x}: {}", run.out);
-            assert!(run.out.contains("changed          (program)"), "{at:#x}: {}", run.out);
+            assert!(run.out.contains("changed          (program: at 0x1"), "{at:#x}: {}", run.out);
             assert!(run.out.contains("FAILED: 1 difference not on the list"), "{}", run.out);
         }
         pair.spoil(at);
@@ -379,6 +387,7 @@ fn only_differences_are_shown_where_that_is_wished() {
     let run = pair.compare(&["--only-differences"]);
     assert_eq!(run.status, 1);
     let wanted = "moved            /audio/theme.adp  offset 0x80000 -> 0x190000  [NOT GIVEN]\n\
+                  written anew     (table)\n\
                   8 files: 7 unchanged, 1 moved, 0 resized, 0 changed, 0 new, 0 gone\n\
                   FAILED: 1 difference not given (there is no list)\n";
     assert_eq!(run.out, wanted);
@@ -475,7 +484,272 @@ fn another_order_and_other_free_bytes_are_told() {
     assert_eq!(pair.json().at("free_space").text(), "changed");
 }
 
+// The table -------------------------------------------------------------------------------
+
+/// Entries of `usual`: text/, en/ in it, and the two files msg.bin.
+const TEXT: u64 = 11;
+const EN: u64 = 12;
+const MESSAGES: [u64; 2] = [13, 15];
+
+fn at_entry(number: u64, byte: u64) -> u64 {
+    FST as u64 + 12 * number + byte
+}
+
+impl Pair {
+    fn put(&self, at: u64, bytes: &[u8]) {
+        let file = fs::OpenOptions::new().write(true).open(&self.after).unwrap();
+        file.write_all_at(bytes, at).unwrap();
+    }
+
+    /// Both ways, with a list that gives leave for every file.
+    fn both(&self, manifest: &Path) -> [Run; 2] {
+        let list = self.temp.write("all.txt", b"/\n");
+        let rest = ["--given", list.to_str().unwrap()];
+        [self.compare(&rest), self.against(manifest, &rest)]
+    }
+}
+
+#[test]
+fn a_table_is_as_it_was_or_written_anew_or_told() {
+    let size = table(&usual(0x10_0000, 0x4_5678)).len() as u64;
+    let count = 16;
+    assert_eq!(Table::of(&pair().after).entries[EN as usize].path, "/text/en");
+    // Where, what is written there, and what is said of it.
+    let damages: [(u64, &[u8], u64, &str); 6] = [
+        (at_entry(EN, 4), &[0, 0, 0, 9], at_entry(EN, 7), "the stored parent of entry 12"),
+        (at_entry(0, 4), &[0, 0, 0, 1], at_entry(0, 7), "the stored parent of entry 0"),
+        (at_entry(0, 1), &[0, 0, 2], at_entry(0, 3), "the name offset of entry 0"),
+        // A name offset that leads to an equal name elsewhere: the two msg.bin.
+        (at_entry(15, 1), &[], at_entry(15, 3), "the name offset of entry 15"),
+        // 900 bytes behind the names, zeros and not.
+        (0x428, &[], FST as u64 + size, "its texts"),
+        (0x428, b"hidden", FST as u64 + size, "its texts"),
+    ];
+    for (i, (at, bytes, first, words)) in damages.into_iter().enumerate() {
+        let pair = pair();
+        let manifest = pair.manifest();
+        let before = fs::read(&pair.after).unwrap();
+        match (at, bytes) {
+            (0x428, bytes) => {
+                pair.put(0x428, &((size + 900) as u32).to_be_bytes());
+                pair.put(FST as u64 + size, bytes);
+            }
+            (at, &[]) => {
+                let other = get(&before, at_entry(MESSAGES[0], 0) as usize);
+                pair.put(at, &other.to_be_bytes()[1..]);
+            }
+            (at, bytes) => pair.put(at, bytes),
+        }
+        assert_eq!(Table::of(&pair.after).entries.len(), count);
+        for (run, manifest) in pair.both(&manifest).into_iter().zip([false, true]) {
+            assert_eq!(run.status, 1, "{i} {manifest}: {}", run.out);
+            assert!(run.out.contains("FAILED: 1 difference"), "{i}: {}", run.out);
+            let line = run.out.lines().find(|line| line.contains("(table: ")).unwrap();
+            assert!(line.starts_with("changed          (table: "), "{line}");
+            assert!(line.ends_with("  [NOT GIVEN]"), "{line}");
+            assert!(line.contains(&format!("at {first:#x}, {words}")), "{i} {first:#x}: {line}");
+        }
+        let told = pair.json();
+        let areas = told.at("areas").list();
+        let table = areas.iter().find(|area| area.at("name").text() == "table").unwrap();
+        assert_eq!(table.at("status").text(), "changed");
+        assert!(table.at("changed").flag() && !table.at("given").flag());
+        // An edit writes the table anew, and then it is exactly that.
+        pair.edit(&["rewrite"]);
+        for run in pair.both(&manifest) {
+            assert_eq!(run.status, 0, "{i}: {}", run.out);
+            let anew = run.out.contains("\nwritten anew     (table)\n");
+            assert!(anew || run.out.contains("\nunchanged        (table)\n"), "{}", run.out);
+        }
+    }
+}
+
+#[test]
+fn every_edit_leaves_a_table_that_is_written_anew() {
+    let pair = pair();
+    let manifest = pair.manifest();
+    let tables = |words: &str| {
+        for run in pair.both(&manifest) {
+            assert!(run.out.contains(&format!("\n{words} (table)\n")), "{}", run.out);
+            assert_eq!(run.status, 0, "{}", run.out);
+        }
+    };
+    tables("unchanged       ");
+    let clip = pair.temp.write("clip", &clip(0x2345, 1));
+    for edit in [
+        &["move", "audio/theme.adp", "0x190000"][..],
+        &["resize", "text/en/msg.bin", "0x1000"],
+        &["add", "text/en/new.bin"],
+        &["mkdir", "text/de/more"],
+        &["fill", "text/fr/msg.bin", clip.to_str().unwrap()],
+        &["rewrite"],
+    ] {
+        pair.edit(edit);
+        tables("written anew    ");
+        // A stored parent that is damaged afterwards is found behind all edits.
+        pair.put(at_entry(TEXT, 4), &[0, 0, 1, 0]);
+        for run in pair.both(&manifest) {
+            assert_eq!(run.status, 1, "{}", run.out);
+            assert!(run.out.contains("the stored parent of entry 11"), "{}", run.out);
+        }
+        pair.put(at_entry(TEXT, 4), &[0; 4]);
+    }
+}
+
+/// A table in which names share a text opens; it is not what a rewrite writes, and passes as it was.
+#[test]
+fn a_table_that_no_rewrite_writes_passes_as_it_was() {
+    let pair = pair();
+    let mut bytes = fs::read(&pair.before).unwrap();
+    let [one, two] = MESSAGES.map(|number| at_entry(number, 0) as usize);
+    let shared = get(&bytes, one);
+    put(&mut bytes, two, shared);
+    fs::write(&pair.before, &bytes).unwrap();
+    fs::write(&pair.after, &bytes).unwrap();
+    let manifest = pair.manifest();
+    for run in pair.both(&manifest) {
+        assert_eq!(run.status, 0, "{}", run.out);
+        assert!(run.out.contains("\nunchanged        (table)\n"), "{}", run.out);
+    }
+    // A manifest of the first version cannot tell whether it is as it was, unless the image is the same.
+    let Some(old) = pair.version_1(&manifest) else { return };
+    let run = pair.against(&old, &[]);
+    assert_eq!(run.status, 0, "{}{}", run.out, run.err);
+    assert!(run.out.contains("it is of version 1, which has no sum of the table"), "{}", run.out);
+    pair.spoil(0x1F_FFFF);
+    let run = pair.against(&old, &[]);
+    assert_eq!(run.status, 1, "{}", run.out);
+    let line = "\nunknown          (table: the manifest has no sum of it; what a rewrite writes differs first at";
+    assert!(run.out.contains(line), "{}", run.out);
+    pair.edit(&["rewrite"]);
+    let run = pair.against(&old, &[]);
+    assert_eq!(run.status, 0, "{}", run.out);
+    assert!(run.out.contains("\nwritten anew     (table)\n"), "{}", run.out);
+    // The header has two sums there.
+    pair.put(0x42C, &[0, 1, 0, 0]);
+    let list = pair.temp.write("leave.txt", b"header: FST maximum\n");
+    let run = pair.against(&old, &["--given", list.to_str().unwrap()]);
+    assert_eq!(run.status, 1, "{}", run.out);
+    assert!(
+        run.out.contains("changed          (header: somewhere in 0x42c to 0x440)"),
+        "{}",
+        run.out
+    );
+    assert_eq!(pair.against(&manifest, &["--given", list.to_str().unwrap()]).status, 0);
+}
+
+impl Pair {
+    /// The manifest as the first version wrote it; None where there is no sha256sum.
+    fn version_1(&self, manifest: &Path) -> Option<PathBuf> {
+        let text = fs::read_to_string(manifest).unwrap();
+        let mut lines: Vec<String> = Vec::new();
+        for line in text.lines() {
+            let part = line.strip_prefix("# part ").map(|rest| rest.splitn(4, ' ').nth(3).unwrap());
+            match part {
+                Some("table") => continue,
+                Some(name) if name.starts_with("header: ") => continue,
+                Some("system area") => {
+                    let bytes = fs::read(&self.before).unwrap();
+                    for (name, at, end) in [
+                        ("header up to the table's size", 0, 0x428),
+                        ("header behind the table's size", 0x42C, 0x440),
+                    ] {
+                        let (sum, size) = (sha256(&bytes[at..end])?, end - at);
+                        lines.push(format!("# part {sum} {at:#x} {size} {name}"));
+                    }
+                }
+                _ if line.starts_with("# sum of ") => continue,
+                _ => {}
+            }
+            lines.push(line.replace("manifest 2", "manifest 1"));
+        }
+        self.with_sum("version1.sums", &lines)
+    }
+
+    /// Lines with a last one that is their sum.
+    fn with_sum(&self, name: &str, lines: &[impl AsRef<str>]) -> Option<PathBuf> {
+        let lines: String = lines.iter().map(|line| format!("{}\n", line.as_ref())).collect();
+        let sum = sha256(lines.as_bytes())?;
+        Some(self.temp.write(name, format!("{lines}# sum of the lines above {sum}\n").as_bytes()))
+    }
+}
+
+// The header --------------------------------------------------------------------------------
+
+#[test]
+fn a_line_of_the_list_gives_leave_for_a_field_of_the_header() {
+    // The fields and their places, from the scope paper; FST offset and the magics would make another disc.
+    let fields: [(&str, u64); 17] = [
+        ("game code", 0),
+        ("maker", 4),
+        ("disc", 6),
+        ("version", 7),
+        ("audio", 8),
+        ("stream buffer", 9),
+        ("unused 0x0A", 0xA),
+        ("Wii magic", 0x18),
+        ("game name", 0x20),
+        ("debug offset", 0x400),
+        ("debug address", 0x404),
+        ("unused 0x408", 0x408),
+        ("FST maximum", 0x42C),
+        ("user position", 0x430),
+        ("user size", 0x434),
+        ("disc size", 0x438),
+        ("unused 0x43C", 0x43C),
+    ];
+    for (name, at) in fields {
+        let pair = pair();
+        let manifest = pair.manifest();
+        let word = get(&fs::read(&pair.after).unwrap(), at as usize);
+        let other = if name.ends_with(" size") { word - 0x100 } else { word ^ 0x0100_0000 };
+        pair.put(at, &other.to_be_bytes());
+        let given = |lines: &str| {
+            let list = pair.temp.write("list.txt", lines.as_bytes());
+            let rest = ["--given", list.to_str().unwrap()];
+            [pair.compare(&rest), pair.against(&manifest, &rest)]
+        };
+        for lines in [format!("header: {name}\n"), format!("HEADER:  {}\r\n", name.to_uppercase())]
+        {
+            for run in given(&lines) {
+                assert_eq!(run.status, 0, "{name}: {}{}", run.out, run.err);
+                let line = run.out.lines().find(|line| line.contains("(header: ")).unwrap();
+                let words = format!("changed          (header: {name} at 0x");
+                assert!(line.starts_with(&words) && line.ends_with(")  [given]"), "{line}");
+            }
+        }
+        // No other field's leave, and no path, is leave for it.
+        let others: String = fields
+            .iter()
+            .filter(|(other, _)| *other != name)
+            .map(|(other, _)| format!("header: {other}\n"))
+            .collect();
+        for run in given(&format!("/\n{others}")) {
+            assert_eq!(run.status, 1, "{name}: {}", run.out);
+            assert!(run.out.contains("[NOT GIVEN]"), "{name}: {}", run.out);
+        }
+    }
+    let pair = pair();
+    for (line, words) in [
+        ("header: FST maximun", "the header has no field \"FST maximun\"; it has game code, maker"),
+        ("header:", "the header has no field \"\""),
+        ("header: unused", "unused 0x0A"),
+        ("header: /opening.bnr", "no field"),
+    ] {
+        let run = pair.given(&format!("/opening.bnr\n{line}\n"));
+        assert_eq!(run.status, 65, "{line}: {}", run.err);
+        assert!(run.err.contains(", line 2: ") && run.err.contains(words), "{line}: {}", run.err);
+    }
+    // `info` calls two of them otherwise; both are taken.
+    assert_eq!(pair.given("header: audio streaming\nheader: unused at 0x43c\n").status, 0);
+}
+
 // Manifests -------------------------------------------------------------------------------
+
+/// What a comparison with a manifest says, but for the sums of manifest and images.
+fn without_sums(run: &Run) -> String {
+    run.out.split_inclusive('\n').filter(|line| !line.contains("SHA-256")).collect()
+}
 
 impl Pair {
     /// The manifest of the first image, in the place of it.
@@ -496,7 +770,7 @@ fn a_manifest_stands_for_the_image() {
     let manifest = pair.manifest();
     let run = pair.against(&manifest, &[]);
     assert_eq!(run.status, 0, "{}{}", run.out, run.err);
-    assert_eq!(run.out, pair.compare(&[]).out);
+    assert_eq!(without_sums(&run), pair.compare(&[]).out);
     pair.edit(&["move", "audio/theme.adp", "0x190000"]);
     pair.edit(&["resize", "audio/se/se000.dsp", "0x800"]);
     pair.edit(&["add", "text/en/new.bin"]);
@@ -505,7 +779,7 @@ fn a_manifest_stands_for_the_image() {
     let (image, sums) = (pair.compare(&[]), pair.against(&manifest, &[]));
     assert_eq!((image.status, sums.status), (1, 1));
     let rows = |run: &Run| -> Vec<String> {
-        run.out.lines().filter(|l| !l.contains("(free space")).map(String::from).collect()
+        without_sums(run).lines().filter(|l| !l.contains("(free space")).map(String::from).collect()
     };
     assert_eq!(rows(&image), rows(&sums));
     assert!(sums.out.contains("unknown          (free space: "), "{}", sums.out);
@@ -567,7 +841,7 @@ fn a_manifest_that_was_cut_or_changed_is_none() {
     let manifest = pair.temp.write("odd.sums", done("hash", &odd, &[]).as_bytes());
     assert_eq!(pair.against(&manifest, &[]).status, 0);
     let text = done("hash", &pair.before, &[]);
-    assert!(text.is_ascii() && text.starts_with("# counter manifest 1\n"));
+    assert!(text.is_ascii() && text.starts_with("# counter manifest 2\n"));
     let lines: Vec<&str> = text.lines().collect();
     for cut in 1..lines.len() {
         let manifest = pair.temp.write("cut.sums", lines[..cut].join("\n").as_bytes());
@@ -584,8 +858,10 @@ fn a_manifest_that_was_cut_or_changed_is_none() {
     let manifest = pair.temp.write("windows.sums", windows.as_bytes());
     let run = pair.against(&manifest, &[]);
     assert_eq!(run.status, 0, "{}", run.err);
-    let newer = pair.temp.write("newer.sums", text.replace("manifest 1", "manifest 2").as_bytes());
-    assert_eq!(pair.against(&newer, &[]).status, 65);
+    let newer = pair.temp.write("newer.sums", text.replace("manifest 2", "manifest 3").as_bytes());
+    let run = pair.against(&newer, &[]);
+    assert_eq!(run.status, 65);
+    assert!(run.err.contains("a later version"), "{}", run.err);
     // AFTER is an image.
     assert_eq!(on("compare", &pair.before, &[manifest.to_str().unwrap()]).status, 64);
 }
@@ -603,14 +879,155 @@ fn equal_names_have_each_their_sum() {
     let manifest = pair.manifest();
     let run = pair.against(&manifest, &[]);
     assert_eq!(run.status, 0, "{}{}", run.out, run.err);
-    assert_eq!(run.out, pair.compare(&[]).out);
+    assert_eq!(without_sums(&run), pair.compare(&[]).out);
     for at in [0x6_0000, 0x6_1000, 0x6_2000, 0x6_3000, 0x6_4000] {
         fs::copy(&pair.before, &pair.after).unwrap();
         pair.spoil(at);
         let (image, sums) = (pair.compare(&[]), pair.against(&manifest, &[]));
         assert_eq!((image.status, sums.status), (1, 1), "{at:#x}");
-        assert_eq!(image.out, sums.out);
+        assert_eq!(image.out, without_sums(&sums));
     }
+}
+
+#[test]
+fn a_manifest_with_lines_left_out_is_none_and_its_own_sum_is_told() {
+    let pair = pair();
+    let manifest = pair.manifest();
+    let text = fs::read_to_string(&manifest).unwrap();
+    let lines: Vec<&str> = text.lines().filter(|line| !line.starts_with("# sum of ")).collect();
+    let Some(own) = sha256(text.as_bytes()) else {
+        println!("not tried: there is no sha256sum");
+        return;
+    };
+    let whole = sha256(&fs::read(&pair.before).unwrap()).unwrap();
+    pair.edit(&["move", "audio/theme.adp", "0x190000"]);
+    let now = sha256(&fs::read(&pair.after).unwrap()).unwrap();
+    let run = pair.against(&manifest, &[]);
+    for words in [
+        format!(
+            "before.sums has SHA-256 {own}: hold that against what its maker told you elsewhere"
+        ),
+        format!("it says that it is of before.iso, SHA-256 {whole}"),
+        format!("after.iso has SHA-256 {now}"),
+    ] {
+        assert!(run.out.contains(&words), "{words}: {}", run.out);
+    }
+    let told = Json::read(&pair.against(&manifest, &["--json"]).out);
+    assert_eq!(told.at("manifest_sum").text(), own);
+    assert_eq!(told.at("before_sum").text(), whole);
+    assert_eq!(told.at("after_sum").text(), now);
+    let page = pair.temp.at("page.html");
+    let after = pair.after.to_str().unwrap();
+    assert_eq!(on("report", &manifest, &[after, page.to_str().unwrap()]).status, 1);
+    let html = fs::read_to_string(&page).unwrap();
+    assert!(html.contains(&own) && html.contains("Anyone can write a manifest"), "{html}");
+
+    // Each line, and the two of a file, left out with the last sum made anew.
+    let left_out = |path: &str| -> Vec<&str> {
+        let at = lines.iter().position(|line| line.ends_with(&format!("  {path}"))).unwrap();
+        [&lines[..at - 1], &lines[at + 1..]].concat()
+    };
+    for path in ["audio/theme.adp", "audio/se/se000.dsp", "text/fr/msg.bin"] {
+        let spoiled = pair.with_sum("spoiled.sums", &left_out(path)).unwrap();
+        let run = pair.against(&spoiled, &[]);
+        assert_eq!(run.status, 65, "{path}: {}{}", run.out, run.err);
+        assert!(run.err.contains("the manifest lacks what lies at 0x"), "{path}: {}", run.err);
+    }
+    for (i, line) in lines.iter().enumerate().skip(1) {
+        let spoiled = pair.with_sum("spoiled.sums", &[&lines[..i], &lines[i + 1..]].concat());
+        let run = pair.against(&spoiled.unwrap(), &[]);
+        let told = ["# game", "# folder empty/"];
+        let told = told.iter().any(|word| line.starts_with(word)) || line.ends_with(" program");
+        let wanted = if told { 1 } else { 65 };
+        assert_eq!(run.status, wanted, "{line}: {}{}", run.out, run.err);
+    }
+    // What has no bytes leaves no gap; with the image itself at hand it is found.
+    for path in ["audio/silence.adp", "# folder empty/"] {
+        let lines = match path.strip_prefix("# ") {
+            None => left_out(path),
+            Some(_) => lines.iter().copied().filter(|line| *line != path).collect(),
+        };
+        let spoiled = pair.with_sum("spoiled.sums", &lines).unwrap();
+        let run = on("compare", &spoiled, &[pair.before.to_str().unwrap()]);
+        assert_eq!(run.status, 65, "{path}: {}{}", run.out, run.err);
+        let words = "names the sum of ";
+        assert!(run.err.contains(words) && run.err.contains(" lacks /"), "{path}: {}", run.err);
+    }
+    // A file's place taken for free space, with its sum: the image at hand tells.
+    let at = lines.iter().position(|line| line.ends_with("  text/fr/msg.bin")).unwrap();
+    let mut spoiled = lines.clone();
+    let (sum, free) = (&lines[at][..64], spoiled.remove(at));
+    assert!(free.starts_with(sum));
+    let free = format!("# part {sum} 0xa8000 {} free", 0x1235);
+    spoiled[at - 1] = &free;
+    let spoiled = pair.with_sum("spoiled.sums", &spoiled).unwrap();
+    let run = on("compare", &spoiled, &[pair.before.to_str().unwrap()]);
+    assert_eq!(run.status, 65, "{}{}", run.out, run.err);
+    assert!(run.err.contains("lacks /text/fr/msg.bin"), "{}", run.err);
+}
+
+#[test]
+fn an_image_of_which_an_edit_was_cut_does_not_pass() {
+    let pair = pair();
+    let manifest = pair.manifest();
+    // A stray file under the journal's name keeps readers out, as a journal does.
+    fs::write(journal_of(&pair.after), b"torn").unwrap();
+    assert_eq!(pair.compare(&[]).status, 78);
+    let page = pair.temp.at("page.html");
+    let after = pair.after.to_str().unwrap().to_string();
+    for (i, before) in [&pair.before, &manifest].into_iter().enumerate() {
+        let run = on("compare", before, &[&after, "--as-is"]);
+        assert_eq!(run.status, 78, "{}", run.out);
+        assert!(run.out.contains("after.iso was cut, and it may hold a part of it"), "{}", run.out);
+        assert!(run.out.ends_with("but an edit was cut\n"), "{}", run.out);
+        let told = Json::read(&on("compare", before, &[&after, "--as-is", "--json"]).out);
+        assert_eq!((told.at("status").number(), told.at("passed").flag()), (78, false));
+        assert_eq!(told.at("cut").list().len(), 1);
+        let page = pair.temp.at(&format!("page{i}.html"));
+        let run = on("report", before, &[&after, page.to_str().unwrap(), "--as-is"]);
+        assert_eq!(run.status, 78, "{}", run.out);
+        let html = fs::read_to_string(&page).unwrap();
+        assert!(html.contains("<title>Unfinished: ") && html.contains("class=\"verdict warn\""));
+        assert!(html.contains("was cut, and it was read as it is"), "{html}");
+        assert!(!html.contains("Passed"));
+    }
+    pair.spoil(0x6_0000);
+    let run = on("report", &pair.before, &[&after, page.to_str().unwrap(), "--as-is"]);
+    assert_eq!(run.status, 1, "{}", run.out);
+    assert!(fs::read_to_string(&page).unwrap().contains("was cut, and it was read as it is"));
+    // The other way round: what was is such an image, or a manifest of one.
+    let sums = pair.temp.write("cut.sums", done("hash", &pair.after, &["--as-is"]).as_bytes());
+    for before in [&pair.after, &sums] {
+        let clean = pair.temp.at("clean.iso");
+        fs::copy(&pair.after, &clean).unwrap();
+        let run = on("compare", before, &[clean.to_str().unwrap(), "--as-is"]);
+        assert_eq!(run.status, 78, "{}{}", run.out, run.err);
+    }
+    fs::remove_file(journal_of(&pair.after)).unwrap();
+    assert!(!done("hash", &pair.after, &["--as-is"]).contains("# cut"));
+}
+
+#[test]
+fn lists_and_manifests_have_an_end() {
+    let pair = pair();
+    let many: String = (0..100).map(|i| format!("/no/such/{i}\n")).collect();
+    let run = pair.given(&many);
+    assert_eq!(run.status, 0, "{}", run.out);
+    let lines: Vec<&str> = run.err.lines().collect();
+    assert!(lines.len() <= 14, "{}", run.err);
+    assert!(lines.last().unwrap().contains("88 more that neither image has"), "{}", run.err);
+    let run = pair.compare(&["--given", "/dev/zero"]);
+    assert_eq!(run.status, 65, "{}", run.err);
+    assert!(run.err.contains("no list has more than 16 MiB"), "{}", run.err);
+    let long = pair.temp.at("long.sums");
+    fs::write(&long, b"# counter manifest 2\n").unwrap();
+    fs::OpenOptions::new().write(true).open(&long).unwrap().set_len(1 << 40).unwrap();
+    let run = pair.against(&long, &[]);
+    assert_eq!(run.status, 65, "{}", run.err);
+    assert!(run.err.contains("no manifest has more than 64 MiB"), "{}", run.err);
+    // Many folders are looked up, and not gone through one by one.
+    let folders: String = (0..1_000_000).map(|i| format!("/f{i}/\n")).collect();
+    assert_eq!(pair.given(&folders).status, 0);
 }
 
 /// SHA-256 by another program, where there is one.
@@ -629,6 +1046,8 @@ fn no_manifest_makes_the_program_fall_over() {
     let pair = pair();
     let text = done("hash", &pair.before, &[]);
     let (lines, _) = text.trim_end().rsplit_once('\n').unwrap();
+    // Another image than the manifest names, so that it is not known at once to be false.
+    pair.spoil(0x1F_FFFF);
     let mut state = 0x2545_F491u32;
     let mut random = move |n: usize| {
         state ^= state << 13;
@@ -639,7 +1058,7 @@ fn no_manifest_makes_the_program_fall_over() {
     let odd =
         ["0", "0x0", "0xffffffff", "4294967295", "18446744073709551615", "-1", "/", "", " ", "#"];
     let mut statuses = [0; 3];
-    for turn in 0..60 {
+    for turn in 0..240 {
         let mut lines: Vec<String> = lines.lines().map(String::from).collect();
         for _ in 0..=random(3) {
             let at = 1 + random(lines.len() - 1);
@@ -687,6 +1106,7 @@ fn no_manifest_makes_the_program_fall_over() {
     }
     println!("passed {}, failed {}, no manifest {}", statuses[0], statuses[1], statuses[2]);
     assert!(statuses[1] > 3 && statuses[2] > 10, "{statuses:?}");
+    pair.spoil(0x1F_FFFF);
     // The picture of a manifest is that of its image.
     let manifest = pair.manifest();
     pair.edit(&["move", "audio/theme.adp", "0x190000"]);

@@ -1014,6 +1014,74 @@ fn help_names_every_field_of_the_json() {
     }
 }
 
+#[test]
+fn check_tells_what_of_a_table_no_lookup_sees() {
+    let temp = Temp::new();
+    let image = usual_master(&temp);
+    let notes = |image: &std::path::Path| -> (Vec<String>, Json) {
+        let out = done("check", image, &[]);
+        let notes = out.lines().filter_map(|line| line.strip_prefix("note: ")).map(String::from);
+        (notes.collect(), json("check", image, &[]))
+    };
+    let (none, told) = notes(&image);
+    assert!(none.is_empty(), "{none:?}");
+    assert!(told.at("stored_parents").list().is_empty() && told.at("notes").list().is_empty());
+    assert_eq!(told.at("rewrite_alters_at"), &Json::Null);
+    let good = fs::read(&image).unwrap();
+    let size = get(&good, 0x428) as usize;
+    // Entry 12 is text/en/, which lies in 11; entry 14 is text/fr/.
+    let mut bytes = good.clone();
+    put(&mut bytes, FST + 12 * 12 + 4, 9);
+    put(&mut bytes, FST + 12 * 14 + 4, 0xFFFF_FFFF);
+    fs::write(&image, &bytes).unwrap();
+    let (parents, told) = notes(&image);
+    assert_eq!(parents.len(), 2, "{parents:?}");
+    let words = "entry 12, /text/en/, stores 9 as its parent, and lies in entry 11; so it is with 1 more folder";
+    assert!(parents[0].starts_with(words), "{parents:?}");
+    let words =
+        format!("would alter it, first at {:#x}, the stored parent of entry 12", FST + 12 * 12 + 7);
+    assert!(parents[1].ends_with(&words), "{parents:?}");
+    let wrong = told.at("stored_parents").list();
+    assert_eq!(wrong.len(), 2);
+    assert_eq!((wrong[1].at("stored").number(), wrong[1].at("parent").number()), (0xFFFF_FFFF, 11));
+    assert_eq!(wrong[1].at("path").text(), "/text/fr/");
+    assert_eq!(told.at("rewrite_alters_at").number(), (FST + 12 * 12 + 7) as u64);
+    // The root's own.
+    let mut bytes = good.clone();
+    put(&mut bytes, FST, 0x0100_0003);
+    put(&mut bytes, FST + 4, 7);
+    fs::write(&image, &bytes).unwrap();
+    let (root, told) = notes(&image);
+    assert!(root[0].starts_with("the root stores name offset 3 and parent 7"), "{root:?}");
+    assert_eq!(told.at("root").at("parent").number(), 7);
+    // Texts behind the names, and between them: the first name is not used any more.
+    let mut bytes = good.clone();
+    put(&mut bytes, 0x428, size as u32 + 3);
+    fs::write(&image, &bytes).unwrap();
+    let (unused, told) = notes(&image);
+    let words = format!(
+        "3 bytes of the table's texts, all zero, are of no entry's name, the first at {:#x}",
+        FST + size
+    );
+    assert_eq!(unused[0], words);
+    assert_eq!(
+        (told.at("unused_texts").number(), told.at("unused_texts_at").number()),
+        (3, (FST + size) as u64)
+    );
+    let mut bytes = good.clone();
+    let msg = get(&good, FST + 12 * 13);
+    put(&mut bytes, FST + 12 * 15, msg);
+    fs::write(&image, &bytes).unwrap();
+    let (unused, _) = notes(&image);
+    assert!(
+        unused[0].starts_with("8 bytes of the table's texts are of no entry's name"),
+        "{unused:?}"
+    );
+    // A rewrite settles all of it.
+    done("rewrite", &image, &[]);
+    assert!(notes(&image).0.is_empty());
+}
+
 /// The names of all fields, of what is inside too.
 fn fields(json: &Json) -> Vec<String> {
     match json {
