@@ -3,7 +3,7 @@
 
 use crate::failure::{Failure, Outcome};
 use crate::names;
-use crate::text::number;
+use crate::text::{number, one_line};
 use std::ffi::{OsStr, OsString};
 use std::os::unix::ffi::OsStringExt;
 use std::path::PathBuf;
@@ -651,6 +651,7 @@ impl Args {
             None => (text, None),
         };
         let Some(flag) = self.form.flags.iter().find(|flag| flag.name == name) else {
+            let name = one_line(name);
             return Err(Failure::usage(format!("{} has no option {name}", self.form.name)));
         };
         if flag.value.is_none() && value.is_some() {

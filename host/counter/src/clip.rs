@@ -10,7 +10,7 @@ use crate::journal;
 use crate::names;
 use crate::os::{self, Mapping};
 use crate::progress::Progress;
-use crate::text::{counted, grouped, one_line};
+use crate::text::{counted, grouped};
 use counter_sys as counter;
 use std::ffi::OsStr;
 use std::fs::{self, File, Metadata};
@@ -56,7 +56,7 @@ impl Clip {
     fn read(path: &Path, image: &Path) -> Outcome<Clip> {
         let (name, file) = match path.as_os_str() == "-" {
             true => (STANDARD_INPUT.into(), io::stdin().as_fd().try_clone_to_owned()),
-            false => (one_line(&names::file(path)), File::open(path).map(Into::into)),
+            false => (names::file(path), File::open(path).map(Into::into)),
         };
         let failed = |e: io::Error| cannot_open(Path::new(&name), &e);
         let file = File::from(file.map_err(failed)?);
@@ -72,7 +72,7 @@ impl Clip {
     /// A file of another image, which nobody edits as long as the clip is in use.
     fn out_of(from: &Path, entry: &[u8], image: &Path) -> Outcome<Clip> {
         let (path, entry) = other(from, entry)?;
-        let name = one_line(&format!("{}:{}", names::file(&path), names::text(&entry)));
+        let name = format!("{}:{}", names::file(&path), names::text(&entry));
         may_be_used(&name, &path, &regular(&path, fs::metadata(&path))?, image)?;
         let other = Image::read(Some(&path))?;
         let mut desk = Desk::new();

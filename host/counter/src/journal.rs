@@ -9,6 +9,7 @@
 use crate::change::{Change, HEADER};
 use crate::disk::{self, On};
 use crate::sum;
+use crate::text::one_line;
 use std::ffi::OsString;
 use std::fs::{self, File, Metadata};
 use std::io;
@@ -303,7 +304,8 @@ fn decode(bytes: &[u8]) -> Option<(Plan, usize)> {
     let (from, to, brought, lost) = (number()?, number()?, number()?, number()?..number()?);
     let (clip, clip_sum) = if version == 1 { (false, 0) } else { (number()? != 0, number()?) };
     let header = reader.part()?.to_vec();
-    let words = String::from_utf8(reader.part()?.to_vec()).ok()?;
+    // Whoever wrote them, people are to read them.
+    let words = one_line(std::str::from_utf8(reader.part()?).ok()?);
     let (old, new) = (reader.part()?.to_vec(), reader.part()?.to_vec());
     let totals = if version < 3 { None } else { decode_totals(&mut reader)? };
     let maximum = if version < 4 { None } else { decode_maximum(reader.part()?)? };

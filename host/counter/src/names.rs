@@ -4,7 +4,7 @@
 //! trail byte is one unit, any other byte is one by itself. The characters are those of the system's iconv;
 //! nothing else in the program knows the code.
 
-use crate::text::{one_line, wide};
+use crate::text::{is_obeyed, one_line, wide};
 use std::collections::HashMap;
 use std::env;
 use std::ffi::{CStr, OsStr, c_char, c_int, c_void};
@@ -360,13 +360,13 @@ pub fn for_terminal(words: &str) -> String {
     out
 }
 
-/// The name of a file of the system, for what is said: what of it is no UTF-8 is escaped, and on a terminal
-/// without UTF-8 every byte from 0x80 on.
+/// The name of a file of the system, for what is said: what of it is no UTF-8 or would be obeyed is escaped, and
+/// on a terminal without UTF-8 every byte from 0x80 on.
 pub fn file(name: impl AsRef<OsStr>) -> String {
     let mut out = String::new();
     for chunk in name.as_ref().as_bytes().utf8_chunks() {
         for letter in chunk.valid().chars() {
-            match letter.is_ascii() || terminal_has_utf_8() {
+            match (letter.is_ascii() || terminal_has_utf_8()) && !is_obeyed(letter) {
                 true => out.push(letter),
                 false => escape(&mut out, letter.encode_utf8(&mut [0; 4]).as_bytes()),
             }

@@ -2,6 +2,7 @@
 
 use crate::failure::{Failure, INPUT_OUTPUT, Outcome};
 use crate::names::for_terminal;
+use crate::text::one_line;
 use std::fmt::Arguments;
 use std::io::{self, Write};
 
@@ -15,10 +16,12 @@ macro_rules! eprint {
     ($($words:tt)*) => { $crate::out::complain(format_args!($($words)*)) };
 }
 
-/// Writes to standard error, if that can be done.
+/// Writes to standard error, if that can be done. Nothing in it is obeyed but the ends of its lines.
 pub fn complain(words: Arguments) {
+    let words = words.to_string();
+    let lines: Vec<String> = words.split('\n').map(one_line).collect();
+    let words = for_terminal(&lines.join("\n"));
     let mut err = io::stderr().lock();
-    let words = for_terminal(&words.to_string());
     let _ = err.write_all(words.as_bytes()).and_then(|()| err.flush());
 }
 

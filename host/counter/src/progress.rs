@@ -28,7 +28,7 @@ impl Progress {
                     show(&what, seen.load(Ordering::Relaxed), total, start.elapsed());
                 }
                 if start.elapsed() > Duration::from_secs(1) {
-                    eprint!("\r\x1b[K");
+                    draw("\r\x1b[K");
                 }
             });
             (stop, watch)
@@ -47,6 +47,11 @@ fn show(what: &str, done: u64, total: u64, time: Duration) {
     if let Some(percent) = (done * 100).checked_div(total) {
         line.push_str(&format!(", {percent}% ({} of {})", human(done), human(total)));
     }
+    draw(&line);
+}
+
+/// A terminal obeys this.
+fn draw(line: &str) {
     let mut err = io::stderr().lock();
     let _ = err.write_all(line.as_bytes()).and_then(|()| err.flush());
 }

@@ -113,9 +113,25 @@ pub fn wide(c: char) -> bool {
         | '\u{ffe0}'..='\u{ffe6}')
 }
 
-/// Text without line feeds and the like.
+/// Whether a terminal or a page obeys a character and does not show it: controls, ends of lines, and what turns
+/// the direction of writing.
+pub fn is_obeyed(c: char) -> bool {
+    c.is_control()
+        || matches!(c, '\u{61c}' | '\u{200e}' | '\u{200f}' | '\u{2028}'..='\u{202e}')
+        || matches!(c, '\u{2066}'..='\u{2069}')
+}
+
+/// Text that came from elsewhere, as people may read it in a line: what would be obeyed is told by its bytes, as
+/// `\xHH`. All that the program says passes here.
 pub fn one_line(text: &str) -> String {
-    text.chars().map(|c| if c.is_control() { '?' } else { c }).collect()
+    let mut out = String::new();
+    for c in text.chars() {
+        match is_obeyed(c) {
+            true => out.push_str(&shown(c.encode_utf8(&mut [0; 4]).as_bytes())),
+            false => out.push(c),
+        }
+    }
+    out
 }
 
 /// Text as XML and HTML take it.
@@ -127,7 +143,7 @@ pub fn escape(text: &str) -> String {
             '<' => out.push_str("&lt;"),
             '>' => out.push_str("&gt;"),
             '"' => out.push_str("&quot;"),
-            '\0'..='\x1f' | '\x7f'..='\u{9f}' => out.push('?'),
+            c if is_obeyed(c) => out.push_str(&one_line(&c.to_string())),
             c => out.push(c),
         }
     }

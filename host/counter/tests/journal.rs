@@ -306,6 +306,46 @@ fn a_journal_writes_no_file_but_a_record() {
     }
 }
 
+/// Whoever wrote a journal, its words and the name of its record are read by people.
+#[test]
+fn words_of_a_foreign_journal_are_not_obeyed() {
+    for odd in ["x\u{1b}[2J\ny", "x\u{202e}\u{2066}y", "x\r\u{9b}y"] {
+        let cut = Cut::new();
+        let whole = fs::read(journal_of(&cut.image)).unwrap();
+        let end = whole.len() - 24;
+        let words = b"move film to 0x20000";
+        let at = whole.windows(words.len()).position(|part| part == words).unwrap();
+        let len = (odd.len() as u64).to_le_bytes();
+        let mut plan =
+            [&whole[..at - 8], &len, odd.as_bytes(), &whole[at + words.len()..end - 40]].concat();
+        let record = Table::of(&cut.image).record_file(2);
+        let file = cut.temp.at(odd);
+        for part in [file.as_os_str().as_encoded_bytes(), b"", record.as_bytes(), b""] {
+            plan.extend((part.len() as u64).to_le_bytes());
+            plan.extend(part);
+        }
+        fs::write(journal_of(&cut.image), with_sums(plan, &whole[end..end + 16])).unwrap();
+        // A record that cannot be written, one that is left, and all done.
+        fs::create_dir(&file).unwrap();
+        let runs =
+            [&["check"][..], &["mkdir", "x"], &["recover"], &["recover", "--without-record"]];
+        for args in runs {
+            let run = on(args[0], &cut.image, &args[1..]);
+            assert_eq!(
+                run.status,
+                if args.len() < 2 || args[0] == "mkdir" { 78 } else { 0 },
+                "{}",
+                run.err
+            );
+            let text = [run.out, run.err].concat();
+            let raw = |c: char| c != '\n' && (c.is_control() || "\u{202e}\u{2066}".contains(c));
+            assert!(!text.contains(raw) && !text.contains("\ny"), "{args:?}: {text:?}");
+            assert!(text.contains("x\\x") && text.contains('y'), "{args:?}: {text:?}");
+        }
+        assert!(fs::read(&cut.image).unwrap() == cut.after);
+    }
+}
+
 /// The third version had no maximum: a length of 0 less. The second had no record: three more of them less. The
 /// first had no clips: two numbers less.
 #[test]

@@ -425,6 +425,97 @@ fn names_of_the_system_s_files_are_told_by_their_bytes() {
     assert!(run.err.contains(r"/\x96\xb3: no such file"), "{}", run.err);
 }
 
+/// What a terminal obeys instead of showing it: ends of lines, an escape, controls of eight bits, marks and
+/// controls of the direction of writing.
+const OBEYED: [char; 22] = [
+    '\n', '\r', '\t', '\u{7}', '\u{1b}', '\u{7f}', '\u{85}', '\u{9b}', '\u{61c}', '\u{200e}',
+    '\u{200f}', '\u{2028}', '\u{2029}', '\u{202a}', '\u{202b}', '\u{202c}', '\u{202d}', '\u{202e}',
+    '\u{2066}', '\u{2067}', '\u{2068}', '\u{2069}',
+];
+
+/// That nothing in an answer is obeyed but the ends of its lines, as many as there are to be.
+fn is_harmless(what: &str, text: &str, lines: Option<usize>) {
+    let found = text.chars().find(|c| *c != '\n' && OBEYED.contains(c));
+    assert_eq!(found, None, "{what}: {text:?}");
+    if let Some(lines) = lines {
+        assert_eq!(text.lines().count(), lines, "{what}: {text:?}");
+    }
+}
+
+#[test]
+fn nothing_that_came_from_elsewhere_is_obeyed() {
+    let temp = Temp::new();
+    let image = master(&temp);
+    for obeyed in OBEYED {
+        let odd = format!("x{obeyed}[2Jx");
+        let told: String = obeyed.to_string().bytes().map(|b| format!("\\x{b:02x}")).collect();
+        let told = format!("x{told}[2Jx");
+        let disc = temp.at(&odd);
+        fs::copy(&image, &disc).unwrap();
+        let other = temp.at(&format!("other{odd}"));
+        fs::copy(&image, &other).unwrap();
+        let missing = format!("{}/none{odd}", temp.at("").display());
+        let clip = temp.write(&format!("clip{odd}"), b"clip");
+        let list = temp.write(&format!("list{odd}"), b"../\n");
+        let same = temp.write(&format!("same{odd}"), b"/plain\n");
+        let words = |path: &Path| path.to_str().unwrap().to_string();
+        let new = |end: &str| words(&temp.at(&format!("new{odd}{end}")));
+        let (disc, clip, list, same) = (words(&disc), words(&clip), words(&list), words(&same));
+        let other = words(&other);
+        let (svg, page) = (new(".svg"), new(".html"));
+        let totals = new(".totals");
+        // The command line, whether it is told, and how many lines standard error has.
+        let lines: Vec<(Vec<&str>, bool, usize)> = vec![
+            (vec![&odd], true, 1),
+            (vec!["help", &odd], true, 1),
+            (vec!["find", &disc, &odd], true, 1),
+            (vec!["place", &disc, &odd], true, 1),
+            (vec!["check", &missing], true, 1),
+            (vec!["check", &disc], true, 0),
+            (vec!["info", &disc], false, 0),
+            (vec!["compare", &disc, &missing], true, 1),
+            (vec!["compare", &disc, &disc, "--given", &list], true, 1),
+            (vec!["compare", &disc, &disc, "--given", &missing], true, 1),
+            (vec!["compare", &disc, &disc, "--given", &same], true, 1),
+            (vec!["map", &disc, &svg], true, 0),
+            (vec!["map", &disc, &svg], true, 1),
+            (vec!["report", &disc, &other, "--given", &same, &page], false, 0),
+            (vec!["hash", &disc], false, 0),
+            (vec!["fill", &disc, "plain", &clip], true, 0),
+            (vec!["fill", &disc, "plain", &missing], true, 1),
+            (vec!["fill", &disc, "plain", "--from", &disc], true, 1),
+            (vec!["fill", &disc, "plain", &clip, "--size", &odd], true, 1),
+            (vec!["extract", &disc, "plain", &clip], true, 1),
+            (vec!["dol", &disc, "--out", &clip], true, 1),
+            (vec!["rewrite", &disc, "--record", &totals], false, 0),
+            (vec!["record", &disc, "--record", &totals], true, 1),
+            (vec!["record", &disc, "--record", &totals, "--force"], true, 0),
+            (vec!["rewrite", &disc, "--record", &clip], true, 1),
+            (vec!["recover", &missing], true, 1),
+            (vec!["maximum", &disc, &odd], true, 1),
+        ];
+        for (args, tells, count) in lines {
+            let run = run(&args);
+            let what = format!("{obeyed:?} {args:?}");
+            is_harmless(&what, &run.out, None);
+            is_harmless(&what, &run.err, Some(count));
+            let text = [&run.out[..], &run.err].concat();
+            assert!(!tells || text.contains(&told), "{what}: {text}");
+        }
+        // An option, and the files that are written.
+        let option = format!("--{odd}");
+        let run = run(&["check", &disc, &option]);
+        is_harmless(&option, &run.err, Some(1));
+        assert!(run.err.contains(&format!("has no option --{told}")), "{}", run.err);
+        for file in [&svg, &page] {
+            is_harmless(file, &fs::read_to_string(file).unwrap(), None);
+        }
+        for file in [&disc, &other] {
+            fs::remove_file(file).unwrap();
+        }
+    }
+}
+
 // Edits -----------------------------------------------------------------------------------
 
 #[test]
