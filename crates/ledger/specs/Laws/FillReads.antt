@@ -63,7 +63,7 @@ fill-reads totals image clip k words bytes w b c lent v =
     rw i (shows _ w k (rw i at (step w image l K words bytes lent totals (fillFile k clip) c .opens)) (s .0) _ clip (s .1) (s .2))
 
 -- what opening file k and reading all of it puts in front of a buffer
-abbrev readInto : WindowAnswer → List ℕ → List ℕ → List ℕ
+abbrev pub readInto : WindowAnswer → List ℕ → List ℕ → List ℕ
 readInto (window.Opened win) image buffer = bufferOf win image buffer
 readInto (window.Refused c) image buffer = buffer
 

@@ -1,0 +1,5 @@
+-- What follows from the definitions.
+pub mod Images
+pub mod Steps
+pub mod Worked
+pub mod Applied
