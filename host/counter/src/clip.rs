@@ -10,6 +10,7 @@ use crate::journal;
 use crate::names;
 use crate::os::{self, Mapping};
 use crate::progress::Progress;
+use crate::signals;
 use crate::text::{counted, grouped};
 use counter_sys as counter;
 use std::ffi::OsStr;
@@ -146,14 +147,21 @@ impl Clip {
     /// its bytes. On an error there is none.
     pub fn keep(&self, path: &Path, progress: &Progress) -> Outcome<(File, u64)> {
         let path = journal::clip_beside(path);
-        let failed = |status, why: &io::Error| {
-            let why = format!("the clip cannot be kept: {}", reason(why));
-            not_begun(&names::file(&path), status, &why)
+        let failed = |status, why: &io::Error| match signals::given_up() {
+            Some(number) => {
+                let text = format!("{}; nothing was written", signals::stopped_by(number));
+                Failure::Signal { number, text }
+            }
+            None => {
+                let why = format!("the clip cannot be kept: {}", reason(why));
+                not_begun(&names::file(&path), status, &why)
+            }
         };
         let file = disk::create(On::Clip, &path).map_err(|e| {
             failed(if disk::is_full(&e) { INPUT_OUTPUT } else { CANNOT_CREATE }, &e)
         })?;
         let kept = disk::copy((&self.file, self.start), On::Clip, (&file, 0), self.len, progress)
+            .and_then(|sum| disk::write_out(&file, 0..self.len, progress).map(|()| sum))
             .and_then(|sum| disk::sync(On::Clip, &file).map(|()| sum))
             .and_then(|sum| disk::sync_folder(&path).map(|()| sum));
         kept.map(|sum| (file, sum)).map_err(|e| {

@@ -30,6 +30,9 @@ pub enum On {
 /// Bytes that are read or written at once: a multiple of 8, as the sum wants it.
 pub const PART: u64 = 1 << 20;
 
+/// Bytes that are waited for at once.
+const AT_ONCE: u64 = 16 << 20;
+
 /// A disk writes at least so many bytes at once, or none of them.
 const SECTOR: usize = 0x200;
 
@@ -68,6 +71,7 @@ pub fn copy(
     let mut sum = Sum::new();
     let mut bytes = vec![0; PART as usize];
     for (at, len) in parts(0..len) {
+        signals::go_on()?;
         let part = &mut bytes[..len];
         from.0.read_exact_at(part, from.1 + at)?;
         sum.add(part);
@@ -75,6 +79,18 @@ pub fn copy(
         progress.advance(len as u64);
     }
     Ok(sum.value())
+}
+
+/// Lets a span leave the memory bit by bit before it is synced: so that can be told, and given up.
+pub fn write_out(file: &File, span: Range<u64>, progress: &Progress) -> io::Result<()> {
+    let end = span.end;
+    for at in span.step_by(AT_ONCE as usize) {
+        signals::go_on()?;
+        let len = AT_ONCE.min(end - at);
+        os::write_out(file, at, len)?;
+        progress.advance(len);
+    }
+    Ok(())
 }
 
 pub fn sync(on: On, file: &File) -> io::Result<()> {

@@ -65,7 +65,7 @@ fn dry(text: &[u8]) -> Vec<u8> {
 
 /// The image stays as it is, and the edit counts.
 fn only_count(totals: &Totals, last: &[u8]) -> Outcome<()> {
-    signals::begin_writing();
+    signals::begin_writing(false);
     kept::put(totals)
         .map_err(|why| Failure::error(why.status(), format!("{why}; the image is as it was")))?;
     finish(last)
@@ -142,9 +142,9 @@ fn carry_out(
     trial: Trial,
     totals: Option<Totals>,
 ) -> Outcome<()> {
-    // Threads that start from here on leave signals alone too.
-    signals::begin_writing();
-    let progress = Progress::start("writing", 0);
+    // Threads that start from here on leave most signals alone too.
+    signals::begin_writing(true);
+    let progress = Progress::start("writing", work(&trial.change));
     let failed = |e: io::Error| Failure::file(INPUT_OUTPUT, Path::new(&image.name), &e);
     let (Some(file), Some(path)) = (image.file(), image.path()) else {
         return Err(Failure::error(INTERNAL, "an edit without a file"));
@@ -157,17 +157,34 @@ fn carry_out(
         redo::bring(&file, &mut journal, &progress)
             .map_err(|e| stuck(&file, &path, &journal, &e))?;
     }
+    signals::no_way_back().map_err(|e| stuck(&file, &path, &journal, &e))?;
     let answer = (trial.found, trial.record);
     write(call, image, desk, &journal, trial.given, answer).inspect_err(|_| {
         given_up(&file, &journal);
     })?;
-    image
-        .sync()
+    progress.advance(written(&journal.plan.change));
+    write_out(&file, &journal.plan.change, &progress)
+        .and_then(|()| image.sync())
         .or_else(|failed| redo::once_more(&file, &mut journal, &failed, &progress))
         .map_err(|e| stuck(&file, &path, &journal, &e))?;
     let totals = journal.plan.totals.as_ref();
     totals.map_or(Ok(()), kept::put).map_err(|why| unrecorded(&path, &why))?;
     journal.remove().map_err(|e| still_there(&journal, &e))
+}
+
+/// How many bytes the call writes.
+fn written(change: &Change) -> u64 {
+    change.spans().iter().map(|span| span.end - span.start).sum()
+}
+
+/// The same of all steps; each byte is written and then waited for.
+fn work(change: &Change) -> u64 {
+    let times = u64::from(change.clip) + u64::from(change.is_apart());
+    2 * (times * change.brought + written(change))
+}
+
+fn write_out(file: &File, change: &Change, progress: &Progress) -> io::Result<()> {
+    change.spans().into_iter().try_for_each(|span| disk::write_out(file, span, progress))
 }
 
 /// Writes the clip, if there is one, and the journal. On an error there is neither.

@@ -310,8 +310,11 @@ Safety
     what to do is told. If you bring an image back from a copy, take its journal away; if you rename
     the image, rename the journal with it, and the clip that is kept. The FILE of a record (--record)
     may stay where it is: the journal names it by its absolute path.
-  - Every signal that comes during an edit (Ctrl-C, a hang-up, a kill and all others but SIGKILL)
-    waits until it is done and synced; the program then says so and ends by the signal.
+  - Ctrl-C, a hang-up and a kill are answered at once: where nothing but free space was written yet,
+    the edit is given up, and header, table and files are as they were; from then on it is finished
+    first, and about how long that takes is told. Every other signal but SIGKILL waits until the edit
+    is done and synced. The program then says what became of it and ends by the signal.
+  - On a terminal an edit that takes more than a second tells how far it is.
   - A program (main.dol) that lies behind the table is used like a file, and no edit writes there.
     `info` and `free` tell where it lies.
   - A header may state a maximum for the table (FST maximum, at 0x42c): games on two discs load the
@@ -361,8 +364,8 @@ fn statuses() -> String {
          \x20 78  an edit was cut: the image may hold a part of it, and its journal is there;\n\
          \x20     `counter recover IMAGE` finishes the edit. Or only its record is not written yet: the\n\
          \x20     last line says so\n\
-         \x20 128 + n  ended by signal n: before an edit wrote anything, or when it was written and\n\
-         \x20     synced; the last line says which. After SIGKILL (137) there may be a journal: see 78\n",
+         \x20 128 + n  ended by signal n: before an edit wrote anything but free space, or when it was\n\
+         \x20     written and synced; the last line says which. After SIGKILL (137) there may be a journal: see 78\n",
     );
     out
 }

@@ -108,9 +108,15 @@ fn with(path: &Path, end: &str) -> PathBuf {
     PathBuf::from(name)
 }
 
-/// Whether there is anything under the journal's name.
+/// Whether there is a file under the journal's name, or a link to one.
 pub fn is_there(image: &Path) -> bool {
-    fs::symlink_metadata(beside(image)).is_ok()
+    fs::metadata(beside(image)).is_ok_and(|told| told.is_file())
+}
+
+/// Whether something else is there, which is no journal and was never one: a folder, a special file, a link that
+/// leads nowhere.
+pub fn has_no_place(image: &Path) -> bool {
+    fs::symlink_metadata(beside(image)).is_ok() && !is_there(image)
 }
 
 /// The edit whose journal it is, in words.
@@ -194,9 +200,11 @@ impl Journal {
         Ok(())
     }
 
+    /// On an error it is still there. A folder that cannot be synced is none: if a power cut brings the journal back,
+    /// it is found then like any other.
     pub fn remove(&self) -> io::Result<()> {
         disk::remove(On::Journal, &self.path)?;
-        disk::sync_folder(&self.path)?;
+        let _ = disk::sync_folder(&self.path);
         if self.plan.change.clip {
             let clip = clip_beside(&self.image);
             // If it stays, the next edit takes it away.

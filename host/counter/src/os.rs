@@ -29,12 +29,14 @@ const MAP_FIXED: i32 = 0x10;
 const MADV_DONTNEED: i32 = 4;
 const MFD_CLOEXEC: u32 = 1;
 const PUNCH_HOLE_KEEP_SIZE: i32 = 3;
+const WRITE_AND_WAIT: u32 = 7;
 
 const READ_WRITE_SEARCH: i32 = 7;
 const AT_FDCWD: i32 = -100;
 const RENAME_NOREPLACE: u32 = 1;
 const ENOSYS: i32 = 38;
 const EINVAL: i32 = 22;
+const ESPIPE: i32 = 29;
 
 pub const O_NONBLOCK: i32 = 0x800;
 pub const EROFS: i32 = 30;
@@ -54,6 +56,7 @@ unsafe extern "C" {
         flags: u32,
     ) -> i32;
     fn fallocate(fd: i32, mode: i32, offset: i64, len: i64) -> i32;
+    fn sync_file_range(fd: i32, offset: i64, len: i64, flags: u32) -> i32;
 }
 
 /// How a file is mapped.
@@ -156,7 +159,7 @@ impl Mapping {
             taken.push((self.start as usize + span.start, span.end - span.start));
             self.replace(span, &memory)?;
         }
-        self.relief = Some(Relief::start(taken));
+        self.relief = Relief::start(taken);
         Ok(())
     }
 
@@ -190,17 +193,18 @@ struct Relief {
 }
 
 impl Relief {
-    fn start(spans: Vec<(usize, usize)>) -> Relief {
+    /// None where no thread can be had: then the system counts them.
+    fn start(spans: Vec<(usize, usize)>) -> Option<Relief> {
         let (stop, stopped) = mpsc::channel();
         let pause = Duration::from_millis(10);
-        let watch = thread::spawn(move || {
+        let watch = thread::Builder::new().spawn(move || {
             while stopped.recv_timeout(pause) == Err(RecvTimeoutError::Timeout) {
                 for &(start, len) in &spans {
                     unsafe { madvise(start as *mut u8, len, MADV_DONTNEED) };
                 }
             }
         });
-        Relief { stop, watch }
+        watch.ok().map(|watch| Relief { stop, watch })
     }
 
     fn end(self) {
@@ -214,6 +218,17 @@ pub fn punch(file: &File, at: u64, len: u64) -> io::Result<()> {
     match unsafe { fallocate(file.as_raw_fd(), PUNCH_HOLE_KEEP_SIZE, at as i64, len as i64) } {
         0 => Ok(()),
         _ => Err(io::Error::last_os_error()),
+    }
+}
+
+/// Waits until the bytes of a part of a file have left the memory. That they are on the disk for good only a sync
+/// says; but an error that is told here is told nowhere else.
+pub fn write_out(file: &File, at: u64, len: u64) -> io::Result<()> {
+    let fd = file.as_raw_fd();
+    match answer(unsafe { sync_file_range(fd, at as i64, len as i64, WRITE_AND_WAIT) }) {
+        // A disk that cannot do it leaves it to the sync.
+        Err(e) if matches!(e.raw_os_error(), Some(EINVAL | ENOSYS | ESPIPE)) => Ok(()),
+        done => done,
     }
 }
 

@@ -1,5 +1,6 @@
 //! Progress on standard error, where that is a terminal and the work takes more than a second.
 
+use crate::signals;
 use crate::text::human;
 use std::io::{self, IsTerminal, Write};
 use std::sync::Arc;
@@ -10,6 +11,8 @@ use std::time::{Duration, Instant};
 
 pub struct Progress {
     done: Arc<AtomicU64>,
+    total: u64,
+    begun: Instant,
     running: Option<(Sender<()>, JoinHandle<()>)>,
 }
 
@@ -17,28 +20,33 @@ impl Progress {
     /// Starts to watch over `total` bytes of work; 0 where only the time can be told.
     pub fn start(what: &str, total: u64) -> Progress {
         let done = Arc::new(AtomicU64::new(0));
-        let running = io::stderr().is_terminal().then(|| {
-            let (stop, stopped) = mpsc::channel();
-            let (what, seen) = (what.to_string(), done.clone());
-            let watch = thread::spawn(move || {
-                let start = Instant::now();
-                let mut wait = Duration::from_secs(1);
-                while stopped.recv_timeout(wait) == Err(RecvTimeoutError::Timeout) {
-                    wait = Duration::from_millis(250);
-                    show(&what, seen.load(Ordering::Relaxed), total, start.elapsed());
-                }
-                if start.elapsed() > Duration::from_secs(1) {
-                    draw("\r\x1b[K");
-                }
-            });
-            (stop, watch)
-        });
-        Progress { done, running }
+        let running = io::stderr().is_terminal().then(|| watch(what, total, done.clone()));
+        Progress { done, total, begun: Instant::now(), running: running.flatten() }
     }
 
     pub fn advance(&self, bytes: u64) {
-        self.done.fetch_add(bytes, Ordering::Relaxed);
+        let done = self.done.fetch_add(bytes, Ordering::Relaxed) + bytes;
+        let left = self.total.saturating_sub(done);
+        signals::expect(self.begun.elapsed().mul_f64(left as f64 / done.max(1) as f64));
     }
+}
+
+/// Shows what is done. Where no thread can be had, the work is done without.
+fn watch(what: &str, total: u64, seen: Arc<AtomicU64>) -> Option<(Sender<()>, JoinHandle<()>)> {
+    let (stop, stopped) = mpsc::channel();
+    let what = what.to_string();
+    let watch = thread::Builder::new().spawn(move || {
+        let start = Instant::now();
+        let mut wait = Duration::from_secs(1);
+        while stopped.recv_timeout(wait) == Err(RecvTimeoutError::Timeout) {
+            wait = Duration::from_millis(250);
+            show(&what, seen.load(Ordering::Relaxed).min(total), total, start.elapsed());
+        }
+        if start.elapsed() > Duration::from_secs(1) {
+            draw("\r\x1b[K");
+        }
+    });
+    watch.ok().map(|watch| (stop, watch))
 }
 
 fn show(what: &str, done: u64, total: u64, time: Duration) {

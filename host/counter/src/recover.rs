@@ -2,7 +2,7 @@
 
 use crate::args::Args;
 use crate::disk::{self, reason};
-use crate::failure::{CUT, Failure, INPUT_OUTPUT, Outcome, UNSAID};
+use crate::failure::{CANNOT_CREATE, CUT, Failure, INPUT_OUTPUT, Outcome, UNSAID};
 use crate::image::{Desk, Image};
 use crate::journal::{self, Journal, Totals};
 use crate::json::Json;
@@ -91,6 +91,9 @@ pub fn put_right(image: &Image, how: &How) -> Outcome<Option<Finished>> {
     let (Some(file), Some(path)) = (image.file(), image.path()) else {
         return Ok(None);
     };
+    if journal::has_no_place(path) {
+        return Err(in_the_way(path));
+    }
     let found = Journal::find(path).map_err(|e| useless(path, &reason(&e)))?;
     let mut journal = match found {
         None => return Ok(None),
@@ -103,8 +106,8 @@ pub fn put_right(image: &Image, how: &How) -> Outcome<Option<Finished>> {
     });
     let counted = counted.transpose()?;
     may_be_applied(file, path, &mut journal, how.anyway)?;
-    signals::begin_writing();
-    let progress = Progress::start("recovering", journal.plan.change.brought);
+    signals::begin_writing(false);
+    let progress = Progress::start("recovering", redo::work(&journal));
     let words = journal.plan.change.words.clone();
     redo::redo(file, &mut journal, &progress).map_err(|why| stuck(file, path, &journal, &why))?;
     let mut desk = Desk::new();
@@ -158,6 +161,16 @@ fn useless(path: &Path, why: &str) -> Failure {
         names::file(journal::beside(path)),
         names::file(path)
     ))
+}
+
+/// No edit was cut here, and none can begin.
+fn in_the_way(path: &Path) -> Failure {
+    let text = format!(
+        "{}: this is where the journal of an edit belongs, and it is no file: a folder, a special file or a link \
+         that leads nowhere. It is no journal, and nothing was written. Take it away",
+        names::file(journal::beside(path))
+    );
+    Failure::error(CANNOT_CREATE, text)
 }
 
 fn unread(path: &Path, words: &str, why: &io::Error) -> Failure {
@@ -220,24 +233,28 @@ fn only_free_space(journal: &Journal) -> bool {
     journal.plan.change.is_apart() && journal.copied.is_none()
 }
 
-/// The disk does not let the edit be finished. Where only free space was written so far, the edit is
-/// given up instead, and the image is as it was.
+/// The disk does not let the edit be finished, or a signal came in time. Where only free space was written so far,
+/// the edit is given up instead, and the image is as it was.
 pub fn stuck(file: &File, path: &Path, journal: &Journal, why: &io::Error) -> Failure {
     let change = &journal.plan.change;
-    if only_free_space(journal) && given_up(file, journal) {
+    let signal = signals::given_up();
+    if (only_free_space(journal) || signal.is_some()) && given_up(file, journal) {
+        let why = signal.map_or_else(|| reason(why), signals::stopped_by);
         let mut text = format!(
-            "{}: {}: nothing was written to the header, the table and the files: they are as they were",
-            names::file(path),
-            reason(why)
+            "{}: {why}: nothing was written to the header, the table and the files: they are as they were",
+            names::file(path)
         );
-        if !journal.plan.hole {
+        if only_free_space(journal) && !journal.plan.hole {
             text.push_str(&format!(
                 "; free space from {:#x} on, {} at most, may hold a part of a copy",
                 change.to,
                 human(change.brought)
             ));
         }
-        return Failure::error(INPUT_OUTPUT, text);
+        return match signal {
+            Some(number) => Failure::Signal { number, text },
+            None => Failure::error(INPUT_OUTPUT, text),
+        };
     }
     cut(format!(
         "{0}: {1}: the image holds a part of the edit ({2}). Nothing is lost: make room on the disk, then \

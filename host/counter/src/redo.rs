@@ -5,6 +5,7 @@ use crate::change::Change;
 use crate::disk::{self, On, PART, parts};
 use crate::journal::{Journal, Plan};
 use crate::progress::Progress;
+use crate::signals;
 use crate::sum::Sum;
 use std::fs::File;
 use std::io;
@@ -23,9 +24,10 @@ pub fn bring(file: &File, journal: &mut Journal, progress: &Progress) -> io::Res
         Some(from) => disk::copy(from, On::Image, (file, change.to), change.brought, progress)?,
         None => journal.plan.clip_sum,
     };
+    disk::write_out(file, change.copy_span(), progress)?;
     disk::sync(On::Image, file)?;
     match change.is_apart() && journal.copied != Some(sum) {
-        true => journal.mark_copied(sum),
+        true => signals::no_way_back().and_then(|()| journal.mark_copied(sum)),
         false => Ok(()),
     }
 }
@@ -78,11 +80,20 @@ fn refresh(file: &File, change: &Change) -> io::Result<()> {
     Ok(())
 }
 
-/// Does all of it again that may be missing. The clip is brought in any case: where it was halfway, nothing
-/// says so.
-pub fn redo(file: &File, journal: &mut Journal, progress: &Progress) -> io::Result<()> {
+/// How many bytes `redo` has to deal with: those that are brought are written and waited for.
+pub fn work(journal: &Journal) -> u64 {
+    if brings(journal) { 2 * journal.plan.change.brought } else { 0 }
+}
+
+/// Whether bytes are to be brought. The clip is in any case: where it was halfway, nothing says so.
+fn brings(journal: &Journal) -> bool {
     let change = &journal.plan.change;
-    if change.clip || change.is_apart() && (journal.copied.is_none() || journal.spoiled) {
+    change.clip || change.is_apart() && (journal.copied.is_none() || journal.spoiled)
+}
+
+/// Does all of it again that may be missing.
+pub fn redo(file: &File, journal: &mut Journal, progress: &Progress) -> io::Result<()> {
+    if brings(journal) {
         bring(file, journal, progress)?;
     }
     finish(file, &journal.plan.change)

@@ -3,10 +3,14 @@
 
 use crate::failure::{CUT, INPUT_OUTPUT};
 use std::ffi::{CString, c_char};
+use std::fmt::Arguments;
+use std::io::{self, IsTerminal, Write};
 use std::os::unix::ffi::OsStrExt;
 use std::path::Path;
 use std::ptr;
-use std::sync::atomic::{AtomicBool, AtomicI32, AtomicPtr, AtomicU64, Ordering};
+use std::sync::OnceLock;
+use std::sync::atomic::{AtomicBool, AtomicI32, AtomicPtr, AtomicU8, AtomicU64, Ordering};
+use std::time::{Duration, Instant};
 
 const SIGHUP: i32 = 1;
 const SIGINT: i32 = 2;
@@ -52,13 +56,26 @@ unsafe extern "C" {
     fn _exit(status: i32) -> !;
 }
 
+/// Those that people send.
+const SENT: [i32; 4] = [SIGHUP, SIGINT, SIGQUIT, SIGTERM];
+
+/// How far an edit is: nothing was written; nothing but free space, so that it can be given up; it is finished
+/// whatever comes; it is given up.
+const READING: u8 = 0;
+const FREE: u8 = 1;
+const FOR_GOOD: u8 = 2;
+const GIVEN_UP: u8 = 3;
+
 static CAUGHT: AtomicI32 = AtomicI32::new(0);
-static WRITING: AtomicBool = AtomicBool::new(false);
+static STAGE: AtomicU8 = AtomicU8::new(READING);
 static HOLDING: AtomicBool = AtomicBool::new(false);
 /// Signals that whoever started the program had blocked.
 static BLOCKED: AtomicU64 = AtomicU64::new(0);
 static UNFINISHED: AtomicPtr<c_char> = AtomicPtr::new(ptr::null_mut());
 static RESCUE: AtomicPtr<*const c_char> = AtomicPtr::new(ptr::null_mut());
+/// When writing began, and how many milliseconds later it is expected to end; 0 where nothing is known.
+static BEGUN: OnceLock<Instant> = OnceLock::new();
+static END: AtomicU64 = AtomicU64::new(0);
 
 const CUT_READING: &[u8] =
     b"counter: input/output error: the image could not be read to its end (did it shrink?)\n";
@@ -67,31 +84,75 @@ const CUT_WRITING: &[u8] =
 const CUT_FOR_GOOD: &[u8] =
     b"counter: the image holds a part of the edit. Make room on the disk, then: counter recover IMAGE\n";
 
-fn stopped(number: i32) -> &'static [u8] {
+/// How a signal is called.
+fn called(number: i32) -> &'static str {
     match number {
-        SIGHUP => b"counter: stopped by a hang-up; the image is as it was\n",
-        SIGINT => b"counter: stopped by Ctrl-C (SIGINT); the image is as it was\n",
-        SIGQUIT => b"counter: stopped by SIGQUIT; the image is as it was\n",
-        _ => b"counter: stopped by a kill (SIGTERM); the image is as it was\n",
+        SIGHUP => "a hang-up",
+        SIGINT => "Ctrl-C (SIGINT)",
+        SIGQUIT => "SIGQUIT",
+        _ => "a kill (SIGTERM)",
     }
 }
 
-/// While something that must be whole is done, the signal is only noted. Otherwise it ends the
-/// program.
+pub fn stopped_by(number: i32) -> String {
+    format!("stopped by {}", called(number))
+}
+
+/// Says something from within a handler, where nothing may be locked or allocated.
+fn tell(words: Arguments) {
+    let mut text = [0; 256];
+    let mut rest = &mut text[..];
+    let _ = rest.write_fmt(words);
+    let left = rest.len();
+    unsafe { write(2, text.as_ptr(), text.len() - left) };
+}
+
+/// While the image is written or something else that must be whole is done, the signal is noted, and what becomes
+/// of it is said at once. Otherwise it ends the program.
 extern "C" fn caught(number: i32) {
-    if HOLDING.load(Ordering::SeqCst) {
+    if STAGE.load(Ordering::SeqCst) != READING {
+        noted(number);
+    } else if HOLDING.load(Ordering::SeqCst) {
         CAUGHT.store(number, Ordering::SeqCst);
     } else {
         stop(number);
     }
 }
 
+fn noted(number: i32) {
+    let _ = CAUGHT.compare_exchange(0, number, Ordering::SeqCst, Ordering::SeqCst);
+    let free = STAGE.compare_exchange(FREE, GIVEN_UP, Ordering::SeqCst, Ordering::SeqCst);
+    // Over the progress that may stand in the line.
+    let line = if io::stderr().is_terminal() { "\r\x1b[K" } else { "" };
+    let name = called(number);
+    match (free, seconds_left()) {
+        (Ok(_) | Err(GIVEN_UP), _) => {
+            tell(format_args!("{line}counter: {name}: the edit is given up\n"))
+        }
+        (_, 0) => tell(format_args!("{line}counter: {name}: the edit is finished first\n")),
+        (_, left) => tell(format_args!(
+            "{line}counter: {name}: the edit is finished first: about {left} s\n"
+        )),
+    }
+}
+
+fn seconds_left() -> u64 {
+    let now = BEGUN.get().map_or(0, |begun| begun.elapsed().as_millis() as u64);
+    END.load(Ordering::SeqCst).saturating_sub(now).div_ceil(1000)
+}
+
+/// How long the edit will go on.
+pub fn expect(left: Duration) {
+    if let Some(begun) = BEGUN.get() {
+        END.store((begun.elapsed() + left).as_millis() as u64, Ordering::SeqCst);
+    }
+}
+
 /// Says so, takes a file that is not finished away, and ends as the signal ends a program.
 fn stop(number: i32) {
-    let text = stopped(number);
+    tell(format_args!("counter: stopped by {}; the image is as it was\n", called(number)));
     let unfinished = UNFINISHED.load(Ordering::SeqCst);
     unsafe {
-        write(2, text.as_ptr(), text.len());
         if !unfinished.is_null() {
             unlink(unfinished);
         }
@@ -101,10 +162,14 @@ fn stop(number: i32) {
 }
 
 /// A mapped page could not be had, and there is nothing to go back to. In the midst of an edit the
-/// program starts anew as `recover`, which writes without a mapping.
+/// program starts anew as `recover`, which writes without a mapping. Before there is a journal nothing was written.
 extern "C" fn cut_off(_: i32) {
-    let writing = WRITING.load(Ordering::SeqCst);
     let rescue = RESCUE.load(Ordering::SeqCst);
+    let writing = match STAGE.load(Ordering::SeqCst) {
+        READING => false,
+        FREE | GIVEN_UP => !rescue.is_null(),
+        _ => true,
+    };
     let text = if writing { CUT_WRITING } else { CUT_READING };
     unsafe {
         write(2, text.as_ptr(), text.len());
@@ -121,7 +186,7 @@ extern "C" fn cut_off(_: i32) {
 
 /// From here on Ctrl-C, a hang-up, a kill and a failing disk are dealt with as said above.
 pub fn catch_signals() {
-    for number in [SIGHUP, SIGINT, SIGQUIT, SIGTERM] {
+    for number in SENT {
         unsafe {
             // What whoever started the program ignores (nohup), stays ignored.
             if signal(number, caught as *const () as usize) == SIG_IGN {
@@ -139,15 +204,44 @@ pub fn catch_signals() {
 }
 
 /// From here on the image is written: every signal waits for the end, but for the one that a failing
-/// page sends.
-pub fn begin_writing() {
-    let mut all = Set([u64::MAX; 16]);
-    all.0[0] &= !Set::one(SIGBUS).0[0];
-    let mut before = Set([0; 16]);
-    unsafe { pthread_sigmask(SIG_BLOCK, &all, &mut before) };
-    if !WRITING.swap(true, Ordering::SeqCst) {
-        BLOCKED.store(before.0[0], Ordering::SeqCst);
+/// page sends. Those that people send are answered. An edit that writes to free space first can be given up until
+/// `no_way_back`; one that a signal came before is given up at once.
+pub fn begin_writing(free_space_first: bool) {
+    let _ = BEGUN.set(Instant::now());
+    END.store(0, Ordering::SeqCst);
+    let before = STAGE.swap(if free_space_first { FREE } else { FOR_GOOD }, Ordering::SeqCst);
+    if free_space_first && CAUGHT.load(Ordering::SeqCst) != 0 {
+        STAGE.store(GIVEN_UP, Ordering::SeqCst);
     }
+    let mut all = Set([u64::MAX; 16]);
+    for number in SENT.into_iter().chain([SIGBUS]) {
+        all.0[0] &= !Set::one(number).0[0];
+    }
+    let mut blocked = Set([0; 16]);
+    unsafe { pthread_sigmask(SIG_BLOCK, &all, &mut blocked) };
+    if before == READING {
+        BLOCKED.store(blocked.0[0], Ordering::SeqCst);
+    }
+}
+
+/// The signal for which the edit is given up, if it is.
+pub fn given_up() -> Option<i32> {
+    let given_up = STAGE.load(Ordering::SeqCst) == GIVEN_UP;
+    given_up.then(|| CAUGHT.load(Ordering::SeqCst))
+}
+
+/// An error if the edit is given up.
+pub fn go_on() -> io::Result<()> {
+    match given_up() {
+        None => Ok(()),
+        Some(_) => Err(io::ErrorKind::Interrupted.into()),
+    }
+}
+
+/// From here on the edit is finished, unless it was given up before.
+pub fn no_way_back() -> io::Result<()> {
+    let _ = STAGE.compare_exchange(FREE, FOR_GOOD, Ordering::SeqCst, Ordering::SeqCst);
+    go_on()
 }
 
 /// From here on there is a journal: if a page of the image fails, the edit is finished from it, and that
@@ -167,8 +261,11 @@ pub fn rescue(image: &Path, json: bool) {
     RESCUE.store(words.unwrap_or(ptr::null_mut()), Ordering::SeqCst);
 }
 
-/// A signal that waits since the image was written and would end the program, if one does.
+/// A signal that came or waits since the image was written and would end the program, if one does.
 pub fn signalled() -> Option<i32> {
+    if let number @ 1.. = CAUGHT.load(Ordering::SeqCst) {
+        return Some(number);
+    }
     let mut waiting = Set([0; 16]);
     unsafe { sigpending(&mut waiting) };
     waiting.0[0] &= !BLOCKED.load(Ordering::SeqCst);

@@ -1,12 +1,13 @@
-//! Edits that are cut: killed at random points, signalled, or short of disk. `counter help safety`
-//! says what is promised then; here it is tried. (Power cuts: crash.rs.)
+//! Edits that are cut: killed at random points, signalled, or short of disk or of threads. `counter help
+//! safety` says what is promised then; here it is tried. (Power cuts: crash.rs.)
 
 mod support;
 
-use std::fs::{self, File};
+use std::fs::{self, File, Permissions};
 use std::io::Read;
 use std::os::fd::AsRawFd;
-use std::os::unix::fs::{FileExt, OpenOptionsExt};
+use std::os::unix::fs::{FileExt, OpenOptionsExt, PermissionsExt};
+use std::os::unix::process::CommandExt;
 use std::path::{Path, PathBuf};
 use std::process::{Child, Command, Stdio};
 use std::thread;
@@ -299,18 +300,25 @@ fn a_killed_fill_is_finished_or_never_begun() {
 fn a_signal_during_an_edit_waits_for_its_end() {
     let stage = Stage::new();
     // USR1, USR2, ALRM, VTALRM, PROF, IO, XCPU and a real-time one end a program too.
-    let signals = [SIGTERM, SIGINT, 10, 12, 14, 26, 27, 29, 24, 40];
+    let signals = [10, 12, 14, 26, 27, 29, 24, 40];
     let given = stage.temp.write("clip.bin", &clip(SIZE as usize, 1));
     let fill = ["fill", "movie/intro.thp", given.to_str().unwrap()];
     let filled = filled(&stage.reset(), "/movie/intro.thp", &clip(SIZE as usize, 1));
     let moves = signals.into_iter().enumerate().map(|(i, signal)| (signal, i, &MOVE));
-    for (signal, i, args) in moves.chain([(SIGTERM, 0, &fill), (SIGINT, 7, &fill)]) {
+    // Ctrl-C and its like have their turn from the time on that it is written for good.
+    let sent = [(SIGTERM, 7, &MOVE), (SIGINT, 9, &MOVE), (SIGHUP, 8, &MOVE), (SIGQUIT, 8, &fill)];
+    for (signal, i, args) in moves.chain(sent).chain([(10, 0, &fill), (SIGINT, 7, &fill)]) {
         let image = stage.reset();
         let (mut child, mut log) = stage.start_slowly(&image, args);
         // The first one right after the journal or the clip was begun, the last while the old place is
         // zeroed or the clip written.
         read_log(&mut log, 1 + i * 0x20_0000, &mut child);
         send(&child, signal);
+        if MINDED.contains(&signal) {
+            // Before it is finished, what becomes of it is told.
+            let line = first_line(&mut child);
+            assert!(line.contains(": the edit is finished first"), "{signal}: {line}");
+        }
         read_log(&mut log, usize::MAX, &mut child);
         let run = finish(child);
         assert!(
@@ -325,6 +333,116 @@ fn a_signal_during_an_edit_waits_for_its_end() {
         assert_eq!(run.signal, Some(signal), "{}", run.err);
         assert!(run.err.contains("came during the edit; the edit is done"), "{}", run.err);
     }
+}
+
+/// The first line that it says on standard error; the rest is for whoever waits for its end.
+fn first_line(child: &mut Child) -> String {
+    let mut line = Vec::new();
+    let mut byte = [0];
+    let err = child.stderr.as_mut().unwrap();
+    while err.read(&mut byte).unwrap() == 1 && byte != *b"\n" {
+        line.push(byte[0]);
+    }
+    String::from_utf8(line).unwrap()
+}
+
+/// Where nothing but free space was written, or a clip that is kept, Ctrl-C and its like give the edit up.
+#[test]
+fn a_signal_before_the_table_is_written_gives_the_edit_up() {
+    let stage = Stage::new();
+    let given = stage.temp.write("clip.bin", &clip(SIZE as usize, 1));
+    let longer = stage.temp.write("longer.bin", &clip(0x76_5432, 2));
+    let fill = ["fill", "movie/intro.thp", given.to_str().unwrap()];
+    let elsewhere = ["fill", "audio/se/se000.dsp", longer.to_str().unwrap()];
+    let resize = ["resize", "audio/se/se000.dsp", "0x8000"];
+    // After so many bytes of the log: a copy, a clip that is kept, and one that is brought to its place.
+    let cases: [(&[&str], usize, i32); 8] = [
+        (&MOVE, 1, SIGINT),
+        (&MOVE, 0x30_0000, SIGTERM),
+        (&MOVE, 0x90_0000, SIGHUP),
+        (&fill, 1, SIGINT),
+        (&fill, 0x50_0000, SIGQUIT),
+        (&elsewhere, 0x30_0000, SIGINT),
+        (&elsewhere, 0xA0_0000, SIGINT),
+        (&resize, 1, SIGINT),
+    ];
+    for (args, read, signal) in cases {
+        for hole in [true, false] {
+            let image = stage.reset();
+            if !hole {
+                // Free space that holds something.
+                let file = File::options().write(true).open(&image).unwrap();
+                file.write_all_at(&[7; 0x1000], TO.into()).unwrap();
+            }
+            let before = fs::read(&image).unwrap();
+            let (mut child, mut log) = stage.start_slowly(&image, args);
+            read_log(&mut log, read, &mut child);
+            send(&child, signal);
+            // Without a log that is read nothing goes on, and still it is told.
+            let what = format!("{args:?} {read:#x} {signal}");
+            if args[0] != "resize" {
+                let line = first_line(&mut child);
+                assert!(line.contains(": the edit is given up"), "{what}: {line}");
+            }
+            read_log(&mut log, usize::MAX, &mut child);
+            let run = finish(child);
+            if args[0] == "resize" && run.err.contains("the edit is done and synced") {
+                continue;
+            }
+            assert_eq!((run.signal, run.out.as_str()), (Some(signal), ""), "{what}: {}", run.err);
+            assert!(run.err.contains("stopped by "), "{what}: {}", run.err);
+            assert!(run.err.contains("nothing was written"), "{what}: {}", run.err);
+            let now = fs::read(&image).unwrap();
+            match run.err.contains("may hold a part of a copy") {
+                true => {
+                    assert!(!hole, "{what}: {}", run.err);
+                    let place = TO as usize..(TO + SIZE) as usize;
+                    let kept = |bytes: &[u8]| [&bytes[..place.start], &bytes[place.end..]].concat();
+                    assert!(kept(&now) == kept(&before), "{what}");
+                }
+                false => assert!(now == before, "{what}"),
+            }
+            assert!(!journal_of(&image).exists() && !clip_of(&image).exists(), "{what}");
+            done("check", &image, &[]);
+        }
+    }
+}
+
+/// A long edit tells how far it is, on a terminal.
+#[test]
+fn an_edit_shows_its_progress_on_a_terminal() {
+    let stage = Stage::new();
+    let image = stage.reset();
+    let Some((mut shows, writes)) = terminal() else {
+        println!("not tried: no terminal to be had");
+        return;
+    };
+    let pipe = stage.temp.at("log");
+    assert!(Command::new("mkfifo").arg(&pipe).status().unwrap().success());
+    let mut log = File::options().read(true).custom_flags(O_NONBLOCK).open(&pipe).unwrap();
+    let mut command = stage.command(&image, &MOVE);
+    let mut child = command.env("COUNTER_LOG_WRITES", &pipe).stderr(writes).spawn().unwrap();
+    drop(command);
+    // The edit waits in the midst of its copy until progress is shown.
+    read_log(&mut log, 0x60_0000, &mut child);
+    let (tell, told) = std::sync::mpsc::channel();
+    thread::spawn(move || {
+        let mut part = [0; 256];
+        while let Ok(count @ 1..) = shows.read(&mut part) {
+            let _ = tell.send(String::from_utf8_lossy(&part[..count]).into_owned());
+        }
+    });
+    let shown = told.recv_timeout(Duration::from_secs(60)).unwrap();
+    // 12 MiB are copied and waited for, and then written, zeroed and waited for: 72 MiB, and a table.
+    let percent = shown.split(", ").nth(1).and_then(|part| part.split('%').next()?.parse().ok());
+    assert!(shown.contains("writing: ") && shown.contains(" MiB of 72 MiB)"), "{shown:?}");
+    assert!(percent.is_some_and(|percent: u32| (7..14).contains(&percent)), "{shown:?}");
+    send(&child, SIGINT);
+    let answer = told.iter().find(|shown| shown.contains("counter: ")).unwrap();
+    assert!(answer.contains("Ctrl-C (SIGINT): the edit is given up"), "{answer:?}");
+    read_log(&mut log, usize::MAX, &mut child);
+    assert_eq!(finish(child).signal, Some(SIGINT));
+    assert!(fs::read(&image).unwrap() == stage.bytes);
 }
 
 #[test]
@@ -389,6 +507,57 @@ fn an_image_that_shrinks_while_it_is_read_is_told() {
     let run = finish(child);
     assert_eq!(run.status, 74, "{}", run.err);
     assert!(run.err.contains("could not be read to its end"), "{}", run.err);
+}
+
+/// RLIMIT_NPROC, which holds nobody who may do everything: then the edit is done as another user.
+const PROCESSES: i32 = 6;
+const NOBODY: u32 = 65534;
+
+unsafe extern "C" {
+    fn setrlimit(what: i32, limit: *const [u64; 2]) -> i32;
+    fn geteuid() -> u32;
+}
+
+/// Without a thread there is no progress, and a trial counts more memory: the edit is done all the same.
+#[test]
+fn an_edit_is_done_where_no_thread_can_be_had() {
+    let stage = Stage::new();
+    let image = stage.reset();
+    let counter = stage.temp.at("counter");
+    fs::copy(env!("CARGO_BIN_EXE_counter"), &counter).unwrap();
+    for (path, mode) in [(&counter, 0o755), (&image, 0o666), (&stage.temp.at(""), 0o777)] {
+        fs::set_permissions(path, Permissions::from_mode(mode)).unwrap();
+    }
+    let Some((_shows, writes)) = terminal() else {
+        println!("not tried: no terminal to be had");
+        return;
+    };
+    let limited = |program: &Path| {
+        let mut command = Command::new(program);
+        if unsafe { geteuid() } == 0 {
+            command.uid(NOBODY);
+        }
+        // SAFETY: between fork and exec only `setrlimit` is called, which may be called there.
+        unsafe {
+            command.pre_exec(|| {
+                setrlimit(PROCESSES, &[0, 0]);
+                Ok(())
+            });
+        }
+        command
+    };
+    // It holds: a shell cannot start another program.
+    let held = limited(Path::new("/bin/sh")).args(["-c", "/bin/true; exit 0"]).output();
+    if held.is_ok_and(|held| held.stderr.is_empty()) {
+        println!("not tried: nothing keeps threads back here");
+        return;
+    }
+    let mut command = limited(&counter);
+    command.arg(MOVE[0]).arg(&image).args(&MOVE[1..]).stderr(writes);
+    let run: Run = command.output().unwrap().into();
+    assert_eq!(run.status, 0, "{}", run.out);
+    assert!(run.out.ends_with("done: written and synced\n"), "{}", run.out);
+    assert!(fs::read(&image).unwrap() == stage.moved());
 }
 
 /// A disk in memory that is nearly full; needs leave to mount one.

@@ -373,11 +373,41 @@ fn a_journal_that_is_no_file_is_never_applied() {
     fs::rename(&path, &aside).unwrap();
     symlink(&aside, &path).unwrap();
     cut.is_left_alone("it is no file");
-    fs::remove_file(&path).unwrap();
-    fs::create_dir(&path).unwrap();
-    let run = on("recover", &cut.image, &[]);
+    let run = on("check", &cut.image, &[]);
     assert_eq!(run.status, 78, "{}", run.err);
-    assert!(run.err.contains("it is no file"), "{}", run.err);
+}
+
+/// 78 says that there is a journal. What is in its place and can be none is told otherwise, and reading goes on.
+#[test]
+fn what_is_no_journal_is_not_taken_for_one() {
+    let temp = Temp::in_memory();
+    let image = temp.write("disc.iso", &master());
+    let path = journal_of(&image);
+    let before = State::of(&image);
+    let ways: [fn(&Path); 3] = [
+        |path| fs::create_dir(path).unwrap(),
+        |path| symlink("nothing", path).unwrap(),
+        |path| assert!(Command::new("mkfifo").arg(path).status().unwrap().success()),
+    ];
+    for (turn, way) in ways.into_iter().enumerate() {
+        way(&path);
+        for args in [&["check"][..], &["cat", "film"], &["mkdir", "x", "--dry-run"]] {
+            done(args[0], &image, &args[1..]);
+        }
+        for args in [&["recover"][..], &["mkdir", "x"], &["recover", "--anyway"], &["maximum", "5"]]
+        {
+            let run = on(args[0], &image, &args[1..]);
+            assert_eq!(run.status, 73, "{turn} {args:?}: {}", run.err);
+            assert!(run.err.contains("It is no journal, and nothing was written"), "{}", run.err);
+            assert_eq!(State::of(&image), before, "{turn} {args:?}");
+        }
+        assert!(fs::symlink_metadata(&path).is_ok());
+        match turn {
+            0 => fs::remove_dir(&path).unwrap(),
+            _ => fs::remove_file(&path).unwrap(),
+        }
+    }
+    done("mkdir", &image, &["x"]);
 }
 
 #[test]

@@ -4,7 +4,6 @@ mod support;
 
 use std::fs::{self, File, OpenOptions};
 use std::io::{BufRead, BufReader, Read};
-use std::os::fd::FromRawFd;
 use std::os::unix::fs::PermissionsExt;
 use std::process::Stdio;
 use support::*;
@@ -1182,28 +1181,6 @@ fn names_without_end_do_not_eat_the_machine() {
 }
 
 // Progress on a terminal ------------------------------------------------------------------
-
-unsafe extern "C" {
-    fn posix_openpt(flags: i32) -> i32;
-    fn grantpt(fd: i32) -> i32;
-    fn unlockpt(fd: i32) -> i32;
-    fn ptsname(fd: i32) -> *const std::ffi::c_char;
-}
-
-/// A terminal: the side that shows, and the side that a program writes to.
-fn terminal() -> Option<(File, File)> {
-    const O_RDWR_NOCTTY: i32 = 0o402;
-    let (shows, name) = unsafe {
-        let fd = posix_openpt(O_RDWR_NOCTTY);
-        if fd < 0 || grantpt(fd) != 0 || unlockpt(fd) != 0 {
-            return None;
-        }
-        let name = std::ffi::CStr::from_ptr(ptsname(fd)).to_str().ok()?.to_string();
-        (File::from_raw_fd(fd), name)
-    };
-    let writes = OpenOptions::new().read(true).write(true).open(name).ok()?;
-    Some((shows, writes))
-}
 
 #[test]
 fn progress_is_shown_on_a_terminal_after_a_second() {

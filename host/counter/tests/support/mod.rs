@@ -4,8 +4,9 @@
 #![allow(dead_code)]
 
 use std::collections::BTreeMap;
-use std::ffi::OsStr;
+use std::ffi::{CStr, OsStr, c_char};
 use std::fs::{self, File, OpenOptions};
+use std::os::fd::FromRawFd;
 use std::os::unix::fs::{FileExt, MetadataExt};
 use std::os::unix::process::CommandExt;
 use std::os::unix::process::ExitStatusExt;
@@ -101,7 +102,8 @@ pub fn program() -> Command {
     command
 }
 
-const MINDED: [i32; 4] = [1, 2, 3, 15];
+/// Those that people send.
+pub const MINDED: [i32; 4] = [SIGHUP, SIGINT, SIGQUIT, SIGTERM];
 const DEFAULT: usize = 0;
 const IGNORED: usize = 1;
 
@@ -641,7 +643,9 @@ pub fn on_disk(path: &Path) -> u64 {
 // Signals ---------------------------------------------------------------------------------
 
 pub const SIGKILL: i32 = 9;
+pub const SIGHUP: i32 = 1;
 pub const SIGINT: i32 = 2;
+pub const SIGQUIT: i32 = 3;
 pub const SIGTERM: i32 = 15;
 
 unsafe extern "C" {
@@ -650,6 +654,30 @@ unsafe extern "C" {
 
 pub fn send(child: &std::process::Child, signal: i32) {
     unsafe { kill(child.id() as i32, signal) };
+}
+
+// A terminal ------------------------------------------------------------------------------
+
+unsafe extern "C" {
+    fn posix_openpt(flags: i32) -> i32;
+    fn grantpt(fd: i32) -> i32;
+    fn unlockpt(fd: i32) -> i32;
+    fn ptsname(fd: i32) -> *const c_char;
+}
+
+/// A terminal: the side that shows, and the side that a program writes to.
+pub fn terminal() -> Option<(File, File)> {
+    const O_RDWR_NOCTTY: i32 = 0o402;
+    let (shows, name) = unsafe {
+        let fd = posix_openpt(O_RDWR_NOCTTY);
+        if fd < 0 || grantpt(fd) != 0 || unlockpt(fd) != 0 {
+            return None;
+        }
+        let name = CStr::from_ptr(ptsname(fd)).to_str().ok()?.to_string();
+        (File::from_raw_fd(fd), name)
+    };
+    let writes = OpenOptions::new().read(true).write(true).open(name).ok()?;
+    Some((shows, writes))
 }
 
 // JSON, read ------------------------------------------------------------------------------
