@@ -2,6 +2,7 @@
 pub mod Accepted
 pub mod Behind
 pub mod PlaceTests
+pub mod Promised
 pub mod Puts
 pub mod Fills
 pub mod MadeTree

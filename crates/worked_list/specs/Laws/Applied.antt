@@ -130,6 +130,7 @@ still =
 
 pub record Stays : Type 0 where
   pub entry : still .entry ≡ 1
+  pub number : filesBefore (still .entry) (nodesIn last) ≡ 0
   pub bytes : span last 0x500 0x100 ≡ ofA ++ replicate 0xF8 0
 
 -- which entry of the last tree that is
@@ -140,7 +141,7 @@ entry-a (suc (suc zero)) e = let z : _≡_ {A = ℕ} 0x900 0x500 = cc in absurd 
 entry-a (suc (suc (suc k))) e = let z : _≡_ {A = ℕ} 0 1 = cc in absurd (omega arith)
 
 pub stays : Stays
-stays = record { entry = entry-a (still .entry) (rw (at-last .tree) at (still .lies)); bytes = still .bytes ∙ first-a }
+stays = record { entry = entry-a (still .entry) (rw (at-last .tree) at (still .lies)); number = still .number; bytes = still .bytes ∙ first-a }
 
 -- ---- the record that was handed on, after five accepted calls
 
