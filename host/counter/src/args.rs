@@ -82,7 +82,11 @@ const NEW: Operand = needed(
     Value::Entry,
     "the folder's path, as `find` takes it, a / and the new name, which is all that stands behind the last /",
 );
-const DEST: Operand = needed("DEST", Value::New, "a new file or folder, or an empty folder");
+const DEST: Operand = needed(
+    "DEST",
+    Value::New,
+    "a new file or folder, or an empty folder; for a file also `-`: standard output (./- is a file)",
+);
 const SVG: Operand = needed("OUT.svg", Value::New, "the picture, a new file");
 const HTML: Operand = needed("OUT.html", Value::New, "the page, a new file");
 const PLACE: Operand = needed(
@@ -311,7 +315,11 @@ pub const FORMS: &[Form] = &[
             "extract",
             &[&IMAGE, &PATH, &DEST],
             "writes the file or folder at PATH, or everything, to DEST",
-            &["counter extract disc.iso /audio audio", "counter extract disc.iso --all files"],
+            &[
+                "counter extract disc.iso /audio audio",
+                "counter extract disc.iso --all files",
+                "counter extract disc.iso /opening.bnr - | sha256sum",
+            ],
         )
     },
     Form {

@@ -78,7 +78,9 @@ fn open(path: &Path, dry: bool) -> Outcome<Image> {
     }
     let image = Image::edit(path)?;
     if let Some(finished) = put_right(&image, &How::default())? {
-        eprintln!("counter: finished an edit that was cut: {}", finished.words);
+        let file =
+            finished.file.map_or(String::new(), |file| format!("; record written to {file}"));
+        eprintln!("counter: finished an edit that was cut: {}{file}", finished.words);
     }
     Ok(image)
 }

@@ -198,8 +198,8 @@ const FIELDS: &[(&str, &str)] = &[
     ),
     (
         "recover",
-        "status edit finished written record{used free largest_free edits}; finished: the edit that was \
-         cut, or null; record: as it is after that edit, or null (maximum has none)",
+        "status edit finished written out record{used free largest_free edits}; finished: the edit that was \
+         cut, or null; out: the FILE of its --record, where it was written, or null; record: as it is after that edit, or null (maximum has none)",
     ),
 ];
 
@@ -309,7 +309,8 @@ Safety
   - A journal that is torn, or of another image, or of one that was changed since, is never applied;
     what to do is told. If you bring an image back from a copy, take its journal away; if you rename
     the image, rename the journal with it, and the clip that is kept. The FILE of a record (--record)
-    may stay where it is: the journal names it by its absolute path.
+    may stay where it is: the journal names it by its absolute path. A journal is found by the
+    image's name, after every symbolic link; by another hard link of the image it is not seen.
   - Ctrl-C, a hang-up and a kill are answered at once: where nothing but free space was written yet,
     the edit is given up, and header, table and files are as they were; from then on it is finished
     first, and about how long that takes is told. Every other signal but SIGKILL waits until the edit

@@ -28,9 +28,11 @@ pub fn recover(args: &Args) -> Outcome<()> {
     let told = match &finished {
         _ if args.json => json(finished.as_ref()).document(),
         None => "there is no journal: no edit was cut, nothing is to be done\n".into(),
-        Some(Finished { words, record, disc_end }) => format!(
-            "finished an edit that was cut: {words}\n{}done: written and synced\n",
-            record.map_or(String::new(), |record| record::line(&record, *disc_end))
+        Some(edit) => format!(
+            "finished an edit that was cut: {}\n{}{}done: written and synced\n",
+            edit.words,
+            edit.record.map_or(String::new(), |record| record::line(&record, edit.disc_end)),
+            edit.file.as_ref().map_or(String::new(), |file| format!("record written to {file}\n"))
         ),
     };
     let told = for_terminal(&told).into_bytes();
@@ -43,6 +45,7 @@ fn json(finished: Option<&Finished>) -> Json {
         ("edit", "recover".into()),
         ("finished", finished.map(|edit| edit.words.as_str()).into()),
         ("written", finished.is_some().into()),
+        ("out", finished.and_then(|edit| edit.file.as_deref()).into()),
         (
             "record",
             finished
@@ -57,6 +60,8 @@ fn json(finished: Option<&Finished>) -> Json {
 pub struct Finished {
     pub words: String,
     record: Option<Record>,
+    /// The record's file, where it was written.
+    pub file: Option<String>,
     disc_end: u32,
 }
 
@@ -113,17 +118,19 @@ pub fn put_right(image: &Image, how: &How) -> Outcome<Option<Finished>> {
     let mut desk = Desk::new();
     let opened = counter::open(image.bytes(), &mut desk.lend())
         .map_err(|number| not_opened(path, &journal, number))?;
-    match &totals {
-        Some(totals) if how.without_record => left(totals),
-        Some(totals) => kept::put_again(totals).map_err(|why| unrecorded(path, &why))?,
-        None => {}
+    let written = totals.as_ref().filter(|_| !how.without_record);
+    match (written, &totals) {
+        (Some(totals), _) => kept::put_again(totals).map_err(|why| unrecorded(path, &why))?,
+        (None, Some(totals)) => left(totals),
+        (None, None) => {}
     }
+    let file = written.map(|totals| names::file(&totals.file));
     let record = match journal.plan.change.maximum {
         Some(_) => None,
         None => Some(counted.map_or_else(|| record::alone(image, &mut desk), Ok)?),
     };
     journal.remove().map_err(|why| still_there(&journal, &why))?;
-    Ok(Some(Finished { words, record, disc_end: opened.disc_end }))
+    Ok(Some(Finished { words, record, file, disc_end: opened.disc_end }))
 }
 
 fn left(totals: &Totals) {

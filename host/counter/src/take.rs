@@ -56,6 +56,14 @@ struct Plan {
 }
 
 pub fn extract(args: &Args) -> Outcome<()> {
+    if args.path(1).as_os_str() == "-" {
+        return match args.json {
+            true => {
+                Err(Failure::usage("extract to - writes the file's bytes alone; see `cat --json`"))
+            }
+            false => cat(args),
+        };
+    }
     let (image, mut desk, disc) = opened(args.image.as_deref())?;
     let disc = disc.with_paths()?;
     let node = disc.find(&image, &mut desk, &args.entry(0)?)?;

@@ -303,6 +303,43 @@ fn cat_and_extract_give_the_file_byte_for_byte() {
     assert_eq!(on("cat", &image, &["nothing"]).status, 18);
 }
 
+/// `-` is standard output, and no file of that name is made.
+#[test]
+fn extract_writes_to_standard_output() {
+    let temp = Temp::new();
+    let image = usual_master(&temp);
+    let here = |rest: &[&str]| -> Run {
+        let mut command = program();
+        command.arg("extract").arg(&image).args(rest).current_dir(temp.at(""));
+        command.output().unwrap().into()
+    };
+    let bytes = span(&image, 0x6_0000, 0x1960);
+    for rest in
+        [&["opening.bnr", "-"][..], &["/opening.bnr", "-", "--number"], &["--", "opening.bnr", "-"]]
+    {
+        let run = here(rest);
+        assert_eq!((run.status, run.err.as_str()), (0, ""), "{rest:?}");
+        assert!(run.bytes == bytes, "{rest:?}");
+    }
+    assert_eq!(here(&["audio/silence.adp", "-"]).bytes, b"");
+    // A folder has no place there, and neither has JSON.
+    for (rest, status) in [
+        (&["audio", "-"][..], 16),
+        (&["--all", "-"], 16),
+        (&["nothing", "-"], 18),
+        (&["opening.bnr", "-", "--json"], 64),
+    ] {
+        let run = here(rest);
+        assert_eq!(run.status, status, "{rest:?}: {}", run.err);
+        assert_eq!(run.out.is_empty(), !rest.contains(&"--json"), "{rest:?}");
+    }
+    assert!(!temp.at("-").exists());
+    assert_eq!(here(&["opening.bnr", "./-"]).status, 0);
+    assert!(fs::read(temp.at("-")).unwrap() == bytes);
+    // A file of that name changes nothing.
+    assert!(here(&["opening.bnr", "-"]).bytes == bytes);
+}
+
 #[test]
 fn nothing_is_overwritten() {
     let temp = Temp::new();

@@ -844,7 +844,7 @@ fn a_manifest_is_held_by_sha256sum_and_by_compare() {
     let text = fs::read_to_string(temp.at("text.sums")).unwrap();
     assert!(text.contains("\n# folder ソース/\n") && text.contains("  ソース/ｱｲｳ\n"), "{text}");
     let raw = fs::read(temp.at("raw.sums")).unwrap();
-    assert!(raw.starts_with(b"# counter manifest 1\n# names bytes\n"));
+    assert!(raw.starts_with(b"# counter manifest 2\n# names bytes\n"));
     // A manifest is UTF-8 whatever the terminal.
     assert_eq!(within(SJIS, "hash", &image, &[]).out, text);
     // One that names what no image can have is none.

@@ -587,7 +587,7 @@ fn the_record_goes_with_the_edit_when_the_disk_is_full() {
                     unrecorded += usize::from(whole);
                     let out = done("recover", &image, &[]);
                     let line = Table::of(&image).record_line(5);
-                    assert!(out.contains(&format!("\n{line}done: ")), "{what}: {out}");
+                    assert!(out.contains(&format!("\n{line}record written to ")), "{what}: {out}");
                 }
                 _ => panic!("{what}"),
             }
@@ -634,13 +634,19 @@ fn a_cut_edit_is_counted_when_it_is_finished() {
     let told = json("recover", &image, &[]);
     assert_eq!(told.at("record").at("edits").number(), 5);
     assert_eq!(told.at("record").at("largest_free").number(), 3840);
+    // Which file was written is told, whatever name it was given by.
+    let place = fs::canonicalize(&file).unwrap();
+    assert_eq!(told.at("out").text(), place.to_str().unwrap());
+    assert_eq!(json("recover", &image, &[]).at("out"), &Json::Null);
+    let written = format!("record written to {}\n", place.display());
     assert_eq!(read(&file), "counter record 1\nused 1370 largest 3840 edits 5\n");
 
     // The next edit finishes it first, and both count.
     let (image, file) = cut(&temp);
     let run = with(&image, &file, &["mkdir", "d"]);
     assert_eq!(run.status, 0, "{}", run.err);
-    assert!(run.err.contains("finished an edit that was cut: move a to 0x1000"), "{}", run.err);
+    let words = format!("finished an edit that was cut: move a to 0x1000; {written}");
+    assert!(run.err.contains(&words), "{}", run.err);
     assert!(run.out.contains(", edits 6\n"), "{}", run.out);
     assert_eq!(read(&file), "counter record 1\nused 1384 largest 3840 edits 6\n");
     assert!(!is_left(&image, &file));
@@ -648,7 +654,8 @@ fn a_cut_edit_is_counted_when_it_is_finished() {
     // The first one, after which there is a file.
     fs::remove_file(&file).unwrap();
     let (image, file) = cut_with(&temp, file);
-    assert!(done("recover", &image, &[]).contains(", edits 1\n"));
+    let out = done("recover", &image, &[]);
+    assert!(out.ends_with(&format!(", edits 1\n{written}done: written and synced\n")), "{out}");
     assert_eq!(read(&file), "counter record 1\nused 1370 largest 3840 edits 1\n");
     assert!(!is_left(&image, &file));
     // The file has its new text already.
@@ -657,6 +664,9 @@ fn a_cut_edit_is_counted_when_it_is_finished() {
     assert!(done("recover", &image, &[]).contains(", edits 5\n"));
     assert_eq!(read(&file), SECOND);
     assert!(!is_left(&image, &file));
+    // One that is left is not written.
+    let (image, _) = cut(&temp);
+    assert_eq!(json("recover", &image, &["--without-record"]).at("out"), &Json::Null);
 }
 
 /// The edit is whole, its record cannot be written: nothing is lost, whoever comes next.
