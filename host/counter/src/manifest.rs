@@ -122,7 +122,9 @@ pub fn sums(bytes: &[u8], spans: &[(u64, u64)], progress: &Progress) -> Vec<Sum>
     let threads = thread::available_parallelism().map_or(1, |n| n.get()).min(16);
     let mut sums = vec![[0; 32]; spans.len()];
     thread::scope(|scope| {
-        let workers: Vec<_> = (1..threads).map(|_| scope.spawn(work)).collect();
+        // Where no thread can be had, this one does it all.
+        let worker = |_| thread::Builder::new().spawn_scoped(scope, work).ok();
+        let workers: Vec<_> = (1..threads).map_while(worker).collect();
         let own = work();
         let others = workers.into_iter().map(|worker| worker.join().expect("a sum"));
         for (i, sum) in others.flatten().chain(own) {

@@ -518,9 +518,9 @@ unsafe extern "C" {
     fn geteuid() -> u32;
 }
 
-/// Without a thread there is no progress, and a trial counts more memory: the edit is done all the same.
+/// Without a thread there is no progress, and a trial counts more memory; sums and edits are done all the same.
 #[test]
-fn an_edit_is_done_where_no_thread_can_be_had() {
+fn sums_and_edits_are_done_where_no_thread_can_be_had() {
     let stage = Stage::new();
     let image = stage.reset();
     let counter = stage.temp.at("counter");
@@ -552,6 +552,9 @@ fn an_edit_is_done_where_no_thread_can_be_had() {
         println!("not tried: nothing keeps threads back here");
         return;
     }
+    let wanted = done("hash", &image, &[]);
+    let run: Run = limited(&counter).arg("hash").arg(&image).output().unwrap().into();
+    assert_eq!((run.status, run.out.as_str()), (0, wanted.as_str()), "{}", run.err);
     let mut command = limited(&counter);
     command.arg(MOVE[0]).arg(&image).args(&MOVE[1..]).stderr(writes);
     let run: Run = command.output().unwrap().into();
