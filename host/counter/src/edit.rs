@@ -81,6 +81,8 @@ fn open(path: &Path, dry: bool) -> Outcome<Image> {
         let file =
             finished.file.map_or(String::new(), |file| format!("; record written to {file}"));
         eprintln!("counter: finished an edit that was cut: {}{file}", finished.words);
+        // The next one is not begun yet.
+        signals::begin_writing(true);
     }
     Ok(image)
 }

@@ -203,7 +203,11 @@ impl Journal {
     /// On an error it is still there. A folder that cannot be synced is none: if a power cut brings the journal back,
     /// it is found then like any other.
     pub fn remove(&self) -> io::Result<()> {
-        disk::remove(On::Journal, &self.path)?;
+        match disk::remove(On::Journal, &self.path) {
+            // Somebody was faster.
+            Err(e) if e.kind() == io::ErrorKind::NotFound => {}
+            removed => removed?,
+        }
         let _ = disk::sync_folder(&self.path);
         if self.plan.change.clip {
             let clip = clip_beside(&self.image);
