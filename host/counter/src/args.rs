@@ -346,8 +346,8 @@ pub const FORMS: &[Form] = &[
             "check",
             &[&IMAGE],
             "opens the image, or says which refusal it meets and why; tells of a table above its maximum, of \
-             stored parents that are not the nesting's, of texts that no entry uses, and of a table that a rewrite \
-             would alter",
+             stored parents that are not the nesting's, of texts that no entry uses, of a table that a rewrite \
+             would alter, and of names that differ in case alone",
             &["counter check disc.iso"],
         )
     },
@@ -513,7 +513,8 @@ name, so it is no path. FIELD is game code, maker, disc, version, audio, stream 
 GameCube magic, game name, debug offset, debug address, unused 0x408, DOL offset, FST offset, FST size, FST \
 maximum, user position, user size, disc size or unused 0x43C; another name is an error (65).
 Exit status 1 if a file or folder that is not on LIST differs in place, size or bytes, is gone, or is \
-hidden by another entry of its name that stands before it now; also if a field of the header without leave (but \
+hidden by another entry of its name that stands before it now, or of one that differs in case alone and so hides it \
+from games that look up without case; also if a field of the header without leave (but \
 for the table's size), the system area, the program, the disc end or what lies behind it differ, with the place of \
 the first byte. New files and folders, another order of the entries and other bytes in the free \
 space are told and do not fail the check.

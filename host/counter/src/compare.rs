@@ -126,28 +126,33 @@ struct Item<'a> {
     key: Vec<u8>,
     /// Lookup finds it: no part of its path has an equal name before it.
     first: bool,
+    /// What a game that looks up without case finds in its place, or in that of a folder on its path.
+    alike: Option<&'a Record>,
 }
 
 fn items(records: &[Record]) -> Vec<Item<'_>> {
     let mut items: Vec<Item> = Vec::with_capacity(records.len());
     let mut seen: HashMap<(u32, &[u8], bool), u32> = HashMap::new();
+    let pairs = names::alike(records.iter().map(|record| (record.parent, record.name())));
+    let found: HashMap<usize, usize> = pairs.into_iter().map(|(at, hidden)| (hidden, at)).collect();
     for record in records {
         let (parent, name) = (record.parent, record.name());
         let of_kind =
             |seen: &HashMap<_, u32>, kind| seen.get(&(parent, name, kind)).copied().unwrap_or(0);
         let alone = of_kind(&seen, true) + of_kind(&seen, false) == 0;
         let place = of_kind(&seen, record.folder);
-        let (above, first) = match record.number {
-            0 => (&[][..], true),
-            _ => {
+        let (above, first, alike) = match record.number {
+            0 => (&[][..], true, None),
+            number => {
                 seen.insert((parent, name, record.folder), place + 1);
                 let above = &items[parent as usize];
-                (&above.key[..], above.first && alone)
+                let alike = found.get(&(number as usize)).map(|&at| &records[at]);
+                (&above.key[..], above.first && alone, alike.or(above.alike))
             }
         };
         let kind = if record.folder { 'd' } else { 'f' };
         let key = [above, b"/", name, format!(":{kind}{place}").as_bytes()].concat();
-        items.push(Item { record, key, first });
+        items.push(Item { record, key, first, alike });
     }
     items
 }
@@ -166,8 +171,10 @@ pub struct Row {
     pub sum: Option<Sum>,
     /// Whether the bytes that both have differ; None where that cannot be told.
     changed: Option<bool>,
-    /// Lookup found it, and finds another entry of that name now.
+    /// Lookup found it, and finds another entry of that name now, or a lookup without case does.
     hidden: bool,
+    /// What a lookup without case finds now in its place, or in a folder's of its path.
+    alike: Option<Vec<u8>>,
     pub given: bool,
 }
 
@@ -224,17 +231,20 @@ fn matched(old: &[Item], new: &[Item]) -> Vec<Row> {
     let mut rows = Vec::new();
     for item in old {
         let now = found.get(&item.key[..]);
-        let mut row = row(item, Some(item.record), now.map(|item| item.record));
-        row.hidden = item.first && now.is_some_and(|now| !now.first);
+        let mut row = row(item, Some(item.record), now.copied());
+        row.hidden = now.is_some_and(|now| {
+            item.first && !now.first || item.alike.is_none() && now.alike.is_some()
+        });
         rows.push(row);
     }
     for item in new.iter().filter(|item| !known.contains(&item.key[..])) {
-        rows.push(row(item, None, Some(item.record)));
+        rows.push(row(item, None, Some(item)));
     }
     rows
 }
 
-fn row(item: &Item, before: Option<&Record>, after: Option<&Record>) -> Row {
+fn row(item: &Item, before: Option<&Record>, now: Option<&Item>) -> Row {
+    let after = now.map(|now| now.record);
     Row {
         path: item.record.path.clone(),
         number: item.record.number,
@@ -246,6 +256,7 @@ fn row(item: &Item, before: Option<&Record>, after: Option<&Record>) -> Row {
         sum: item.record.sum,
         changed: None,
         hidden: false,
+        alike: now.and_then(|now| now.alike).map(|record| record.path.clone()),
         given: false,
     }
 }
@@ -773,12 +784,16 @@ fn difference(row: &Row) -> String {
             let _ =
                 write!(out, "  size {} -> {}", grouped(before.1.into()), grouped(after.1.into()));
         }
-        if row.hidden {
+        if row.hidden && row.alike.is_none() {
             out.push_str("  (another entry of its name stands before it)");
         }
         if row.changed.is_none() && !row.folder {
             out.push_str("  (shorter than its sum's bytes, which were not compared)");
         }
+    }
+    if let Some(found) = row.alike.as_ref().filter(|_| row.hidden || row.before.is_none()) {
+        let found = names::text(found);
+        let _ = write!(out, "  (a game that looks up without case finds {found} in its place)");
     }
     out
 }
@@ -799,6 +814,7 @@ fn row_json(row: &Row) -> Json {
         ("resized", row.resized().into()),
         ("changed", row.changed.into()),
         ("hidden", row.hidden.into()),
+        ("alike", row.alike.as_ref().map(|path| names::text(path)).into()),
         ("given", row.given.into()),
         ("before", place(row.before).unwrap_or(Json::Null)),
         ("after", place(row.after).unwrap_or(Json::Null)),

@@ -179,9 +179,10 @@ const FIELDS: &[(&str, &str)] = &[
         "check",
         "status opens entries files disc_end used free fst_size fst_maximum fst_left fst_above fst_rewritten \
          fst_rewritten_above stored_parents[number path path_bytes stored parent] root{name_offset parent} \
-         unused_texts unused_texts_at rewrite_alters_at notes[...]; stored_parents: folders whose stored parent \
+         unused_texts unused_texts_at rewrite_alters_at alike[path path_bytes found found_bytes] notes[...]; stored_parents: folders whose stored parent \
          is not the one that they are nested in; unused_texts: bytes of the table's texts that no entry uses; \
-         rewrite_alters_at: where a rewrite would begin to alter the table, or null",
+         rewrite_alters_at: where a rewrite would begin to alter the table, or null; alike: names that a game which looks up without case does not \
+         find, and what it finds in their place",
     ),
     ("compare", COMPARED),
     ("report", COMPARED),
@@ -207,8 +208,9 @@ const COMPARED: &str = "status before after manifest manifest_sum before_sum aft
     covers_all order_changed free_space \
     counts{unchanged moved resized changed new gone} areas[name status changed given field offset] \
     folders[path path_bytes status given] unknown[path] unknown_bytes[path] files[path path_bytes first \
-    status moved resized changed hidden given before{offset size} after{offset size}]; changed: null where it cannot be told; an area's status: unchanged, changed, unknown or, \
-    of the table, `written anew`; manifest_sum: of the manifest itself; before_sum: of the image that it names, \
+    status moved resized changed hidden alike given before{offset size} after{offset size}]; changed: null where it cannot be told; an area's status: unchanged, changed, unknown or, \
+    of the table, `written anew`; alike: \
+    what a game that looks up without case finds in its place, or null; manifest_sum: of the manifest itself; before_sum: of the image that it names, \
     both null without one; cut: those of which an edit was cut; free_space: unchanged, changed or \
     unknown; files and folders: only those that differ, with --only-differences";
 

@@ -2,7 +2,7 @@
 
 use crate::args::Args;
 use crate::disc::{
-    CLUSTER, Clusters, Kind, Space, free_clusters, not_opened, opened, space, table_end,
+    CLUSTER, Clusters, Disc, Kind, Node, Space, free_clusters, not_opened, opened, space, table_end,
 };
 use crate::failure::{Failure, Outcome};
 use crate::header::{FIELDS, Field, Header};
@@ -254,6 +254,16 @@ pub fn place(args: &Args) -> Outcome<()> {
     say(out.as_bytes())
 }
 
+/// Names that are told one by one; the others are counted.
+const TOLD: usize = 12;
+
+/// Entries that a game which looks up without case does not find, each behind the one that it finds.
+fn alike(disc: &Disc) -> Vec<(&Node, &Node)> {
+    let names = disc.nodes.iter().map(|node| (node.parent, &node.name[..]));
+    let pairs = names::alike(names).into_iter();
+    pairs.map(|(found, hidden)| (&disc.nodes[found], &disc.nodes[hidden])).collect()
+}
+
 pub fn check(args: &Args) -> Outcome<()> {
     let (image, mut desk, disc) = opened(args.image.as_deref())?;
     let space = Space::read(&image, &mut desk)?;
@@ -261,6 +271,15 @@ pub fn check(args: &Args) -> Outcome<()> {
     let stored = Stored::read(&image, &disc);
     let mut notes: Vec<String> = maximum.note().into_iter().collect();
     notes.extend(stored.notes());
+    let alike = alike(&disc);
+    let told = alike.iter().take(TOLD).map(|(found, hidden)| {
+        let [found, hidden] = [found, hidden].map(|node| names::short(&node.path));
+        format!("{hidden}: a game that looks up without case finds {found} in its place")
+    });
+    notes.extend(told);
+    if alike.len() > TOLD {
+        notes.push(format!("so it is with {} more", grouped((alike.len() - TOLD) as u64)));
+    }
     if args.json {
         let mut fields = vec![
             ("status", 0u32.into()),
@@ -275,6 +294,12 @@ pub fn check(args: &Args) -> Outcome<()> {
         ];
         fields.extend(maximum.fields());
         fields.extend(stored.fields());
+        let pairs = alike.iter().map(|(found, hidden)| {
+            let [path, path_bytes] = json::path(&hidden.path);
+            let [(_, text), (_, bytes)] = json::path(&found.path);
+            Json::Object(vec![path, path_bytes, ("found", text), ("found_bytes", bytes)])
+        });
+        fields.push(("alike", Json::List(pairs.collect())));
         fields.push(("notes", Json::List(notes.into_iter().map(Json::from).collect())));
         return say(Json::Object(fields).document().as_bytes());
     }

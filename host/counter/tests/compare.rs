@@ -454,6 +454,74 @@ fn an_entry_that_hides_another_fails() {
 }
 
 #[test]
+fn an_entry_that_differs_in_case_alone_and_hides_another_fails() {
+    // Full-width a and A: 0x82 0x81 and 0x82 0x60.
+    let cases: [(&[u8], &[u8]); 4] = [
+        (b"opening.bnr", b"Opening.BNR"),
+        (b"audio", b"AUDIO"),
+        (b"\x82\x81.bin", b"\x82\x60.bin"),
+        (b"x-\x83\xBF", b"X-\x83\x9F"),
+    ];
+    for (name, other) in cases {
+        let mut entries = usual(0x10_0000, 0x4_5678);
+        if name[0] != b'o' && name[0] != b'a' {
+            entries.push(file(name, 0x1A_0000, 0x100));
+        }
+        let at = match name {
+            b"opening.bnr" => 0,
+            b"audio" => 1,
+            _ => entries.len() - 1,
+        };
+        let pair = pair_of(&entries);
+        let manifest = pair.manifest();
+        for run in [pair.compare(&[]), pair.against(&manifest, &[])] {
+            assert_eq!(run.status, 0, "{}", run.out);
+        }
+        // Behind the other it is hidden itself, which is told.
+        entries.insert(at + 1, file(other, 0, 0));
+        with_table(&pair.after, &entries);
+        for run in [pair.compare(&[]), pair.against(&manifest, &[])] {
+            assert_eq!(run.status, 0, "{}", run.out);
+            assert!(
+                run.out.contains("  (a game that looks up without case finds /"),
+                "{}",
+                run.out
+            );
+        }
+        // Before it, it hides what was found.
+        let new = entries.remove(at + 1);
+        entries.insert(at, new);
+        with_table(&pair.after, &entries);
+        for run in [pair.compare(&[]), pair.against(&manifest, &[])] {
+            assert_eq!(run.status, 1, "{}", run.out);
+            let line = run.out.lines().find(|line| line.starts_with("hidden           /")).unwrap();
+            assert!(line.contains("(a game that looks up without case finds /"), "{line}");
+            assert!(line.ends_with("[NOT GIVEN]"), "{line}");
+        }
+        let note = done("check", &pair.after, &[]);
+        assert_eq!(
+            note.matches(": a game that looks up without case finds /").count(),
+            1,
+            "{note}"
+        );
+        let told = json("check", &pair.after, &[]);
+        assert_eq!(told.at("alike").list().len(), 1);
+    }
+    // All below a folder are hidden with it.
+    let pair = pair();
+    let mut entries = usual(0x10_0000, 0x4_5678);
+    entries.insert(0, folder("Audio", vec![]));
+    with_table(&pair.after, &entries);
+    let told = pair.json();
+    assert_eq!(status(&told, "/audio/se/se000.dsp"), "hidden");
+    assert_eq!(status(&told, "/opening.bnr"), "unchanged");
+    assert_eq!(pair.given("audio/\n").status, 0);
+    // What was so before is no difference.
+    fs::copy(&pair.after, &pair.before).unwrap();
+    assert_eq!(pair.compare(&[]).status, 0);
+}
+
+#[test]
 fn another_order_and_other_free_bytes_are_told() {
     let pair = pair();
     let run = pair.compare(&[]);
