@@ -3,10 +3,10 @@
 
 use crate::failure::{Failure, Outcome};
 use crate::names;
-use crate::text::{number, one_line};
+use crate::text::{nearest, number, one_line};
 use std::ffi::{OsStr, OsString};
 use std::os::unix::ffi::OsStringExt;
-use std::path::PathBuf;
+use std::path::{Path, PathBuf};
 
 // The table -------------------------------------------------------------------------------
 
@@ -183,6 +183,11 @@ const NUMBER: Flag = Flag {
     value: None,
     words: "the second of two equal names gets its entry's number behind it: x, then x~2",
 };
+const PUBLIC: Flag = Flag {
+    name: "--all",
+    value: None,
+    words: "also CRC32, MD5 and SHA-1 of the whole image, as public databases of discs have them",
+};
 const ALL: Flag = Flag { name: "--all", value: None, words: "everything, in the place of PATH" };
 const CLUSTERS: Flag = Flag {
     name: "--clusters",
@@ -194,7 +199,7 @@ const DEMO: Flag =
 const OUT: Flag = Flag {
     name: "--out",
     value: Some(("FILE", Value::New)),
-    words: "writes the program to a new file",
+    words: "writes the program (dol), or the manifest (hash), to a new file; nothing is overwritten",
 };
 const GIVEN: Flag = Flag {
     name: "--given",
@@ -238,7 +243,8 @@ pub const FORMS: &[Form] = &[
     look(
         "info",
         &[&BARE],
-        "the header's fields, the totals, what is left of the table's maximum and where the program lies",
+        "the header's fields, the totals, what is left of the table's maximum, where the program lies, and the \
+         title and the maker of the banner (/opening.bnr)",
         &["counter info disc.iso", "counter info"],
     ),
     Form {
@@ -336,7 +342,7 @@ pub const FORMS: &[Form] = &[
         ..look(
             "map",
             &[&IMAGE, &SVG],
-            "draws table, program, files and free space as an SVG picture",
+            "draws table, program, files and free space as an SVG picture; rows that are wholly free are folded",
             &["counter map disc.iso disc.svg", "counter map --demo demo.svg"],
         )
     },
@@ -368,13 +374,17 @@ pub const FORMS: &[Form] = &[
     },
     Form {
         group: Group::Check,
-        flags: &[&BYTES, &WAIT, &AS_IS],
+        flags: &[&OUT, &PUBLIC, &BYTES, &WAIT, &AS_IS],
         more: MANIFEST,
         ..look(
             "hash",
             &[&IMAGE],
             "a manifest: the SHA-256 of the header's fields, the table, the program and each file",
-            &["counter hash disc.iso > disc.sums", "counter compare disc.sums disc.iso"],
+            &[
+                "counter hash disc.iso --out disc.sums",
+                "counter compare disc.sums disc.iso",
+                "counter hash disc.iso --all --out all.sums",
+            ],
         )
     },
     Form {
@@ -538,7 +548,10 @@ area, the table, the program, the free regions and what lies behind the disc end
 --all DIR`, `sha256sum -c` holds the files in DIR to the manifest. The last line is the sum of all \
 lines above it, so that a manifest that was cut is recognised.
 Paths are in UTF-8, with --bytes in the image's bytes, and compare and report see which. A \\ in a file's \
-path is doubled and its line begins with one, as sha256sum has it.";
+path is doubled and its line begins with one, as sha256sum has it.
+Give --out and not `>`: a shell empties the file behind `>` before counter begins, so that `counter hash only.iso > \
+only.iso` loses the image. --out makes a new file, and tells its SHA-256, which whoever checks by the manifest must \
+know from elsewhere; no file is overwritten, neither an image nor its journal, clip or record.";
 
 const REPORT: &str = "\
 The page holds all it shows: verdict, LIST, each file that differs with place, size and SHA-256 before \
@@ -602,6 +615,19 @@ impl Args {
         PathBuf::from(&self.operands[n])
     }
 
+    /// Whether --all stands in the place of PATH.
+    fn takes_all(&self) -> bool {
+        self.all && self.form.operands.iter().any(|operand| operand.value == Value::Entry)
+    }
+
+    /// The files and folders that it is to make.
+    pub fn made(&self) -> Vec<&Path> {
+        let behind = self.form.operands.iter().skip(1);
+        let new = behind.zip(&self.operands).filter(|(operand, _)| operand.value == Value::New);
+        let options = [&self.out, &self.map].into_iter().flatten().map(PathBuf::as_path);
+        new.map(|(_, path)| Path::new(path)).chain(options).collect()
+    }
+
     /// One that may be left out.
     pub fn optional(&self, n: usize) -> Option<Vec<u8>> {
         self.operands.get(n).map(|operand| operand.clone().into_vec())
@@ -660,8 +686,10 @@ impl Args {
             None => (text, None),
         };
         let Some(flag) = self.form.flags.iter().find(|flag| flag.name == name) else {
-            let name = one_line(name);
-            return Err(Failure::usage(format!("{} has no option {name}", self.form.name)));
+            let near = nearest(name, self.form.flags.iter().map(|flag| flag.name));
+            let near = near.map_or(String::new(), |near| format!("; is {near} meant?"));
+            let text = format!("{} has no option {}{near}", self.form.name, one_line(name));
+            return Err(Failure::usage(text));
         };
         if flag.value.is_none() && value.is_some() {
             return Err(Failure::usage(format!("{name} takes no value")));
@@ -706,8 +734,10 @@ impl Args {
 
     /// Takes the image from the operands, and holds their number to the command's.
     fn place_operands(&mut self, bare: bool) -> Outcome<()> {
-        let left_out =
-            [self.all, self.demo, self.from.is_some()].map(usize::from).iter().sum::<usize>();
+        let left_out = [self.takes_all(), self.demo, self.from.is_some()]
+            .map(usize::from)
+            .iter()
+            .sum::<usize>();
         let most = self.form.operands.len() - left_out;
         let least = self.form.operands.iter().filter(|operand| operand.needed).count() - left_out;
         let got = self.operands.len();
@@ -719,7 +749,7 @@ impl Args {
         if !self.demo && got > 0 {
             self.image = Some(PathBuf::from(self.operands.remove(0)));
         }
-        if self.all {
+        if self.takes_all() {
             self.operands.insert(0, OsString::from("/"));
         }
         Ok(())
@@ -756,8 +786,12 @@ impl Form {
                 false => format!(" [{instead}]"),
             });
         }
-        let told = ["--all", "--demo", "--from"];
-        for flag in self.flags.iter().filter(|flag| !told.contains(&flag.name)) {
+        // Those that stand in the place of an operand are told there.
+        let told = |name: &str| match name {
+            "--all" => self.name == "extract",
+            name => ["--demo", "--from"].contains(&name),
+        };
+        for flag in self.flags.iter().filter(|flag| !told(flag.name)) {
             out.push_str(&match flag.value {
                 Some((value, _)) => format!(" [{} {value}]", flag.name),
                 None => format!(" [{}]", flag.name),

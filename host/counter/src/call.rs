@@ -4,7 +4,7 @@
 use crate::args::Args;
 use crate::change::FST_MAXIMUM;
 use crate::clip::Clip;
-use crate::disc::{CLUSTER, LONGEST_PATH, TOO_LONG, no_path};
+use crate::disc::{A_FOLDER, CLUSTER, LONGEST_PATH, TOO_LONG, no_path};
 use crate::failure::{Failure, Outcome};
 use crate::image::{Desk, Image};
 use crate::names::{parts, text, trouble};
@@ -117,7 +117,7 @@ impl<'a> Call<'a> {
         let mut find = |path: &[u8]| {
             counter::lookup(image.bytes(), &mut desk.lend(), 0, path)
                 .map(|entry| entry.number())
-                .map_err(|refused| no_path(refused, path))
+                .map_err(|refused| no_path(image, desk, refused, path))
         };
         Ok(match wish {
             Wish::MakeFolders(path) => Call::MakeFolders(path),
@@ -209,6 +209,7 @@ pub fn refused(wish: &Wish, number: u32) -> Failure {
             Some(trouble) => failure.because(trouble),
             None => failure,
         },
+        (16, _) => failure.because(A_FOLDER),
         (20, Wish::Move(..)) => failure.because("the new place overlaps the old one"),
         (21, Wish::Move(..)) => failure
             .because("the new place is not free, or the table has no room; see `counter free`"),

@@ -81,7 +81,7 @@ impl Clip {
         counter::open(other.bytes(), &mut desk.lend()).map_err(|n| not_opened(&other, n))?;
         let window = counter::lookup(other.bytes(), &mut desk.lend(), 0, &entry)
             .and_then(|found| counter::open_file(other.bytes(), &mut desk.lend(), found.number()))
-            .map_err(|number| no_path(number, &entry).about(&name))?;
+            .map_err(|number| no_path(&other, &mut desk, number, &entry).about(&name))?;
         // It has the lock of the other image, and gives it back with the last of both.
         let file = other.file().ok_or_else(|| failed(io::ErrorKind::NotFound.into()))?;
         let file = file.try_clone().map_err(failed)?;

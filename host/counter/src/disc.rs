@@ -8,6 +8,7 @@ use counter_sys::{
     self as counter, Answer, CLUSTER_WORDS, ENTRY_WORDS, Memory, Opened, REGION_WORDS, Region,
 };
 use std::path::Path;
+use std::sync::atomic::{AtomicBool, Ordering};
 
 /// Most entries of a table that opens.
 const MOST_ENTRIES: usize = 16_384;
@@ -89,6 +90,7 @@ impl Space {
         let free = free_regions(image, desk)?;
         let kinds = image.bytes()[opened.fst_offset as usize..].iter().step_by(12);
         let files = kinds.take(opened.entries as usize).filter(|&&kind| kind == 0).count();
+        tell_of_nkit(image);
         Ok(Space { opened, free, files })
     }
 
@@ -157,6 +159,7 @@ impl Disc {
         let free = free_regions(image, desk)?;
         let mut disc = Disc { opened, nodes, free, named: false };
         disc.keep_paths(image)?;
+        tell_of_nkit(image);
         Ok(disc)
     }
 
@@ -228,8 +231,18 @@ impl Disc {
     /// The entry at `path`, from the root on.
     pub fn find(&self, image: &Image, desk: &mut Desk, path: &[u8]) -> Outcome<&Node> {
         let found = counter::lookup(image.bytes(), &mut desk.lend(), 0, path)
-            .map_err(|number| no_path(number, path))?;
+            .map_err(|number| no_path(image, desk, number, path))?;
         Ok(&self.nodes[found.number() as usize])
+    }
+}
+
+/// Says once that the image is one of NKit's, which may open.
+fn tell_of_nkit(image: &Image) {
+    static TOLD: AtomicBool = AtomicBool::new(false);
+    if let Some(words) = trouble::nkit(image.bytes())
+        && !TOLD.swap(true, Ordering::Relaxed)
+    {
+        eprintln!("counter: {}: {words}", image.name);
     }
 }
 
@@ -271,20 +284,41 @@ fn name<'a>(image: &'a Image, node: &Node) -> Option<&'a [u8]> {
 pub const LONGEST_PATH: usize = 1024;
 pub const TOO_LONG: &str = "a path has at most 1,024 bytes";
 
-pub fn no_path(number: u32, path: &[u8]) -> Failure {
+/// What is said of a folder in the place of a file.
+pub const A_FOLDER: &str = "it is a folder";
+
+pub fn no_path(image: &Image, desk: &mut Desk, number: u32, path: &[u8]) -> Failure {
     let failure = Failure::refused(number, names::text(path));
     match number {
         9 => failure.because(TOO_LONG),
-        17 => failure.because("a part of the path before the last is a file"),
+        16 => failure.because(A_FOLDER),
+        17 => failure.because(a_file_on(image, desk, path)),
         _ => failure,
     }
+}
+
+/// Which part of the path leads to a file, where a folder is wanted.
+pub fn a_file_on(image: &Image, desk: &mut Desk, path: &[u8]) -> String {
+    let mut way: Vec<&[u8]> = Vec::new();
+    for part in names::parts(path) {
+        match part {
+            b"" | b"." => continue,
+            b".." => _ = way.pop(),
+            part => way.push(part),
+        }
+        let way = [b"/", &way.join(&b'/')[..]].concat();
+        let found = counter::lookup(image.bytes(), &mut desk.lend(), 0, &way);
+        if matches!(found, Ok(counter::Entry::File { .. })) {
+            return format!("{} is a file", names::text(&way));
+        }
+    }
+    "a part of the path is a file".into()
 }
 
 /// Opening's refusal, with what the image shows of its cause.
 pub fn not_opened(image: &Image, number: u32) -> Failure {
     let failure = Failure::refused(number, image.name.as_str());
-    match trouble::words(image.bytes(), number) {
-        Some(more) => failure.because(more),
-        None => failure,
-    }
+    let nkit = trouble::nkit(image.bytes()).map(String::from);
+    let more: Vec<String> = trouble::words(image.bytes(), number).into_iter().chain(nkit).collect();
+    if more.is_empty() { failure } else { failure.because(more.join("; ")) }
 }

@@ -62,7 +62,7 @@ fn dol_json(dol: &Dol) -> Json {
             ("size", size.into()),
         ])
     });
-    Json::Object(vec![
+    Json::answer(vec![
         ("offset", dol.start.into()),
         ("size", dol.size.into()),
         ("entry_point", dol.words[56].into()),

@@ -10,16 +10,53 @@ pub const USAGE: &str = "usage: counter COMMAND IMAGE ...   (`counter help` has 
 pub const PURPOSE: &str = "GameCube disc images, looked at, edited and compared";
 
 /// What `help` knows besides the commands.
-pub const SUBJECTS: [(&str, &str); 4] = [
+pub const SUBJECTS: [(&str, &str); 5] = [
     ("names", "how names are shown and taken"),
     ("safety", "what is promised of an edit, and when it is cut"),
     ("exit", "every exit status"),
     ("json", "the fields of every answer"),
+    ("all", "everything, on one page"),
 ];
 
 const WIDTH: usize = 100;
 
-pub fn general() -> String {
+/// The first page: it fits a screen of 80 columns and 24 lines.
+pub fn first() -> String {
+    let mut out = format!(
+        "counter: {PURPOSE}\n\n\
+         \x20 counter COMMAND IMAGE ...\n\
+         \x20 counter help COMMAND       what it does, its options, examples\n\n"
+    );
+    for (group, name) in GROUPS {
+        let names = FORMS.iter().filter(|form| form.group == group).map(|form| form.name);
+        let names: Vec<&str> = names.collect();
+        let _ = writeln!(out, "{name:<7}{}", names.join(" "));
+    }
+    out.push_str(
+        "\nAn edit, step by step\n\
+         \x20 counter check disc.iso                            does it open?\n\
+         \x20 cp disc.iso /media/other/before.iso               a copy, on another disk\n\
+         \x20 counter find disc.iso /text/msg.bin               how far can it grow?\n\
+         \x20 counter fill disc.iso /text/msg.bin new.bin --dry-run\n\
+         \x20 counter fill disc.iso /text/msg.bin new.bin       the file is new.bin now\n\
+         \x20 counter compare before.iso disc.iso --given LIST  no other file differs?\n\n\
+         More: counter help ",
+    );
+    let subjects: Vec<&str> = SUBJECTS.iter().map(|(name, _)| *name).collect();
+    let _ = writeln!(out, "{}; or man counter.", subjects.join(" | "));
+    out.push_str(
+        "`counter help man`, bash, zsh and fish write the man page and completions.\n\
+         The bare list, tree and info show a built-in small master.\n",
+    );
+    out
+}
+
+/// What `help` can be asked about.
+pub fn known() -> impl Iterator<Item = &'static str> {
+    FORMS.iter().map(|form| form.name).chain(SUBJECTS.iter().map(|(name, _)| *name))
+}
+
+fn all() -> String {
     let mut out = format!(
         "counter: {PURPOSE}\n\n\
          \x20 counter COMMAND IMAGE ...\n\
@@ -44,13 +81,14 @@ pub fn general() -> String {
     out
 }
 
-/// Help on one subject: a command, `names`, `safety`, `exit`, `json`, or None.
+/// Help on one subject: a command, or one of `SUBJECTS`.
 pub fn about(subject: &str) -> Option<String> {
     match subject {
         "names" => return Some(NAMES.trim_start().to_string()),
         "safety" => return Some(SAFETY.trim_start().to_string()),
         "exit" => return Some(statuses().trim_start().to_string()),
         "json" => return Some(json(FORMS).trim_start().to_string()),
+        "all" => return Some(all()),
         _ => {}
     }
     let form = Form::find(subject)?;
@@ -152,7 +190,8 @@ const FIELDS: &[(&str, &str)] = &[
          gamecube_magic debug_offset debug_address dol_offset fst_offset fst_size fst_maximum \
          user_position user_size disc_size unused_43c disc_end table_end entries files directories used \
          free free_regions largest_free fst_left fst_above fst_rewritten fst_rewritten_above \
-         program_behind_table program{offset size behind_table}",
+         program_behind_table program{offset size behind_table} banner{kind short_title short_maker \
+         long_title long_maker comment}; banner: of /opening.bnr, or null",
     ),
     ("list", "total used entries[ENTRY] free[offset size]"),
     (
@@ -224,7 +263,7 @@ const EDITED: &str = "status edit path path_bytes dry_run written table{before a
 
 fn json(forms: &[Form]) -> String {
     let mut out = String::from(
-        "\nJSON (--json)\n  A number is in base ten, offsets and sizes in bytes. Paths and names are texts; beside each stand its\n  bytes, in base sixteen (path_bytes, name_bytes), --bytes or not.\n",
+        "\nJSON (--json)\n  Every document has status, the exit status; so has that of an error, wrong usage too. A number is in\n  base ten, offsets and sizes in bytes. Paths and names are texts; beside each stand its bytes, in base\n  sixteen (path_bytes, name_bytes), --bytes or not.\n",
     );
     for (name, fields) in FIELDS.iter().filter(|(name, _)| forms.iter().any(|f| f.name == *name)) {
         let line = wrapped(fields, 11, 11);

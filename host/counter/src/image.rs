@@ -9,6 +9,7 @@ use counter_sys::Memory;
 use std::fs::{self, File, Metadata, OpenOptions, TryLockError};
 use std::io;
 use std::ops::Range;
+use std::os::fd::AsFd;
 use std::os::unix::fs::{MetadataExt, OpenOptionsExt, PermissionsExt};
 use std::path::{Path, PathBuf};
 use std::sync::atomic::{AtomicBool, Ordering};
@@ -61,6 +62,7 @@ impl Image {
 
     fn map(path: &Path, access: Access) -> Outcome<Image> {
         let file = open(path, access)?;
+        not_the_output(path, &file)?;
         lock(path, &file, access)?;
         let mapping = mapped(path, &file, access)?;
         // A file without a name (of a descriptor) can be read; a journal finds no place beside it.
@@ -118,6 +120,21 @@ impl Image {
             return Ok(());
         };
         disk::synced(On::Image, || mapping.sync().and_then(|()| file.sync_all()))
+    }
+}
+
+/// A shell empties the file behind `>` before the program begins, and what is said would go into the image.
+fn not_the_output(path: &Path, file: &File) -> Outcome<()> {
+    let output = io::stdout().as_fd().try_clone_to_owned().map(File::from);
+    let told = |file: &File| file.metadata().ok();
+    match (told(file), output.ok().as_ref().and_then(told)) {
+        (Some(image), Some(output)) if same_file(&image, &output) => {
+            let emptied = if image.len() == 0 { " (a shell empties what is behind >)" } else { "" };
+            let text =
+                format!("{}: standard output goes into the image{emptied}", names::file(path));
+            Err(Failure::usage(text))
+        }
+        _ => Ok(()),
     }
 }
 

@@ -71,6 +71,12 @@ pub fn name(bytes: &[u8]) -> [(&'static str, Json); 2] {
 }
 
 impl Json {
+    /// The answer of a command that did what was asked: its fields behind the status.
+    pub fn answer(fields: Vec<(&'static str, Json)>) -> Json {
+        let status = ("status", 0u32.into());
+        Json::Object([status].into_iter().chain(fields).collect())
+    }
+
     /// The whole document, ended by a line feed.
     pub fn document(&self) -> String {
         let mut out = String::new();

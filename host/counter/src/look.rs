@@ -1,6 +1,7 @@
 //! The commands that look at an image.
 
 use crate::args::Args;
+use crate::banner::Banner;
 use crate::disc::{
     CLUSTER, Clusters, Disc, Kind, Node, Space, free_clusters, not_opened, opened, space, table_end,
 };
@@ -15,6 +16,7 @@ use crate::program::Program;
 use crate::stored::Stored;
 use crate::text::{both, counted, grouped, hex, human, label, line, number, shown, size};
 use crate::tree::{free_json, node_fields, region_fields, weights};
+use crate::trouble;
 use counter_sys as counter;
 use std::fmt::Write;
 
@@ -35,12 +37,17 @@ pub fn info(args: &Args) -> Outcome<()> {
         fields.extend(maximum.fields());
         fields.push(("program_behind_table", program.is_some_and(|at| at.behind).into()));
         fields.push(("program", program.into()));
-        return say(Json::Object(fields).document().as_bytes());
+        fields.push(("banner", Banner::read(&image, &mut desk, &header).into()));
+        return say(Json::answer(fields).document().as_bytes());
     }
     let mut text = info_text(&image, &header, &disc);
     maximum.lines(&mut text);
     line(&mut text, "program", program.map_or("none".into(), |program| program.words()));
-    say(text.as_bytes())
+    if let Some(banner) = Banner::read(&image, &mut desk, &header) {
+        line(&mut text, "banner title", banner.title().unwrap_or("none"));
+        line(&mut text, "banner maker", banner.maker().unwrap_or("none"));
+    }
+    say(names::for_terminal(&text).as_bytes())
 }
 
 fn info_fields(image: &Image, header: &Header, disc: &Space) -> Vec<(&'static str, Json)> {
@@ -108,7 +115,7 @@ pub fn free(args: &Args) -> Outcome<()> {
             Some(clusters) => clusters_fields(&disc, clusters),
             None => vec![("regions", free_json(&disc.free))],
         });
-        return say(Json::Object(fields).document().as_bytes());
+        return say(Json::answer(fields).document().as_bytes());
     }
     let mut text = match &clusters {
         Some(clusters) => clusters_text(&disc, clusters),
@@ -204,7 +211,7 @@ pub fn find(args: &Args) -> Outcome<()> {
         let mut fields = node_fields(node);
         fields.extend(json::path(&disc.path(&image, node)));
         fields.push(("largest_size", grow.into()));
-        return say(Json::Object(fields).document().as_bytes());
+        return say(Json::answer(fields).document().as_bytes());
     }
     let (mut first, mut last) = (String::new(), String::new());
     line(&mut first, "entry", node.number);
@@ -240,7 +247,7 @@ pub fn place(args: &Args) -> Outcome<()> {
             if number == 21 { failure.because("see `counter free`") } else { failure }
         })?;
     if args.json {
-        let json = Json::Object(vec![
+        let json = Json::answer(vec![
             ("size", wish.into()),
             ("align", align.into()),
             ("offset", found.offset.into()),
@@ -270,6 +277,7 @@ pub fn check(args: &Args) -> Outcome<()> {
     let maximum = Maximum::read(&image, &mut desk, &disc.opened)?;
     let stored = Stored::read(&image, &disc);
     let mut notes: Vec<String> = maximum.note().into_iter().collect();
+    notes.extend(trouble::nkit(image.bytes()).map(String::from));
     notes.extend(stored.notes());
     let alike = alike(&disc);
     let told = alike.iter().take(TOLD).map(|(found, hidden)| {
@@ -282,7 +290,6 @@ pub fn check(args: &Args) -> Outcome<()> {
     }
     if args.json {
         let mut fields = vec![
-            ("status", 0u32.into()),
             ("opens", true.into()),
             ("entries", disc.opened.entries.into()),
             ("files", space.files.into()),
@@ -301,7 +308,7 @@ pub fn check(args: &Args) -> Outcome<()> {
         });
         fields.push(("alike", Json::List(pairs.collect())));
         fields.push(("notes", Json::List(notes.into_iter().map(Json::from).collect())));
-        return say(Json::Object(fields).document().as_bytes());
+        return say(Json::answer(fields).document().as_bytes());
     }
     let mut text = format!(
         "{}: opens: {}, {}, {} used and {} free of {}\n",

@@ -8,10 +8,12 @@ mod out;
 
 mod area;
 mod args;
+mod banner;
 mod call;
 mod change;
 mod clip;
 mod compare;
+mod digests;
 mod disc;
 mod disk;
 mod dol;
@@ -53,7 +55,7 @@ mod trial;
 mod trouble;
 mod version;
 
-use args::{Args, Form};
+use args::{Args, FORMS, Form};
 use failure::{Failure, Outcome, cause};
 use json::Json;
 use out::say;
@@ -65,13 +67,14 @@ use version::{LIBRARY, VERSION};
 fn main() {
     os::catch_signals();
     let mut rest = env::args_os().skip(1);
+    let json = env::args_os().skip(1).take_while(|arg| arg != "--").any(|arg| arg == "--json");
     let command = rest.next();
     let status = match command.as_ref().and_then(|name| name.to_str()) {
         None if command.is_none() => {
             eprint!("{}", help::USAGE);
             failure::USAGE.into()
         }
-        Some("help" | "--help" | "-h") => finish(helped(rest.next()), false),
+        Some("help" | "--help" | "-h") => finish(helped(rest.next()), json),
         Some("--version" | "-V" | "version") => {
             let text = format!("counter {VERSION}\nlibcounter.a SHA-256 {LIBRARY}\n");
             finish(say(text.as_bytes()).map(|()| 0), false)
@@ -82,14 +85,15 @@ fn main() {
                 if Form::asks_help(&rest) {
                     finish(helped(Some(form.name.into())), false)
                 } else {
-                    let json = form.has("--json") && rest.iter().any(|a| a == "--json");
                     finish(Args::read(form, rest).and_then(run), json)
                 }
             }
             None => {
-                let shown = command.unwrap_or_default();
-                let text = format!("no command {}; `counter help` has them", names::file(&shown));
-                finish(Err(Failure::usage(text)), false)
+                let shown = names::file(command.unwrap_or_default());
+                let near = text::nearest(&shown, FORMS.iter().map(|form| form.name));
+                let near = near.map_or(String::new(), |near| format!("; is {near} meant?"));
+                let text = format!("no command {shown}{near} (`counter help` has them)");
+                finish(Err(Failure::usage(text)), json)
             }
         },
     };
@@ -98,11 +102,16 @@ fn main() {
 
 fn helped(subject: Option<OsString>) -> Outcome<u8> {
     let text = match subject {
-        None => help::general(),
+        None => help::first(),
         Some(subject) => subject
             .to_str()
             .and_then(|subject| help::about(subject).or_else(|| pages::page(subject)))
-            .ok_or_else(|| Failure::usage(format!("no help on {}", names::file(&subject))))?,
+            .ok_or_else(|| {
+                let shown = names::file(&subject);
+                let near = text::nearest(&shown, help::known());
+                let near = near.map_or(String::new(), |near| format!("; is {near} meant?"));
+                Failure::usage(format!("no help on {shown}{near}"))
+            })?,
     };
     say(text.as_bytes())?;
     Ok(0)
@@ -115,6 +124,11 @@ fn run(args: Args) -> Outcome<u8> {
     }
     if args.wait {
         image::wait_for_others();
+    }
+    // Whatever is put under such a name would be taken for an edit that was cut.
+    if let Some(path) = args.made().into_iter().find(|path| journal::is_ours(path)) {
+        let text = format!("{}: this is {}; name another file", names::file(path), journal::OURS);
+        return Err(Failure::usage(text));
     }
     image::as_is(args.as_is);
     names::keep_raw(args.raw);

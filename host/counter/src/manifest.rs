@@ -1,6 +1,7 @@
 //! `hash`: a manifest of an image, in the form of sha256sum, and such a manifest read again.
 
 use crate::args::Args;
+use crate::digests::{self, digests};
 use crate::disc::opened;
 use crate::failure::{DATA, Failure, INPUT_OUTPUT, Outcome};
 use crate::header::{FIELDS, FST_SIZE, Field};
@@ -10,7 +11,9 @@ use crate::names;
 use crate::out::say;
 use crate::program::Program;
 use crate::progress::Progress;
+use crate::save::{save, vacant};
 use crate::sha256::{Sha256, Sum, hex};
+use crate::text::counted;
 use counter_sys::{HEADER_SIZE, Region};
 use std::fs::{self, File};
 use std::io::{Read, Write};
@@ -44,6 +47,8 @@ pub struct Manifest {
     pub cut: bool,
     pub layout: Layout,
     pub image: Sum,
+    /// Other sums of the image, by their names.
+    pub digests: Vec<(&'static str, String)>,
     /// The header's fields, system area, table, program, what lies behind the disc end.
     pub parts: Vec<Part>,
     pub free: Vec<Part>,
@@ -94,13 +99,24 @@ pub fn hash(args: &Args) -> Outcome<()> {
     let (image, mut desk, disc) = opened(args.image.as_deref())?;
     let disc = disc.with_paths()?;
     disc.tell_of_escapes();
+    args.out.as_deref().map_or(Ok(()), vacant)?;
     let layout = Layout::of(&image, &mut desk, &disc)?;
-    let text = Manifest::of(&image, layout).text();
+    let files = layout.files().count();
+    let mut manifest = Manifest::of(&image, layout);
+    if args.all {
+        manifest.digests = digests(image.bytes());
+    }
+    let text = manifest.text();
     if text.len() as u64 > LONGEST {
         let text = format!("{}: its manifest would have more than 64 MiB", image.name);
         return Err(Failure::error(DATA, text));
     }
-    say(&text)
+    let Some(out) = &args.out else {
+        return say(&text);
+    };
+    save(out, &text)?;
+    let (files, sum) = (counted(files, "file", "files"), hex(&sum_of_bytes(&text)));
+    say(format!("{}: {files}, SHA-256 {sum}\n", names::file(out)).as_bytes())
 }
 
 // Sums ------------------------------------------------------------------------------------
@@ -179,7 +195,8 @@ impl Manifest {
         let free = all.split_off(parts);
         let sum = all.remove(0).sum;
         let (version, cut) = (FIRST.len(), image.is_cut());
-        Manifest { version, own: [0; 32], cut, layout, image: sum, parts: all, free }
+        let (own, digests) = ([0; 32], Vec::new());
+        Manifest { version, own, cut, layout, image: sum, digests, parts: all, free }
     }
 
     pub fn text(&self) -> Vec<u8> {
@@ -192,6 +209,9 @@ impl Manifest {
             let _ = writeln!(out, "{CUT}");
         }
         let _ = writeln!(out, "# image {} {} {}", hex(&self.image), layout.bytes, layout.name);
+        for (name, sum) in &self.digests {
+            let _ = writeln!(out, "# {name} {sum}");
+        }
         let _ = writeln!(out, "# game {}", layout.game);
         let _ = writeln!(out, "# disc-end {:#x}", layout.disc_end);
         let _ = writeln!(out, "# table {:#x} {}", layout.fst.0, layout.fst.1);
@@ -371,6 +391,7 @@ impl Reader {
             cut: false,
             layout,
             image: [0; 32],
+            digests: Vec::new(),
             parts: Vec::new(),
             free: Vec::new(),
         };
@@ -421,6 +442,8 @@ impl Reader {
                 layout.name = rest.to_string();
             }
             "game" => layout.game = rest.to_string(),
+            // For people; nothing is held to them.
+            name if digests::NAMES.contains(&name) => {}
             "disc-end" => layout.disc_end = small(&mut rest)?,
             "table" => layout.fst = (small(&mut rest)?, small(&mut rest)?),
             "part" => return self.part(rest),

@@ -19,6 +19,7 @@ pub fn map(args: &Args) -> Outcome<()> {
     let folders = Folders::of(&[&layout]);
     let pieces = pieces(&layout, &folders, &HashSet::new());
     let mut picture = Picture::new(&layout, &pieces, &folders, 30.0, 1050.0);
+    picture.free = free_rows(&layout, &pieces);
     picture.whole();
     let out = args.path(0);
     save(&out, document(1200.0, picture.y, &picture.out).as_bytes())?;
@@ -37,7 +38,7 @@ pub fn map(args: &Args) -> Outcome<()> {
             ("size", piece.size.into()),
         ])
     });
-    let json = Json::Object(vec![
+    let json = Json::answer(vec![
         ("out", out.display().to_string().into()),
         ("disc_end", layout.disc_end.into()),
         ("pieces", Json::List(pieces.collect())),
@@ -53,9 +54,18 @@ pub fn side_by_side(before: &Layout, after: &Layout, marks: &Marks) -> String {
     let folders = Folders::of(&[before, after]);
     let (mut out, mut bottom) = (String::new(), 0.0f64);
     let sides = [("Before", before, &marks.0, 20.0), ("After", after, &marks.1, 700.0)];
-    for (heading, layout, marked, left) in sides {
-        let pieces = pieces(layout, &folders, marked);
-        let mut picture = Picture::new(layout, &pieces, &folders, left, 570.0);
+    let pieces = sides.map(|(_, layout, marked, _)| pieces(layout, &folders, marked));
+    let mut free = [free_rows(before, &pieces[0]), free_rows(after, &pieces[1])];
+    if before.disc_end == after.disc_end {
+        // Rows that stand beside each other are folded together.
+        let both: Vec<bool> = free[0].iter().zip(&free[1]).map(|(a, b)| *a && *b).collect();
+        free = [both.clone(), both];
+    }
+    for ((heading, layout, _, left), (pieces, free)) in
+        sides.into_iter().zip(pieces.iter().zip(free))
+    {
+        let mut picture = Picture::new(layout, pieces, &folders, left, 570.0);
+        picture.free = free;
         picture.half(heading);
         bottom = bottom.max(picture.y);
         out.push_str(&picture.out);
@@ -236,6 +246,21 @@ fn pieces(layout: &Layout, folders: &Folders, marked: &HashSet<u32>) -> Vec<Piec
     pieces
 }
 
+/// How many bytes a row of the whole disc shows.
+fn each_row(layout: &Layout) -> u64 {
+    u64::from(layout.disc_end).max(1).div_ceil(ROWS)
+}
+
+/// Which rows hold nothing but free space.
+fn free_rows(layout: &Layout, pieces: &[Piece]) -> Vec<bool> {
+    let (end, each) = (u64::from(layout.disc_end).max(1), each_row(layout));
+    let used = |start: u64| {
+        let in_it = |piece: &&Piece| piece.start < start + each && start < piece.end();
+        pieces.iter().filter(in_it).any(|piece| piece.what != What::Free)
+    };
+    (0..ROWS).map(|row| row * each).filter(|start| *start < end).map(|start| !used(start)).collect()
+}
+
 /// For each entry the path of its folder at the root; what lies in the root itself has `/`.
 fn of_root_folders(layout: &Layout) -> Vec<String> {
     let mut found: Vec<String> = Vec::with_capacity(layout.records.len());
@@ -254,6 +279,8 @@ fn of_root_folders(layout: &Layout) -> Vec<String> {
 const ROWS: u64 = 32;
 const ROW: f64 = 22.0;
 const GAP: f64 = 3.0;
+/// The height of a run of rows that are wholly free; a single one is shown as it is.
+const FOLDED: f64 = 14.0;
 /// What the address in front of a row takes.
 const MARGIN: f64 = 80.0;
 /// The least width of a file, a table or a program.
@@ -300,6 +327,8 @@ struct Picture<'a> {
     titled: HashSet<usize>,
     left: f64,
     span: f64,
+    /// The rows that are wholly free, and folded where several are.
+    free: Vec<bool>,
     out: String,
     y: f64,
 }
@@ -336,7 +365,8 @@ impl<'a> Picture<'a> {
             What::Program | What::Table => 3,
         };
         order.sort_by_key(|&i| (layer(&pieces[i]), u64::MAX - pieces[i].size));
-        Picture { layout, pieces, folders, order, titled, left, span, out: String::new(), y: 0.0 }
+        let (free, out) = (Vec::new(), String::new());
+        Picture { layout, pieces, folders, order, titled, left, span, free, out, y: 0.0 }
     }
 
     /// Everything, on a page of its own.
@@ -490,7 +520,7 @@ impl<'a> Picture<'a> {
     }
 
     fn each(&self) -> u64 {
-        u64::from(self.layout.disc_end).max(1).div_ceil(ROWS)
+        each_row(self.layout)
     }
 
     fn rows(&mut self) {
@@ -498,10 +528,43 @@ impl<'a> Picture<'a> {
         let each = self.each();
         let starts: Vec<u64> =
             (0..ROWS).map(|row| row * each).filter(|start| *start < end).collect();
-        for &start in &starts {
-            self.strip(start, start + each, ROW, &starts);
+        let mut row = 0;
+        while row < starts.len() {
+            let free = self.free[row..].iter().take_while(|free| **free).count();
+            if free > 1 {
+                let until = (starts[row] + free as u64 * each).min(end);
+                self.folded(starts[row], until, free);
+                row += free;
+                continue;
+            }
+            self.strip(starts[row], starts[row] + each, ROW, &starts);
             self.y += ROW + GAP;
+            row += 1;
         }
+    }
+
+    /// Several rows that are wholly free, as one low one.
+    fn folded(&mut self, from: u64, until: u64, rows: usize) {
+        let (left, y) = (self.left + MARGIN, self.y);
+        let style = format!("text-anchor=\"end\" {MONO} fill=\"#495057\"");
+        text(&mut self.out, left - 8.0, y + FOLDED - 3.0, &style, &format!("{from:#010x}"));
+        let words =
+            format!("{rows} rows, all free: {from:#x} to {until:#x}, {}", human(until - from));
+        rect(&mut self.out, (left, y), (self.span, FOLDED), FREE, &words);
+        let _ = writeln!(
+            self.out,
+            "<rect x=\"{left:.1}\" y=\"{y:.1}\" width=\"{:.1}\" height=\"{FOLDED:.1}\" fill=\"none\" \
+             stroke=\"#adb5bd\" stroke-dasharray=\"4 3\"/>",
+            self.span
+        );
+        text(
+            &mut self.out,
+            left + 4.0,
+            y + FOLDED - 3.0,
+            "font-size=\"11\" fill=\"#868e96\"",
+            &words,
+        );
+        self.y += FOLDED + GAP;
     }
 
     /// The pieces from `from` up to `until` as one row. `starts` are those of all rows, so that a

@@ -276,6 +276,18 @@ fn escaped(bytes: &[u8]) -> String {
     spelt(bytes, |_| None)
 }
 
+/// Text in Latin-1, which discs for other countries than Japan have; what is no character is escaped.
+pub fn latin(bytes: &[u8]) -> String {
+    let mut out = String::new();
+    for byte in bytes {
+        match (*byte as char).is_control() {
+            true => escape(&mut out, &[*byte]),
+            false => out.push(*byte as char),
+        }
+    }
+    out
+}
+
 /// The code of the terminal.
 #[derive(Clone, Copy, PartialEq, Eq)]
 enum Terminal {

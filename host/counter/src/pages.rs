@@ -64,7 +64,7 @@ fn man() -> String {
         }
     }
     section(&mut out, "ARGUMENTS", &help::all_arguments());
-    for (subject, _) in help::SUBJECTS {
+    for (subject, _) in help::SUBJECTS.into_iter().filter(|(subject, _)| *subject != "all") {
         let heading = match subject {
             "exit" => "EXIT STATUS".to_string(),
             other => other.to_uppercase(),
@@ -142,6 +142,27 @@ fn bash() -> String {
     let commands = commands().join(" ");
     format!(
         r#"# bash completion for counter; made by `counter help bash`
+# What was typed, without quotes and backslashes and with ~/ as the home folder; nothing of it is carried out.
+_counter_plain() {{
+    local typed=$1 out= c quote= i
+    for ((i = 0; i < ${{#typed}}; i++)); do
+        c=${{typed:i:1}}
+        if [[ $c == "$quote" ]]; then
+            quote=
+        elif [[ $quote == \' ]]; then
+            out+=$c
+        elif [[ $c == \\ ]] && [[ -z $quote || ${{typed:i+1:1}} == [\"\\\$\`] ]]; then
+            ((i++))
+            out+=${{typed:i:1}}
+        elif [[ -z $quote && ( $c == \' || $c == \" ) ]]; then
+            quote=$c
+        else
+            out+=$c
+        fi
+    done
+    [[ $typed == '~/'* ]] && out=$HOME${{out:1}}
+    printf '%s' "$out"
+}}
 _counter() {{
     local cur=${{COMP_WORDS[COMP_CWORD]}} prev=${{COMP_WORDS[COMP_CWORD-1]}}
     local options operands i n=0 image= path quoted
@@ -177,7 +198,7 @@ _counter() {{
             mapfile -t COMPREPLY < <(compgen -f -- "$cur")
             ;;
         entry)
-            eval "image=$image" 2>/dev/null
+            image=$(_counter_plain "$image")
             while IFS= read -r path; do
                 printf -v quoted %q "$path"
                 [[ $path == "$cur"* || $quoted == "$cur"* ]] && COMPREPLY+=("$quoted")

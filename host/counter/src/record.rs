@@ -102,8 +102,8 @@ pub fn record(args: &Args) -> Outcome<()> {
     let (end, file) = (space.opened.disc_end, args.record.as_ref().map(names::file));
     if args.json {
         let out = ("out", file.into());
-        let fields = vec![("status", 0u32.into()), ("record", json(&record, end)), out];
-        return say(Json::Object(fields).document().as_bytes());
+        let fields = vec![("record", json(&record, end)), out];
+        return say(Json::answer(fields).document().as_bytes());
     }
     let written = file.map_or(String::new(), |file| format!("written to {file}\n"));
     say([line(&record, end), written].concat().as_bytes())

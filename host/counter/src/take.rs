@@ -1,7 +1,7 @@
 //! Files out of an image: `cat` and `extract`.
 
 use crate::args::Args;
-use crate::disc::{Disc, Kind, Node, opened};
+use crate::disc::{Disc, Kind, Node, no_path, opened};
 use crate::failure::{CANNOT_CREATE, Failure, Outcome};
 use crate::image::{Desk, Image};
 use crate::json::{self, Json};
@@ -21,7 +21,7 @@ use std::path::{Path, PathBuf};
 
 fn window_of(image: &Image, desk: &mut Desk, number: u32, path: &[u8]) -> Outcome<Window> {
     counter::open_file(image.bytes(), &mut desk.lend(), number)
-        .map_err(|refused| Failure::refused(refused, names::text(path)))
+        .map_err(|refused| no_path(image, desk, refused, path))
 }
 
 // cat -------------------------------------------------------------------------------------
@@ -38,8 +38,7 @@ pub fn cat(args: &Args) -> Outcome<()> {
     let Kind::File { offset, size } = node.kind else { unreachable!("a window is of a file") };
     let mut fields = Vec::from(json::path(&disc.path(&image, node)));
     fields.extend([("offset", offset.into()), ("size", size.into())]);
-    let head = Json::Object(fields);
-    let head = head.document();
+    let head = Json::answer(fields).document();
     let head = head.trim_end_matches(['\n', '}']);
     say(format!("{head},\n  \"hex\": \"").as_bytes())?;
     pump(&image, window, &progress, |part| say(hex(part).as_bytes()))?;
@@ -100,7 +99,7 @@ fn report(args: &Args, plan: &Plan, out: &[(&Node, &PathBuf, u64)]) -> Outcome<(
             fields.push(("size", (*size).into()));
             Json::Object(fields)
         });
-        let json = Json::Object(vec![
+        let json = Json::answer(vec![
             ("bytes", plan.bytes.into()),
             ("files", Json::List(files.collect())),
         ]);

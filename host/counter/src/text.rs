@@ -106,6 +106,43 @@ pub fn shown(bytes: &[u8]) -> String {
     out
 }
 
+/// The known word that is nearest to one that was typed, if it is near: one of which it is the start, or that is
+/// at most two letters off.
+pub fn nearest(typed: &str, known: impl Iterator<Item = &'static str>) -> Option<&'static str> {
+    let typed = typed.to_lowercase();
+    let off = |word: &str| match word.starts_with(&typed) && typed.len() > 1 {
+        true => 0,
+        false => letters_off(&typed, word),
+    };
+    let near = known.map(|word| (off(word), word)).min_by_key(|(off, _)| *off);
+    near.filter(|(off, word)| *off <= 2 && *off < word.len().min(typed.len())).map(|near| near.1)
+}
+
+/// How many letters have to be put in, taken out, changed or swapped with the next one.
+fn letters_off(a: &str, b: &str) -> usize {
+    let (a, b): (Vec<char>, Vec<char>) = (a.chars().collect(), b.chars().collect());
+    if a.len() > 40 {
+        return a.len();
+    }
+    let mut off = vec![vec![0; b.len() + 1]; a.len() + 1];
+    for i in 0..=a.len() {
+        for j in 0..=b.len() {
+            if i == 0 || j == 0 {
+                off[i][j] = i + j;
+                continue;
+            }
+            let changed = usize::from(a[i - 1] != b[j - 1]);
+            let mut least = off[i - 1][j - 1] + changed;
+            least = least.min(off[i - 1][j] + 1).min(off[i][j - 1] + 1);
+            if i > 1 && j > 1 && a[i - 1] == b[j - 2] && a[i - 2] == b[j - 1] {
+                least = least.min(off[i - 2][j - 2] + 1);
+            }
+            off[i][j] = least;
+        }
+    }
+    off[a.len()][b.len()]
+}
+
 /// Whether a character takes two columns of a terminal: Unicode's East Asian Width W or F, of those that
 /// Shift-JIS has.
 pub fn wide(c: char) -> bool {

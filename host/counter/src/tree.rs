@@ -102,7 +102,7 @@ fn list_json(disc: &Disc) -> Json {
         fields.extend(json::path(&node.path));
         Json::Object(fields)
     });
-    Json::Object(vec![
+    Json::answer(vec![
         ("total", disc.opened.disc_end.into()),
         ("used", disc.opened.used.into()),
         ("entries", Json::List(entries.collect())),
@@ -141,7 +141,7 @@ pub fn tree(args: &Args) -> Outcome<()> {
     }
     let mut fields = branch_fields(&disc, &weights, 0);
     fields.push(("program", Program::read(&image, &mut desk, &disc.opened)?.into()));
-    say(Json::Object(fields).document().as_bytes())
+    say(Json::answer(fields).document().as_bytes())
 }
 
 /// The numbers of a directory's own entries.

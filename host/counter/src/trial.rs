@@ -4,7 +4,7 @@
 use crate::call::{Call, Wish, refused};
 use crate::change::Change;
 use crate::clip::Clip;
-use crate::disc::{CLUSTER, Disc, Kind, table_end, written_size};
+use crate::disc::{CLUSTER, Disc, Kind, a_file_on, table_end, written_size};
 use crate::failure::{Failure, INTERNAL, Outcome};
 use crate::header::Header;
 use crate::image::{Desk, Image};
@@ -35,6 +35,10 @@ pub fn try_out(
     let found =
         call.run(copy.bytes_mut(), desk.lend(), &mut record).map_err(|number| match number {
             26 => above_maximum(wish, call, &mut copy, desk, before, given),
+            17 => {
+                let path = wish.path().unwrap_or_default();
+                refused(wish, 17).because(a_file_on(image, desk, path))
+            }
             number => refused(wish, number),
         })?;
     let after = Disc::read(&copy, desk)?;

@@ -10,6 +10,7 @@ use counter_sys::HEADER_SIZE;
 pub fn words(image: &[u8], number: u32) -> Option<String> {
     let have = image.len();
     match number {
+        1..=3 if form(image).is_some() => form(image),
         1 if have == 0 => Some("the file is empty".into()),
         1 => Some(format!("the file has {have} bytes, a header {HEADER_SIZE}")),
         2 => Some("this is a Wii disc".into()),
@@ -19,6 +20,36 @@ pub fn words(image: &[u8], number: u32) -> Option<String> {
         24 => program(image),
         _ => Table::read(image)?.words(number),
     }
+}
+
+/// Forms in which an image is kept otherwise than byte for byte, by their first bytes.
+const FORMS: [(&[u8], &str); 6] = [
+    (b"RVZ\x01", "RVZ"),
+    (b"WIA\x01", "WIA"),
+    (b"CISO", "CISO"),
+    (b"\x01\xC0\x0B\xB1", "GCZ"),
+    (b"WBFS", "WBFS"),
+    (b"\x1F\x8B", "gzip"),
+];
+
+/// Which of them it is, and what makes an image of it.
+fn form(image: &[u8]) -> Option<String> {
+    let (_, name) = FORMS.iter().find(|(magic, _)| image.starts_with(magic))?;
+    Some(match *name {
+        "gzip" => "this is a gzip file; `gunzip -k IMAGE` makes an image of it".into(),
+        name => format!(
+            "this is an image in the form {name}; `dolphin-tool convert -f iso -i IMAGE -o NEW.iso` makes a plain \
+             one of it"
+        ),
+    })
+}
+
+/// What is to be known of an NKit image, whose header looks like any other: files are moved and bytes left out.
+pub fn nkit(image: &[u8]) -> Option<&'static str> {
+    image.get(0x200..)?.starts_with(b"NKIT").then_some(
+        "this is an NKit image: files are moved in it and bytes left out. NKit's `ConvertToISO IMAGE` makes the \
+         disc's own image of it",
+    )
 }
 
 /// Which of the four parts of 4 it is.

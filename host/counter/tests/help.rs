@@ -111,6 +111,45 @@ fn help_comes_in_every_way_and_is_about_its_command_alone() {
 }
 
 #[test]
+fn the_first_page_fits_a_screen() {
+    for args in [&["help"][..], &["--help"], &["-h"]] {
+        let page = run(args).out;
+        assert!(page.lines().count() <= 24, "{page}");
+        assert!(page.lines().all(|line| line.chars().count() <= 80), "{page}");
+        for command in COMMANDS {
+            assert!(page.split_whitespace().any(|word| word == command), "{command}: {page}");
+        }
+    }
+}
+
+#[test]
+fn the_nearest_command_is_told() {
+    for (typed, wanted) in [
+        ("comapre", Some("compare")),
+        ("lst", Some("list")),
+        ("Info", Some("info")),
+        ("extrac", Some("extract")),
+        ("mkdr", Some("mkdir")),
+        ("fil", Some("fill")),
+        ("recovr", Some("recover")),
+        ("frobnicate", None),
+        ("x", None),
+        ("", None),
+    ] {
+        let run = run(&[typed]);
+        assert_eq!(run.status, 64, "{typed}");
+        match wanted {
+            Some(wanted) => {
+                assert!(run.err.contains(&format!("is {wanted} meant?")), "{typed}: {}", run.err)
+            }
+            None => assert!(!run.err.contains("meant?"), "{typed}: {}", run.err),
+        }
+    }
+    assert!(run(&["help", "safty"]).err.contains("is safety meant?"));
+    assert!(run(&["list", "x", "--as_is"]).err.contains("is --as-is meant?"));
+}
+
+#[test]
 fn the_man_page_is_one() {
     let page = run(&["help", "man"]);
     assert_eq!(page.status, 0);
@@ -191,6 +230,31 @@ fn bash_completes_commands_options_files_and_paths() {
     assert_eq!(offered(&["counter", "help", "saf"]), ["safety"]);
 }
 
+/// The image's name is typed with quotes, and may hold anything; nothing of it is carried out.
+#[test]
+fn bash_carries_out_nothing_of_what_was_typed() {
+    let temp = fixture();
+    let text = run(&["help", "bash"]).out;
+    assert!(!text.contains("eval"), "{text}");
+    if offered(&temp, &["counter", ""]).is_none() {
+        println!("not tried: there is no bash");
+        return;
+    }
+    for (name, typed) in [
+        ("a b.iso", "a\\ b.iso"),
+        ("a b.iso", "\"a b.iso\""),
+        ("$(touch spoiled).iso", "\\$(touch\\ spoiled).iso"),
+        ("$(touch spoiled).iso", "\"$(touch spoiled).iso\""),
+        ("`touch spoiled`.iso", "`touch spoiled`.iso"),
+        ("x;touch spoiled.iso", "x;touch spoiled.iso"),
+    ] {
+        fs::copy(temp.at("disc.iso"), temp.at(name)).unwrap();
+        let offers = offered(&temp, &["counter", "find", typed, "/op"]).unwrap();
+        assert!(!temp.at("spoiled").exists() && !temp.at("spoiled.iso").exists(), "{typed}");
+        assert_eq!(offers, ["/opening.bnr"], "{typed}");
+    }
+}
+
 #[test]
 fn zsh_and_fish_read_their_completions() {
     let temp = fixture();
@@ -217,6 +281,7 @@ fn install_puts_everything_under_a_prefix() {
     }
     // The program is built already, so that cargo has nothing to do.
     let temp = Temp::new();
+    temp.write("libcounter.a", b"");
     let cargo = temp.write("cargo", b"#!/bin/sh\n");
     fs::set_permissions(&cargo, std::os::unix::fs::PermissionsExt::from_mode(0o755)).unwrap();
     let path = format!("{}:{}", temp.at("").display(), std::env::var("PATH").unwrap());
@@ -250,4 +315,49 @@ fn install_puts_everything_under_a_prefix() {
     }
     assert_eq!(install("").status, 64);
     assert_eq!(install("--prefix=/usr").status, 64);
+}
+
+/// The three scripts, with a cargo that tells where it is and which library it has.
+#[test]
+fn the_library_is_found_from_where_one_stands() {
+    let host = Path::new(env!("CARGO_MANIFEST_DIR")).join("..").canonicalize().unwrap();
+    let temp = Temp::new();
+    let cargo = temp.write("cargo", b"#!/bin/sh\necho \"$PWD has $COUNTER_LIB\"\nexit 42\n");
+    fs::set_permissions(&cargo, std::os::unix::fs::PermissionsExt::from_mode(0o755)).unwrap();
+    for folder in ["lib/inner", "empty", "elsewhere/lib", "elsewhere/host"] {
+        fs::create_dir_all(temp.at(folder)).unwrap();
+    }
+    temp.write("lib/inner/libcounter.a", b"");
+    temp.write("elsewhere/lib/libcounter.a", b"");
+    std::os::unix::fs::symlink(&host, temp.at("host")).unwrap();
+    let path = format!("{}:{}", temp.at("").display(), std::env::var("PATH").unwrap());
+    let call = |script: &str, library: &str| -> Run {
+        let mut command = Command::new("bash");
+        command.arg(format!("host/{script}"));
+        if script == "install" {
+            command.arg("prefix");
+        }
+        let command = command.current_dir(temp.at("")).env("PATH", &path);
+        // A shell that looks for folders elsewhere, too.
+        let command = command.env("CDPATH", temp.at("elsewhere")).env("COUNTER_LIB", library);
+        command.output().unwrap().into()
+    };
+    let inner = temp.at("lib/inner").canonicalize().unwrap();
+    for script in ["build", "test", "install"] {
+        for library in ["lib/inner", "./lib/../lib/inner/", inner.to_str().unwrap()] {
+            let run = call(script, library);
+            assert_eq!(run.status, 42, "{script} {library}: {}{}", run.out, run.err);
+            assert!(run.out.contains(&format!("host has {}\n", inner.display())), "{}", run.out);
+        }
+        let run = call(script, "empty");
+        assert_eq!(run.status, 66, "{script}: {}", run.out);
+        assert!(
+            run.err.contains("COUNTER_LIB=empty: there is no libcounter.a in that folder"),
+            "{}",
+            run.err
+        );
+        let run = call(script, "nothing");
+        assert_eq!(run.status, 66, "{script}: {}", run.out);
+        assert!(run.err.contains("COUNTER_LIB=nothing: there is no such folder"), "{}", run.err);
+    }
 }

@@ -561,6 +561,7 @@ fn free_space_of_the_small_master_in_clusters() {
                 0x1aa6 (6,822 bytes, 6.66 KiB) free of 8 KiB in 2 regions\n";
     assert_eq!(done("free", &image, &[]), text);
     let told = r#"{
+  "status": 0,
   "disc_end": 8192,
   "free": 6822,
   "program": null,
@@ -698,7 +699,7 @@ fn help_tells_of_clusters() {
     ] {
         assert!(help.contains(words), "{words}: {help}");
     }
-    assert!(run(&["help"]).out.contains("counter free IMAGE [--clusters]"));
+    assert!(run(&["help", "all"]).out.contains("counter free IMAGE [--clusters]"));
     assert!(run(&["help", "man"]).out.contains("counter free disc.iso \\-\\-clusters"));
 }
 
@@ -924,7 +925,7 @@ fn wrong_usage_is_64() {
         &["move", "x", "y"],
         &["mkdir", "image"],
         &["rewrite", "image", "--over-program"],
-        &["hash", "image", "--json"],
+        &["hash", "image", "--as-ist"],
         &["place", "image"],
         &["place", "image", "1", "2", "3"],
         &["report", "x", "y"],
@@ -940,7 +941,7 @@ fn wrong_usage_is_64() {
 
 #[test]
 fn help_documents_commands_statuses_and_safety() {
-    let run_help = run(&["help"]);
+    let run_help = run(&["help", "all"]);
     assert_eq!(run_help.status, 0);
     let commands = [
         "info", "list", "tree", "free", "find", "place", "check", "extract", "cat", "dol", "map",
@@ -989,7 +990,7 @@ fn help_documents_commands_statuses_and_safety() {
     }
     assert!(run(&["help", "safety"]).out.contains("SIGKILL"));
     assert!(run(&["help", "exit"]).out.contains("128 + n"));
-    assert_eq!(run(&["--help"]).out, run_help.out);
+    assert_eq!(run(&["--help"]).out, run(&["help"]).out);
     let version = run(&["--version"]);
     assert_eq!(version.status, 0);
     let sum = version.out.lines().nth(1).unwrap().strip_prefix("libcounter.a SHA-256 ").unwrap();
@@ -1116,6 +1117,265 @@ fn check_tells_what_of_a_table_no_lookup_sees() {
     // A rewrite settles all of it.
     done("rewrite", &image, &[]);
     assert!(notes(&image).0.is_empty());
+}
+
+#[test]
+fn every_answer_in_json_has_its_status() {
+    let temp = Temp::new();
+    let image = usual_master(&temp);
+    let copy = temp.at("copy.iso");
+    fs::copy(&image, &copy).unwrap();
+    let [copy, out, svg, page] =
+        ["copy.iso", "out", "map.svg", "page.html"].map(|name| temp.at(name));
+    let [copy, out, svg, page] = [&copy, &out, &svg, &page].map(|path| path.to_str().unwrap());
+    let answers: [(&str, &[&str]); 15] = [
+        ("info", &[]),
+        ("list", &[]),
+        ("tree", &[]),
+        ("free", &[]),
+        ("find", &["opening.bnr"]),
+        ("place", &["64K"]),
+        ("record", &[]),
+        ("cat", &["audio/se/se000.dsp"]),
+        ("extract", &["opening.bnr", out]),
+        ("dol", &[]),
+        ("map", &[svg]),
+        ("check", &[]),
+        ("compare", &[copy]),
+        ("report", &[copy, page]),
+        ("recover", &[]),
+    ];
+    for (command, rest) in answers {
+        assert_eq!(json(command, &image, rest).at("status").number(), 0, "{command}");
+    }
+    // Wrong usage too, whether the command knows --json or is none at all.
+    let path = image.to_str().unwrap();
+    let wrong: [&[&str]; 8] = [
+        &["nonsense", "--json"],
+        &["--json"],
+        &["hash", path, "--json"],
+        &["find", path, "--json"],
+        &["find", path, "a", "--jsn", "--json"],
+        &["move", path, "/opening.bnr", "x", "--json"],
+        &["help", "nothing", "--json"],
+        &["extract", path, "--json", "--all"],
+    ];
+    for args in wrong {
+        let run = run(args);
+        assert_eq!(run.status, 64, "{args:?}: {}", run.err);
+        assert_eq!(Json::read(&run.out).at("status").number(), 64, "{args:?}");
+        assert!(!run.err.is_empty());
+    }
+    // Behind -- it is an operand.
+    assert_eq!(run(&["find", path, "--", "--json"]).out, "");
+}
+
+#[test]
+fn the_kind_of_an_entry_is_told_where_another_is_wanted() {
+    let temp = Temp::new();
+    let image = usual_master(&temp);
+    for (args, words) in [
+        (&["cat", "audio"][..], "refused 16: file wanted (it is a folder)"),
+        (&["move", "audio/se", "0x190000"], "refused 16: file wanted (it is a folder)"),
+        (&["move", "audio/se", "auto"], "refused 16: file wanted (it is a folder)"),
+        (&["resize", "/", "5"], "refused 16: file wanted (it is a folder)"),
+        (&["find", "opening.bnr/x"], "refused 17: directory wanted (/opening.bnr is a file)"),
+        (
+            &["find", "audio/theme.adp/"],
+            "refused 17: directory wanted (/audio/theme.adp is a file)",
+        ),
+        (
+            &["find", "audio\\theme.adp\\x"],
+            "refused 17: directory wanted (/audio/theme.adp is a file)",
+        ),
+        (&["add", "opening.bnr/x"], "refused 17: directory wanted (/opening.bnr is a file)"),
+        (
+            &["mkdir", "new/../opening.bnr/x"],
+            "refused 17: directory wanted (/opening.bnr is a file)",
+        ),
+        (&["mkdir", "opening.bnr"], "refused 17: directory wanted (/opening.bnr is a file)"),
+    ] {
+        let run = on(args[0], &image, &args[1..]);
+        assert!(run.err.contains(words), "{args:?}: {}", run.err);
+    }
+}
+
+#[test]
+fn other_forms_of_images_are_named_with_what_converts_them() {
+    let temp = Temp::new();
+    // First bytes, by each form's own description; a long file and one shorter than a header.
+    let forms: [(&[u8], &str); 5] = [
+        (b"RVZ\x01", "RVZ"),
+        (b"WIA\x01", "WIA"),
+        (b"CISO", "CISO"),
+        (&0xB10B_C001u32.to_le_bytes(), "GCZ"),
+        (b"WBFS", "WBFS"),
+    ];
+    for (magic, name) in forms {
+        for (len, number) in [(0x8000, 3), (0x10, 1)] {
+            let mut bytes = vec![0; len];
+            bytes[..4].copy_from_slice(magic);
+            let image = temp.write("image", &bytes);
+            for command in ["check", "rewrite", "list"] {
+                let run = on(command, &image, &[]);
+                assert_eq!(run.status, number, "{name}: {}", run.err);
+                let words =
+                    format!("this is an image in the form {name}; `dolphin-tool convert -f iso ");
+                assert!(run.err.contains(&words), "{name}: {}", run.err);
+            }
+        }
+    }
+    // NKit's looks like any other; cut short it is refused, and else it opens.
+    let mut bytes = small_master();
+    bytes[0x200..0x204].copy_from_slice(b"NKIT");
+    let image = temp.write("nkit.iso", &bytes);
+    for command in ["check", "info", "tree"] {
+        let run = on(command, &image, &[]);
+        assert_eq!(run.status, 0, "{}", run.err);
+        assert_eq!(run.err.matches("this is an NKit image").count(), 1, "{}", run.err);
+    }
+    let run = on("rewrite", &image, &["--dry-run"]);
+    assert_eq!(run.err.matches("this is an NKit image").count(), 1, "{}", run.err);
+    assert!(done("check", &image, &[]).contains("note: this is an NKit image"));
+    let image = temp.write("short.nkit.iso", &bytes[..0x1000]);
+    let run = on("check", &image, &[]);
+    assert_eq!(run.status, 4);
+    let words = "the file has 4096 bytes, the disc 8192; this is an NKit image";
+    assert!(run.err.contains(words), "{}", run.err);
+}
+
+#[test]
+fn info_shows_the_banner() {
+    // YAGCD: the magic, a picture, and from 0x1820 on the titles, 0x20, 0x20, 0x40, 0x40 and 0x80 bytes long.
+    let banner = |magic: &[u8], texts: [&[u8]; 5]| -> Vec<u8> {
+        let mut bytes = vec![0; 0x1960];
+        bytes[..4].copy_from_slice(magic);
+        for (text, at) in texts.into_iter().zip([0x1820, 0x1840, 0x1860, 0x18A0, 0x18E0]) {
+            bytes[at..at + text.len()].copy_from_slice(text);
+        }
+        bytes
+    };
+    let temp = Temp::new();
+    let image = usual_master(&temp);
+    let put = |code: u8, banner: &[u8]| {
+        let mut bytes = fs::read(&image).unwrap();
+        bytes[3] = code;
+        bytes[0x6_0000..0x6_0000 + 0x1960].fill(0);
+        bytes[0x6_0000..0x6_0000 + banner.len()].copy_from_slice(banner);
+        fs::write(&image, bytes).unwrap();
+    };
+    let shown = |name: &str| {
+        let out = done("info", &image, &[]);
+        let line = out.lines().find(|line| line.starts_with(name));
+        line.map(|line| line[name.len()..].trim().to_string())
+    };
+    assert_eq!(shown("banner title"), None);
+    assert_eq!(json("info", &image, &[]).at("banner"), &Json::Null);
+    put(b'E', &banner(b"BNR1", [b"Short", b"Maker", b"Caf\xe9 \xabLong\xbb", b"", b"a\nb\x1b[2J"]));
+    assert_eq!(shown("banner title").unwrap(), "Café «Long»");
+    assert_eq!(shown("banner maker").unwrap(), "Maker");
+    let told = json("info", &image, &[]);
+    assert_eq!(told.at("banner").at("short_title").text(), "Short");
+    assert_eq!(told.at("banner").at("kind").text(), "BNR1");
+    assert_eq!(told.at("banner").at("comment").text(), "a\\x0ab\\x1b[2J");
+    // 0x95 0x5C is one character in Shift-JIS, and two in Latin-1.
+    put(b'J', &banner(b"BNR1", [b"\x95\x5c", b"", b"", b"", b""]));
+    assert_eq!(shown("banner title").unwrap(), "表");
+    put(b'P', &banner(b"BNR2", [b"Titre", b"", b"", b"", b""]));
+    assert_eq!(shown("banner title").unwrap(), "Titre");
+    // A full field has no zero byte, an empty banner no title, and another file is no banner.
+    put(b'E', &banner(b"BNR1", [b"", b"", &[b'x'; 0x40], &[b'y'; 0x40], b""]));
+    assert_eq!(shown("banner title").unwrap(), "x".repeat(0x40));
+    put(b'E', &banner(b"BNR1", [b""; 5]));
+    assert_eq!(shown("banner title").unwrap(), "none");
+    put(b'E', &banner(b"BNR3", [b"no"; 5]));
+    assert_eq!(shown("banner title"), None);
+    // A short one has what it has.
+    put(b'E', &banner(b"BNR1", [b"Short", b"Maker", b"Long", b"", b""]));
+    for (size, title) in [("0x1830", "Short"), ("0x1820", "none"), ("4", "none"), ("3", "")] {
+        done("resize", &image, &["opening.bnr", size]);
+        assert_eq!(shown("banner title").unwrap_or_default(), title, "{size}");
+    }
+}
+
+#[test]
+fn a_manifest_goes_to_a_new_file_and_never_over_another() {
+    let temp = Temp::new();
+    let image = usual_master(&temp);
+    let before = State::of(&image);
+    let sums = temp.at("disc.sums");
+    let out = done("hash", &image, &["--out", sums.to_str().unwrap()]);
+    assert_eq!(fs::read_to_string(&sums).unwrap(), done("hash", &image, &[]));
+    let own = std::process::Command::new("sha256sum").arg(&sums).output();
+    if let Ok(own) = own {
+        let own = String::from_utf8_lossy(&own.stdout)[..64].to_string();
+        assert!(out.contains(&format!("8 files, SHA-256 {own}")), "{out}");
+    }
+    let record = temp.at("totals");
+    done("record", &image, &["--record", record.to_str().unwrap()]);
+    let link = temp.at("link");
+    std::os::unix::fs::symlink(&image, &link).unwrap();
+    for there in [&image, &sums, &record, &link] {
+        let was = fs::read(there).unwrap();
+        let run = on("hash", &image, &["--out", there.to_str().unwrap()]);
+        assert_eq!(run.status, 73, "{}", run.err);
+        assert!(fs::read(there).unwrap() == was);
+    }
+    // What has the name of a journal or a clip would be taken for one, whoever makes it.
+    for name in [journal_of(&image), clip_of(&image), temp.at("x.counter-journal.new")] {
+        let name = name.to_str().unwrap();
+        let runs = [
+            on("hash", &image, &["--out", name]),
+            on("dol", &image, &["--out", name]),
+            on("map", &image, &[name]),
+            on("extract", &image, &["opening.bnr", name]),
+            on("extract", &image, &["--all", name]),
+            run(&["map", "--demo", name]),
+        ];
+        for run in runs {
+            assert_eq!(run.status, 64, "{}", run.err);
+            assert!(run.err.contains("a name that a journal has"), "{}", run.err);
+        }
+        assert!(!std::path::Path::new(name).exists());
+    }
+    // Standard output that goes into the image is noticed; a shell has emptied it before.
+    for command in ["hash", "list", "check"] {
+        let output = File::options().append(true).open(&image).unwrap();
+        let run: Run = program()
+            .args([command.as_ref(), image.as_os_str()])
+            .stdout(output)
+            .output()
+            .unwrap()
+            .into();
+        assert_eq!(run.status, 64, "{}", run.err);
+        assert!(run.err.contains("standard output goes into the image"), "{}", run.err);
+    }
+    assert_eq!(State::of(&image), before);
+    assert!(run(&["help", "hash"]).out.contains("counter hash only.iso > only.iso"));
+}
+
+#[test]
+fn the_sums_of_public_databases_are_told() {
+    let temp = Temp::new();
+    let image = usual_master(&temp);
+    let text = done("hash", &image, &["--all"]);
+    for (name, tool) in [("md5", "md5sum"), ("sha1", "sha1sum")] {
+        match std::process::Command::new(tool).arg(&image).output() {
+            Ok(told) => {
+                let told = String::from_utf8_lossy(&told.stdout).to_string();
+                let sum = told.split(' ').next().unwrap();
+                assert!(text.contains(&format!("\n# {name} {sum}\n")), "{name}");
+            }
+            Err(_) => println!("not tried: there is no {tool}"),
+        }
+    }
+    // The small master's, by Python's zlib: zeros but for its header and table.
+    let small = temp.write("small.iso", &small_master());
+    assert!(done("hash", &small, &["--all"]).contains("\n# crc32 1960bcc8\n"));
+    let sums = temp.write("all.sums", text.as_bytes());
+    let run = on("compare", &sums, &[image.to_str().unwrap()]);
+    assert_eq!(run.status, 0, "{}{}", run.out, run.err);
+    assert!(!done("hash", &image, &[]).contains("# md5"));
 }
 
 /// The names of all fields, of what is inside too.

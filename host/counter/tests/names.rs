@@ -588,7 +588,7 @@ fn refusals_name_the_byte_or_the_lead_byte() {
         (&["mkdir", r"new/\x81/表"], 12, stray),
         (&["mkdir", r"new/\x81:/b"], 13, "unsafe or empty name (it holds :)"),
         (&["mkdir", r"表.bin/x"], 17, "/x: refused 17: directory wanted"),
-        (&["find", r"表.bin\x"], 17, "(a part of the path before the last is a file)"),
+        (&["find", r"表.bin\x"], 17, "(/表.bin is a file)"),
         (&["find", r"ソース/\x81/十"], 18, r"ソース/\x81/十: refused 18: not found"),
         (&["move", r"ソース\x81", "0x90000"], 18, r"ソース\x81: refused 18: not found"),
     ];

@@ -93,6 +93,7 @@ fn free_tells_why_its_bytes_are_not_free() {
                 not free: the program, 291 bytes at 0x1000, behind the table\n";
     assert_eq!(done("free", &image, &["--clusters"]), text);
     let text = r#"{
+  "status": 0,
   "disc_end": 8192,
   "free": 6531,
   "program": {"offset": 4096, "size": 291, "behind_table": true},

@@ -232,6 +232,39 @@ fn a_map_of_12_000_files_is_small_and_loses_none() {
 }
 
 #[test]
+fn rows_that_are_wholly_free_are_folded() {
+    let temp = Temp::new();
+    // A disc of 64 MiB, of which the first 2 MiB and 4 KiB near the end are used: rows of 2 MiB.
+    let mut entries = usual(0x10_0000, 0x4_5678);
+    entries.push(file("last", 0x3F0_0000, 0x1000));
+    let image = temp.at("free.iso");
+    sparse(&image, &entries, 0x400_0000);
+    let out = temp.at("map.svg");
+    done("map", &image, &[text(&out)]);
+    let picture = fs::read_to_string(&out).unwrap();
+    let words = "30 rows, all free: 0x200000 to 0x3e00000, 60 MiB";
+    assert_eq!(picture.matches(&format!(">{words}</text>")).count(), 1, "{picture}");
+    // The first row and the last, and what the folded ones begin with.
+    for start in ["0x00000000", "0x00200000", "0x03e00000"] {
+        assert!(picture.contains(&format!(">{start}</text>")), "{start}");
+    }
+    assert!(!picture.contains(">0x00400000</text>"));
+    // Side by side the same rows are folded: one that is used in either is shown in both.
+    let copy = temp.at("copy.iso");
+    fs::copy(&image, &copy).unwrap();
+    done("move", &copy, &["last", "0x2000000"]);
+    let both = temp.at("both.svg");
+    assert_eq!(on("compare", &image, &[text(&copy), "--map", text(&both)]).status, 1);
+    let picture = fs::read_to_string(&both).unwrap();
+    well_formed(&picture);
+    for words in
+        ["15 rows, all free: 0x200000 to 0x2000000", "14 rows, all free: 0x2200000 to 0x3e00000"]
+    {
+        assert_eq!(picture.matches(&format!(">{words}")).count(), 4, "{words}: {picture}");
+    }
+}
+
+#[test]
 fn a_region_is_labelled_once_and_no_label_is_hidden() {
     let temp = Temp::new();
     let image = temp.at("usual.iso");
