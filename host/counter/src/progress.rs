@@ -12,7 +12,6 @@ use std::time::{Duration, Instant};
 pub struct Progress {
     done: Arc<AtomicU64>,
     total: u64,
-    begun: Instant,
     running: Option<(Sender<()>, JoinHandle<()>)>,
 }
 
@@ -21,13 +20,12 @@ impl Progress {
     pub fn start(what: &str, total: u64) -> Progress {
         let done = Arc::new(AtomicU64::new(0));
         let running = io::stderr().is_terminal().then(|| watch(what, total, done.clone()));
-        Progress { done, total, begun: Instant::now(), running: running.flatten() }
+        Progress { done, total, running: running.flatten() }
     }
 
     pub fn advance(&self, bytes: u64) {
         let done = self.done.fetch_add(bytes, Ordering::Relaxed) + bytes;
-        let left = self.total.saturating_sub(done);
-        signals::expect(self.begun.elapsed().mul_f64(left as f64 / done.max(1) as f64));
+        signals::expect(done, self.total.saturating_sub(done));
     }
 }
 

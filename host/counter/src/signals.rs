@@ -10,7 +10,7 @@ use std::path::Path;
 use std::ptr;
 use std::sync::OnceLock;
 use std::sync::atomic::{AtomicBool, AtomicI32, AtomicPtr, AtomicU8, AtomicU64, Ordering};
-use std::time::{Duration, Instant};
+use std::time::Instant;
 
 const SIGHUP: i32 = 1;
 const SIGINT: i32 = 2;
@@ -73,9 +73,12 @@ static HOLDING: AtomicBool = AtomicBool::new(false);
 static BLOCKED: AtomicU64 = AtomicU64::new(0);
 static UNFINISHED: AtomicPtr<c_char> = AtomicPtr::new(ptr::null_mut());
 static RESCUE: AtomicPtr<*const c_char> = AtomicPtr::new(ptr::null_mut());
-/// When writing began, and how many milliseconds later it is expected to end; 0 where nothing is known.
+/// When writing began, and how many milliseconds an edit took that was finished before; how many milliseconds
+/// later it is expected to end, and how many thousandths of what is done are left.
 static BEGUN: OnceLock<Instant> = OnceLock::new();
+static BEFORE: AtomicU64 = AtomicU64::new(0);
 static END: AtomicU64 = AtomicU64::new(0);
+static LEFT: AtomicU64 = AtomicU64::new(0);
 
 const CUT_READING: &[u8] =
     b"counter: input/output error: the image could not be read to its end (did it shrink?)\n";
@@ -136,16 +139,27 @@ fn noted(number: i32) {
     }
 }
 
-fn seconds_left() -> u64 {
-    let now = BEGUN.get().map_or(0, |begun| begun.elapsed().as_millis() as u64);
-    END.load(Ordering::SeqCst).saturating_sub(now).div_ceil(1000)
+/// How many milliseconds ago writing began.
+fn now() -> u64 {
+    let since = BEGUN.get().map_or(0, |begun| begun.elapsed().as_millis() as u64);
+    since.saturating_sub(BEFORE.load(Ordering::SeqCst))
 }
 
-/// How long the edit will go on.
-pub fn expect(left: Duration) {
-    if let Some(begun) = BEGUN.get() {
-        END.store((begun.elapsed() + left).as_millis() as u64, Ordering::SeqCst);
-    }
+/// 0 where nothing is known.
+fn seconds_left() -> u64 {
+    let left = match END.load(Ordering::SeqCst).checked_sub(now()) {
+        // It takes longer than was thought.
+        None | Some(0) => now() * LEFT.load(Ordering::SeqCst) / 1000,
+        Some(left) => left,
+    };
+    left.div_ceil(1000)
+}
+
+/// So much of the edit is done, and so much left: it is thought to go on as it did.
+pub fn expect(done: u64, left: u64) {
+    let share = left.saturating_mul(1000) / done.max(1);
+    LEFT.store(share, Ordering::SeqCst);
+    END.store(now() + now().saturating_mul(share) / 1000, Ordering::SeqCst);
 }
 
 /// Says so, takes a file that is not finished away, and ends as the signal ends a program.
@@ -208,7 +222,8 @@ pub fn catch_signals() {
 /// `no_way_back`; one that a signal came before is given up at once.
 pub fn begin_writing(free_space_first: bool) {
     let _ = BEGUN.set(Instant::now());
-    END.store(0, Ordering::SeqCst);
+    BEFORE.fetch_add(now(), Ordering::SeqCst);
+    expect(1, 0);
     let before = STAGE.swap(if free_space_first { FREE } else { FOR_GOOD }, Ordering::SeqCst);
     if free_space_first && CAUGHT.load(Ordering::SeqCst) != 0 {
         STAGE.store(GIVEN_UP, Ordering::SeqCst);

@@ -317,7 +317,9 @@ fn a_signal_during_an_edit_waits_for_its_end() {
         if MINDED.contains(&signal) {
             // Before it is finished, what becomes of it is told.
             let line = first_line(&mut child);
-            assert!(line.contains(": the edit is finished first"), "{signal}: {line}");
+            let about = line.split_once(": the edit is finished first: about ").map(|at| at.1);
+            let about = about.and_then(|about| about.strip_suffix(" s")?.parse().ok());
+            assert!(about.is_some_and(|about: u32| (1..60).contains(&about)), "{signal}: {line}");
         }
         read_log(&mut log, usize::MAX, &mut child);
         let run = finish(child);
