@@ -379,7 +379,7 @@ Safety
 
 fn statuses() -> String {
     let mut out = format!(
-        "\nExit status, and what it says of the image of an edit\n   0  done: written and synced, or there was nothing to write\n   1  compare: a file that is not on the list differs; else as below\n      1 to {}: refused, nothing changed, not even the time of modification\n",
+        "\nExit status, and what it says of the image of an edit\n   0  done: written and synced, or there was nothing to write\n   1  compare, report: something differs without leave; else as below\n      1 to {}: refused, nothing changed, not even the time of modification\n",
         CAUSES.len()
     );
     for (i, cause) in CAUSES.iter().enumerate() {
@@ -405,7 +405,8 @@ fn statuses() -> String {
          \x20 76  the edit is written and synced, but its answer could not be printed\n\
          \x20 78  an edit was cut: the image may hold a part of it, and its journal is there;\n\
          \x20     `counter recover IMAGE` finishes the edit. Or only its record is not written yet: the\n\
-         \x20     last line says so\n\
+         \x20     last line says so. compare, report: nothing differs without leave, but an edit was cut of an\n\
+         \x20     image that was read --as-is\n\
          \x20 128 + n  ended by signal n: before an edit wrote anything but free space, or when it was\n\
          \x20     written and synced; the last line says which. After SIGKILL (137) there may be a journal: see 78\n",
     );

@@ -1,4 +1,4 @@
-//! The README's worked example: each command is run, and says what the page says.
+//! The examples of README and guide: each command is run, and says what the page says.
 
 mod support;
 
@@ -24,8 +24,17 @@ fn example(page: &str) -> Vec<(String, String)> {
 
 #[test]
 fn the_worked_example_is_what_the_program_says() {
+    follows("README.md");
+}
+
+#[test]
+fn the_guide_is_what_the_program_says() {
+    follows("docs/GUIDE.md");
+}
+
+fn follows(page: &str) {
     let root = Path::new(env!("CARGO_MANIFEST_DIR")).join("../..");
-    let page = fs::read_to_string(root.join("README.md")).unwrap();
+    let page = fs::read_to_string(root.join(page)).unwrap();
     let temp = Temp::new();
     let program = Path::new(env!("CARGO_BIN_EXE_counter")).parent().unwrap();
     let path = format!("{}:{}", program.display(), std::env::var("PATH").unwrap());
@@ -42,5 +51,6 @@ fn the_worked_example_is_what_the_program_says() {
             .unwrap();
         assert_eq!(String::from_utf8_lossy(&run.stdout), *wanted, "{command}");
     }
+    assert!(example.len() > 8);
     println!("{} commands", example.len());
 }
