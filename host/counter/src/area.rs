@@ -22,6 +22,8 @@ pub struct Area {
     pub status: &'static str,
     /// Where the first byte differs, or where the part begins that does.
     at: Option<u64>,
+    /// Where that part ends, if no more is known than that it differs.
+    until: Option<u64>,
     more: String,
     pub given: bool,
 }
@@ -31,11 +33,20 @@ type First<'a> = dyn Fn((u64, u64)) -> Option<u64> + 'a;
 
 impl Area {
     fn new(name: &'static str) -> Area {
-        Area { name, field: None, status: UNCHANGED, at: None, more: String::new(), given: false }
+        let (field, status, more) = (None, UNCHANGED, String::new());
+        Area { name, field, status, at: None, until: None, more, given: false }
     }
 
     fn changed(name: &'static str, at: Option<u64>, more: String) -> Area {
         Area { status: CHANGED, at, more, ..Area::new(name) }
+    }
+
+    /// Held to a sum: what differs lies somewhere in its part.
+    pub fn by_sum(self, (start, size): (u64, u64)) -> Area {
+        match self.at {
+            Some(_) => Area { at: Some(start), until: Some(start + size), ..self },
+            None => self,
+        }
     }
 
     pub fn differs(&self) -> bool {
@@ -50,7 +61,10 @@ impl Area {
     /// What it is, and where it differs.
     pub fn words(&self) -> String {
         let field = self.field.map(|field| format!("{field} "));
-        let at = self.at.map(|at| format!("at {at:#x}"));
+        let at = self.at.map(|at| match self.until {
+            Some(until) => format!("somewhere in {at:#x} to {until:#x}"),
+            None => format!("at {at:#x}"),
+        });
         let about = [field.unwrap_or_default(), at.unwrap_or_default()].concat();
         match (about.is_empty(), self.more.is_empty()) {
             (true, true) => self.name.into(),
@@ -88,8 +102,7 @@ pub fn header(given: &Given, first: impl Fn(&'static Field) -> Option<u64>) -> V
 pub fn old_header(differs: &dyn Fn(&str) -> Option<u64>) -> Vec<Area> {
     let parts = OLD_HEADER.iter().filter_map(|(name, at, size)| {
         differs(name)?;
-        let more = format!("somewhere in 0x{at:x} to 0x{:x}", at + size);
-        Some(Area::changed("header", None, more))
+        Some(Area::changed("header", Some(*at), String::new()).by_sum((*at, *size)))
     });
     let found: Vec<Area> = parts.collect();
     if found.is_empty() { vec![Area::new("header")] } else { found }

@@ -515,7 +515,7 @@ journal like any other; it is none of the library's, and counts in no record (--
 line `header: FST maximum` of LIST gives leave for it.";
 
 const COMPARE: &str = "\
-LIST is a text file in UTF-8 of at most 16 MiB, one path a line as PATH is given; a line that ends in / stands for that folder and all in it. / \
+LIST is a text file in UTF-8 of at most 16 MiB and 100,000 lines, one path a line as PATH is given; a line that ends in / stands for that folder and all in it. / \
 alone stands for everything, and that is said aloud. A line that leads to the root in another way, or \
 above it, is an error (65).
 A line `header: FIELD` gives leave for a field of the header, as `header: FST maximum`; no entry has a `:` in its \

@@ -504,7 +504,7 @@ impl Pair {
             1 => old_header(&differs),
             _ => header(given, |field| differs(&of_field(field))),
         };
-        areas.push(system(old, new, &|_| differs(SYSTEM)));
+        areas.push(system(old, new, &|_| differs(SYSTEM)).by_sum(old.system()));
         let was = match manifest.version {
             1 if same_image => Was::Same,
             1 => Was::Unknown,
@@ -513,8 +513,10 @@ impl Pair {
         };
         let (at, size) = (new.fst.0 as usize, new.fst.1 as usize);
         areas.push(table(new, &self.image.bytes()[at..at + size], was));
-        areas.extend(program(old, new, given, &|_| differs(PROGRAM)));
-        areas.push(tail(old, new, given, &|_| differs(TAIL)));
+        let behind = old.behind().map_or((0, 0), |at| (at.offset.into(), at.size.into()));
+        let program = program(old, new, given, &|_| differs(PROGRAM));
+        areas.extend(program.map(|area| area.by_sum(behind)));
+        areas.push(tail(old, new, given, &|_| differs(TAIL)).by_sum(old.tail()));
         areas
     }
 }

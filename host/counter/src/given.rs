@@ -11,6 +11,7 @@ use std::path::{Path, PathBuf};
 
 /// Most bytes of a list: those of 16,384 paths, the longest that there are.
 const LONGEST: u64 = 16 << 20;
+const MOST_LINES: usize = 100_000;
 
 /// The paths that may differ.
 #[derive(Default)]
@@ -55,6 +56,10 @@ impl Given {
         let lines = text.unwrap_or(&bytes).split(|&b| b == b'\n');
         for (i, line) in lines.enumerate() {
             let line = line.strip_suffix(b"\r").unwrap_or(line);
+            if i >= MOST_LINES {
+                let text = format!("{name}: no list has more than 100,000 lines");
+                return Err(Failure::error(DATA, text));
+            }
             if !line.is_empty() {
                 let taken = match of_header(line) {
                     Some(field) => self.field(field),

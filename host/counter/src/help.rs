@@ -248,7 +248,7 @@ const COMPARED: &str = "status before after manifest manifest_sum before_sum aft
     counts{unchanged moved resized changed new gone} areas[name status changed given field offset] \
     folders[path path_bytes status given] unknown[path] unknown_bytes[path] files[path path_bytes first \
     status moved resized changed hidden alike given before{offset size} after{offset size}]; changed: null where it cannot be told; an area's status: unchanged, changed, unknown or, \
-    of the table, `written anew`; alike: \
+    of the table, `written anew`; its offset: of the first byte that differs, by a manifest that of the part; alike: \
     what a game that looks up without case finds in its place, or null; manifest_sum: of the manifest itself; before_sum: of the image that it names, \
     both null without one; cut: those of which an edit was cut; free_space: unchanged, changed or \
     unknown; files and folders: only those that differ, with --only-differences";

@@ -280,6 +280,12 @@ pub fn check(args: &Args) -> Outcome<()> {
     notes.extend(trouble::nkit(image.bytes()).map(String::from));
     notes.extend(stored.notes());
     let alike = alike(&disc);
+    if !disc.has_paths() {
+        notes.push(
+            "its paths take more than 64 MiB: names that differ in case alone are not looked for"
+                .into(),
+        );
+    }
     let told = alike.iter().take(TOLD).map(|(found, hidden)| {
         let [found, hidden] = [found, hidden].map(|node| names::short(&node.path));
         format!("{hidden}: a game that looks up without case finds {found} in its place")

@@ -185,9 +185,15 @@ fn header_program_and_tail_are_watched() {
     assert_eq!(run.status, 1);
     let line = "changed          (disc end and all behind it: at 0x200000)  [NOT GIVEN]";
     assert!(run.out.contains(line), "{}", run.out);
-    // The manifest of it tells where the part begins, and the field.
+    // The manifest of it tells the part, and the field.
     let manifest = pair.manifest();
-    assert!(pair.against(&manifest, &[]).out.contains(line));
+    let run = pair.against(&manifest, &[]);
+    let words = "(disc end and all behind it: somewhere in 0x200000 to 0x200004)  [NOT GIVEN]";
+    assert!(run.out.contains(words), "{}", run.out);
+    pair.spoil(DOL as u64 + 0x1000);
+    let run = pair.against(&manifest, &[]);
+    assert!(run.out.contains("(system area: somewhere in 0x440 to 0x50000)"), "{}", run.out);
+    pair.spoil(DOL as u64 + 0x1000);
     pair.spoil(END.into());
     pair.spoil(0x42F);
     for run in [pair.compare(&[]), pair.against(&manifest, &[])] {
@@ -222,7 +228,10 @@ fn a_program_behind_the_table_is_watched() {
         pair.spoil(at);
         for run in verdicts("/\n") {
             assert_eq!(run.status, 1, "{at:#x}: {}", run.out);
-            assert!(run.out.contains("changed          (program: at 0x1"), "{at:#x}: {}", run.out);
+            let told =
+                |words: &str| run.out.contains(&format!("changed          (program: {words}"));
+            let part = format!("somewhere in {start:#x} to {end:#x})");
+            assert!(told(&format!("at {at:#x})")) || told(&part), "{at:#x}: {}", run.out);
             assert!(run.out.contains("FAILED: 1 difference not on the list"), "{}", run.out);
         }
         pair.spoil(at);
@@ -1094,8 +1103,11 @@ fn lists_and_manifests_have_an_end() {
     assert_eq!(run.status, 65, "{}", run.err);
     assert!(run.err.contains("no manifest has more than 64 MiB"), "{}", run.err);
     // Many folders are looked up, and not gone through one by one.
-    let folders: String = (0..1_000_000).map(|i| format!("/f{i}/\n")).collect();
+    let folders: String = (0..99_999).map(|i| format!("/f{i}/\n")).collect();
     assert_eq!(pair.given(&folders).status, 0);
+    let run = pair.given(&format!("{folders}\n\n"));
+    assert_eq!(run.status, 65);
+    assert!(run.err.contains("no list has more than 100,000 lines"), "{}", run.err);
 }
 
 /// SHA-256 by another program, where there is one.
