@@ -14,8 +14,16 @@ pub fn digests(bytes: &[u8]) -> Vec<(&'static str, String)> {
         |bytes| hex(&sha1(bytes)),
     ];
     thread::scope(|scope| {
-        let work: Vec<_> = sums.into_iter().map(|sum| scope.spawn(move || sum(bytes))).collect();
-        let found = work.into_iter().map(|sum| sum.join().expect("a sum"));
+        // Where no thread can be had, this one does it.
+        let worker = |sum: fn(&[u8]) -> String| {
+            let worker = thread::Builder::new().spawn_scoped(scope, move || sum(bytes));
+            worker.map_err(|_| sum)
+        };
+        let work: Vec<_> = sums.into_iter().map(worker).collect();
+        let found = work.into_iter().map(|worker| match worker {
+            Ok(worker) => worker.join().expect("a sum"),
+            Err(sum) => sum(bytes),
+        });
         NAMES.into_iter().zip(found).collect()
     })
 }

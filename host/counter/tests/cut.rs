@@ -554,9 +554,12 @@ fn sums_and_edits_are_done_where_no_thread_can_be_had() {
         println!("not tried: nothing keeps threads back here");
         return;
     }
-    let wanted = done("hash", &image, &[]);
-    let run: Run = limited(&counter).arg("hash").arg(&image).output().unwrap().into();
-    assert_eq!((run.status, run.out.as_str()), (0, wanted.as_str()), "{}", run.err);
+    for rest in [&[][..], &["--all"]] {
+        let wanted = done("hash", &image, rest);
+        let run: Run =
+            limited(&counter).arg("hash").arg(&image).args(rest).output().unwrap().into();
+        assert_eq!((run.status, run.out.as_str()), (0, wanted.as_str()), "{}", run.err);
+    }
     let mut command = limited(&counter);
     command.arg(MOVE[0]).arg(&image).args(&MOVE[1..]).stderr(writes);
     let run: Run = command.output().unwrap().into();
