@@ -41,20 +41,22 @@ fn after(table: &[u8], k: usize) -> usize
     }
 }
 
-// The first child of directory d with that name, which has no zero byte. A subdirectory is stepped over by its next.
+// The first child of directory d with that name, which has no zero byte. A subdirectory is stepped over by its next. Of each 65,536 bytes of
+// texts the last text that differs is kept: only one that starts there can be longer than that.
 fn child_named(table: &[u8], d: usize, name: &[u8]) -> Located
     requires { ⌜ Opens (now table) × (d < table_of.count (now table)) × (hasZero (now name) ≡ false) ⌝ }
     ensures { λ r. ⌜ r ≡ childOf (nodesOf (now (table .entry))) d (now (name .entry)) ⌝ }
 {
     let stop = entries::next(table, d);
-    let mut differs = 0;
+    let mut differs = [0usize; 32];
     let mut k = d + 1;
     while k < stop {
         let place = entries::name_place(table, k);
-        if has_name(table, place, differs, name) {
+        let slot = place / 65536 % 32;
+        if has_name(table, place, differs[slot], name) {
             return Located::At(k as u32);
         }
-        differs = place;
+        differs[slot] = place;
         k = after(table, k);
     }
     Located::Refused(Refusal::NotFound)

@@ -3,3 +3,4 @@ pub mod Sorting
 pub mod Digits
 pub mod Scatter
 pub mod Rising
+pub mod Steps
