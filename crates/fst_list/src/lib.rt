@@ -8,7 +8,9 @@ ghost use Rattle.tree.specs.Table as table_of;
 ghost use Rattle.tree.specs.Table.{none, nodesOf, nameOf, parentOf};
 ghost use Rattle.fst_check.specs.Inner.Reading.{Opens};
 ghost use Rattle.fst_list.specs.Rows.{imagePlace, rowOf, listVerdict, listed};
+ghost use Rattle.fst_text.specs.Inner.Texts.{textAt};
 ghost use Rattle.fst_list.specs.Inner.ParentsIn.{ParentsIn};
+ghost use Rattle.fst_list.specs.Inner.Ends.{EndsIn};
 use refusal::Refusal;
 use refusal::Verdict;
 
@@ -23,15 +25,53 @@ fn image_place(table: &[u8], base: u32, k: usize) -> u32
     base + fst::name_place(table, k) as u32
 }
 
-// The length of its name; the root has none.
-fn name_length(table: &[u8], k: usize) -> usize
-    requires { ⌜ Opens (now table) × (k < table_of.count (now table)) ⌝ }
+// The length of the text at `at`, where the text at `stop` behind it ends at `end`.
+fn length_before(table: &[u8], at: usize, stop: usize, end: usize) -> usize
+    requires { ⌜ (at + length (textAt (now table) at) < length (now table)) × (at ≤ stop) × (end ≡ stop + length (textAt (now table) stop)) ⌝ }
+    ensures { λ r. ⌜ r ≡ length (textAt (now (table .entry)) at) ⌝ }
+{
+    let mut i = at;
+    while i < stop {
+        if table[i] == 0 {
+            return i - at;
+        }
+        i += 1;
+    }
+    end - at
+}
+
+// The length of the text at `at`. Of each 4,096 bytes `ends` has where the text that stands at their start ends, or 0; a text longer than that
+// tells it of the next ones. So many names that share a long text cost 4,096 bytes each, and the text a few times.
+fn text_length(table: &[u8], ends: &mut [usize; 320], at: usize) -> usize
+    requires { ⌜ (at + length (textAt (now table) at) < length (now table)) × EndsIn (now table) (now ends) ⌝ }
+    ensures { λ r. ⌜ r ≡ length (textAt (now (table .entry)) at) ⌝ }
+    ensures { λ _. ⌜ EndsIn (now (table .entry)) (now (ends .exit)) ⌝ }
+{
+    let next = at / 4096 + 1;
+    if 320 <= next {
+        return fst::text_length(table, at);
+    }
+    let end = ends[next];
+    if 0 < end {
+        return length_before(table, at, 4096 * next, end);
+    }
+    let size = fst::text_length(table, at);
+    if 4096 < size {
+        ends[next] = at + size;
+    }
+    size
+}
+
+// The length of the name of entry k; the root has none.
+fn name_length(table: &[u8], ends: &mut [usize; 320], k: usize) -> usize
+    requires { ⌜ Opens (now table) × (k < table_of.count (now table)) × EndsIn (now table) (now ends) ⌝ }
     ensures { λ r. ⌜ (r ≡ length (nameOf (getD (nodesOf (now (table .entry))) k none))) × (r ≤ 2 ^ 20) ⌝ }
+    ensures { λ _. ⌜ EndsIn (now (table .entry)) (now (ends .exit)) ⌝ }
 {
     if k == 0 {
         return 0;
     }
-    fst::text_length(table, fst::name_place(table, k))
+    text_length(table, ends, fst::name_place(table, k))
 }
 
 // The directory that entry k is nested in: the entry before it, or one of those that this one is nested in, which the list has.
@@ -75,15 +115,14 @@ fn write_row(
     list[6 * k + 5] = size;
 }
 
-// Adds entry k to the entries below it.
-fn add_entry(table: &[u8], base: u32, list: &mut [u32], k: usize)
+// Adds entry k, whose name has `size` bytes, to the entries below it.
+fn add_entry(table: &[u8], base: u32, list: &mut [u32], k: usize, size: u32)
     requires { ⌜ Opens (now table) × (k < table_of.count (now table)) × (6 * table_of.count (now table) ≤ length (now list)) × (base + length (now table) < 2 ^ 32) ⌝ }
-    requires { ⌜ ParentsIn (now table) k (now list) ⌝ }
+    requires { ⌜ ParentsIn (now table) k (now list) × (size ≡ length (nameOf (getD (nodesOf (now table)) k none))) ⌝ }
     ensures { λ _. ⌜ now (list .exit) ≡ put (now (list .entry)) (6 * k) (rowOf base (now (table .entry)) k) ⌝ }
 {
     let parent = parent_in(table, list, k) as u32;
     let place = image_place(table, base, k);
-    let size = name_length(table, k) as u32;
     let last = endian::read_u32(table, 12 * k + 8);
     if table[12 * k] == 0 {
         let offset = endian::read_u32(table, 12 * k + 4);
@@ -104,9 +143,11 @@ pub fn list_entries(table: &[u8], base: u32, list: &mut [u32]) -> Verdict
     if list.len() < 6 * count {
         return Verdict::Refused(Refusal::LimitOrMemory);
     }
+    let mut ends = [0usize; 320];
     let mut k = 0;
     while k < count {
-        add_entry(table, base, list, k);
+        let size = name_length(table, &mut ends, k);
+        add_entry(table, base, list, k, size as u32);
         k += 1;
     }
     Verdict::Passed

@@ -1,4 +1,4 @@
--- `fst_list::list_entries` meets its contract. The invariant of its loop: the rows of the entries below k stand in the list.
+-- `fst_list::list_entries` meets its contract. The invariant of its loop: the rows of the entries below k stand in the list, and the ends that are kept are right.
 -- Assumes nothing.
 use native.Mathlib.Omega.{arith}
 use Prim.Native.Nat.{_*_, _-_, _≤_}
@@ -9,16 +9,18 @@ use lib.ListN.{length}
 use lib.Dec.{ltb}
 use Rattle.tree.specs.Table as tab
 use Rattle.fst_list.specs.Rows.{listVerdict, listed}
+use Rattle.fst_list.specs.Inner.Ends.{EndsIn}
 use Rattle.fst.proofs.Nodes.{opens-inside}
 use Rattle.fst_list.proofs.RowLaws.{Listing, listing-start, listing-parents, listing-turn, listing-end}
+use Rattle.fst_list.proofs.Lengths.{ends-start}
 use Rattle.fst_list.proofs.list_entries.Statement.{statement}
 use Rattle.fst_list.proofs.list_entries.Tie as tie
 
 abbrev Inv-loop : tie.InvT-loop
-Inv-loop table base list₀ count k₀ list k = Listing base table list₀ list k
+Inv-loop table base list₀ count ends₀ k₀ list ends k = Listing base table list₀ list k × EndsIn table ends
 
 abbrev μ-loop : tie.MeasureT-loop
-μ-loop table base list₀ count k₀ list k = count - k
+μ-loop table base list₀ count ends₀ k₀ list ends k = count - k
 
 count-requires : tie.Need-count-requires Inv-loop μ-loop
 count-requires c κs = let i = opens-inside (c .before .before .args .table .now) (c .before .before .pre .0) in omega arith
@@ -37,15 +39,24 @@ returns c =
 loop-holds : tie.Need-loop-holds Inv-loop μ-loop
 loop-holds c =
     let s = c .before .before .before .before in
-    listing-start (s .args .base) (s .args .table .now) (s .args .list .now)
+    (listing-start (s .args .base) (s .args .table .now) (s .args .list .now), ends-start (s .args .table .now))
+
+name-length-requires : tie.Need-name-length-requires Inv-loop μ-loop
+name-length-requires c κs =
+    let s = c .before .before .before .before .before .before .before in
+    (s .pre .0, omega (arith, c .before .before .before .before .count .ensures, c .before .loop-test .taken), c .before .before .loop .inv .1)
+
+cast-add-entry : tie.Need-cast-add-entry Inv-loop μ-loop
+cast-add-entry c = omega (arith, c .before .name-length .ensures .0 .1)
 
 add-entry-requires : tie.Need-add-entry-requires Inv-loop μ-loop
 add-entry-requires c κs =
-    let s = c .before .before .before .before .before .before .before in
+    let s = c .before .before .before .before .before .before .before .before .before in
     let T = s .args .table .now in
     let L = s .args .list .now in
-    let r : 6 * tab.count T ≤ length L = omega (arith, c .before .before .before .before .count .ensures, c .before .before .before .if1 .left) in
-    ((s .pre .0, omega (arith, c .before .before .before .before .count .ensures, c .before .loop-test .taken), omega (arith, c .before .before .loop .inv .long), s .pre .1), listing-parents (s .args .base) T L (c .before .before .loop .list) (c .before .before .loop .k) r (c .before .before .loop .inv))
+    let z = c .before .name-length .ensures .0 in
+    let r : 6 * tab.count T ≤ length L = omega (arith, c .before .before .before .before .before .before .count .ensures, c .before .before .before .before .before .if1 .left) in
+    ((s .pre .0, omega (arith, c .before .before .before .before .before .before .count .ensures, c .before .before .before .loop-test .taken), omega (arith, c .before .before .before .before .loop .inv .0 .long), s .pre .1), (listing-parents (s .args .base) T L (c .before .before .before .before .loop .list) (c .before .before .before .before .loop .k) r (c .before .before .before .before .loop .inv .0), z .0))
 
 add-k : tie.Need-add-k Inv-loop μ-loop
 add-k c = omega arith
@@ -55,14 +66,14 @@ loop-less c = omega arith
 
 loop-again : tie.Need-loop-again Inv-loop μ-loop
 loop-again c =
-    let s = c .before .before .before .before .before .before .before .before .before .before in
+    let s = c .before .before .before .before .before .before .before .before .before .before .before .before in
     let T = s .args .table .now in
     let L = s .args .list .now in
-    let r : 6 * tab.count T ≤ length L = omega (arith, c .before .before .before .before .before .before .before .count .ensures, c .before .before .before .before .before .before .if1 .left) in
-    listing-turn (s .args .base) T L (c .before .before .before .before .before .loop .list) (c .before .before .before .before .before .loop .k) r (c .before .before .before .before .before .loop .inv) (omega (arith, c .before .before .before .before .before .before .before .count .ensures, c .before .before .before .before .loop-test .taken)) _ (c .before .before .add-entry .ensures)
+    let r : 6 * tab.count T ≤ length L = omega (arith, c .before .before .before .before .before .before .before .before .before .count .ensures, c .before .before .before .before .before .before .before .before .if1 .left) in
+    (listing-turn (s .args .base) T L (c .before .before .before .before .before .before .before .loop .list) (c .before .before .before .before .before .before .before .loop .k) r (c .before .before .before .before .before .before .before .loop .inv .0) (omega (arith, c .before .before .before .before .before .before .before .before .before .count .ensures, c .before .before .before .before .before .before .loop-test .taken)) _ (c .before .before .add-entry .ensures), c .before .before .before .before .name-length .ensures .1)
 
 same-length : tie.Need-same-length Inv-loop μ-loop
-same-length c = omega (arith, c .before .loop .inv .long)
+same-length c = omega (arith, c .before .loop .inv .0 .long)
 
 returns-2 : tie.Need-returns-2 Inv-loop μ-loop
 unfolding listVerdict
@@ -71,7 +82,7 @@ returns-2 c =
     let T = s .args .table .now in
     let L = s .args .list .now in
     let r : 6 * tab.count T ≤ length L = omega (arith, c .before .before .before .count .ensures, c .before .before .if1 .left) in
-    (rw (le-ltb (length L) (6 * tab.count T) r), listing-end (s .args .base) T L (c .before .loop .list) (c .before .loop .k) r (c .before .loop .inv) (omega (arith, c .before .before .before .count .ensures, c .loop-test .left)))
+    (rw (le-ltb (length L) (6 * tab.count T) r), listing-end (s .args .base) T L (c .before .loop .list) (c .before .loop .k) r (c .before .loop .inv .0) (omega (arith, c .before .before .before .count .ensures, c .loop-test .left)))
 
 pub list-entries-spec : {M : Type 1} → statement M
 list-entries-spec =
@@ -83,6 +94,8 @@ list-entries-spec =
     mul-if1
     returns
     loop-holds
+    name-length-requires
+    cast-add-entry
     add-entry-requires
     add-k
     loop-less
