@@ -8,7 +8,7 @@ use std::time::Duration;
 
 const COUNT: usize = 16384;
 const TEXTS: usize = 1 << 20;
-const BAR: Duration = Duration::from_secs(1);
+const BAR: Duration = Duration::from_millis(50);
 
 /// Where the texts of the names start: the first two bytes are a text that no entry uses.
 const FIRST: usize = 2;

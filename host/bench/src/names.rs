@@ -75,7 +75,7 @@ fn against_the_rust(misses: &mut Vec<String>) {
     }
     println!();
     println!("µs of the Rust, of Counter, and in brackets the second as a part of the first:");
-    table.print(misses, 1.0);
+    table.print(misses, &[1.0; 6]);
 }
 
 /// For each of `CALLS` the time before and now on ASCII names, each at the best of its four places in memory.
@@ -122,7 +122,7 @@ pub fn run(misses: &mut Vec<String>) {
     let before = if cfg!(before) { "the library before" } else { "the same library" };
     println!();
     println!("µs of {before}, of this one, and in brackets the second as a part of the first:");
-    table.print(misses, BAR);
+    table.print(misses, &[BAR; 6]);
 }
 
 /// The images as files, for valgrind over the probe.

@@ -141,10 +141,10 @@ pub fn run(misses: &mut Vec<String>) {
     println!(
         "µs of the library before, of this one, and in brackets the second as a part of the first:"
     );
-    edits.print(misses, BAR);
+    edits.print(misses, &[BAR; 6]);
     println!();
     println!(
         "The same of its totals and of a record made, a new call that does one loop more; told, no bar:"
     );
-    makes.print(misses, f64::INFINITY);
+    makes.print(misses, &[f64::INFINITY; 6]);
 }
