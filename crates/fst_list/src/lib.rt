@@ -42,8 +42,8 @@ fn length_before(table: &[u8], at: usize, stop: usize, end: usize) -> usize
 
 // The length of the text at `at`. Of each 4,096 bytes `ends` has where the text that stands at their start ends, or 0; a text longer than that
 // tells it of the next ones. So many names that share a long text cost 4,096 bytes each, and the text a few times.
-fn text_length(table: &[u8], ends: &mut [usize; 320], at: usize) -> usize
-    requires { ⌜ (at + length (textAt (now table) at) < length (now table)) × EndsIn (now table) (now ends) ⌝ }
+fn text_length(table: &[u8], ends: &mut [u32; 320], at: usize) -> usize
+    requires { ⌜ (at + length (textAt (now table) at) < length (now table)) × (length (now table) < 2 ^ 32) × EndsIn (now table) (now ends) ⌝ }
     ensures { λ r. ⌜ r ≡ length (textAt (now (table .entry)) at) ⌝ }
     ensures { λ _. ⌜ EndsIn (now (table .entry)) (now (ends .exit)) ⌝ }
 {
@@ -51,20 +51,20 @@ fn text_length(table: &[u8], ends: &mut [usize; 320], at: usize) -> usize
     if 320 <= next {
         return fst::text_length(table, at);
     }
-    let end = ends[next];
+    let end = ends[next] as usize;
     if 0 < end {
         return length_before(table, at, 4096 * next, end);
     }
     let size = fst::text_length(table, at);
     if 4096 < size {
-        ends[next] = at + size;
+        ends[next] = (at + size) as u32;
     }
     size
 }
 
 // The length of the name of entry k; the root has none.
-fn name_length(table: &[u8], ends: &mut [usize; 320], k: usize) -> usize
-    requires { ⌜ Opens (now table) × (k < table_of.count (now table)) × EndsIn (now table) (now ends) ⌝ }
+fn name_length(table: &[u8], ends: &mut [u32; 320], k: usize) -> usize
+    requires { ⌜ Opens (now table) × (k < table_of.count (now table)) × (length (now table) < 2 ^ 32) × EndsIn (now table) (now ends) ⌝ }
     ensures { λ r. ⌜ (r ≡ length (nameOf (getD (nodesOf (now (table .entry))) k none))) × (r ≤ 2 ^ 20) ⌝ }
     ensures { λ _. ⌜ EndsIn (now (table .entry)) (now (ends .exit)) ⌝ }
 {
@@ -143,7 +143,7 @@ pub fn list_entries(table: &[u8], base: u32, list: &mut [u32]) -> Verdict
     if list.len() < 6 * count {
         return Verdict::Refused(Refusal::LimitOrMemory);
     }
-    let mut ends = [0usize; 320];
+    let mut ends = [0u32; 320];
     let mut k = 0;
     while k < count {
         let size = name_length(table, &mut ends, k);

@@ -44,7 +44,7 @@ loop-holds c =
 name-length-requires : tie.Need-name-length-requires Inv-loop μ-loop
 name-length-requires c κs =
     let s = c .before .before .before .before .before .before .before in
-    (s .pre .0, omega (arith, c .before .before .before .before .count .ensures, c .before .loop-test .taken), c .before .before .loop .inv .1)
+    (s .pre .0, omega (arith, c .before .before .before .before .count .ensures, c .before .loop-test .taken), omega (arith, s .pre .1), c .before .before .loop .inv .1)
 
 cast-add-entry : tie.Need-cast-add-entry Inv-loop μ-loop
 cast-add-entry c = omega (arith, c .before .name-length .ensures .0 .1)

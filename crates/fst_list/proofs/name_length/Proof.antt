@@ -12,7 +12,7 @@ use Rattle.fst_list.proofs.name_length.Statement.{statement}
 use Rattle.fst_list.proofs.name_length.Tie as tie
 
 returns : tie.Need-returns
-returns c = (search (root-name, needs), c .before .before .pre .2)
+returns c = (search (root-name, needs), c .before .before .pre .3)
 
 name-place-requires : tie.Need-name-place-requires
 name-place-requires c κs = search needs
@@ -22,7 +22,7 @@ text-length-requires c κs =
     let s = c .before .before .before .before in
     let T = s .args .table .now in
     let a = opened T (λ i. omega (arith, c .before .before .before .shared-slice-known .given i)) (s .pre .0) in
-    (rw (c .name-place .ensures .0) (name-ended a (s .args .k) (omega (arith, c .before .before .if1 .left)) (s .pre .1)), s .pre .2)
+    (rw (c .name-place .ensures .0) (name-ended a (s .args .k) (omega (arith, c .before .before .if1 .left)) (s .pre .1)), s .pre .2, s .pre .3)
 
 returns-2 : tie.Need-returns-2
 returns-2 c =
