@@ -90,7 +90,9 @@ impl Area {
 pub fn header(given: &Given, first: impl Fn(&'static Field) -> Option<u64>) -> Vec<Area> {
     let fields = FIELDS.iter().filter(|field| field.name != FST_SIZE);
     let differs = fields.filter_map(|field| {
-        let at = first(field)?;
+        let first = first(field)?;
+        // A number is told by its own place, a long field by the byte.
+        let at = if field.size <= 4 { field.at as u64 } else { first };
         let area = Area::changed("header", Some(at), String::new());
         Some(Area { field: Some(field.name), given: given.gives(field), ..area })
     });

@@ -13,7 +13,7 @@ use crate::program::Program;
 use crate::progress::Progress;
 use crate::save::{save, vacant};
 use crate::sha256::{Sha256, Sum, hex};
-use crate::text::counted;
+use crate::text::{counted, one_line};
 use counter_sys::{HEADER_SIZE, Region};
 use std::fs::{self, File};
 use std::io::{Read, Write};
@@ -439,9 +439,9 @@ impl Reader {
             "image" => {
                 self.manifest.image = sum(&mut rest)?;
                 layout.bytes = number(&mut rest).filter(|bytes| *bytes <= MOST_BYTES)?;
-                layout.name = rest.to_string();
+                layout.name = one_line(rest);
             }
-            "game" => layout.game = rest.to_string(),
+            "game" => layout.game = one_line(rest),
             // For people; nothing is held to them.
             name if digests::NAMES.contains(&name) => {}
             "disc-end" => layout.disc_end = small(&mut rest)?,

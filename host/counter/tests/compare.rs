@@ -161,7 +161,8 @@ fn one_byte_anywhere_in_a_file_is_found() {
 fn header_program_and_tail_are_watched() {
     for (at, words) in [
         (0x21, "changed          (header: game name at 0x21)  [NOT GIVEN]"),
-        (0x43F, "changed          (header: unused 0x43C at 0x43f)  [NOT GIVEN]"),
+        (0x43F, "changed          (header: unused 0x43C at 0x43c)  [NOT GIVEN]"),
+        (0x409, "changed          (header: unused 0x408 at 0x409)  [NOT GIVEN]"),
         (APPLOADER as u64 + 0x30, "changed          (system area: at 0x2470)  [NOT GIVEN]"),
         (DOL as u64 + 0x1000, "changed          (system area: at 0x1f800, in the program)"),
     ] {
@@ -198,7 +199,7 @@ fn header_program_and_tail_are_watched() {
     pair.spoil(0x42F);
     for run in [pair.compare(&[]), pair.against(&manifest, &[])] {
         assert_eq!(run.status, 1);
-        assert!(run.out.contains("changed          (header: FST maximum at 0x42"), "{}", run.out);
+        assert!(run.out.contains("changed          (header: FST maximum at 0x42c)"), "{}", run.out);
         assert!(run.out.contains("FAILED: 1 difference "), "{}", run.out);
     }
 }
@@ -1030,6 +1031,12 @@ fn a_manifest_with_lines_left_out_is_none_and_its_own_sum_is_told() {
         let words = "names the sum of ";
         assert!(run.err.contains(words) && run.err.contains(" lacks /"), "{path}: {}", run.err);
     }
+    // What it says of the image's name goes to a terminal.
+    let odd: Vec<String> =
+        lines.iter().map(|line| line.replace(" before.iso", " \x1b[2J")).collect();
+    let odd = pair.with_sum("odd.sums", &odd).unwrap();
+    let run = pair.against(&odd, &[]);
+    assert!(run.out.contains("it says that it is of ") && !run.out.contains('\x1b'), "{}", run.out);
     // A file's place taken for free space, with its sum: the image at hand tells.
     let at = lines.iter().position(|line| line.ends_with("  text/fr/msg.bin")).unwrap();
     let mut spoiled = lines.clone();
