@@ -200,8 +200,8 @@ pub fn lost(wish: &Wish, call: &Call, before: &Disc, trial: &Trial) -> u64 {
 fn lost_words(wish: &Wish, lost: u64) -> String {
     let bytes = counted(lost as usize, "byte", "bytes");
     match wish {
-        Wish::Fill(..) => format!("lost: the {bytes} that it held; the clip is in their place\n"),
-        _ => format!("lost: {bytes} at its end; zeros are in their place\n"),
+        Wish::Fill(..) => format!("lost: {bytes}, all that it held\n"),
+        _ => format!("lost: {bytes} at its end\n"),
     }
 }
 

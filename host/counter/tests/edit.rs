@@ -411,21 +411,9 @@ fn bytes_that_are_lost_are_told() {
     let cases: [(&[&str], u64, &str); 7] = [
         (&["resize", "opening.bnr", "0x1960"], 0, ""),
         (&["resize", "opening.bnr", "0x1961"], 0, ""),
-        (
-            &["resize", "opening.bnr", "0x1960"],
-            1,
-            "lost: 1 byte at its end; zeros are in their place",
-        ),
-        (
-            &["resize", "opening.bnr", "96"],
-            6400,
-            "lost: 6,400 bytes at its end; zeros are in their place",
-        ),
-        (
-            &["fill", "opening.bnr", clip],
-            96,
-            "lost: the 96 bytes that it held; the clip is in their place",
-        ),
+        (&["resize", "opening.bnr", "0x1960"], 1, "lost: 1 byte at its end"),
+        (&["resize", "opening.bnr", "96"], 6400, "lost: 6,400 bytes at its end"),
+        (&["fill", "opening.bnr", clip], 96, "lost: 96 bytes, all that it held"),
         (&["fill", "opening.bnr", clip], 0, ""),
         (&["fill", "audio/silence.adp", clip], 0, ""),
     ];
