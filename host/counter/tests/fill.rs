@@ -419,7 +419,8 @@ fn another_image_that_cannot_be_read_is_told_and_nothing_is_written() {
     let held = File::open(&other).unwrap();
     held.lock().unwrap();
     not_taken("other.iso", 75, "other.iso: another program is editing it");
-    drop(held);
+    // Not only dropped: a child of another test that was just started may have it, too.
+    held.unlock().unwrap();
     temp.write("other.iso.counter-journal", b"counter journal\n");
     not_taken("other.iso", 78, "other.iso: an edit of this image was cut");
     fs::remove_file(temp.at("other.iso.counter-journal")).unwrap();
