@@ -104,6 +104,7 @@ pub fn hash(args: &Args) -> Outcome<()> {
     let files = layout.files().count();
     let mut manifest = Manifest::of(&image, layout);
     if args.all {
+        let _progress = Progress::start("hashing", 0);
         manifest.digests = digests(image.bytes());
     }
     let text = manifest.text();
