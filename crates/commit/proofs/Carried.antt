@@ -5,13 +5,13 @@ use mathlib.Core.Path.{_≡_}
 use mathlib.Core.List.{List}
 use lib.ListN.{replicate}
 use Rattle.endian.specs.Bytes.{put, span}
-use Rattle.refusal.specs.declared.Verdict.the-variants.{Passed}
+use Rattle.tree.specs.declared.Located.the-variants as located
 use Rattle.header.specs.Verdicts.{fstOffset, fstSize}
 use Rattle.commit.specs.declared.Writing.{Writing}
 use Rattle.commit.specs.declared.Decision.{Decision}
 use Rattle.commit.specs.declared.Decision.the-variants as decision
 use Rattle.edits.specs.Change.{withTable}
-use Rattle.commit.specs.Inner.Decision.{Fits, CanCarry, writtenWith, carriedVerdict, carriedImage}
+use Rattle.commit.specs.Inner.Decision.{Fits, CanCarry, writtenWith, carriedAnswer, carriedImage}
 
 -- ---- a change, after its three writes
 
@@ -23,11 +23,11 @@ all-written w image bytes image₁ image₂ image₃ f s size e g h i j = rw (�
 
 -- ---- by the cases of the decision
 
-pub write-fits : (image : List ℕ) (room : ℕ) (d : Decision) (size : ℕ) (w : Writing) → CanCarry image room d → d ≡ decision.Write size w → Fits image room size w
-write-fits image room d size w h e = rw e at h
+pub write-fits : (image : List ℕ) (room : ℕ) (d : Decision) (n size : ℕ) (w : Writing) → CanCarry image room d → d ≡ decision.Write n size w → Fits image room size w
+write-fits image room d n size w h e = rw e at h
 
-pub write-answered : (d : Decision) (size : ℕ) (w : Writing) → d ≡ decision.Write size w → Passed ≡ carriedVerdict d
-write-answered d size w e = rw e
+pub write-answered : (d : Decision) (n size : ℕ) (w : Writing) → d ≡ decision.Write n size w → located.At n ≡ carriedAnswer d
+write-answered d n size w e = rw e
 
-pub write-image : (d : Decision) (size : ℕ) (w : Writing) (image bytes after : List ℕ) → d ≡ decision.Write size w → after ≡ writtenWith w (span bytes 0 size) image → after ≡ carriedImage d bytes image
-write-image d size w image bytes after e h = rw e h
+pub write-image : (d : Decision) (n size : ℕ) (w : Writing) (image bytes after : List ℕ) → d ≡ decision.Write n size w → after ≡ writtenWith w (span bytes 0 size) image → after ≡ carriedImage d bytes image
+write-image d n size w image bytes after e h = rw e h

@@ -20,13 +20,14 @@ use Rattle.commit.specs.declared.Writing.{Writing}
 use Rattle.commit.specs.declared.Decision.{Decision}
 use Rattle.commit.specs.declared.Decision.the-variants as decision
 use Rattle.commit.specs.declared.TableSize.the-variants as table
-use Rattle.edits.specs.Change.{written, tableVerdict, Plan, refused, change, placeVerdict}
-use Rattle.edits.specs.Edits.{planned, planVerdict, planImage}
+use Rattle.edits.specs.Change.{written, tableVerdict, Plan, refused, nothing, change, filled, placeVerdict}
+use Rattle.tree.specs.declared.Located.the-variants as located
+use Rattle.edits.specs.Edits.{planned, planVerdict, planImage, planNumber, numberedAs}
 use Rattle.edits.specs.Laws.Behind as behind
 use Rattle.opening.specs.declared.Prepared.{Prepared}
 use Rattle.opening.specs.declared.Prepared.the-variants as prepared
 use Rattle.opening.specs.Inner.Prepared.{Prepares, IsOpen}
-use Rattle.commit.specs.Inner.Decision.{changeWith, placing, writtenWith, Fits, sizedAs, Decided}
+use Rattle.commit.specs.Inner.Decision.{changeWith, placing, writtenWith, Fits, sizedAs, carriedVerdict, carriedAnswer, verdictIn, Decided, DecidedAs}
 
 pub planned-first : (a b : Verdict) (p : Plan) → planned (first a b) p ≡ planned a (planned b p)
 planned-first Passed b p = refl
@@ -62,10 +63,10 @@ module _ (image : List ℕ) (words room : ℕ) (bytes : List ℕ) where
 
   -- a change whose tests passed, with its table in the working bytes
   pub write-decided : (k : ℕ) (nodes : List Node) (size : ℕ) (w : Writing) → Fits image room size w → tableVerdict (changeWith nodes w) image words room ≡ Passed → span bytes 0 size ≡ encode nodes →
-      Decided (change k (changeWith nodes w)) image words room bytes (decision.Write size w)
+      Decided (change k (changeWith nodes w)) image words room bytes (decision.Write k size w)
   write-decided k nodes size w f e s = record {
     fits = f;
-    carries = (s, refl);
+    carries = record { number = refl; table = s; change = refl };
     answer = sym e;
     after = ap (λ (t : List ℕ). writtenWith w t image) s ∙ written-same image nodes w ∙ sym (ap (λ (v : Verdict). cond (isRefused v) image (written (changeWith nodes w) image)) e);
   }
@@ -94,3 +95,21 @@ opened image w w′ r m q e = let o : Prepares image (length w) w′ (prepared.R
 
 pub unopened : (image w w′ : List ℕ) (r : Prepared) (c : Refusal) → Prepares image (length w) w′ r → r ≡ prepared.Refused c → opening image (length w) ≡ Refused c
 unopened image w w′ r c q e = rw e at q
+
+-- ---- the answer with the entry's number
+
+pub answered : (v : Verdict) (p : Plan) (image : List ℕ) (room : ℕ) (bytes : List ℕ) (d : Decision) → DecidedAs v p image room bytes d → carriedAnswer d ≡ numberedAs v (planNumber p)
+answered v p image room bytes (decision.Refused c) h = rw (← h .answer)
+answered v nothing image room bytes decision.Nothing h = rw (← h .answer)
+answered v (refused u) image room bytes decision.Nothing h = absurd (h .carries)
+answered v (change k c) image room bytes decision.Nothing h = absurd (h .carries)
+answered v (filled k clip p) image room bytes decision.Nothing h = absurd (h .carries)
+answered v (change k c) image room bytes (decision.Write n size w) h = rw (← h .answer) (ap located.At (h .carries .number))
+answered v (refused u) image room bytes (decision.Write n size w) h = absurd (h .carries)
+answered v nothing image room bytes (decision.Write n size w) h = absurd (h .carries)
+answered v (filled k clip p) image room bytes (decision.Write n size w) h = absurd (h .carries)
+
+pub verdict-carried : (d : Decision) → verdictIn (carriedAnswer d) ≡ carriedVerdict d
+verdict-carried (decision.Refused c) = refl
+verdict-carried decision.Nothing = refl
+verdict-carried (decision.Write n size w) = refl

@@ -8,6 +8,7 @@ pub use table::check_place;
 pub use table::check_table;
 pub use table::write_table;
 pub use written::finish;
+pub use written::verdict_of;
 
 // What a change does to the image besides the table: `kept` bytes are copied from the file's old place to the new one, and `lost_size` bytes
 // from `lost` on are zeroed.
@@ -19,11 +20,12 @@ pub struct Writing {
     pub lost_size: usize,
 }
 
-// What an edit decides on before it writes: refused, nothing to write, or a change, whose table of that size stands in the working bytes.
+// What an edit decides on before it writes: refused, nothing to write, or a change of that entry, whose table of that size stands in the
+// working bytes.
 pub enum Decision {
     Refused(Refusal),
     Nothing,
-    Write(usize, Writing),
+    Write(u32, usize, Writing),
 }
 
 // The size of the new table, or why it cannot be written.

@@ -3,12 +3,13 @@ use crate::Decision;
 use crate::Writing;
 use header::Field;
 use refusal::Verdict;
+use tree::Located;
 ghost use mathlib.Core.Path.{_≡_};
 ghost use Prim.Native.Nat.{_+_, _-_, _<_};
 ghost use lib.ListN.{length, replicate};
 ghost use Rattle.endian.specs.Bytes.{put, span};
 ghost use Rattle.edits.specs.Change.{withTable};
-ghost use Rattle.commit.specs.Inner.Decision.{CopyFits, ZeroFits, TableFits, Fits, CanCarry, writtenWith, carriedVerdict, carriedImage};
+ghost use Rattle.commit.specs.Inner.Decision.{CopyFits, ZeroFits, TableFits, Fits, CanCarry, writtenWith, carriedAnswer, carriedImage, verdictIn};
 
 // a - b, or 0 where b is the larger.
 fn less(a: usize, b: usize) -> usize
@@ -64,16 +65,16 @@ fn write_change(image: &mut [u8], bytes: &[u8], size: usize, w: Writing)
     zero_lost(image, w.lost, w.lost_size);
 }
 
-fn carry_out(image: &mut [u8], bytes: &[u8], decision: Decision) -> Verdict
+fn carry_out(image: &mut [u8], bytes: &[u8], decision: Decision) -> Located
     requires { ⌜ CanCarry (now image) (length (now bytes)) decision ⌝ }
-    ensures { λ r. ⌜ (r ≡ carriedVerdict decision) × (now (image .exit) ≡ carriedImage decision (now (bytes .entry)) (now (image .entry))) ⌝ }
+    ensures { λ r. ⌜ (r ≡ carriedAnswer decision) × (now (image .exit) ≡ carriedImage decision (now (bytes .entry)) (now (image .entry))) ⌝ }
 {
     match decision {
-        Decision::Refused(cause) => Verdict::Refused(cause),
-        Decision::Nothing => Verdict::Passed,
-        Decision::Write(size, w) => {
+        Decision::Refused(cause) => Located::Refused(cause),
+        Decision::Nothing => Located::At(0),
+        Decision::Write(number, size, w) => {
             write_change(image, bytes, size, w);
-            Verdict::Passed
+            Located::At(number)
         }
     }
 }
@@ -86,13 +87,23 @@ fn zero_bytes(bytes: &mut [u8])
 }
 
 // Carries a decision out, and zeroes the working memory.
-pub fn finish(image: &mut [u8], words: &mut [u32], bytes: &mut [u8], decision: Decision) -> Verdict
+pub fn finish(image: &mut [u8], words: &mut [u32], bytes: &mut [u8], decision: Decision) -> Located
     requires { ⌜ CanCarry (now image) (length (now bytes)) decision ⌝ }
-    ensures { λ r. ⌜ (r ≡ carriedVerdict decision) × (now (image .exit) ≡ carriedImage decision (now (bytes .entry)) (now (image .entry))) ⌝ }
+    ensures { λ r. ⌜ (r ≡ carriedAnswer decision) × (now (image .exit) ≡ carriedImage decision (now (bytes .entry)) (now (image .entry))) ⌝ }
     ensures { λ _. ⌜ (now (words .exit) ≡ replicate (length (now (words .entry))) 0) × (now (bytes .exit) ≡ replicate (length (now (bytes .entry))) 0) ⌝ }
 {
-    let verdict = carry_out(image, bytes, decision);
+    let located = carry_out(image, bytes, decision);
     space::zero_words(words);
     zero_bytes(bytes);
-    verdict
+    located
+}
+
+// Whether an edit that gives an entry's number was accepted.
+pub fn verdict_of(located: Located) -> Verdict
+    ensures { λ r. ⌜ r ≡ verdictIn located ⌝ }
+{
+    match located {
+        Located::At(_) => Verdict::Passed,
+        Located::Refused(cause) => Verdict::Refused(cause),
+    }
 }

@@ -71,10 +71,7 @@ unfoldable pub totalsReply : List ℕ → TotalsAnswer → Reply
 totalsReply before (totaled.Found t) = accepts (t .«disc_end» ∷ t .used ∷ [])
 totalsReply before (totaled.Refused c) = refuses before c
 
--- a totals record: used bytes, the largest free region's size, accepted edits
-abbrev pub totalsIn : List ℕ → Totals
-totalsIn slots = record { used = getD slots 0 0; largest = getD slots 1 0; edits = getD slots 2 0 }
-
+-- used bytes, the largest free region's size, accepted edits
 abbrev pub totalsWords : Totals → List ℕ
 totalsWords t = t .used ∷ t .largest ∷ t .edits ∷ []
 

@@ -1,24 +1,14 @@
-// The edits. The totals record goes in and comes back in three slots: used bytes, the largest free region's size, accepted edits.
+// The edits. The totals record is lent in three slots: used bytes, the largest free region's size, accepted edits.
 ghost use mathlib.Core.Path.{_≡_};
 ghost use Rattle.edits.specs.Edits as edits;
 ghost use Rattle.edits.specs.Promise.{Edited, lent};
-ghost use Rattle.counter.specs.Replies.{reply, verdictNumber, locatedReply, done, numbered, totalsIn};
+ghost use Rattle.totals.specs.Totals.{totalsIn};
+ghost use Rattle.pipeline.specs.Inner.Decides.{editOf};
+ghost use Rattle.counter.specs.Replies.{reply, verdictNumber, locatedReply, done, numbered};
+use pipeline::Edit;
 use refusal::Verdict;
-use totals::Totals;
-use totals_after::Done;
-use totals_after::EntryDone;
+use totals::Record;
 use tree::Located;
-
-// The totals record that the slots hold.
-fn totals_in(record: &[u32; 3]) -> Totals
-    ensures { λ r. ⌜ r ≡ totalsIn (now («record» .entry)) ⌝ }
-{
-    Totals {
-        used: record[0],
-        largest: record[1],
-        edits: record[2],
-    }
-}
 
 fn number_of(verdict: Verdict) -> u32
     ensures { λ r. ⌜ r ≡ verdictNumber verdict ⌝ }
@@ -29,13 +19,18 @@ fn number_of(verdict: Verdict) -> u32
     }
 }
 
-// The record and the number of an edit that gives only that it is done.
-fn give_done(record: &mut [u32; 3], edited: Done) -> u32
-    ensures { λ r. ⌜ (r ≡ verdictNumber (edited .verdict)) × (totalsIn (now («record» .exit)) ≡ edited .totals) ⌝ }
+// An edit that gives only that it is done.
+fn give_done(
+    image: &mut [u8],
+    words: &mut [u32],
+    bytes: &mut [u8],
+    record: &mut Record,
+    edit: Edit,
+    text: &[u8],
+) -> u32
+    ensures { λ r. ⌜ Edited done (editOf edit (now (text .entry))) (lent (now (image .entry)) (now (words .entry)) (now (bytes .entry)) (totalsIn (now («record» .entry)))) (lent (now (image .exit)) (now (words .exit)) (now (bytes .exit)) (totalsIn (now («record» .exit)))) r ⌝ }
 {
-    let totals = edited.totals;
-    *record = [totals.used, totals.largest, totals.edits];
-    let verdict = edited.verdict;
+    let verdict = pipeline::done(image, words, bytes, record, edit, text);
     number_of(verdict)
 }
 
@@ -44,15 +39,20 @@ pub extern "C" fn counter_move_file(
     image: &mut [u8],
     words: &mut [u32],
     bytes: &mut [u8],
-    record: &mut [u32; 3],
+    record: &mut Record,
     number: u32,
     new_offset: u32,
 ) -> u32
     ensures { λ r. ⌜ Edited done (edits.moveFile number «new_offset») (lent (now (image .entry)) (now (words .entry)) (now (bytes .entry)) (totalsIn (now («record» .entry)))) (lent (now (image .exit)) (now (words .exit)) (now (bytes .exit)) (totalsIn (now («record» .exit)))) r ⌝ }
 {
-    let totals = totals_in(record);
-    let edited = edit::move_file(image, words, bytes, totals, number, new_offset);
-    give_done(record, edited)
+    give_done(
+        image,
+        words,
+        bytes,
+        record,
+        Edit::MoveFile(number, new_offset),
+        b"",
+    )
 }
 
 #[no_mangle]
@@ -60,15 +60,20 @@ pub extern "C" fn counter_resize_file(
     image: &mut [u8],
     words: &mut [u32],
     bytes: &mut [u8],
-    record: &mut [u32; 3],
+    record: &mut Record,
     number: u32,
     new_size: u32,
 ) -> u32
     ensures { λ r. ⌜ Edited done (edits.resizeFile number «new_size») (lent (now (image .entry)) (now (words .entry)) (now (bytes .entry)) (totalsIn (now («record» .entry)))) (lent (now (image .exit)) (now (words .exit)) (now (bytes .exit)) (totalsIn (now («record» .exit)))) r ⌝ }
 {
-    let totals = totals_in(record);
-    let edited = edit::resize_file(image, words, bytes, totals, number, new_size);
-    give_done(record, edited)
+    give_done(
+        image,
+        words,
+        bytes,
+        record,
+        Edit::ResizeFile(number, new_size),
+        b"",
+    )
 }
 
 #[no_mangle]
@@ -76,15 +81,14 @@ pub extern "C" fn counter_fill_file(
     image: &mut [u8],
     words: &mut [u32],
     bytes: &mut [u8],
-    record: &mut [u32; 3],
+    record: &mut Record,
     number: u32,
     clip: &[u8],
 ) -> u32
     ensures { λ r. ⌜ Edited done (edits.fillFile number (now (clip .entry))) (lent (now (image .entry)) (now (words .entry)) (now (bytes .entry)) (totalsIn (now («record» .entry)))) (lent (now (image .exit)) (now (words .exit)) (now (bytes .exit)) (totalsIn (now («record» .exit)))) r ⌝ }
 {
-    let totals = totals_in(record);
-    let edited = fill::fill_file(image, words, bytes, totals, number, clip);
-    give_done(record, edited)
+    let verdict = fill::fill_file(image, words, bytes, record, number, clip);
+    number_of(verdict)
 }
 
 #[no_mangle]
@@ -92,13 +96,11 @@ pub extern "C" fn counter_rewrite(
     image: &mut [u8],
     words: &mut [u32],
     bytes: &mut [u8],
-    record: &mut [u32; 3],
+    record: &mut Record,
 ) -> u32
     ensures { λ r. ⌜ Edited done edits.rewrite (lent (now (image .entry)) (now (words .entry)) (now (bytes .entry)) (totalsIn (now («record» .entry)))) (lent (now (image .exit)) (now (words .exit)) (now (bytes .exit)) (totalsIn (now («record» .exit)))) r ⌝ }
 {
-    let totals = totals_in(record);
-    let edited = edit::rewrite(image, words, bytes, totals);
-    give_done(record, edited)
+    give_done(image, words, bytes, record, Edit::Rewrite, b"")
 }
 
 // ---- the edits that add entries, each with the number of the entry that it gives
@@ -115,12 +117,18 @@ fn give_located(answer: &mut [u32; 1], located: Located) -> u32
     }
 }
 
-fn give_entry(record: &mut [u32; 3], answer: &mut [u32; 1], edited: EntryDone) -> u32
-    ensures { λ r. ⌜ (reply r (now (answer .exit)) ≡ locatedReply (now (answer .entry)) (edited .located)) × (totalsIn (now («record» .exit)) ≡ edited .totals) ⌝ }
+fn give_entry(
+    image: &mut [u8],
+    words: &mut [u32],
+    bytes: &mut [u8],
+    record: &mut Record,
+    edit: Edit,
+    text: &[u8],
+    answer: &mut [u32; 1],
+) -> u32
+    ensures { λ r. ⌜ Edited (numbered (now (answer .entry))) (editOf edit (now (text .entry))) (lent (now (image .entry)) (now (words .entry)) (now (bytes .entry)) (totalsIn (now («record» .entry)))) (lent (now (image .exit)) (now (words .exit)) (now (bytes .exit)) (totalsIn (now («record» .exit)))) (reply r (now (answer .exit))) ⌝ }
 {
-    let totals = edited.totals;
-    *record = [totals.used, totals.largest, totals.edits];
-    let located = edited.located;
+    let located = pipeline::run(image, words, bytes, record, edit, text);
     give_located(answer, located)
 }
 
@@ -129,16 +137,22 @@ pub extern "C" fn counter_insert_file(
     image: &mut [u8],
     words: &mut [u32],
     bytes: &mut [u8],
-    record: &mut [u32; 3],
+    record: &mut Record,
     parent: u32,
     name: &[u8],
     answer: &mut [u32; 1],
 ) -> u32
     ensures { λ r. ⌜ Edited (numbered (now (answer .entry))) (edits.insertFile parent (now (name .entry))) (lent (now (image .entry)) (now (words .entry)) (now (bytes .entry)) (totalsIn (now («record» .entry)))) (lent (now (image .exit)) (now (words .exit)) (now (bytes .exit)) (totalsIn (now («record» .exit)))) (reply r (now (answer .exit))) ⌝ }
 {
-    let totals = totals_in(record);
-    let edited = insert::insert_file(image, words, bytes, totals, parent, name);
-    give_entry(record, answer, edited)
+    give_entry(
+        image,
+        words,
+        bytes,
+        record,
+        Edit::InsertFile(parent),
+        name,
+        answer,
+    )
 }
 
 #[no_mangle]
@@ -146,16 +160,22 @@ pub extern "C" fn counter_insert_directory(
     image: &mut [u8],
     words: &mut [u32],
     bytes: &mut [u8],
-    record: &mut [u32; 3],
+    record: &mut Record,
     parent: u32,
     name: &[u8],
     answer: &mut [u32; 1],
 ) -> u32
     ensures { λ r. ⌜ Edited (numbered (now (answer .entry))) (edits.insertDirectory parent (now (name .entry))) (lent (now (image .entry)) (now (words .entry)) (now (bytes .entry)) (totalsIn (now («record» .entry)))) (lent (now (image .exit)) (now (words .exit)) (now (bytes .exit)) (totalsIn (now («record» .exit)))) (reply r (now (answer .exit))) ⌝ }
 {
-    let totals = totals_in(record);
-    let edited = insert::insert_directory(image, words, bytes, totals, parent, name);
-    give_entry(record, answer, edited)
+    give_entry(
+        image,
+        words,
+        bytes,
+        record,
+        Edit::InsertDirectory(parent),
+        name,
+        answer,
+    )
 }
 
 #[no_mangle]
@@ -163,14 +183,20 @@ pub extern "C" fn counter_make_directories(
     image: &mut [u8],
     words: &mut [u32],
     bytes: &mut [u8],
-    record: &mut [u32; 3],
+    record: &mut Record,
     start: u32,
     path: &[u8],
     answer: &mut [u32; 1],
 ) -> u32
     ensures { λ r. ⌜ Edited (numbered (now (answer .entry))) (edits.makeDirectories start (now (path .entry))) (lent (now (image .entry)) (now (words .entry)) (now (bytes .entry)) (totalsIn (now («record» .entry)))) (lent (now (image .exit)) (now (words .exit)) (now (bytes .exit)) (totalsIn (now («record» .exit)))) (reply r (now (answer .exit))) ⌝ }
 {
-    let totals = totals_in(record);
-    let edited = make_directories::make_directories(image, words, bytes, totals, start, path);
-    give_entry(record, answer, edited)
+    give_entry(
+        image,
+        words,
+        bytes,
+        record,
+        Edit::MakeDirectories(start),
+        path,
+        answer,
+    )
 }

@@ -69,7 +69,7 @@ module _ (image w bytes : List ℕ) (r : TableSize) where
 
   pub rewrite-decided : (size : ℕ) (after : List ℕ) → r ≡ sizedAs (tableVerdict (placing (nodesIn image) noPlace) image (length w) (length bytes)) (length (encode (nodesIn image))) → r ≡ table.Bytes size →
       OpenImage image (length w) → after ≡ put bytes 0 (encode (nodesIn image)) →
-      Decided (change 0 (tableOnly (nodesIn image))) image (length w) (length bytes) after (decision.Write size (record { old = noPlace; place = noPlace; kept = 0; lost = 0; «lost_size» = 0 }))
+      Decided (change 0 (tableOnly (nodesIn image))) image (length w) (length bytes) after (decision.Write 0 size (record { old = noPlace; place = noPlace; kept = 0; lost = 0; «lost_size» = 0 }))
   rewrite-decided size after q e known h =
       let n = new-table (nodesIn image) noPlace image (length w) (length bytes) size r known q e in
       write-decided image (length w) (length bytes) after 0 (nodesIn image) size (record { old = noPlace; place = noPlace; kept = 0; lost = 0; «lost_size» = 0 })
@@ -85,7 +85,7 @@ module _ (image w bytes : List ℕ) (r : TableSize) where
 
     pub place-decided : (size : ℕ) (l after : List ℕ) → r ≡ table.Bytes size → OpenImage image (length w) → IsFile (nodesIn image) k → InImage (length image) x → l ≡ put bytes 0 (encode (nodesIn image)) →
         after ≡ put l (12 * k + 4) (be32Bytes (x .place .offset) ++ be32Bytes (x .place .size)) →
-        Decided (change k (changeWith (setPlace k (x .place .offset) (x .place .size) (nodesIn image)) x)) image (length w) (length bytes) after (decision.Write size x)
+        Decided (change k (changeWith (setPlace k (x .place .offset) (x .place .size) (nodesIn image)) x)) image (length w) (length bytes) after (decision.Write k size x)
     place-decided size l after e known f inside h g =
         let n = new-table (nodesIn image) (x .place) image (length w) (length bytes) size r known judged e in
         let q = length-encode-setPlace (x .place .offset) (x .place .size) k (nodesIn image) in

@@ -47,7 +47,7 @@ pub fn rewrite(image: &[u8], words: &[u32], m: usize, bytes: &mut [u8]) -> Decis
                 lost: 0,
                 lost_size: 0,
             };
-            Decision::Write(size, w)
+            Decision::Write(0, size, w)
         }
     }
 }
@@ -71,7 +71,7 @@ fn set_place(
         TableSize::Bytes(size) => {
             commit::write_table(image, bytes);
             fst_patch::set_place(bytes, number as usize, place.offset, place.size);
-            Decision::Write(size, w)
+            Decision::Write(number, size, w)
         }
     }
 }

@@ -16,6 +16,7 @@ use Rattle.refusal.specs.declared.Verdict.{Verdict}
 use Rattle.refusal.specs.declared.Verdict.the-variants.{Passed, Refused}
 use Rattle.refusal.specs.Refusal.{first, isRefused}
 use Rattle.refusal.specs.Laws.Chains.{first-passed}
+use Rattle.tree.specs.declared.Located.{Located}
 use Rattle.tree.specs.Table.{none}
 use Rattle.space.specs.declared.DiscRegion.{DiscRegion}
 use Rattle.space.specs.Inner.Sort.{regionsIn}
@@ -36,18 +37,16 @@ use Rattle.edits.specs.Laws.Behind as behind
 use Rattle.edits.specs.Laws.Puts.{put-length}
 use Rattle.ledger.specs.Laws.Layout.{Lays}
 use Rattle.ledger.specs.Laws.TreeAfter.{arrives}
-use Rattle.commit.proofs.Decisions.{opened, unopened}
+use Rattle.commit.proofs.Decisions.{opened, unopened, verdict-carried}
 use Rattle.commit.specs.declared.Writing.{Writing}
 use Rattle.commit.specs.declared.Decision.{Decision}
 use Rattle.commit.specs.declared.Decision.the-variants as decision
-use Rattle.commit.specs.Inner.Decision.{Fits, carriedVerdict, carriedImage, CanCarry, Decided}
-use Rattle.totals_after.specs.declared.Accounted.{Accounted}
-use Rattle.totals_after.specs.Inner.Accounting.{accountOf}
+use Rattle.commit.specs.Inner.Decision.{Fits, carriedVerdict, carriedAnswer, verdictIn, carriedImage, CanCarry, Decided}
+use Rattle.totals_after.specs.Inner.Accounting.{Accounted, accounted, accountOf}
 use Rattle.totals_after.specs.Laws.AccountLaws as laws
 use Rattle.fill.specs.declared.Filling.{Filling}
 use Rattle.fill.specs.declared.Filling.the-variants as filling
-use Rattle.fill.specs.declared.AccountedFilling.{AccountedFilling}
-use Rattle.fill.specs.Inner.Filling.{fillingOf, Into, ClipInto, clippedImage, restOf, filledVerdict, filledImage, Clear, CanFill, FilledAs, accountedFilling, FilledFor}
+use Rattle.fill.specs.Inner.Filling.{fillingOf, Into, ClipInto, clippedImage, restOf, filledVerdict, filledImage, Clear, CanFill, FilledAs, AccountedFilling, accountedFilling, FilledFor}
 use Rattle.fill.proofs.Clips.{clip-first, offset-kept, size-kept}
 use Rattle.fill.proofs.Places.{clip-stays, clip-clear}
 
@@ -82,9 +81,9 @@ module _ (image : List ℕ) (words room : ℕ) (bytes clip : List ℕ) (known : 
         after =
             rw (← h .answer, s .1) (ap (λ (r : DiscRegion). put image (r .offset) clip) (sym here));
       }
-  by-decision (decision.Write size w) h =
-      let s = clip-clear image words known k f old here (length clip) room size bytes w (omega (arith, h .fits .table .held)) (h .carries) (sym (h .answer)) in
-      let i : carriedImage (decision.Write size w) bytes image ≡ planImage sized image = rw (← h .answer) at (h .after) in
+  by-decision (decision.Write number size w) h =
+      let s = clip-clear image words known k f old here (length clip) room number size bytes w (omega (arith, h .fits .table .held)) (h .carries) (sym (h .answer)) in
+      let i : carriedImage (decision.Write number size w) bytes image ≡ planImage sized image = rw (← h .answer) at (h .after) in
       record {
         fits = (h .fits, s .0);
         answer = h .answer;
@@ -141,11 +140,11 @@ module _ (image w bytes bytes′ clip : List ℕ) (t : Totals) (k : ℕ) (r : Fi
         let f = file-found (nodesIn image) k r old read found in
         behind-refused image (length w) (length bytes) bytes′ clip t (clipVerdict (nodesIn image) k (length clip)) _ NotEnoughSpace (rw (f .passed, h))
 
-    pub filled-by : (m n : ℕ) (d : Decision) (a : Accounted) (g : Filling) → IsOpen image w m → AllBytes image → AllBytes clip → length bytes′ ≡ length bytes → length clip ≤ 0xFFFFFFFF → n ≡ length clip →
-        Decided (planSized (freeOf image) (nodesIn image) k old n) image (length w) (length bytes) bytes′ d → a ≡ accountOf image (regionsIn w 1 (m - 1)) d t → g ≡ fillingOf (a .decision) (old .offset) → Fills (accountedFilling g (a .totals))
-    filled-by m n d a g o b given long short e decided is u =
+    pub filled-by : (m n : ℕ) (d d′ : Decision) (t′ : Totals) (g : Filling) → IsOpen image w m → AllBytes image → AllBytes clip → length bytes′ ≡ length bytes → length clip ≤ 0xFFFFFFFF → n ≡ length clip →
+        Decided (planSized (freeOf image) (nodesIn image) k old n) image (length w) (length bytes) bytes′ d → accounted d′ t′ ≡ accountOf image (regionsIn w 1 (m - 1)) d t → g ≡ fillingOf d′ (old .offset) → Fills (accountedFilling g t′)
+    filled-by m n d d′ t′ g o b given long short e decided is u =
         let f = file-found (nodesIn image) k r old read found in
-        rw u (account-filled image w m (length bytes) bytes′ clip t o b given long k (f .is) old (f .place) (f .passed) short d (rw e at decided) a is)
+        rw u (account-filled image w m (length bytes) bytes′ clip t o b given long k (f .is) old (f .place) (f .passed) short d (rw e at decided) (accounted d′ t′) is)
 
 -- opening, then the plan
 pub open-filled : (image w w′ : List ℕ) (r : Prepared) (m room : ℕ) (bytes clip : List ℕ) (t : Totals) (p : Plan) (a : AccountedFilling) → Prepares image (length w) w′ r → r ≡ prepared.Ready m → length w′ ≡ length w →
@@ -168,12 +167,12 @@ module _ (f : Filling) (at : ℕ) (e : f ≡ filling.Clip at) where
   pub alone-image : (image clip after : List ℕ) → after ≡ put image at clip → after ≡ clippedImage f clip image
   alone-image image clip after h = rw e h
 
-module _ (f : Filling) (size : ℕ) (w : Writing) (e : f ≡ filling.Write size w) where
+module _ (f : Filling) (number size : ℕ) (w : Writing) (e : f ≡ filling.Write number size w) where
   pub placed-into : (long n : ℕ) → ClipInto long n f → Into long (w .place .offset) n
   placed-into long n h = rw e at h
 
   -- all that was to be zeroed
-  pub placed-rest : (n : ℕ) → n ≡ w .«lost_size» → decision.Write size (record { old = w .old; place = w .place; kept = 0; lost = w .lost; «lost_size» = n }) ≡ restOf f
+  pub placed-rest : (n : ℕ) → n ≡ w .«lost_size» → decision.Write number size (record { old = w .old; place = w .place; kept = 0; lost = w .lost; «lost_size» = n }) ≡ restOf f
   placed-rest n q = rw (e, q)
 
   pub placed-image : (image clip after : List ℕ) → after ≡ put image (w .place .offset) clip → after ≡ clippedImage f clip image
@@ -184,10 +183,10 @@ module _ (f : Filling) (size : ℕ) (w : Writing) (e : f ≡ filling.Write size 
 clip-into : (image : List ℕ) (room n : ℕ) (f : Filling) → CanFill image room n f → ClipInto (length image) n f
 clip-into image room n (filling.Refused c) h = tt
 clip-into image room n (filling.Clip at) h = h
-clip-into image room n (filling.Write size w) h = h .1 .into
+clip-into image room n (filling.Write number size w) h = h .1 .into
 
-pub clip-fits : (p : Plan) (image : List ℕ) (words room : ℕ) (bytes clip : List ℕ) (t : Totals) (a : AccountedFilling) → FilledFor p image words room bytes clip t a → ClipInto (length image) (length clip) (a .filling)
-clip-fits p image words room bytes clip t a h = clip-into image room (length clip) (a .filling) (h .filled .fits)
+pub clip-fits : (p : Plan) (image : List ℕ) (words room : ℕ) (bytes clip : List ℕ) (t t′ : Totals) (f : Filling) → FilledFor p image words room bytes clip t (accountedFilling f t′) → ClipInto (length image) (length clip) f
+clip-fits p image words room bytes clip t t′ f h = clip-into image room (length clip) f (h .filled .fits)
 
 module _ (image : List ℕ) (room : ℕ) (bytes clip : List ℕ) (lent : length bytes ≡ room) where
   held : (size : ℕ) → size ≤ room → length (span bytes 0 size) ≡ size
@@ -196,7 +195,7 @@ module _ (image : List ℕ) (room : ℕ) (bytes clip : List ℕ) (lent : length 
   rest-carried : (f : Filling) → CanFill image room (length clip) f → CanCarry (clippedImage f clip image) room (restOf f)
   rest-carried (filling.Refused c) h = tt
   rest-carried (filling.Clip at) h = tt
-  rest-carried (filling.Write size w) h =
+  rest-carried (filling.Write number size w) h =
       let t : List ℕ = span bytes 0 size in
       let l : length t ≡ size = held size (h .0 .table .held) in
       let k : Clear image (length t) w (length clip) = rw l (h .1) in
@@ -210,7 +209,7 @@ module _ (image : List ℕ) (room : ℕ) (bytes clip : List ℕ) (lent : length 
   rest-image : (f : Filling) → CanFill image room (length clip) f → carriedImage (restOf f) bytes (clippedImage f clip image) ≡ filledImage f bytes clip image
   rest-image (filling.Refused c) h = refl
   rest-image (filling.Clip at) h = refl
-  rest-image (filling.Write size w) h =
+  rest-image (filling.Write number size w) h =
       let t : List ℕ = span bytes 0 size in
       let l : length t ≡ size = held size (h .0 .table .held) in
       clip-first image t clip room w (rw l (h .1)) (rw l (h .0))
@@ -218,32 +217,32 @@ module _ (image : List ℕ) (room : ℕ) (bytes clip : List ℕ) (lent : length 
 rest-answered : (f : Filling) → carriedVerdict (restOf f) ≡ filledVerdict f
 rest-answered (filling.Refused c) = refl
 rest-answered (filling.Clip at) = refl
-rest-answered (filling.Write size w) = refl
+rest-answered (filling.Write number size w) = refl
 
-module _ (k : ℕ) (image words bytes clip b : List ℕ) (t : Totals) (a : AccountedFilling)
-    (h : FilledFor (planned (opening image (length words)) (planOf (fillFile k clip) image)) image (length words) (length bytes) b clip t a) (kb : length b ≡ length bytes) where
-  module _ (image′ : List ℕ) (d : Decision) (rest : d ≡ restOf (a .filling)) (clipped : image′ ≡ clippedImage (a .filling) clip image) where
+module _ (k : ℕ) (image words bytes clip b : List ℕ) (t t′ : Totals) (f : Filling)
+    (h : FilledFor (planned (opening image (length words)) (planOf (fillFile k clip) image)) image (length words) (length bytes) b clip t (accountedFilling f t′)) (kb : length b ≡ length bytes) where
+  module _ (image′ : List ℕ) (d : Decision) (rest : d ≡ restOf f) (clipped : image′ ≡ clippedImage f clip image) where
     pub rest-fits : CanCarry image′ (length b) d
-    rest-fits = rw (rest, clipped, kb) (rest-carried image (length bytes) b clip kb (a .filling) (h .filled .fits))
+    rest-fits = rw (rest, clipped, kb) (rest-carried image (length bytes) b clip kb f (h .filled .fits))
 
     -- a fill is opening, its tests, and the two writings
-    whole : (v : Verdict) → FilledFor (planned v (planOf (fillFile k clip) image)) image (length words) (length bytes) b clip t a →
-        (filledVerdict (a .filling) ≡ first v (countedVerdict (planOf (fillFile k clip) image) t image (length words) (length bytes)))
-        × (filledImage (a .filling) b clip image ≡ cond (isRefused (first v (countedVerdict (planOf (fillFile k clip) image) t image (length words) (length bytes)))) image (planImage (planOf (fillFile k clip) image) image))
-        × (a .totals ≡ cond (isRefused (first v (countedVerdict (planOf (fillFile k clip) image) t image (length words) (length bytes)))) t (totalsTo t image (planImage (planOf (fillFile k clip) image) image)))
+    whole : (v : Verdict) → FilledFor (planned v (planOf (fillFile k clip) image)) image (length words) (length bytes) b clip t (accountedFilling f t′) →
+        (filledVerdict f ≡ first v (countedVerdict (planOf (fillFile k clip) image) t image (length words) (length bytes)))
+        × (filledImage f b clip image ≡ cond (isRefused (first v (countedVerdict (planOf (fillFile k clip) image) t image (length words) (length bytes)))) image (planImage (planOf (fillFile k clip) image) image))
+        × (t′ ≡ cond (isRefused (first v (countedVerdict (planOf (fillFile k clip) image) t image (length words) (length bytes)))) t (totalsTo t image (planImage (planOf (fillFile k clip) image) image)))
     whole Passed g = (g .filled .answer, g .filled .after, g .totals)
     whole (Refused c) g =
         let e : countedVerdict (refused (Refused c)) t image (length words) (length bytes) ≡ Refused c = unfold countedVerdict in refl in
         (g .filled .answer ∙ e, g .filled .after ∙ rw e, g .totals ∙ rw e)
 
-    pub fill-done : (image″ words′ bytes′ w : List ℕ) (r : Verdict) → length w ≡ length words → r ≡ carriedVerdict d → image″ ≡ carriedImage d b image′ → words′ ≡ replicate (length w) 0 → bytes′ ≡ replicate (length b) 0 →
-        Edited onlyVerdict (fillFile k clip) (lent image words bytes t) (lent image″ words′ bytes′ (a .totals)) r
+    pub fill-done : (image″ words′ bytes′ w : List ℕ) (l : Located) (r : Verdict) → length w ≡ length words → l ≡ carriedAnswer d → r ≡ verdictIn l → image″ ≡ carriedImage d b image′ → words′ ≡ replicate (length w) 0 → bytes′ ≡ replicate (length b) 0 →
+        Edited onlyVerdict (fillFile k clip) (lent image words bytes t) (lent image″ words′ bytes′ t′) r
     unfolding verdictOf imageAfter totalsAfter
-    fill-done image″ words′ bytes′ w r kw q i zw zb =
+    fill-done image″ words′ bytes′ w l r kw q z i zw zb =
         let g = whole (opening image (length words)) h in
         record {
-          answered = q ∙ ap carriedVerdict rest ∙ rest-answered (a .filling) ∙ g .0;
-          image = i ∙ (rw (rest, clipped) (rest-image image (length bytes) b clip kb (a .filling) (h .filled .fits) ∙ g .1));
+          answered = z ∙ ap verdictIn q ∙ verdict-carried d ∙ ap carriedVerdict rest ∙ rest-answered f ∙ g .0;
+          image = i ∙ (rw (rest, clipped) (rest-image image (length bytes) b clip kb f (h .filled .fits) ∙ g .1));
           totals = g .2;
           words = zw ∙ ap (λ (n : ℕ). replicate n 0) kw;
           bytes = zb ∙ ap (λ (n : ℕ). replicate n 0) kb;

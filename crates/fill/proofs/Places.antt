@@ -157,8 +157,8 @@ module _ (image : List ℕ) (words : ℕ) (known : OpenImage image words) (k : �
       sized (λ (x : Plan). Carries decision.Nothing bytes x → (0 < n → old .offset + n ≤ length image) × (x ≡ nothing)) (λ e h. (λ z. omega (arith, old-lies (omega arith) .1), refl)) (λ c h. absurd h) (λ c l g h. absurd h)
 
   -- and a change that passes its tests can be written behind the clip
-  pub clip-clear : (room size : ℕ) (bytes : List ℕ) (w : Writing) → size ≤ length bytes → Carries (decision.Write size w) bytes p → planVerdict p image words room ≡ Passed →
+  pub clip-clear : (room number size : ℕ) (bytes : List ℕ) (w : Writing) → size ≤ length bytes → Carries (decision.Write number size w) bytes p → planVerdict p image words room ≡ Passed →
       Clear image size w n × (regionOf (getD (planTree p (nodesIn image)) k none) .offset ≡ w .place .offset)
-  clip-clear room size bytes w held =
-      sized (λ (x : Plan). Carries (decision.Write size w) bytes x → planVerdict x image words room ≡ Passed → Clear image size w n × (regionOf (getD (planTree x (nodesIn image)) k none) .offset ≡ w .place .offset))
-      (λ e h. absurd h) (λ c h. absurd h) (λ c l g h v. (clear image c n words room size bytes w l v (h .0) held (h .1), g ∙ ap (λ (x : Change). x .place .offset) (h .1)))
+  clip-clear room number size bytes w held =
+      sized (λ (x : Plan). Carries (decision.Write number size w) bytes x → planVerdict x image words room ≡ Passed → Clear image size w n × (regionOf (getD (planTree x (nodesIn image)) k none) .offset ≡ w .place .offset))
+      (λ e h. absurd h) (λ c h. absurd h) (λ c l g h v. (clear image c n words room size bytes w l v (h .table) held (h .change), g ∙ ap (λ (x : Change). x .place .offset) (h .change)))

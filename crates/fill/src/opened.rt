@@ -1,16 +1,16 @@
 // What a fill decides on an open image, whose used regions stand in the working words.
-use crate::AccountedFilling;
 use crate::Filling;
 use commit::Decision;
 use decide::FileAt;
 use refusal::Refusal;
-use totals::Totals;
+use totals::Record;
 ghost use mathlib.Core.Path.{_≡_};
 ghost use lib.ListN.{length};
 ghost use Rattle.opening.specs.Opening.{nodesIn, freeOf};
 ghost use Rattle.opening.specs.Inner.Prepared.{IsOpen};
+ghost use Rattle.totals.specs.Totals.{totalsIn};
 ghost use Rattle.edits.specs.Edits.{planFill};
-ghost use Rattle.fill.specs.Inner.Filling.{fillingOf, FilledFor};
+ghost use Rattle.fill.specs.Inner.Filling.{fillingOf, accountedFilling, FilledFor};
 
 // A resize's decision with the clip: a file of the clip's size stays at `at`, and only the clip is written.
 fn with_clip(decision: Decision, at: u32) -> Filling
@@ -19,7 +19,7 @@ fn with_clip(decision: Decision, at: u32) -> Filling
     match decision {
         Decision::Refused(cause) => Filling::Refused(cause),
         Decision::Nothing => Filling::Clip(at),
-        Decision::Write(size, w) => Filling::Write(size, w),
+        Decision::Write(number, size, w) => Filling::Write(number, size, w),
     }
 }
 
@@ -29,33 +29,24 @@ pub fn fill(
     words: &[u32],
     m: usize,
     bytes: &mut [u8],
-    totals: Totals,
+    record: &mut Record,
     number: u32,
     clip: &[u8],
-) -> AccountedFilling
+) -> Filling
     requires { ⌜ IsOpen (now image) (now words) m ⌝ }
-    ensures { λ r. ⌜ FilledFor (planFill (freeOf (now (image .entry))) (nodesIn (now (image .entry))) number (now (clip .entry))) (now (image .entry)) (length (now (words .entry))) (length (now (bytes .entry))) (now (bytes .exit)) (now (clip .entry)) totals r ⌝ }
+    ensures { λ r. ⌜ FilledFor (planFill (freeOf (now (image .entry))) (nodesIn (now (image .entry))) number (now (clip .entry))) (now (image .entry)) (length (now (words .entry))) (length (now (bytes .entry))) (now (bytes .exit)) (now (clip .entry)) (totalsIn (now («record» .entry))) (accountedFilling r (totalsIn (now («record» .exit)))) ⌝ }
 {
     let found = decide::file_at(image, number);
     match found {
-        FileAt::Refused(cause) => AccountedFilling {
-            filling: Filling::Refused(cause),
-            totals,
-        },
+        FileAt::Refused(cause) => Filling::Refused(cause),
         FileAt::Place(old) => {
             if 0xFFFFFFFF < clip.len() {
-                return AccountedFilling {
-                    filling: Filling::Refused(Refusal::NotEnoughSpace),
-                    totals,
-                };
+                return Filling::Refused(Refusal::NotEnoughSpace);
             }
             let new_size = clip.len() as u32;
             let decision = decide::resize(image, words, m, bytes, number, old, new_size);
-            let accounted = totals_after::account(image, words, m, decision, totals);
-            let decision = accounted.decision;
-            let totals = accounted.totals;
-            let filling = with_clip(decision, old.offset);
-            AccountedFilling { filling, totals }
+            let decision = totals_after::account(image, words, m, decision, record);
+            with_clip(decision, old.offset)
         }
     }
 }

@@ -31,7 +31,7 @@ pub fn write_clip(image: &mut [u8], clip: &[u8], filling: Filling) -> Decision
             put_clip(image, at as usize, clip);
             Decision::Nothing
         }
-        Filling::Write(size, w) => {
+        Filling::Write(number, size, w) => {
             let old = w.old;
             let place = w.place;
             let at = place.offset as usize;
@@ -43,7 +43,7 @@ pub fn write_clip(image: &mut [u8], clip: &[u8], filling: Filling) -> Decision
                 lost: w.lost,
                 lost_size: w.lost_size,
             };
-            Decision::Write(size, rest)
+            Decision::Write(number, size, rest)
         }
     }
 }

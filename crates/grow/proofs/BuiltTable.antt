@@ -86,7 +86,7 @@ module _ (image w s t : List ℕ) (m : ℕ) (r : TableSize) (opened : IsOpen ima
         same-decided (added (treeIn t n) is p nm) (added (nodesIn image) is p nm) (length w) (length t) (length s) image after d (ap (λ (x : List Node). added x is p nm) (stands .1)) l h
 
   pub unstarted-decided : (is : Bool) (p : ℕ) (nm after : List ℕ) (c : Refusal) → IsDirectory (nodesIn image) p → GoodName nm → r ≡ table.Refused c →
-      Decided (change 0 (tableOnly (added (nodesIn image) is p nm))) image (length w) (length s) after (tableDecision (table.Refused c))
+      Decided (change 0 (tableOnly (added (nodesIn image) is p nm))) image (length w) (length s) after (tableDecision 0 (table.Refused c))
   unstarted-decided is p nm after c dir good e =
       unbuilt-decided (nodesIn image) (added (nodesIn image) is p nm) (length w) 0 s t r c image after (bigger-added (nodesIn image) is p nm (well-open image (length w) known) dir good) built e
 
@@ -134,7 +134,7 @@ module _ (s : List ℕ) (size words : ℕ) (is : Bool) (p : ℕ) (nm : List ℕ)
       grown-decided image after d l h = same-decided (treeIn t n) (added (treeIn s size) is p nm) words (length t) (length s) image after d (grown .1) l h
 
     pub ungrown-decided : (image after : List ℕ) (c : Refusal) → r ≡ table.Refused c →
-        Decided (change 0 (tableOnly (added (treeIn s size) is p nm))) image words (length s) after (tableDecision (table.Refused c))
+        Decided (change 0 (tableOnly (added (treeIn s size) is p nm))) image words (length s) after (tableDecision 0 (table.Refused c))
     ungrown-decided image after c e =
         unbuilt-decided (added (treeIn s size) is p nm) (added (treeIn s size) is p nm) words 0 s t r c image after
         (bigger-same (added (treeIn s size) is p nm) (bigger-added (treeIn s size) is p nm (st .well) dir good .well)) built e

@@ -172,11 +172,11 @@ module _ (s : List ℕ) (size words : ℕ) (st : Stands s size words) (image : L
       table-tests (treeIn s size) noPlace image words (length s)
       ∙ rw (st .within, ← (size-is s size words st))
 
-  pub place-refused : (c : Refusal) (v : Verdict) → v ≡ placeVerdict image (length s) size noPlace → v ≡ Refused c → Decided (change 0 (tableOnly (treeIn s size))) image words (length s) s (tableDecision (table.Refused c))
+  pub place-refused : (c : Refusal) (v : Verdict) → v ≡ placeVerdict image (length s) size noPlace → v ≡ Refused c → Decided (change 0 (tableOnly (treeIn s size))) image words (length s) s (tableDecision 0 (table.Refused c))
   place-refused c v e f = refused-decided image words (length s) s (change 0 (tableOnly (treeIn s size))) c (place-only ∙ sym e ∙ f)
 
   pub place-passed : (v : Verdict) → OpenImage image words → v ≡ placeVerdict image (length s) size noPlace → v ≡ Passed →
-      Decided (change 0 (tableOnly (treeIn s size))) image words (length s) s (tableDecision (table.Bytes size))
+      Decided (change 0 (tableOnly (treeIn s size))) image words (length s) s (tableDecision 0 (table.Bytes size))
   place-passed v known e f =
       write-decided image words (length s) s 0 (treeIn s size) size noWriting
       (record {

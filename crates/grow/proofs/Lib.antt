@@ -1,6 +1,5 @@
 -- What the proofs of the functions cite.
 pub mod BuiltTable
-pub mod Finished
 pub mod GrowthLaws
 pub mod Limits
 pub mod NameLaws

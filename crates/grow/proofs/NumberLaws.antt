@@ -16,14 +16,12 @@ use Rattle.opening.specs.Laws.OpeningLaws.{OpenImage}
 use Rattle.commit.specs.declared.Decision.{Decision}
 use Rattle.commit.specs.declared.TableSize.{TableSize}
 use Rattle.commit.specs.declared.TableSize.the-variants as table
-use Rattle.edits.specs.Change.{Change, Plan, change}
-use Rattle.edits.specs.Edits.{tableOnly, planned, planVerdict, numberedAs}
+use Rattle.edits.specs.Change.{Change, change}
+use Rattle.edits.specs.Edits.{tableOnly, numberedAs}
 use Rattle.commit.specs.Inner.Decision.{Decided}
 use Rattle.commit.proofs.Decisions.{refused-decided}
-use Rattle.grow.specs.declared.Grown.{Grown}
-use Rattle.grow.specs.declared.Grown.the-variants as grown
 use Rattle.grow.specs.Inner.Growth.{treeIn, Stands, Built}
-use Rattle.grow.specs.Inner.Grown.{tableDecision, grownAs, Numbered}
+use Rattle.grow.specs.Inner.Grown.{tableDecision}
 use Rattle.grow.proofs.StandingTable.{built-stands, unbuilt}
 
 no-path : _≡_ {A = ℕ} 0 1 → ⊥
@@ -41,7 +39,7 @@ pub built-is : (F : List Node) (words : ℕ) (s t : List ℕ) (r : TableSize) (n
 built-is F words s t r n w b e = built-stands F words s t n w (rw e at b)
 
 pub unbuilt-decided : (M F : List Node) (words k : ℕ) (s t : List ℕ) (r : TableSize) (c : Refusal) (image after : List ℕ) → Bigger M F → Built M words s t r → r ≡ table.Refused c →
-    Decided (change k (tableOnly F)) image words (length s) after (tableDecision (table.Refused c))
+    Decided (change k (tableOnly F)) image words (length s) after (tableDecision 0 (table.Refused c))
 unbuilt-decided M F words k s t r c image after g b e =
     let q : Built M words s t (table.Refused c) = rw e at b in
     refused-decided image words (length s) after (change k (tableOnly F)) c (unbuilt M F words (length s) k image g (q .1) ∙ ap Refused (sym (q .0)))
@@ -60,21 +58,7 @@ number-at Passed n k e = (refl, cc)
 number-at (Refused d) n k e = absurd (no-path cc)
 
 module _ (image : List ℕ) (words room : ℕ) (bytes : List ℕ) where
-  pub refused-numbered : (p : Plan) (c : Refusal) → planVerdict p image words room ≡ Refused c → Numbered p image words room bytes (grown.Refused c)
-  refused-numbered p c e = record { decided = refused-decided image words room bytes p c e; numbered = λ h. absurd (no-path cc) }
-
   -- a change, with the number that was found for it
-  pub change-numbered : (k n : ℕ) (c : Change) (r : TableSize) → n ≡ k → Decided (change 0 c) image words room bytes (tableDecision r) → Numbered (change k c) image words room bytes (grownAs r n)
-  change-numbered k n c (table.Bytes size) e d = record { decided = record { fits = d .fits; carries = d .carries; answer = d .answer; after = d .after }; numbered = λ h. e }
-  change-numbered k n c (table.Refused cause) e d = record {
-    decided = record { fits = d .fits; carries = d .carries; answer = d .answer; after = d .after };
-    numbered = λ h. let z : Refused cause ≡ Passed = d .answer ∙ h in absurd (no-path cc);
-  }
-
-  pub behind-numbered : (v : Verdict) (p : Plan) (g : Grown) → v ≡ Passed → Numbered p image words room bytes g → Numbered (planned v p) image words room bytes g
-  behind-numbered Passed p g e h = h
-  behind-numbered (Refused c) p g e h = absurd (no-path cc)
-
-  pub behind-refused-numbered : (v : Verdict) (p : Plan) (c : Refusal) → v ≡ Refused c → Numbered (planned v p) image words room bytes (grown.Refused c)
-  behind-refused-numbered Passed p c e = absurd (no-path cc)
-  behind-refused-numbered (Refused d) p c e = refused-numbered (planned (Refused d) p) c e
+  pub change-numbered : (k n : ℕ) (c : Change) (r : TableSize) → n ≡ k → Decided (change 0 c) image words room bytes (tableDecision 0 r) → Decided (change k c) image words room bytes (tableDecision n r)
+  change-numbered k n c (table.Bytes size) e d = record { fits = d .fits; carries = record { number = e; table = d .carries .table; change = d .carries .change }; answer = d .answer; after = d .after }
+  change-numbered k n c (table.Refused cause) e d = record { fits = d .fits; carries = d .carries; answer = d .answer; after = d .after }

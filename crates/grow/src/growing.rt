@@ -129,7 +129,7 @@ pub fn grow(
 // The new table stands in the bytes: its size and its place in the image are judged.
 pub fn place_table(image: &[u8], words: &[u32], m: usize, bytes: &[u8], size: usize) -> TableSize
     requires { ⌜ IsOpen (now image) (now words) m × Stands (now bytes) size (length (now words)) ⌝ }
-    ensures { λ r. ⌜ Decided (change 0 (tableOnly (treeIn (now (bytes .entry)) size))) (now (image .entry)) (length (now (words .entry))) (length (now (bytes .entry))) (now (bytes .entry)) (tableDecision r) ⌝ }
+    ensures { λ r. ⌜ Decided (change 0 (tableOnly (treeIn (now (bytes .entry)) size))) (now (image .entry)) (length (now (words .entry))) (length (now (bytes .entry))) (now (bytes .entry)) (tableDecision 0 r) ⌝ }
 {
     let place = DiscRegion { offset: 0, size: 0 };
     let verdict = commit::check_place(image, words, m, bytes.len(), size, place);

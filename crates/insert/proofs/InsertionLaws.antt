@@ -22,10 +22,11 @@ use Rattle.tree.specs.declared.Located.{Located}
 use Rattle.tree.specs.declared.Located.the-variants as located
 use Rattle.commit.specs.declared.TableSize.{TableSize}
 use Rattle.commit.specs.Inner.Decision.{Decided}
-use Rattle.grow.specs.declared.Grown.{Grown}
-use Rattle.grow.specs.declared.Grown.the-variants as grown
-use Rattle.grow.specs.Inner.Grown.{tableDecision, grownAs, Numbered}
-use Rattle.grow.proofs.NumberLaws.{number-refused, number-at, change-numbered, behind-numbered, behind-refused-numbered}
+use Rattle.commit.specs.declared.Decision.{Decision}
+use Rattle.commit.specs.declared.Decision.the-variants as decision
+use Rattle.commit.proofs.Decisions.{behind-passed, behind-refused}
+use Rattle.grow.specs.Inner.Grown.{tableDecision}
+use Rattle.grow.proofs.NumberLaws.{number-refused, number-at, change-numbered}
 use Rattle.insert.specs.Inner.Insertion.{insertion}
 
 pub plan-insert : (d : Bool) (p : ℕ) (nm image : List ℕ) →
@@ -60,16 +61,16 @@ module _ (image : List ℕ) (p : ℕ) (nm : List ℕ) (r : Located) (numbered : 
   under-name k e = insert-allows (nodesIn image) p nm (found-at k e .0) .1
 
   module _ (d : Bool) (words room : ℕ) (bytes : List ℕ) where
-    pub insert-refused : (c : Refusal) → r ≡ located.Refused c → Numbered (planOf (insertion d p nm) image) image words room bytes (grown.Refused c)
+    pub insert-refused : (c : Refusal) → r ≡ located.Refused c → Decided (planOf (insertion d p nm) image) image words room bytes (decision.Refused c)
     insert-refused c e =
         rw (plan-insert d p nm image)
-        (behind-refused-numbered image words room bytes (insertVerdict (nodesIn image) p nm) (change (newNumber (nodesIn image) p) (tableOnly (added (nodesIn image) d p nm))) c
+        (behind-refused image words room bytes (insertVerdict (nodesIn image) p nm) (change (newNumber (nodesIn image) p) (tableOnly (added (nodesIn image) d p nm))) c
         (number-refused (insertVerdict (nodesIn image) p nm) (newNumber (nodesIn image) p) c (sym numbered ∙ e)))
 
-    pub insert-numbered : (k : ℕ) (b : TableSize) (g : Grown) → r ≡ located.At k → Decided (change 0 (tableOnly (added (nodesIn image) d p nm))) image words room bytes (tableDecision b) → g ≡ grownAs b k →
-        Numbered (planOf (insertion d p nm) image) image words room bytes g
+    pub insert-numbered : (k : ℕ) (b : TableSize) (g : Decision) → r ≡ located.At k → Decided (change 0 (tableOnly (added (nodesIn image) d p nm))) image words room bytes (tableDecision 0 b) → g ≡ tableDecision k b →
+        Decided (planOf (insertion d p nm) image) image words room bytes g
     insert-numbered k b g e h f =
         let a = found-at k e in
         rw (plan-insert d p nm image, f)
-        (behind-numbered image words room bytes (insertVerdict (nodesIn image) p nm) (change (newNumber (nodesIn image) p) (tableOnly (added (nodesIn image) d p nm))) (grownAs b k) (a .0)
+        (behind-passed image words room bytes (insertVerdict (nodesIn image) p nm) (change (newNumber (nodesIn image) p) (tableOnly (added (nodesIn image) d p nm))) (tableDecision k b) (a .0)
         (change-numbered image words room bytes (newNumber (nodesIn image) p) k (tableOnly (added (nodesIn image) d p nm)) b (sym (a .1)) h))

@@ -1,4 +1,3 @@
 -- What the proofs of the functions cite.
-pub mod Accounts
 pub mod InsertionLaws
 pub mod Tests

@@ -1,6 +1,6 @@
 // What an insert decides on an open image, whose used regions stand in the working words.
+use commit::Decision;
 use commit::TableSize;
-use grow::Grown;
 use refusal::Refusal;
 use refusal::Verdict;
 use tree::Located;
@@ -18,7 +18,7 @@ ghost use Rattle.opening.specs.Inner.Prepared.{OpensImage, IsOpen};
 ghost use Rattle.commit.specs.Inner.Decision.{Decided};
 ghost use Rattle.grow.specs.Inner.Growth.{treeIn, Stands, IsDirectory, added};
 ghost use Rattle.insert.specs.Inner.Insertion.{insertion};
-ghost use Rattle.grow.specs.Inner.Grown.{tableDecision, Numbered};
+ghost use Rattle.grow.specs.Inner.Grown.{tableDecision};
 
 // The tests of the new name among the entries of p: 17, 19, 12.
 fn check_child(table: &[u8], p: usize, name: &[u8]) -> Verdict
@@ -85,7 +85,7 @@ fn add_entry(
     name: &[u8],
 ) -> TableSize
     requires { ⌜ IsOpen (now image) (now words) m × Stands (now bytes) size (length (now words)) × IsDirectory (treeIn (now bytes) size) p × GoodName (now name) ⌝ }
-    ensures { λ r. ⌜ Decided (change 0 (tableOnly (added (treeIn (now (bytes .entry)) size) «is_directory» p (now (name .entry))))) (now (image .entry)) (length (now (words .entry))) (length (now (bytes .entry))) (now (bytes .exit)) (tableDecision r) ⌝ }
+    ensures { λ r. ⌜ Decided (change 0 (tableOnly (added (treeIn (now (bytes .entry)) size) «is_directory» p (now (name .entry))))) (now (image .entry)) (length (now (words .entry))) (length (now (bytes .entry))) (now (bytes .exit)) (tableDecision 0 r) ⌝ }
 {
     let grown = grow::grow(bytes, size, words.len(), p, is_directory, name);
     match grown {
@@ -105,7 +105,7 @@ fn build(
     name: &[u8],
 ) -> TableSize
     requires { ⌜ IsOpen (now image) (now words) m × IsDirectory (nodesIn (now image)) p × GoodName (now name) ⌝ }
-    ensures { λ r. ⌜ Decided (change 0 (tableOnly (added (nodesIn (now (image .entry))) «is_directory» p (now (name .entry))))) (now (image .entry)) (length (now (words .entry))) (length (now (bytes .entry))) (now (bytes .exit)) (tableDecision r) ⌝ }
+    ensures { λ r. ⌜ Decided (change 0 (tableOnly (added (nodesIn (now (image .entry))) «is_directory» p (now (name .entry))))) (now (image .entry)) (length (now (words .entry))) (length (now (bytes .entry))) (now (bytes .exit)) (tableDecision 0 r) ⌝ }
 {
     let started = grow::start_table(image, words, m, bytes);
     match started {
@@ -122,13 +122,13 @@ pub fn insert(
     parent: u32,
     is_directory: bool,
     name: &[u8],
-) -> Grown
+) -> Decision
     requires { ⌜ IsOpen (now image) (now words) m ⌝ }
-    ensures { λ r. ⌜ Numbered (planOf (insertion «is_directory» parent (now (name .entry))) (now (image .entry))) (now (image .entry)) (length (now (words .entry))) (length (now (bytes .entry))) (now (bytes .exit)) r ⌝ }
+    ensures { λ r. ⌜ Decided (planOf (insertion «is_directory» parent (now (name .entry))) (now (image .entry))) (now (image .entry)) (length (now (words .entry))) (length (now (bytes .entry))) (now (bytes .exit)) r ⌝ }
 {
     let found = number_in(image, parent, name);
     match found {
-        Located::Refused(cause) => Grown::Refused(cause),
+        Located::Refused(cause) => Decision::Refused(cause),
         Located::At(number) => {
             let built = build(image, words, m, bytes, parent as usize, is_directory, name);
             grow::numbered(built, number)

@@ -1,5 +1,4 @@
 -- What the proofs of the functions cite.
-pub mod Accounts
 pub mod Outcomes
 pub mod Plans
 pub mod Steps

@@ -32,10 +32,10 @@ use Rattle.commit.specs.Inner.Decision.{Decided}
 use Rattle.edits.specs.Change.{Plan, change}
 use Rattle.edits.specs.Edits.{make, tableOnly, planMakeDirectories}
 use Rattle.edits.specs.Inner.Troubles.{madeVerdict, troubleOf}
-use Rattle.grow.specs.declared.Grown.{Grown}
-use Rattle.grow.specs.declared.Grown.the-variants as grown
+use Rattle.commit.specs.declared.Decision.{Decision}
+use Rattle.commit.specs.declared.Decision.the-variants as decision
 use Rattle.grow.specs.Inner.Growth.{treeIn, Stands, Built}
-use Rattle.grow.specs.Inner.Grown.{tableDecision, grownAs, Numbered}
+use Rattle.grow.specs.Inner.Grown.{tableDecision}
 use Rattle.grow.proofs.NumberLaws.{well-open}
 use Rattle.make_walk.specs.Inner.Walk.{pathVerdict}
 use Rattle.make_directories.specs.declared.making.Reached.{Reached}
@@ -64,7 +64,7 @@ path-judged image from to start path r e f w h q =
     ∙ path-short (nodesIn image) start path w h
 
 module _ (nodes : List Node) (start : ℕ) (path : List ℕ) (v : Verdict) (judged : v ≡ pathVerdict nodes start path) where
-  pub path-stops : (image : List ℕ) (words room : ℕ) (bytes : List ℕ) (c : Refusal) → v ≡ Refused c → Numbered (planMakeDirectories nodes start path) image words room bytes (grown.Refused c)
+  pub path-stops : (image : List ℕ) (words room : ℕ) (bytes : List ℕ) (c : Refusal) → v ≡ Refused c → Decided (planMakeDirectories nodes start path) image words room bytes (decision.Refused c)
   path-stops image words room bytes c e = path-refused nodes start path image words room bytes c (sym judged ∙ e)
 
   pub path-passes : v ≡ Passed → pathVerdict nodes start path ≡ Passed
@@ -73,12 +73,12 @@ module _ (nodes : List Node) (start : ℕ) (path : List ℕ) (v : Verdict) (judg
 -- ---- the tree of the image could not be written anew
 
 pub unstarted : (image w s t after : List ℕ) (m start : ℕ) (path : List ℕ) (v : Verdict) (r : TableSize) (c : Refusal) → v ≡ pathVerdict (nodesIn image) start path → v ≡ Passed → IsOpen image w m → OpenImage image (length w) →
-    Built (nodesIn image) (length w) s t r → r ≡ table.Refused c → Numbered (planMakeDirectories (nodesIn image) start path) image (length w) (length s) after (grown.Refused c)
+    Built (nodesIn image) (length w) s t r → r ≡ table.Refused c → Decided (planMakeDirectories (nodesIn image) start path) image (length w) (length s) after (decision.Refused c)
 unstarted image w s t after m start path v r c judged passed o known b e =
     start-refused (nodesIn image) start path (sym judged ∙ passed) (well-open image (length w) known) image (length w) (length s) s t after r c refl b e
 
 -- as many bytes as before
-pub same-room : (p : Plan) (image : List ℕ) (words : ℕ) (s t after : List ℕ) (g : Grown) → length t ≡ length s → Numbered p image words (length t) after g → Numbered p image words (length s) after g
+pub same-room : (p : Plan) (image : List ℕ) (words : ℕ) (s t after : List ℕ) (g : Decision) → length t ≡ length s → Decided p image words (length t) after g → Decided p image words (length s) after g
 same-room p image words s t after g e h = rw e at h
 
 -- ---- the walk made the directories, or there was no room
@@ -91,15 +91,15 @@ module _ (image s : List ℕ) (size start : ℕ) (path : List ℕ) (same : treeI
   makes-in-tree = rw same (makes-all (nodesIn image) start path passed)
 
   module _ (words room : ℕ) (after : List ℕ) (r : Reached) (w : WellFormed (nodesIn image)) (h : Reaches (make (treeIn s size) [] start false (components path)) words room after r) where
-    pub walk-refused : (bytes : List ℕ) (c : Refusal) → r ≡ reached.Refused c → Numbered (planMakeDirectories (nodesIn image) start path) image words room bytes (grown.Refused c)
+    pub walk-refused : (bytes : List ℕ) (c : Refusal) → r ≡ reached.Refused c → Decided (planMakeDirectories (nodesIn image) start path) image words room bytes (decision.Refused c)
     walk-refused bytes c e = made-refused (nodesIn image) start path passed w image words room (treeIn s size) same after r h bytes c e
 
     module _ (k n : ℕ) (e : r ≡ reached.At k n) where
       pub reached-fits : Fits w32 k
       reached-fits = record { fits = made-small (nodesIn image) start path passed w image words room (treeIn s size) same after r h k n e }
 
-      pub walk-placed : (x : TableSize) (g : Grown) → length after ≡ room → Decided (change 0 (tableOnly (treeIn after n))) image words (length after) after (tableDecision x) → g ≡ grownAs x k →
-          Numbered (planMakeDirectories (nodesIn image) start path) image words room after g
+      pub walk-placed : (x : TableSize) (g : Decision) → length after ≡ room → Decided (change 0 (tableOnly (treeIn after n))) image words (length after) after (tableDecision 0 x) → g ≡ tableDecision k x →
+          Decided (planMakeDirectories (nodesIn image) start path) image words room after g
       walk-placed x g l d q = rw q (made-placed (nodesIn image) start path passed w image words room (treeIn s size) same after r h k n (length after) x e l d)
 
 pub reached-stands : (nodes : List Node) (start : ℕ) (path : List ℕ) (words room : ℕ) (after : List ℕ) (r : Reached) (k n : ℕ) → Reaches (make nodes [] start false (components path)) words room after r → r ≡ reached.At k n →

@@ -27,11 +27,12 @@ use Rattle.edits.specs.Inner.Troubles.{madeVerdict, troubleOf}
 use Rattle.edits.specs.Laws.Troubles.{make-trouble}
 use Rattle.edits.specs.Laws.MadeTree.{make-grows}
 use Rattle.commit.specs.Inner.Decision.{Decided}
-use Rattle.grow.specs.declared.Grown.the-variants as grown
+use Rattle.commit.specs.declared.Decision.the-variants as decision
 use Rattle.grow.specs.Inner.Growth.{treeIn, Built}
-use Rattle.grow.specs.Inner.Grown.{tableDecision, grownAs, Numbered}
+use Rattle.grow.specs.Inner.Grown.{tableDecision}
 use Rattle.grow.proofs.StandingTable.{unbuilt}
-use Rattle.grow.proofs.NumberLaws.{refused-numbered, change-numbered, same-decided}
+use Rattle.commit.proofs.Decisions.{refused-decided}
+use Rattle.grow.proofs.NumberLaws.{change-numbered, same-decided}
 use Rattle.make_directories.specs.declared.making.Reached.{Reached}
 use Rattle.make_directories.specs.declared.making.Reached.the-variants as reached
 use Rattle.make_walk.specs.Inner.Walk.{pathVerdict}
@@ -60,9 +61,9 @@ module _ (nodes : List Node) (start : ℕ) (path : List ℕ) where
       go true e = refl
       go false e = sym (make-trouble nodes start (components path) (well-nested nodes w) (leb-false (length nodes) start e))
 
-  pub path-refused : (image : List ℕ) (words room : ℕ) (bytes : List ℕ) (c : Refusal) → pathVerdict nodes start path ≡ Refused c → Numbered plan image words room bytes (grown.Refused c)
+  pub path-refused : (image : List ℕ) (words room : ℕ) (bytes : List ℕ) (c : Refusal) → pathVerdict nodes start path ≡ Refused c → Decided plan image words room bytes (decision.Refused c)
   unfolding pathVerdict planMakeDirectories
-  path-refused image words room bytes c e = refused-numbered image words room bytes plan c (go (ltb 1024 (length path)) (leb (length nodes) start) whole e)
+  path-refused image words room bytes c e = refused-decided image words room bytes plan c (go (ltb 1024 (length path)) (leb (length nodes) start) whole e)
     where
       go : (a b : Bool) (x : Made) → refuse a LimitOrMemory (refuse b NoSuchEntry (madeVerdict x)) ≡ Refused c →
           planVerdict (planned (refuse a LimitOrMemory (refuse b NoSuchEntry Passed)) (planMade x)) image words room ≡ Refused c
@@ -100,15 +101,15 @@ module _ (nodes : List Node) (start : ℕ) (path : List ℕ) where
 
     module _ (w : WellFormed nodes) (image : List ℕ) (words room : ℕ) where
       -- there was no room for a tree on the way
-      no-room : (M : List Node) (c : Refusal) (bytes : List ℕ) → Bigger M (madeTree whole) → Reaches (made M 0 false) words room bytes (reached.Refused c) → Numbered plan image words room bytes (grown.Refused c)
+      no-room : (M : List Node) (c : Refusal) (bytes : List ℕ) → Bigger M (madeTree whole) → Reaches (made M 0 false) words room bytes (reached.Refused c) → Decided plan image words room bytes (decision.Refused c)
       no-room M c bytes g h =
-          rw plan-is (refused-numbered image words room bytes (change (madeEntry whole) (tableOnly (madeTree whole))) c (unbuilt M (madeTree whole) words room (madeEntry whole) image g (h .1) ∙ ap Refused (sym (h .0))))
+          rw plan-is (refused-decided image words room bytes (change (madeEntry whole) (tableOnly (madeTree whole))) c (unbuilt M (madeTree whole) words room (madeEntry whole) image g (h .1) ∙ ap Refused (sym (h .0))))
 
-      pub start-refused : (s t bytes : List ℕ) (r : TableSize) (c : Refusal) → length s ≡ room → Built nodes words s t r → r ≡ table.Refused c → Numbered plan image words room bytes (grown.Refused c)
+      pub start-refused : (s t bytes : List ℕ) (r : TableSize) (c : Refusal) → length s ≡ room → Built nodes words s t r → r ≡ table.Refused c → Decided plan image words room bytes (decision.Refused c)
       start-refused s t bytes r c l b e = no-room nodes c bytes (grows w .0) (rw (e, l) at b)
 
       module _ (T : List Node) (same : T ≡ nodes) (after : List ℕ) (r : Reached) (h : Reaches (make T [] start false (components path)) words room after r) where
-        pub made-refused : (bytes : List ℕ) (c : Refusal) → r ≡ reached.Refused c → Numbered plan image words room bytes (grown.Refused c)
+        pub made-refused : (bytes : List ℕ) (c : Refusal) → r ≡ reached.Refused c → Decided plan image words room bytes (decision.Refused c)
         made-refused bytes c e = no-room (madeTree whole) c bytes (bigger-same (madeTree whole) (grows w .0 .well)) (rw (same, e) at h)
 
         pub made-at : (k n : ℕ) → r ≡ reached.At k n → Reaches whole words room after (reached.At k n)
@@ -120,8 +121,8 @@ module _ (nodes : List Node) (start : ℕ) (path : List ℕ) where
             let i = within-limits (treeIn after n) words (a .1 .within) in
             omega (arith, a .0, grows w .1, i .few, ap length (a .2))
 
-        pub made-placed : (k n room′ : ℕ) (x : TableSize) → r ≡ reached.At k n → room′ ≡ room → Decided (change 0 (tableOnly (treeIn after n))) image words room′ after (tableDecision x) →
-            Numbered plan image words room after (grownAs x k)
+        pub made-placed : (k n room′ : ℕ) (x : TableSize) → r ≡ reached.At k n → room′ ≡ room → Decided (change 0 (tableOnly (treeIn after n))) image words room′ after (tableDecision 0 x) →
+            Decided plan image words room after (tableDecision k x)
         made-placed k n room′ x e l d =
             let a = made-at k n e in
-            rw plan-is (change-numbered image words room after (madeEntry whole) k (tableOnly (madeTree whole)) x (a .0) (same-decided (treeIn after n) (madeTree whole) words room′ room image after (tableDecision x) (a .2) l d))
+            rw plan-is (change-numbered image words room after (madeEntry whole) k (tableOnly (madeTree whole)) x (a .0) (same-decided (treeIn after n) (madeTree whole) words room′ room image after (tableDecision 0 x) (a .2) l d))

@@ -4,14 +4,9 @@ mod making;
 
 use commit::Decision;
 use commit::TableSize;
-use grow::Grown;
-use grow::GrownAfter;
 use making::Reached;
-use opening::Prepared;
 use refusal::Refusal;
 use refusal::Verdict;
-use totals::Totals;
-use totals_after::EntryDone;
 ghost use mathlib.Core.Path.{_≡_};
 ghost use mathlib.Core.Bool.{false};
 ghost use Prim.Native.Nat.{_<_, _^_};
@@ -23,14 +18,13 @@ ghost use Rattle.refusal.specs.Refusal.{refuse};
 ghost use Rattle.tree.specs.Table.{nodesOf};
 ghost use Rattle.tree.specs.Lookup.{components};
 ghost use Rattle.fst_check.specs.Inner.Reading as reading;
-ghost use Rattle.opening.specs.Opening.{opening, nodesIn};
-ghost use Rattle.edits.specs.Edits.{planMakeDirectories, planned, planOf, makeDirectories, numberedAs};
+ghost use Rattle.opening.specs.Opening.{nodesIn};
+ghost use Rattle.edits.specs.Edits.{planMakeDirectories};
 ghost use Rattle.edits.specs.Inner.Troubles.{troubleOf};
 ghost use Rattle.opening.specs.Inner.Prepared.{OpensImage, IsOpen};
 ghost use Rattle.grow.specs.Inner.Growth.{Stands, treeIn};
-ghost use Rattle.grow.specs.Inner.Grown.{Numbered, NumberedAfter};
+ghost use Rattle.commit.specs.Inner.Decision.{Decided};
 ghost use Rattle.make_walk.specs.Inner.Walk.{pathVerdict};
-ghost use Rattle.edits.specs.Promise.{lent, Edited};
 
 // 15, then the troubles along the path.
 fn check_start(table: &[u8], start: u32, path: &[u8]) -> Verdict
@@ -66,13 +60,13 @@ fn make_in(
     size: usize,
     start: u32,
     path: &[u8],
-) -> Grown
+) -> Decision
     requires { ⌜ IsOpen (now image) (now words) m × Stands (now bytes) size (length (now words)) × (treeIn (now bytes) size ≡ nodesIn (now image)) × (pathVerdict (nodesIn (now image)) start (now path) ≡ Passed) ⌝ }
-    ensures { λ r. ⌜ Numbered (planMakeDirectories (nodesIn (now (image .entry))) start (now (path .entry))) (now (image .entry)) (length (now (words .entry))) (length (now (bytes .entry))) (now (bytes .exit)) r ⌝ }
+    ensures { λ r. ⌜ Decided (planMakeDirectories (nodesIn (now (image .entry))) start (now (path .entry))) (now (image .entry)) (length (now (words .entry))) (length (now (bytes .entry))) (now (bytes .exit)) r ⌝ }
 {
     let reached = making::make_along(bytes, size, words.len(), start as usize, path);
     match reached {
-        Reached::Refused(cause) => Grown::Refused(cause),
+        Reached::Refused(cause) => Decision::Refused(cause),
         Reached::At(k, n) => {
             let placed = grow::place_table(image, words, m, bytes, n);
             grow::numbered(placed, k as u32)
@@ -81,64 +75,24 @@ fn make_in(
 }
 
 // What is decided on for an open image.
-fn decide_open(
+pub fn decide_open(
     image: &[u8],
     words: &[u32],
     m: usize,
     bytes: &mut [u8],
     start: u32,
     path: &[u8],
-) -> Grown
+) -> Decision
     requires { ⌜ IsOpen (now image) (now words) m ⌝ }
-    ensures { λ r. ⌜ Numbered (planMakeDirectories (nodesIn (now (image .entry))) start (now (path .entry))) (now (image .entry)) (length (now (words .entry))) (length (now (bytes .entry))) (now (bytes .exit)) r ⌝ }
+    ensures { λ r. ⌜ Decided (planMakeDirectories (nodesIn (now (image .entry))) start (now (path .entry))) (now (image .entry)) (length (now (words .entry))) (length (now (bytes .entry))) (now (bytes .exit)) r ⌝ }
 {
     let verdict = check_path(image, start, path);
     if let Verdict::Refused(cause) = verdict {
-        return Grown::Refused(cause);
+        return Decision::Refused(cause);
     }
     let found = grow::start_table(image, words, m, bytes);
     match found {
-        TableSize::Refused(cause) => Grown::Refused(cause),
+        TableSize::Refused(cause) => Decision::Refused(cause),
         TableSize::Bytes(size) => make_in(image, words, m, bytes, size, start, path),
     }
-}
-
-fn decide(
-    image: &[u8],
-    words: &mut [u32],
-    bytes: &mut [u8],
-    totals: Totals,
-    start: u32,
-    path: &[u8],
-) -> GrownAfter
-    ensures { λ r. ⌜ NumberedAfter (planned (opening (now (image .entry)) (length (now (words .entry)))) (planOf (makeDirectories start (now (path .entry))) (now (image .entry)))) (now (image .entry)) (length (now (words .entry))) (length (now (bytes .entry))) (now (bytes .exit)) totals r ⌝ }
-{
-    let prepared = opening::prepare(image, words);
-    match prepared {
-        Prepared::Refused(cause) => GrownAfter {
-            decision: Decision::Refused(cause),
-            totals,
-            number: 0,
-        },
-        Prepared::Ready(m) => {
-            let grown = decide_open(image, words, m, bytes, start, path);
-            grow::account(image, words, m, grown, totals)
-        }
-    }
-}
-
-// Makes each directory of the path that is missing, from the entry `start`, and gives the number, in the new table, of the entry where the
-// path leads.
-pub fn make_directories(
-    image: &mut [u8],
-    words: &mut [u32],
-    bytes: &mut [u8],
-    totals: Totals,
-    start: u32,
-    path: &[u8],
-) -> EntryDone
-    ensures { λ r. ⌜ Edited numberedAs (makeDirectories start (now (path .entry))) (lent (now (image .entry)) (now (words .entry)) (now (bytes .entry)) totals) (lent (now (image .exit)) (now (words .exit)) (now (bytes .exit)) (r .totals)) (r .located) ⌝ }
-{
-    let after = decide(image, words, bytes, totals, start, path);
-    grow::finish(image, words, bytes, after)
 }

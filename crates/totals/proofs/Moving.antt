@@ -6,9 +6,8 @@ use borrow.Author.Tests.{lt-ltb, le-ltb}
 use Rattle.refusal.specs.declared.Refusal.the-variants.{TotalsOutOfRange}
 use Rattle.refusal.specs.declared.Verdict.the-variants as verdict
 use Rattle.totals.specs.declared.Totals.{Totals}
-use Rattle.totals.specs.declared.Moved.{Moved}
 use Rattle.totals.specs.Totals.{totalsVerdict, totalsMoved}
-use Rattle.totals.specs.Inner.Scan.{movedAs}
+use Rattle.totals.specs.Inner.Scan.{Moved, movedAs}
 
 module _ (t : Totals) (before after largest : ℕ) where
   -- 25, for each of its causes; m is the record that stays
@@ -21,7 +20,7 @@ module _ (t : Totals) (before after largest : ℕ) where
     unfolding totalsVerdict
     moved-over h k = rw (le-ltb (t .used + after) before h, lt-ltb 4294967295 (t .used + after - before) k) stays
 
-    pub moved-last : before ≤ t .used + after → t .used + after - before ≤ 4294967295 → t .edits ≡ 4294967295 → m ≡ movedAs (totalsVerdict t before after) t (totalsMoved t before after largest)
+    pub moved-last : before ≤ t .used + after → t .used + after - before ≤ 4294967295 → 4294967295 ≤ t .edits → m ≡ movedAs (totalsVerdict t before after) t (totalsMoved t before after largest)
     unfolding totalsVerdict
     moved-last h k l = rw (le-ltb (t .used + after) before h, le-ltb 4294967295 (t .used + after - before) k, lt-ltb 4294967295 (t .edits + 1) (omega arith)) stays
 

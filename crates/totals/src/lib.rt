@@ -1,12 +1,10 @@
 // The totals record that goes into an edit and comes back, and the largest free region that an edit leaves.
 ghost use mathlib.Core.Path.{_≡_};
 ghost use Prim.Native.Nat.{_-_, _<_, _^_, max};
-ghost use Rattle.refusal.specs.declared.Refusal.the-variants.{TotalsOutOfRange};
-ghost use Rattle.refusal.specs.declared.Verdict.the-variants as verdict;
 ghost use Rattle.space.specs.Inner.Sort.{regionsIn};
 ghost use Rattle.space.specs.Inner.Words.{SortedDisjoint};
-ghost use Rattle.totals.specs.Totals.{totalsVerdict, totalsMoved};
-ghost use Rattle.totals.specs.Inner.Scan.{longestBeside, longestFrom, goneOf, movedAs};
+ghost use Rattle.totals.specs.Totals.{totalsIn, totalsVerdict, totalsMoved};
+ghost use Rattle.totals.specs.Inner.Scan.{longestBeside, longestFrom, goneOf, moved, movedAs};
 use endian::wide;
 use refusal::Refusal;
 use refusal::Verdict;
@@ -19,11 +17,8 @@ pub struct Totals {
     pub edits: u32,
 }
 
-// Whether the record can move on, and the record then; with a refusal the one that came in.
-pub struct Moved {
-    pub verdict: Verdict,
-    pub totals: Totals,
-}
+// The record as an edit is lent it: a slot for each of its numbers. Its length is written here alone.
+pub type Record = [u32; 3];
 
 // How many bytes there are from a up to b.
 fn bytes_between(a: u64, b: u32) -> u32
@@ -106,39 +101,23 @@ pub fn largest_free(
     longer(best, at, disc_end, new)
 }
 
-// 25: the record stays as it is.
-fn stopped(totals: Totals) -> Moved
-    ensures { λ r. ⌜ r ≡ movedAs (verdict.Refused TotalsOutOfRange) totals totals ⌝ }
-{
-    Moved {
-        verdict: Verdict::Refused(Refusal::TotalsOutOfRange),
-        totals,
-    }
-}
-
-// The record after an edit that uses `after` bytes where `before` were used, in any two numbers with that difference.
-pub fn move_totals(totals: Totals, before: u64, after: u64, largest: u32) -> Moved
+// The record after an edit that uses `after` bytes where `before` were used, in any two numbers with that difference; or 25, and it stays.
+pub fn move_totals(record: &mut Record, before: u64, after: u64, largest: u32) -> Verdict
     requires { ⌜ (before < 2 ^ 34) × (after < 2 ^ 34) ⌝ }
-    ensures { λ r. ⌜ r ≡ movedAs (totalsVerdict totals before after) totals (totalsMoved totals before after largest) ⌝ }
+    ensures { λ r. ⌜ moved r (totalsIn (now («record» .exit))) ≡ movedAs (totalsVerdict (totalsIn (now («record» .entry))) before after) (totalsIn (now («record» .entry))) (totalsMoved (totalsIn (now («record» .entry))) before after largest) ⌝ }
 {
-    let sum = wide(totals.used) + after;
+    let sum = wide(record[0]) + after;
+    let edits = record[2];
     if sum < before {
-        return stopped(totals);
+        return Verdict::Refused(Refusal::TotalsOutOfRange);
     }
     let used = sum - before;
     if 0xFFFFFFFF < used {
-        return stopped(totals);
+        return Verdict::Refused(Refusal::TotalsOutOfRange);
     }
-    if totals.edits == 0xFFFFFFFF {
-        return stopped(totals);
+    if 0xFFFFFFFF <= edits {
+        return Verdict::Refused(Refusal::TotalsOutOfRange);
     }
-    let next = Totals {
-        used: used as u32,
-        largest,
-        edits: totals.edits + 1,
-    };
-    Moved {
-        verdict: Verdict::Passed,
-        totals: next,
-    }
+    *record = [used as u32, largest, edits + 1];
+    Verdict::Passed
 }

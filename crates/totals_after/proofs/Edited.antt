@@ -12,24 +12,24 @@ use Rattle.refusal.specs.declared.Verdict.the-variants.{Passed, Refused}
 use Rattle.refusal.specs.Refusal.{first, isRefused}
 use Rattle.refusal.specs.Laws.Chains.{first-passed}
 use Rattle.space.specs.Inner.Sort.{regionsIn}
+use Rattle.tree.specs.declared.Located.{Located}
 use Rattle.totals.specs.declared.Totals.{Totals}
 use Rattle.opening.specs.Opening.{opening}
 use Rattle.opening.specs.declared.Prepared.{Prepared}
 use Rattle.opening.specs.declared.Prepared.the-variants as prepared
 use Rattle.opening.specs.Inner.Prepared.{Prepares, IsOpen}
 use Rattle.edits.specs.Change.{Plan, refused}
-use Rattle.edits.specs.Edits.{Edit, planned, planOf, planVerdict, planImage, planNumber, countedVerdict, verdictOf, imageAfter, totalsTo, totalsAfter}
-use Rattle.edits.specs.Promise.{lent, onlyVerdict, Edited}
+use Rattle.edits.specs.Edits.{Edit, planned, planOf, planVerdict, planImage, planNumber, numberedAs, countedVerdict, verdictOf, imageAfter, totalsTo, totalsAfter}
+use Rattle.edits.specs.Promise.{lent, Edited}
 use Rattle.edits.specs.Laws.Behind.{behind-passed, behind-refused}
 use Rattle.ledger.specs.Runs.{Passable}
 use Rattle.ledger.specs.Laws.Layout.{Lays}
 use Rattle.ledger.specs.Laws.TreeAfter.{arrives}
 use Rattle.commit.specs.declared.Decision.{Decision}
 use Rattle.commit.specs.declared.Decision.the-variants as decision
-use Rattle.commit.specs.Inner.Decision.{CanCarry, carriedVerdict, carriedImage, Decided, DecidedAs}
-use Rattle.commit.proofs.Decisions.{is-open, opened, unopened}
-use Rattle.totals_after.specs.declared.Accounted.{Accounted}
-use Rattle.totals_after.specs.Inner.Accounting.{accounted, accountOf, AccountedFor}
+use Rattle.commit.specs.Inner.Decision.{CanCarry, carriedAnswer, carriedImage, Decided, DecidedAs}
+use Rattle.commit.proofs.Decisions.{is-open, opened, unopened, answered}
+use Rattle.totals_after.specs.Inner.Accounting.{Accounted, accounted, accountOf, AccountedFor}
 use Rattle.totals_after.specs.Laws.AccountLaws as laws
 
 -- ---- a plan, of an open image
@@ -82,39 +82,34 @@ unopened-accounted p image w w′ r c room bytes t a q e =
 -- ---- the whole edit
 
 -- with as many working bytes as when it was decided on
-pub still-carries : (p : Plan) (image : List ℕ) (words room : ℕ) (bytes : List ℕ) (t : Totals) (a : Accounted) → AccountedFor p image words room bytes t a → length bytes ≡ room → CanCarry image (length bytes) (a .decision)
-still-carries p image words room bytes t a f l = rw l (f .decided .fits)
+pub still-carries : (p : Plan) (image : List ℕ) (words room : ℕ) (bytes : List ℕ) (t t′ : Totals) (d : Decision) → AccountedFor p image words room bytes t (accounted d t′) → length bytes ≡ room → CanCarry image (length bytes) d
+still-carries p image words room bytes t t′ d f l = rw l (f .decided .fits)
 
-module _ (ed : Edit) (image : List ℕ) (words room : ℕ) (bytes : List ℕ) (t : Totals) (a : Accounted) where
+module _ (ed : Edit) (image : List ℕ) (words room : ℕ) (bytes : List ℕ) (t t′ : Totals) (d : Decision) where
   -- opening and the plan are the whole edit
-  pub edit-accounted : AccountedFor (planned (opening image words) (planOf ed image)) image words room bytes t a →
-      (carriedVerdict (a .decision) ≡ verdictOf ed t image words room) × (carriedImage (a .decision) bytes image ≡ imageAfter ed t image words room) × (a .totals ≡ totalsAfter ed t image words room)
+  edit-accounted : AccountedFor (planned (opening image words) (planOf ed image)) image words room bytes t (accounted d t′) →
+      (carriedAnswer d ≡ numberedAs (verdictOf ed t image words room) (planNumber (planOf ed image))) × (carriedImage d bytes image ≡ imageAfter ed t image words room) × (t′ ≡ totalsAfter ed t image words room)
   unfolding verdictOf imageAfter totalsAfter
   edit-accounted f = go (opening image words) f
     where
-      go : (v : Verdict) → AccountedFor (planned v (planOf ed image)) image words room bytes t a →
-          (carriedVerdict (a .decision) ≡ first v (countedVerdict (planOf ed image) t image words room))
-          × (carriedImage (a .decision) bytes image ≡ cond (isRefused (first v (countedVerdict (planOf ed image) t image words room))) image (planImage (planOf ed image) image))
-          × (a .totals ≡ cond (isRefused (first v (countedVerdict (planOf ed image) t image words room))) t (totalsTo t image (planImage (planOf ed image) image)))
-      go Passed k = (k .decided .answer, k .decided .after, k .totals)
+      go : (v : Verdict) → AccountedFor (planned v (planOf ed image)) image words room bytes t (accounted d t′) →
+          (carriedAnswer d ≡ numberedAs (first v (countedVerdict (planOf ed image) t image words room)) (planNumber (planOf ed image)))
+          × (carriedImage d bytes image ≡ cond (isRefused (first v (countedVerdict (planOf ed image) t image words room))) image (planImage (planOf ed image) image))
+          × (t′ ≡ cond (isRefused (first v (countedVerdict (planOf ed image) t image words room))) t (totalsTo t image (planImage (planOf ed image) image)))
+      go Passed k = (answered _ _ _ _ _ _ (k .decided), k .decided .after, k .totals)
       go (Refused c) k =
           let e : countedVerdict (refused (Refused c)) t image words room ≡ Refused c = unfold countedVerdict in refl in
-          (k .decided .answer ∙ e, k .decided .after ∙ rw e, k .totals ∙ rw e)
+          (answered _ _ _ _ _ _ (k .decided) ∙ rw e, k .decided .after ∙ rw e, k .totals ∙ rw e)
 
-module _ (ed : Edit) (image words bytes w b image′ words′ bytes′ : List ℕ) (t : Totals) (a : Accounted) (f : AccountedFor (planned (opening image (length words)) (planOf ed image)) image (length words) (length bytes) b t a)
-    (kw : length w ≡ length words) (kb : length b ≡ length bytes) (i : image′ ≡ carriedImage (a .decision) b image) (zw : words′ ≡ replicate (length w) 0) (zb : bytes′ ≡ replicate (length b) 0) where
-  -- an edit that gives its answer in its own way
-  pub edited-as : {A : Type 0} (answer : Verdict → ℕ → A) (r : A) → r ≡ answer (verdictOf ed t image (length words) (length bytes)) (planNumber (planOf ed image)) →
-      Edited answer ed (lent image words bytes t) (lent image′ words′ bytes′ (a .totals)) r
-  edited-as answer r q =
-      let e = edit-accounted ed image (length words) (length bytes) b t a f in
-      record {
-        answered = q;
-        image = i ∙ e .1;
-        totals = e .2;
-        words = zw ∙ ap (λ (n : ℕ). replicate n 0) kw;
-        bytes = zb ∙ ap (λ (n : ℕ). replicate n 0) kb;
-      }
-
-  pub edited : (r : Verdict) → r ≡ carriedVerdict (a .decision) → Edited onlyVerdict ed (lent image words bytes t) (lent image′ words′ bytes′ (a .totals)) r
-  edited r q = edited-as onlyVerdict r (q ∙ edit-accounted ed image (length words) (length bytes) b t a f .0)
+pub edited : (ed : Edit) (image words bytes w b image′ words′ bytes′ : List ℕ) (t t′ : Totals) (d : Decision) → AccountedFor (planned (opening image (length words)) (planOf ed image)) image (length words) (length bytes) b t (accounted d t′) →
+    length w ≡ length words → length b ≡ length bytes → image′ ≡ carriedImage d b image → words′ ≡ replicate (length w) 0 → bytes′ ≡ replicate (length b) 0 →
+    (r : Located) → r ≡ carriedAnswer d → Edited numberedAs ed (lent image words bytes t) (lent image′ words′ bytes′ t′) r
+edited ed image words bytes w b image′ words′ bytes′ t t′ d f kw kb i zw zb r q =
+    let e = edit-accounted ed image (length words) (length bytes) b t t′ d f in
+    record {
+      answered = q ∙ e .0;
+      image = i ∙ e .1;
+      totals = e .2;
+      words = zw ∙ ap (λ (n : ℕ). replicate n 0) kw;
+      bytes = zb ∙ ap (λ (n : ℕ). replicate n 0) kb;
+    }

@@ -1,48 +1,26 @@
-// The totals record after what an edit decides on: its test, which comes last, and the record that comes back.
+// The totals record after what an edit decides on: its test, which comes last, and the record that is lent moved on.
 use commit::Decision;
 use endian::wide;
 use header::Field;
 use refusal::Verdict;
 use space::DiscRegion;
-use totals::Moved;
-use totals::Totals;
-use tree::Located;
+use totals::Record;
 ghost use mathlib.Core.Path.{_≡_};
 ghost use Prim.Native.Nat.{_+_, _-_, _≤_};
 ghost use Rattle.header.specs.Verdicts.{fstOffset, discEnd};
 ghost use Rattle.space.specs.Inner.Sort.{regionsIn};
 ghost use Rattle.opening.specs.Inner.Prepared.{IsOpen};
-ghost use Rattle.totals_after.specs.Inner.Accounting.{OnDisc, settledAs, enteredAs, accountOf};
+ghost use Rattle.totals.specs.Totals.{totalsIn};
+ghost use Rattle.totals.specs.Inner.Scan.{moved};
+ghost use Rattle.totals_after.specs.Inner.Accounting.{OnDisc, unless, accounted, enteredAs, accountOf};
 
-// What is decided on once the record is tested too, and the record that comes back.
-pub struct Accounted {
-    pub decision: Decision,
-    pub totals: Totals,
-}
-
-// What an edit that gives only that it is done comes to: whether it was accepted, and the record that comes back.
-pub struct Done {
-    pub verdict: Verdict,
-    pub totals: Totals,
-}
-
-// The same of an edit that gives an entry's number.
-pub struct EntryDone {
-    pub located: Located,
-    pub totals: Totals,
-}
-
-fn settled(decision: Decision, moved: Moved) -> Accounted
-    ensures { λ r. ⌜ r ≡ settledAs decision moved ⌝ }
+// Refused where the record cannot move on.
+fn settled(decision: Decision, verdict: Verdict) -> Decision
+    ensures { λ r. ⌜ r ≡ unless verdict decision ⌝ }
 {
-    let verdict = moved.verdict;
-    let totals = moved.totals;
     match verdict {
-        Verdict::Passed => Accounted { decision, totals },
-        Verdict::Refused(cause) => Accounted {
-            decision: Decision::Refused(cause),
-            totals,
-        },
+        Verdict::Passed => decision,
+        Verdict::Refused(cause) => Decision::Refused(cause),
     }
 }
 
@@ -53,13 +31,13 @@ fn enter(
     image: &[u8],
     words: &[u32],
     m: usize,
-    totals: Totals,
+    record: &mut Record,
     size: u32,
     old: DiscRegion,
     new: DiscRegion,
-) -> Moved
+) -> Verdict
     requires { ⌜ IsOpen (now image) (now words) m × (fstOffset (now image) + size ≤ discEnd (now image)) ⌝ }
-    ensures { λ r. ⌜ r ≡ enteredAs (now (image .entry)) (regionsIn (now (words .entry)) 1 (m - 1)) totals size old new ⌝ }
+    ensures { λ r. ⌜ moved r (totalsIn (now («record» .exit))) ≡ enteredAs (now (image .entry)) (regionsIn (now (words .entry)) 1 (m - 1)) (totalsIn (now («record» .entry))) size old new ⌝ }
 {
     let user_size = endian::read_u32(image, Field::USER_SIZE.at);
     let disc_end = user_size + endian::read_u32(image, Field::DISC_SIZE.at);
@@ -68,33 +46,33 @@ fn enter(
     let fst_size = endian::read_u32(image, Field::FST_SIZE.at);
     let before = wide(fst_size) + wide(old.size);
     let after = wide(size) + wide(new.size);
-    totals::move_totals(totals, before, after, largest)
+    totals::move_totals(record, before, after, largest)
 }
 
-// What is decided on, once the record is tested too: a refused edit hands it back as it is.
+// What is decided on, once the record is tested too: a refused edit leaves it as it is.
 pub fn account(
     image: &[u8],
     words: &[u32],
     m: usize,
     decision: Decision,
-    totals: Totals,
-) -> Accounted
+    record: &mut Record,
+) -> Decision
     requires { ⌜ IsOpen (now image) (now words) m × OnDisc (now image) decision ⌝ }
-    ensures { λ r. ⌜ r ≡ accountOf (now (image .entry)) (regionsIn (now (words .entry)) 1 (m - 1)) decision totals ⌝ }
+    ensures { λ r. ⌜ accounted r (totalsIn (now («record» .exit))) ≡ accountOf (now (image .entry)) (regionsIn (now (words .entry)) 1 (m - 1)) decision (totalsIn (now («record» .entry))) ⌝ }
 {
     match decision {
-        Decision::Refused(_) => Accounted { decision, totals },
+        Decision::Refused(_) => decision,
         Decision::Nothing => {
             let size = endian::read_u32(image, Field::FST_SIZE.at);
             let none = DiscRegion { offset: 0, size: 0 };
-            let moved = enter(image, words, m, totals, size, none, none);
-            settled(decision, moved)
+            let verdict = enter(image, words, m, record, size, none, none);
+            settled(decision, verdict)
         }
-        Decision::Write(size, w) => {
+        Decision::Write(_, size, w) => {
             let old = w.old;
             let new = w.place;
-            let moved = enter(image, words, m, totals, size as u32, old, new);
-            settled(decision, moved)
+            let verdict = enter(image, words, m, record, size as u32, old, new);
+            settled(decision, verdict)
         }
     }
 }

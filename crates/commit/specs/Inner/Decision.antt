@@ -11,6 +11,8 @@ use Rattle.refusal.specs.declared.Verdict.the-variants.{Passed, Refused}
 use Rattle.refusal.specs.Refusal.{isRefused}
 use Rattle.header.specs.Verdicts.{fstOffset, fstSize}
 use Rattle.tree.specs.Table.{Node, encode}
+use Rattle.tree.specs.declared.Located.{Located}
+use Rattle.tree.specs.declared.Located.the-variants as located
 use Rattle.space.specs.declared.DiscRegion.{DiscRegion}
 use Rattle.commit.specs.declared.Writing.{Writing}
 use Rattle.commit.specs.declared.Decision.{Decision}
@@ -69,29 +71,45 @@ pub record Fits (image : List ℕ) (room size : ℕ) (w : Writing) : Type 0 wher
 abbrev pub CanCarry : List ℕ → ℕ → Decision → Type 0
 CanCarry image room (decision.Refused c) = Unit {0}
 CanCarry image room decision.Nothing = Unit {0}
-CanCarry image room (decision.Write size w) = Fits image room size w
+CanCarry image room (decision.Write n size w) = Fits image room size w
 
 abbrev pub carriedVerdict : Decision → Verdict
 carriedVerdict (decision.Refused c) = Refused c
 carriedVerdict decision.Nothing = Passed
-carriedVerdict (decision.Write size w) = Passed
+carriedVerdict (decision.Write n size w) = Passed
+
+-- with the number of the entry
+abbrev pub carriedAnswer : Decision → Located
+carriedAnswer (decision.Refused c) = located.Refused c
+carriedAnswer decision.Nothing = located.At 0
+carriedAnswer (decision.Write n size w) = located.At n
+
+-- whether an edit that gives a number was accepted
+abbrev pub verdictIn : Located → Verdict
+verdictIn (located.At k) = Passed
+verdictIn (located.Refused c) = Refused c
 
 abbrev pub carriedImage : Decision → List ℕ → List ℕ → List ℕ
 carriedImage (decision.Refused c) bytes image = image
 carriedImage decision.Nothing bytes image = image
-carriedImage (decision.Write size w) bytes image = writtenWith w (span bytes 0 size) image
+carriedImage (decision.Write n size w) bytes image = writtenWith w (span bytes 0 size) image
 
--- what is written is the plan's change, and the table in the working bytes that of its tree
+pub record Carried (n size : ℕ) (w : Writing) (bytes : List ℕ) (k : ℕ) (c : Change) : Type 0 where
+  pub number : n ≡ k
+  pub table : span bytes 0 size ≡ encode (c .nodes)
+  pub change : c ≡ changeWith (c .nodes) w
+
+-- what is written is the plan's change, of the plan's entry, and the table in the working bytes that of its tree
 abbrev pub Carries : Decision → List ℕ → Plan → Type 0
 Carries (decision.Refused c) bytes p = Unit {0}
 Carries decision.Nothing bytes nothing = Unit {0}
 Carries decision.Nothing bytes (refused v) = ⊥
 Carries decision.Nothing bytes (change k c) = ⊥
 Carries decision.Nothing bytes (filled k clip p) = ⊥
-Carries (decision.Write size w) bytes (change k c) = (span bytes 0 size ≡ encode (c .nodes)) × (c ≡ changeWith (c .nodes) w)
-Carries (decision.Write size w) bytes (refused v) = ⊥
-Carries (decision.Write size w) bytes nothing = ⊥
-Carries (decision.Write size w) bytes (filled k clip p) = ⊥
+Carries (decision.Write n size w) bytes (change k c) = Carried n size w bytes k c
+Carries (decision.Write n size w) bytes (refused v) = ⊥
+Carries (decision.Write n size w) bytes nothing = ⊥
+Carries (decision.Write n size w) bytes (filled k clip p) = ⊥
 
 -- d, with these working bytes, is what the plan comes to where its tests say v
 pub record DecidedAs (v : Verdict) (p : Plan) (image : List ℕ) (room : ℕ) (bytes : List ℕ) (d : Decision) : Type 0 where

@@ -14,6 +14,7 @@ use Rattle.dol.specs.declared.DolHeader.{DolHeader}
 use Rattle.answers.specs.declared.Opened.the-variants as opened
 use Rattle.disc.specs.declared.TotalsAnswer.the-variants as totaled
 use Rattle.totals.specs.declared.Totals.{Totals}
+use Rattle.totals.specs.Totals.{totalsIn}
 use Rattle.program.specs.declared.Program.the-variants as program
 use Rattle.answers.specs.declared.SizeAnswer.the-variants as size
 use Rattle.files.specs.declared.WindowAnswer.the-variants as windowed
@@ -21,7 +22,7 @@ use Rattle.listing.specs.declared.Listed.the-variants as listed
 use Rattle.window.specs.declared.Window.{Window}
 use Rattle.window.specs.declared.Sought.the-variants as sought
 use Rattle.opening.specs.Opening.{zeros}
-use Rattle.counter.specs.Replies.{Reply, reply, Read, openedReply, totalsReply, totalsIn, programReply, foundReply, listingReply, sizeReply, allocationReply, listedReply, locatedReply, verdictNumber, done, numbered, windowIn, windowReply, soughtReply, verdictReply, recordReply, dolWords, dolReply, dolWindowReply}
+use Rattle.counter.specs.Replies.{Reply, reply, Read, openedReply, totalsReply, programReply, foundReply, listingReply, sizeReply, allocationReply, listedReply, locatedReply, verdictNumber, done, numbered, windowIn, windowReply, soughtReply, verdictReply, recordReply, dolWords, dolReply, dolWindowReply}
 
 -- slots as they were before the call
 abbrev old : List ℕ

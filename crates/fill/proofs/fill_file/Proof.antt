@@ -14,6 +14,9 @@ write-clip-requires c κs = search clip-fits
 finish-requires : tie.Need-finish-requires
 finish-requires c κs = search rest-fits
 
+verdict-of-requires : tie.Need-verdict-of-requires
+verdict-of-requires c κs = search needs
+
 same-length : tie.Need-same-length
 same-length c = search needs
 
@@ -33,6 +36,7 @@ fill-file-spec =
     decide-fill-requires
     write-clip-requires
     finish-requires
+    verdict-of-requires
     same-length
     same-length-2
     same-length-3

@@ -21,13 +21,12 @@ use Rattle.edits.specs.Edits.{planImage, countedVerdict}
 use Rattle.totals_after.specs.Inner.Accounting.{countedTotals}
 use Rattle.fill.specs.declared.Filling.{Filling}
 use Rattle.fill.specs.declared.Filling.the-variants as filling
-use Rattle.fill.specs.declared.AccountedFilling.{AccountedFilling}
 
 -- a resize's decision with the clip; where nothing is to be resized the file lies at `at`
 abbrev pub fillingOf : Decision → ℕ → Filling
 fillingOf (decision.Refused c) at = filling.Refused c
 fillingOf decision.Nothing at = filling.Clip at
-fillingOf (decision.Write size w) at = filling.Write size w
+fillingOf (decision.Write n size w) at = filling.Write n size w
 
 -- ---- the clip written, and the rest
 
@@ -38,12 +37,12 @@ Into long at n = 0 < n → at + n ≤ long
 abbrev pub ClipInto : ℕ → ℕ → Filling → Type 0
 ClipInto long n (filling.Refused c) = Unit {0}
 ClipInto long n (filling.Clip at) = Into long at n
-ClipInto long n (filling.Write size w) = Into long (w .place .offset) n
+ClipInto long n (filling.Write k size w) = Into long (w .place .offset) n
 
 abbrev pub clippedImage : Filling → List ℕ → List ℕ → List ℕ
 clippedImage (filling.Refused c) clip image = image
 clippedImage (filling.Clip at) clip image = put image at clip
-clippedImage (filling.Write size w) clip image = put image (w .place .offset) clip
+clippedImage (filling.Write n size w) clip image = put image (w .place .offset) clip
 
 -- nothing is copied
 abbrev pub uncopied : Writing → Writing
@@ -52,19 +51,19 @@ uncopied w = record { old = w .old; place = w .place; kept = 0; lost = w .lost; 
 abbrev pub restOf : Filling → Decision
 restOf (filling.Refused c) = decision.Refused c
 restOf (filling.Clip at) = decision.Nothing
-restOf (filling.Write size w) = decision.Write size (uncopied w)
+restOf (filling.Write n size w) = decision.Write n size (uncopied w)
 
 -- ---- the whole, as the definition of a fill has it: the resize, and then the clip
 
 abbrev pub filledVerdict : Filling → Verdict
 filledVerdict (filling.Refused c) = Refused c
 filledVerdict (filling.Clip at) = Passed
-filledVerdict (filling.Write size w) = Passed
+filledVerdict (filling.Write n size w) = Passed
 
 abbrev pub filledImage : Filling → List ℕ → List ℕ → List ℕ → List ℕ
 filledImage (filling.Refused c) bytes clip image = image
 filledImage (filling.Clip at) bytes clip image = put image at clip
-filledImage (filling.Write size w) bytes clip image = put (writtenWith w (span bytes 0 size) image) (w .place .offset) clip
+filledImage (filling.Write n size w) bytes clip image = put (writtenWith w (span bytes 0 size) image) (w .place .offset) clip
 
 -- ---- where the clip goes: nothing is asked where it has no byte
 
@@ -79,7 +78,7 @@ pub record Clear (image : List ℕ) (size : ℕ) (w : Writing) (n : ℕ) : Type 
 abbrev pub CanFill : List ℕ → ℕ → ℕ → Filling → Type 0
 CanFill image room n (filling.Refused c) = Unit {0}
 CanFill image room n (filling.Clip at) = Into (length image) at n
-CanFill image room n (filling.Write size w) = Fits image room size w × Clear image size w n
+CanFill image room n (filling.Write k size w) = Fits image room size w × Clear image size w n
 
 -- f, with these working bytes, is what the plan of a fill comes to where its tests say v
 pub record FilledAs (v : Verdict) (p : Plan) (image : List ℕ) (room : ℕ) (bytes clip : List ℕ) (f : Filling) : Type 0 where
@@ -88,6 +87,10 @@ pub record FilledAs (v : Verdict) (p : Plan) (image : List ℕ) (room : ℕ) (by
   pub after : filledImage f bytes clip image ≡ cond (isRefused v) image (planImage p image)
 
 -- ---- and the totals record
+
+pub record AccountedFilling : Type 0 where
+  pub filling : Filling
+  pub totals : Totals
 
 abbrev pub accountedFilling : Filling → Totals → AccountedFilling
 accountedFilling f t = record { filling = f; totals = t }

@@ -1,5 +1,6 @@
 -- `totals::move_totals` meets its contract: one law for each answer.
 -- Assumes nothing.
+use mathlib.Core.Path.{refl}
 use native.Mathlib.Omega.{arith}
 use Rattle.totals.specs.Totals.{totalsMoved}
 use Rattle.totals.proofs.Moving.{moved-short, moved-over, moved-last, moved-to}
@@ -7,35 +8,32 @@ use borrow.Author.Needs.{needs}
 use Rattle.totals.proofs.move_totals.Statement.{statement}
 use Rattle.totals.proofs.move_totals.Tie as tie
 
+element-copy-out-wide : tie.Need-element-copy-out-wide
+element-copy-out-wide c = search needs
+
 wide-requires : tie.Need-wide-requires
 wide-requires c κs = search needs
 
 add-sum : tie.Need-add-sum
 add-sum c = search needs
 
-stopped-requires : tie.Need-stopped-requires
-stopped-requires c κs = search needs
+element-copy-out-edits : tie.Need-element-copy-out-edits
+element-copy-out-edits c = search needs
 
 returns : tie.Need-returns
-returns c = moved-short _ _ _ _ _ (c .stopped .ensures) (omega arith)
-
-stopped-requires-2 : tie.Need-stopped-requires-2
-stopped-requires-2 c κs = search needs
+returns c = moved-short _ _ _ _ _ refl (omega arith)
 
 returns-2 : tie.Need-returns-2
-returns-2 c = moved-over _ _ _ _ _ (c .stopped2 .ensures) (omega arith) (omega arith)
-
-stopped-requires-3 : tie.Need-stopped-requires-3
-stopped-requires-3 c κs = search needs
+returns-2 c = moved-over _ _ _ _ _ refl (omega arith) (omega arith)
 
 returns-3 : tie.Need-returns-3
-returns-3 c = moved-last _ _ _ _ _ (c .stopped3 .ensures) (omega arith) (omega arith) (omega arith)
+returns-3 c = moved-last _ _ _ _ _ refl (omega arith) (omega arith) (omega arith)
 
-cast-t10 : tie.Need-cast-t10
-cast-t10 c = search needs
+cast-t11 : tie.Need-cast-t11
+cast-t11 c = search needs
 
-add-t11 : tie.Need-add-t11
-add-t11 c = search needs
+add-t18 : tie.Need-add-t18
+add-t18 c = search needs
 
 returns-4 : tie.Need-returns-4
 unfolding totalsMoved
@@ -47,14 +45,13 @@ pub move-totals-spec : {M : Type 1} → statement M
 move-totals-spec =
     tie.close
     (tie.spec
+    element-copy-out-wide
     wide-requires
     add-sum
-    stopped-requires
+    element-copy-out-edits
     returns
-    stopped-requires-2
     returns-2
-    stopped-requires-3
     returns-3
-    cast-t10
-    add-t11
+    cast-t11
+    add-t18
     returns-4)

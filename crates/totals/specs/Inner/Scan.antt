@@ -9,7 +9,6 @@ use Rattle.refusal.specs.declared.Verdict.the-variants as verdict
 use Rattle.space.specs.declared.DiscRegion.{DiscRegion}
 use Rattle.space.specs.Used.{endOf}
 use Rattle.totals.specs.declared.Totals.{Totals}
-use Rattle.totals.specs.declared.Moved.{Moved}
 
 -- the longest run of the bytes from a up to b that has none of r's bytes
 unfoldable pub longestBeside : ℕ → ℕ → DiscRegion → ℕ
@@ -27,7 +26,15 @@ longestFrom e gone new at best (x ∷ xs) =
 abbrev pub goneOf : DiscRegion → ℕ
 goneOf old = cond (eqb (old .size) 0) 0 (old .offset)
 
+-- whether the record can move on, and the record then
+pub record Moved : Type 0 where
+  pub verdict : Verdict
+  pub totals : Totals
+
+abbrev pub moved : Verdict → Totals → Moved
+moved v t = record { verdict = v; totals = t }
+
 -- by the verdict: the next record, or the one that came in
 abbrev pub movedAs : Verdict → Totals → Totals → Moved
-movedAs verdict.Passed t next = record { verdict = verdict.Passed; totals = next }
-movedAs (verdict.Refused c) t next = record { verdict = verdict.Refused c; totals = t }
+movedAs verdict.Passed t next = moved verdict.Passed next
+movedAs (verdict.Refused c) t next = moved (verdict.Refused c) t

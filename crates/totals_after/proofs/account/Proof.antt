@@ -51,7 +51,7 @@ returns-3 c =
     let d : tie.After-decision = search in
     let e : tie.After-enter2 = search in
     let g : tie.After-settled2 = search in
-    write-accounted _ _ _ _ _ _ _ _ (d .decision .given .1) (e .enter2 .ensures) (g .settled2 .ensures)
+    write-accounted _ _ _ _ _ _ _ _ _ _ (d .decision .given .1) (e .enter2 .ensures) (g .settled2 .ensures)
 
 pub account-spec : {M : Type 1} → statement M
 account-spec =

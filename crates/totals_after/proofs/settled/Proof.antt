@@ -11,7 +11,7 @@ enum-known-verdict : tie.Need-enum-known-verdict
 enum-known-verdict c = search needs
 
 returns : tie.Need-returns
-returns c = rw (c .enum-told .given .1)
+returns c = search needs
 
 returns-2 : tie.Need-returns-2
 returns-2 c = let o : tie.After-verdict = search in rw (o .verdict .given .1)

@@ -9,21 +9,24 @@ use Rattle.refusal.specs.Refusal.{isRefused}
 use Rattle.header.specs.Verdicts.{fstOffset, fstSize, discEnd}
 use Rattle.space.specs.declared.DiscRegion.{DiscRegion}
 use Rattle.totals.specs.declared.Totals.{Totals}
-use Rattle.totals.specs.declared.Moved.{Moved}
 use Rattle.totals.specs.Totals.{totalsVerdict, totalsMoved}
-use Rattle.totals.specs.Inner.Scan.{longestFrom, goneOf, movedAs}
+use Rattle.totals.specs.Inner.Scan.{longestFrom, goneOf, Moved, movedAs}
 use Rattle.edits.specs.Change.{Plan}
 use Rattle.edits.specs.Edits.{noPlace, planImage, countedVerdict, totalsTo}
 use Rattle.commit.specs.declared.Decision.{Decision}
 use Rattle.commit.specs.declared.Decision.the-variants as decision
 use Rattle.commit.specs.Inner.Decision.{DecidedAs}
-use Rattle.totals_after.specs.declared.Accounted.{Accounted}
 
 -- a table that is to be written ends on the disc
 abbrev pub OnDisc : List ℕ → Decision → Type 0
 OnDisc image (decision.Refused c) = Unit {0}
 OnDisc image decision.Nothing = Unit {0}
-OnDisc image (decision.Write size w) = fstOffset image + size ≤ discEnd image
+OnDisc image (decision.Write n size w) = fstOffset image + size ≤ discEnd image
+
+-- what is decided on once the record is tested too, and the record then
+pub record Accounted : Type 0 where
+  pub decision : Decision
+  pub totals : Totals
 
 abbrev pub accounted : Decision → Totals → Accounted
 accounted d t = record { decision = d; totals = t }
@@ -48,7 +51,7 @@ enteredAs image xs t size old new =
 abbrev pub accountOf : List ℕ → List DiscRegion → Decision → Totals → Accounted
 accountOf image xs (decision.Refused c) t = accounted (decision.Refused c) t
 accountOf image xs decision.Nothing t = settledAs decision.Nothing (enteredAs image xs t (fstSize image) noPlace noPlace)
-accountOf image xs (decision.Write size w) t = settledAs (decision.Write size w) (enteredAs image xs t size (w .old) (w .place))
+accountOf image xs (decision.Write n size w) t = settledAs (decision.Write n size w) (enteredAs image xs t size (w .old) (w .place))
 
 -- the record afterwards
 abbrev pub countedTotals : Plan → Totals → List ℕ → ℕ → ℕ → Totals

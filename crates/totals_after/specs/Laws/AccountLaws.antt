@@ -35,8 +35,7 @@ use Rattle.commit.specs.declared.Writing.{Writing}
 use Rattle.commit.specs.declared.Decision.{Decision}
 use Rattle.commit.specs.declared.Decision.the-variants as decision
 use Rattle.commit.specs.Inner.Decision.{Decided, DecidedAs}
-use Rattle.totals_after.specs.declared.Accounted.{Accounted}
-use Rattle.totals_after.specs.Inner.Accounting.{OnDisc, accounted, settledAs, movedBy, enteredAs, accountOf}
+use Rattle.totals_after.specs.Inner.Accounting.{OnDisc, Accounted, accounted, settledAs, movedBy, enteredAs, accountOf}
 
 -- ---- by what lies behind the table
 
@@ -80,8 +79,8 @@ pub record Entered (v : Verdict) (d : Decision) (t t′ : Totals) (a : Accounted
   pub refused : (c : Refusal) → v ≡ Refused c → a ≡ accounted (decision.Refused c) t
 
 -- the table in the working bytes has the size that was decided on
-table-size : {v : Verdict} (image : List ℕ) (room : ℕ) (bytes : List ℕ) → length bytes ≡ room → (k : ℕ) (c : Change) (size : ℕ) (x : Writing) → DecidedAs v (change k c) image room bytes (decision.Write size x) → length (encode (c .nodes)) ≡ size
-table-size image room bytes long k c size x h = ap length (sym (h .carries .0)) ∙ length-span bytes 0 size (omega (arith, h .fits .table .held))
+table-size : {v : Verdict} (image : List ℕ) (room : ℕ) (bytes : List ℕ) → length bytes ≡ room → (k : ℕ) (c : Change) (n size : ℕ) (x : Writing) → DecidedAs v (change k c) image room bytes (decision.Write n size x) → length (encode (c .nodes)) ≡ size
+table-size image room bytes long k c n size x h = ap length (sym (h .carries .table)) ∙ length-span bytes 0 size (omega (arith, h .fits .table .held))
 
 module _ (image w : List ℕ) (m room : ℕ) (bytes : List ℕ) (long : length bytes ≡ room) (t : Totals) (o : IsOpen image w m) (b : AllBytes image) (image′ : List ℕ) where
   -- the plan's tests, and then 25
@@ -117,27 +116,27 @@ module _ (image w : List ℕ) (m room : ℕ) (bytes : List ℕ) (long : length b
       moved-entered nothing decision.Nothing _ refl (ap (settledAs decision.Nothing) (moves image w m o b image′ (fstSize image) noPlace noPlace (l refl .0) t))
   entered (change k c) decision.Nothing h l = absurd (h .carries)
   entered (filled k clip p) decision.Nothing h l = absurd (h .carries)
-  entered (refused v) (decision.Write size x) h l = absurd (h .carries)
-  entered nothing (decision.Write size x) h l = absurd (h .carries)
-  entered (change k c) (decision.Write size x) h l =
+  entered (refused v) (decision.Write n size x) h l = absurd (h .carries)
+  entered nothing (decision.Write n size x) h l = absurd (h .carries)
+  entered (change k c) (decision.Write n size x) h l =
       let f = h .carries in
-      let n : length (encode (c .nodes)) ≡ size = table-size image room bytes long k c size x h in
-      let eo : c .old ≡ x .old = ap (λ (y : Change). y .old) (f .1) in
-      let ep : c .place ≡ x .place = ap (λ (y : Change). y .place) (f .1) in
-      let s : LaidOut image image′ size (x .old) (x .place) = rw (n, eo, ep) at (l (sym (h .answer))) in
-      moved-entered (change k c) (decision.Write size x) _ (h .answer) (ap (settledAs (decision.Write size x)) (moves image w m o b image′ size (x .old) (x .place) s t))
-  entered (filled k clip p) (decision.Write size x) h l = absurd (h .carries)
+      let l₀ : length (encode (c .nodes)) ≡ size = table-size image room bytes long k c n size x h in
+      let eo : c .old ≡ x .old = ap (λ (y : Change). y .old) (f .change) in
+      let ep : c .place ≡ x .place = ap (λ (y : Change). y .place) (f .change) in
+      let s : LaidOut image image′ size (x .old) (x .place) = rw (l₀, eo, ep) at (l (sym (h .answer))) in
+      moved-entered (change k c) (decision.Write n size x) _ (h .answer) (ap (settledAs (decision.Write n size x)) (moves image w m o b image′ size (x .old) (x .place) s t))
+  entered (filled k clip p) (decision.Write n size x) h l = absurd (h .carries)
 
 -- LAW: a table that is to be written ends on the disc
 on-disc : (p : Plan) (image w : List ℕ) (m room : ℕ) (bytes : List ℕ) (d : Decision) → IsOpen image w m → AllBytes image → length bytes ≡ room → Decided p image (length w) room bytes d → OnDisc image d
 on-disc p image w m room bytes (decision.Refused c) o b long h = tt
 on-disc p image w m room bytes decision.Nothing o b long h = tt
-on-disc (refused v) image w m room bytes (decision.Write size x) o b long h = absurd (h .carries)
-on-disc nothing image w m room bytes (decision.Write size x) o b long h = absurd (h .carries)
-on-disc (change k c) image w m room bytes (decision.Write size x) o b long h =
-    let n : length (encode (c .nodes)) ≡ size = table-size image room bytes long k c size x h in
-    rw n at (room-law.room c image (length w) room (opened image (length w) (o .passed) b) (sym (h .answer)) .end)
-on-disc (filled k clip p) image w m room bytes (decision.Write size x) o b long h = absurd (h .carries)
+on-disc (refused v) image w m room bytes (decision.Write n size x) o b long h = absurd (h .carries)
+on-disc nothing image w m room bytes (decision.Write n size x) o b long h = absurd (h .carries)
+on-disc (change k c) image w m room bytes (decision.Write n size x) o b long h =
+    let l₀ : length (encode (c .nodes)) ≡ size = table-size image room bytes long k c n size x h in
+    rw l₀ at (room-law.room c image (length w) room (opened image (length w) (o .passed) b) (sym (h .answer)) .end)
+on-disc (filled k clip p) image w m room bytes (decision.Write n size x) o b long h = absurd (h .carries)
 
 pub may-account : (p : Plan) (image w : List ℕ) (m room : ℕ) (bytes : List ℕ) (d : Decision) → Decided p image (length w) room bytes d → IsOpen image w m → AllBytes image → length bytes ≡ room → IsOpen image w m × OnDisc image d
 may-account p image w m room bytes d h o b long = (o, on-disc p image w m room bytes d o b long h)

@@ -33,7 +33,7 @@ put-clip-requires-2 c κs =
     let k : tie.After-shared-slice-known = search in
     let f = g .filling3 .given in
     let s = k .before .before in
-    λ z. omega (arith, placed-into (s .args .filling) (f .0 .0) (f .0 .1 .0) (f .1) (length (now (s .args .image))) (length (now (s .args .clip))) (s .pre) z)
+    λ z. omega (arith, placed-into (s .args .filling) (f .0 .0) (f .0 .1 .0) (f .0 .1 .1 .0) (f .1) (length (now (s .args .image))) (length (now (s .args .clip))) (s .pre) z)
 
 returns : tie.Need-returns
 returns c = rw (c .before .filling .given .1) (refl, refl)
@@ -53,7 +53,7 @@ returns-3 c =
     let k : tie.After-shared-slice-known = search in
     let f = g .filling3 .given in
     let s = k .before .before in
-    (placed-rest (s .args .filling) (f .0 .0) (f .0 .1 .0) (f .1) _ (omega arith), search placed-image)
+    (placed-rest (s .args .filling) (f .0 .0) (f .0 .1 .0) (f .0 .1 .1 .0) (f .1) _ (omega arith), search placed-image)
 
 pub write-clip-spec : {M : Type 1} → statement M
 write-clip-spec =
