@@ -3,7 +3,7 @@
 use Prim.Native.Nat.{ℕ}
 use mathlib.Core.Path.{_≡_, refl, sym, ap, _∙_}
 use mathlib.Core.Bool.{cond}
-use mathlib.Core.List.{List}
+use mathlib.Core.List.{List, []}
 use native.Mathlib.Omega.{arith}
 use lib.ListN.{length}
 use Rattle.endian.specs.Bytes.{span}
@@ -27,7 +27,7 @@ use Rattle.edits.specs.Laws.Behind as behind
 use Rattle.opening.specs.declared.Prepared.{Prepared}
 use Rattle.opening.specs.declared.Prepared.the-variants as prepared
 use Rattle.opening.specs.Inner.Prepared.{Prepares, IsOpen}
-use Rattle.commit.specs.Inner.Decision.{changeWith, placing, writtenWith, Fits, sizedAs, carriedVerdict, carriedAnswer, verdictIn, Decided, DecidedAs}
+use Rattle.commit.specs.Inner.Decision.{changeWith, placing, writtenWith, Fits, sizedAs, carriedAnswer, Decided, DecidedAs}
 
 pub planned-first : (a b : Verdict) (p : Plan) → planned (first a b) p ≡ planned a (planned b p)
 planned-first Passed b p = refl
@@ -47,25 +47,32 @@ unfolding writtenWith written
 written-same image nodes w = refl
 
 module _ (image : List ℕ) (words room : ℕ) (bytes : List ℕ) where
-  pub refused-decided : (p : Plan) (c : Refusal) → planVerdict p image words room ≡ Refused c → Decided p image words room bytes (decision.Refused c)
-  refused-decided p c e = record {
+  -- with any clip: none is written
+  refused-with : (clip : List ℕ) (p : Plan) (c : Refusal) → planVerdict p image words room ≡ Refused c → DecidedAs (planVerdict p image words room) p image room bytes clip (decision.Refused c)
+  refused-with clip p c e = record {
     fits = tt;
     carries = tt;
     answer = sym e;
     after = sym (ap (λ (v : Verdict). cond (isRefused v) image (planImage p image)) e);
   }
 
+  pub refused-decided : (p : Plan) (c : Refusal) → planVerdict p image words room ≡ Refused c → Decided p image words room bytes (decision.Refused c)
+  refused-decided p c e = refused-with [] p c e
+
   pub behind-passed : (v : Verdict) (p : Plan) (d : Decision) → v ≡ Passed → Decided p image words room bytes d → Decided (planned v p) image words room bytes d
   behind-passed v p d e h = rw (behind.behind-passed v p e) h
 
+  pub behind-refused-with : (clip : List ℕ) (v : Verdict) (p : Plan) (c : Refusal) → v ≡ Refused c → DecidedAs (planVerdict (planned v p) image words room) (planned v p) image room bytes clip (decision.Refused c)
+  behind-refused-with clip v p c e = rw (behind.behind-refused v p c e) (refused-with clip (refused (Refused c)) c refl)
+
   pub behind-refused : (v : Verdict) (p : Plan) (c : Refusal) → v ≡ Refused c → Decided (planned v p) image words room bytes (decision.Refused c)
-  behind-refused v p c e = rw (behind.behind-refused v p c e) (refused-decided (refused (Refused c)) c refl)
+  behind-refused v p c e = behind-refused-with [] v p c e
 
   -- a change whose tests passed, with its table in the working bytes
   pub write-decided : (k : ℕ) (nodes : List Node) (size : ℕ) (w : Writing) → Fits image room size w → tableVerdict (changeWith nodes w) image words room ≡ Passed → span bytes 0 size ≡ encode nodes →
       Decided (change k (changeWith nodes w)) image words room bytes (decision.Write k size w)
   write-decided k nodes size w f e s = record {
-    fits = f;
+    fits = (λ z. omega arith, f);
     carries = record { number = refl; table = s; change = refl };
     answer = sym e;
     after = ap (λ (t : List ℕ). writtenWith w t image) s ∙ written-same image nodes w ∙ sym (ap (λ (v : Verdict). cond (isRefused v) image (written (changeWith nodes w) image)) e);
@@ -98,18 +105,23 @@ unopened image w w′ r c q e = rw e at q
 
 -- ---- the answer with the entry's number
 
-pub answered : (v : Verdict) (p : Plan) (image : List ℕ) (room : ℕ) (bytes : List ℕ) (d : Decision) → DecidedAs v p image room bytes d → carriedAnswer d ≡ numberedAs v (planNumber p)
-answered v p image room bytes (decision.Refused c) h = rw (← h .answer)
-answered v nothing image room bytes decision.Nothing h = rw (← h .answer)
-answered v (refused u) image room bytes decision.Nothing h = absurd (h .carries)
-answered v (change k c) image room bytes decision.Nothing h = absurd (h .carries)
-answered v (filled k clip p) image room bytes decision.Nothing h = absurd (h .carries)
-answered v (change k c) image room bytes (decision.Write n size w) h = rw (← h .answer) (ap located.At (h .carries .number))
-answered v (refused u) image room bytes (decision.Write n size w) h = absurd (h .carries)
-answered v nothing image room bytes (decision.Write n size w) h = absurd (h .carries)
-answered v (filled k clip p) image room bytes (decision.Write n size w) h = absurd (h .carries)
-
-pub verdict-carried : (d : Decision) → verdictIn (carriedAnswer d) ≡ carriedVerdict d
-verdict-carried (decision.Refused c) = refl
-verdict-carried decision.Nothing = refl
-verdict-carried (decision.Write n size w) = refl
+pub answered : (v : Verdict) (p : Plan) (image : List ℕ) (room : ℕ) (bytes clip : List ℕ) (d : Decision) → DecidedAs v p image room bytes clip d → carriedAnswer d ≡ numberedAs v (planNumber p)
+answered v p image room bytes clip (decision.Refused c) h = rw (← h .answer)
+answered v nothing image room bytes clip decision.Nothing h = rw (← h .answer)
+answered v (refused u) image room bytes clip decision.Nothing h = absurd (h .carries)
+answered v (change k c) image room bytes clip decision.Nothing h = absurd (h .carries)
+answered v (filled k x p) image room bytes clip decision.Nothing h = absurd (h .carries)
+answered v nothing image room bytes clip (decision.Clip n at) h = absurd (h .carries)
+answered v (refused u) image room bytes clip (decision.Clip n at) h = absurd (h .carries)
+answered v (change k c) image room bytes clip (decision.Clip n at) h = absurd (h .carries)
+answered v (filled k x nothing) image room bytes clip (decision.Clip n at) h = rw (← h .answer) (ap located.At (h .carries))
+answered v (filled k x (refused u)) image room bytes clip (decision.Clip n at) h = absurd (h .carries)
+answered v (filled k x (change j c)) image room bytes clip (decision.Clip n at) h = absurd (h .carries)
+answered v (filled k x (filled j y p)) image room bytes clip (decision.Clip n at) h = absurd (h .carries)
+answered v (change k c) image room bytes clip (decision.Write n size w) h = rw (← h .answer) (ap located.At (h .carries .number))
+answered v (refused u) image room bytes clip (decision.Write n size w) h = absurd (h .carries)
+answered v nothing image room bytes clip (decision.Write n size w) h = absurd (h .carries)
+answered v (filled k x (change j c)) image room bytes clip (decision.Write n size w) h = rw (← h .answer) (ap located.At (h .carries .number))
+answered v (filled k x nothing) image room bytes clip (decision.Write n size w) h = absurd (h .carries)
+answered v (filled k x (refused u)) image room bytes clip (decision.Write n size w) h = absurd (h .carries)
+answered v (filled k x (filled j y p)) image room bytes clip (decision.Write n size w) h = absurd (h .carries)

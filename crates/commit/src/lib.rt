@@ -20,11 +20,12 @@ pub struct Writing {
     pub lost_size: usize,
 }
 
-// What an edit decides on before it writes: refused, nothing to write, or a change of that entry, whose table of that size stands in the
-// working bytes.
+// What an edit decides on before it writes: refused, nothing to write, nothing but the clip at that offset for that entry, or a change of
+// that entry, whose table of that size stands in the working bytes. The clip that fills a file stands beside it.
 pub enum Decision {
     Refused(Refusal),
     Nothing,
+    Clip(u32, u32),
     Write(u32, usize, Writing),
 }
 

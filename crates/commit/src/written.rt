@@ -9,7 +9,7 @@ ghost use Prim.Native.Nat.{_+_, _-_, _<_};
 ghost use lib.ListN.{length, replicate};
 ghost use Rattle.endian.specs.Bytes.{put, span};
 ghost use Rattle.edits.specs.Change.{withTable};
-ghost use Rattle.commit.specs.Inner.Decision.{CopyFits, ZeroFits, TableFits, Fits, CanCarry, writtenWith, carriedAnswer, carriedImage, verdictIn};
+ghost use Rattle.commit.specs.Inner.Decision.{Into, clipped, CopyFits, ZeroFits, TableFits, Fits, CanCarry, writtenWith, carriedAnswer, carriedImage, verdictIn};
 
 // a - b, or 0 where b is the larger.
 fn less(a: usize, b: usize) -> usize
@@ -65,14 +65,34 @@ fn write_change(image: &mut [u8], bytes: &[u8], size: usize, w: Writing)
     zero_lost(image, w.lost, w.lost_size);
 }
 
-fn carry_out(image: &mut [u8], bytes: &[u8], decision: Decision) -> Located
-    requires { ⌜ CanCarry (now image) (length (now bytes)) decision ⌝ }
-    ensures { λ r. ⌜ (r ≡ carriedAnswer decision) × (now (image .exit) ≡ carriedImage decision (now (bytes .entry)) (now (image .entry))) ⌝ }
+// No byte may be asked for at a place past the image: an empty file may lie anywhere.
+fn put_clip(image: &mut [u8], at: usize, clip: &[u8])
+    requires { ⌜ Into (length (now image)) at (length (now clip)) ⌝ }
+    ensures { λ _. ⌜ now (image .exit) ≡ clipped (now (image .entry)) at (now (clip .entry)) ⌝ }
+{
+    let n = clip.len();
+    if n == 0 {
+        return;
+    }
+    endian::copy(clip, 0, image, at, n);
+}
+
+// The clip comes before the table, so a table with the new place or size has the whole clip.
+fn carry_out(image: &mut [u8], bytes: &[u8], clip: &[u8], decision: Decision) -> Located
+    requires { ⌜ CanCarry (now image) (length (now bytes)) (now clip) decision ⌝ }
+    ensures { λ r. ⌜ (r ≡ carriedAnswer decision) × (now (image .exit) ≡ carriedImage decision (now (bytes .entry)) (now (clip .entry)) (now (image .entry))) ⌝ }
 {
     match decision {
         Decision::Refused(cause) => Located::Refused(cause),
         Decision::Nothing => Located::At(0),
+        Decision::Clip(number, at) => {
+            put_clip(image, at as usize, clip);
+            Located::At(number)
+        }
         Decision::Write(number, size, w) => {
+            let place = w.place;
+            let at = place.offset as usize;
+            put_clip(image, at, clip);
             write_change(image, bytes, size, w);
             Located::At(number)
         }
@@ -86,13 +106,19 @@ fn zero_bytes(bytes: &mut [u8])
     endian::fill(bytes, 0, n, 0);
 }
 
-// Carries a decision out, and zeroes the working memory.
-pub fn finish(image: &mut [u8], words: &mut [u32], bytes: &mut [u8], decision: Decision) -> Located
-    requires { ⌜ CanCarry (now image) (length (now bytes)) decision ⌝ }
-    ensures { λ r. ⌜ (r ≡ carriedAnswer decision) × (now (image .exit) ≡ carriedImage decision (now (bytes .entry)) (now (image .entry))) ⌝ }
+// Carries a decision out, with the clip that fills the file if there is one, and zeroes the working memory.
+pub fn finish(
+    image: &mut [u8],
+    words: &mut [u32],
+    bytes: &mut [u8],
+    clip: &[u8],
+    decision: Decision,
+) -> Located
+    requires { ⌜ CanCarry (now image) (length (now bytes)) (now clip) decision ⌝ }
+    ensures { λ r. ⌜ (r ≡ carriedAnswer decision) × (now (image .exit) ≡ carriedImage decision (now (bytes .entry)) (now (clip .entry)) (now (image .entry))) ⌝ }
     ensures { λ _. ⌜ (now (words .exit) ≡ replicate (length (now (words .entry))) 0) × (now (bytes .exit) ≡ replicate (length (now (bytes .entry))) 0) ⌝ }
 {
-    let located = carry_out(image, bytes, decision);
+    let located = carry_out(image, bytes, clip, decision);
     space::zero_words(words);
     zero_bytes(bytes);
     located

@@ -71,7 +71,6 @@ unfoldable pub totalsReply : List ℕ → TotalsAnswer → Reply
 totalsReply before (totaled.Found t) = accepts (t .«disc_end» ∷ t .used ∷ [])
 totalsReply before (totaled.Refused c) = refuses before c
 
--- used bytes, the largest free region's size, accepted edits
 abbrev pub totalsWords : Totals → List ℕ
 totalsWords t = t .used ∷ t .largest ∷ t .edits ∷ []
 

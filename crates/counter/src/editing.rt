@@ -87,8 +87,7 @@ pub extern "C" fn counter_fill_file(
 ) -> u32
     ensures { λ r. ⌜ Edited done (edits.fillFile number (now (clip .entry))) (lent (now (image .entry)) (now (words .entry)) (now (bytes .entry)) (totalsIn (now («record» .entry)))) (lent (now (image .exit)) (now (words .exit)) (now (bytes .exit)) (totalsIn (now («record» .exit)))) r ⌝ }
 {
-    let verdict = fill::fill_file(image, words, bytes, record, number, clip);
-    number_of(verdict)
+    give_done(image, words, bytes, record, Edit::FillFile(number), clip)
 }
 
 #[no_mangle]

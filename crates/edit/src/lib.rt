@@ -1,5 +1,5 @@
 // The edits of an image. Each opens the image, makes every test, builds the new table in the working bytes, and only then writes the image:
-// the one pipeline, with the edit's numbers and its name or path.
+// the one pipeline, with the edit's numbers and its name, path or clip.
 use pipeline::Edit;
 use refusal::Verdict;
 use totals::Record;
@@ -61,6 +61,20 @@ pub fn resize_file(
         Edit::ResizeFile(number, new_size),
         b"",
     )
+}
+
+// Afterwards the file is the clip.
+pub fn fill_file(
+    image: &mut [u8],
+    words: &mut [u32],
+    bytes: &mut [u8],
+    record: &mut Record,
+    number: u32,
+    clip: &[u8],
+) -> Verdict
+    ensures { λ r. ⌜ Edited onlyVerdict (edits.fillFile number (now (clip .entry))) (lent (now (image .entry)) (now (words .entry)) (now (bytes .entry)) (totalsIn (now («record» .entry)))) (lent (now (image .exit)) (now (words .exit)) (now (bytes .exit)) (totalsIn (now («record» .exit)))) r ⌝ }
+{
+    pipeline::done(image, words, bytes, record, Edit::FillFile(number), clip)
 }
 
 // An empty file, with offset 0, as last child of a directory; its number.

@@ -5,7 +5,7 @@ use mathlib.Core.Logic.{_⊎_, inl, inr, ⊎-elim}
 use mathlib.Core.List.{List, [], _∷_, _++_}
 use native.Mathlib.Omega.{arith}
 use lib.ListN.{length, take, drop, replicate, length-append, length-replicate, length-take}
-use lib.Seq.{length-take-le, take-length, take-append-seam}
+use lib.Seq.{length-take-le, take-append-seam}
 use Rattle.endian.specs.Bytes.{put, span, be32, be32Bytes}
 use Rattle.endian.specs.Laws.Stored.{length-put, drop-put, put-none}
 use Rattle.header.specs.Verdicts.{fstOffset, fstSize}
@@ -13,8 +13,8 @@ use Rattle.edits.specs.Change.{padded, withTable}
 use Rattle.edits.specs.Laws.Puts.{put-length, field-below}
 use Rattle.fst_measure.proofs.Puts.{put-swap}
 use Rattle.commit.specs.declared.Writing.{Writing}
-use Rattle.commit.specs.Inner.Decision.{writtenWith, Fits}
-use Rattle.fill.specs.Inner.Filling.{Into, Clear, uncopied}
+use Rattle.commit.specs.Inner.Decision.{clipped, writtenWith, Fits}
+use Rattle.fill.specs.Inner.Filling.{Clear, uncopied}
 
 -- bytes put over others that they cover
 over : (s : List ℕ) (at : ℕ) (x y : List ℕ) → length x ≤ length y → at + length y ≤ length s → put (put s at x) at y ≡ put s at y
@@ -36,17 +36,9 @@ pub put-over : (s : List ℕ) (at : ℕ) (x y : List ℕ) → length x ≤ lengt
 put-over s at [] y h fits = rw (put-none s at)
 put-over s at (b ∷ x) y h fits = over s at (b ∷ x) y h (fits (omega arith))
 
--- ---- a whole clip copied
-
-pub put-nothing : (s : List ℕ) (at : ℕ) (x : List ℕ) (n : ℕ) → n ≡ length x → n ≡ 0 → s ≡ put s at x
-put-nothing s at [] n e z = sym (put-none s at)
-put-nothing s at (b ∷ x) n e z = absurd (omega arith)
-
-pub clip-asks : (long at n : ℕ) → Into long at n → (n ≡ 0 → ⊥) → (0 + n ≤ n) × (at + n ≤ long)
-clip-asks long at n h z = (omega arith, h (omega arith))
-
-pub put-whole : (s t : List ℕ) (at n : ℕ) (x : List ℕ) → n ≡ length x → t ≡ put s at (span x 0 n) → t ≡ put s at x
-put-whole s t at n x e h = h ∙ ap (put s at) (ap (λ (m : ℕ). take m x) e ∙ take-length x)
+pub clipped-put : (s : List ℕ) (at : ℕ) (x : List ℕ) → clipped s at x ≡ put s at x
+clipped-put s at [] = sym (put-none s at)
+clipped-put s at (b ∷ x) = refl
 
 -- ---- bytes at places that are apart, in either order
 

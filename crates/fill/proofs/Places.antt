@@ -31,7 +31,7 @@ use Rattle.free_space.specs.Allocate.{allocationOf}
 use Rattle.free_space.specs.Laws.GrowthLaws.{file-largest}
 use Rattle.opening.specs.Opening.{nodesIn, regionOf, behindTable, usedIn, freeOf}
 use Rattle.opening.specs.Laws.OpeningLaws.{OpenImage}
-use Rattle.edits.specs.Change.{Change, tableVerdict, Plan, refused, nothing, change}
+use Rattle.edits.specs.Change.{Change, tableVerdict, Plan, refused, nothing, change, filled}
 use Rattle.edits.specs.Edits.{overlapsItself, relocateVerdict, relocated, resized, planned, planElsewhere, planSized, planVerdict, planTree}
 use Rattle.edits.specs.Laws.PlaceTests.{place-passed, in-region}
 use Rattle.decide.specs.Inner.Files.{IsFile}
@@ -39,7 +39,7 @@ use Rattle.commit.specs.declared.Writing.{Writing}
 use Rattle.commit.specs.declared.Decision.the-variants as decision
 use Rattle.commit.specs.Inner.Decision.{changeWith, Carries}
 use Rattle.commit.proofs.Images.{file-lies, place-lies, new-place}
-use Rattle.fill.specs.Inner.Filling.{Clear}
+use Rattle.fill.specs.Inner.Filling.{Clear, uncopied}
 
 -- a file's region is one of its table's
 in-files : (xs : List Node) (k : ℕ) → k < length xs → In (regionOf (getD xs k none)) (map regionOf xs)
@@ -156,9 +156,19 @@ module _ (image : List ℕ) (words : ℕ) (known : OpenImage image words) (k : �
   clip-stays bytes =
       sized (λ (x : Plan). Carries decision.Nothing bytes x → (0 < n → old .offset + n ≤ length image) × (x ≡ nothing)) (λ e h. (λ z. omega (arith, old-lies (omega arith) .1), refl)) (λ c h. absurd h) (λ c l g h. absurd h)
 
+  pub never-clip : (bytes : List ℕ) (number at : ℕ) → Carries (decision.Clip number at) bytes p → ⊥
+  never-clip bytes number at = sized (λ (x : Plan). Carries (decision.Clip number at) bytes x → ⊥) (λ e h. h) (λ c h. h) (λ c l g h. h)
+
   -- and a change that passes its tests can be written behind the clip
-  pub clip-clear : (room number size : ℕ) (bytes : List ℕ) (w : Writing) → size ≤ length bytes → Carries (decision.Write number size w) bytes p → planVerdict p image words room ≡ Passed →
-      Clear image size w n × (regionOf (getD (planTree p (nodesIn image)) k none) .offset ≡ w .place .offset)
-  clip-clear room number size bytes w held =
-      sized (λ (x : Plan). Carries (decision.Write number size w) bytes x → planVerdict x image words room ≡ Passed → Clear image size w n × (regionOf (getD (planTree x (nodesIn image)) k none) .offset ≡ w .place .offset))
-      (λ e h. absurd h) (λ c h. absurd h) (λ c l g h v. (clear image c n words room size bytes w l v (h .table) held (h .change), g ∙ ap (λ (x : Change). x .place .offset) (h .change)))
+  pub clip-clear : (room number size : ℕ) (bytes clip : List ℕ) (w : Writing) → size ≤ length bytes → Carries (decision.Write number size w) bytes p → planVerdict p image words room ≡ Passed →
+      Clear image size w n × (regionOf (getD (planTree p (nodesIn image)) k none) .offset ≡ w .place .offset) × Carries (decision.Write k size (uncopied w)) bytes (filled k clip p)
+  clip-clear room number size bytes clip w held =
+      sized
+      (λ (x : Plan).
+      Carries (decision.Write number size w) bytes x → planVerdict x image words room ≡ Passed → Clear image size w n × (regionOf (getD (planTree x (nodesIn image)) k none) .offset ≡ w .place .offset) × Carries (decision.Write k size (uncopied w)) bytes (filled k clip x))
+      (λ e h. absurd h) (λ c h. absurd h)
+      (λ c l g h v. (
+        clear image c n words room size bytes w l v (h .table) held (h .change),
+        g ∙ ap (λ (x : Change). x .place .offset) (h .change),
+        record { number = refl; table = h .table; old = ap (λ (x : Change). x .old) (h .change); place = ap (λ (x : Change). x .place) (h .change) },
+      ))

@@ -1,58 +1,62 @@
-// A file filled from given bytes: resized to the clip, which is then the file. Each call opens the image, makes every test, builds the new
-// table in the working bytes, and only then writes the image: the clip, the table, the zeros.
-mod opened;
-mod written;
-
+// What a fill decides on: the file is resized to the clip, and then the clip is the file.
+use commit::Decision;
 use commit::Writing;
-use opening::Prepared;
+use decide::FileAt;
 use refusal::Refusal;
-use refusal::Verdict;
-use totals::Record;
+ghost use mathlib.Core.Path.{_≡_};
 ghost use lib.ListN.{length};
-ghost use Rattle.opening.specs.Opening.{opening};
-ghost use Rattle.edits.specs.Edits.{fillFile, planned, planOf};
-ghost use Rattle.totals.specs.Totals.{totalsIn};
-ghost use Rattle.edits.specs.Promise.{lent, onlyVerdict, Edited};
-ghost use Rattle.fill.specs.Inner.Filling.{accountedFilling, FilledFor};
+ghost use Rattle.opening.specs.Opening.{nodesIn, freeOf};
+ghost use Rattle.opening.specs.Inner.Prepared.{IsOpen};
+ghost use Rattle.edits.specs.Edits.{planFill, planVerdict};
+ghost use Rattle.commit.specs.Inner.Decision.{DecidedAs};
+ghost use Rattle.fill.specs.Inner.Filling.{withClip};
 
-// What a fill decides on before it writes: refused, the clip alone at an offset, or a change with the clip at its place; its table of that
-// size stands in the working bytes.
-pub enum Filling {
-    Refused(Refusal),
-    Clip(u32),
-    Write(u32, usize, Writing),
-}
-
-fn decide_fill(
-    image: &[u8],
-    words: &mut [u32],
-    bytes: &mut [u8],
-    record: &mut Record,
-    number: u32,
-    clip: &[u8],
-) -> Filling
-    ensures { λ r. ⌜ FilledFor (planned (opening (now (image .entry)) (length (now (words .entry)))) (planOf (fillFile number (now (clip .entry))) (now (image .entry)))) (now (image .entry)) (length (now (words .entry))) (length (now (bytes .entry))) (now (bytes .exit)) (now (clip .entry)) (totalsIn (now («record» .entry))) (accountedFilling r (totalsIn (now («record» .exit)))) ⌝ }
+// A resize's decision with the clip: a file of the clip's size stays at `at`, and only the clip is written. No byte of the old file is copied,
+// since the clip covers what a resize would copy.
+fn with_clip(decision: Decision, number: u32, at: u32) -> Decision
+    ensures { λ r. ⌜ r ≡ withClip decision number at ⌝ }
 {
-    let prepared = opening::prepare(image, words);
-    match prepared {
-        Prepared::Refused(cause) => Filling::Refused(cause),
-        Prepared::Ready(m) => opened::fill(image, words, m, bytes, record, number, clip),
+    match decision {
+        Decision::Refused(cause) => Decision::Refused(cause),
+        Decision::Nothing => Decision::Clip(number, at),
+        Decision::Clip(_, _) => Decision::Clip(number, at),
+        Decision::Write(_, size, w) => {
+            let old = w.old;
+            let place = w.place;
+            let rest = Writing {
+                old,
+                place,
+                kept: 0,
+                lost: w.lost,
+                lost_size: w.lost_size,
+            };
+            Decision::Write(number, size, rest)
+        }
     }
 }
 
-// Afterwards the file is the clip.
-pub fn fill_file(
-    image: &mut [u8],
-    words: &mut [u32],
+// 15, 16, 21 for a clip that no place can hold, then the resize to the clip's length.
+pub fn fill(
+    image: &[u8],
+    words: &[u32],
+    m: usize,
     bytes: &mut [u8],
-    record: &mut Record,
     number: u32,
     clip: &[u8],
-) -> Verdict
-    ensures { λ r. ⌜ Edited onlyVerdict (fillFile number (now (clip .entry))) (lent (now (image .entry)) (now (words .entry)) (now (bytes .entry)) (totalsIn (now («record» .entry)))) (lent (now (image .exit)) (now (words .exit)) (now (bytes .exit)) (totalsIn (now («record» .exit)))) r ⌝ }
+) -> Decision
+    requires { ⌜ IsOpen (now image) (now words) m ⌝ }
+    ensures { λ r. ⌜ DecidedAs (planVerdict (planFill (freeOf (now (image .entry))) (nodesIn (now (image .entry))) number (now (clip .entry))) (now (image .entry)) (length (now (words .entry))) (length (now (bytes .entry)))) (planFill (freeOf (now (image .entry))) (nodesIn (now (image .entry))) number (now (clip .entry))) (now (image .entry)) (length (now (bytes .entry))) (now (bytes .exit)) (now (clip .entry)) r ⌝ }
 {
-    let filling = decide_fill(image, words, bytes, record, number, clip);
-    let rest = written::write_clip(image, clip, filling);
-    let located = commit::finish(image, words, bytes, rest);
-    commit::verdict_of(located)
+    let found = decide::file_at(image, number);
+    match found {
+        FileAt::Refused(cause) => Decision::Refused(cause),
+        FileAt::Place(old) => {
+            if 0xFFFFFFFF < clip.len() {
+                return Decision::Refused(Refusal::NotEnoughSpace);
+            }
+            let new_size = clip.len() as u32;
+            let decision = decide::resize(image, words, m, bytes, number, old, new_size);
+            with_clip(decision, number, old.offset)
+        }
+    }
 }

@@ -4,6 +4,7 @@ use opening::Prepared;
 use refusal::Verdict;
 use totals::Record;
 use tree::Located;
+ghost use mathlib.Core.Path.{_≡_};
 ghost use lib.ListN.{length};
 ghost use Rattle.opening.specs.Opening.{opening};
 ghost use Rattle.opening.specs.Inner.Prepared.{IsOpen};
@@ -11,13 +12,14 @@ ghost use Rattle.edits.specs.Edits.{planned, planOf, numberedAs};
 ghost use Rattle.totals_after.specs.Inner.Accounting.{accounted, AccountedFor};
 ghost use Rattle.edits.specs.Promise.{lent, onlyVerdict, Edited};
 ghost use Rattle.totals.specs.Totals.{totalsIn};
-ghost use Rattle.pipeline.specs.Inner.Decides.{editOf, Decides};
+ghost use Rattle.pipeline.specs.Inner.Decides.{editOf, clipOf, Decides};
 
-// An edit with its numbers; its name or path stands beside it.
+// An edit with its numbers; its name, path or clip stands beside it.
 pub enum Edit {
     Rewrite,
     MoveFile(u32, u32),
     ResizeFile(u32, u32),
+    FillFile(u32),
     InsertFile(u32),
     InsertDirectory(u32),
     MakeDirectories(u32),
@@ -33,12 +35,13 @@ pub fn decide_open(
     text: &[u8],
 ) -> Decision
     requires { ⌜ IsOpen (now image) (now words) m ⌝ }
-    ensures { λ r. ⌜ Decides (editOf edit (now (text .entry))) (now (image .entry)) (length (now (words .entry))) (length (now (bytes .entry))) (now (bytes .exit)) r ⌝ }
+    ensures { λ r. ⌜ Decides (editOf edit (now (text .entry))) (now (image .entry)) (length (now (words .entry))) (length (now (bytes .entry))) (now (bytes .exit)) (clipOf edit (now (text .entry))) r ⌝ }
 {
     match edit {
         Edit::Rewrite => decide::rewrite(image, words, m, bytes),
         Edit::MoveFile(number, to) => decide::move_file(image, words, m, bytes, number, to),
         Edit::ResizeFile(number, size) => decide::resize_file(image, words, m, bytes, number, size),
+        Edit::FillFile(number) => fill::fill(image, words, m, bytes, number, text),
         Edit::InsertFile(parent) => insert::insert(image, words, m, bytes, parent, false, text),
         Edit::InsertDirectory(parent) => insert::insert(image, words, m, bytes, parent, true, text),
         Edit::MakeDirectories(start) => make_directories::decide_open(
@@ -61,7 +64,7 @@ fn decide(
     edit: Edit,
     text: &[u8],
 ) -> Decision
-    ensures { λ r. ⌜ AccountedFor (planned (opening (now (image .entry)) (length (now (words .entry)))) (planOf (editOf edit (now (text .entry))) (now (image .entry)))) (now (image .entry)) (length (now (words .entry))) (length (now (bytes .entry))) (now (bytes .exit)) (totalsIn (now («record» .entry))) (accounted r (totalsIn (now («record» .exit)))) ⌝ }
+    ensures { λ r. ⌜ AccountedFor (planned (opening (now (image .entry)) (length (now (words .entry)))) (planOf (editOf edit (now (text .entry))) (now (image .entry)))) (now (image .entry)) (length (now (words .entry))) (length (now (bytes .entry))) (now (bytes .exit)) (clipOf edit (now (text .entry))) (totalsIn (now («record» .entry))) (accounted r (totalsIn (now («record» .exit)))) ⌝ }
 {
     let prepared = opening::prepare(image, words);
     match prepared {
@@ -70,6 +73,21 @@ fn decide(
             let decision = decide_open(image, words, m, bytes, edit, text);
             totals_after::account(image, words, m, decision, record)
         }
+    }
+}
+
+// The clip that fills the file; none for the other edits.
+fn clip_of<'a>(edit: Edit, text: &'a [u8]) -> &'a [u8]
+    ensures { λ r. ⌜ now r ≡ clipOf edit (now (text .entry)) ⌝ }
+{
+    match edit {
+        Edit::Rewrite => &text[0..0],
+        Edit::MoveFile(_, _) => &text[0..0],
+        Edit::ResizeFile(_, _) => &text[0..0],
+        Edit::FillFile(_) => text,
+        Edit::InsertFile(_) => &text[0..0],
+        Edit::InsertDirectory(_) => &text[0..0],
+        Edit::MakeDirectories(_) => &text[0..0],
     }
 }
 
@@ -85,7 +103,8 @@ pub fn run(
     ensures { λ r. ⌜ Edited numberedAs (editOf edit (now (text .entry))) (lent (now (image .entry)) (now (words .entry)) (now (bytes .entry)) (totalsIn (now («record» .entry)))) (lent (now (image .exit)) (now (words .exit)) (now (bytes .exit)) (totalsIn (now («record» .exit)))) r ⌝ }
 {
     let decision = decide(image, words, bytes, record, edit, text);
-    commit::finish(image, words, bytes, decision)
+    let clip = clip_of(edit, text);
+    commit::finish(image, words, bytes, clip, decision)
 }
 
 // The whole edit, of one that gives only that it is done.

@@ -49,11 +49,18 @@ pub entered : (image w : List ℕ) (m e f s s′ o n n′ size largest : ℕ) (t
     x ≡ enteredAs image (regionsIn w 1 (m - 1)) t size old new
 entered image w m e f s s′ o n n′ size largest t old new x l q end start old-size q₀ q₁ q₂ q₃ = rw (l, end, start, q₀, old-size, q₁, q₂, q₃) at q
 
+-- where the table stays
+pub none-entered : (image : List ℕ) (xs : List DiscRegion) (t t′ : Totals) (v : Verdict) (s : ℕ) → s ≡ fstSize image → moved v t′ ≡ enteredAs image xs t s noPlace noPlace → moved v t′ ≡ enteredAs image xs t (fstSize image) noPlace noPlace
+none-entered image xs t t′ v s e q = rw e at q
+
 -- ---- by the cases of the decision
 
 module _ (image : List ℕ) (xs : List DiscRegion) (d d′ : Decision) (v : Verdict) (t t′ : Totals) where
-  pub nothing-accounted : (s : ℕ) → d ≡ decision.Nothing → s ≡ fstSize image → moved v t′ ≡ enteredAs image xs t s noPlace noPlace → d′ ≡ unless v d → accounted d′ t′ ≡ accountOf image xs d t
-  nothing-accounted s is e q g = rw (g, is) (ap (settledAs decision.Nothing) (rw e at q))
+  pub nothing-accounted : d ≡ decision.Nothing → moved v t′ ≡ enteredAs image xs t (fstSize image) noPlace noPlace → d′ ≡ unless v d → accounted d′ t′ ≡ accountOf image xs d t
+  nothing-accounted is q g = rw (g, is) (ap (settledAs decision.Nothing) q)
+
+  pub clip-accounted : (n at : ℕ) → d ≡ decision.Clip n at → moved v t′ ≡ enteredAs image xs t (fstSize image) noPlace noPlace → d′ ≡ unless v d → accounted d′ t′ ≡ accountOf image xs d t
+  clip-accounted n at is q g = rw (g, is) (ap (settledAs (decision.Clip n at)) q)
 
   pub write-accounted : (n size : ℕ) (x : Writing) → d ≡ decision.Write n size x → moved v t′ ≡ enteredAs image xs t size (x .old) (x .place) → d′ ≡ unless v (decision.Write n size x) → accounted d′ t′ ≡ accountOf image xs d t
   write-accounted n size x is q g = rw (g, is) (ap (settledAs (decision.Write n size x)) q)

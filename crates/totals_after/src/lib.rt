@@ -7,11 +7,12 @@ use space::DiscRegion;
 use totals::Record;
 ghost use mathlib.Core.Path.{_≡_};
 ghost use Prim.Native.Nat.{_+_, _-_, _≤_};
-ghost use Rattle.header.specs.Verdicts.{fstOffset, discEnd};
+ghost use Rattle.header.specs.Verdicts.{fstOffset, fstSize, discEnd};
 ghost use Rattle.space.specs.Inner.Sort.{regionsIn};
 ghost use Rattle.opening.specs.Inner.Prepared.{IsOpen};
 ghost use Rattle.totals.specs.Totals.{totalsIn};
 ghost use Rattle.totals.specs.Inner.Scan.{moved};
+ghost use Rattle.edits.specs.Edits.{noPlace};
 ghost use Rattle.totals_after.specs.Inner.Accounting.{OnDisc, unless, accounted, enteredAs, accountOf};
 
 // Refused where the record cannot move on.
@@ -49,6 +50,16 @@ fn enter(
     totals::move_totals(record, before, after, largest)
 }
 
+// The same where the table stays and no file moves.
+fn enter_none(image: &[u8], words: &[u32], m: usize, record: &mut Record) -> Verdict
+    requires { ⌜ IsOpen (now image) (now words) m ⌝ }
+    ensures { λ r. ⌜ moved r (totalsIn (now («record» .exit))) ≡ enteredAs (now (image .entry)) (regionsIn (now (words .entry)) 1 (m - 1)) (totalsIn (now («record» .entry))) (fstSize (now (image .entry))) noPlace noPlace ⌝ }
+{
+    let size = endian::read_u32(image, Field::FST_SIZE.at);
+    let none = DiscRegion { offset: 0, size: 0 };
+    enter(image, words, m, record, size, none, none)
+}
+
 // What is decided on, once the record is tested too: a refused edit leaves it as it is.
 pub fn account(
     image: &[u8],
@@ -63,9 +74,11 @@ pub fn account(
     match decision {
         Decision::Refused(_) => decision,
         Decision::Nothing => {
-            let size = endian::read_u32(image, Field::FST_SIZE.at);
-            let none = DiscRegion { offset: 0, size: 0 };
-            let verdict = enter(image, words, m, record, size, none, none);
+            let verdict = enter_none(image, words, m, record);
+            settled(decision, verdict)
+        }
+        Decision::Clip(_, _) => {
+            let verdict = enter_none(image, words, m, record);
             settled(decision, verdict)
         }
         Decision::Write(_, size, w) => {

@@ -3,7 +3,7 @@
 use Prim.Native.Nat.{ℕ, _+_, _<_, _≤_, _^_}
 use mathlib.Core.Path.{_≡_}
 use mathlib.Core.Bool.{cond}
-use mathlib.Core.List.{List}
+use mathlib.Core.List.{List, [], _∷_}
 use lib.ListN.{length, replicate}
 use Rattle.endian.specs.Bytes.{put, span}
 use Rattle.refusal.specs.declared.Verdict.{Verdict}
@@ -66,22 +66,36 @@ pub record Fits (image : List ℕ) (room size : ℕ) (w : Writing) : Type 0 wher
   pub table : TableFits (length image) room (fstOffset image) (fstSize image) size
   pub inside : InImage (length image) w
 
+-- ---- a clip
+
+-- n bytes at `at` lie in an image of that length
+abbrev pub Into : ℕ → ℕ → ℕ → Type 0
+Into long at n = 0 < n → at + n ≤ long
+
+-- the image with the clip at its place; most edits have none
+abbrev pub clipped : List ℕ → ℕ → List ℕ → List ℕ
+clipped image at [] = image
+clipped image at (b ∷ clip) = put image at (b ∷ clip)
+
 -- ---- a decision carried out
 
-abbrev pub CanCarry : List ℕ → ℕ → Decision → Type 0
-CanCarry image room (decision.Refused c) = Unit {0}
-CanCarry image room decision.Nothing = Unit {0}
-CanCarry image room (decision.Write n size w) = Fits image room size w
+abbrev pub CanCarry : List ℕ → ℕ → List ℕ → Decision → Type 0
+CanCarry image room clip (decision.Refused c) = Unit {0}
+CanCarry image room clip decision.Nothing = Unit {0}
+CanCarry image room clip (decision.Clip n at) = Into (length image) at (length clip)
+CanCarry image room clip (decision.Write n size w) = Into (length image) (w .place .offset) (length clip) × Fits (clipped image (w .place .offset) clip) room size w
 
 abbrev pub carriedVerdict : Decision → Verdict
 carriedVerdict (decision.Refused c) = Refused c
 carriedVerdict decision.Nothing = Passed
+carriedVerdict (decision.Clip n at) = Passed
 carriedVerdict (decision.Write n size w) = Passed
 
 -- with the number of the entry
 abbrev pub carriedAnswer : Decision → Located
 carriedAnswer (decision.Refused c) = located.Refused c
 carriedAnswer decision.Nothing = located.At 0
+carriedAnswer (decision.Clip n at) = located.At n
 carriedAnswer (decision.Write n size w) = located.At n
 
 -- whether an edit that gives a number was accepted
@@ -89,15 +103,24 @@ abbrev pub verdictIn : Located → Verdict
 verdictIn (located.At k) = Passed
 verdictIn (located.Refused c) = Refused c
 
-abbrev pub carriedImage : Decision → List ℕ → List ℕ → List ℕ
-carriedImage (decision.Refused c) bytes image = image
-carriedImage decision.Nothing bytes image = image
-carriedImage (decision.Write n size w) bytes image = writtenWith w (span bytes 0 size) image
+-- the clip first, so that a table with the new place or size has the whole clip
+abbrev pub carriedImage : Decision → List ℕ → List ℕ → List ℕ → List ℕ
+carriedImage (decision.Refused c) bytes clip image = image
+carriedImage decision.Nothing bytes clip image = image
+carriedImage (decision.Clip n at) bytes clip image = clipped image at clip
+carriedImage (decision.Write n size w) bytes clip image = writtenWith w (span bytes 0 size) (clipped image (w .place .offset) clip)
 
 pub record Carried (n size : ℕ) (w : Writing) (bytes : List ℕ) (k : ℕ) (c : Change) : Type 0 where
   pub number : n ≡ k
   pub table : span bytes 0 size ≡ encode (c .nodes)
   pub change : c ≡ changeWith (c .nodes) w
+
+-- the same of a file that is filled, but for what a resize would copy
+pub record Uncopied (n size : ℕ) (w : Writing) (bytes : List ℕ) (k : ℕ) (c : Change) : Type 0 where
+  pub number : n ≡ k
+  pub table : span bytes 0 size ≡ encode (c .nodes)
+  pub old : c .old ≡ w .old
+  pub place : c .place ≡ w .place
 
 -- what is written is the plan's change, of the plan's entry, and the table in the working bytes that of its tree
 abbrev pub Carries : Decision → List ℕ → Plan → Type 0
@@ -106,18 +129,28 @@ Carries decision.Nothing bytes nothing = Unit {0}
 Carries decision.Nothing bytes (refused v) = ⊥
 Carries decision.Nothing bytes (change k c) = ⊥
 Carries decision.Nothing bytes (filled k clip p) = ⊥
+Carries (decision.Clip n at) bytes (filled k clip nothing) = n ≡ k
+Carries (decision.Clip n at) bytes (filled k clip (refused v)) = ⊥
+Carries (decision.Clip n at) bytes (filled k clip (change j c)) = ⊥
+Carries (decision.Clip n at) bytes (filled k clip (filled j more p)) = ⊥
+Carries (decision.Clip n at) bytes nothing = ⊥
+Carries (decision.Clip n at) bytes (refused v) = ⊥
+Carries (decision.Clip n at) bytes (change k c) = ⊥
 Carries (decision.Write n size w) bytes (change k c) = Carried n size w bytes k c
 Carries (decision.Write n size w) bytes (refused v) = ⊥
 Carries (decision.Write n size w) bytes nothing = ⊥
-Carries (decision.Write n size w) bytes (filled k clip p) = ⊥
+Carries (decision.Write n size w) bytes (filled k clip (change j c)) = Uncopied n size w bytes k c
+Carries (decision.Write n size w) bytes (filled k clip nothing) = ⊥
+Carries (decision.Write n size w) bytes (filled k clip (refused v)) = ⊥
+Carries (decision.Write n size w) bytes (filled k clip (filled j more p)) = ⊥
 
--- d, with these working bytes, is what the plan comes to where its tests say v
-pub record DecidedAs (v : Verdict) (p : Plan) (image : List ℕ) (room : ℕ) (bytes : List ℕ) (d : Decision) : Type 0 where
-  pub fits : CanCarry image room d
+-- d, with these working bytes and this clip, is what the plan comes to where its tests say v
+pub record DecidedAs (v : Verdict) (p : Plan) (image : List ℕ) (room : ℕ) (bytes clip : List ℕ) (d : Decision) : Type 0 where
+  pub fits : CanCarry image room clip d
   pub carries : Carries d bytes p
   pub answer : carriedVerdict d ≡ v
-  pub after : carriedImage d bytes image ≡ cond (isRefused v) image (planImage p image)
+  pub after : carriedImage d bytes clip image ≡ cond (isRefused v) image (planImage p image)
 
--- by all tests but 25
+-- by all tests but 25, with no clip
 abbrev pub Decided : Plan → List ℕ → ℕ → ℕ → List ℕ → Decision → Type 0
-Decided p image words room bytes d = DecidedAs (planVerdict p image words room) p image room bytes d
+Decided p image words room bytes d = DecidedAs (planVerdict p image words room) p image room bytes [] d

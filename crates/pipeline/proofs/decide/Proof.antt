@@ -30,7 +30,7 @@ account-requires : tie.Need-account-requires
 account-requires c κs =
     let s : tie.After-shared-slice-known = search in
     let d : tie.After-decide-open = search in
-    may-account _ _ _ _ _ _ _ (d .decide-open .ensures .decided) (search is-open) (image-bytes s) (search needs)
+    may-account _ _ _ _ _ _ _ _ (d .decide-open .ensures .decided) (search is-open) (image-bytes s) (search needs)
 
 same-length : tie.Need-same-length
 same-length c = search needs

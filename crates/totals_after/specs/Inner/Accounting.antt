@@ -21,6 +21,7 @@ use Rattle.commit.specs.Inner.Decision.{DecidedAs}
 abbrev pub OnDisc : List ℕ → Decision → Type 0
 OnDisc image (decision.Refused c) = Unit {0}
 OnDisc image decision.Nothing = Unit {0}
+OnDisc image (decision.Clip n at) = Unit {0}
 OnDisc image (decision.Write n size w) = fstOffset image + size ≤ discEnd image
 
 -- what is decided on once the record is tested too, and the record then
@@ -51,13 +52,14 @@ enteredAs image xs t size old new =
 abbrev pub accountOf : List ℕ → List DiscRegion → Decision → Totals → Accounted
 accountOf image xs (decision.Refused c) t = accounted (decision.Refused c) t
 accountOf image xs decision.Nothing t = settledAs decision.Nothing (enteredAs image xs t (fstSize image) noPlace noPlace)
+accountOf image xs (decision.Clip n at) t = settledAs (decision.Clip n at) (enteredAs image xs t (fstSize image) noPlace noPlace)
 accountOf image xs (decision.Write n size w) t = settledAs (decision.Write n size w) (enteredAs image xs t size (w .old) (w .place))
 
 -- the record afterwards
 abbrev pub countedTotals : Plan → Totals → List ℕ → ℕ → ℕ → Totals
 countedTotals p t image words room = cond (isRefused (countedVerdict p t image words room)) t (totalsTo t image (planImage p image))
 
--- a, with these working bytes, is what the plan comes to by all its tests, 25 too, where the record t went in
-pub record AccountedFor (p : Plan) (image : List ℕ) (words room : ℕ) (bytes : List ℕ) (t : Totals) (a : Accounted) : Type 0 where
-  pub decided : DecidedAs (countedVerdict p t image words room) p image room bytes (a .decision)
+-- a, with these working bytes and this clip, is what the plan comes to by all its tests, 25 too, where the record t went in
+pub record AccountedFor (p : Plan) (image : List ℕ) (words room : ℕ) (bytes clip : List ℕ) (t : Totals) (a : Accounted) : Type 0 where
+  pub decided : DecidedAs (countedVerdict p t image words room) p image room bytes clip (a .decision)
   pub totals : a .totals ≡ countedTotals p t image words room

@@ -1,10 +1,10 @@
 -- What is decided on, entered in the record, gives the totals of the image that the edit leaves. Assumes nothing.
-use Prim.Native.Nat.{ℕ, _+_, _-_}
+use Prim.Native.Nat.{ℕ, _+_, _-_, _≤_}
 use mathlib.Core.Path.{_≡_, refl, sym, ap, _∙_}
 use mathlib.Core.List.{List}
 use native.Mathlib.Omega.{arith}
 use lib.ListN.{length}
-use Rattle.endian.specs.Bytes.{AllBytes}
+use Rattle.endian.specs.Bytes.{AllBytes, span}
 use Rattle.endian.specs.Laws.Stored.{length-span}
 use Rattle.refusal.specs.declared.Refusal.{Refusal}
 use Rattle.refusal.specs.declared.Verdict.{Verdict}
@@ -25,7 +25,7 @@ use Rattle.totals.specs.Laws.TotalsLaws.{same-verdict, same-moved}
 use Rattle.program.specs.Program.{programBehind}
 use Rattle.opening.specs.Opening.{nodesIn, behindTable, usedIn, usedOf, freeOf}
 use Rattle.opening.specs.Inner.Prepared.{IsOpen}
-use Rattle.edits.specs.Change.{Change, Plan, refused, nothing, change, filled}
+use Rattle.edits.specs.Change.{Change, tableVerdict, Plan, refused, nothing, change, filled}
 use Rattle.edits.specs.Edits.{noPlace, planVerdict, totalsTo}
 use Rattle.ledger.specs.Laws.Files.{placesIn, used-files}
 use Rattle.ledger.specs.Laws.Opened.{opened}
@@ -34,7 +34,7 @@ use Rattle.ledger.specs.Laws.Layout.{LaidOut, Lays}
 use Rattle.commit.specs.declared.Writing.{Writing}
 use Rattle.commit.specs.declared.Decision.{Decision}
 use Rattle.commit.specs.declared.Decision.the-variants as decision
-use Rattle.commit.specs.Inner.Decision.{Decided, DecidedAs}
+use Rattle.commit.specs.Inner.Decision.{DecidedAs}
 use Rattle.totals_after.specs.Inner.Accounting.{OnDisc, Accounted, accounted, settledAs, movedBy, enteredAs, accountOf}
 
 -- ---- by what lies behind the table
@@ -79,8 +79,8 @@ pub record Entered (v : Verdict) (d : Decision) (t t′ : Totals) (a : Accounted
   pub refused : (c : Refusal) → v ≡ Refused c → a ≡ accounted (decision.Refused c) t
 
 -- the table in the working bytes has the size that was decided on
-table-size : {v : Verdict} (image : List ℕ) (room : ℕ) (bytes : List ℕ) → length bytes ≡ room → (k : ℕ) (c : Change) (n size : ℕ) (x : Writing) → DecidedAs v (change k c) image room bytes (decision.Write n size x) → length (encode (c .nodes)) ≡ size
-table-size image room bytes long k c n size x h = ap length (sym (h .carries .table)) ∙ length-span bytes 0 size (omega (arith, h .fits .table .held))
+table-size : (bytes table : List ℕ) (room size : ℕ) → length bytes ≡ room → size ≤ room → span bytes 0 size ≡ table → length table ≡ size
+table-size bytes table room size long held e = ap length (sym e) ∙ length-span bytes 0 size (omega arith)
 
 module _ (image w : List ℕ) (m room : ℕ) (bytes : List ℕ) (long : length bytes ≡ room) (t : Totals) (o : IsOpen image w m) (b : AllBytes image) (image′ : List ℕ) where
   -- the plan's tests, and then 25
@@ -108,35 +108,64 @@ module _ (image w : List ℕ) (m room : ℕ) (bytes : List ℕ) (long : length b
       stop : (c : Refusal) → tested p ≡ Refused c → settledAs d (movedBy t (usedOf image) (usedOf image′) (largestSize (freeOf image′))) ≡ accounted (decision.Refused c) t
       stop c q = rw (sym 25-is ∙ q)
 
+  -- nothing is written but a clip
+  none-entered : (p : Plan) (d : Decision) → Passed ≡ planVerdict p image (length w) room → Lays nothing image image′ →
+      Entered (tested p) d t (totalsTo t image image′) (settledAs d (enteredAs image (regionsIn w 1 (m - 1)) t (fstSize image) noPlace noPlace))
+  none-entered p d h l = moved-entered p d _ h (ap (settledAs d) (moves image w m o b image′ (fstSize image) noPlace noPlace (l .0) t))
+
+  -- a table is
+  write-entered : (p : Plan) (k : ℕ) (c : Change) (n size : ℕ) (x : Writing) → Passed ≡ planVerdict p image (length w) room → Lays (change k c) image image′ → length (encode (c .nodes)) ≡ size → c .old ≡ x .old → c .place ≡ x .place →
+      Entered (tested p) (decision.Write n size x) t (totalsTo t image image′) (accountOf image (regionsIn w 1 (m - 1)) (decision.Write n size x) t)
+  write-entered p k c n size x h l l₀ eo ep =
+      let s : LaidOut image image′ size (x .old) (x .place) = rw (l₀, eo, ep) at l in
+      moved-entered p (decision.Write n size x) _ h (ap (settledAs (decision.Write n size x)) (moves image w m o b image′ size (x .old) (x .place) s t))
+
   -- LAW: of what a plan comes to, whose layout the new image has
-  pub entered : (p : Plan) (d : Decision) → Decided p image (length w) room bytes d → (planVerdict p image (length w) room ≡ Passed → Lays p image image′) → Entered (tested p) d t (totalsTo t image image′) (accountOf image (regionsIn w 1 (m - 1)) d t)
-  entered p (decision.Refused c) h l = refused-entered p c (h .answer)
-  entered (refused v) decision.Nothing h l = absurd (h .carries)
-  entered nothing decision.Nothing h l =
-      moved-entered nothing decision.Nothing _ refl (ap (settledAs decision.Nothing) (moves image w m o b image′ (fstSize image) noPlace noPlace (l refl .0) t))
-  entered (change k c) decision.Nothing h l = absurd (h .carries)
-  entered (filled k clip p) decision.Nothing h l = absurd (h .carries)
-  entered (refused v) (decision.Write n size x) h l = absurd (h .carries)
-  entered nothing (decision.Write n size x) h l = absurd (h .carries)
-  entered (change k c) (decision.Write n size x) h l =
+  pub entered : (p : Plan) (clip : List ℕ) (d : Decision) → DecidedAs (planVerdict p image (length w) room) p image room bytes clip d → (planVerdict p image (length w) room ≡ Passed → Lays p image image′) →
+      Entered (tested p) d t (totalsTo t image image′) (accountOf image (regionsIn w 1 (m - 1)) d t)
+  entered p clip (decision.Refused c) h l = refused-entered p c (h .answer)
+  entered (refused v) clip decision.Nothing h l = absurd (h .carries)
+  entered nothing clip decision.Nothing h l = none-entered nothing decision.Nothing refl (l refl)
+  entered (change k c) clip decision.Nothing h l = absurd (h .carries)
+  entered (filled k y p) clip decision.Nothing h l = absurd (h .carries)
+  entered (refused v) clip (decision.Clip n at) h l = absurd (h .carries)
+  entered nothing clip (decision.Clip n at) h l = absurd (h .carries)
+  entered (change k c) clip (decision.Clip n at) h l = absurd (h .carries)
+  entered (filled k y nothing) clip (decision.Clip n at) h l = none-entered (filled k y nothing) (decision.Clip n at) refl (l refl)
+  entered (filled k y (refused v)) clip (decision.Clip n at) h l = absurd (h .carries)
+  entered (filled k y (change j c)) clip (decision.Clip n at) h l = absurd (h .carries)
+  entered (filled k y (filled j z p)) clip (decision.Clip n at) h l = absurd (h .carries)
+  entered (refused v) clip (decision.Write n size x) h l = absurd (h .carries)
+  entered nothing clip (decision.Write n size x) h l = absurd (h .carries)
+  entered (change k c) clip (decision.Write n size x) h l =
       let f = h .carries in
-      let l₀ : length (encode (c .nodes)) ≡ size = table-size image room bytes long k c n size x h in
-      let eo : c .old ≡ x .old = ap (λ (y : Change). y .old) (f .change) in
-      let ep : c .place ≡ x .place = ap (λ (y : Change). y .place) (f .change) in
-      let s : LaidOut image image′ size (x .old) (x .place) = rw (l₀, eo, ep) at (l (sym (h .answer))) in
-      moved-entered (change k c) (decision.Write n size x) _ (h .answer) (ap (settledAs (decision.Write n size x)) (moves image w m o b image′ size (x .old) (x .place) s t))
-  entered (filled k clip p) (decision.Write n size x) h l = absurd (h .carries)
+      write-entered (change k c) k c n size x (h .answer) (l (sym (h .answer))) (table-size bytes (encode (c .nodes)) room size long (h .fits .1 .table .held) (f .table)) (ap (λ (y : Change). y .old) (f .change))
+      (ap (λ (y : Change). y .place) (f .change))
+  entered (filled k y (change j c)) clip (decision.Write n size x) h l =
+      let f = h .carries in
+      write-entered (filled k y (change j c)) j c n size x (h .answer) (l (sym (h .answer))) (table-size bytes (encode (c .nodes)) room size long (h .fits .1 .table .held) (f .table)) (f .old) (f .place)
+  entered (filled k y nothing) clip (decision.Write n size x) h l = absurd (h .carries)
+  entered (filled k y (refused v)) clip (decision.Write n size x) h l = absurd (h .carries)
+  entered (filled k y (filled j z p)) clip (decision.Write n size x) h l = absurd (h .carries)
 
 -- LAW: a table that is to be written ends on the disc
-on-disc : (p : Plan) (image w : List ℕ) (m room : ℕ) (bytes : List ℕ) (d : Decision) → IsOpen image w m → AllBytes image → length bytes ≡ room → Decided p image (length w) room bytes d → OnDisc image d
-on-disc p image w m room bytes (decision.Refused c) o b long h = tt
-on-disc p image w m room bytes decision.Nothing o b long h = tt
-on-disc (refused v) image w m room bytes (decision.Write n size x) o b long h = absurd (h .carries)
-on-disc nothing image w m room bytes (decision.Write n size x) o b long h = absurd (h .carries)
-on-disc (change k c) image w m room bytes (decision.Write n size x) o b long h =
-    let l₀ : length (encode (c .nodes)) ≡ size = table-size image room bytes long k c n size x h in
-    rw l₀ at (room-law.room c image (length w) room (opened image (length w) (o .passed) b) (sym (h .answer)) .end)
-on-disc (filled k clip p) image w m room bytes (decision.Write n size x) o b long h = absurd (h .carries)
+module _ (image w : List ℕ) (m room : ℕ) (bytes clip : List ℕ) (o : IsOpen image w m) (b : AllBytes image) (long : length bytes ≡ room) where
+  table-ends : (c : Change) (size : ℕ) → tableVerdict c image (length w) room ≡ Passed → size ≤ room → span bytes 0 size ≡ encode (c .nodes) → fstOffset image + size ≤ discEnd image
+  table-ends c size v held e =
+      rw (table-size bytes (encode (c .nodes)) room size long held e) at (room-law.room c image (length w) room (opened image (length w) (o .passed) b) v .end)
 
-pub may-account : (p : Plan) (image w : List ℕ) (m room : ℕ) (bytes : List ℕ) (d : Decision) → Decided p image (length w) room bytes d → IsOpen image w m → AllBytes image → length bytes ≡ room → IsOpen image w m × OnDisc image d
-may-account p image w m room bytes d h o b long = (o, on-disc p image w m room bytes d o b long h)
+  on-disc : (p : Plan) (d : Decision) → DecidedAs (planVerdict p image (length w) room) p image room bytes clip d → OnDisc image d
+  on-disc p (decision.Refused c) h = tt
+  on-disc p decision.Nothing h = tt
+  on-disc p (decision.Clip n at) h = tt
+  on-disc (refused v) (decision.Write n size x) h = absurd (h .carries)
+  on-disc nothing (decision.Write n size x) h = absurd (h .carries)
+  on-disc (change k c) (decision.Write n size x) h = table-ends c size (sym (h .answer)) (h .fits .1 .table .held) (h .carries .table)
+  on-disc (filled k y (change j c)) (decision.Write n size x) h = table-ends c size (sym (h .answer)) (h .fits .1 .table .held) (h .carries .table)
+  on-disc (filled k y nothing) (decision.Write n size x) h = absurd (h .carries)
+  on-disc (filled k y (refused v)) (decision.Write n size x) h = absurd (h .carries)
+  on-disc (filled k y (filled j z p)) (decision.Write n size x) h = absurd (h .carries)
+
+pub may-account : (p : Plan) (image w : List ℕ) (m room : ℕ) (bytes clip : List ℕ) (d : Decision) → DecidedAs (planVerdict p image (length w) room) p image room bytes clip d → IsOpen image w m → AllBytes image → length bytes ≡ room →
+    IsOpen image w m × OnDisc image d
+may-account p image w m room bytes clip d h o b long = (o, on-disc image w m room bytes clip o b long p d h)

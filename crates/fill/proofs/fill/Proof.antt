@@ -1,8 +1,7 @@
--- `fill::opened::fill` meets its contract: 15 and 16, a clip that is too long, then the resize of the file that was found, entered in the record.
+-- `fill::fill` meets its contract: 15 and 16, a clip that is too long, then the resize of the file that was found.
 -- Assumes nothing.
 use Rattle.fill.proofs.Outcomes.{no-file-to-fill, clip-too-long, filled-by}
 use Rattle.decide.proofs.Outcomes.{found-file, found-place}
-use Rattle.totals_after.specs.Laws.AccountLaws.{may-account}
 use Prim.Native.Nat.{_-_, _^_}
 use mathlib.Core.Path.{_≡_}
 use mathlib.Core.Bool.{true}
@@ -13,14 +12,11 @@ use denote.Ref.{now}
 use lib.ListN.{length}
 use Rattle.endian.specs.Bytes.{AllBytes}
 use borrow.Author.Needs.{needs}
-use Rattle.fill.proofs.opened.fill.Statement.{statement}
-use Rattle.fill.proofs.opened.fill.Tie as tie
+use Rattle.fill.proofs.fill.Statement.{statement}
+use Rattle.fill.proofs.fill.Tie as tie
 
 image-bytes : (c : tie.After-shared-slice-known) → AllBytes (now (c .before .args .image))
 image-bytes c i = omega (arith, c .shared-slice-known .given i)
-
-clip-bytes : (c : tie.After-shared-slice-known3) → AllBytes (now (c .before .before .before .before .args .clip))
-clip-bytes c i = omega (arith, c .shared-slice-known3 .given i)
 
 -- a clip that no place can hold
 too-long : (c : tie.Then1) → ltb (2 ^ 32 - 1) (length (now (c .before .before .before .before .before .before .before .before .before .args .clip))) ≡ true
@@ -44,12 +40,6 @@ cast-new-size c = record { fits = omega (arith, c .if1 .left) }
 resize-requires : tie.Need-resize-requires
 resize-requires c κs = search (found-file, found-place)
 
-account-requires : tie.Need-account-requires
-account-requires c κs =
-    let s : tie.After-shared-slice-known = search in
-    let d : tie.After-resize = search in
-    may-account _ _ _ _ _ _ _ (d .resize .ensures) (s .before .pre) (image-bytes s) (search needs)
-
 with-clip-requires : tie.Need-with-clip-requires
 with-clip-requires c κs = search needs
 
@@ -60,7 +50,7 @@ same-length : tie.Need-same-length
 same-length c = search needs
 
 returns-3 : tie.Need-returns-3
-returns-3 c = search (filled-by, image-bytes, clip-bytes)
+returns-3 c = search (filled-by, image-bytes)
 
 pub fill-spec : {M : Type 1} → statement M
 fill-spec =
@@ -72,7 +62,6 @@ fill-spec =
     returns
     cast-new-size
     resize-requires
-    account-requires
     with-clip-requires
     returns-2
     same-length
