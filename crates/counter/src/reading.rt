@@ -8,6 +8,7 @@ use answers::Opened;
 use disc::TotalsAnswer;
 use program::Program;
 use refusal::Verdict;
+use totals::Record;
 use tree::Entry;
 use tree::Found;
 
@@ -66,7 +67,7 @@ pub extern "C" fn counter_totals(image: &[u8], words: &mut [u32], answer: &mut [
 
 // A totals record of the image, its count 0: used bytes, the largest free region's size, accepted edits.
 #[no_mangle]
-pub extern "C" fn counter_make_record(image: &[u8], words: &mut [u32], record: &mut [u32; 3]) -> u32
+pub extern "C" fn counter_make_record(image: &[u8], words: &mut [u32], record: &mut Record) -> u32
     ensures { λ r. ⌜ Read (recordReply (now («record» .entry)) (recordAnswer (now (image .entry)) (length (now (words .entry))))) (reply r (now («record» .exit))) (now (words .entry)) (now (words .exit)) ⌝ }
 {
     let made = disc::make_record(image, words);

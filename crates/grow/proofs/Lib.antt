@@ -2,6 +2,5 @@
 pub mod BuiltTable
 pub mod GrowthLaws
 pub mod Limits
-pub mod NameLaws
 pub mod NumberLaws
 pub mod StandingTable

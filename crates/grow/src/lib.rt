@@ -1,6 +1,5 @@
 // A table that grows in the working bytes by one entry at a time, and what the edits that add entries decide on.
 mod growing;
-mod names;
 
 use commit::Decision;
 use commit::Writing;
@@ -8,8 +7,6 @@ pub use growing::grow;
 pub use growing::parent;
 pub use growing::place_table;
 pub use growing::start_table;
-pub use names::is_plain;
-pub use names::is_safe;
 use space::DiscRegion;
 ghost use mathlib.Core.Path.{_≡_};
 ghost use Rattle.grow.specs.Inner.Grown.{noWriting, tableDecision};

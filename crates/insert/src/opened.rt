@@ -31,7 +31,7 @@ fn check_child(table: &[u8], p: usize, name: &[u8]) -> Verdict
     if let Located::At(_) = fst::child(table, p, name) {
         return Verdict::Refused(Refusal::AlreadyExists);
     }
-    if !grow::is_plain(name) {
+    if !fst_text::is_plain(name) {
         return Verdict::Refused(Refusal::InvalidNameByte);
     }
     Verdict::Passed
@@ -46,7 +46,7 @@ fn check_insert(table: &[u8], parent: u32, name: &[u8]) -> Verdict
     if fst_check::count(table) <= p {
         return Verdict::Refused(Refusal::NoSuchEntry);
     }
-    if !grow::is_safe(name) {
+    if !fst_text::is_safe(name) {
         return Verdict::Refused(Refusal::UnsafeName);
     }
     check_child(table, p, name)

@@ -29,13 +29,13 @@ fn into_new(k: usize, level: usize, bad: bool, name: &[u8]) -> Step
     requires { ⌜ level < 2 ^ 63 ⌝ }
     ensures { λ r. ⌜ r ≡ newStep k level bad (now (name .entry)) ⌝ }
 {
-    if !grow::is_safe(name) {
+    if !fst_text::is_safe(name) {
         return Step::Refused(Refusal::UnsafeName);
     }
     if bad {
         return Step::To(k, level + 1, true);
     }
-    Step::To(k, level + 1, !grow::is_plain(name))
+    Step::To(k, level + 1, !fst_text::is_plain(name))
 }
 
 // Back over the last named step, never above the start.

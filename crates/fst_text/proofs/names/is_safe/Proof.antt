@@ -1,9 +1,9 @@
--- `grow::names::is_safe` meets its contract: not empty, no dots, and each unit is.
+-- `fst_text::names::is_safe` meets its contract: not empty, no dots, and each unit is.
 -- Assumes nothing.
-use Rattle.grow.proofs.NameLaws.{unsafe-none, unsafe-dots, safe-read}
+use Rattle.fst_text.proofs.NameLaws.{unsafe-none, unsafe-dots, safe-read}
 use borrow.Author.Needs.{needs}
-use Rattle.grow.proofs.names.is_safe.Statement.{statement}
-use Rattle.grow.proofs.names.is_safe.Tie as tie
+use Rattle.fst_text.proofs.names.is_safe.Statement.{statement}
+use Rattle.fst_text.proofs.names.is_safe.Tie as tie
 
 returns : tie.Need-returns
 returns c = search unsafe-none

@@ -1,9 +1,9 @@
--- `grow::names::is_plain` meets its contract: each unit is.
+-- `fst_text::names::is_plain` meets its contract: each unit is.
 -- Assumes nothing.
-use Rattle.grow.proofs.NameLaws.{plain-read}
+use Rattle.fst_text.proofs.NameLaws.{plain-read}
 use borrow.Author.Needs.{needs}
-use Rattle.grow.proofs.names.is_plain.Statement.{statement}
-use Rattle.grow.proofs.names.is_plain.Tie as tie
+use Rattle.fst_text.proofs.names.is_plain.Statement.{statement}
+use Rattle.fst_text.proofs.names.is_plain.Tie as tie
 
 every-unit-requires : tie.Need-every-unit-requires
 every-unit-requires c κs = search needs

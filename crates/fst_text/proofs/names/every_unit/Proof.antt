@@ -1,16 +1,16 @@
--- `grow::names::every_unit` meets its contract. The invariant of its loop: the rest of the name has the answer of the whole.
+-- `fst_text::names::every_unit` meets its contract. The invariant of its loop: the rest of the name has the answer of the whole.
 -- Assumes nothing.
 use Rattle.tree.specs.Laws.UnitLaws.{units-single, units-none}
 use Rattle.fst_text.proofs.Judging.{none-left, byte-fits, byte-fails}
-use Rattle.grow.proofs.NameLaws.{Judged, pair-judged}
+use Rattle.fst_text.proofs.NameLaws.{Judged, pair-judged}
 use borrow.Author.Needs.{needs}
 use Rattle.tree.specs.Units.{units}
 use lib.ListN.{length, drop}
 use mathlib.Core.Path.{refl, sym, _∙_}
 use native.Mathlib.Omega.{arith}
 use Prim.Native.Nat.{_-_}
-use Rattle.grow.proofs.names.every_unit.Statement.{statement}
-use Rattle.grow.proofs.names.every_unit.Tie as tie
+use Rattle.fst_text.proofs.names.every_unit.Statement.{statement}
+use Rattle.fst_text.proofs.names.every_unit.Tie as tie
 
 abbrev Inv-loop : tie.InvT-loop
 Inv-loop name safe-only i₀ i = Judged safe-only name i

@@ -3,7 +3,8 @@ ghost use mathlib.Core.Path.{_≡_};
 ghost use Rattle.tree.specs.Table.{every, plain, safe};
 ghost use Rattle.tree.specs.Table as table_of;
 ghost use Rattle.tree.specs.Units.{units};
 ghost use Rattle.fst_text.specs.Inner.Texts.{unitTest};
+use crate::units;
 
 // Whether each unit is safe, or each is plain.
 fn every_unit(name: &[u8], safe_only: bool) -> bool
@@ -11,9 +12,9 @@ fn every_unit(name: &[u8], safe_only: bool) -> bool
 {
     let mut i = 0;
     while i < name.len() {
-        if fst_text::is_pair(name, i) {
+        if units::is_pair(name, i) {
             i += 2;
-        } else if fst_text::fits(name[i], safe_only) {
+        } else if units::fits(name[i], safe_only) {
             i += 1;
         } else {
             return false;

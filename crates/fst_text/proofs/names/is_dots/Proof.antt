@@ -1,9 +1,9 @@
--- `grow::names::is_dots` meets its contract: by the length, then the bytes.
+-- `fst_text::names::is_dots` meets its contract: by the length, then the bytes.
 -- Assumes nothing.
-use Rattle.grow.proofs.NameLaws.{one-dot, no-dots, no-first-dot, second-dot}
+use Rattle.fst_text.proofs.NameLaws.{one-dot, no-dots, no-first-dot, second-dot}
 use borrow.Author.Needs.{needs}
-use Rattle.grow.proofs.names.is_dots.Statement.{statement}
-use Rattle.grow.proofs.names.is_dots.Tie as tie
+use Rattle.fst_text.proofs.names.is_dots.Statement.{statement}
+use Rattle.fst_text.proofs.names.is_dots.Tie as tie
 
 shared-slice-read-result : tie.Need-shared-slice-read-result
 shared-slice-read-result c = search needs
