@@ -8,11 +8,12 @@ use native.Mathlib.Omega.{arith}
 use borrow.Author.Tests.{ltb-true}
 use lib.Dec.{ltb}
 use lib.ListN.{length, getD, replicate}
-use Rattle.endian.specs.Bytes.{be24, be32, put, span, AllBytes}
+use Rattle.endian.specs.Bytes.{be24, be32, be32Bytes, put, span, AllBytes}
+use Rattle.endian.specs.Laws.Stored.{length-put, put-outside}
 use Rattle.refusal.specs.declared.Verdict.the-variants.{Passed}
 use Rattle.refusal.specs.Laws.Tests.{and-left, and-right}
 use Rattle.header.specs.Verdicts.{dolOffset, fstSize, fstMaxSize}
-use Rattle.tree.specs.Table.{file, directory, none, count, nameAt, nodeAt, nodesFrom, nodesOf}
+use Rattle.tree.specs.Table.{file, directory, none, count, nameAt, nodeAt, nodesFrom, nodesOf, parentBelow, parentOf, entriesBytes, textsOf, encode}
 use Rattle.tree.specs.Insert.{shifted, bump, splice, insertAt, setPlace}
 use Rattle.space.specs.Used.{inside, nonempty, totalSize}
 use Rattle.space.specs.Free.{largestSize}
@@ -23,23 +24,26 @@ use Rattle.totals.specs.declared.Totals.{Totals}
 use Rattle.program.specs.declared.Program.the-variants.{At}
 use Rattle.program.specs.Program.{programIn, ownRegion}
 use Rattle.opening.specs.Opening.{tableOf, nodesIn, usedIn, freeOf, usedOf, opening}
-use Rattle.disc.specs.Calls.{totalsAnswer, programAnswer, freeRegionsAnswer, freeRegionsList, recordMade, recordAnswer}
+use Rattle.disc.specs.Calls.{totalsAnswer, programAnswer, freeRegionsAnswer, freeRegionsList, totalsOf, recordMade, recordAnswer}
 use Rattle.disc.specs.declared.TotalsAnswer.the-variants.{Found}
 use Rattle.files.specs.Files.{openFileAnswer}
 use Rattle.files.specs.declared.WindowAnswer.the-variants as window
 use Rattle.edits.specs.Change.{nothing}
 use Rattle.edits.specs.Edits.{Edit, noPlace, rewrite, resizeFile, planResize, planOf, imageAfter}
+use Rattle.edits.specs.Laws.Accepted.{accepted}
 use Rattle.ledger.specs.Ledger.{bare, filesBefore, putIn, firstLedger}
 use Rattle.ledger.specs.Runs.{Call, imageAfterAll, acceptedIn, AllWithin}
 use Rattle.ledger.specs.Spared.{numberAfter, Spared}
 use Rattle.ledger.specs.Theorem.{Demand3, StillThere, ShowsClip, Tells, WithinMaximum}
+use Rattle.ledger.specs.Laws.AnyMaximum.{any-maximum}
 use Rattle.ledger.specs.Laws.Demand3.{demand-3, unnamed-stays}
+use Rattle.ledger.specs.Laws.EditedDown.{edited-down}
 use Rattle.ledger.specs.Laws.FillReads.{readInto, fill-reads, read-back}
 use Rattle.ledger.specs.Laws.MaximumKept.{maximum-kept}
 use Rattle.ledger.specs.Laws.RecordTells.{record-tells}
 use Rattle.small_master.specs.Image.{master, masterWords}
 use Rattle.small_master.specs.Laws.Marked as small
-use Rattle.small_master.specs.Laws.Maximum.{stating}
+use Rattle.small_master.specs.Laws.Maximum.{stating, slack}
 use Rattle.small_master.specs.Laws.Maximum as stated
 use Rattle.worked_list.specs.Laws.Images.{ofA, programBytes, first, clip, withB, last, program, treeB, used-regions, space, at-first, at-last}
 use Rattle.worked_list.specs.Laws.Steps.{totals, fresh, filled-b}
@@ -206,6 +210,40 @@ over-kept = rw over-last at (maximum-kept over masterWords masterWords overList 
 
 pub same-table : (fstSize (imageAfterAll overList over) ≡ 0x1A) × (tableOf (imageAfterAll overList over) ≡ tableOf over)
 same-table = let l = over-kept .larger (rw (over-sizes .0) (omega arith)) (rw (over-sizes .0, over-sizes .1) (omega arith)) in rw over-last (l .0 ∙ over-sizes .1, l .1)
+
+-- "may be edited down to the maximum": the small master with a zero byte more behind its texts, 0x1B bytes in all
+
+down-opens : opening (slack 0x1A) masterWords ≡ Passed
+down-opens = accepted rewrite small.fresh (slack 0x1A) masterWords 0x1A (stated.maximum .edited-down) .opens
+
+down-bytes : AllBytes (slack 0x1A)
+unfolding slack stating master put bytesOnly
+down-bytes = bytes-only (slack 0x1A) refl
+
+down-sizes : (fstMaxSize (slack 0x1A) ≡ 0x1A) × (fstSize (slack 0x1A) ≡ 0x1B)
+unfolding slack stating master put be32
+down-sizes = (refl, refl)
+
+down-table : length (encode (nodesIn (slack 0x1A))) ≡ 0x1A
+unfolding slack stating master put tableOf nodesIn nodesOf nodesFrom nodeAt nameAt count be24 be32 encode entriesBytes textsOf parentOf parentBelow
+down-table = refl
+
+pub down : fstSize (imageAfter rewrite (totalsOf (slack 0x1A) 0) (slack 0x1A) masterWords 0x1A) ≤ 0x1A
+down =
+    let m = down-sizes .0 in
+    rw m at (edited-down (slack 0x1A) masterWords 0x1A down-bytes down-opens (rw (m, down-sizes .1) (omega arith)) (rw (m, down-table) (omega arith)) (rw down-table (omega arith)) 0 (omega arith) .2)
+
+-- another maximum: the image opens all the same, to the same tree and free regions
+
+first-length : length first ≡ 0x2000
+unfolding first stating master put
+first-length = refl
+
+abbrev pub restated : List ℕ
+restated = put first 0x42C (be32Bytes 5)
+
+pub any : (opening restated masterWords ≡ Passed) × (nodesIn restated ≡ nodesIn first) × (freeOf restated ≡ freeOf first)
+any = any-maximum first restated masterWords bytes (at-first .opens) (length-put first 0x42C (be32Bytes 5) (rw first-length (omega arith))) (λ i h. put-outside first 0x42C (be32Bytes 5) (rw first-length (omega arith)) i h)
 
 -- ---- the clip
 
