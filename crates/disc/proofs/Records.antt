@@ -15,7 +15,7 @@ use Rattle.totals.specs.Inner.Scan.{longestFrom}
 use Rattle.totals.specs.Laws.LargestLaws.{words-some, largest-now}
 use Rattle.opening.specs.Opening.{usedIn, behindTable, freeOf}
 use Rattle.opening.specs.Inner.Prepared.{UsedWords}
-use Rattle.opening.specs.Laws.OpeningLaws.{OpenImage}
+use Rattle.opening.specs.Laws.OpeningLaws.{OpenImage, used-regions}
 use Rattle.answers.specs.declared.Disc.{Disc}
 use Rattle.answers.specs.Answers.{discOf}
 use Rattle.disc.specs.Calls.{totalsOf}
@@ -24,12 +24,12 @@ module _ (image w : List ℕ) (m : ℕ) (used : UsedWords image w m) (known : Op
   -- the words hold the table's region at least
   pub some-region : 0 < m
   unfolding usedIn
-  some-region = words-some w m (discEnd image) (tableEnd image) (behindTable image) (used .sorted) (omega (arith, known .reads .bounds .after-header)) (used .regions)
+  some-region = words-some w m (discEnd image) (tableEnd image) (behindTable image) (used .sorted) (omega (arith, known .reads .bounds .after-header)) (used-regions image w m used)
 
   largest-is : longestFrom (discEnd image) 0 (record { offset = 0; size = 0 }) (tableEnd image) 0 (regionsIn w 1 (m - 1)) ≡ largestSize (freeOf image)
   unfolding usedIn freeOf
   largest-is =
-      largest-now w m (discEnd image) (tableEnd image) (behindTable image) (used .sorted) (omega (arith, known .reads .bounds .after-header)) (used .regions) (known .layout)
+      largest-now w m (discEnd image) (tableEnd image) (behindTable image) (used .sorted) (omega (arith, known .reads .bounds .after-header)) (used-regions image w m used) (known .layout)
 
   module _ (d : Disc) (is : d ≡ discOf image) where
     pub table-end-fits : Fits w32 (d .«fst_offset» + d .«fst_size»)

@@ -21,6 +21,7 @@ use Rattle.space.specs.Used.{totalSize}
 use Rattle.space.specs.Free.{freeRegions}
 use Rattle.space.specs.Inner.Sort.{regionsIn}
 use Rattle.opening.specs.Opening.{tableOf, nodesIn, opening}
+use Rattle.opening.specs.Laws.OpeningLaws.{used-total}
 use Rattle.opening.specs.Inner.Prepared.{UsedWords, Prepares}
 use Rattle.opening.specs.declared.Prepared.{Prepared}
 use Rattle.opening.specs.declared.Prepared.the-variants as prepared
@@ -36,7 +37,7 @@ use Rattle.text_buffer.specs.Inner.Writing.{Wrote}
 pub text-is : (image w : List ℕ) (m e : ℕ) (tab : List ℕ) → UsedWords image w m → e ≡ discEnd image → tab ≡ tableOf image →
     totalsLine e (totalSize (regionsIn w 0 m)) ++ (entryLines (nodesOf tab) (count tab) ++ regionLines (freeRegions e (regionsIn w 0 m))) ≡ listingText image
 unfolding listingText nodesIn
-text-is image w m e tab u p q = rw (p, q, u .total, u .free, length-nodesOf (tableOf image))
+text-is image w m e tab u p q = rw (p, q, used-total image w m u, u .free, length-nodesOf (tableOf image))
 
 -- ---- measured with no buffer to speak of, then written
 

@@ -16,19 +16,18 @@ use Rattle.header.specs.Laws.FieldTests.{Bounded, bounds-passed}
 use Rattle.header.specs.Verdicts.{headerVerdict, boundsVerdict, fstOffset, fstSize, discEnd, tableEnd}
 use Rattle.tree.specs.Table.{count, check}
 use Rattle.space.specs.declared.DiscRegion.{DiscRegion}
-use Rattle.space.specs.Used.{nonempty, totalSize}
+use Rattle.space.specs.Used.{nonempty}
 use Rattle.space.specs.Inner.Words.{AllNonempty}
 use Rattle.space.specs.Laws.UsedLaws.{nonempty-all}
-use Rattle.space.specs.Laws.TotalLaws.{total-used}
-use Rattle.space.specs.Inner.Sort.{regionsIn, holds}
+use Rattle.space.specs.Inner.Sort.{regionsIn, sumOf}
 use Rattle.space.specs.Inner.Words.{Checked}
 use Rattle.space.specs.Layout.{disjointBelow, regionsVerdict}
 use Rattle.space.specs.Free.{freeRegions}
-use Rattle.space.specs.Laws.MiddleLaws.{below-middle, free-middle, total-front, holds-middle, used-middle-same}
-use Rattle.space.specs.Laws.SortLaws.{holds-sorted}
+use Rattle.space.specs.Laws.MiddleLaws.{below-middle, free-middle, sum-middle, used-middle-same}
+use Rattle.space.specs.Laws.SortLaws.{sum-sorted}
 use Rattle.program.specs.declared.Program.{Program}
 use Rattle.program.specs.Program.{programOf, programVerdict, placeOf, programIn, ownRegion, programBehind}
-use Rattle.opening.specs.Opening.{tableOf, nodesIn, behindTable, usedIn, usedOf, freeOf, layoutVerdict, opening}
+use Rattle.opening.specs.Opening.{tableOf, nodesIn, behindTable, usedIn, freeOf, layoutVerdict, opening}
 use Rattle.opening.specs.Inner.Prepared.{verdictBefore24, entryRegions, CollectedUsed, SameUse, UsedWords}
 use Rattle.opening.specs.Laws.OpeningLaws.{Readable, opening-split, program-first, stopped, went-on}
 use Rattle.opening.proofs.UsedRegions.{regions-of-tree}
@@ -117,16 +116,11 @@ module _ (image w : List ℕ) (m to c : ℕ) (tab : List ℕ) (program : DiscReg
   used-words = record {
     below = told (disjointBelow (discEnd image)) (λ x ys xs. below-middle x ys (discEnd image) xs);
     free = told (freeRegions (discEnd image)) (λ x ys xs. free-middle x ys (discEnd image) xs);
-    total = told totalSize (λ x ys xs. total-front x ys xs);
-    regions = λ r. told (holds r) (λ x ys xs. holds-middle x ys r xs);
+    sums = λ f. told (sumOf f) (λ x ys xs. sum-middle x ys f xs);
   }
 
   pub regions-full : AllNonempty (regionsIn w 0 m)
   regions-full = rw (k .list) (nonempty-all (record { offset = 0; size = to } ∷ (entryRegions tab 1 (k .turn - 1) ++ (program ∷ entryRegions tab (k .turn) (c - k .turn)))))
-
-used-total : (image : List ℕ) → totalSize (usedIn image) ≡ usedOf image
-unfolding usedIn usedOf
-used-total image = total-used (tableEnd image) (behindTable image)
 
 -- what the test of the regions asks, after `collect`
 pub regions-room : (image : List ℕ) (n n′ m c : ℕ) → Readable image n → c ≡ count (tableOf image) → m ≤ c + 1 → n′ ≡ n → 2 * (c + 2 + m) ≤ n′
@@ -166,6 +160,5 @@ left-words image w w′ buf m e v k h end used =
     record {
       sorted = rw (← end) (k .ready h);
       free = rw end at (k .free) ∙ used .free;
-      total = k .total ∙ used .total ∙ used-total image;
-      regions = λ r. rw (k .order) (holds-sorted r (regionsIn w 0 m) ∙ used .regions r);
+      sums = λ f. rw (k .order) (sum-sorted (regionsIn w 0 m) f ∙ used .sums f);
     }

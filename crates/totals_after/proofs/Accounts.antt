@@ -16,7 +16,7 @@ use Rattle.totals.specs.Inner.Scan.{longestFrom, goneOf, Moved, moved, movedAs}
 use Rattle.totals.specs.Laws.LargestLaws.{words-some}
 use Rattle.opening.specs.Opening.{usedIn, behindTable}
 use Rattle.opening.specs.Inner.Prepared.{IsOpen}
-use Rattle.opening.specs.Laws.OpeningLaws.{OpenImage}
+use Rattle.opening.specs.Laws.OpeningLaws.{OpenImage, used-regions}
 use Rattle.edits.specs.Edits.{noPlace}
 use Rattle.commit.specs.declared.Writing.{Writing}
 use Rattle.commit.specs.declared.Decision.{Decision}
@@ -27,7 +27,7 @@ module _ (image w : List ℕ) (m : ℕ) (o : IsOpen image w m) (known : OpenImag
   -- the words hold the table's region at least
   pub some-region : 0 < m
   unfolding usedIn
-  some-region = words-some w m (discEnd image) (tableEnd image) (behindTable image) (o .used .sorted) (omega (arith, known .reads .bounds .after-header)) (o .used .regions)
+  some-region = words-some w m (discEnd image) (tableEnd image) (behindTable image) (o .used .sorted) (omega (arith, known .reads .bounds .after-header)) (used-regions image w m (o .used))
 
   -- the old table ends on the disc
   pub table-on-disc : (s : ℕ) → s ≡ fstSize image → fstOffset image + s ≤ discEnd image

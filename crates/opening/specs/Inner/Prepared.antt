@@ -9,14 +9,14 @@ use Rattle.refusal.specs.Refusal.{first}
 use Rattle.header.specs.Verdicts.{headerVerdict, boundsVerdict, discEnd}
 use Rattle.tree.specs.Table.{nodeWith, kind, offsetOrParent, sizeOrNext, check}
 use Rattle.space.specs.declared.DiscRegion.{DiscRegion}
-use Rattle.space.specs.Used.{nonempty, usedRegions, totalSize}
+use Rattle.space.specs.Used.{nonempty, usedRegions}
 use Rattle.space.specs.Layout.{disjointBelow}
 use Rattle.space.specs.Free.{freeRegions}
-use Rattle.space.specs.Inner.Sort.{regionsIn, holds}
+use Rattle.space.specs.Inner.Sort.{regionsIn, SameSums}
 use Rattle.space.specs.Inner.Words.{SortedDisjoint}
 use Rattle.opening.specs.declared.Prepared.{Prepared}
 use Rattle.opening.specs.declared.Prepared.the-variants.{Ready, Refused}
-use Rattle.opening.specs.Opening.{tableOf, regionOf, opening, usedIn, freeOf, usedOf}
+use Rattle.opening.specs.Opening.{tableOf, regionOf, opening, usedIn, freeOf}
 use Rattle.refusal.specs.declared.Verdict.the-variants.{Passed, Refused}
 
 -- the tests before 24 and 14
@@ -55,17 +55,13 @@ pub record CollectedUsed (tab : List ℕ) (n t : ℕ) (program : DiscRegion) (w 
 pub record SameUse (e : ℕ) (xs ys : List DiscRegion) : Type 0 where
   pub below : disjointBelow e xs ≡ disjointBelow e ys
   pub free : freeRegions e xs ≡ freeRegions e ys
-  pub total : totalSize xs ≡ totalSize ys
-  -- the same regions
-  pub regions : (r : DiscRegion) → holds r xs ≡ holds r ys
+  pub sums : SameSums xs ys
 
 -- the used regions of the image stand in the words, in order: m of them
 pub record UsedWords (image w : List ℕ) (m : ℕ) : Type 0 where
   pub sorted : SortedDisjoint w m (discEnd image)
   pub free : freeRegions (discEnd image) (regionsIn w 0 m) ≡ freeOf image
-  pub total : totalSize (regionsIn w 0 m) ≡ usedOf image
-  -- the same regions
-  pub regions : (r : DiscRegion) → holds r (regionsIn w 0 m) ≡ holds r (usedIn image)
+  pub sums : SameSums (regionsIn w 0 m) (usedIn image)
 
 -- by the cases of the answer: opening passed, and the words are ready; or it refused
 abbrev pub Prepares : List ℕ → ℕ → List ℕ → Prepared → Type 0

@@ -21,12 +21,15 @@ use Rattle.header.specs.Verdicts.{headerVerdict, boundsVerdict, fstOffset, fstS
 use Rattle.header.specs.Laws.FieldTests.{GoodHeader, header-passed, Bounded, bounds-passed}
 use Rattle.tree.specs.Table.{count, check}
 use Rattle.tree.specs.Laws.Accepted.{Accepted, accepted}
-use Rattle.space.specs.Laws.TotalLaws.{freeBytes}
+use Rattle.space.specs.declared.DiscRegion.{DiscRegion}
+use Rattle.space.specs.Used.{totalSize}
+use Rattle.space.specs.Inner.Sort.{regionsIn, holds}
 use Rattle.space.specs.Layout.{disjointBelow}
-use Rattle.space.specs.Laws.TotalLaws.{used-and-free}
+use Rattle.space.specs.Laws.TotalLaws.{freeBytes, total-used, used-and-free}
+use Rattle.space.specs.Laws.SortLaws.{same-total, same-regions}
 use Rattle.program.specs.Program.{programOf, programVerdict}
 use Rattle.opening.specs.Opening.{tableOf, behindTable, usedIn, usedOf, layoutVerdict, opening}
-use Rattle.opening.specs.Inner.Prepared.{verdictBefore24}
+use Rattle.opening.specs.Inner.Prepared.{verdictBefore24, UsedWords}
 
 -- ---- chains
 
@@ -130,3 +133,13 @@ pub table-accepted : (image : List ℕ) (words : ℕ) → opening image words �
 unfolding opening
 table-accepted image words e =
     first-passed (check (tableOf image) words) _ (first-passed (boundsVerdict image) _ (first-passed (headerVerdict image) _ e .1) .1) .0
+
+-- ---- what the words tell of the used regions
+
+module _ (image w : List ℕ) (m : ℕ) (used : UsedWords image w m) where
+  pub used-total : totalSize (regionsIn w 0 m) ≡ usedOf image
+  unfolding usedIn usedOf
+  used-total = same-total (regionsIn w 0 m) (usedIn image) (used .sums) ∙ total-used (tableEnd image) (behindTable image)
+
+  pub used-regions : (r : DiscRegion) → holds r (regionsIn w 0 m) ≡ holds r (usedIn image)
+  used-regions = same-regions (regionsIn w 0 m) (usedIn image) (used .sums)

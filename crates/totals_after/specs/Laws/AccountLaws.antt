@@ -24,6 +24,7 @@ use Rattle.totals.specs.Laws.LargestLaws.{largest-after}
 use Rattle.totals.specs.Laws.TotalsLaws.{same-verdict, same-moved}
 use Rattle.program.specs.Program.{programBehind}
 use Rattle.opening.specs.Opening.{nodesIn, behindTable, usedIn, usedOf, freeOf}
+use Rattle.opening.specs.Laws.OpeningLaws.{used-regions}
 use Rattle.opening.specs.Inner.Prepared.{IsOpen}
 use Rattle.edits.specs.Change.{Change, tableVerdict, Plan, refused, nothing, change, filled}
 use Rattle.edits.specs.Edits.{noPlace, planVerdict, totalsTo}
@@ -61,7 +62,7 @@ module _ (image w : List ℕ) (m : ℕ) (o : IsOpen image w m) (b : AllBytes ima
       let u = used-places image in
       let e : tableEnd image′ ≡ fstOffset image + size = omega (arith, l .start, l .table) in
       largest-after w m (discEnd image) (tableEnd image) (fstOffset image + size) (placesIn image) (placesIn image′) old new (o .used .sorted) (omega (arith, q .bounds .after-header))
-      (λ r. rw (← u) (o .used .regions r)) (rw (← u) (q .regions)) (l .held) (l .fits) (l .clear) (l .places)
+      (λ r. rw (← u) (used-regions image w m (o .used) r)) (rw (← u) (q .regions)) (l .held) (l .fits) (l .clear) (l .places)
       ∙ rw (used-places image′, e, l .end)
 
   -- LAW: so the record moves to the totals of the new image
