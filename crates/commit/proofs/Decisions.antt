@@ -19,7 +19,7 @@ use Rattle.opening.specs.Opening.{opening}
 use Rattle.commit.specs.declared.Writing.{Writing}
 use Rattle.commit.specs.declared.Decision.{Decision}
 use Rattle.commit.specs.declared.Decision.the-variants as decision
-use Rattle.commit.specs.declared.TableSize.the-variants as table
+use Rattle.fst_measure.specs.declared.TableSize.the-variants as table
 use Rattle.edits.specs.Change.{written, tableVerdict, Plan, refused, nothing, change, filled, placeVerdict}
 use Rattle.tree.specs.declared.Located.the-variants as located
 use Rattle.edits.specs.Edits.{planned, planVerdict, planImage, planNumber, numberedAs}

@@ -37,8 +37,8 @@ use Rattle.edits.specs.Edits.{overlapsItself, relocateVerdict}
 use Rattle.edits.specs.Laws.PlaceTests.{place-passed, free-byte}
 use Rattle.space.specs.Inner.Sort.{regionsIn}
 use Rattle.opening.specs.Inner.Prepared.{UsedWords}
-use Rattle.commit.specs.declared.TableSize.{TableSize}
-use Rattle.commit.specs.declared.TableSize.the-variants as table
+use Rattle.fst_measure.specs.declared.TableSize.{TableSize}
+use Rattle.fst_measure.specs.declared.TableSize.the-variants as table
 use Rattle.commit.specs.Inner.Decision.{TableFits, placing, sizedAs}
 use Rattle.commit.proofs.Decisions.{sized-passed}
 

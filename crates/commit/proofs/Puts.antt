@@ -8,12 +8,8 @@ use Rattle.endian.specs.Bytes.{put, span, be32Bytes}
 use Rattle.endian.specs.Laws.Stored.{length-put, length-span, span-put, put-none}
 use Rattle.header.specs.Fields.{fstSizeField}
 use Rattle.tree.specs.Laws.Records.{put-middle}
-use Rattle.fst_measure.proofs.Puts.{put-append}
+use Rattle.fst_measure.proofs.Puts.{put-start, put-append}
 use Rattle.edits.specs.Change.{withTable}
-
-pub put-start : (s t : List ℕ) → put s 0 t ≡ t ++ drop (length t) s
-unfolding put
-put-start s t = let z : 0 + length t ≡ length t = omega arith in ap (λ (n : ℕ). t ++ drop n s) z
 
 -- as many zeros as there are bytes
 pub put-zeros : (s : List ℕ) → put s 0 (replicate (length s) 0) ≡ replicate (length s) 0

@@ -21,8 +21,8 @@ use Rattle.opening.specs.Laws.OpeningLaws.{OpenImage}
 use Rattle.opening.specs.Inner.Prepared.{IsOpen}
 use Rattle.opening.proofs.Tests.{part-table}
 use Rattle.edits.specs.Change.{tableVerdict, placeVerdict}
-use Rattle.commit.specs.declared.TableSize.{TableSize}
-use Rattle.commit.specs.declared.TableSize.the-variants as table
+use Rattle.fst_measure.specs.declared.TableSize.{TableSize}
+use Rattle.fst_measure.specs.declared.TableSize.the-variants as table
 use Rattle.commit.specs.Inner.Decision.{placing, sizedAs}
 use Rattle.commit.proofs.Images.{table-valid, measured-past, measured-size, table-past, table-sized}
 

@@ -28,9 +28,3 @@ pub enum Decision {
     Clip(u32, u32),
     Write(u32, usize, Writing),
 }
-
-// The size of the new table, or why it cannot be written.
-pub enum TableSize {
-    Bytes(usize),
-    Refused(Refusal),
-}

@@ -1,6 +1,6 @@
 // The new table: whether it can be written, and the tree of an open image written anew into the working bytes.
-use crate::TableSize;
 use fst_measure::Measured;
+use fst_measure::TableSize;
 use refusal::Refusal;
 use refusal::Verdict;
 use space::DiscRegion;

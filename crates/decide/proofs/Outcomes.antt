@@ -30,8 +30,8 @@ use Rattle.edits.specs.Edits.{noPlace, tableOnly, planned, fileVerdict, relocat
 use Rattle.commit.specs.declared.Writing.{Writing}
 use Rattle.commit.specs.declared.Decision.{Decision}
 use Rattle.commit.specs.declared.Decision.the-variants as decision
-use Rattle.commit.specs.declared.TableSize.{TableSize}
-use Rattle.commit.specs.declared.TableSize.the-variants as table
+use Rattle.fst_measure.specs.declared.TableSize.{TableSize}
+use Rattle.fst_measure.specs.declared.TableSize.the-variants as table
 use Rattle.commit.specs.Inner.Decision.{InImage, Decided, placing, changeWith, sizedAs}
 use Rattle.commit.proofs.Puts.{span-start}
 use Rattle.commit.proofs.Decisions.{sized-refused, refused-decided, write-decided, behind-passed, behind-refused, same-tests, length-encode-setPlace}

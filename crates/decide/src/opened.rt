@@ -1,9 +1,9 @@
 // What each edit decides on an open image, whose used regions stand in the working words.
 use crate::FileAt;
 use commit::Decision;
-use commit::TableSize;
 use commit::Writing;
 use free_space::Allocation;
+use fst_measure::TableSize;
 use refusal::Refusal;
 use refusal::Verdict;
 use space::DiscRegion;

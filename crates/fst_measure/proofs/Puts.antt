@@ -22,6 +22,11 @@ put-open : (s : List ℕ) (at : ℕ) (bs : List ℕ) → put s at bs ≡ take at
 unfolding put
 put-open s at bs = refl
 
+-- from the start
+pub put-start : (s t : List ℕ) → put s 0 t ≡ t ++ drop (length t) s
+unfolding put
+put-start s t = let z : 0 + length t ≡ length t = omega arith in ap (λ (n : ℕ). t ++ drop n s) z
+
 -- one part right behind another
 pub put-append : (s : List ℕ) (at : ℕ) (a : List ℕ) (m : ℕ) (b : List ℕ) → m ≡ at + length a → m + length b ≤ length s → put (put s at a) m b ≡ put s at (a ++ b)
 put-append s at a m b e h =

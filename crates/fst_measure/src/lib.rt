@@ -1,4 +1,5 @@
 // The size of the file table written anew: 12 for the root, and for each further entry 12, its name and one.
+use refusal::Refusal;
 ghost use mathlib.Core.Path.{_≡_};
 ghost use Prim.Native.Nat.{_+_, _*_, _≤_, _<_};
 ghost use lib.ListN.{length, drop};
@@ -14,6 +15,12 @@ pub const TEXTS_LIMIT: usize = 1048576;
 pub enum Measured {
     Size(usize),
     PastLimit,
+}
+
+// The size of a new table, or why it cannot be written.
+pub enum TableSize {
+    Bytes(usize),
+    Refused(Refusal),
 }
 
 // The length of the text at `at`, without its zero byte.

@@ -8,7 +8,8 @@ use native.Mathlib.Omega.{arith}
 use lib.Dec.{leb}
 use lib.ListN.{length, getD}
 use Rattle.refusal.specs.declared.Refusal.the-variants.{NoSuchEntry, UnsafeName, ExpectedDirectory, AlreadyExists, InvalidNameByte}
-use Rattle.refusal.specs.declared.Verdict.the-variants.{Passed}
+use Rattle.refusal.specs.declared.Verdict.{Verdict}
+use Rattle.refusal.specs.declared.Verdict.the-variants.{Passed, Refused}
 use Rattle.refusal.specs.Laws.Chains.{refuse-passed}
 use Rattle.tree.specs.Table.{Node, none, plain, safe}
 use Rattle.tree.specs.Inner.WellFormed.{GoodName}
@@ -16,17 +17,17 @@ use Rattle.tree.specs.Lookup.{isDirectory, childOf}
 use Rattle.opening.specs.Opening.{nodesIn}
 use Rattle.edits.specs.Change.{change}
 use Rattle.edits.specs.Edits.{tableOnly, newNumber, isFound, insertVerdict, planned, planOf, numberedAs}
-use Rattle.grow.specs.Inner.Growth.{IsDirectory, added}
+use Rattle.fst_grow.specs.Inner.Growth.{IsDirectory, added}
 use Rattle.refusal.specs.declared.Refusal.{Refusal}
 use Rattle.tree.specs.declared.Located.{Located}
 use Rattle.tree.specs.declared.Located.the-variants as located
-use Rattle.commit.specs.declared.TableSize.{TableSize}
+use Rattle.fst_measure.specs.declared.TableSize.{TableSize}
 use Rattle.commit.specs.Inner.Decision.{Decided}
 use Rattle.commit.specs.declared.Decision.{Decision}
 use Rattle.commit.specs.declared.Decision.the-variants as decision
 use Rattle.commit.proofs.Decisions.{behind-passed, behind-refused}
-use Rattle.grow.specs.Inner.Grown.{tableDecision}
-use Rattle.grow.proofs.NumberLaws.{number-refused, number-at, change-numbered}
+use Rattle.table_only.specs.Inner.Decisions.{tableDecision}
+use Rattle.table_only.proofs.TableChanges.{change-numbered}
 use Rattle.insert.specs.Inner.Insertion.{insertion}
 
 pub plan-insert : (d : Bool) (p : ℕ) (nm image : List ℕ) →
@@ -49,6 +50,14 @@ insert-allows nodes p nm e =
     (record { inside = leb-false (length nodes) p (a .0); kind = not-off _ (d .0) }, (not-off _ (g .0), not-off _ (b .0)))
 
 -- ---- an insert, decided on once its number was found
+
+number-refused : (v : Verdict) (n : ℕ) (c : Refusal) → numberedAs v n ≡ located.Refused c → v ≡ Refused c
+number-refused Passed n c e = let z : _≡_ {A = ℕ} 0 1 = cc in absurd (omega arith)
+number-refused (Refused d) n c e = cc
+
+number-at : (v : Verdict) (n k : ℕ) → numberedAs v n ≡ located.At k → (v ≡ Passed) × (n ≡ k)
+number-at Passed n k e = (refl, cc)
+number-at (Refused d) n k e = let z : _≡_ {A = ℕ} 0 1 = cc in absurd (omega arith)
 
 module _ (image : List ℕ) (p : ℕ) (nm : List ℕ) (r : Located) (numbered : r ≡ numberedAs (insertVerdict (nodesIn image) p nm) (newNumber (nodesIn image) p)) where
   found-at : (k : ℕ) → r ≡ located.At k → (insertVerdict (nodesIn image) p nm ≡ Passed) × (newNumber (nodesIn image) p ≡ k)

@@ -27,7 +27,7 @@ use Rattle.fst.proofs.Nodes.{opens-inside}
 use Rattle.opening.specs.Opening.{nodesIn}
 use Rattle.opening.proofs.Tests.{part-table}
 use Rattle.edits.specs.Edits.{newNumber, isFound, childVerdict, insertVerdict, numberedAs}
-use Rattle.grow.proofs.StandingTable.{is-directory}
+use Rattle.fst_grow.proofs.StandingTable.{is-directory}
 use Rattle.insert.proofs.InsertionLaws.{insert-allows}
 
 -- ---- 17, 19, 12

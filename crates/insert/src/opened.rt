@@ -1,6 +1,6 @@
 // What an insert decides on an open image, whose used regions stand in the working words.
 use commit::Decision;
-use commit::TableSize;
+use fst_measure::TableSize;
 use refusal::Refusal;
 use refusal::Verdict;
 use tree::Located;
@@ -16,9 +16,9 @@ ghost use Rattle.edits.specs.Change.{change};
 ghost use Rattle.edits.specs.Edits.{tableOnly, newNumber, insertVerdict, planOf, numberedAs, childVerdict};
 ghost use Rattle.opening.specs.Inner.Prepared.{OpensImage, IsOpen};
 ghost use Rattle.commit.specs.Inner.Decision.{Decided};
-ghost use Rattle.grow.specs.Inner.Growth.{treeIn, Stands, IsDirectory, added};
+ghost use Rattle.fst_grow.specs.Inner.Growth.{treeIn, Stands, IsDirectory, added};
 ghost use Rattle.insert.specs.Inner.Insertion.{insertion};
-ghost use Rattle.grow.specs.Inner.Grown.{tableDecision};
+ghost use Rattle.table_only.specs.Inner.Decisions.{tableDecision};
 
 // The tests of the new name among the entries of p: 17, 19, 12.
 fn check_child(table: &[u8], p: usize, name: &[u8]) -> Verdict
@@ -87,10 +87,10 @@ fn add_entry(
     requires { ⌜ IsOpen (now image) (now words) m × Stands (now bytes) size (length (now words)) × IsDirectory (treeIn (now bytes) size) p × GoodName (now name) ⌝ }
     ensures { λ r. ⌜ Decided (change 0 (tableOnly (added (treeIn (now (bytes .entry)) size) «is_directory» p (now (name .entry))))) (now (image .entry)) (length (now (words .entry))) (length (now (bytes .entry))) (now (bytes .exit)) (tableDecision 0 r) ⌝ }
 {
-    let grown = grow::grow(bytes, size, words.len(), p, is_directory, name);
+    let grown = fst_grow::grow(bytes, size, words.len(), p, is_directory, name);
     match grown {
         TableSize::Refused(cause) => TableSize::Refused(cause),
-        TableSize::Bytes(n) => grow::place_table(image, words, m, bytes, n),
+        TableSize::Bytes(n) => table_only::place_table(image, words, m, bytes, n),
     }
 }
 
@@ -107,7 +107,7 @@ fn build(
     requires { ⌜ IsOpen (now image) (now words) m × IsDirectory (nodesIn (now image)) p × GoodName (now name) ⌝ }
     ensures { λ r. ⌜ Decided (change 0 (tableOnly (added (nodesIn (now (image .entry))) «is_directory» p (now (name .entry))))) (now (image .entry)) (length (now (words .entry))) (length (now (bytes .entry))) (now (bytes .exit)) (tableDecision 0 r) ⌝ }
 {
-    let started = grow::start_table(image, words, m, bytes);
+    let started = table_only::start_table(image, words, m, bytes);
     match started {
         TableSize::Refused(cause) => TableSize::Refused(cause),
         TableSize::Bytes(size) => { add_entry(image, words, m, bytes, size, p, is_directory, name) }
@@ -131,7 +131,7 @@ pub fn insert(
         Located::Refused(cause) => Decision::Refused(cause),
         Located::At(number) => {
             let built = build(image, words, m, bytes, parent as usize, is_directory, name);
-            grow::numbered(built, number)
+            table_only::numbered(built, number)
         }
     }
 }

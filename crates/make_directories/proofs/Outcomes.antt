@@ -26,17 +26,17 @@ use Rattle.opening.specs.Opening.{nodesIn}
 use Rattle.opening.specs.Laws.OpeningLaws.{OpenImage}
 use Rattle.opening.specs.Inner.Prepared.{IsOpen}
 use Rattle.opening.proofs.Tests.{part-table}
-use Rattle.commit.specs.declared.TableSize.{TableSize}
-use Rattle.commit.specs.declared.TableSize.the-variants as table
+use Rattle.fst_measure.specs.declared.TableSize.{TableSize}
+use Rattle.fst_measure.specs.declared.TableSize.the-variants as table
 use Rattle.commit.specs.Inner.Decision.{Decided}
 use Rattle.edits.specs.Change.{Plan, change}
 use Rattle.edits.specs.Edits.{make, tableOnly, planMakeDirectories}
 use Rattle.edits.specs.Inner.Troubles.{madeVerdict, troubleOf}
 use Rattle.commit.specs.declared.Decision.{Decision}
 use Rattle.commit.specs.declared.Decision.the-variants as decision
-use Rattle.grow.specs.Inner.Growth.{treeIn, Stands, Built}
-use Rattle.grow.specs.Inner.Grown.{tableDecision}
-use Rattle.grow.proofs.NumberLaws.{well-open}
+use Rattle.fst_grow.specs.Inner.Growth.{treeIn, Stands, Built}
+use Rattle.table_only.specs.Inner.Decisions.{tableDecision}
+use Rattle.table_only.proofs.BuiltTable.{well-open}
 use Rattle.make_walk.specs.Inner.Walk.{pathVerdict}
 use Rattle.make_directories.specs.declared.making.Reached.{Reached}
 use Rattle.make_directories.specs.declared.making.Reached.the-variants as reached

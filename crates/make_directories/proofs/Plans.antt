@@ -19,8 +19,8 @@ use Rattle.tree.specs.Lookup.{components}
 use Rattle.tree.specs.Laws.InsertedList.{well-nested}
 use Rattle.tree.specs.Laws.Growing.{Bigger, bigger-same}
 use Rattle.tree.specs.Laws.RoundTrip.{within-limits}
-use Rattle.commit.specs.declared.TableSize.{TableSize}
-use Rattle.commit.specs.declared.TableSize.the-variants as table
+use Rattle.fst_measure.specs.declared.TableSize.{TableSize}
+use Rattle.fst_measure.specs.declared.TableSize.the-variants as table
 use Rattle.edits.specs.Change.{Plan, change}
 use Rattle.edits.specs.Edits.{Made, stopped, made, make, tableOnly, planned, planMade, planMakeDirectories, planVerdict}
 use Rattle.edits.specs.Inner.Troubles.{madeVerdict, troubleOf}
@@ -28,11 +28,10 @@ use Rattle.edits.specs.Laws.Troubles.{make-trouble}
 use Rattle.edits.specs.Laws.MadeTree.{make-grows}
 use Rattle.commit.specs.Inner.Decision.{Decided}
 use Rattle.commit.specs.declared.Decision.the-variants as decision
-use Rattle.grow.specs.Inner.Growth.{treeIn, Built}
-use Rattle.grow.specs.Inner.Grown.{tableDecision}
-use Rattle.grow.proofs.StandingTable.{unbuilt}
+use Rattle.fst_grow.specs.Inner.Growth.{treeIn, Built}
+use Rattle.table_only.specs.Inner.Decisions.{tableDecision}
 use Rattle.commit.proofs.Decisions.{refused-decided}
-use Rattle.grow.proofs.NumberLaws.{change-numbered, same-decided}
+use Rattle.table_only.proofs.TableChanges.{unbuilt, change-numbered, same-decided}
 use Rattle.make_directories.specs.declared.making.Reached.{Reached}
 use Rattle.make_directories.specs.declared.making.Reached.the-variants as reached
 use Rattle.make_walk.specs.Inner.Walk.{pathVerdict}

@@ -17,7 +17,7 @@ use Rattle.tree.specs.Lookup.{components, childOf, stays, goesBack}
 use Rattle.fst_path.specs.Inner.Steps.{componentsAfter}
 use Rattle.edits.specs.Edits.{make}
 use Rattle.edits.specs.Inner.Troubles.{madeVerdict}
-use Rattle.grow.specs.Inner.Growth.{treeIn, Stands}
+use Rattle.fst_grow.specs.Inner.Growth.{treeIn, Stands}
 use Rattle.make_directories.specs.declared.making.Reached.{Reached}
 use Rattle.make_directories.specs.declared.making.Reached.the-variants.{At, Refused}
 use Rattle.make_directories.specs.Inner.Making.{madeTree, madeEntry, newIn, intoOf, turnOf, MayName, CanTurn, InBytes, Reaches}

@@ -28,11 +28,11 @@ use Rattle.fst_path.specs.Inner.Steps.{componentsAfter}
 use Rattle.edits.specs.Edits.{newNumber, Made, stopped, made, madeBack, ifFound, make}
 use Rattle.edits.specs.Inner.Troubles.{madeVerdict}
 use Rattle.edits.specs.Laws.MadeTree.{bad-stays, AllLt, make-grows}
-use Rattle.commit.specs.declared.TableSize.{TableSize}
-use Rattle.commit.specs.declared.TableSize.the-variants as table
-use Rattle.grow.specs.Inner.Growth.{treeIn, Stands, IsDirectory, added, Built}
-use Rattle.grow.proofs.StandingTable.{is-directory, built-stands}
-use Rattle.grow.proofs.GrowthLaws.{bigger-added}
+use Rattle.fst_measure.specs.declared.TableSize.{TableSize}
+use Rattle.fst_measure.specs.declared.TableSize.the-variants as table
+use Rattle.fst_grow.specs.Inner.Growth.{treeIn, Stands, IsDirectory, added, Built}
+use Rattle.fst_grow.proofs.StandingTable.{is-directory}
+use Rattle.fst_grow.proofs.GrowthLaws.{grown}
 use Rattle.make_directories.specs.declared.making.Reached.the-variants.{At, Refused}
 use Rattle.make_directories.specs.Inner.Making.{madeTree, madeEntry, newIn, turnOf, CanTurn, InBytes, Reaches}
 
@@ -217,8 +217,7 @@ module _ (s t : List ℕ) (size words k : ℕ) (nm : List ℕ) (st : Stands s si
     (b : Built (added (treeIn s size) true k nm) words s t r) where
   pub new-reached : (number n : ℕ) → number ≡ newNumber (treeIn s size) k → r ≡ table.Bytes n → Reaches (newIn (treeIn s size) k nm) words (length s) t (At number n)
   new-reached number n e f =
-      let p : Built (added (treeIn s size) true k nm) words s t (table.Bytes n) = rw f at b in
-      let q = built-stands (added (treeIn s size) true k nm) words s t n (bigger-added (treeIn s size) true k nm (st .well) dir good .well) p in
+      let q = grown s size words st true k nm dir good t r b n f in
       (e, q .0, q .1)
 
   pub new-refused : (c : Refusal) → r ≡ table.Refused c → Reaches (newIn (treeIn s size) k nm) words (length s) t (Refused c)

@@ -3,7 +3,7 @@
 mod making;
 
 use commit::Decision;
-use commit::TableSize;
+use fst_measure::TableSize;
 use making::Reached;
 use refusal::Refusal;
 use refusal::Verdict;
@@ -22,7 +22,7 @@ ghost use Rattle.opening.specs.Opening.{nodesIn};
 ghost use Rattle.edits.specs.Edits.{planMakeDirectories};
 ghost use Rattle.edits.specs.Inner.Troubles.{troubleOf};
 ghost use Rattle.opening.specs.Inner.Prepared.{OpensImage, IsOpen};
-ghost use Rattle.grow.specs.Inner.Growth.{Stands, treeIn};
+ghost use Rattle.fst_grow.specs.Inner.Growth.{Stands, treeIn};
 ghost use Rattle.commit.specs.Inner.Decision.{Decided};
 ghost use Rattle.make_walk.specs.Inner.Walk.{pathVerdict};
 
@@ -68,8 +68,8 @@ fn make_in(
     match reached {
         Reached::Refused(cause) => Decision::Refused(cause),
         Reached::At(k, n) => {
-            let placed = grow::place_table(image, words, m, bytes, n);
-            grow::numbered(placed, k as u32)
+            let placed = table_only::place_table(image, words, m, bytes, n);
+            table_only::numbered(placed, k as u32)
         }
     }
 }
@@ -90,7 +90,7 @@ pub fn decide_open(
     if let Verdict::Refused(cause) = verdict {
         return Decision::Refused(cause);
     }
-    let found = grow::start_table(image, words, m, bytes);
+    let found = table_only::start_table(image, words, m, bytes);
     match found {
         TableSize::Refused(cause) => Decision::Refused(cause),
         TableSize::Bytes(size) => make_in(image, words, m, bytes, size, start, path),

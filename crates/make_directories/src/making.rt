@@ -10,9 +10,9 @@ ghost use Rattle.tree.specs.Inner.WellFormed.{GoodName};
 ghost use Rattle.tree.specs.Lookup.{components, childOf};
 ghost use Rattle.edits.specs.Edits.{newNumber, make};
 ghost use Rattle.edits.specs.Inner.Troubles.{madeVerdict};
-ghost use Rattle.grow.specs.Inner.Growth.{treeIn, Stands, IsDirectory};
+ghost use Rattle.fst_grow.specs.Inner.Growth.{treeIn, Stands, IsDirectory};
 ghost use Rattle.make_directories.specs.Inner.Making.{InBytes, newIn, intoOf, turnOf, MayName, CanTurn, Reaches};
-use commit::TableSize;
+use fst_measure::TableSize;
 use refusal::Refusal;
 use tree::Located;
 
@@ -44,7 +44,7 @@ fn into_new(bytes: &mut [u8], size: usize, words: usize, k: usize, name: &[u8]) 
     ensures { λ r. ⌜ Reaches (newIn (treeIn (now (bytes .entry)) size) k (now (name .entry))) words (length (now (bytes .entry))) (now (bytes .exit)) r ⌝ }
 {
     let number = new_number(bytes, size, k);
-    let grown = grow::grow(bytes, size, words, k, true, name);
+    let grown = fst_grow::grow(bytes, size, words, k, true, name);
     match grown {
         TableSize::Bytes(n) => Reached::At(number, n),
         TableSize::Refused(cause) => Reached::Refused(cause),
@@ -72,7 +72,7 @@ fn take_step(bytes: &mut [u8], size: usize, words: usize, k: usize, name: &[u8])
         return Reached::At(k, size);
     }
     if fst_path::goes_back(name) {
-        return Reached::At(grow::parent(bytes, size, words, k), size);
+        return Reached::At(fst_grow::parent(bytes, size, words, k), size);
     }
     into(bytes, size, words, k, name)
 }

@@ -17,8 +17,8 @@ use Rattle.space.specs.declared.DiscRegion.{DiscRegion}
 use Rattle.commit.specs.declared.Writing.{Writing}
 use Rattle.commit.specs.declared.Decision.{Decision}
 use Rattle.commit.specs.declared.Decision.the-variants as decision
-use Rattle.commit.specs.declared.TableSize.{TableSize}
-use Rattle.commit.specs.declared.TableSize.the-variants as table
+use Rattle.fst_measure.specs.declared.TableSize.{TableSize}
+use Rattle.fst_measure.specs.declared.TableSize.the-variants as table
 use Rattle.edits.specs.Change.{Change, withTable, Plan, refused, nothing, change, filled}
 use Rattle.edits.specs.Edits.{noPlace, planVerdict, planImage}
 

@@ -12,7 +12,7 @@ use Rattle.opening.specs.Opening.{nodesIn}
 use Rattle.opening.specs.Laws.OpeningLaws.{opens, OpenImage}
 use Rattle.opening.proofs.Tests.{part-table}
 use Rattle.commit.proofs.Images.{checked}
-use Rattle.grow.proofs.NumberLaws.{well-open}
+use Rattle.table_only.proofs.BuiltTable.{well-open}
 use Rattle.make_directories.proofs.Plans.{path-long}
 use borrow.Author.Needs.{needs}
 use Rattle.make_directories.proofs.check_path.Statement.{statement}

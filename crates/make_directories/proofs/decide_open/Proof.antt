@@ -1,7 +1,7 @@
 -- `make_directories::decide_open` meets its contract: refused by the tests that need no memory, or what the table comes to.
 -- Assumes nothing.
 use Rattle.make_directories.proofs.Outcomes.{path-stops, path-passes, unstarted, same-room}
-use Rattle.grow.proofs.BuiltTable.{started-stands, started-tree}
+use Rattle.table_only.proofs.BuiltTable.{started-stands, started-tree}
 use native.Mathlib.Omega.{arith}
 use denote.Ref.{now}
 use lib.ListN.{length}

@@ -7,7 +7,7 @@ use denote.Ref.{now}
 use lib.ListN.{length}
 use Rattle.opening.specs.Opening.{nodesIn}
 use Rattle.opening.specs.Laws.OpeningLaws.{opens}
-use Rattle.grow.proofs.NumberLaws.{well-open}
+use Rattle.table_only.proofs.BuiltTable.{well-open}
 use borrow.Author.Needs.{needs}
 use Rattle.make_directories.proofs.make_in.Statement.{statement}
 use Rattle.make_directories.proofs.make_in.Tie as tie

@@ -14,7 +14,7 @@ use Rattle.tree.specs.Lookup.{childOf, stays, goesBack}
 use Rattle.tree.specs.Insert.{insertAt, emptyDirectory}
 use Rattle.fst_check.specs.Inner.Reading.{Opens}
 use Rattle.edits.specs.Edits.{newNumber, Made, stopped, made, ifFound}
-use Rattle.grow.specs.Inner.Growth.{treeIn, Stands, IsDirectory}
+use Rattle.fst_grow.specs.Inner.Growth.{treeIn, Stands, IsDirectory}
 use Rattle.make_directories.specs.declared.making.Reached.{Reached}
 use Rattle.make_directories.specs.declared.making.Reached.the-variants.{At, Refused}
 

@@ -1,6 +1,7 @@
 -- `insert::opened::add_entry` meets its contract: what grew stands in the bytes; what could not cannot be written.
 -- Assumes nothing.
-use Rattle.grow.proofs.BuiltTable.{grown-stands, grown-decided, ungrown-decided}
+use Rattle.fst_grow.proofs.GrowthLaws.{grown-stands}
+use Rattle.table_only.proofs.BuiltTable.{grown-decided, ungrown-decided}
 use borrow.Author.Needs.{needs}
 use Rattle.insert.proofs.opened.add_entry.Statement.{statement}
 use Rattle.insert.proofs.opened.add_entry.Tie as tie

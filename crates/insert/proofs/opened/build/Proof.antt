@@ -1,6 +1,6 @@
 -- `insert::opened::build` meets its contract: the tree of the image stands in the bytes, or cannot, and then neither can a larger one.
 -- Assumes nothing.
-use Rattle.grow.proofs.BuiltTable.{started-stands, started-directory, started-decided, unstarted-decided}
+use Rattle.table_only.proofs.BuiltTable.{started-stands, started-directory, started-decided, unstarted-decided}
 use Rattle.opening.specs.Laws.OpeningLaws.{opens, OpenImage}
 use lib.ListN.{length}
 use denote.Ref.{now}

@@ -8,7 +8,7 @@ use mathlib.Core.List.{[]}
 use lib.ListN.{length}
 use Rattle.tree.specs.Lookup.{components}
 use Rattle.edits.specs.Edits.{make}
-use Rattle.grow.specs.Inner.Growth.{treeIn}
+use Rattle.fst_grow.specs.Inner.Growth.{treeIn}
 use Rattle.make_directories.specs.Inner.Making.{madeTree, madeEntry}
 use Rattle.make_directories.proofs.Turns.{Making, making-can}
 use borrow.Author.Needs.{needs}

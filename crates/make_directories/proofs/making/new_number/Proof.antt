@@ -1,7 +1,7 @@
 -- `make_directories::making::new_number` meets its contract: the part of the bytes is the table.
 -- Assumes nothing.
 use Rattle.make_directories.proofs.Steps.{part-count}
-use Rattle.grow.specs.Inner.Growth.{treeIn}
+use Rattle.fst_grow.specs.Inner.Growth.{treeIn}
 use borrow.Author.Needs.{needs}
 use Rattle.make_directories.proofs.making.new_number.Statement.{statement}
 use Rattle.make_directories.proofs.making.new_number.Tie as tie

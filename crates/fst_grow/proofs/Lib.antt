@@ -1,0 +1,4 @@
+-- What the proofs of the functions cite.
+pub mod GrowthLaws
+pub mod Limits
+pub mod StandingTable
