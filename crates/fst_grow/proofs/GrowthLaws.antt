@@ -19,31 +19,24 @@ use Rattle.refusal.specs.Refusal.{refuse}
 use Rattle.tree.specs.Table.{Node, nameOf, none, sizeOrNext, textsOf, encode, limits}
 use Rattle.tree.specs.Inner.WellFormed.{GoodName, WellFormed}
 use Rattle.tree.specs.Lookup.{nextOf}
-use Rattle.tree.specs.Laws.InsertLaws.{Fresh}
 use Rattle.tree.specs.Laws.InsertWalk.{depthOk}
 use Rattle.tree.specs.Inner.Depths.{depthOf}
 use Rattle.tree.specs.Inner.Patch.{insertPatch}
 use Rattle.tree.specs.Laws.Depth.{limits-insert}
+use Rattle.tree.specs.Laws.Renumbered.{directory-is}
 use Rattle.tree.specs.Laws.Growing.{Bigger, bigger-insert, limits-either}
 use Rattle.tree.specs.Laws.Size.{size-insert}
 use Rattle.tree.specs.Laws.RoundTrip.{Within, within-limits}
 use Rattle.tree.specs.Laws.WrittenEntries.{length-encode}
 use Rattle.fst_raise.specs.Inner.Inserting.{newNode, Insertable}
-use Rattle.fst_patch.proofs.Written.{insertable, insert-written}
+use Rattle.fst_raise.proofs.Patches.{new-name}
+use Rattle.fst_patch.proofs.Written.{fresh-new, insertable, insert-written}
 use Rattle.fst_measure.specs.declared.TableSize.{TableSize}
 use Rattle.fst_measure.specs.declared.TableSize.the-variants as table
 use Rattle.fst_grow.specs.Inner.Growth.{treeIn, Stands, IsDirectory, added, depthAllows, Built}
-use Rattle.fst_grow.proofs.StandingTable.{is-directory, M, size-is, front, inside, built-stands}
+use Rattle.fst_grow.proofs.StandingTable.{M, size-is, front, inside, built-stands}
 
 -- ---- one entry more
-
-pub fresh-new : (d : Bool) (nm : List ℕ) (q : ℕ) → Fresh q (newNode d nm q)
-fresh-new true nm q = refl
-fresh-new false nm q = (omega arith, omega arith)
-
-pub name-new : (d : Bool) (nm : List ℕ) (q : ℕ) → nameOf (newNode d nm q) ≡ nm
-name-new true nm q = refl
-name-new false nm q = refl
 
 depth-new : (d : Bool) (nm : List ℕ) (q n : ℕ) → depthOk (suc n) (newNode d nm q) ≡ depthAllows d n
 depth-new true nm q n = both (ltb n 64) refl
@@ -60,10 +53,10 @@ module _ (M : List Node) (d : Bool) (p : ℕ) (nm : List ℕ) (w : WellFormed M)
   new = newNode d nm (nextOf (getD M p none))
 
   named : GoodName (nameOf new)
-  named = rw (name-new d nm (nextOf (getD M p none))) good
+  named = rw (new-name d nm (nextOf (getD M p none))) good
 
   pub bigger-added : Bigger M (added M d p nm)
-  bigger-added = let x = is-directory (getD M p none) (dir .kind) in
+  bigger-added = let x = directory-is (getD M p none) (dir .kind) in
       bigger-insert M p (nextOf (getD M p none)) (x .0) new w (x .1) (dir .inside) named (fresh-new d nm (nextOf (getD M p none)))
 
   pub limits-added : (words : ℕ) → Within M words →
@@ -73,9 +66,9 @@ module _ (M : List Node) (d : Bool) (p : ℕ) (nm : List ℕ) (w : WellFormed M)
       (refuse (ltb words (4 * (suc (length M) + 2))) LimitOrMemory
       (refuse (not (depthAllows d (depthOf M p))) LimitOrMemory Passed)))
   limits-added words i =
-      let x = is-directory (getD M p none) (dir .kind) in
+      let x = directory-is (getD M p none) (dir .kind) in
       limits-insert M p (nextOf (getD M p none)) (x .0) new words w (x .1) (dir .inside) named (fresh-new d nm (nextOf (getD M p none)))
-      ∙ rw (name-new d nm (nextOf (getD M p none)), depth-new d nm (nextOf (getD M p none)) (depthOf M p), i .depth, and-true (depthAllows d (depthOf M p)))
+      ∙ rw (new-name d nm (nextOf (getD M p none)), depth-new d nm (nextOf (getD M p none)) (depthOf M p), i .depth, and-true (depthAllows d (depthOf M p)))
     where
       and-true : (t : Bool) → (t && true) ≡ t
       and-true true = refl
@@ -137,9 +130,9 @@ module _ (s : List ℕ) (size words : ℕ) (st : Stands s size words) (d : Bool)
 
   pub grown-size : length (encode G) ≡ size + 12 + length nm + 1
   grown-size =
-      let x = is-directory (getD T p none) (dir .kind) in
+      let x = directory-is (getD T p none) (dir .kind) in
       let new : Node = newNode d nm (nextOf (getD T p none)) in
-      omega (arith, size-is s size words st, size-insert T p (nextOf (getD T p none)) (x .0) new well (x .1) (dir .inside), ap length (name-new d nm (nextOf (getD T p none))))
+      omega (arith, size-is s size words st, size-insert T p (nextOf (getD T p none)) (x .0) new well (x .1) (dir .inside), ap length (new-name d nm (nextOf (getD T p none))))
 
   pub short-built : (t : List ℕ) → length s < size + 12 + length nm + 1 → Built G words s t (table.Refused LimitOrMemory)
   short-built t h = (refl, λ e. omega (arith, grown-size))
@@ -157,14 +150,14 @@ module _ (s : List ℕ) (size words : ℕ) (st : Stands s size words) (d : Bool)
     module _ (room : size + 12 + length nm + 1 ≤ length s) where
       pub may-insert : Insertable s size p (length nm)
       may-insert =
-          let x = is-directory (getD T p none) (dir .kind) in
+          let x = directory-is (getD T p none) (dir .kind) in
           let i : Insertable (put s 0 (encode T)) (length (encode T)) p (length nm) =
           insertable s T p (nextOf (getD T p none)) (x .0) d nm well (x .1) (dir .inside) (inside s size words st .few) (omega (arith, size-is s size words st)) (omega (arith, size-is s size words st, small)) in
           rw (front s size words st, ← (size-is s size words st)) at i
 
       pub inserted-built : (t : List ℕ) → t ≡ put s 0 (insertPatch (take size s) (sizeOrNext s 0) p (newNode d nm (sizeOrNext s p))) → Built G words s t (table.Bytes (size + 12 + length nm + 1))
       inserted-built t g =
-          let x = is-directory (getD T p none) (dir .kind) in
+          let x = directory-is (getD T p none) (dir .kind) in
           let i : put (put s 0 (encode T)) 0 (insertPatch (take (length (encode T)) (put s 0 (encode T))) (sizeOrNext (put s 0 (encode T)) 0) p (newNode d nm (sizeOrNext (put s 0 (encode T)) p))) ≡ put s 0 (encode G) =
           insert-written s T p (nextOf (getD T p none)) (x .0) d nm well (x .1) (dir .inside) (inside s size words st .few) (omega (arith, size-is s size words st)) (omega (arith, size-is s size words st, small)) in
           (sym judged ∙ passed, sym grown-size, room, g ∙ (rw (front s size words st, ← (size-is s size words st)) at i))

@@ -11,9 +11,9 @@ use Rattle.endian.specs.Bytes.{be32, put}
 use Rattle.endian.specs.Laws.Stored.{length-put, put-in}
 use Rattle.tree.specs.Table.{Node, file, directory, none, sizeOrNext, offsetOrParent, nodesOf, encloses, parentOf, textsOf, encode}
 use Rattle.tree.specs.Inner.WellFormed.{WellFormed}
-use Rattle.tree.specs.Lookup.{isDirectory, nextOf}
 use Rattle.tree.specs.Laws.WellNested.{root-is, not-empty, parent-inside}
 use Rattle.tree.specs.Laws.Nesting.{parent-before}
+use Rattle.tree.specs.Laws.Renumbered.{directory-is}
 use Rattle.tree.specs.Inner.Depths.{depthOf}
 use Rattle.tree.specs.Laws.Depth.{depth-root, depth-parent}
 use Rattle.tree.specs.Laws.RoundTrip.{Within, within-limits, written-reads}
@@ -24,12 +24,6 @@ use Rattle.fst_measure.specs.declared.TableSize.{TableSize}
 use Rattle.fst_measure.specs.declared.TableSize.the-variants as table
 use Rattle.fst_measure.proofs.Puts.{put-start}
 use Rattle.fst_grow.specs.Inner.Growth.{treeIn, Stands, IsDirectory, Built}
-
--- ---- a directory
-
-pub is-directory : (x : Node) → isDirectory x ≡ true → (nm : List ℕ) × (x ≡ directory nm (nextOf x))
-is-directory (file nm a b) e = let z : _≡_ {A = ℕ} 0 1 = cc in absurd (omega arith)
-is-directory (directory nm n) e = (nm, refl)
 
 -- ---- what is read of the table
 
@@ -71,7 +65,7 @@ module _ (s : List ℕ) (size words : ℕ) (st : Stands s size words) where
       (same k h .places ∙ f .2, same k h .nexts ∙ f .3)
 
   pub stored-parent : (k : ℕ) → IsDirectory M k → be32 s (12 * k + 4) ≡ parentOf M k
-  stored-parent k d = let x = is-directory (getD M k none) (d .kind) in directory-fields k _ (x .0) (d .inside) (x .1) .0
+  stored-parent k d = let x = directory-is (getD M k none) (d .kind) in directory-fields k _ (x .0) (d .inside) (x .1) .0
 
   pub parent-read : (k r : ℕ) → IsDirectory M k → r ≡ be32 s (12 * k + 4) → r ≡ parentOf M k
   parent-read k r d e = e ∙ stored-parent k d

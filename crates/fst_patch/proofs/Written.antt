@@ -85,7 +85,7 @@ next-with : (tab : List ℕ) (k par o : ℕ) (x : Node) (nm : List ℕ) (n : ℕ
 next-with tab k par o (file a b c) nm n e f = let z : _≡_ {A = ℕ} 0 1 = cc in absurd (omega arith)
 next-with tab k par o (directory a m) nm n e f = let z : m ≡ n = cc in f .3 ∙ z
 
-fresh-new : (d : Bool) (nm : List ℕ) (q : ℕ) → Fresh q (newNode d nm q)
+pub fresh-new : (d : Bool) (nm : List ℕ) (q : ℕ) → Fresh q (newNode d nm q)
 fresh-new true nm q = refl
 fresh-new false nm q = (omega arith, omega arith)
 

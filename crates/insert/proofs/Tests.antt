@@ -21,13 +21,13 @@ use Rattle.tree.specs.Table.{Node, none, count, nodesOf, plain, safe}
 use Rattle.tree.specs.Inner.WellFormed.{WellFormed}
 use Rattle.tree.specs.Lookup.{isDirectory, nextOf, childOf}
 use Rattle.tree.specs.Laws.Accepted.{length-nodesOf}
+use Rattle.tree.specs.Laws.Renumbered.{directory-is}
 use Rattle.tree.specs.Laws.WellNested.{next-bounds}
 use Rattle.fst_check.specs.Inner.Reading.{Opens}
 use Rattle.fst.proofs.Nodes.{opens-inside}
 use Rattle.opening.specs.Opening.{nodesIn}
 use Rattle.opening.proofs.Tests.{part-table}
 use Rattle.edits.specs.Edits.{newNumber, isFound, childVerdict, insertVerdict, numberedAs}
-use Rattle.fst_grow.proofs.StandingTable.{is-directory}
 use Rattle.insert.proofs.InsertionLaws.{insert-allows}
 
 -- ---- 17, 19, 12
@@ -92,7 +92,7 @@ module _ (tab : List ℕ) (p : ℕ) (nm : List ℕ) (v : Verdict) (judged : v �
       pub number-fits : Opens tab → WellFormed (nodesOf tab) → Fits w32 r
       number-fits o w =
           let a = insert-allows (nodesOf tab) p nm (sym judged ∙ passed) in
-          let x = is-directory (getD (nodesOf tab) p none) (a .0 .kind) in
+          let x = directory-is (getD (nodesOf tab) p none) (a .0 .kind) in
           record { fits = omega (arith, next, next-bounds (nodesOf tab) p _ (x .0) w (x .1) (a .0 .inside) .1, length-nodesOf tab, opens-inside tab o .small) }
 
 -- the table as the slice that is read

@@ -18,6 +18,7 @@ use Rattle.tree.specs.Lookup.{isDirectory, components, childOf, stays, goesBack
 use Rattle.tree.specs.Laws.Children.{child-is}
 use Rattle.tree.specs.Laws.LookupLaws.{child-inside}
 use Rattle.tree.specs.Laws.Nesting.{parent-most}
+use Rattle.tree.specs.Laws.Renumbered.{directory-is}
 use Rattle.tree.specs.Laws.WellNested.{next-bounds}
 use Rattle.tree.specs.Insert.{insertAt, emptyDirectory}
 use Rattle.tree.specs.Laws.InsertLaws.{length-insert, parent-insert-before, parent-insert-at}
@@ -31,7 +32,6 @@ use Rattle.edits.specs.Laws.MadeTree.{bad-stays, AllLt, make-grows}
 use Rattle.fst_measure.specs.declared.TableSize.{TableSize}
 use Rattle.fst_measure.specs.declared.TableSize.the-variants as table
 use Rattle.fst_grow.specs.Inner.Growth.{treeIn, Stands, IsDirectory, added, Built}
-use Rattle.fst_grow.proofs.StandingTable.{is-directory}
 use Rattle.fst_grow.proofs.GrowthLaws.{grown}
 use Rattle.make_directories.specs.declared.making.Reached.the-variants.{At, Refused}
 use Rattle.make_directories.specs.Inner.Making.{madeTree, madeEntry, newIn, turnOf, CanTurn, InBytes, Reaches}
@@ -116,7 +116,7 @@ module _ (M : List Node) (k n : ℕ) (nm : List ℕ) (cs : List (List ℕ)) (F :
   onward-new : GoodName nm → make M′ (k ∷ ups M k n) (newNumber M k) false cs ≡ made F j false → Onward (made M′ (newNumber M k) false) cs F j
   unfolding ups
   onward-new g q =
-      let x = is-directory (getD M k none) (tested .0) in
+      let x = directory-is (getD M k none) (tested .0) in
       let a = newNumber M k in
       let b = next-bounds M k a (x .0) w (x .1) k<n in
       let l = length-insert M k a (x .0) (emptyDirectory nm a) w (x .1) k<n in
