@@ -1,11 +1,10 @@
-// What the calls on an image that opened share: their answers, and what is told of the disc, of its table and of a region.
+// What the calls on an image that opened share: their answers, and what is told of the disc and of a region.
 use refusal::Refusal;
 ghost use mathlib.Core.Path.{_≡_};
 ghost use lib.ListN.{length};
-ghost use Rattle.refusal.specs.declared.Verdict.the-variants.{Passed};
-ghost use Rattle.opening.specs.Opening.{opening, tableOf};
+ghost use Rattle.opening.specs.Opening.{opening};
 ghost use Rattle.answers.specs.Answers.{discOf, maxRegionSizeAnswer};
-ghost use Rattle.opening.specs.Inner.Prepared.{UsedWords, Prepares};
+ghost use Rattle.opening.specs.Inner.Prepared.{IsOpen, Prepares};
 use opening::Prepared;
 
 pub struct Disc {
@@ -28,12 +27,12 @@ pub enum SizeAnswer {
 
 // What opening tells of an image that it accepts.
 pub fn disc_of(image: &[u8], words: &[u32], count: usize) -> Disc
-    requires { ⌜ (opening (now image) (length (now words)) ≡ Passed) × UsedWords (now image) (now words) count ⌝ }
+    requires { ⌜ IsOpen (now image) (now words) count ⌝ }
     ensures { λ r. ⌜ r ≡ discOf (now (image .entry)) ⌝ }
 {
     let fst_offset = header::fst_offset(image);
     let fst_size = header::fst_size(image);
-    let disc_end = header::disc_end(image) as u32;
+    let disc_end = opening::disc_end(image);
     let entries = endian::read_u32(image, fst_offset as usize + 8);
     let used = free_space::used_size(words, count, disc_end);
     Disc {
@@ -46,7 +45,7 @@ pub fn disc_of(image: &[u8], words: &[u32], count: usize) -> Disc
 }
 
 pub fn sized(image: &[u8], words: &[u32], prepared: Prepared, offset: u32, size: u32) -> SizeAnswer
-    requires { ⌜ Prepares (now image) (length (now words)) (now words) prepared ⌝ }
+    requires { ⌜ Prepares (now image) (now words) prepared ⌝ }
     ensures { λ r. ⌜ r ≡ maxRegionSizeAnswer (now (image .entry)) (length (now (words .entry))) offset size ⌝ }
 {
     match prepared {
@@ -62,14 +61,4 @@ pub fn sized(image: &[u8], words: &[u32], prepared: Prepared, offset: u32, size:
         }
         Prepared::Refused(cause) => SizeAnswer::Refused(cause),
     }
-}
-
-// The table of an image that opened.
-pub fn table(image: &[u8], words: usize) -> &[u8]
-    requires { ⌜ opening (now image) words ≡ Passed ⌝ }
-    ensures { λ r. ⌜ now r ≡ tableOf (now (image .entry)) ⌝ }
-{
-    let from = header::fst_offset(image) as usize;
-    let to = header::table_end(image) as usize;
-    &image[from..to]
 }

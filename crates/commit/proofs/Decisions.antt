@@ -15,7 +15,6 @@ use Rattle.tree.specs.Table.{Node, encode}
 use Rattle.tree.specs.Insert.{setPlace}
 use Rattle.tree.specs.Laws.PlaceLaws.{length-setPlace, texts-setPlace, limits-setPlace}
 use Rattle.tree.specs.Laws.WrittenEntries.{length-encode}
-use Rattle.opening.specs.Opening.{opening}
 use Rattle.commit.specs.declared.Writing.{Writing}
 use Rattle.commit.specs.declared.Decision.{Decision}
 use Rattle.commit.specs.declared.Decision.the-variants as decision
@@ -24,9 +23,6 @@ use Rattle.edits.specs.Change.{written, tableVerdict, Plan, refused, nothing, c
 use Rattle.tree.specs.declared.Located.the-variants as located
 use Rattle.edits.specs.Edits.{planned, planVerdict, planImage, planNumber, numberedAs}
 use Rattle.edits.specs.Laws.Behind as behind
-use Rattle.opening.specs.declared.Prepared.{Prepared}
-use Rattle.opening.specs.declared.Prepared.the-variants as prepared
-use Rattle.opening.specs.Inner.Prepared.{Prepares, IsOpen}
 use Rattle.commit.specs.Inner.Decision.{changeWith, placing, writtenWith, Fits, sizedAs, carriedAnswer, Decided, DecidedAs}
 
 pub planned-first : (a b : Verdict) (p : Plan) → planned (first a b) p ≡ planned a (planned b p)
@@ -88,20 +84,6 @@ pub same-tests : (image : List ℕ) (words room k o n : ℕ) (nodes : List Node)
     tableVerdict (changeWith (setPlace k o n nodes) w) image words room ≡ tableVerdict (placing nodes (w .place)) image words room
 unfolding tableVerdict placeVerdict
 same-tests image words room k o n nodes w = rw (limits-setPlace o n k nodes words, length-encode-setPlace o n k nodes)
-
--- ---- opening, then the plan
-
--- the image is open, with the words that `prepare` left
-pub is-open : (image w w′ : List ℕ) (r : Prepared) (m : ℕ) → Prepares image (length w) w′ r → r ≡ prepared.Ready m → length w′ ≡ length w → IsOpen image w′ m
-is-open image w w′ r m p e l =
-    let q : Prepares image (length w) w′ (prepared.Ready m) = rw e at p in
-    record { passed = rw l (q .0); used = q .1 }
-
-pub opened : (image w w′ : List ℕ) (r : Prepared) (m : ℕ) → Prepares image (length w) w′ r → r ≡ prepared.Ready m → opening image (length w) ≡ Passed
-opened image w w′ r m q e = let o : Prepares image (length w) w′ (prepared.Ready m) = rw e at q in o .0
-
-pub unopened : (image w w′ : List ℕ) (r : Prepared) (c : Refusal) → Prepares image (length w) w′ r → r ≡ prepared.Refused c → opening image (length w) ≡ Refused c
-unopened image w w′ r c q e = rw e at q
 
 -- ---- the answer with the entry's number
 

@@ -13,15 +13,13 @@ use Rattle.refusal.specs.declared.Verdict.{Verdict}
 use Rattle.refusal.specs.declared.Verdict.the-variants.{Passed, Refused}
 use Rattle.refusal.specs.Refusal.{refuse, first}
 use Rattle.refusal.specs.Laws.Chains.{refuse-passed, first-passed}
-use Rattle.header.specs.Verdicts.{headerVerdict, boundsVerdict, fstOffset, fstSize, discEnd, tableEnd}
-use Rattle.tree.specs.Table.{Node, none, count, check, textsOf, encode, limits}
+use Rattle.header.specs.Verdicts.{fstOffset, fstSize, discEnd, tableEnd}
+use Rattle.tree.specs.Table.{Node, none, count, textsOf, encode, limits}
 use Rattle.tree.specs.Laws.Accepted.{length-nodesOf}
 use Rattle.tree.specs.Laws.WrittenEntries.{length-encode}
 use Rattle.tree.specs.Laws.RoundTrip.{Within, within-limits, limits-within}
 use Rattle.fst_measure.specs.declared.Measured.the-variants.{Size, PastLimit}
 use Rattle.fst_measure.specs.Inner.Measure.{measureOf}
-use Rattle.fst_measure.specs.Inner.Valid.{Valid}
-use Rattle.fst_measure.specs.Laws.Accepted.{accepted-valid}
 use Rattle.space.specs.declared.DiscRegion.{DiscRegion}
 use Rattle.space.specs.Used.{endOf, usedRegions}
 use Rattle.space.specs.Laws.UsedLaws.{liesWithin, filesWithin}
@@ -30,27 +28,17 @@ use Rattle.free_space.specs.MaxRegionSize.{maxRegionSize}
 use Rattle.space.specs.Free.{freeRegions}
 use Rattle.free_space.specs.Laws.GrowthLaws.{table-largest, place-free}
 use Rattle.free_space.specs.Laws.PassedLayout.{passes}
-use Rattle.opening.specs.Opening.{tableOf, nodesIn, regionOf, behindTable, usedIn, freeOf, opening}
-use Rattle.opening.specs.Laws.OpeningLaws.{OpenImage}
+use Rattle.opening.specs.Opening.{tableOf, nodesIn, regionOf, behindTable, usedIn, freeOf}
 use Rattle.edits.specs.Change.{aboveMaximum, tableVerdict, placeVerdict}
 use Rattle.edits.specs.Edits.{overlapsItself, relocateVerdict}
 use Rattle.edits.specs.Laws.PlaceTests.{place-passed, free-byte}
 use Rattle.space.specs.Inner.Sort.{regionsIn}
-use Rattle.opening.specs.Inner.Prepared.{UsedWords}
+use Rattle.opening.specs.Inner.Prepared.{OpenImage, IsOpen}
+use Rattle.opening.proofs.Words.{free-below}
 use Rattle.fst_measure.specs.declared.TableSize.{TableSize}
 use Rattle.fst_measure.specs.declared.TableSize.the-variants as table
 use Rattle.commit.specs.Inner.Decision.{TableFits, placing, sizedAs}
 use Rattle.commit.proofs.Decisions.{sized-passed}
-
-pub checked : (image : List ℕ) (words : ℕ) → opening image words ≡ Passed → check (tableOf image) words ≡ Passed
-unfolding opening
-checked image words e =
-    let a = first-passed (headerVerdict image) _ e in
-    let b = first-passed (boundsVerdict image) _ (a .1) in
-    first-passed (check (tableOf image) words) _ (b .1) .0
-
-pub table-valid : (image : List ℕ) (words : ℕ) → opening image words ≡ Passed → Valid (tableOf image) (count (tableOf image))
-table-valid image words e = accepted-valid (tableOf image) words (checked image words e)
 
 -- ---- a file that is not empty lies behind the table and on the disc
 
@@ -163,10 +151,8 @@ table-passed nodes place image words room e =
 -- ---- what the code computed, in the words of the definitions
 
 -- a largest size, found in the words
-pub free-size : (image w : List ℕ) (m e o n r o′ n′ : ℕ) → UsedWords image w m → e ≡ discEnd image → o ≡ o′ → n ≡ n′ → r ≡ maxRegionSize o n (freeRegions e (regionsIn w 0 m)) → r ≡ maxRegionSize o′ n′ (freeOf image)
-free-size image w m e o n r o′ n′ u p q s t =
-    t ∙ ap (λ (x : ℕ). maxRegionSize o n (freeRegions x (regionsIn w 0 m))) p ∙ ap (λ (l : List DiscRegion). maxRegionSize o n l) (u .free)
-    ∙ ap (λ (x : ℕ). maxRegionSize x n (freeOf image)) q ∙ ap (λ (x : ℕ). maxRegionSize o′ x (freeOf image)) s
+pub free-size : (image w : List ℕ) (m e o n r o′ n′ : ℕ) → IsOpen image w m → e ≡ discEnd image → o ≡ o′ → n ≡ n′ → r ≡ maxRegionSize o n (freeRegions e (regionsIn w 0 m)) → r ≡ maxRegionSize o′ n′ (freeOf image)
+free-size image w m e o n r o′ n′ u p q s t = t ∙ ap (maxRegionSize o n) (free-below image w m e u p) ∙ rw (q, s)
 
 -- the tests of a table's place, by their results
 pub place-verdict : (image : List ℕ) (room size : ℕ) (place : DiscRegion) (most : ℕ) (r : Bool) → most ≡ maxRegionSize (fstOffset image) (fstSize image) (freeOf image) →

@@ -8,29 +8,18 @@ use mathlib.Core.List.{List}
 use native.Mathlib.Omega.{arith}
 use borrow.Author.Tests.{lt-ltb, le-ltb}
 use lib.Dec.{ltb}
-use lib.ListN.{length}
-use mir.Syntax.{w32}
-use mir.Val.{Fits}
 use Rattle.refusal.specs.declared.Refusal.the-variants.{LimitOrMemory, NotEnoughSpace, TableAboveMaximum}
 use Rattle.refusal.specs.declared.Verdict.the-variants.{Passed, Refused}
 use Rattle.header.specs.Verdicts.{fstOffset, fstSize, fstMaxSize, discEnd}
 use Rattle.space.specs.declared.DiscRegion.{DiscRegion}
 use Rattle.space.specs.Free.{freeRegions}
 use Rattle.space.specs.Inner.Sort.{regionsIn}
-use Rattle.space.specs.Inner.Words.{SortedDisjoint}
 use Rattle.free_space.specs.MaxRegionSize.{maxRegionSize}
 use Rattle.opening.specs.Opening.{freeOf}
-use Rattle.opening.specs.Laws.OpeningLaws.{OpenImage}
-use Rattle.opening.specs.Inner.Prepared.{UsedWords, IsOpen}
+use Rattle.opening.specs.Inner.Prepared.{IsOpen}
 use Rattle.edits.specs.Change.{aboveMaximum, placeVerdict}
 use Rattle.edits.specs.Laws.PlaceTests.{stated-first}
 use Rattle.commit.proofs.Images.{free-size, place-verdict}
-
-pub end-fits : (image w : List ℕ) (m e : ℕ) → IsOpen image w m → OpenImage image (length w) → e ≡ discEnd image → Fits w32 e
-end-fits image w m e o known q = record { fits = omega (arith, known .reads .bounds .small) }
-
-pub sorted-to : (image w : List ℕ) (m e : ℕ) → UsedWords image w m → e ≡ discEnd image → SortedDisjoint w m e
-sorted-to image w m e u q = rw q (u .sorted)
 
 -- ---- whether a place reaches the table
 
@@ -57,10 +46,10 @@ too-few-bytes image room size place h = rw (lt-ltb room size h)
 pub above-stated : (image : List ℕ) (room size : ℕ) (place : DiscRegion) (a : Bool) → a ≡ aboveMaximum image size → size ≤ room → a ≡ true → Refused TableAboveMaximum ≡ placeVerdict image room size place
 above-stated image room size place a e held t = sym (stated-first image room size place held (sym e ∙ t))
 
-module _ (image w : List ℕ) (room size m e o n most : ℕ) (place : DiscRegion) (used : UsedWords image w m) (end : e ≡ discEnd image) (start : o ≡ fstOffset image) (long : n ≡ fstSize image)
+module _ (image w : List ℕ) (room size m e o n most : ℕ) (place : DiscRegion) (opened : IsOpen image w m) (end : e ≡ discEnd image) (start : o ≡ fstOffset image) (long : n ≡ fstSize image)
     (found : most ≡ maxRegionSize o n (freeRegions e (regionsIn w 0 m))) (held : size ≤ room) (a : Bool) (above : a ≡ aboveMaximum image size) (no : a ≡ false) where
   most-is : most ≡ maxRegionSize (fstOffset image) (fstSize image) (freeOf image)
-  most-is = free-size image w m e o n most (fstOffset image) (fstSize image) used end start long found
+  most-is = free-size image w m e o n most (fstOffset image) (fstSize image) opened end start long found
 
   not-above : aboveMaximum image size ≡ false
   not-above = sym above ∙ no

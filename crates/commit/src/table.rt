@@ -57,7 +57,7 @@ pub fn check_place(
     }
     let fst_offset = header::fst_offset(image);
     let fst_size = header::fst_size(image);
-    let disc_end = header::disc_end(image) as u32;
+    let disc_end = opening::disc_end(image);
     let most = free_space::max_region_size(words, m, disc_end, fst_offset, fst_size);
     if (most as usize) < size {
         return Verdict::Refused(Refusal::NotEnoughSpace);
@@ -88,9 +88,7 @@ pub fn check_table(
     requires { ⌜ IsOpen (now image) (now words) m ⌝ }
     ensures { λ r. ⌜ r ≡ sizedAs (tableVerdict (placing (nodesIn (now (image .entry))) place) (now (image .entry)) (length (now (words .entry))) room) (length (encode (nodesIn (now (image .entry))))) ⌝ }
 {
-    let from = header::fst_offset(image) as usize;
-    let to = header::table_end(image) as usize;
-    let measured = fst_measure::measure(&image[from..to]);
+    let measured = fst_measure::measure(opening::table(image));
     match measured {
         Measured::PastLimit => TableSize::Refused(Refusal::LimitOrMemory),
         Measured::Size(size) => sized(check_place(image, words, m, room, size, place), size),
@@ -102,7 +100,5 @@ pub fn write_table(image: &[u8], bytes: &mut [u8])
     requires { ⌜ OpensImage (now image) × (length (encode (nodesIn (now image))) ≤ length (now bytes)) × (length (encode (nodesIn (now image))) ≤ 2 ^ 24) ⌝ }
     ensures { λ _. ⌜ now (bytes .exit) ≡ put (now (bytes .entry)) 0 (encode (nodesIn (now (image .entry)))) ⌝ }
 {
-    let from = header::fst_offset(image) as usize;
-    let to = header::table_end(image) as usize;
-    fst_write::write_table(&image[from..to], bytes);
+    fst_write::write_table(opening::table(image), bytes);
 }

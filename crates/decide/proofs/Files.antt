@@ -14,7 +14,6 @@ use Rattle.refusal.specs.declared.Verdict.{Verdict}
 use Rattle.refusal.specs.declared.Verdict.the-variants.{Passed, Refused}
 use Rattle.refusal.specs.Refusal.{refuse, first}
 use Rattle.refusal.specs.Laws.Chains.{refuse-passed}
-use Rattle.header.specs.Verdicts.{discEnd}
 use Rattle.tree.specs.Table.{Node, file, directory, none, parentOf, encode}
 use Rattle.tree.specs.Lookup.{isDirectory, entryWith, entryOf, entryFound, foundAt}
 use Rattle.tree.specs.declared.Entry.{Entry}
@@ -26,13 +25,10 @@ use Rattle.tree.specs.Laws.WrittenEntries.{length-encode}
 use Rattle.space.specs.declared.DiscRegion.{DiscRegion}
 use Rattle.free_space.specs.declared.Allocation.{Allocation}
 use Rattle.free_space.specs.declared.Allocation.the-variants as allocation
-use Rattle.space.specs.Free.{freeRegions}
-use Rattle.space.specs.Inner.Sort.{regionsIn}
 use Rattle.free_space.specs.MaxRegionSize.{maxRegionSize}
 use Rattle.free_space.specs.Allocate.{allocationOf}
 use Rattle.opening.specs.Opening.{nodesIn, regionOf, freeOf}
-use Rattle.opening.specs.Laws.OpeningLaws.{OpenImage}
-use Rattle.opening.specs.Inner.Prepared.{UsedWords}
+use Rattle.opening.specs.Inner.Prepared.{OpenImage}
 use Rattle.commit.specs.declared.Decision.{Decision}
 use Rattle.commit.specs.declared.Decision.the-variants as decision
 use Rattle.decide.specs.declared.FileAt.{FileAt}
@@ -111,10 +107,6 @@ placed-table nodes k o n s l m f h e g =
     ∙ ap (put s 0) (place-patched o n k nodes (x .0) (x .1) (x .2) (x .3) (f .inside))
 
 -- ---- a new place
-
--- the free regions, as the words have them
-pub frees : (image w : List ℕ) (m e : ℕ) → UsedWords image w m → e ≡ discEnd image → freeRegions e (regionsIn w 0 m) ≡ freeOf image
-frees image w m e u p = ap (λ (x : ℕ). freeRegions x (regionsIn w 0 m)) p ∙ u .free
 
 pub relocate-verdict : (free : List DiscRegion) (old new : DiscRegion) (t : Bool) (most : ℕ) → t ≡ overlapsItself old new → most ≡ maxRegionSize (new .offset) 0 free →
     relocateVerdict free old new ≡ refuse t OverlappingMove (refuse (ltb most (new .size)) NotEnoughSpace Passed)

@@ -23,8 +23,8 @@ use Rattle.free_space.specs.declared.Allocation.the-variants as allocation
 use Rattle.free_space.specs.MaxRegionSize.{maxRegionSize}
 use Rattle.free_space.specs.Allocate.{allocationOf}
 use Rattle.opening.specs.Opening.{nodesIn, freeOf, regionOf}
-use Rattle.opening.specs.Laws.OpeningLaws.{OpenImage}
-use Rattle.opening.specs.Inner.Prepared.{UsedWords, OpensImage, IsOpen}
+use Rattle.opening.specs.Inner.Prepared.{OpenImage, IsOpen}
+use Rattle.opening.proofs.Words.{free-below}
 use Rattle.edits.specs.Change.{tableVerdict, change}
 use Rattle.edits.specs.Edits.{noPlace, tableOnly, planned, fileVerdict, relocateVerdict, relocated, resized, planElsewhere, planMove, planResize, planSized}
 use Rattle.commit.specs.declared.Writing.{Writing}
@@ -39,12 +39,9 @@ use Rattle.commit.proofs.Images.{new-table}
 use Rattle.decide.specs.declared.FileAt.{FileAt}
 use Rattle.decide.specs.declared.FileAt.the-variants as place
 use Rattle.decide.specs.Inner.Files.{IsFile, fileAs}
-use Rattle.decide.proofs.Files.{file-found, file-refused, placed-table, frees, relocate-inside, resize-inside, move-decided, move-refused, resize-decided, resize-refused, size-in-place, size-elsewhere, elsewhere-refused, elsewhere-decided}
+use Rattle.decide.proofs.Files.{file-found, file-refused, placed-table, relocate-inside, resize-inside, move-decided, move-refused, resize-decided, resize-refused, size-in-place, size-elsewhere, elsewhere-refused, elsewhere-decided}
 
 -- ---- the table, judged and written
-
-pub still-opens : (image w : List ℕ) (m : ℕ) → IsOpen image w m → OpensImage image
-still-opens image w m o = record { words = length w; passed = o .passed }
 
 module _ (image w : List ℕ) (room : ℕ) (to : DiscRegion) (r : TableSize)
     (judged : r ≡ sizedAs (tableVerdict (placing (nodesIn image) to) image (length w) room) (length (encode (nodesIn image)))) where
@@ -96,9 +93,9 @@ module _ (image w bytes : List ℕ) (r : TableSize) where
 
 -- ---- another place
 
-module _ (image w : List ℕ) (m e : ℕ) (used : UsedWords image w m) (end : e ≡ discEnd image) where
+module _ (image w : List ℕ) (m e : ℕ) (o : IsOpen image w m) (end : e ≡ discEnd image) where
   free-is : freeRegions e (regionsIn w 0 m) ≡ freeOf image
-  free-is = frees image w m e used end
+  free-is = free-below image w m e o end
 
   module _ (old new : DiscRegion) (v : Verdict) (judged : v ≡ relocateVerdict (freeRegions e (regionsIn w 0 m)) old new) where
     verdict-is : (u : Verdict) → v ≡ u → relocateVerdict (freeOf image) old new ≡ u
@@ -109,9 +106,9 @@ module _ (image w : List ℕ) (m e : ℕ) (used : UsedWords image w m) (end : e 
     relocate-refused k room bytes c q =
         behind-refused image (length w) room bytes (relocateVerdict (freeOf image) old new) (change k (relocated (nodesIn image) k old new)) c (verdict-is (Refused c) q)
 
-    pub relocated-in-image : (k kept : ℕ) → v ≡ Passed → OpenImage image (length w) → regionOf (getD (nodesIn image) k none) ≡ old → kept ≡ min (old .size) (new .size) →
+    pub relocated-in-image : (k kept : ℕ) → v ≡ Passed → regionOf (getD (nodesIn image) k none) ≡ old → kept ≡ min (old .size) (new .size) →
         InImage (length image) (record { old = old; place = new; kept = kept; lost = old .offset; «lost_size» = old .size })
-    relocated-in-image k kept q known here g = relocate-inside image (length w) known k old here new kept (verdict-is Passed q) g
+    relocated-in-image k kept q here g = relocate-inside image (length w) (o .known) k old here new kept (verdict-is Passed q) g
 
     pub relocate-decided : (k kept room : ℕ) (bytes : List ℕ) (d : Decision) → v ≡ Passed → kept ≡ min (old .size) (new .size) →
         Decided (change k (changeWith (setPlace k (new .offset) (new .size) (nodesIn image)) (record { old = old; place = new; kept = kept; lost = old .offset; «lost_size» = old .size }))) image (length w) room bytes d →
@@ -150,9 +147,9 @@ module _ (image w : List ℕ) (k n least : ℕ) (old : DiscRegion) (smaller : le
   lost-is : old .size - least ≡ old .size - n
   lost-is = omega arith
 
-  pub resized-in-image : (m : ℕ) → IsOpen image w m → OpenImage image (length w) → regionOf (getD (nodesIn image) k none) ≡ old →
+  pub resized-in-image : (m : ℕ) → IsOpen image w m → regionOf (getD (nodesIn image) k none) ≡ old →
       InImage (length image) (record { old = old; place = record { offset = old .offset; size = n }; kept = 0; lost = old .offset + n; «lost_size» = old .size - least })
-  resized-in-image m o known here = resize-inside image (length w) known k old here n (old .size - least) lost-is
+  resized-in-image m o here = resize-inside image (length w) (o .known) k old here n (old .size - least) lost-is
 
   pub kept-in-place : (room : ℕ) (bytes : List ℕ) (d : Decision) →
       Decided (change k (changeWith (setPlace k (old .offset) n (nodesIn image)) (record { old = old; place = record { offset = old .offset; size = n }; kept = 0; lost = old .offset + n; «lost_size» = old .size - least }))) image (length w) room bytes d →

@@ -1,17 +1,16 @@
--- The tests of a file's new place and of its size, by what the code compared, and a file's place read from the slice of the table.
+-- The tests of a file's new place and of its size, by what the code compared, and a file's place read from the table.
 -- Assumes nothing.
-use Prim.Native.Nat.{ℕ, _-_, _≤_, _<_}
+use Prim.Native.Nat.{ℕ, _≤_, _<_}
 use mathlib.Core.Path.{_≡_, refl, sym, ap, _∙_}
 use mathlib.Core.Bool.{Bool, true, false, _||_}
 use mathlib.Core.List.{List}
 use native.Mathlib.Omega.{arith}
 use borrow.Author.Tests.{lt-ltb, le-ltb, le-leb, lt-leb}
 use lib.Dec.{ltb, leb}
-use lib.ListN.{getD, take, drop}
+use lib.ListN.{getD}
 use Rattle.refusal.specs.declared.Refusal.{Refusal}
 use Rattle.refusal.specs.declared.Refusal.the-variants.{OverlappingMove, NotEnoughSpace}
 use Rattle.refusal.specs.declared.Verdict.the-variants.{Passed, Refused}
-use Rattle.header.specs.Verdicts.{fstOffset, tableEnd}
 use Rattle.tree.specs.Table.{none, nodesOf}
 use Rattle.tree.specs.Lookup.{entryFound}
 use Rattle.tree.specs.declared.Entry.{Entry}
@@ -20,8 +19,7 @@ use Rattle.tree.specs.declared.Found.the-variants as found
 use Rattle.space.specs.declared.DiscRegion.{DiscRegion}
 use Rattle.space.specs.Used.{endOf}
 use Rattle.free_space.specs.MaxRegionSize.{maxRegionSize}
-use Rattle.opening.specs.Opening.{nodesIn, regionOf}
-use Rattle.opening.proofs.Tests.{part-table}
+use Rattle.opening.specs.Opening.{tableOf, nodesIn, regionOf}
 use Rattle.edits.specs.Edits.{fileVerdict, overlapsItself, relocateVerdict}
 use Rattle.decide.specs.declared.FileAt.{FileAt}
 use Rattle.decide.specs.declared.FileAt.the-variants as place
@@ -57,19 +55,15 @@ smaller-stays n size most h = rw (le-leb n size h)
 pub larger-stays : (n size r most : ℕ) → size < n → r ≡ most → leb n r ≡ (leb n size || leb n most)
 larger-stays n size r most h e = rw (lt-leb n size h) (ap (leb n) e)
 
--- ---- the table as the slice that is read
+-- ---- the entry that is read from the table
 
-module _ (image : List ℕ) (from to : ℕ) (start : from ≡ fstOffset image) (end : to ≡ tableEnd image) where
-  abbrev slice : List ℕ
-  slice = take (to - from) (drop from image)
+module _ (image tab : List ℕ) (is : tab ≡ tableOf image) (k : ℕ) (r : Found) (read : r ≡ entryFound (nodesOf tab) k) where
+  read-is : r ≡ entryFound (nodesIn image) k
+  unfolding nodesIn
+  read-is = rw is at read
 
-  module _ (k : ℕ) (r : Found) (read : r ≡ entryFound (nodesOf slice) k) where
-    read-is : r ≡ entryFound (nodesIn image) k
-    unfolding nodesIn
-    read-is = read ∙ ap (λ (l : List ℕ). entryFound (nodesOf l) k) (part-table image from to start end)
+  pub no-entry-there : (c : Refusal) → r ≡ found.Refused c → place.Refused c ≡ fileAs (fileVerdict (nodesIn image) k) (regionOf (getD (nodesIn image) k none))
+  no-entry-there c e = entry-refused (nodesIn image) k c (sym read-is ∙ e)
 
-    pub no-entry-there : (c : Refusal) → r ≡ found.Refused c → place.Refused c ≡ fileAs (fileVerdict (nodesIn image) k) (regionOf (getD (nodesIn image) k none))
-    no-entry-there c e = entry-refused (nodesIn image) k c (sym read-is ∙ e)
-
-    pub entry-there : (j : ℕ) (x : Entry) (f : FileAt) → r ≡ found.At j x → f ≡ fileOf x → f ≡ fileAs (fileVerdict (nodesIn image) k) (regionOf (getD (nodesIn image) k none))
-    entry-there j x f e g = entry-file (nodesIn image) k j x f (sym read-is ∙ e) g
+  pub entry-there : (j : ℕ) (x : Entry) (f : FileAt) → r ≡ found.At j x → f ≡ fileOf x → f ≡ fileAs (fileVerdict (nodesIn image) k) (regionOf (getD (nodesIn image) k none))
+  entry-there j x f e g = entry-file (nodesIn image) k j x f (sym read-is ∙ e) g

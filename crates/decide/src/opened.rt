@@ -93,9 +93,7 @@ pub fn file_at(image: &[u8], number: u32) -> FileAt
     requires { ⌜ OpensImage (now image) ⌝ }
     ensures { λ r. ⌜ r ≡ fileAs (fileVerdict (nodesIn (now (image .entry))) number) (regionOf (getD (nodesIn (now (image .entry))) number none)) ⌝ }
 {
-    let from = header::fst_offset(image) as usize;
-    let to = header::table_end(image) as usize;
-    let found = fst::entry(&image[from..to], number);
+    let found = fst::entry(opening::table(image), number);
     match found {
         Found::Refused(cause) => FileAt::Refused(cause),
         Found::At(_, entry) => file_of(entry),
@@ -158,7 +156,7 @@ fn relocate(
     requires { ⌜ IsOpen (now image) (now words) m × IsFile (nodesIn (now image)) number × (regionOf (getD (nodesIn (now image)) number none) ≡ old) ⌝ }
     ensures { λ r. ⌜ Decided (planned (relocateVerdict (freeOf (now (image .entry))) old new) (change number (relocated (nodesIn (now (image .entry))) number old new))) (now (image .entry)) (length (now (words .entry))) (length (now (bytes .entry))) (now (bytes .exit)) r ⌝ }
 {
-    let disc_end = header::disc_end(image) as u32;
+    let disc_end = opening::disc_end(image);
     let verdict = check_relocate(words, m, disc_end, old, new);
     if let Verdict::Refused(cause) = verdict {
         return Decision::Refused(cause);
@@ -249,7 +247,7 @@ fn grow_elsewhere(
     requires { ⌜ IsOpen (now image) (now words) m × IsFile (nodesIn (now image)) number × (regionOf (getD (nodesIn (now image)) number none) ≡ old) ⌝ }
     ensures { λ r. ⌜ Decided (planElsewhere (nodesIn (now (image .entry))) (freeOf (now (image .entry))) number old «new_size» (allocationOf 0x8000 «new_size» (freeOf (now (image .entry))))) (now (image .entry)) (length (now (words .entry))) (length (now (bytes .entry))) (now (bytes .exit)) r ⌝ }
 {
-    let disc_end = header::disc_end(image) as u32;
+    let disc_end = opening::disc_end(image);
     let found = free_space::allocate(words, m, disc_end, new_size, 0x8000);
     match found {
         Allocation::Refused(cause) => Decision::Refused(cause),
@@ -279,7 +277,7 @@ pub fn resize(
     if new_size == old.size {
         return Decision::Nothing;
     }
-    let disc_end = header::disc_end(image) as u32;
+    let disc_end = opening::disc_end(image);
     if stays(words, m, disc_end, old, new_size) {
         return resize_in_place(image, words, m, bytes, number, old, new_size);
     }

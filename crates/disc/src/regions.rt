@@ -1,11 +1,10 @@
 // What an image's header and its regions say: opening, totals, the totals record, the program, free regions, clusters, the largest size of a region, allocation.
 ghost use mathlib.Core.Path.{_≡_};
 ghost use lib.ListN.{length};
-ghost use Rattle.refusal.specs.declared.Verdict.the-variants.{Passed};
 ghost use Rattle.opening.specs.Opening.{opening, zeros};
 ghost use Rattle.answers.specs.Answers.{maxRegionSizeAnswer};
 ghost use Rattle.disc.specs.Calls.{openedOf, totalsAnswer, totalsOf, recordAnswer, programAnswer, freeRegionsAnswer, freeRegionsList, freeClustersAnswer, freeClustersList, allocateAnswer};
-ghost use Rattle.opening.specs.Inner.Prepared.{UsedWords, Prepares};
+ghost use Rattle.opening.specs.Inner.Prepared.{IsOpen, Prepares};
 use crate::DiscTotals;
 use crate::RecordMade;
 use crate::TotalsAnswer;
@@ -21,7 +20,7 @@ use totals::Totals;
 
 // The answers, once the image is prepared.
 fn opened(image: &[u8], words: &[u32], prepared: Prepared) -> Opened
-    requires { ⌜ Prepares (now image) (length (now words)) (now words) prepared ⌝ }
+    requires { ⌜ Prepares (now image) (now words) prepared ⌝ }
     ensures { λ r. ⌜ r ≡ openedOf (now (image .entry)) (length (now (words .entry))) ⌝ }
 {
     match prepared {
@@ -31,7 +30,7 @@ fn opened(image: &[u8], words: &[u32], prepared: Prepared) -> Opened
 }
 
 fn totaled(image: &[u8], words: &[u32], prepared: Prepared) -> TotalsAnswer
-    requires { ⌜ Prepares (now image) (length (now words)) (now words) prepared ⌝ }
+    requires { ⌜ Prepares (now image) (now words) prepared ⌝ }
     ensures { λ r. ⌜ r ≡ totalsAnswer (now (image .entry)) (length (now (words .entry))) ⌝ }
 {
     match prepared {
@@ -48,7 +47,7 @@ fn totaled(image: &[u8], words: &[u32], prepared: Prepared) -> TotalsAnswer
 
 // The record of an image that opened.
 fn record_of(image: &[u8], words: &[u32], count: usize) -> Totals
-    requires { ⌜ (opening (now image) (length (now words)) ≡ Passed) × UsedWords (now image) (now words) count ⌝ }
+    requires { ⌜ IsOpen (now image) (now words) count ⌝ }
     ensures { λ r. ⌜ r ≡ totalsOf (now (image .entry)) 0 ⌝ }
 {
     let disc = answers::disc_of(image, words, count);
@@ -64,7 +63,7 @@ fn record_of(image: &[u8], words: &[u32], count: usize) -> Totals
 }
 
 fn recorded(image: &[u8], words: &[u32], prepared: Prepared) -> RecordMade
-    requires { ⌜ Prepares (now image) (length (now words)) (now words) prepared ⌝ }
+    requires { ⌜ Prepares (now image) (now words) prepared ⌝ }
     ensures { λ r. ⌜ r ≡ recordAnswer (now (image .entry)) (length (now (words .entry))) ⌝ }
 {
     match prepared {
@@ -87,7 +86,7 @@ fn recorded(image: &[u8], words: &[u32], prepared: Prepared) -> RecordMade
 }
 
 fn listed(image: &[u8], words: &[u32], prepared: Prepared, list: &mut [u32]) -> Listing
-    requires { ⌜ Prepares (now image) (length (now words)) (now words) prepared ⌝ }
+    requires { ⌜ Prepares (now image) (now words) prepared ⌝ }
     ensures { λ r. ⌜ (r ≡ freeRegionsAnswer (now (image .entry)) (length (now (words .entry))) (length (now (list .entry)))) × (now (list .exit) ≡ freeRegionsList (now (image .entry)) (length (now (words .entry))) (now (list .entry))) ⌝ }
 {
     match prepared {
@@ -100,7 +99,7 @@ fn listed(image: &[u8], words: &[u32], prepared: Prepared, list: &mut [u32]) -> 
 }
 
 fn counted(image: &[u8], words: &[u32], prepared: Prepared, list: &mut [u32]) -> Listing
-    requires { ⌜ Prepares (now image) (length (now words)) (now words) prepared ⌝ }
+    requires { ⌜ Prepares (now image) (now words) prepared ⌝ }
     ensures { λ r. ⌜ (r ≡ freeClustersAnswer (now (image .entry)) (length (now (words .entry))) (length (now (list .entry)))) × (now (list .exit) ≡ freeClustersList (now (image .entry)) (length (now (words .entry))) (now (list .entry))) ⌝ }
 {
     match prepared {
@@ -113,7 +112,7 @@ fn counted(image: &[u8], words: &[u32], prepared: Prepared, list: &mut [u32]) ->
 }
 
 fn allocated(image: &[u8], words: &[u32], prepared: Prepared, size: u32, align: u32) -> Allocation
-    requires { ⌜ Prepares (now image) (length (now words)) (now words) prepared ⌝ }
+    requires { ⌜ Prepares (now image) (now words) prepared ⌝ }
     ensures { λ r. ⌜ r ≡ allocateAnswer (now (image .entry)) (length (now (words .entry))) size align ⌝ }
 {
     match prepared {

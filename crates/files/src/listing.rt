@@ -10,13 +10,13 @@ use refusal::Verdict;
 
 // The answer, once the image is prepared.
 fn entries_in(image: &[u8], words: &[u32], prepared: Prepared, list: &mut [u32]) -> Opened
-    requires { ⌜ Prepares (now image) (length (now words)) (now words) prepared ⌝ }
+    requires { ⌜ Prepares (now image) (now words) prepared ⌝ }
     ensures { λ r. ⌜ (r ≡ entriesAnswer (now (image .entry)) (length (now (words .entry))) (length (now (list .entry)))) × (now (list .exit) ≡ entriesList (now (image .entry)) (length (now (words .entry))) (now (list .entry))) ⌝ }
 {
     match prepared {
         Prepared::Ready(count) => {
             let base = header::fst_offset(image);
-            let table = answers::table(image, words.len());
+            let table = opening::table(image);
             let verdict = fst_list::list_entries(table, base, list);
             if let Verdict::Refused(cause) = verdict {
                 return Opened::Refused(cause);

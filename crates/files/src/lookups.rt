@@ -14,17 +14,17 @@ use window::Window;
 
 // The answers, once the image is prepared.
 fn entry_in(image: &[u8], words: &[u32], prepared: Prepared, number: u32) -> Found
-    requires { ⌜ Prepares (now image) (length (now words)) (now words) prepared ⌝ }
+    requires { ⌜ Prepares (now image) (now words) prepared ⌝ }
     ensures { λ r. ⌜ r ≡ entryAnswer (now (image .entry)) (length (now (words .entry))) number ⌝ }
 {
     match prepared {
-        Prepared::Ready(_) => fst::entry(answers::table(image, words.len()), number),
+        Prepared::Ready(_) => fst::entry(opening::table(image), number),
         Prepared::Refused(cause) => Found::Refused(cause),
     }
 }
 
 fn lookup_in(image: &[u8], words: &[u32], prepared: Prepared, start: u32, path: &[u8]) -> Found
-    requires { ⌜ Prepares (now image) (length (now words)) (now words) prepared ⌝ }
+    requires { ⌜ Prepares (now image) (now words) prepared ⌝ }
     ensures { λ r. ⌜ r ≡ lookupAnswer (now (image .entry)) (length (now (words .entry))) start (now (path .entry)) ⌝ }
 {
     match prepared {
@@ -32,7 +32,7 @@ fn lookup_in(image: &[u8], words: &[u32], prepared: Prepared, start: u32, path: 
             if 1024 < path.len() {
                 return Found::Refused(Refusal::LimitOrMemory);
             }
-            fst_path::find(answers::table(image, words.len()), start, path)
+            fst_path::find(opening::table(image), start, path)
         }
         Prepared::Refused(cause) => Found::Refused(cause),
     }
@@ -86,7 +86,7 @@ pub fn open_file(image: &[u8], words: &mut [u32], number: u32) -> WindowAnswer
 
 // The size that the file can grow to, once the image is prepared.
 fn file_size_in(image: &[u8], words: &[u32], prepared: Prepared, number: u32) -> SizeAnswer
-    requires { ⌜ Prepares (now image) (length (now words)) (now words) prepared ⌝ }
+    requires { ⌜ Prepares (now image) (now words) prepared ⌝ }
     ensures { λ r. ⌜ r ≡ maxFileSizeAnswer (now (image .entry)) (length (now (words .entry))) number ⌝ }
 {
     let found = entry_in(image, words, prepared, number);

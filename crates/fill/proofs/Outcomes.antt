@@ -7,7 +7,7 @@ use native.Mathlib.Omega.{arith}
 use borrow.Author.Tests.{le-ltb}
 use lib.Dec.{ltb}
 use lib.ListN.{length, getD}
-use Rattle.endian.specs.Bytes.{AllBytes, put, span}
+use Rattle.endian.specs.Bytes.{put, span}
 use Rattle.endian.specs.Laws.Stored.{length-span}
 use Rattle.refusal.specs.declared.Refusal.{Refusal}
 use Rattle.refusal.specs.declared.Refusal.the-variants.{NotEnoughSpace}
@@ -15,8 +15,7 @@ use Rattle.refusal.specs.declared.Verdict.the-variants as verdict
 use Rattle.tree.specs.Table.{none}
 use Rattle.space.specs.declared.DiscRegion.{DiscRegion}
 use Rattle.opening.specs.Opening.{nodesIn, freeOf, regionOf}
-use Rattle.opening.specs.Laws.OpeningLaws.{OpenImage, opens}
-use Rattle.opening.specs.Inner.Prepared.{IsOpen}
+use Rattle.opening.specs.Inner.Prepared.{OpenImage, IsOpen}
 use Rattle.edits.specs.Change.{Plan, filled}
 use Rattle.edits.specs.Edits.{fileVerdict, clipVerdict, planSized, planResize, planFill, planVerdict, planImage}
 use Rattle.edits.specs.Laws.Puts.{put-length}
@@ -101,9 +100,9 @@ module _ (image w bytes bytes′ clip : List ℕ) (k : ℕ) (r : FileAt) (read :
     pub clip-too-long : ltb (2 ^ 32 - 1) (length clip) ≡ true → Fills (decision.Refused NotEnoughSpace)
     clip-too-long h = let f = file-found (nodesIn image) k r old read found in fill-refused NotEnoughSpace (rw (f .passed, h))
 
-    pub filled-by : (m n : ℕ) (d g : Decision) → IsOpen image w m → AllBytes image → length bytes′ ≡ length bytes → length clip ≤ 0xFFFFFFFF → n ≡ length clip →
+    pub filled-by : (m n : ℕ) (d g : Decision) → IsOpen image w m → length bytes′ ≡ length bytes → length clip ≤ 0xFFFFFFFF → n ≡ length clip →
         Decided (planSized (freeOf image) (nodesIn image) k old n) image (length w) (length bytes) bytes′ d → g ≡ withClip d k (old .offset) → Fills g
-    filled-by m n d g o b long short e decided u =
+    filled-by m n d g o long short e decided u =
         let f = file-found (nodesIn image) k r old read found in
         let q : plan ≡ filled k clip (planSized (freeOf image) (nodesIn image) k old (length clip)) = unfold planFill planResize in rw (f .passed, le-ltb 0xFFFFFFFF (length clip) short, f .place) in
-        rw (u, q) (filled-decided image (length w) (length bytes) bytes′ clip (opens image (length w) b (o .passed)) k (f .is) old (f .place) long d (rw e at decided))
+        rw (u, q) (filled-decided image (length w) (length bytes) bytes′ clip (o .known) k (f .is) old (f .place) long d (rw e at decided))

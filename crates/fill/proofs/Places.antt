@@ -30,7 +30,7 @@ use Rattle.free_space.specs.MaxRegionSize.{maxRegionSize}
 use Rattle.free_space.specs.Allocate.{allocationOf}
 use Rattle.free_space.specs.Laws.GrowthLaws.{file-largest}
 use Rattle.opening.specs.Opening.{nodesIn, regionOf, behindTable, usedIn, freeOf}
-use Rattle.opening.specs.Laws.OpeningLaws.{OpenImage}
+use Rattle.opening.specs.Inner.Prepared.{OpenImage}
 use Rattle.edits.specs.Change.{Change, tableVerdict, Plan, refused, nothing, change, filled}
 use Rattle.edits.specs.Edits.{overlapsItself, relocateVerdict, relocated, resized, planned, planElsewhere, planSized, planVerdict, planTree}
 use Rattle.edits.specs.Laws.PlaceTests.{place-passed, in-region}

@@ -1,20 +1,19 @@
 -- The tests of an insert, by what the code found, and the number that the new entry gets.
 -- Assumes nothing.
-use Prim.Native.Nat.{ℕ, _-_, _≤_, _<_}
+use Prim.Native.Nat.{ℕ, _≤_, _<_}
 use mathlib.Core.Path.{_≡_, sym, ap, _∙_}
 use mathlib.Core.Bool.{Bool, true, false, not}
 use mathlib.Core.List.{List}
 use native.Mathlib.Omega.{arith}
 use borrow.Author.Tests.{le-leb, lt-leb, not-true, not-false}
 use lib.Dec.{leb}
-use lib.ListN.{length, getD, take, drop}
+use lib.ListN.{length, getD}
 use mir.Syntax.{w32}
 use mir.Val.{Fits}
 use Rattle.refusal.specs.declared.Refusal.{Refusal}
 use Rattle.refusal.specs.declared.Refusal.the-variants.{NoSuchEntry, UnsafeName, ExpectedDirectory, AlreadyExists, InvalidNameByte}
 use Rattle.refusal.specs.declared.Verdict.{Verdict}
 use Rattle.refusal.specs.declared.Verdict.the-variants.{Passed, Refused}
-use Rattle.header.specs.Verdicts.{fstOffset, tableEnd}
 use Rattle.tree.specs.declared.Located.{Located}
 use Rattle.tree.specs.declared.Located.the-variants as located
 use Rattle.tree.specs.Table.{Node, none, count, nodesOf, plain, safe}
@@ -25,8 +24,7 @@ use Rattle.tree.specs.Laws.Renumbered.{directory-is}
 use Rattle.tree.specs.Laws.WellNested.{next-bounds}
 use Rattle.fst_check.specs.Inner.Reading.{Opens}
 use Rattle.fst.proofs.Nodes.{opens-inside}
-use Rattle.opening.specs.Opening.{nodesIn}
-use Rattle.opening.proofs.Tests.{part-table}
+use Rattle.opening.specs.Opening.{tableOf, nodesIn}
 use Rattle.edits.specs.Edits.{newNumber, isFound, childVerdict, insertVerdict, numberedAs}
 use Rattle.insert.proofs.InsertionLaws.{insert-allows}
 
@@ -95,9 +93,8 @@ module _ (tab : List ℕ) (p : ℕ) (nm : List ℕ) (v : Verdict) (judged : v �
           let x = directory-is (getD (nodesOf tab) p none) (a .0 .kind) in
           record { fits = omega (arith, next, next-bounds (nodesOf tab) p _ (x .0) w (x .1) (a .0 .inside) .1, length-nodesOf tab, opens-inside tab o .small) }
 
--- the table as the slice that is read
-pub slice-number : (image : List ℕ) (from to p : ℕ) (nm : List ℕ) (r : Located) → from ≡ fstOffset image → to ≡ tableEnd image →
-    r ≡ numberedAs (insertVerdict (nodesOf (take (to - from) (drop from image))) p nm) (newNumber (nodesOf (take (to - from) (drop from image))) p) →
+-- read from the table of the image
+pub image-number : (image tab : List ℕ) (p : ℕ) (nm : List ℕ) (r : Located) → tab ≡ tableOf image → r ≡ numberedAs (insertVerdict (nodesOf tab) p nm) (newNumber (nodesOf tab) p) →
     r ≡ numberedAs (insertVerdict (nodesIn image) p nm) (newNumber (nodesIn image) p)
 unfolding nodesIn
-slice-number image from to p nm r e f h = h ∙ ap (λ (l : List ℕ). numberedAs (insertVerdict (nodesOf l) p nm) (newNumber (nodesOf l) p)) (part-table image from to e f)
+image-number image tab p nm r is h = rw is at h

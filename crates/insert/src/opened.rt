@@ -68,9 +68,7 @@ fn number_in(image: &[u8], parent: u32, name: &[u8]) -> Located
     requires { ⌜ OpensImage (now image) ⌝ }
     ensures { λ r. ⌜ r ≡ numberedAs (insertVerdict (nodesIn (now (image .entry))) parent (now (name .entry))) (newNumber (nodesIn (now (image .entry))) parent) ⌝ }
 {
-    let from = header::fst_offset(image) as usize;
-    let to = header::table_end(image) as usize;
-    new_number(&image[from..to], parent, name)
+    new_number(opening::table(image), parent, name)
 }
 
 // The table in the bytes with the new entry, its size and place judged.

@@ -21,11 +21,10 @@ use Rattle.space.specs.Used.{totalSize}
 use Rattle.space.specs.Free.{freeRegions}
 use Rattle.space.specs.Inner.Sort.{regionsIn}
 use Rattle.opening.specs.Opening.{tableOf, nodesIn, opening}
-use Rattle.opening.specs.Laws.OpeningLaws.{used-total}
-use Rattle.opening.specs.Inner.Prepared.{UsedWords, Prepares}
+use Rattle.opening.specs.Laws.OpeningLaws.{used-total, was-refused}
+use Rattle.opening.specs.Inner.Prepared.{IsOpen, Prepares}
 use Rattle.opening.specs.declared.Prepared.{Prepared}
 use Rattle.opening.specs.declared.Prepared.the-variants as prepared
-use Rattle.answers.specs.Laws.AnswerLaws.{was-refused}
 use Rattle.answers.specs.Answers.{behind}
 use Rattle.listing.specs.declared.Listed.{Listed}
 use Rattle.listing.specs.declared.Listed.the-variants.{Text, Refused}
@@ -34,10 +33,10 @@ use Rattle.listing.specs.Listing.{listingText, listingVerdict, listAnswe
 use Rattle.text_buffer.specs.Inner.Writing.{Wrote}
 
 -- the lines of an image that opened
-pub text-is : (image w : List ℕ) (m e : ℕ) (tab : List ℕ) → UsedWords image w m → e ≡ discEnd image → tab ≡ tableOf image →
+pub text-is : (image w : List ℕ) (m e : ℕ) (tab : List ℕ) → IsOpen image w m → e ≡ discEnd image → tab ≡ tableOf image →
     totalsLine e (totalSize (regionsIn w 0 m)) ++ (entryLines (nodesOf tab) (count tab) ++ regionLines (freeRegions e (regionsIn w 0 m))) ≡ listingText image
 unfolding listingText nodesIn
-text-is image w m e tab u p q = rw (p, q, used-total image w m u, u .free, length-nodesOf (tableOf image))
+text-is image w m e tab u p q = rw (p, q, used-total image w m (u .used), u .used .free, length-nodesOf (tableOf image))
 
 -- ---- measured with no buffer to speak of, then written
 
@@ -71,14 +70,14 @@ module _ (text : List ℕ) {none none′ bs : List ℕ} {size : ℕ} (w : Wrote 
 
 -- ---- refused
 
-module _ (image : List ℕ) (n : ℕ) (w : List ℕ) (p : Prepared) (h : Prepares image n w p) (c : Refusal) (e : p ≡ prepared.Refused c) where
-  pub list-refused : (room : ℕ) → Refused c ≡ listAnswer image n room
+module _ (image w : List ℕ) (p : Prepared) (h : Prepares image w p) (c : Refusal) (e : p ≡ prepared.Refused c) where
+  pub list-refused : (room : ℕ) → Refused c ≡ listAnswer image (length w) room
   unfolding listAnswer listingVerdict
-  list-refused room = rw (was-refused image n w p h c e)
+  list-refused room = rw (was-refused image w p h c e)
 
-  pub buffer-refused : (text : List ℕ) → text ≡ listBuffer image n text
+  pub buffer-refused : (text : List ℕ) → text ≡ listBuffer image (length w) text
   unfolding listBuffer listingVerdict
-  buffer-refused text = rw (was-refused image n w p h c e)
+  buffer-refused text = rw (was-refused image w p h c e)
 
 -- ---- after `prepare`, which keeps the number of the words
 

@@ -6,9 +6,8 @@ ghost use mathlib.Core.Bool.{cond};
 ghost use lib.Dec.{ltb};
 ghost use lib.ListN.{length, replicate};
 ghost use Rattle.endian.specs.Bytes.{put};
-ghost use Rattle.refusal.specs.declared.Verdict.the-variants.{Passed};
 ghost use Rattle.opening.specs.Opening.{opening};
-ghost use Rattle.opening.specs.Inner.Prepared.{UsedWords, Prepares};
+ghost use Rattle.opening.specs.Inner.Prepared.{IsOpen, Prepares};
 ghost use Rattle.answers.specs.Answers.{behind};
 ghost use Rattle.text_buffer.specs.Inner.Writing.{Wrote};
 ghost use Rattle.listing.specs.declared.Listed.the-variants as listed;
@@ -22,23 +21,22 @@ pub enum Listed {
 
 // The text of an image that opened: measured first, so that a short buffer stays as it is.
 fn list_opened(image: &[u8], words: &[u32], count: usize, text: &mut [u8]) -> Listed
-    requires { ⌜ (opening (now image) (length (now words)) ≡ Passed) × UsedWords (now image) (now words) count ⌝ }
+    requires { ⌜ IsOpen (now image) (now words) count ⌝ }
     ensures { λ r. ⌜ (r ≡ listAnswer (now (image .entry)) (length (now (words .entry))) (length (now (text .entry)))) × (now (text .exit) ≡ listBuffer (now (image .entry)) (length (now (words .entry))) (now (text .entry))) ⌝ }
 {
-    let from = header::fst_offset(image) as usize;
-    let to = header::table_end(image) as usize;
-    let end = header::disc_end(image) as u32;
+    let table = opening::table(image);
+    let end = opening::disc_end(image);
     let mut nothing: [u8; 1] = [0; 1];
-    let size = listing_text::put_listing(&image[from..to], words, count, end, &mut nothing);
+    let size = listing_text::put_listing(table, words, count, end, &mut nothing);
     if text.len() < size {
         return Listed::Refused(Refusal::LimitOrMemory);
     }
-    listing_text::put_listing(&image[from..to], words, count, end, text);
+    listing_text::put_listing(table, words, count, end, text);
     Listed::Text(size)
 }
 
 fn list_in(image: &[u8], words: &[u32], prepared: Prepared, text: &mut [u8]) -> Listed
-    requires { ⌜ Prepares (now image) (length (now words)) (now words) prepared ⌝ }
+    requires { ⌜ Prepares (now image) (now words) prepared ⌝ }
     ensures { λ r. ⌜ (r ≡ listAnswer (now (image .entry)) (length (now (words .entry))) (length (now (text .entry)))) × (now (text .exit) ≡ listBuffer (now (image .entry)) (length (now (words .entry))) (now (text .entry))) ⌝ }
 {
     match prepared {

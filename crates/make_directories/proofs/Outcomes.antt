@@ -1,13 +1,13 @@
 -- What the code found before and after the walk, as the plan that it comes to.
 -- Assumes nothing.
-use Prim.Native.Nat.{ℕ, _-_, _<_, _≤_}
-use mathlib.Core.Path.{_≡_, refl, sym, ap, _∙_}
+use Prim.Native.Nat.{ℕ, _<_, _≤_}
+use mathlib.Core.Path.{_≡_, refl, sym, _∙_}
 use mathlib.Core.Bool.{false}
 use mathlib.Core.List.{List, []}
 use native.Mathlib.Omega.{arith}
 use borrow.Author.Tests.{le-leb, lt-leb}
 use lib.Dec.{leb}
-use lib.ListN.{length, take, drop}
+use lib.ListN.{length}
 use mir.Syntax.{w32}
 use mir.Val.{Fits}
 use Rattle.refusal.specs.declared.Refusal.{Refusal}
@@ -15,17 +15,14 @@ use Rattle.refusal.specs.declared.Refusal.the-variants.{NoSuchEntry}
 use Rattle.refusal.specs.declared.Verdict.{Verdict}
 use Rattle.refusal.specs.declared.Verdict.the-variants.{Passed, Refused}
 use Rattle.refusal.specs.Refusal.{refuse}
-use Rattle.header.specs.Verdicts.{fstOffset, tableEnd}
 use Rattle.tree.specs.Table.{Node, count, nodesOf}
 use Rattle.tree.specs.Inner.WellFormed.{WellFormed}
 use Rattle.tree.specs.Lookup.{components}
 use Rattle.tree.specs.Laws.Accepted.{length-nodesOf}
 use Rattle.fst_check.specs.Inner.Reading.{Opens}
 use Rattle.fst.proofs.Nodes.{opens-inside}
-use Rattle.opening.specs.Opening.{nodesIn}
-use Rattle.opening.specs.Laws.OpeningLaws.{OpenImage}
-use Rattle.opening.specs.Inner.Prepared.{IsOpen}
-use Rattle.opening.proofs.Tests.{part-table}
+use Rattle.opening.specs.Opening.{tableOf, nodesIn}
+use Rattle.opening.specs.Inner.Prepared.{OpenImage, IsOpen}
 use Rattle.fst_measure.specs.declared.TableSize.{TableSize}
 use Rattle.fst_measure.specs.declared.TableSize.the-variants as table
 use Rattle.commit.specs.Inner.Decision.{Decided}
@@ -55,13 +52,10 @@ module _ (tab : List ℕ) (start n : ℕ) (v : Verdict) (counted : n ≡ count t
   pub start-there : (r : Verdict) → start < n → r ≡ v → r ≡ refuse (leb (length (nodesOf tab)) start) NoSuchEntry v
   start-there r h e = rw (lt-leb (length (nodesOf tab)) start (omega (arith, length-nodesOf tab))) e
 
-pub path-judged : (image : List ℕ) (from to start : ℕ) (path : List ℕ) (r : Verdict) → from ≡ fstOffset image → to ≡ tableEnd image → WellFormed (nodesIn image) → length path ≤ 1024 →
-    r ≡ refuse (leb (length (nodesOf (take (to - from) (drop from image)))) start) NoSuchEntry (troubleOf (nodesOf (take (to - from) (drop from image))) start start 0 false (components path)) →
-    r ≡ pathVerdict (nodesIn image) start path
+pub path-judged : (image tab : List ℕ) (words start : ℕ) (path : List ℕ) (r : Verdict) → tab ≡ tableOf image → OpenImage image words → length path ≤ 1024 →
+    r ≡ refuse (leb (length (nodesOf tab)) start) NoSuchEntry (troubleOf (nodesOf tab) start start 0 false (components path)) → r ≡ pathVerdict (nodesIn image) start path
 unfolding nodesIn
-path-judged image from to start path r e f w h q =
-    q ∙ ap (λ (l : List ℕ). refuse (leb (length (nodesOf l)) start) NoSuchEntry (troubleOf (nodesOf l) start start 0 false (components path))) (part-table image from to e f)
-    ∙ path-short (nodesIn image) start path w h
+path-judged image tab words start path r is known h q = rw is at q ∙ path-short (nodesIn image) start path (well-open image words known) h
 
 module _ (nodes : List Node) (start : ℕ) (path : List ℕ) (v : Verdict) (judged : v ≡ pathVerdict nodes start path) where
   pub path-stops : (image : List ℕ) (words room : ℕ) (bytes : List ℕ) (c : Refusal) → v ≡ Refused c → Decided (planMakeDirectories nodes start path) image words room bytes (decision.Refused c)
@@ -72,10 +66,10 @@ module _ (nodes : List Node) (start : ℕ) (path : List ℕ) (v : Verdict) (judg
 
 -- ---- the tree of the image could not be written anew
 
-pub unstarted : (image w s t after : List ℕ) (m start : ℕ) (path : List ℕ) (v : Verdict) (r : TableSize) (c : Refusal) → v ≡ pathVerdict (nodesIn image) start path → v ≡ Passed → IsOpen image w m → OpenImage image (length w) →
+pub unstarted : (image w s t after : List ℕ) (m start : ℕ) (path : List ℕ) (v : Verdict) (r : TableSize) (c : Refusal) → v ≡ pathVerdict (nodesIn image) start path → v ≡ Passed → IsOpen image w m →
     Built (nodesIn image) (length w) s t r → r ≡ table.Refused c → Decided (planMakeDirectories (nodesIn image) start path) image (length w) (length s) after (decision.Refused c)
-unstarted image w s t after m start path v r c judged passed o known b e =
-    start-refused (nodesIn image) start path (sym judged ∙ passed) (well-open image (length w) known) image (length w) (length s) s t after r c refl b e
+unstarted image w s t after m start path v r c judged passed o b e =
+    start-refused (nodesIn image) start path (sym judged ∙ passed) (well-open image (length w) (o .known)) image (length w) (length s) s t after r c refl b e
 
 -- as many bytes as before
 pub same-room : (p : Plan) (image : List ℕ) (words : ℕ) (s t after : List ℕ) (g : Decision) → length t ≡ length s → Decided p image words (length t) after g → Decided p image words (length s) after g

@@ -46,9 +46,7 @@ fn check_path(image: &[u8], start: u32, path: &[u8]) -> Verdict
     if 1024 < path.len() {
         return Verdict::Refused(Refusal::LimitOrMemory);
     }
-    let from = header::fst_offset(image) as usize;
-    let to = header::table_end(image) as usize;
-    check_start(&image[from..to], start, path)
+    check_start(opening::table(image), start, path)
 }
 
 // The missing directories are made in the table that stands in the bytes, and the table's size and place are judged.

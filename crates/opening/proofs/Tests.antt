@@ -5,8 +5,7 @@ use mathlib.Core.Bool.{Bool, true, false}
 use mathlib.Core.List.{List, _∷_, _++_}
 use native.Mathlib.Omega.{arith}
 use lib.ListN.{length, take, drop}
-use Rattle.endian.specs.Bytes.{be32}
-use Rattle.endian.specs.Laws.Stored.{length-span}
+use Rattle.endian.specs.Bytes.{be32, AllBytes}
 use Rattle.refusal.specs.declared.Refusal.{Refusal}
 use Rattle.refusal.specs.declared.Verdict.{Verdict}
 use Rattle.refusal.specs.declared.Verdict.the-variants.{Passed, Refused}
@@ -28,8 +27,8 @@ use Rattle.space.specs.Laws.SortLaws.{sum-sorted}
 use Rattle.program.specs.declared.Program.{Program}
 use Rattle.program.specs.Program.{programOf, programVerdict, placeOf, programIn, ownRegion, programBehind}
 use Rattle.opening.specs.Opening.{tableOf, nodesIn, behindTable, usedIn, freeOf, layoutVerdict, opening}
-use Rattle.opening.specs.Inner.Prepared.{verdictBefore24, entryRegions, CollectedUsed, SameUse, UsedWords}
-use Rattle.opening.specs.Laws.OpeningLaws.{Readable, opening-split, program-first, stopped, went-on}
+use Rattle.opening.specs.Inner.Prepared.{verdictBefore24, entryRegions, CollectedUsed, SameUse, UsedWords, Readable, IsOpen}
+use Rattle.opening.specs.Laws.OpeningLaws.{opens, opening-split, program-first, stopped, went-on}
 use Rattle.opening.proofs.UsedRegions.{regions-of-tree}
 
 -- the slice that is passed on is the table
@@ -67,16 +66,8 @@ module _ (image : List ℕ) (words : ℕ) (v : Verdict) (e : v ≡ verdictBefore
 pub table-inside : (image : List ℕ) (to : ℕ) → Bounded image → to ≡ tableEnd image → to ≤ length image
 table-inside image to b e = omega (arith, b .table, b .image-holds)
 
--- the bounds of an image that opened
-pub opened-bounds : (image : List ℕ) (n : ℕ) → opening image n ≡ Passed → Bounded image
-opened-bounds image n e =
-    bounds-passed image (first-passed (boundsVerdict image) _ (first-passed (headerVerdict image) _ (first-passed (verdictBefore24 image n) _ (sym (opening-split image n) ∙ e) .0) .1) .0)
-
-pub table-below : (image : List ℕ) (from : ℕ) (tab : List ℕ) → Bounded image → from ≡ fstOffset image → tab ≡ tableOf image → from + length tab < 2 ^ 32
-unfolding tableOf
-table-below image from tab b e f =
-    let l : length (tableOf image) ≡ fstSize image = length-span image (fstOffset image) (fstSize image) (omega (arith, b .table, b .image-holds)) in
-    rw f (omega (arith, l, b .table, b .small))
+pub table-below : (image w : List ℕ) (m from : ℕ) (tab : List ℕ) → IsOpen image w m → from ≡ fstOffset image → tab ≡ tableOf image → from + length tab < 2 ^ 32
+table-below image w m from tab o e f = let k = o .known .reads in rw f (omega (arith, k .size, k .bounds .table, k .bounds .small))
 
 pub end-fits : (image : List ℕ) (e : ℕ) → Bounded image → e ≡ discEnd image → e < 2 ^ 32
 end-fits image e b p = omega (arith, b .small)
@@ -84,8 +75,8 @@ end-fits image e b p = omega (arith, b .small)
 pub table-end-fits : (image : List ℕ) (to : ℕ) → Bounded image → to ≡ tableEnd image → to < 2 ^ 32
 table-end-fits image to b p = omega (arith, b .table, b .small)
 
-pub root-inside : (image : List ℕ) (from : ℕ) → Bounded image → 12 ≤ fstSize image → from ≡ fstOffset image → from + 8 + 4 ≤ length image
-root-inside image from b r p = omega (arith, b .table, b .image-holds)
+pub root-inside : (image : List ℕ) (n from : ℕ) → Readable image n → from ≡ fstOffset image → from + 8 + 4 ≤ length image
+root-inside image n from k p = omega (arith, k .root, k .bounds .table, k .bounds .image-holds)
 
 -- the root's next, read from the image
 pub count-is : (image : List ℕ) (n from r : ℕ) → Readable image n → from ≡ fstOffset image → r ≡ be32 image (from + 8) → r ≡ count (tableOf image)
@@ -140,7 +131,7 @@ own-is image p fst r e f h = rw (← e, ← f) h
 
 -- the test of the regions, after the others passed
 module _ (image w w′ : List ℕ) (words buf m e : ℕ) (v : Verdict) (before : verdictBefore24 image words ≡ Passed) (program : programVerdict (programOf image) ≡ Passed) (used : SameUse (discEnd image) (regionsIn w 0 m) (usedIn image)) (end : e ≡ discEnd image)
-    (k : Checked w w′ buf m e v) where
+    (k : Checked w w′ buf m e v) (kept : length w′ ≡ words) where
   verdict : v ≡ regionsVerdict (discEnd image) (usedIn image)
   verdict = rw (end, used .below) at (k .answer)
 
@@ -148,17 +139,16 @@ module _ (image w w′ : List ℕ) (words buf m e : ℕ) (v : Verdict) (before :
   unfolding layoutVerdict
   all u h = opening-split image words ∙ rw (before, program) (sym verdict ∙ h)
 
-  pub left-refused : (c : Refusal) → v ≡ Refused c → opening image words ≡ Refused c
-  left-refused c h = all (Refused c) h
+  pub left-refused : (c : Refusal) → v ≡ Refused c → opening image (length w′) ≡ Refused c
+  left-refused c h = rw kept (all (Refused c) h)
 
-  pub left-passed : v ≡ Passed → opening image words ≡ Passed
-  left-passed h = all Passed h
+  left-words : v ≡ Passed → UsedWords image w′ m
+  unfolding freeOf
+  left-words h = record {
+    sorted = rw (← end) (k .ready h);
+    free = rw end at (k .free) ∙ used .free;
+    sums = λ f. rw (k .order) (sum-sorted (regionsIn w 0 m) f ∙ used .sums f);
+  }
 
-pub left-words : (image w w′ : List ℕ) (buf m e : ℕ) (v : Verdict) → Checked w w′ buf m e v → v ≡ Passed → e ≡ discEnd image → SameUse (discEnd image) (regionsIn w 0 m) (usedIn image) → UsedWords image w′ m
-unfolding freeOf
-left-words image w w′ buf m e v k h end used =
-    record {
-      sorted = rw (← end) (k .ready h);
-      free = rw end at (k .free) ∙ used .free;
-      sums = λ f. rw (k .order) (sum-sorted (regionsIn w 0 m) f ∙ used .sums f);
-    }
+  pub left-open : AllBytes image → v ≡ Passed → IsOpen image w′ m
+  left-open bytes h = record { known = rw kept (opens image words bytes (all Passed h)); used = left-words h }

@@ -1,32 +1,39 @@
--- The words that hold an image's used regions, as the calls after `prepare` ask for them; with the names that they need to say so. Assumes nothing.
-use Prim.Native.Nat.{ℕ}
+-- The table of an open image, and the words that hold its used regions, as the calls after `prepare` ask for them; with the names that they need to
+-- say so. Assumes nothing.
+use Prim.Native.Nat.{ℕ, _+_, _-_}
 use mathlib.Core.Path.{_≡_}
 use mathlib.Core.List.{List}
-use lib.ListN.{replicate}
-use Rattle.refusal.specs.declared.Verdict.the-variants.{Passed}
+use native.Mathlib.Omega.{arith}
+use lib.ListN.{take, drop, replicate}
 pub use Rattle.fst_check.specs.Inner.Reading.{Opens}
 pub use Rattle.space.specs.declared.DiscRegion.{DiscRegion}
 pub use Rattle.space.specs.Free.{freeRegions}
 pub use Rattle.space.specs.Used.{totalSize}
 pub use Rattle.space.specs.Inner.Sort.{regionsIn}
 pub use Rattle.space.specs.Inner.Words.{SortedDisjoint}
-use Rattle.header.specs.Verdicts.{discEnd}
-use Rattle.opening.specs.declared.Prepared.{Prepared}
-use Rattle.opening.specs.Opening.{opening, tableOf}
+use Rattle.header.specs.Verdicts.{fstOffset, fstSize, discEnd}
+use Rattle.opening.specs.Opening.{tableOf, freeOf}
 use Rattle.opening.specs.Laws.OpeningLaws.{table-accepted}
-use Rattle.opening.specs.Inner.Prepared.{UsedWords, Prepares}
+use Rattle.opening.specs.Inner.Prepared.{OpensImage, IsOpen}
+use Rattle.opening.proofs.Tests.{part-table}
 
--- the table of an image that opened is one that was checked
-pub table-opens : (image : List ℕ) (n : ℕ) (tab : List ℕ) → opening image n ≡ Passed → tab ≡ tableOf image → Opens tab
-table-opens image n tab e f = rw f (record { words = n; passed = table-accepted image n e })
+-- the slice that is the table
+module _ (image : List ℕ) (from size : ℕ) (e : from ≡ fstOffset image) (f : size ≡ fstSize image) where
+  pub slice-table : take (from + size - from) (drop from image) ≡ tableOf image
+  slice-table = part-table image from (from + size) e (omega arith)
 
--- the words keep their number
-pub prepares-kept : (image w : List ℕ) (n n′ : ℕ) (p : Prepared) → Prepares image n w p → n′ ≡ n → Prepares image n′ w p
-prepares-kept image w n n′ p h e = rw e h
+  pub slice-opens : OpensImage image → Opens (take (from + size - from) (drop from image))
+  slice-opens o = rw slice-table (record { words = o .words; passed = table-accepted image (o .words) (o .known .passed) })
+
+-- ---- the words
 
 pub zeroed-kept : (w : List ℕ) (n n′ : ℕ) → w ≡ replicate n′ 0 → n′ ≡ n → w ≡ replicate n 0
 zeroed-kept w n n′ h e = rw e at h
 
--- the used regions stand below the end that was read
-pub sorted-below : (image w : List ℕ) (m e : ℕ) → UsedWords image w m → e ≡ discEnd image → SortedDisjoint w m e
-sorted-below image w m e u h = rw h (u .sorted)
+-- the used regions stand below the end that was read, and the free ones are what they leave
+module _ (image w : List ℕ) (m e : ℕ) (o : IsOpen image w m) (h : e ≡ discEnd image) where
+  pub sorted-below : SortedDisjoint w m e
+  sorted-below = rw h (o .used .sorted)
+
+  pub free-below : freeRegions e (regionsIn w 0 m) ≡ freeOf image
+  free-below = rw h (o .used .free)

@@ -1,4 +1,5 @@
 // Opening an image: every test, and then its used regions in the lent words, for the calls and the edits above.
+use header::Field;
 use refusal::Refusal;
 use refusal::Verdict;
 use space::DiscRegion;
@@ -7,7 +8,10 @@ ghost use Prim.Native.Nat.{_+_, _-_, _*_, _≤_, _<_};
 ghost use lib.ListN.{length};
 ghost use Rattle.program.specs.Program.{programOf, programVerdict, programBehind};
 ghost use Rattle.refusal.specs.declared.Verdict.the-variants.{Passed};
-ghost use Rattle.opening.specs.Inner.Prepared.{verdictBefore24, AddedEntry, CollectedTo, CollectedUsed, Prepares};
+ghost use Rattle.opening.specs.Inner.Prepared.{verdictBefore24, AddedEntry, CollectedTo, CollectedUsed, OpensImage, Prepares};
+ghost use Rattle.opening.specs.Opening.{tableOf};
+ghost use Rattle.header.specs.Verdicts.{discEnd};
+ghost use Rattle.fst_check.specs.Inner.Reading.{Opens};
 
 // The used regions of an image that opened stand in the working words: how many there are.
 pub enum Prepared {
@@ -118,7 +122,7 @@ fn check_table(image: &[u8], words: usize) -> Verdict
 // Test 14, which leaves the used regions in order.
 fn check_used(image: &[u8], words: &mut [u32], program: DiscRegion) -> Prepared
     requires { ⌜ (verdictBefore24 (now image) (length (now words)) ≡ Passed) × (programVerdict (programOf (now image)) ≡ Passed) × (program ≡ programBehind (now image)) ⌝ }
-    ensures { λ r. ⌜ Prepares (now (image .entry)) (length (now (words .entry))) (now (words .exit)) r ⌝ }
+    ensures { λ r. ⌜ Prepares (now (image .entry)) (now (words .exit)) r ⌝ }
 {
     let from = header::fst_offset(image) as usize;
     let to = header::table_end(image) as usize;
@@ -135,7 +139,7 @@ fn check_used(image: &[u8], words: &mut [u32], program: DiscRegion) -> Prepared
 // Test 24, and then 14.
 fn check_program(image: &[u8], words: &mut [u32]) -> Prepared
     requires { ⌜ verdictBefore24 (now image) (length (now words)) ≡ Passed ⌝ }
-    ensures { λ r. ⌜ Prepares (now (image .entry)) (length (now (words .entry))) (now (words .exit)) r ⌝ }
+    ensures { λ r. ⌜ Prepares (now (image .entry)) (now (words .exit)) r ⌝ }
 {
     let program = program::read(image);
     let verdict = program::verdict(program);
@@ -148,11 +152,32 @@ fn check_program(image: &[u8], words: &mut [u32]) -> Prepared
 
 // Opens the image. Accepted, it leaves the used regions in the words, in order.
 pub fn prepare(image: &[u8], words: &mut [u32]) -> Prepared
-    ensures { λ r. ⌜ Prepares (now (image .entry)) (length (now (words .entry))) (now (words .exit)) r ⌝ }
+    ensures { λ r. ⌜ Prepares (now (image .entry)) (now (words .exit)) r ⌝ }
 {
     let verdict = check_table(image, words.len());
     if let Verdict::Refused(cause) = verdict {
         return Prepared::Refused(cause);
     }
     check_program(image, words)
+}
+
+// ---- an open image: its header is whole, so the words are read at once
+
+// Its table.
+pub fn table(image: &[u8]) -> &[u8]
+    requires { ⌜ OpensImage (now image) ⌝ }
+    ensures { λ r. ⌜ (now r ≡ tableOf (now (image .entry))) × Opens (now r) ⌝ }
+{
+    let from = endian::read_u32(image, Field::FST_OFFSET.at) as usize;
+    let to = from + endian::read_u32(image, Field::FST_SIZE.at) as usize;
+    &image[from..to]
+}
+
+// Where its disc ends.
+pub fn disc_end(image: &[u8]) -> u32
+    requires { ⌜ OpensImage (now image) ⌝ }
+    ensures { λ r. ⌜ r ≡ discEnd (now (image .entry)) ⌝ }
+{
+    let user_size = endian::read_u32(image, Field::USER_SIZE.at);
+    user_size + endian::read_u32(image, Field::DISC_SIZE.at)
 }

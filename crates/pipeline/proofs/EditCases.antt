@@ -48,9 +48,9 @@ module _ (a : Edit) (text image : List ℕ) (words room : ℕ) (bytes : List ℕ
   pub make-decides : (start : ℕ) → a ≡ edit.MakeDirectories start → Decided (planMakeDirectories (nodesIn image) start text) image words room bytes d → Decides (editOf a text) image words room bytes (clipOf a text) d
   make-decides start e h = rw e (record { decided = h; passable = tt })
 
-pub decides-accounted : (ed : edits.Edit) (image w w′ : List ℕ) (r : Prepared) (m room : ℕ) (bytes clip : List ℕ) (d : Decision) → AllBytes image → Prepares image (length w) w′ r → r ≡ prepared.Ready m → length w′ ≡ length w → length bytes ≡ room →
+pub decides-accounted : (ed : edits.Edit) (image w w′ : List ℕ) (r : Prepared) (m room : ℕ) (bytes clip : List ℕ) (d : Decision) → Prepares image w′ r → r ≡ prepared.Ready m → length w′ ≡ length w → length bytes ≡ room →
     Decides ed image (length w′) room bytes clip d → (t : Totals) (a : Accounted) → a ≡ accountOf image (regionsIn w′ 1 (m - 1)) d t → AccountedFor (planned (opening image (length w)) (planOf ed image)) image (length w) room bytes clip t a
-decides-accounted ed image w w′ r m room bytes clip d b ready is same long h t a q = open-accounted ed (h .passable) image w w′ r m room bytes clip d b ready is same long (h .decided) t a q
+decides-accounted ed image w w′ r m room bytes clip d ready is same long h t a q = open-accounted ed (h .passable) image w w′ r m room bytes clip d ready is same long (h .decided) t a q
 
 -- ---- an edit that gives only that it is done
 

@@ -1,14 +1,13 @@
 -- The tree of the image written anew, or with one entry more, as the code builds it: past a limit, too long for the bytes, or standing in
 -- them. Assumes nothing.
-use Prim.Native.Nat.{ℕ, _-_, _≤_, _<_, _^_}
+use Prim.Native.Nat.{ℕ, _≤_, _<_, _^_}
 use mathlib.Core.Path.{_≡_, ap}
 use mathlib.Core.Bool.{Bool}
 use mathlib.Core.List.{List}
 use native.Mathlib.Omega.{arith}
-use lib.ListN.{length, take, drop}
+use lib.ListN.{length}
 use Rattle.refusal.specs.declared.Refusal.{Refusal}
 use Rattle.refusal.specs.declared.Verdict.the-variants.{Passed}
-use Rattle.header.specs.Verdicts.{fstOffset, tableEnd}
 use Rattle.tree.specs.Table.{Node, encode, limits}
 use Rattle.tree.specs.Inner.WellFormed.{GoodName, WellFormed}
 use Rattle.tree.specs.Laws.WrittenEntries.{length-encode}
@@ -22,9 +21,8 @@ use Rattle.fst_measure.specs.Inner.Measure.{measureOf}
 use Rattle.fst_grow.specs.Inner.Growth.{treeIn, Stands, IsDirectory, added, Built}
 use Rattle.fst_grow.proofs.StandingTable.{built-stands}
 use Rattle.fst_grow.proofs.GrowthLaws.{bigger-added, grown}
-use Rattle.opening.specs.Opening.{nodesIn}
-use Rattle.opening.specs.Laws.OpeningLaws.{OpenImage}
-use Rattle.opening.specs.Inner.Prepared.{IsOpen}
+use Rattle.opening.specs.Opening.{tableOf, nodesIn}
+use Rattle.opening.specs.Inner.Prepared.{OpenImage, IsOpen}
 use Rattle.edits.specs.Change.{change}
 use Rattle.edits.specs.Edits.{tableOnly}
 use Rattle.commit.specs.declared.Decision.{Decision}
@@ -39,13 +37,13 @@ pub well-open : (image : List ℕ) (words : ℕ) → OpenImage image words → W
 unfolding nodesIn
 well-open image words known = known .reads .table .well
 
-module _ (image w bytes : List ℕ) (m from to : ℕ) (r : Measured) (start : from ≡ fstOffset image) (end : to ≡ tableEnd image) (measured : r ≡ measureOf (take (to - from) (drop from image))) (opened : IsOpen image w m) (known : OpenImage image (length w)) where
+module _ (image w bytes : List ℕ) (m : ℕ) (tab : List ℕ) (r : Measured) (is : tab ≡ tableOf image) (measured : r ≡ measureOf tab) (opened : IsOpen image w m) where
   pub past-limits : r ≡ PastLimit → limits (nodesIn image) (length w) ≡ Passed → length bytes < length (encode (nodesIn image))
-  past-limits e p = let q = limits-past image from to start end (length w) known r measured e in let z : _≡_ {A = ℕ} 0 1 = cc in absurd (omega arith)
+  past-limits e p = let q = limits-past image tab is (length w) (opened .known) r measured e in let z : _≡_ {A = ℕ} 0 1 = cc in absurd (omega arith)
 
   module _ (n : ℕ) (sized : r ≡ Size n) where
     both : (limits (nodesIn image) (length w) ≡ Passed) × (n ≡ length (encode (nodesIn image)))
-    both = limits-passed image from to start end (length w) known r measured n sized
+    both = limits-passed image tab is (length w) (opened .known) r measured n sized
 
     pub within-limit : limits (nodesIn image) (length w) ≡ Passed
     within-limit = both .0
@@ -64,10 +62,10 @@ module _ (image w bytes : List ℕ) (m from to : ℕ) (r : Measured) (start : fr
 
 -- ---- the tree of the image, built
 
-module _ (image w s t : List ℕ) (m : ℕ) (r : TableSize) (opened : IsOpen image w m) (known : OpenImage image (length w)) (built : Built (nodesIn image) (length w) s t r) where
+module _ (image w s t : List ℕ) (m : ℕ) (r : TableSize) (opened : IsOpen image w m) (built : Built (nodesIn image) (length w) s t r) where
   module _ (n : ℕ) (e : r ≡ table.Bytes n) where
     stands : Stands t n (length w) × (treeIn t n ≡ nodesIn image)
-    stands = built-stands (nodesIn image) (length w) s t r n (well-open image (length w) known) built e
+    stands = built-stands (nodesIn image) (length w) s t r n (well-open image (length w) (opened .known)) built e
 
     pub started-stands : Stands t n (length w)
     started-stands = stands .0
@@ -86,7 +84,7 @@ module _ (image w s t : List ℕ) (m : ℕ) (r : TableSize) (opened : IsOpen ima
   pub unstarted-decided : (is : Bool) (p : ℕ) (nm after : List ℕ) (c : Refusal) → IsDirectory (nodesIn image) p → GoodName nm → r ≡ table.Refused c →
       Decided (change 0 (tableOnly (added (nodesIn image) is p nm))) image (length w) (length s) after (tableDecision 0 (table.Refused c))
   unstarted-decided is p nm after c dir good e =
-      unbuilt-decided (nodesIn image) (added (nodesIn image) is p nm) (length w) 0 s t r c image after (bigger-added (nodesIn image) is p nm (well-open image (length w) known) dir good) built e
+      unbuilt-decided (nodesIn image) (added (nodesIn image) is p nm) (length w) 0 s t r c image after (bigger-added (nodesIn image) is p nm (well-open image (length w) (opened .known)) dir good) built e
 
 -- ---- one entry more, built
 

@@ -18,7 +18,7 @@ use Rattle.fst_measure.specs.declared.TableSize.{TableSize}
 use Rattle.fst_measure.specs.declared.TableSize.the-variants as table
 use Rattle.fst_grow.specs.Inner.Growth.{treeIn, Stands, Built}
 use Rattle.fst_grow.proofs.StandingTable.{size-is, front}
-use Rattle.opening.specs.Laws.OpeningLaws.{OpenImage}
+use Rattle.opening.specs.Inner.Prepared.{OpenImage}
 use Rattle.edits.specs.Change.{Change, change, placeVerdict}
 use Rattle.edits.specs.Edits.{tableOnly, noPlace, planVerdict}
 use Rattle.commit.specs.declared.Decision.{Decision}

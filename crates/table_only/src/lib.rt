@@ -21,9 +21,7 @@ pub fn start_table(image: &[u8], words: &[u32], m: usize, bytes: &mut [u8]) -> T
     requires { ⌜ IsOpen (now image) (now words) m ⌝ }
     ensures { λ r. ⌜ Built (nodesIn (now (image .entry))) (length (now (words .entry))) (now (bytes .entry)) (now (bytes .exit)) r ⌝ }
 {
-    let from = header::fst_offset(image) as usize;
-    let to = header::table_end(image) as usize;
-    let measured = fst_measure::measure(&image[from..to]);
+    let measured = fst_measure::measure(opening::table(image));
     match measured {
         Measured::PastLimit => TableSize::Refused(Refusal::LimitOrMemory),
         Measured::Size(size) => {

@@ -1,47 +1,38 @@
 -- What `account` asks of the words and of the table's end, and that each of its cases is the definition's. Assumes nothing.
-use Prim.Native.Nat.{ℕ, _+_, _-_, _<_, _≤_}
+use Prim.Native.Nat.{ℕ, _+_, _-_, _≤_}
 use mathlib.Core.Path.{_≡_, ap}
 use mathlib.Core.List.{List}
 use native.Mathlib.Omega.{arith}
-use lib.ListN.{length}
 use mir.Syntax.{w32}
 use mir.Val.{Fits}
 use Rattle.refusal.specs.declared.Verdict.{Verdict}
-use Rattle.header.specs.Verdicts.{fstOffset, fstSize, discEnd, tableEnd}
+use Rattle.header.specs.Verdicts.{fstOffset, fstSize, discEnd}
 use Rattle.space.specs.declared.DiscRegion.{DiscRegion}
 use Rattle.space.specs.Inner.Sort.{regionsIn}
 use Rattle.totals.specs.declared.Totals.{Totals}
 use Rattle.totals.specs.Totals.{totalsVerdict, totalsMoved}
 use Rattle.totals.specs.Inner.Scan.{longestFrom, goneOf, Moved, moved, movedAs}
-use Rattle.totals.specs.Laws.LargestLaws.{words-some}
-use Rattle.opening.specs.Opening.{usedIn, behindTable}
 use Rattle.opening.specs.Inner.Prepared.{IsOpen}
-use Rattle.opening.specs.Laws.OpeningLaws.{OpenImage, used-regions}
 use Rattle.edits.specs.Edits.{noPlace}
 use Rattle.commit.specs.declared.Writing.{Writing}
 use Rattle.commit.specs.declared.Decision.{Decision}
 use Rattle.commit.specs.declared.Decision.the-variants as decision
 use Rattle.totals_after.specs.Inner.Accounting.{OnDisc, accounted, unless, settledAs, enteredAs, accountOf}
 
-module _ (image w : List ℕ) (m : ℕ) (o : IsOpen image w m) (known : OpenImage image (length w)) where
-  -- the words hold the table's region at least
-  pub some-region : 0 < m
-  unfolding usedIn
-  some-region = words-some w m (discEnd image) (tableEnd image) (behindTable image) (o .used .sorted) (omega (arith, known .reads .bounds .after-header)) (used-regions image w m (o .used))
-
+module _ (image w : List ℕ) (m : ℕ) (o : IsOpen image w m) where
   -- the old table ends on the disc
   pub table-on-disc : (s : ℕ) → s ≡ fstSize image → fstOffset image + s ≤ discEnd image
-  table-on-disc s q = omega (arith, known .reads .bounds .table)
+  table-on-disc s q = omega (arith, o .known .reads .bounds .table)
 
   pub end-fits-word : (f size : ℕ) → f ≡ fstOffset image → fstOffset image + size ≤ discEnd image → Fits w32 (f + size)
-  end-fits-word f size p on = record { fits = omega (arith, known .reads .bounds .small) }
+  end-fits-word f size p on = record { fits = omega (arith, o .known .reads .bounds .small) }
 
   module _ (d : Decision) (n size : ℕ) (x : Writing) (is : d ≡ decision.Write n size x) (h : OnDisc image d) where
     pub new-on-disc : fstOffset image + size ≤ discEnd image
     new-on-disc = rw is at h
 
     pub size-fits-word : Fits w32 size
-    size-fits-word = record { fits = omega (arith, new-on-disc, known .reads .bounds .small) }
+    size-fits-word = record { fits = omega (arith, new-on-disc, o .known .reads .bounds .small) }
 
 -- the table has s bytes and then n, and the edited file o and then n′
 pub entered : (image w : List ℕ) (m e f s s′ o n n′ size largest : ℕ) (t : Totals) (old new : DiscRegion) (x : Moved) → largest ≡ longestFrom e (goneOf old) new (f + size) 0 (regionsIn w 1 (m - 1)) →

@@ -5,7 +5,6 @@ use mathlib.Core.Path.{_≡_, refl, sym, ap, _∙_}
 use mathlib.Core.Bool.{cond}
 use mathlib.Core.List.{List}
 use lib.ListN.{length, replicate}
-use Rattle.endian.specs.Bytes.{AllBytes}
 use Rattle.refusal.specs.declared.Refusal.{Refusal}
 use Rattle.refusal.specs.declared.Verdict.{Verdict}
 use Rattle.refusal.specs.declared.Verdict.the-variants.{Passed, Refused}
@@ -18,6 +17,7 @@ use Rattle.opening.specs.Opening.{opening}
 use Rattle.opening.specs.declared.Prepared.{Prepared}
 use Rattle.opening.specs.declared.Prepared.the-variants as prepared
 use Rattle.opening.specs.Inner.Prepared.{Prepares, IsOpen}
+use Rattle.opening.specs.Laws.OpeningLaws.{was-ready, was-refused}
 use Rattle.edits.specs.Change.{Plan, refused}
 use Rattle.edits.specs.Edits.{Edit, planned, planOf, planVerdict, planImage, planNumber, numberedAs, countedVerdict, verdictOf, imageAfter, totalsTo, totalsAfter}
 use Rattle.edits.specs.Promise.{lent, Edited}
@@ -28,7 +28,7 @@ use Rattle.ledger.specs.Laws.TreeAfter.{arrives}
 use Rattle.commit.specs.declared.Decision.{Decision}
 use Rattle.commit.specs.declared.Decision.the-variants as decision
 use Rattle.commit.specs.Inner.Decision.{CanCarry, carriedAnswer, carriedImage, DecidedAs}
-use Rattle.commit.proofs.Decisions.{is-open, opened, unopened, answered}
+use Rattle.commit.proofs.Decisions.{answered}
 use Rattle.totals_after.specs.Inner.Accounting.{Accounted, accounted, accountOf, AccountedFor}
 use Rattle.totals_after.specs.Laws.AccountLaws as laws
 
@@ -60,24 +60,24 @@ module _ (p : Plan) (image : List ℕ) (words room : ℕ) (bytes clip : List ℕ
 
 -- ---- an edit: opening, then its plan
 
-module _ (ed : Edit) (h : Passable ed) (image w w′ : List ℕ) (r : Prepared) (m room : ℕ) (bytes clip : List ℕ) (d : Decision) (b : AllBytes image) (ready : Prepares image (length w) w′ r) (is : r ≡ prepared.Ready m)
+module _ (ed : Edit) (h : Passable ed) (image w w′ : List ℕ) (r : Prepared) (m room : ℕ) (bytes clip : List ℕ) (d : Decision) (ready : Prepares image w′ r) (is : r ≡ prepared.Ready m)
     (same : length w′ ≡ length w) (long : length bytes ≡ room) (decided : DecidedAs (planVerdict (planOf ed image) image (length w′) room) (planOf ed image) image room bytes clip d) where
   ready-words : IsOpen image w′ m
-  ready-words = is-open image w w′ r m ready is same
+  ready-words = was-ready image w′ r ready m is
 
   lays : planVerdict (planOf ed image) image (length w′) room ≡ Passed → Lays (planOf ed image) image (planImage (planOf ed image) image)
-  lays v = arrives image (length w′) room b (ready-words .passed) ed h v .2
+  lays v = arrives image (length w′) room (ready-words .known .bytes) (ready-words .known .passed) ed h v .2
 
   pub open-accounted : (t : Totals) (a : Accounted) → a ≡ accountOf image (regionsIn w′ 1 (m - 1)) d t → AccountedFor (planned (opening image (length w)) (planOf ed image)) image (length w) room bytes clip t a
   open-accounted t a q =
-      let n = laws.entered image w′ m room bytes long t ready-words b (planImage (planOf ed image) image) (planOf ed image) clip d decided lays in
+      let n = laws.entered image w′ m room bytes long t ready-words (planImage (planOf ed image) image) (planOf ed image) clip d decided lays in
       let f : AccountedFor (planOf ed image) image (length w′) room bytes clip t a = entered-accounted (planOf ed image) image (length w′) room bytes clip t d a decided (unfold countedVerdict in rw q n) in
-      rw (behind-passed (opening image (length w)) (planOf ed image) (opened image w w′ r m ready is)) (rw same at f)
+      rw (behind-passed (opening image (length w)) (planOf ed image) (rw same at (ready-words .known .passed))) (rw same at f)
 
-pub unopened-accounted : (p : Plan) (image w w′ : List ℕ) (r : Prepared) (c : Refusal) (room : ℕ) (bytes clip : List ℕ) (t : Totals) (a : Accounted) → Prepares image (length w) w′ r → r ≡ prepared.Refused c → a ≡ accounted (decision.Refused c) t →
+pub unopened-accounted : (p : Plan) (image w w′ : List ℕ) (r : Prepared) (c : Refusal) (room : ℕ) (bytes clip : List ℕ) (t : Totals) (a : Accounted) → Prepares image w′ r → r ≡ prepared.Refused c → length w′ ≡ length w → a ≡ accounted (decision.Refused c) t →
     AccountedFor (planned (opening image (length w)) p) image (length w) room bytes clip t a
-unopened-accounted p image w w′ r c room bytes clip t a q e =
-    rw (behind-refused (opening image (length w)) p c (unopened image w w′ r c q e)) (refused-accounted (refused (Refused c)) image (length w) room bytes clip t c a (unfold countedVerdict in refl))
+unopened-accounted p image w w′ r c room bytes clip t a q e same =
+    rw (behind-refused (opening image (length w)) p c (rw same at (was-refused image w′ r q c e))) (refused-accounted (refused (Refused c)) image (length w) room bytes clip t c a (unfold countedVerdict in refl))
 
 -- ---- the whole edit
 

@@ -40,8 +40,7 @@ fn enter(
     requires { ⌜ IsOpen (now image) (now words) m × (fstOffset (now image) + size ≤ discEnd (now image)) ⌝ }
     ensures { λ r. ⌜ moved r (totalsIn (now («record» .exit))) ≡ enteredAs (now (image .entry)) (regionsIn (now (words .entry)) 1 (m - 1)) (totalsIn (now («record» .entry))) size old new ⌝ }
 {
-    let user_size = endian::read_u32(image, Field::USER_SIZE.at);
-    let disc_end = user_size + endian::read_u32(image, Field::DISC_SIZE.at);
+    let disc_end = opening::disc_end(image);
     let table_end = endian::read_u32(image, Field::FST_OFFSET.at) + size;
     let largest = totals::largest_free(words, m, disc_end, table_end, old, new);
     let fst_size = endian::read_u32(image, Field::FST_SIZE.at);

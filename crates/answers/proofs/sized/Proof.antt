@@ -1,6 +1,7 @@
 -- `answers::sized` meets its contract, by the two cases of a prepared image.
 -- Assumes nothing.
-use Rattle.answers.proofs.Prepared.{ready-opened, ready-used, ready-sorted, ready-size, refused-size}
+use Rattle.answers.proofs.Prepared.{ready-sorted, ready-size, refused-size}
+use Rattle.opening.specs.Laws.OpeningLaws.{was-ready}
 use borrow.Author.Needs.{needs}
 use Rattle.answers.proofs.sized.Statement.{statement}
 use Rattle.answers.proofs.sized.Tie as tie
@@ -9,7 +10,7 @@ enum-known-prepared : tie.Need-enum-known-prepared
 enum-known-prepared c = search needs
 
 disc-of-requires : tie.Need-disc-of-requires
-disc-of-requires c κs = search (ready-opened, ready-used)
+disc-of-requires c κs = search was-ready
 
 max-region-size-requires : tie.Need-max-region-size-requires
 max-region-size-requires c κs = search ready-sorted

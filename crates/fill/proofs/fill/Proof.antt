@@ -10,13 +10,9 @@ use lib.Dec.{ltb}
 use native.Mathlib.Omega.{arith}
 use denote.Ref.{now}
 use lib.ListN.{length}
-use Rattle.endian.specs.Bytes.{AllBytes}
 use borrow.Author.Needs.{needs}
 use Rattle.fill.proofs.fill.Statement.{statement}
 use Rattle.fill.proofs.fill.Tie as tie
-
-image-bytes : (c : tie.After-shared-slice-known) → AllBytes (now (c .before .args .image))
-image-bytes c i = omega (arith, c .shared-slice-known .given i)
 
 -- a clip that no place can hold
 too-long : (c : tie.Then1) → ltb (2 ^ 32 - 1) (length (now (c .before .before .before .before .before .before .before .before .before .args .clip))) ≡ true
@@ -50,7 +46,7 @@ same-length : tie.Need-same-length
 same-length c = search needs
 
 returns-3 : tie.Need-returns-3
-returns-3 c = search (filled-by, image-bytes)
+returns-3 c = search filled-by
 
 pub fill-spec : {M : Type 1} → statement M
 fill-spec =

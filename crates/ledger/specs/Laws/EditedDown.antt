@@ -17,7 +17,8 @@ use Rattle.tree.specs.Laws.WrittenEntries.{length-encode}
 use Rattle.free_space.specs.MaxRegionSize.{maxRegionSize}
 use Rattle.free_space.specs.Laws.GrowthLaws.{table-largest}
 use Rattle.opening.specs.Opening.{tableOf, nodesIn, freeOf, opening}
-use Rattle.opening.specs.Laws.OpeningLaws.{OpenImage, opens}
+use Rattle.opening.specs.Inner.Prepared.{OpenImage}
+use Rattle.opening.specs.Laws.OpeningLaws.{opens}
 use Rattle.disc.specs.Calls.{totalsOf}
 use Rattle.edits.specs.Change.{tableVerdict}
 use Rattle.edits.specs.Edits.{noPlace, rewrite, planOf, planVerdict, verdictOf, imageAfter}

@@ -1,7 +1,7 @@
 -- `listing::list` meets its contract: the prepared image gives the answer and the text, and the words are zeroed.
 -- Assumes nothing.
 use Rattle.listing.proofs.Answers.{list-kept, buffer-kept}
-use Rattle.opening.proofs.Words.{prepares-kept, zeroed-kept}
+use Rattle.opening.proofs.Words.{zeroed-kept}
 use mathlib.Core.Path.{_∙_}
 use Rattle.listing.proofs.list.Statement.{statement}
 use Rattle.listing.proofs.list.Tie as tie
@@ -10,7 +10,7 @@ prepare-requires : tie.Need-prepare-requires
 prepare-requires c κs = tt
 
 list-in-requires : tie.Need-list-in-requires
-list-in-requires c κs = search prepares-kept
+list-in-requires c κs = search
 
 zero-words-requires : tie.Need-zero-words-requires
 zero-words-requires c κs = tt

@@ -1,6 +1,6 @@
 -- `listing::list_in` meets its contract, by the two cases of a prepared image.
 -- Assumes nothing.
-use Rattle.answers.proofs.Prepared.{ready-opened, ready-used}
+use Rattle.opening.specs.Laws.OpeningLaws.{was-ready}
 use borrow.Author.Needs.{needs}
 use Rattle.listing.proofs.Answers.{list-refused, buffer-refused}
 use Rattle.listing.proofs.list_in.Statement.{statement}
@@ -10,7 +10,7 @@ enum-known-prepared : tie.Need-enum-known-prepared
 enum-known-prepared c = search needs
 
 list-opened-requires : tie.Need-list-opened-requires
-list-opened-requires c κs = search (ready-opened, ready-used)
+list-opened-requires c κs = search was-ready
 
 enum-known-prepared-2 : tie.Need-enum-known-prepared-2
 enum-known-prepared-2 c = search needs

@@ -2,17 +2,9 @@
 -- Assumes nothing.
 use Rattle.make_directories.proofs.Outcomes.{path-stops, path-passes, unstarted, same-room}
 use Rattle.table_only.proofs.BuiltTable.{started-stands, started-tree}
-use native.Mathlib.Omega.{arith}
-use denote.Ref.{now}
-use lib.ListN.{length}
-use Rattle.opening.specs.Laws.OpeningLaws.{opens, OpenImage}
 use borrow.Author.Needs.{needs}
 use Rattle.make_directories.proofs.decide_open.Statement.{statement}
 use Rattle.make_directories.proofs.decide_open.Tie as tie
-
--- what holds at entry
-known : (c : tie.After-shared-slice-known) → let s = c .before in OpenImage (now (s .args .image)) (length (now (s .args .words)))
-known c = let s = c .before in opens (now (s .args .image)) (length (now (s .args .words))) (λ i. omega (arith, c .shared-slice-known .given i)) (s .pre .passed)
 
 check-path-requires : tie.Need-check-path-requires
 check-path-requires c κs = search needs
@@ -36,13 +28,13 @@ enum-known-found-2 : tie.Need-enum-known-found-2
 enum-known-found-2 c = search needs
 
 make-in-requires : tie.Need-make-in-requires
-make-in-requires c κs = (search, search (started-stands, known), search (started-tree, known), search path-passes)
+make-in-requires c κs = (search, search started-stands, search started-tree, search path-passes)
 
 same-length : tie.Need-same-length
 same-length c = search needs
 
 returns-2 : tie.Need-returns-2
-returns-2 c = search (unstarted, known)
+returns-2 c = search unstarted
 
 same-length-2 : tie.Need-same-length-2
 same-length-2 c = search needs

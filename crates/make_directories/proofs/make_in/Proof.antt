@@ -1,20 +1,10 @@
 -- `make_directories::make_in` meets its contract: the tree that the path makes stands in the bytes, or there is no room for it.
 -- Assumes nothing.
 use Rattle.make_directories.proofs.Outcomes.{starts-in-tree, makes-in-tree, walk-refused, reached-fits, walk-placed, reached-stands}
-use Rattle.tree.specs.Inner.WellFormed.{WellFormed}
-use native.Mathlib.Omega.{arith}
-use denote.Ref.{now}
-use lib.ListN.{length}
-use Rattle.opening.specs.Opening.{nodesIn}
-use Rattle.opening.specs.Laws.OpeningLaws.{opens}
 use Rattle.table_only.proofs.BuiltTable.{well-open}
 use borrow.Author.Needs.{needs}
 use Rattle.make_directories.proofs.make_in.Statement.{statement}
 use Rattle.make_directories.proofs.make_in.Tie as tie
-
--- what holds at entry
-well : (c : tie.After-shared-slice-known) → WellFormed (nodesIn (now (c .before .args .image)))
-well c = let s = c .before in well-open _ _ (opens (now (s .args .image)) (length (now (s .args .words))) (λ i. omega (arith, c .shared-slice-known .given i)) (s .pre .0 .passed))
 
 make-along-requires : tie.Need-make-along-requires
 make-along-requires c κs = (search, search starts-in-tree, search makes-in-tree)
@@ -29,7 +19,7 @@ place-table-requires : tie.Need-place-table-requires
 place-table-requires c κs = (search, search reached-stands)
 
 cast-numbered : tie.Need-cast-numbered
-cast-numbered c = search (reached-fits, well)
+cast-numbered c = search (reached-fits, well-open)
 
 numbered-requires : tie.Need-numbered-requires
 numbered-requires c κs = search needs
@@ -38,13 +28,13 @@ same-length : tie.Need-same-length
 same-length c = search needs
 
 returns : tie.Need-returns
-returns c = search (walk-refused, well)
+returns c = search (walk-refused, well-open)
 
 same-length-2 : tie.Need-same-length-2
 same-length-2 c = search needs
 
 returns-2 : tie.Need-returns-2
-returns-2 c = search (walk-placed, well)
+returns-2 c = search (walk-placed, well-open)
 
 pub make-in-spec : {M : Type 1} → statement M
 make-in-spec =

@@ -1,18 +1,18 @@
 -- `opening::check_used` meets its contract: an accepted table gives what `collect` and the test of the regions ask, and their answers join to opening's.
 -- Assumes nothing.
-use mathlib.Core.Path.{_≡_}
+use mathlib.Core.Path.{_≡_, _∙_}
 use native.Mathlib.Omega.{arith}
 use denote.Ref.{now}
 use lib.ListN.{length}
+use Rattle.endian.specs.Bytes.{AllBytes}
 use Rattle.tree.specs.Table.{count}
 use Prim.Native.Nat.{_+_, _*_, _<_, _≤_}
-use Rattle.header.specs.Verdicts.{fstSize, discEnd}
+use Rattle.header.specs.Verdicts.{discEnd}
 use Rattle.header.specs.Laws.FieldTests.{Bounded}
 use Rattle.opening.specs.Opening.{tableOf, usedIn}
-use Rattle.refusal.specs.declared.Verdict.the-variants.{Passed}
-use Rattle.opening.specs.Inner.Prepared.{SameUse, UsedWords}
-use Rattle.opening.specs.Laws.OpeningLaws.{Readable, readable}
-use Rattle.opening.proofs.Tests.{part-table, part-holds, count-is, some-entry, entries-inside, words-enough, used-words, end-fits, root-inside, table-end-fits, table-inside, regions-room, regions-full, left-passed, left-words, left-refused}
+use Rattle.opening.specs.Inner.Prepared.{SameUse, Readable}
+use Rattle.opening.specs.Laws.OpeningLaws.{readable}
+use Rattle.opening.proofs.Tests.{part-table, part-holds, count-is, some-entry, entries-inside, words-enough, used-words, end-fits, root-inside, table-end-fits, table-inside, regions-room, regions-full, left-open, left-refused}
 use Rattle.space.specs.Inner.Words.{AllNonempty}
 use Rattle.space.specs.Inner.Sort.{regionsIn}
 use borrow.Author.Needs.{needs}
@@ -23,14 +23,14 @@ use Rattle.opening.proofs.check_used.Tie as tie
 abbrev entry : tie.After-slice-known → tie.Start
 entry c = search
 
+bytes : (c : tie.After-slice-known) → AllBytes (now (entry c .args .image))
+bytes c i = omega (arith, c .before .shared-slice-known .given i)
+
 known : (c : tie.After-slice-known) → Readable (now (entry c .args .image)) (length (now (entry c .args .words)))
-known c = readable _ _ (λ i. omega (arith, c .before .shared-slice-known .given i)) (search)
+known c = readable _ _ (bytes c) (search)
 
 bounded : (c : tie.After-slice-known) → Bounded (now (entry c .args .image))
 bounded c = known c .bounds
-
-rooted : (c : tie.After-slice-known) → 12 ≤ fstSize (now (entry c .args .image))
-rooted c = known c .root
 
 -- the count that was read
 abbrev start : tie.After-read-u32 → tie.Start
@@ -68,8 +68,8 @@ filled c = regions-full _ _ _ _ _ _ _ (search part-table) (search) (counted (rea
 abbrev collected : tie.After-check-regions → tie.After-collect
 collected c = search
 
-ready : (c : tie.After-check-regions) → c .check-regions .result ≡ Passed → UsedWords (now (start (read (collected c)) .args .image)) (c .check-regions .last .0) (collected c .collect .result)
-ready c h = left-words _ _ _ _ _ _ _ (c .check-regions .ensures) h (search) (used (collected c))
+kept : (c : tie.After-check-regions) → length (c .check-regions .last .0) ≡ length (now (start (read (collected c)) .args .words))
+kept c = c .check-regions .kept .0 ∙ collected c .collect .kept .1 .0
 
 fst-offset-requires : tie.Need-fst-offset-requires
 fst-offset-requires c κs = search needs
@@ -90,7 +90,7 @@ add-read-u32 : tie.Need-add-read-u32
 add-read-u32 c = search needs
 
 read-u32-requires : tie.Need-read-u32-requires
-read-u32-requires c κs = search (root-inside, bounded, rooted)
+read-u32-requires c κs = root-inside _ _ _ (known (search)) (search)
 
 cast-count : tie.Need-cast-count
 cast-count c = search needs
@@ -126,13 +126,17 @@ same-length : tie.Need-same-length
 same-length c = search needs
 
 returns : tie.Need-returns
-returns c = (search (left-passed, used), search ready)
+returns c =
+    let k : tie.After-check-regions = search in
+    left-open _ _ _ _ _ _ _ _ (search) (search) (used (collected k)) (search) (k .check-regions .ensures) (kept k) (bytes (search)) (search)
 
 same-length-2 : tie.Need-same-length-2
 same-length-2 c = search needs
 
 returns-2 : tie.Need-returns-2
-returns-2 c = search (left-refused, used)
+returns-2 c =
+    let k : tie.After-check-regions = search in
+    left-refused _ _ _ _ _ _ _ _ (search) (search) (used (collected k)) (search) (k .check-regions .ensures) (kept k) _ (search)
 
 pub check-used-spec : {M : Type 1} → statement M
 check-used-spec =

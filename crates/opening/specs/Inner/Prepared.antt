@@ -1,23 +1,27 @@
 -- What the calls work on once the image is open: its used regions, in order, in the working words. Assumes nothing: these are definitions.
 use Prim.Native.Nat.{ℕ, zero, suc, _+_, _-_, _≤_}
 use mathlib.Core.Path.{_≡_}
+use mathlib.Core.Bool.{true}
 use mathlib.Core.List.{List, [], _∷_, _++_}
 use lib.ListN.{length}
+use Rattle.endian.specs.Bytes.{be32, AllBytes}
 use Rattle.refusal.specs.declared.Verdict.{Verdict}
 use Rattle.refusal.specs.declared.Verdict.the-variants as verdict
 use Rattle.refusal.specs.Refusal.{first}
-use Rattle.header.specs.Verdicts.{headerVerdict, boundsVerdict, discEnd}
-use Rattle.tree.specs.Table.{nodeWith, kind, offsetOrParent, sizeOrNext, check}
+use Rattle.header.specs.Verdicts.{headerVerdict, boundsVerdict, fstOffset, fstSize, discEnd}
+use Rattle.header.specs.Laws.FieldTests.{GoodHeader, Bounded}
+use Rattle.tree.specs.Table.{nodeWith, kind, offsetOrParent, sizeOrNext, count, check}
+use Rattle.tree.specs.Laws.Accepted.{Accepted}
 use Rattle.space.specs.declared.DiscRegion.{DiscRegion}
 use Rattle.space.specs.Used.{nonempty, usedRegions}
 use Rattle.space.specs.Layout.{disjointBelow}
 use Rattle.space.specs.Free.{freeRegions}
 use Rattle.space.specs.Inner.Sort.{regionsIn, SameSums}
 use Rattle.space.specs.Inner.Words.{SortedDisjoint}
+use Rattle.program.specs.Program.{programOf, programVerdict}
 use Rattle.opening.specs.declared.Prepared.{Prepared}
 use Rattle.opening.specs.declared.Prepared.the-variants.{Ready, Refused}
 use Rattle.opening.specs.Opening.{tableOf, regionOf, opening, usedIn, freeOf}
-use Rattle.refusal.specs.declared.Verdict.the-variants.{Passed, Refused}
 
 -- the tests before 24 and 14
 abbrev pub verdictBefore24 : List ℕ → ℕ → Verdict
@@ -63,16 +67,36 @@ pub record UsedWords (image w : List ℕ) (m : ℕ) : Type 0 where
   pub free : freeRegions (discEnd image) (regionsIn w 0 m) ≡ freeOf image
   pub sums : SameSums (regionsIn w 0 m) (usedIn image)
 
--- by the cases of the answer: opening passed, and the words are ready; or it refused
-abbrev pub Prepares : List ℕ → ℕ → List ℕ → Prepared → Type 0
-Prepares image words w (Ready m) = (opening image words ≡ verdict.Passed) × UsedWords image w m
-Prepares image words w (Refused c) = opening image words ≡ verdict.Refused c
+-- ---- an open image
 
+-- what the tests before 24 tell
+pub record Readable (image : List ℕ) (words : ℕ) : Type 0 where
+  pub header : GoodHeader image
+  pub bounds : Bounded image
+  pub size : length (tableOf image) ≡ fstSize image
+  pub root : 12 ≤ fstSize image
+  pub table : Accepted (tableOf image) words
+  pub next : be32 image (fstOffset image + 8) ≡ count (tableOf image)
+
+-- what opening tells, where so many working words are lent
+pub record OpenImage (image : List ℕ) (words : ℕ) : Type 0 where
+  pub bytes : AllBytes image
+  pub passed : opening image words ≡ verdict.Passed
+  pub reads : Readable image words
+  pub program : programVerdict (programOf image) ≡ verdict.Passed
+  pub layout : disjointBelow (discEnd image) (usedIn image) ≡ true
+
+-- the image is open, with some number of words
 pub record OpensImage (image : List ℕ) : Type 0 where
   pub words : ℕ
-  pub passed : opening image words ≡ Passed
+  pub known : OpenImage image words
 
--- opening passed with these working words, which hold the m used regions now
+-- it is open with these words, which hold the m used regions now
 pub record IsOpen (image w : List ℕ) (m : ℕ) : Type 0 where
-  pub passed : opening image (length w) ≡ Passed
+  pub known : OpenImage image (length w)
   pub used : UsedWords image w m
+
+-- by the cases of the answer: the image is open, or opening refused it
+abbrev pub Prepares : List ℕ → List ℕ → Prepared → Type 0
+Prepares image w (Ready m) = IsOpen image w m
+Prepares image w (Refused c) = opening image (length w) ≡ verdict.Refused c

@@ -1,5 +1,5 @@
 -- What opening tells of an image, and that the free bytes and the used total fill the disc. Assumes nothing.
-use Prim.Native.Nat.{ℕ, _+_, _≤_}
+use Prim.Native.Nat.{ℕ, zero, suc, _+_, _≤_, _<_}
 use mathlib.Core.Path.{_≡_, refl, sym, ap, _∙_}
 use mathlib.Core.Logic.{⊎-elim}
 use mathlib.Core.Bool.{true, false, not}
@@ -18,7 +18,7 @@ use Rattle.refusal.specs.declared.Verdict.the-variants.{Passed, Refused}
 use Rattle.refusal.specs.Refusal.{first, isRefused}
 use Rattle.refusal.specs.Laws.Chains.{first-passed, first-stop, first-go, refuse-passed}
 use Rattle.header.specs.Verdicts.{headerVerdict, boundsVerdict, fstOffset, fstSize, discEnd, tableEnd}
-use Rattle.header.specs.Laws.FieldTests.{GoodHeader, header-passed, Bounded, bounds-passed}
+use Rattle.header.specs.Laws.FieldTests.{header-passed, Bounded, bounds-passed}
 use Rattle.tree.specs.Table.{count, check}
 use Rattle.tree.specs.Laws.Accepted.{Accepted, accepted}
 use Rattle.space.specs.declared.DiscRegion.{DiscRegion}
@@ -28,8 +28,10 @@ use Rattle.space.specs.Layout.{disjointBelow}
 use Rattle.space.specs.Laws.TotalLaws.{freeBytes, total-used, used-and-free}
 use Rattle.space.specs.Laws.SortLaws.{same-total, same-regions}
 use Rattle.program.specs.Program.{programOf, programVerdict}
+use Rattle.opening.specs.declared.Prepared.{Prepared}
+use Rattle.opening.specs.declared.Prepared.the-variants as prepared
 use Rattle.opening.specs.Opening.{tableOf, behindTable, usedIn, usedOf, layoutVerdict, opening}
-use Rattle.opening.specs.Inner.Prepared.{verdictBefore24, UsedWords}
+use Rattle.opening.specs.Inner.Prepared.{verdictBefore24, UsedWords, Readable, OpenImage, OpensImage, IsOpen, Prepares}
 
 -- ---- chains
 
@@ -66,14 +68,6 @@ be32-span s at n i h =
 
 -- ---- what the tests before 24 give
 
-pub record Readable (image : List ℕ) (words : ℕ) : Type 0 where
-  pub header : GoodHeader image
-  pub bounds : Bounded image
-  pub size : length (tableOf image) ≡ fstSize image
-  pub root : 12 ≤ fstSize image
-  pub table : Accepted (tableOf image) words
-  pub next : be32 image (fstOffset image + 8) ≡ count (tableOf image)
-
 pub readable : (image : List ℕ) (words : ℕ) → AllBytes image → verdictBefore24 image words ≡ Passed → Readable image words
 unfolding tableOf count
 readable image words bytes e =
@@ -107,17 +101,14 @@ pub program-first : (image : List ℕ) (c : Refusal) → programVerdict (program
 unfolding layoutVerdict
 program-first image c e = rw e
 
-pub record OpenImage (image : List ℕ) (words : ℕ) : Type 0 where
-  pub reads : Readable image words
-  pub program : programVerdict (programOf image) ≡ Passed
-  pub layout : disjointBelow (discEnd image) (usedIn image) ≡ true
-
 pub opens : (image : List ℕ) (words : ℕ) → AllBytes image → opening image words ≡ Passed → OpenImage image words
 unfolding layoutVerdict
 opens image words bytes e =
     let p = first-passed (verdictBefore24 image words) _ (sym (opening-split image words) ∙ e) in
     let q = first-passed (programVerdict (programOf image)) _ (p .1) in
     record {
+      bytes = bytes;
+      passed = e;
       reads = readable image words bytes (p .0);
       program = q .0;
       layout = not-false (disjointBelow (discEnd image) (usedIn image)) (refuse-passed (not (disjointBelow (discEnd image) (usedIn image))) OverlappingRegions Passed (q .1) .0);
@@ -134,8 +125,19 @@ unfolding opening
 table-accepted image words e =
     first-passed (check (tableOf image) words) _ (first-passed (boundsVerdict image) _ (first-passed (headerVerdict image) _ e .1) .1) .0
 
--- ---- what the words tell of the used regions
+-- ---- once the image is open
 
+pub still-opens : (image w : List ℕ) (m : ℕ) → IsOpen image w m → OpensImage image
+still-opens image w m o = record { words = length w; known = o .known }
+
+module _ (image w : List ℕ) (p : Prepared) (h : Prepares image w p) where
+  pub was-ready : (m : ℕ) → p ≡ prepared.Ready m → IsOpen image w m
+  was-ready m e = rw e at h
+
+  pub was-refused : (c : Refusal) → p ≡ prepared.Refused c → opening image (length w) ≡ Refused c
+  was-refused c e = rw e at h
+
+-- what the words tell of the used regions
 module _ (image w : List ℕ) (m : ℕ) (used : UsedWords image w m) where
   pub used-total : totalSize (regionsIn w 0 m) ≡ usedOf image
   unfolding usedIn usedOf
@@ -143,3 +145,9 @@ module _ (image w : List ℕ) (m : ℕ) (used : UsedWords image w m) where
 
   pub used-regions : (r : DiscRegion) → holds r (regionsIn w 0 m) ≡ holds r (usedIn image)
   used-regions = same-regions (regionsIn w 0 m) (usedIn image) (used .sums)
+
+-- the words hold the table's region at least
+pub some-region : (image w : List ℕ) (m : ℕ) → IsOpen image w m → 0 < m
+unfolding usedOf regionsIn totalSize
+some-region image w zero o = absurd (omega (arith, used-total image w 0 (o .used), o .known .reads .bounds .after-header))
+some-region image w (suc m) o = omega arith

@@ -20,8 +20,8 @@ use Rattle.space.specs.Laws.UsedLaws.{liesWithin, filesWithin, disjoint-below-u
 use Rattle.program.specs.Program.{programOf, programVerdict, programIn, programBehind}
 use Rattle.program.specs.Laws.ProgramLaws.{Accepted, absent, present, accepted, own-cases}
 use Rattle.opening.specs.Opening.{nodesIn, regionOf, behindTable, usedIn, layoutVerdict, opening}
-use Rattle.opening.specs.Inner.Prepared.{verdictBefore24}
-use Rattle.opening.specs.Laws.OpeningLaws.{OpenImage, opens, opening-split}
+use Rattle.opening.specs.Inner.Prepared.{verdictBefore24, OpenImage}
+use Rattle.opening.specs.Laws.OpeningLaws.{opens, opening-split}
 
 -- "wholly between 0x440 and the FST offset .. or wholly from the table end on", and it does not pass the disc end
 abbrev pub WellPlaced : List ℕ → DiscRegion → Type 0

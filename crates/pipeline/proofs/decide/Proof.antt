@@ -1,18 +1,12 @@
 -- `pipeline::decide` meets its contract: refused by opening, or what is decided on the open image, entered in the record.
 -- Assumes nothing.
 use Rattle.pipeline.proofs.EditCases.{decides-accounted}
-use Rattle.commit.proofs.Decisions.{is-open}
+use Rattle.opening.specs.Laws.OpeningLaws.{was-ready}
 use Rattle.totals_after.specs.Laws.AccountLaws.{may-account}
 use Rattle.totals_after.proofs.Edited.{unopened-accounted}
-use native.Mathlib.Omega.{arith}
-use denote.Ref.{now}
-use Rattle.endian.specs.Bytes.{AllBytes}
 use borrow.Author.Needs.{needs}
 use Rattle.pipeline.proofs.decide.Statement.{statement}
 use Rattle.pipeline.proofs.decide.Tie as tie
-
-image-bytes : (c : tie.After-shared-slice-known) → AllBytes (now (c .before .args .image))
-image-bytes c i = omega (arith, c .shared-slice-known .given i)
 
 prepare-requires : tie.Need-prepare-requires
 prepare-requires c κs = search needs
@@ -24,13 +18,12 @@ enum-known-prepared-2 : tie.Need-enum-known-prepared-2
 enum-known-prepared-2 c = search needs
 
 decide-open-requires : tie.Need-decide-open-requires
-decide-open-requires c κs = search is-open
+decide-open-requires c κs = search was-ready
 
 account-requires : tie.Need-account-requires
 account-requires c κs =
-    let s : tie.After-shared-slice-known = search in
     let d : tie.After-decide-open = search in
-    may-account _ _ _ _ _ _ _ _ (d .decide-open .ensures .decided) (search is-open) (image-bytes s) (search needs)
+    may-account _ _ _ _ _ _ _ _ (d .decide-open .ensures .decided) (search was-ready) (search needs)
 
 same-length : tie.Need-same-length
 same-length c = search needs
@@ -45,7 +38,7 @@ same-length-3 : tie.Need-same-length-3
 same-length-3 c = search needs
 
 returns-2 : tie.Need-returns-2
-returns-2 c = search (decides-accounted, image-bytes)
+returns-2 c = search decides-accounted
 
 pub decide-spec : {M : Type 1} → statement M
 decide-spec =

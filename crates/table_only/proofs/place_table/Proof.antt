@@ -1,17 +1,9 @@
 -- `table_only::place_table` meets its contract: the limits are passed, so the verdict on the place is the table's.
 -- Assumes nothing.
 use Rattle.table_only.proofs.TableChanges.{place-refused, place-passed}
-use Rattle.opening.specs.Laws.OpeningLaws.{opens, OpenImage}
-use lib.ListN.{length}
-use denote.Ref.{now}
-use native.Mathlib.Omega.{arith}
 use borrow.Author.Needs.{needs}
 use Rattle.table_only.proofs.place_table.Statement.{statement}
 use Rattle.table_only.proofs.place_table.Tie as tie
-
--- what holds at entry
-known : (c : tie.After-shared-slice-known) → let s = c .before in OpenImage (now (s .args .image)) (length (now (s .args .words)))
-known c = let s = c .before in opens (now (s .args .image)) (length (now (s .args .words))) (λ i. omega (arith, c .shared-slice-known .given i)) (s .pre .0 .passed)
 
 check-place-requires : tie.Need-check-place-requires
 check-place-requires c κs = search needs
@@ -26,7 +18,7 @@ returns : tie.Need-returns
 returns c = search place-refused
 
 returns-2 : tie.Need-returns-2
-returns-2 c = search (place-passed, known)
+returns-2 c = search place-passed
 
 pub place-table-spec : {M : Type 1} → statement M
 place-table-spec =

@@ -107,7 +107,7 @@ module _ (e t : ℕ) (fs : List DiscRegion) (x : DiscRegion) (xs : List DiscRegi
 -- ---- read off the words
 
 -- the table is one of the regions in the words
-pub words-some : (w : List ℕ) (m e t : ℕ) (fs : List DiscRegion) → SortedDisjoint w m e → 0 < t →
+words-some : (w : List ℕ) (m e t : ℕ) (fs : List DiscRegion) → SortedDisjoint w m e → 0 < t →
     ((r : DiscRegion) → holds r (regionsIn w 0 m) ≡ holds r (usedRegions t fs)) → 0 < m
 unfolding regionsIn
 words-some w zero e t fs s z h =

@@ -1,17 +1,9 @@
 -- `totals_after::account` meets its contract, by the cases of the decision.
 -- Assumes nothing.
 use Rattle.totals_after.proofs.Accounts.{new-on-disc, size-fits-word, nothing-accounted, clip-accounted, write-accounted}
-use native.Mathlib.Omega.{arith}
-use denote.Ref.{now}
-use lib.ListN.{length}
-use Rattle.opening.specs.Laws.OpeningLaws.{OpenImage, opens}
 use borrow.Author.Needs.{needs}
 use Rattle.totals_after.proofs.account.Statement.{statement}
 use Rattle.totals_after.proofs.account.Tie as tie
-
--- what holds at entry
-known : (c : tie.After-shared-slice-known) → let s = c .before in OpenImage (now (s .args .image)) (length (now (s .args .words)))
-known c = let s = c .before in opens (now (s .args .image)) (length (now (s .args .words))) (λ i. omega (arith, c .shared-slice-known .given i)) (s .pre .0 .passed)
 
 enum-told : tie.Need-enum-told
 enum-told c = search needs
@@ -38,10 +30,10 @@ enum-known-decision : tie.Need-enum-known-decision
 enum-known-decision c = search needs
 
 cast-enter : tie.Need-cast-enter
-cast-enter c = search (size-fits-word, known)
+cast-enter c = search size-fits-word
 
 enter-requires : tie.Need-enter-requires
-enter-requires c κs = search (new-on-disc, known)
+enter-requires c κs = search new-on-disc
 
 settled-requires-3 : tie.Need-settled-requires-3
 settled-requires-3 c κs = search needs

@@ -4,7 +4,7 @@ use mathlib.Core.Path.{_≡_, refl, sym, ap, _∙_}
 use mathlib.Core.List.{List}
 use native.Mathlib.Omega.{arith}
 use lib.ListN.{length}
-use Rattle.endian.specs.Bytes.{AllBytes, span}
+use Rattle.endian.specs.Bytes.{span}
 use Rattle.endian.specs.Laws.Stored.{length-span}
 use Rattle.refusal.specs.declared.Refusal.{Refusal}
 use Rattle.refusal.specs.declared.Verdict.{Verdict}
@@ -49,7 +49,7 @@ unfolding usedOf behindTable
 total-places image =
     sym (total-used (tableEnd image) (behindTable image)) ∙ ap totalSize (used-files (tableEnd image) (programBehind image) (nodesIn image)) ∙ total-used (tableEnd image) (placesIn image)
 
-module _ (image w : List ℕ) (m : ℕ) (o : IsOpen image w m) (b : AllBytes image) (image′ : List ℕ) (size : ℕ) (old new : DiscRegion) (l : LaidOut image image′ size old new) where
+module _ (image w : List ℕ) (m : ℕ) (o : IsOpen image w m) (image′ : List ℕ) (size : ℕ) (old new : DiscRegion) (l : LaidOut image image′ size old new) where
   -- LAW: what the table and the edited file gain and lose is the change of used bytes
   pub used-moves : (size + new .size) + usedOf image ≡ (fstSize image + old .size) + usedOf image′
   used-moves = omega (arith, total-places image, total-places image′, l .start, l .table, l .places .total)
@@ -58,7 +58,7 @@ module _ (image w : List ℕ) (m : ℕ) (o : IsOpen image w m) (b : AllBytes ima
   largest-moves : longestFrom (discEnd image) (goneOf old) new (fstOffset image + size) 0 (regionsIn w 1 (m - 1)) ≡ largestSize (freeOf image′)
   unfolding freeOf
   largest-moves =
-      let q = opened image (length w) (o .passed) b in
+      let q = opened image (length w) (o .known .passed) (o .known .bytes) in
       let u = used-places image in
       let e : tableEnd image′ ≡ fstOffset image + size = omega (arith, l .start, l .table) in
       largest-after w m (discEnd image) (tableEnd image) (fstOffset image + size) (placesIn image) (placesIn image′) old new (o .used .sorted) (omega (arith, q .bounds .after-header))
@@ -83,7 +83,7 @@ pub record Entered (v : Verdict) (d : Decision) (t t′ : Totals) (a : Accounted
 table-size : (bytes table : List ℕ) (room size : ℕ) → length bytes ≡ room → size ≤ room → span bytes 0 size ≡ table → length table ≡ size
 table-size bytes table room size long held e = ap length (sym e) ∙ length-span bytes 0 size (omega arith)
 
-module _ (image w : List ℕ) (m room : ℕ) (bytes : List ℕ) (long : length bytes ≡ room) (t : Totals) (o : IsOpen image w m) (b : AllBytes image) (image′ : List ℕ) where
+module _ (image w : List ℕ) (m room : ℕ) (bytes : List ℕ) (long : length bytes ≡ room) (t : Totals) (o : IsOpen image w m) (image′ : List ℕ) where
   -- the plan's tests, and then 25
   abbrev pub tested : Plan → Verdict
   tested p = first (planVerdict p image (length w) room) (totalsVerdict t (usedOf image) (usedOf image′))
@@ -112,14 +112,14 @@ module _ (image w : List ℕ) (m room : ℕ) (bytes : List ℕ) (long : length b
   -- nothing is written but a clip
   none-entered : (p : Plan) (d : Decision) → Passed ≡ planVerdict p image (length w) room → Lays nothing image image′ →
       Entered (tested p) d t (totalsTo t image image′) (settledAs d (enteredAs image (regionsIn w 1 (m - 1)) t (fstSize image) noPlace noPlace))
-  none-entered p d h l = moved-entered p d _ h (ap (settledAs d) (moves image w m o b image′ (fstSize image) noPlace noPlace (l .0) t))
+  none-entered p d h l = moved-entered p d _ h (ap (settledAs d) (moves image w m o image′ (fstSize image) noPlace noPlace (l .0) t))
 
   -- a table is
   write-entered : (p : Plan) (k : ℕ) (c : Change) (n size : ℕ) (x : Writing) → Passed ≡ planVerdict p image (length w) room → Lays (change k c) image image′ → length (encode (c .nodes)) ≡ size → c .old ≡ x .old → c .place ≡ x .place →
       Entered (tested p) (decision.Write n size x) t (totalsTo t image image′) (accountOf image (regionsIn w 1 (m - 1)) (decision.Write n size x) t)
   write-entered p k c n size x h l l₀ eo ep =
       let s : LaidOut image image′ size (x .old) (x .place) = rw (l₀, eo, ep) at l in
-      moved-entered p (decision.Write n size x) _ h (ap (settledAs (decision.Write n size x)) (moves image w m o b image′ size (x .old) (x .place) s t))
+      moved-entered p (decision.Write n size x) _ h (ap (settledAs (decision.Write n size x)) (moves image w m o image′ size (x .old) (x .place) s t))
 
   -- LAW: of what a plan comes to, whose layout the new image has
   pub entered : (p : Plan) (clip : List ℕ) (d : Decision) → DecidedAs (planVerdict p image (length w) room) p image room bytes clip d → (planVerdict p image (length w) room ≡ Passed → Lays p image image′) →
@@ -150,10 +150,10 @@ module _ (image w : List ℕ) (m room : ℕ) (bytes : List ℕ) (long : length b
   entered (filled k y (filled j z p)) clip (decision.Write n size x) h l = absurd (h .carries)
 
 -- LAW: a table that is to be written ends on the disc
-module _ (image w : List ℕ) (m room : ℕ) (bytes clip : List ℕ) (o : IsOpen image w m) (b : AllBytes image) (long : length bytes ≡ room) where
+module _ (image w : List ℕ) (m room : ℕ) (bytes clip : List ℕ) (o : IsOpen image w m) (long : length bytes ≡ room) where
   table-ends : (c : Change) (size : ℕ) → tableVerdict c image (length w) room ≡ Passed → size ≤ room → span bytes 0 size ≡ encode (c .nodes) → fstOffset image + size ≤ discEnd image
   table-ends c size v held e =
-      rw (table-size bytes (encode (c .nodes)) room size long held e) at (room-law.room c image (length w) room (opened image (length w) (o .passed) b) v .end)
+      rw (table-size bytes (encode (c .nodes)) room size long held e) at (room-law.room c image (length w) room (opened image (length w) (o .known .passed) (o .known .bytes)) v .end)
 
   on-disc : (p : Plan) (d : Decision) → DecidedAs (planVerdict p image (length w) room) p image room bytes clip d → OnDisc image d
   on-disc p (decision.Refused c) h = tt
@@ -167,6 +167,6 @@ module _ (image w : List ℕ) (m room : ℕ) (bytes clip : List ℕ) (o : IsOpen
   on-disc (filled k y (refused v)) (decision.Write n size x) h = absurd (h .carries)
   on-disc (filled k y (filled j z p)) (decision.Write n size x) h = absurd (h .carries)
 
-pub may-account : (p : Plan) (image w : List ℕ) (m room : ℕ) (bytes clip : List ℕ) (d : Decision) → DecidedAs (planVerdict p image (length w) room) p image room bytes clip d → IsOpen image w m → AllBytes image → length bytes ≡ room →
+pub may-account : (p : Plan) (image w : List ℕ) (m room : ℕ) (bytes clip : List ℕ) (d : Decision) → DecidedAs (planVerdict p image (length w) room) p image room bytes clip d → IsOpen image w m → length bytes ≡ room →
     IsOpen image w m × OnDisc image d
-may-account p image w m room bytes clip d h o b long = (o, on-disc image w m room bytes clip o b long p d h)
+may-account p image w m room bytes clip d h o long = (o, on-disc image w m room bytes clip o long p d h)

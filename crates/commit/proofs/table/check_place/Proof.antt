@@ -1,17 +1,11 @@
 -- `commit::table::check_place` meets its contract: each test is the definition's, once the largest size found in the words is that of the free regions.
 -- Assumes nothing.
-use Rattle.commit.proofs.Judged.{end-fits, sorted-to, too-few-bytes, above-stated, no-room-to-grow, place-taken, place-clear}
-use native.Mathlib.Omega.{arith}
-use denote.Ref.{now}
-use lib.ListN.{length}
-use Rattle.opening.specs.Laws.OpeningLaws.{OpenImage, opens}
+use Rattle.commit.proofs.Judged.{too-few-bytes, above-stated, no-room-to-grow, place-taken, place-clear}
+use Rattle.opening.specs.Laws.OpeningLaws.{still-opens}
+use Rattle.opening.proofs.Words.{sorted-below}
 use borrow.Author.Needs.{needs}
 use Rattle.commit.proofs.table.check_place.Statement.{statement}
 use Rattle.commit.proofs.table.check_place.Tie as tie
-
--- what holds at entry
-known : (c : tie.After-shared-slice-known) → let s = c .before in OpenImage (now (s .args .image)) (length (now (s .args .words)))
-known c = let s = c .before in opens (now (s .args .image)) (length (now (s .args .words))) (λ i. omega (arith, c .shared-slice-known .given i)) (s .pre .passed)
 
 returns : tie.Need-returns
 returns c = search too-few-bytes
@@ -29,13 +23,10 @@ fst-size-requires : tie.Need-fst-size-requires
 fst-size-requires c κs = search needs
 
 disc-end-requires : tie.Need-disc-end-requires
-disc-end-requires c κs = search needs
-
-cast-disc-end : tie.Need-cast-disc-end
-cast-disc-end c = search (end-fits, known)
+disc-end-requires c κs = search still-opens
 
 max-region-size-requires : tie.Need-max-region-size-requires
-max-region-size-requires c κs = search sorted-to
+max-region-size-requires c κs = search sorted-below
 
 cast-if3 : tie.Need-cast-if3
 cast-if3 c = search needs
@@ -68,7 +59,6 @@ check-place-spec =
     fst-offset-requires
     fst-size-requires
     disc-end-requires
-    cast-disc-end
     max-region-size-requires
     cast-if3
     returns-3

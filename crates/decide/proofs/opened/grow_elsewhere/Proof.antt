@@ -1,27 +1,17 @@
 -- `decide::opened::grow_elsewhere` meets its contract: no room, or the move to the place found.
 -- Assumes nothing.
 use Rattle.decide.proofs.Outcomes.{nowhere-else, elsewhere}
-use Rattle.commit.proofs.Judged.{end-fits, sorted-to}
-use native.Mathlib.Omega.{arith}
-use denote.Ref.{now}
-use lib.ListN.{length}
-use Rattle.opening.specs.Laws.OpeningLaws.{OpenImage, opens}
+use Rattle.opening.specs.Laws.OpeningLaws.{still-opens}
+use Rattle.opening.proofs.Words.{sorted-below}
 use borrow.Author.Needs.{needs}
 use Rattle.decide.proofs.opened.grow_elsewhere.Statement.{statement}
 use Rattle.decide.proofs.opened.grow_elsewhere.Tie as tie
 
--- what holds at entry
-known : (c : tie.After-shared-slice-known) → let s = c .before in OpenImage (now (s .args .image)) (length (now (s .args .words)))
-known c = let s = c .before in opens (now (s .args .image)) (length (now (s .args .words))) (λ i. omega (arith, c .shared-slice-known .given i)) (s .pre .0 .passed)
-
 disc-end-requires : tie.Need-disc-end-requires
-disc-end-requires c κs = search needs
-
-cast-disc-end : tie.Need-cast-disc-end
-cast-disc-end c = search (end-fits, known)
+disc-end-requires c κs = search still-opens
 
 allocate-requires : tie.Need-allocate-requires
-allocate-requires c κs = search sorted-to
+allocate-requires c κs = search sorted-below
 
 enum-known-found : tie.Need-enum-known-found
 enum-known-found c = search needs
@@ -46,7 +36,6 @@ grow-elsewhere-spec =
     tie.close
     (tie.spec
     disc-end-requires
-    cast-disc-end
     allocate-requires
     enum-known-found
     enum-known-found-2

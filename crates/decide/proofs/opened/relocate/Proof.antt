@@ -1,27 +1,17 @@
 -- `decide::opened::relocate` meets its contract: behind the tests of the new place it is the change that moves the file.
 -- Assumes nothing.
 use Rattle.decide.proofs.Outcomes.{relocate-refused, relocate-decided, relocated-in-image}
-use Rattle.commit.proofs.Judged.{end-fits, sorted-to}
-use native.Mathlib.Omega.{arith}
-use denote.Ref.{now}
-use lib.ListN.{length}
-use Rattle.opening.specs.Laws.OpeningLaws.{OpenImage, opens}
+use Rattle.opening.specs.Laws.OpeningLaws.{still-opens}
+use Rattle.opening.proofs.Words.{sorted-below}
 use borrow.Author.Needs.{needs}
 use Rattle.decide.proofs.opened.relocate.Statement.{statement}
 use Rattle.decide.proofs.opened.relocate.Tie as tie
 
--- what holds at entry
-known : (c : tie.After-shared-slice-known) → let s = c .before in OpenImage (now (s .args .image)) (length (now (s .args .words)))
-known c = let s = c .before in opens (now (s .args .image)) (length (now (s .args .words))) (λ i. omega (arith, c .shared-slice-known .given i)) (s .pre .0 .passed)
-
 disc-end-requires : tie.Need-disc-end-requires
-disc-end-requires c κs = search needs
-
-cast-disc-end : tie.Need-cast-disc-end
-cast-disc-end c = search (end-fits, known)
+disc-end-requires c κs = search still-opens
 
 check-relocate-requires : tie.Need-check-relocate-requires
-check-relocate-requires c κs = search sorted-to
+check-relocate-requires c κs = search sorted-below
 
 enum-known-verdict : tie.Need-enum-known-verdict
 enum-known-verdict c = search needs
@@ -35,17 +25,17 @@ enum-told c = search needs
 least-requires : tie.Need-least-requires
 least-requires c κs = search needs
 
+cast-t13 : tie.Need-cast-t13
+cast-t13 c = search needs
+
 cast-t14 : tie.Need-cast-t14
 cast-t14 c = search needs
 
 cast-t15 : tie.Need-cast-t15
 cast-t15 c = search needs
 
-cast-t16 : tie.Need-cast-t16
-cast-t16 c = search needs
-
 set-place-requires : tie.Need-set-place-requires
-set-place-requires c κs = search (relocated-in-image, known)
+set-place-requires c κs = search relocated-in-image
 
 same-length : tie.Need-same-length
 same-length c = search needs
@@ -58,15 +48,14 @@ relocate-spec =
     tie.close
     (tie.spec
     disc-end-requires
-    cast-disc-end
     check-relocate-requires
     enum-known-verdict
     returns
     enum-told
     least-requires
+    cast-t13
     cast-t14
     cast-t15
-    cast-t16
     set-place-requires
     same-length
     returns-2)

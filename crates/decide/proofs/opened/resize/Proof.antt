@@ -1,31 +1,21 @@
 -- `decide::opened::resize` meets its contract: the present size, in place, or elsewhere.
 -- Assumes nothing.
 use Rattle.decide.proofs.Outcomes.{resized-in-place, resized-elsewhere}
-use Rattle.commit.proofs.Judged.{end-fits, sorted-to}
-use native.Mathlib.Omega.{arith}
-use denote.Ref.{now}
-use lib.ListN.{length}
-use Rattle.opening.specs.Laws.OpeningLaws.{OpenImage, opens}
+use Rattle.opening.specs.Laws.OpeningLaws.{still-opens}
+use Rattle.opening.proofs.Words.{sorted-below}
 use Rattle.decide.proofs.Files.{size-kept}
 use borrow.Author.Needs.{needs}
 use Rattle.decide.proofs.opened.resize.Statement.{statement}
 use Rattle.decide.proofs.opened.resize.Tie as tie
 
--- what holds at entry
-known : (c : tie.After-shared-slice-known) → let s = c .before in OpenImage (now (s .args .image)) (length (now (s .args .words)))
-known c = let s = c .before in opens (now (s .args .image)) (length (now (s .args .words))) (λ i. omega (arith, c .shared-slice-known .given i)) (s .pre .0 .passed)
-
 returns : tie.Need-returns
 returns c = search size-kept
 
 disc-end-requires : tie.Need-disc-end-requires
-disc-end-requires c κs = search needs
-
-cast-disc-end : tie.Need-cast-disc-end
-cast-disc-end c = search (end-fits, known)
+disc-end-requires c κs = search still-opens
 
 stays-requires : tie.Need-stays-requires
-stays-requires c κs = search sorted-to
+stays-requires c κs = search sorted-below
 
 resize-in-place-requires : tie.Need-resize-in-place-requires
 resize-in-place-requires c κs = search needs
@@ -51,7 +41,6 @@ resize-spec =
     (tie.spec
     returns
     disc-end-requires
-    cast-disc-end
     stays-requires
     resize-in-place-requires
     same-length

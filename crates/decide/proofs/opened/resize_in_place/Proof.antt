@@ -1,17 +1,9 @@
 -- `decide::opened::resize_in_place` meets its contract: the change that keeps the place, whose lost end lies in the old one.
 -- Assumes nothing.
 use Rattle.decide.proofs.Outcomes.{kept-in-place, resized-in-image}
-use native.Mathlib.Omega.{arith}
-use denote.Ref.{now}
-use lib.ListN.{length}
-use Rattle.opening.specs.Laws.OpeningLaws.{OpenImage, opens}
 use borrow.Author.Needs.{needs}
 use Rattle.decide.proofs.opened.resize_in_place.Statement.{statement}
 use Rattle.decide.proofs.opened.resize_in_place.Tie as tie
-
--- what holds at entry
-known : (c : tie.After-shared-slice-known) → let s = c .before in OpenImage (now (s .args .image)) (length (now (s .args .words)))
-known c = let s = c .before in opens (now (s .args .image)) (length (now (s .args .words))) (λ i. omega (arith, c .shared-slice-known .given i)) (s .pre .0 .passed)
 
 least-requires : tie.Need-least-requires
 least-requires c κs = search needs
@@ -29,7 +21,7 @@ cast-t15 : tie.Need-cast-t15
 cast-t15 c = search needs
 
 set-place-requires : tie.Need-set-place-requires
-set-place-requires c κs = search (resized-in-image, known)
+set-place-requires c κs = search resized-in-image
 
 same-length : tie.Need-same-length
 same-length c = search needs

@@ -1,17 +1,10 @@
 -- `decide::opened::rewrite` meets its contract: the tests of the table as it is, and the table written anew.
 -- Assumes nothing.
-use Rattle.decide.proofs.Outcomes.{rewrite-refused, rewrite-decided, still-opens, table-held, table-small}
-use native.Mathlib.Omega.{arith}
-use denote.Ref.{now}
-use lib.ListN.{length}
-use Rattle.opening.specs.Laws.OpeningLaws.{OpenImage, opens}
+use Rattle.decide.proofs.Outcomes.{rewrite-refused, rewrite-decided, table-held, table-small}
+use Rattle.opening.specs.Laws.OpeningLaws.{still-opens}
 use borrow.Author.Needs.{needs}
 use Rattle.decide.proofs.opened.rewrite.Statement.{statement}
 use Rattle.decide.proofs.opened.rewrite.Tie as tie
-
--- what holds at entry
-known : (c : tie.After-shared-slice-known) → let s = c .before in OpenImage (now (s .args .image)) (length (now (s .args .words)))
-known c = let s = c .before in opens (now (s .args .image)) (length (now (s .args .words))) (λ i. omega (arith, c .shared-slice-known .given i)) (s .pre .passed)
 
 check-table-requires : tie.Need-check-table-requires
 check-table-requires c κs = search needs
@@ -23,7 +16,7 @@ enum-known-found-2 : tie.Need-enum-known-found-2
 enum-known-found-2 c = search needs
 
 write-table-requires : tie.Need-write-table-requires
-write-table-requires c κs = (search still-opens, search (table-held, known), search (table-small, known))
+write-table-requires c κs = (search still-opens, search table-held, search table-small)
 
 returns : tie.Need-returns
 returns c = search rewrite-refused
@@ -32,7 +25,7 @@ same-length : tie.Need-same-length
 same-length c = search needs
 
 returns-2 : tie.Need-returns-2
-returns-2 c = search (rewrite-decided, known)
+returns-2 c = search rewrite-decided
 
 pub rewrite-spec : {M : Type 1} → statement M
 rewrite-spec =

@@ -1,17 +1,10 @@
 -- `decide::opened::set_place` meets its contract: the tree with another place passes the tests of the tree as it is, and its table is the one written anew with 8 bytes changed.
 -- Assumes nothing.
-use Rattle.decide.proofs.Outcomes.{place-held, place-refused, place-decided, still-opens, table-held, table-small}
-use native.Mathlib.Omega.{arith}
-use denote.Ref.{now}
-use lib.ListN.{length}
-use Rattle.opening.specs.Laws.OpeningLaws.{OpenImage, opens}
+use Rattle.decide.proofs.Outcomes.{place-held, place-refused, place-decided, table-held, table-small}
+use Rattle.opening.specs.Laws.OpeningLaws.{still-opens}
 use borrow.Author.Needs.{needs}
 use Rattle.decide.proofs.opened.set_place.Statement.{statement}
 use Rattle.decide.proofs.opened.set_place.Tie as tie
-
--- what holds at entry
-known : (c : tie.After-shared-slice-known) → let s = c .before in OpenImage (now (s .args .image)) (length (now (s .args .words)))
-known c = let s = c .before in opens (now (s .args .image)) (length (now (s .args .words))) (λ i. omega (arith, c .shared-slice-known .given i)) (s .pre .0 .passed)
 
 check-table-requires : tie.Need-check-table-requires
 check-table-requires c κs = search needs
@@ -23,10 +16,10 @@ enum-known-found-2 : tie.Need-enum-known-found-2
 enum-known-found-2 c = search needs
 
 write-table-requires : tie.Need-write-table-requires
-write-table-requires c κs = (search still-opens, search (table-held, known), search (table-small, known))
+write-table-requires c κs = (search still-opens, search table-held, search table-small)
 
 set-place-requires : tie.Need-set-place-requires
-set-place-requires c κs = search (place-held, known)
+set-place-requires c κs = search place-held
 
 returns : tie.Need-returns
 returns c = search place-refused
@@ -35,7 +28,7 @@ same-length : tie.Need-same-length
 same-length c = search needs
 
 returns-2 : tie.Need-returns-2
-returns-2 c = search (place-decided, known)
+returns-2 c = search place-decided
 
 pub set-place-spec : {M : Type 1} → statement M
 set-place-spec =

@@ -1,7 +1,8 @@
 -- `disc::regions::allocated` meets its contract, by the two cases of a prepared image.
 -- Assumes nothing.
-use Rattle.answers.proofs.Prepared.{ready-opened, ready-used, ready-sorted}
+use Rattle.answers.proofs.Prepared.{ready-sorted}
 use Rattle.disc.proofs.Answers.{ready-allocation, refused-allocation}
+use Rattle.opening.specs.Laws.OpeningLaws.{was-ready}
 use borrow.Author.Needs.{needs}
 use Rattle.disc.proofs.regions.allocated.Statement.{statement}
 use Rattle.disc.proofs.regions.allocated.Tie as tie
@@ -10,7 +11,7 @@ enum-known-prepared : tie.Need-enum-known-prepared
 enum-known-prepared c = search needs
 
 disc-of-requires : tie.Need-disc-of-requires
-disc-of-requires c κs = search (ready-opened, ready-used)
+disc-of-requires c κs = search was-ready
 
 allocate-requires : tie.Need-allocate-requires
 allocate-requires c κs = search ready-sorted

@@ -1,7 +1,7 @@
 -- `disc::regions::free_clusters` meets its contract: the prepared image gives the answer and the list, and the words are zeroed.
 -- Assumes nothing.
 use Rattle.disc.proofs.Answers.{listing-kept, list-kept}
-use Rattle.opening.proofs.Words.{prepares-kept, zeroed-kept}
+use Rattle.opening.proofs.Words.{zeroed-kept}
 use borrow.Author.Needs.{needs}
 use Rattle.disc.proofs.regions.free_clusters.Statement.{statement}
 use Rattle.disc.proofs.regions.free_clusters.Tie as tie
@@ -10,7 +10,7 @@ prepare-requires : tie.Need-prepare-requires
 prepare-requires c κs = search needs
 
 counted-requires : tie.Need-counted-requires
-counted-requires c κs = search prepares-kept
+counted-requires c κs = search needs
 
 zero-words-requires : tie.Need-zero-words-requires
 zero-words-requires c κs = search needs

@@ -1,7 +1,7 @@
 -- `disc::regions::free_regions` meets its contract: the prepared image gives the answer and the list, and the words are zeroed.
 -- Assumes nothing.
 use Rattle.disc.proofs.Answers.{listing-kept, list-kept}
-use Rattle.opening.proofs.Words.{prepares-kept, zeroed-kept}
+use Rattle.opening.proofs.Words.{zeroed-kept}
 use borrow.Author.Needs.{needs}
 use Rattle.disc.proofs.regions.free_regions.Statement.{statement}
 use Rattle.disc.proofs.regions.free_regions.Tie as tie
@@ -10,7 +10,7 @@ prepare-requires : tie.Need-prepare-requires
 prepare-requires c κs = search needs
 
 listed-requires : tie.Need-listed-requires
-listed-requires c κs = search prepares-kept
+listed-requires c κs = search needs
 
 zero-words-requires : tie.Need-zero-words-requires
 zero-words-requires c κs = search needs

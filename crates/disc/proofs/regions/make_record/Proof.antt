@@ -1,7 +1,7 @@
 -- `disc::regions::make_record` meets its contract: the prepared image gives the record, and the words are zeroed.
 -- Assumes nothing.
 use Rattle.disc.proofs.Answers.{record-kept}
-use Rattle.opening.proofs.Words.{prepares-kept, zeroed-kept}
+use Rattle.opening.proofs.Words.{zeroed-kept}
 use borrow.Author.Needs.{needs}
 use Rattle.disc.proofs.regions.make_record.Statement.{statement}
 use Rattle.disc.proofs.regions.make_record.Tie as tie
@@ -10,7 +10,7 @@ prepare-requires : tie.Need-prepare-requires
 prepare-requires c κs = search needs
 
 recorded-requires : tie.Need-recorded-requires
-recorded-requires c κs = search prepares-kept
+recorded-requires c κs = search needs
 
 zero-words-requires : tie.Need-zero-words-requires
 zero-words-requires c κs = search needs

@@ -1,7 +1,7 @@
 -- `disc::regions::open` meets its contract: the prepared image gives the answer, and the words are zeroed.
 -- Assumes nothing.
 use Rattle.disc.proofs.Answers.{opened-kept}
-use Rattle.opening.proofs.Words.{prepares-kept, zeroed-kept}
+use Rattle.opening.proofs.Words.{zeroed-kept}
 use borrow.Author.Needs.{needs}
 use Rattle.disc.proofs.regions.open.Statement.{statement}
 use Rattle.disc.proofs.regions.open.Tie as tie
@@ -10,7 +10,7 @@ prepare-requires : tie.Need-prepare-requires
 prepare-requires c κs = search needs
 
 opened-requires : tie.Need-opened-requires
-opened-requires c κs = search prepares-kept
+opened-requires c κs = search needs
 
 zero-words-requires : tie.Need-zero-words-requires
 zero-words-requires c κs = search needs

@@ -1,7 +1,7 @@
 -- `files::listing::entries` meets its contract: the prepared image gives the answer and the list, and the words are zeroed.
 -- Assumes nothing.
 use Rattle.files.proofs.Prepared.{entries-kept, rows-kept}
-use Rattle.opening.proofs.Words.{prepares-kept, zeroed-kept}
+use Rattle.opening.proofs.Words.{zeroed-kept}
 use borrow.Author.Needs.{needs}
 use Rattle.files.proofs.listing.entries.Statement.{statement}
 use Rattle.files.proofs.listing.entries.Tie as tie
@@ -10,7 +10,7 @@ prepare-requires : tie.Need-prepare-requires
 prepare-requires c κs = search needs
 
 entries-in-requires : tie.Need-entries-in-requires
-entries-in-requires c κs = search prepares-kept
+entries-in-requires c κs = search needs
 
 zero-words-requires : tie.Need-zero-words-requires
 zero-words-requires c κs = search needs

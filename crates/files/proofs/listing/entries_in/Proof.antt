@@ -1,7 +1,8 @@
 -- `files::listing::entries_in` meets its contract, by the cases of a prepared image and of the list's room.
 -- Assumes nothing.
 use Rattle.files.proofs.Prepared.{short-entries, ready-entries, ready-rows, refused-entries, refused-rows}
-use Rattle.answers.proofs.Prepared.{ready-opened, ready-used, ready-table, ready-table-below}
+use Rattle.answers.proofs.Prepared.{ready-opens, ready-table-below}
+use Rattle.opening.specs.Laws.OpeningLaws.{was-ready}
 use borrow.Author.Needs.{needs}
 use Rattle.files.proofs.listing.entries_in.Statement.{statement}
 use Rattle.files.proofs.listing.entries_in.Tie as tie
@@ -13,10 +14,10 @@ fst-offset-requires : tie.Need-fst-offset-requires
 fst-offset-requires c κs = search needs
 
 table-requires : tie.Need-table-requires
-table-requires c κs = search ready-opened
+table-requires c κs = search ready-opens
 
 list-entries-requires : tie.Need-list-entries-requires
-list-entries-requires c κs = (search ready-table, search ready-table-below)
+list-entries-requires c κs = (search needs, search ready-table-below)
 
 enum-known-verdict : tie.Need-enum-known-verdict
 enum-known-verdict c = search needs
@@ -31,7 +32,7 @@ enum-told : tie.Need-enum-told
 enum-told c = search needs
 
 disc-of-requires : tie.Need-disc-of-requires
-disc-of-requires c κs = search (ready-opened, ready-used)
+disc-of-requires c κs = search was-ready
 
 enum-known-prepared-2 : tie.Need-enum-known-prepared-2
 enum-known-prepared-2 c = search needs

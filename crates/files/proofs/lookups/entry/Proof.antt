@@ -1,7 +1,7 @@
 -- `files::lookups::entry` meets its contract: the prepared image gives the answer, and the words are zeroed.
 -- Assumes nothing.
 use Rattle.files.proofs.Prepared.{entry-kept}
-use Rattle.opening.proofs.Words.{prepares-kept, zeroed-kept}
+use Rattle.opening.proofs.Words.{zeroed-kept}
 use borrow.Author.Needs.{needs}
 use Rattle.files.proofs.lookups.entry.Statement.{statement}
 use Rattle.files.proofs.lookups.entry.Tie as tie
@@ -10,7 +10,7 @@ prepare-requires : tie.Need-prepare-requires
 prepare-requires c κs = search needs
 
 entry-in-requires : tie.Need-entry-in-requires
-entry-in-requires c κs = search prepares-kept
+entry-in-requires c κs = search needs
 
 zero-words-requires : tie.Need-zero-words-requires
 zero-words-requires c κs = search needs

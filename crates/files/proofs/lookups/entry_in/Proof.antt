@@ -1,7 +1,7 @@
 -- `files::lookups::entry_in` meets its contract, by the two cases of a prepared image.
 -- Assumes nothing.
 use Rattle.files.proofs.Prepared.{ready-entry, refused-entry}
-use Rattle.answers.proofs.Prepared.{ready-opened, ready-table}
+use Rattle.answers.proofs.Prepared.{ready-opens}
 use borrow.Author.Needs.{needs}
 use Rattle.files.proofs.lookups.entry_in.Statement.{statement}
 use Rattle.files.proofs.lookups.entry_in.Tie as tie
@@ -10,10 +10,10 @@ enum-told : tie.Need-enum-told
 enum-told c = search needs
 
 table-requires : tie.Need-table-requires
-table-requires c κs = search ready-opened
+table-requires c κs = search ready-opens
 
 entry-requires : tie.Need-entry-requires
-entry-requires c κs = search ready-table
+entry-requires c κs = search needs
 
 enum-known-prepared : tie.Need-enum-known-prepared
 enum-known-prepared c = search needs

@@ -1,7 +1,7 @@
 -- `files::lookups::lookup` meets its contract: the prepared image gives the answer, and the words are zeroed.
 -- Assumes nothing.
 use Rattle.files.proofs.Prepared.{lookup-kept}
-use Rattle.opening.proofs.Words.{prepares-kept, zeroed-kept}
+use Rattle.opening.proofs.Words.{zeroed-kept}
 use borrow.Author.Needs.{needs}
 use Rattle.files.proofs.lookups.lookup.Statement.{statement}
 use Rattle.files.proofs.lookups.lookup.Tie as tie
@@ -10,7 +10,7 @@ prepare-requires : tie.Need-prepare-requires
 prepare-requires c κs = search needs
 
 lookup-in-requires : tie.Need-lookup-in-requires
-lookup-in-requires c κs = search prepares-kept
+lookup-in-requires c κs = search needs
 
 zero-words-requires : tie.Need-zero-words-requires
 zero-words-requires c κs = search needs

@@ -1,7 +1,7 @@
 -- `files::lookups::lookup_in` meets its contract, by the two cases of a prepared image and the length of the path.
 -- Assumes nothing.
 use Rattle.files.proofs.Prepared.{ready-long, ready-lookup, refused-lookup}
-use Rattle.answers.proofs.Prepared.{ready-opened, ready-table}
+use Rattle.answers.proofs.Prepared.{ready-opens}
 use native.Mathlib.Omega.{arith}
 use borrow.Author.Needs.{needs}
 use Rattle.files.proofs.lookups.lookup_in.Statement.{statement}
@@ -14,10 +14,10 @@ returns : tie.Need-returns
 returns c = search ready-long
 
 table-requires : tie.Need-table-requires
-table-requires c κs = search ready-opened
+table-requires c κs = search ready-opens
 
 find-requires : tie.Need-find-requires
-find-requires c κs = (search ready-table, omega arith)
+find-requires c κs = (search needs, omega arith)
 
 enum-known-prepared : tie.Need-enum-known-prepared
 enum-known-prepared c = search needs

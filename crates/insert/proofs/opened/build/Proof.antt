@@ -1,17 +1,9 @@
 -- `insert::opened::build` meets its contract: the tree of the image stands in the bytes, or cannot, and then neither can a larger one.
 -- Assumes nothing.
 use Rattle.table_only.proofs.BuiltTable.{started-stands, started-directory, started-decided, unstarted-decided}
-use Rattle.opening.specs.Laws.OpeningLaws.{opens, OpenImage}
-use lib.ListN.{length}
-use denote.Ref.{now}
-use native.Mathlib.Omega.{arith}
 use borrow.Author.Needs.{needs}
 use Rattle.insert.proofs.opened.build.Statement.{statement}
 use Rattle.insert.proofs.opened.build.Tie as tie
-
--- what holds at entry
-known : (c : tie.After-shared-slice-known) → let s = c .before in OpenImage (now (s .args .image)) (length (now (s .args .words)))
-known c = let s = c .before in opens (now (s .args .image)) (length (now (s .args .words))) (λ i. omega (arith, c .shared-slice-known .given i)) (s .pre .0 .passed)
 
 start-table-requires : tie.Need-start-table-requires
 start-table-requires c κs = search needs
@@ -23,19 +15,19 @@ enum-known-started-2 : tie.Need-enum-known-started-2
 enum-known-started-2 c = search needs
 
 add-entry-requires : tie.Need-add-entry-requires
-add-entry-requires c κs = (search, search (started-stands, known), search (started-directory, known), search)
+add-entry-requires c κs = (search, search started-stands, search started-directory, search)
 
 same-length : tie.Need-same-length
 same-length c = search needs
 
 returns : tie.Need-returns
-returns c = search (unstarted-decided, known)
+returns c = search unstarted-decided
 
 same-length-2 : tie.Need-same-length-2
 same-length-2 c = search needs
 
 returns-2 : tie.Need-returns-2
-returns-2 c = search (started-decided, known)
+returns-2 c = search started-decided
 
 pub build-spec : {M : Type 1} → statement M
 build-spec =
