@@ -181,8 +181,14 @@ module _ (tab : List ℕ) (i : ℕ) where
 pub no-lead-yet : (tab : List ℕ) (from : ℕ) → NoLead tab from from
 no-lead-yet tab from = record { before = omega arith; none = λ i h l. absurd (omega arith) }
 
-pub no-lead-next : (tab : List ℕ) (from end : ℕ) → NoLead tab from end → leadByte (getD tab end 0) ≡ false → NoLead tab from (end + 1)
+no-lead-next : (tab : List ℕ) (from end : ℕ) → NoLead tab from end → leadByte (getD tab end 0) ≡ false → NoLead tab from (end + 1)
 no-lead-next tab from end g e = record { before = omega (arith, g .before); none = λ i h l. ⊎-elim (λ (k : i < end). g .none i h k) (λ (k : end ≤ i). let q : i ≡ end = omega arith in rw q e) (lt-or-le i end) }
+
+-- LAW: a clean byte is passed
+pub clean-next : (tab : List ℕ) (from end next : ℕ) → end < length tab → cleanByte (getD tab end 0) ≡ true → next ≡ end + 1 →
+    NoLead tab from end × (cleanFrom tab from ≡ cleanFrom tab end) → NoLead tab from next × (cleanFrom tab from ≡ cleanFrom tab next)
+clean-next tab from end next h e n g =
+    rw n (no-lead-next tab from end (g .0) (clean-no-lead (getD tab end 0) e), g .1 ∙ clean-single tab end true h (clean-no-pair tab end e) e)
 
 -- what follows a byte that is no lead byte does not start in the middle of a unit
 clean-drop : (l : List ℕ) (n : ℕ) → every cleanUnit (units l) ≡ true → leadByte (getD l n 0) ≡ false → every cleanUnit (units (drop (suc n) l)) ≡ true

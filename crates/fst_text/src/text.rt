@@ -28,11 +28,54 @@ pub fn every_unit(table: &[u8], at: usize, safe_only: bool) -> bool
     true
 }
 
+// The bytes, 16 to a line: `c` for those that are clean.
+const CHART: [u8; 256] = *b"\
+    c---------------\
+    ----------------\
+    ccccccccccccccc-\
+    cccccccccc-ccccc\
+    cccccccccccccccc\
+    cccccccccccc-ccc\
+    cccccccccccccccc\
+    ccccccccccccccc-\
+    ----------------\
+    ----------------\
+    -ccccccccccccccc\
+    cccccccccccccccc\
+    cccccccccccccccc\
+    cccccccccccccccc\
+    ----------------\
+    ----------------\
+    ";
+
+// Passes clean bytes from `from` on, two at a time. Opening has every byte of the texts passed here, so each is looked up; where it stops costs
+// only time.
+fn pass_clean(table: &[u8], from: usize) -> usize
+    ensures { λ r. ⌜ NoLead (now (table .entry)) from r × (cleanFrom (now (table .entry)) from ≡ cleanFrom (now (table .entry)) r) ⌝ }
+{
+    if table.len() == 0 {
+        return from;
+    }
+    let chart = CHART;
+    let last = table.len() - 1;
+    let mut end = from;
+    while end < last {
+        if chart[table[end] as usize] != b'c' {
+            return end;
+        }
+        if chart[table[end + 1] as usize] != b'c' {
+            return end;
+        }
+        end += 2;
+    }
+    end
+}
+
 // The first byte from `from` on that is not clean by itself, or the table's end.
 pub fn clean_end(table: &[u8], from: usize) -> usize
     ensures { λ r. ⌜ NoLead (now (table .entry)) from r × (cleanFrom (now (table .entry)) from ≡ cleanFrom (now (table .entry)) r) × ((r < length (now (table .entry))) → cleanByte (getD (now (table .entry)) r 0) ≡ false) ⌝ }
 {
-    let mut end = from;
+    let mut end = pass_clean(table, from);
     while end < table.len() {
         if units::is_clean(table[end]) {
             end += 1;

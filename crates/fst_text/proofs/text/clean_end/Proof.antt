@@ -3,10 +3,9 @@
 use native.Mathlib.Omega.{arith}
 use Prim.Native.Nat.{_-_}
 use mathlib.Core.Path.{_≡_, refl, sym, _∙_}
-use mathlib.Core.Bool.{true}
-use lib.ListN.{length, getD}
-use Rattle.fst_text.specs.Inner.Texts.{cleanByte, cleanFrom, NoLead}
-use Rattle.fst_text.proofs.Texts.{no-lead-yet, no-lead-next, clean-no-lead, clean-no-pair, clean-single}
+use lib.ListN.{length}
+use Rattle.fst_text.specs.Inner.Texts.{cleanFrom, NoLead}
+use Rattle.fst_text.proofs.Texts.{clean-next}
 use borrow.Author.Needs.{needs}
 use Rattle.fst_text.proofs.text.clean_end.Statement.{statement}
 use Rattle.fst_text.proofs.text.clean_end.Tie as tie
@@ -17,8 +16,11 @@ Inv-loop table from end₀ end = NoLead table from end × (cleanFrom table from 
 abbrev μ-loop : tie.MeasureT-loop
 μ-loop table from end₀ end = length table - end
 
+pass-clean-requires : tie.Need-pass-clean-requires Inv-loop μ-loop
+pass-clean-requires c κs = search needs
+
 loop-holds : tie.Need-loop-holds Inv-loop μ-loop
-loop-holds c = (no-lead-yet (c .before .args .table .now) (c .before .args .from), refl)
+loop-holds c = c .pass-clean .ensures
 
 shared-slice-read-is-clean : tie.Need-shared-slice-read-is-clean Inv-loop μ-loop
 shared-slice-read-is-clean c = omega arith
@@ -34,10 +36,8 @@ loop-less c = omega arith
 
 loop-again : tie.Need-loop-again Inv-loop μ-loop
 loop-again c =
-    let t = c .before .before .before .before .before .before .args .table .now in
-    let l = c .before .before .before .before .loop in
-    let e : cleanByte (getD t (l .end) 0) ≡ true = sym (c .before .is-clean .ensures) ∙ c .if1 .taken in
-    (no-lead-next t (c .before .before .before .before .before .before .args .from) (l .end) (l .inv .0) (clean-no-lead (getD t (l .end) 0) e), l .inv .1 ∙ clean-single t (l .end) true (c .before .before .before .loop-test .taken) (clean-no-pair t (l .end) e) e)
+    let l = c .before .before .before .before in
+    clean-next _ _ _ _ (c .before .before .before .loop-test .taken) (sym (c .before .is-clean .ensures) ∙ c .if1 .taken) refl (l .loop .inv)
 
 returns : tie.Need-returns Inv-loop μ-loop
 returns c =
@@ -55,6 +55,7 @@ clean-end-spec =
     (tie.spec
     Inv-loop
     μ-loop
+    pass-clean-requires
     loop-holds
     shared-slice-read-is-clean
     is-clean-requires
