@@ -5,7 +5,7 @@ ghost use Prim.Native.Nat.{_+_, _<_};
 ghost use lib.ListN.{length, getD};
 ghost use Rattle.tree.specs.Units.{units};
 ghost use Rattle.tree.specs.Table.{every, dots, safe};
-ghost use Rattle.fst_text.specs.Inner.Texts.{textAt, unitTest, cleanByte, cleanFrom, NoLead};
+ghost use Rattle.fst_text.specs.Inner.Texts.{textAt, unitTest, cleanByte, Charts, cleanFrom, NoLead};
 use crate::units;
 
 // Whether each unit of the text at `at` is safe, or each is plain.
@@ -28,7 +28,7 @@ pub fn every_unit(table: &[u8], at: usize, safe_only: bool) -> bool
     true
 }
 
-// The bytes, 16 to a line: `c` for those that are clean.
+// The bytes, 16 to a line: `c` for those that are clean. Opening has every byte of the texts passed, so each is looked up.
 const CHART: [u8; 256] = *b"\
     c---------------\
     ----------------\
@@ -48,15 +48,14 @@ const CHART: [u8; 256] = *b"\
     ----------------\
     ";
 
-// Passes clean bytes from `from` on, two at a time. Opening has every byte of the texts passed here, so each is looked up; where it stops costs
-// only time.
-fn pass_clean(table: &[u8], from: usize) -> usize
+// Passes clean bytes from `from` on, two at a time. Where it stops costs only time.
+fn pass_clean(table: &[u8], chart: &[u8; 256], from: usize) -> usize
+    requires { ⌜ Charts (now chart) ⌝ }
     ensures { λ r. ⌜ NoLead (now (table .entry)) from r × (cleanFrom (now (table .entry)) from ≡ cleanFrom (now (table .entry)) r) ⌝ }
 {
     if table.len() == 0 {
         return from;
     }
-    let chart = CHART;
     let last = table.len() - 1;
     let mut end = from;
     while end < last {
@@ -72,10 +71,11 @@ fn pass_clean(table: &[u8], from: usize) -> usize
 }
 
 // The first byte from `from` on that is not clean by itself, or the table's end.
-pub fn clean_end(table: &[u8], from: usize) -> usize
+fn clean_to(table: &[u8], chart: &[u8; 256], from: usize) -> usize
+    requires { ⌜ Charts (now chart) ⌝ }
     ensures { λ r. ⌜ NoLead (now (table .entry)) from r × (cleanFrom (now (table .entry)) from ≡ cleanFrom (now (table .entry)) r) × ((r < length (now (table .entry))) → cleanByte (getD (now (table .entry)) r 0) ≡ false) ⌝ }
 {
-    let mut end = pass_clean(table, from);
+    let mut end = pass_clean(table, chart, from);
     while end < table.len() {
         if units::is_clean(table[end]) {
             end += 1;
@@ -86,14 +86,23 @@ pub fn clean_end(table: &[u8], from: usize) -> usize
     end
 }
 
+// The same for the layers above.
+pub fn clean_end(table: &[u8], from: usize) -> usize
+    ensures { λ r. ⌜ NoLead (now (table .entry)) from r × (cleanFrom (now (table .entry)) from ≡ cleanFrom (now (table .entry)) r) × ((r < length (now (table .entry))) → cleanByte (getD (now (table .entry)) r 0) ≡ false) ⌝ }
+{
+    let chart = CHART;
+    clean_to(table, &chart, from)
+}
+
 // Whether each unit from `from` on is 0, or plain and safe: then so are those of each text that does not start inside a pair.
 pub fn clean_from(table: &[u8], from: usize) -> bool
     ensures { λ r. ⌜ r ≡ cleanFrom (now (table .entry)) from ⌝ }
 {
-    let mut i = clean_end(table, from);
+    let chart = CHART;
+    let mut i = clean_to(table, &chart, from);
     while i < table.len() {
         if units::is_pair(table, i) {
-            i = clean_end(table, i + 2);
+            i = clean_to(table, &chart, i + 2);
         } else {
             return false;
         }

@@ -26,6 +26,10 @@ unitTest false u = plainUnit u
 abbrev pub cleanByte : ℕ → Bool
 cleanByte b = eqb b 0 || (plainByte b && safeByte b)
 
+-- a chart of the bytes with `c` (99) for clean ones alone
+abbrev pub Charts : List ℕ → Type 0
+Charts chart = (b : ℕ) → b < 256 → getD chart b 0 ≡ 99 → cleanByte b ≡ true
+
 abbrev pub cleanUnit : TextUnit → Bool
 cleanUnit (single b) = cleanByte b
 cleanUnit (pair a b) = true

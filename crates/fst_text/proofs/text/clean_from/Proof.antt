@@ -6,52 +6,55 @@ use mathlib.Core.Path.{_≡_, sym, _∙_}
 use mathlib.Core.Bool.{false}
 use lib.ListN.{length, getD}
 use Rattle.fst_text.specs.Inner.Texts.{cleanByte, cleanFrom}
+use Rattle.fst_text.proofs.Chart.{chart, charts}
 use Rattle.fst_text.proofs.Texts.{clean-past, clean-pair, clean-single}
 use borrow.Author.Needs.{needs}
 use Rattle.fst_text.proofs.text.clean_from.Statement.{statement}
 use Rattle.fst_text.proofs.text.clean_from.Tie as tie
 
 abbrev Inv-loop : tie.InvT-loop
-Inv-loop table from i₀ i = (cleanFrom table from ≡ cleanFrom table i) × ((i < length table) → cleanByte (getD table i 0) ≡ false)
+Inv-loop table from chart i₀ i = (cleanFrom table from ≡ cleanFrom table i) × ((i < length table) → cleanByte (getD table i 0) ≡ false)
 
 abbrev μ-loop : tie.MeasureT-loop
-μ-loop table from i₀ i = length table - i
+μ-loop table from chart i₀ i = length table - i
 
-clean-end-requires : tie.Need-clean-end-requires Inv-loop μ-loop
-clean-end-requires c κs = search needs
+clean-to-requires : tie.Need-clean-to-requires Inv-loop μ-loop
+unfolding chart
+clean-to-requires c κs = charts
 
 loop-holds : tie.Need-loop-holds Inv-loop μ-loop
-loop-holds c = (c .clean-end .ensures .1, c .clean-end .ensures .2)
+loop-holds c = (c .clean-to .ensures .1, c .clean-to .ensures .2)
 
 is-pair-requires : tie.Need-is-pair-requires Inv-loop μ-loop
 is-pair-requires c κs = search needs
 
-add-clean-end : tie.Need-add-clean-end Inv-loop μ-loop
-add-clean-end c = omega arith
+add-clean-to : tie.Need-add-clean-to Inv-loop μ-loop
+add-clean-to c = omega arith
 
-clean-end-requires-2 : tie.Need-clean-end-requires-2 Inv-loop μ-loop
-clean-end-requires-2 c κs = search needs
+clean-to-requires-2 : tie.Need-clean-to-requires-2 Inv-loop μ-loop
+unfolding chart
+clean-to-requires-2 c κs = charts
 
 loop-less : tie.Need-loop-less Inv-loop μ-loop
-loop-less c = omega (arith, c .clean-end2 .ensures .0 .before)
+loop-less c = omega (arith, c .clean-to2 .ensures .0 .before)
 
 loop-again : tie.Need-loop-again Inv-loop μ-loop
 loop-again c =
-    let e = c .clean-end2 .ensures in
-    let l = c .before .before .before .before .loop in
-    (l .inv .0 ∙ (clean-pair (c .before .before .before .before .before .before .before .args .table .now) (l .i) (sym (c .before .before .is-pair .ensures) ∙ c .before .if1 .taken) ∙ e .1), e .2)
+    let e = c .clean-to2 .ensures in
+    let k = c .before .before .before in
+    let l = k .before .before in
+    (l .loop .inv .0 ∙ (clean-pair _ (l .loop .i) (sym (k .is-pair .ensures) ∙ c .before .before .if1 .taken) ∙ e .1), e .2)
 
 returns : tie.Need-returns Inv-loop μ-loop
 returns c =
-    let t = c .before .before .before .before .before .before .args .table .now in
     let l = c .before .before .before .loop in
     let h = c .before .before .loop-test .taken in
-    sym (l .inv .0 ∙ clean-single t (l .i) false h (sym (c .before .is-pair .ensures) ∙ c .if1 .left) (l .inv .1 h))
+    sym (l .inv .0 ∙ clean-single _ (l .i) false h (sym (c .before .is-pair .ensures) ∙ c .if1 .left) (l .inv .1 h))
 
 returns-2 : tie.Need-returns-2 Inv-loop μ-loop
 returns-2 c =
     let l = c .before .loop in
-    sym (l .inv .0 ∙ clean-past (c .before .before .before .before .args .table .now) (l .i) (c .loop-test .left))
+    sym (l .inv .0 ∙ clean-past _ (l .i) (c .loop-test .left))
 
 pub clean-from-spec : {M : Type 1} → statement M
 clean-from-spec =
@@ -59,11 +62,11 @@ clean-from-spec =
     (tie.spec
     Inv-loop
     μ-loop
-    clean-end-requires
+    clean-to-requires
     loop-holds
     is-pair-requires
-    add-clean-end
-    clean-end-requires-2
+    add-clean-to
+    clean-to-requires-2
     loop-less
     loop-again
     returns
