@@ -9,7 +9,7 @@ use borrow.Author.Tests.{eq-eqb}
 use lib.Dec.{eqb}
 use lib.ListN.{length, getD, replicate}
 use Rattle.refusal.specs.Laws.Tests.{and-left, and-right}
-use Rattle.fst_text.specs.Inner.Texts.{cleanByte, Charts}
+use Rattle.fst_text.specs.Inner.Texts.{cleanByte}
 
 -- the chart from byte b on has `c` for clean bytes alone
 abbrev charted : ℕ → List ℕ → Bool
@@ -29,6 +29,6 @@ chart =
     99 ∷ (replicate 31 45 ++ (replicate 15 99 ++ (45 ∷ (replicate 10 99 ++ (45 ∷ (replicate 33 99 ++ (45 ∷ (replicate 34 99 ++ (replicate 34 45 ++ (replicate 63 99 ++ replicate 32 45))))))))))
 
 -- LAW: it has `c` for clean bytes alone
-pub charts : Charts chart
+pub charts : (b : ℕ) → b < 256 → getD chart b 0 ≡ 99 → cleanByte b ≡ true
 unfolding chart
 charts b h e = (rw (zero-add b) at (from 0 chart refl b h)) e

@@ -15,7 +15,7 @@ use Rattle.tree.specs.Table.{every, dots, safe, plainByte, safeByte, safeUnit}
 use Rattle.tree.specs.Inner.Pairs.{pairAt}
 use Rattle.tree.specs.Laws.UnitLaws.{in-either, lead-is, trail-is, by-units, units-pair, units-single, units-none}
 use Rattle.refusal.specs.Laws.Tests.{lt-or-le, and-left, and-right, or-cases, is-false}
-use Rattle.fst_text.specs.Inner.Texts.{textAt, cleanByte, cleanUnit, cleanFrom, NoLead}
+use Rattle.fst_text.specs.Inner.Texts.{textAt, cleanByte, cleanUnit, cleanFrom, NoLead, CleanTo}
 
 pub text-end : (tab : List ℕ) (i : ℕ) → getD tab i 0 ≡ 0 → textAt tab i ≡ []
 text-end [] zero h = refl
@@ -189,6 +189,14 @@ pub clean-next : (tab : List ℕ) (from end next : ℕ) → end < length tab →
     NoLead tab from end × (cleanFrom tab from ≡ cleanFrom tab end) → NoLead tab from next × (cleanFrom tab from ≡ cleanFrom tab next)
 clean-next tab from end next h e n g =
     rw n (no-lead-next tab from end (g .0) (clean-no-lead (getD tab end 0) e), g .1 ∙ clean-single tab end true h (clean-no-pair tab end e) e)
+
+-- LAW: one stretch of clean bytes behind the other
+pub clean-twice : (tab : List ℕ) (from mid end : ℕ) → NoLead tab from mid × (cleanFrom tab from ≡ cleanFrom tab mid) → CleanTo tab mid end → CleanTo tab from end
+clean-twice tab from mid end a b = (
+  record { before = omega (arith, a .0 .before, b .0 .before); none = λ i h l. ⊎-elim (λ (k : i < mid). a .0 .none i h k) (λ (k : mid ≤ i). b .0 .none i k l) (lt-or-le i mid) },
+  a .1 ∙ b .1,
+  b .2,
+)
 
 -- what follows a byte that is no lead byte does not start in the middle of a unit
 clean-drop : (l : List ℕ) (n : ℕ) → every cleanUnit (units l) ≡ true → leadByte (getD l n 0) ≡ false → every cleanUnit (units (drop (suc n) l)) ≡ true

@@ -2,10 +2,9 @@
 ghost use mathlib.Core.Path.{_≡_};
 ghost use mathlib.Core.Bool.{false};
 ghost use Prim.Native.Nat.{_+_, _<_};
-ghost use lib.ListN.{length, getD};
 ghost use Rattle.tree.specs.Units.{units};
 ghost use Rattle.tree.specs.Table.{every, dots, safe};
-ghost use Rattle.fst_text.specs.Inner.Texts.{textAt, unitTest, cleanByte, Charts, cleanFrom, NoLead};
+ghost use Rattle.fst_text.specs.Inner.Texts.{textAt, unitTest, cleanFrom, NoLead, CleanTo};
 use crate::units;
 
 // Whether each unit of the text at `at` is safe, or each is plain.
@@ -49,13 +48,13 @@ const CHART: [u8; 256] = *b"\
     ";
 
 // Passes clean bytes from `from` on, two at a time. Where it stops costs only time.
-fn pass_clean(table: &[u8], chart: &[u8; 256], from: usize) -> usize
-    requires { ⌜ Charts (now chart) ⌝ }
+fn pass_clean(table: &[u8], from: usize) -> usize
     ensures { λ r. ⌜ NoLead (now (table .entry)) from r × (cleanFrom (now (table .entry)) from ≡ cleanFrom (now (table .entry)) r) ⌝ }
 {
     if table.len() == 0 {
         return from;
     }
+    let chart = CHART;
     let last = table.len() - 1;
     let mut end = from;
     while end < last {
@@ -71,11 +70,10 @@ fn pass_clean(table: &[u8], chart: &[u8; 256], from: usize) -> usize
 }
 
 // The first byte from `from` on that is not clean by itself, or the table's end.
-fn clean_to(table: &[u8], chart: &[u8; 256], from: usize) -> usize
-    requires { ⌜ Charts (now chart) ⌝ }
-    ensures { λ r. ⌜ NoLead (now (table .entry)) from r × (cleanFrom (now (table .entry)) from ≡ cleanFrom (now (table .entry)) r) × ((r < length (now (table .entry))) → cleanByte (getD (now (table .entry)) r 0) ≡ false) ⌝ }
+fn clean_to(table: &[u8], from: usize) -> usize
+    ensures { λ r. ⌜ CleanTo (now (table .entry)) from r ⌝ }
 {
-    let mut end = pass_clean(table, chart, from);
+    let mut end = from;
     while end < table.len() {
         if units::is_clean(table[end]) {
             end += 1;
@@ -86,23 +84,21 @@ fn clean_to(table: &[u8], chart: &[u8; 256], from: usize) -> usize
     end
 }
 
-// The same for the layers above.
+// The same where many clean bytes are to be expected: the texts of an ASCII disc have no other.
 pub fn clean_end(table: &[u8], from: usize) -> usize
-    ensures { λ r. ⌜ NoLead (now (table .entry)) from r × (cleanFrom (now (table .entry)) from ≡ cleanFrom (now (table .entry)) r) × ((r < length (now (table .entry))) → cleanByte (getD (now (table .entry)) r 0) ≡ false) ⌝ }
+    ensures { λ r. ⌜ CleanTo (now (table .entry)) from r ⌝ }
 {
-    let chart = CHART;
-    clean_to(table, &chart, from)
+    clean_to(table, pass_clean(table, from))
 }
 
 // Whether each unit from `from` on is 0, or plain and safe: then so are those of each text that does not start inside a pair.
 pub fn clean_from(table: &[u8], from: usize) -> bool
     ensures { λ r. ⌜ r ≡ cleanFrom (now (table .entry)) from ⌝ }
 {
-    let chart = CHART;
-    let mut i = clean_to(table, &chart, from);
+    let mut i = clean_to(table, from);
     while i < table.len() {
         if units::is_pair(table, i) {
-            i = clean_to(table, &chart, i + 2);
+            i = clean_to(table, i + 2);
         } else {
             return false;
         }

@@ -3,7 +3,7 @@ use Prim.Native.Nat.{ℕ, _<_, _≤_}
 use mathlib.Core.Path.{_≡_}
 use mathlib.Core.Bool.{Bool, true, false, _&&_, _||_}
 use mathlib.Core.List.{List}
-use lib.ListN.{getD, drop}
+use lib.ListN.{length, getD, drop}
 use lib.Dec.{eqb}
 use Rattle.tree.specs.Units.{leadByte, TextUnit, single, pair, units}
 use Rattle.tree.specs.Table.{every, plainByte, safeByte, plainUnit, safeUnit, upTo0}
@@ -26,10 +26,6 @@ unitTest false u = plainUnit u
 abbrev pub cleanByte : ℕ → Bool
 cleanByte b = eqb b 0 || (plainByte b && safeByte b)
 
--- a chart of the bytes with `c` (99) for clean ones alone
-abbrev pub Charts : List ℕ → Type 0
-Charts chart = (b : ℕ) → b < 256 → getD chart b 0 ≡ 99 → cleanByte b ≡ true
-
 abbrev pub cleanUnit : TextUnit → Bool
 cleanUnit (single b) = cleanByte b
 cleanUnit (pair a b) = true
@@ -42,3 +38,7 @@ cleanFrom tab from = every cleanUnit (units (drop from tab))
 pub record NoLead (tab : List ℕ) (from end : ℕ) : Type 0 where
   pub before : from ≤ end
   pub none : (i : ℕ) → from ≤ i → i < end → leadByte (getD tab i 0) ≡ false
+
+-- clean bytes from `from` up to `end`, which is the table's end or a byte that is not clean
+abbrev pub CleanTo : List ℕ → ℕ → ℕ → Type 0
+CleanTo tab from end = NoLead tab from end × (cleanFrom tab from ≡ cleanFrom tab end) × ((end < length tab) → cleanByte (getD tab end 0) ≡ false)

@@ -6,21 +6,19 @@ use mathlib.Core.Path.{_≡_, sym, _∙_}
 use mathlib.Core.Bool.{false}
 use lib.ListN.{length, getD}
 use Rattle.fst_text.specs.Inner.Texts.{cleanByte, cleanFrom}
-use Rattle.fst_text.proofs.Chart.{chart, charts}
 use Rattle.fst_text.proofs.Texts.{clean-past, clean-pair, clean-single}
 use borrow.Author.Needs.{needs}
 use Rattle.fst_text.proofs.text.clean_from.Statement.{statement}
 use Rattle.fst_text.proofs.text.clean_from.Tie as tie
 
 abbrev Inv-loop : tie.InvT-loop
-Inv-loop table from chart i₀ i = (cleanFrom table from ≡ cleanFrom table i) × ((i < length table) → cleanByte (getD table i 0) ≡ false)
+Inv-loop table from i₀ i = (cleanFrom table from ≡ cleanFrom table i) × ((i < length table) → cleanByte (getD table i 0) ≡ false)
 
 abbrev μ-loop : tie.MeasureT-loop
-μ-loop table from chart i₀ i = length table - i
+μ-loop table from i₀ i = length table - i
 
 clean-to-requires : tie.Need-clean-to-requires Inv-loop μ-loop
-unfolding chart
-clean-to-requires c κs = charts
+clean-to-requires c κs = search needs
 
 loop-holds : tie.Need-loop-holds Inv-loop μ-loop
 loop-holds c = (c .clean-to .ensures .1, c .clean-to .ensures .2)
@@ -32,8 +30,7 @@ add-clean-to : tie.Need-add-clean-to Inv-loop μ-loop
 add-clean-to c = omega arith
 
 clean-to-requires-2 : tie.Need-clean-to-requires-2 Inv-loop μ-loop
-unfolding chart
-clean-to-requires-2 c κs = charts
+clean-to-requires-2 c κs = search needs
 
 loop-less : tie.Need-loop-less Inv-loop μ-loop
 loop-less c = omega (arith, c .clean-to2 .ensures .0 .before)
@@ -41,9 +38,8 @@ loop-less c = omega (arith, c .clean-to2 .ensures .0 .before)
 loop-again : tie.Need-loop-again Inv-loop μ-loop
 loop-again c =
     let e = c .clean-to2 .ensures in
-    let k = c .before .before .before in
-    let l = k .before .before in
-    (l .loop .inv .0 ∙ (clean-pair _ (l .loop .i) (sym (k .is-pair .ensures) ∙ c .before .before .if1 .taken) ∙ e .1), e .2)
+    let l = c .before .before .before .before in
+    (l .loop .inv .0 ∙ (clean-pair _ (l .loop .i) (sym (c .before .before .is-pair .ensures) ∙ c .before .if1 .taken) ∙ e .1), e .2)
 
 returns : tie.Need-returns Inv-loop μ-loop
 returns c =

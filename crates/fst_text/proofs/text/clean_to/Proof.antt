@@ -5,22 +5,19 @@ use Prim.Native.Nat.{_-_}
 use mathlib.Core.Path.{_≡_, refl, sym, _∙_}
 use lib.ListN.{length}
 use Rattle.fst_text.specs.Inner.Texts.{cleanFrom, NoLead}
-use Rattle.fst_text.proofs.Texts.{clean-next}
+use Rattle.fst_text.proofs.Texts.{no-lead-yet, clean-next}
 use borrow.Author.Needs.{needs}
 use Rattle.fst_text.proofs.text.clean_to.Statement.{statement}
 use Rattle.fst_text.proofs.text.clean_to.Tie as tie
 
 abbrev Inv-loop : tie.InvT-loop
-Inv-loop table chart from end₀ end = NoLead table from end × (cleanFrom table from ≡ cleanFrom table end)
+Inv-loop table from end₀ end = NoLead table from end × (cleanFrom table from ≡ cleanFrom table end)
 
 abbrev μ-loop : tie.MeasureT-loop
-μ-loop table chart from end₀ end = length table - end
-
-pass-clean-requires : tie.Need-pass-clean-requires Inv-loop μ-loop
-pass-clean-requires c κs = c .before .pre
+μ-loop table from end₀ end = length table - end
 
 loop-holds : tie.Need-loop-holds Inv-loop μ-loop
-loop-holds c = c .pass-clean .ensures
+loop-holds c = (no-lead-yet (c .before .args .table .now) (c .before .args .from), refl)
 
 shared-slice-read-is-clean : tie.Need-shared-slice-read-is-clean Inv-loop μ-loop
 shared-slice-read-is-clean c = omega arith
@@ -55,7 +52,6 @@ clean-to-spec =
     (tie.spec
     Inv-loop
     μ-loop
-    pass-clean-requires
     loop-holds
     shared-slice-read-is-clean
     is-clean-requires

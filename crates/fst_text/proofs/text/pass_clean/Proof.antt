@@ -5,15 +5,16 @@ use mathlib.Core.Path.{_≡_, refl}
 use native.Mathlib.Omega.{arith}
 use lib.ListN.{length}
 use Rattle.fst_text.specs.Inner.Texts.{cleanFrom, NoLead}
+use Rattle.fst_text.proofs.Chart.{chart, charts}
 use Rattle.fst_text.proofs.Texts.{no-lead-yet, clean-next}
 use Rattle.fst_text.proofs.text.pass_clean.Statement.{statement}
 use Rattle.fst_text.proofs.text.pass_clean.Tie as tie
 
 abbrev Inv-loop : tie.InvT-loop
-Inv-loop table chart from last end₀ end = NoLead table from end × (cleanFrom table from ≡ cleanFrom table end)
+Inv-loop table from chart last end₀ end = NoLead table from end × (cleanFrom table from ≡ cleanFrom table end)
 
 abbrev μ-loop : tie.MeasureT-loop
-μ-loop table chart from last end₀ end = length table - end
+μ-loop table from chart last end₀ end = length table - end
 
 returns : tie.Need-returns Inv-loop μ-loop
 returns c = (no-lead-yet _ _, refl)
@@ -30,11 +31,11 @@ shared-slice-read-if2 c = omega arith
 cast-if2 : tie.Need-cast-if2 Inv-loop μ-loop
 cast-if2 c = omega (arith, c .shared-slice-known .given (c .before .before .loop .end))
 
-element-copy-out-if2 : tie.Need-element-copy-out-if2 Inv-loop μ-loop
-element-copy-out-if2 c = omega (arith, c .shared-slice-known .given (c .before .before .loop .end))
+array-read-if2 : tie.Need-array-read-if2 Inv-loop μ-loop
+array-read-if2 c = omega (arith, c .shared-slice-known .given (c .before .before .loop .end))
 
 returns-2 : tie.Need-returns-2 Inv-loop μ-loop
-returns-2 c = c .before .before .before .before .loop .inv
+returns-2 c = c .before .before .before .loop .inv
 
 add-if3 : tie.Need-add-if3 Inv-loop μ-loop
 add-if3 c = omega arith
@@ -43,13 +44,13 @@ shared-slice-read-if3 : tie.Need-shared-slice-read-if3 Inv-loop μ-loop
 shared-slice-read-if3 c = omega arith
 
 cast-if3 : tie.Need-cast-if3 Inv-loop μ-loop
-cast-if3 c = omega (arith, c .shared-slice-known2 .given (c .before .before .before .before .before .loop .end + 1))
+cast-if3 c = omega (arith, c .shared-slice-known2 .given (c .before .before .before .before .loop .end + 1))
 
-element-copy-out-if3 : tie.Need-element-copy-out-if3 Inv-loop μ-loop
-element-copy-out-if3 c = omega (arith, c .shared-slice-known2 .given (c .before .before .before .before .before .loop .end + 1))
+array-read-if3 : tie.Need-array-read-if3 Inv-loop μ-loop
+array-read-if3 c = omega (arith, c .shared-slice-known2 .given (c .before .before .before .before .loop .end + 1))
 
 returns-3 : tie.Need-returns-3 Inv-loop μ-loop
-returns-3 c = c .before .before .before .before .before .before .before .loop .inv
+returns-3 c = c .before .before .before .before .before .loop .inv
 
 add-end : tie.Need-add-end Inv-loop μ-loop
 add-end c = omega arith
@@ -58,13 +59,12 @@ loop-less : tie.Need-loop-less Inv-loop μ-loop
 loop-less c = omega arith
 
 loop-again : tie.Need-loop-again Inv-loop μ-loop
+unfolding chart
 loop-again c =
-    let k = c .before .before in
-    let a = k .before .before .before in
-    let l = a .before .before in
-    let charts = l .before .before .pre in
-    let first = charts _ (element-copy-out-if2 a) (k .before .if2 .left) in
-    let second = charts _ (element-copy-out-if3 k) (c .if3 .left) in
+    let k = c .before in
+    let l = k .before .before .before .before in
+    let first = charts _ (array-read-if2 (k .before .before)) (k .before .if2 .left) in
+    let second = charts _ (array-read-if3 k) (c .if3 .left) in
     clean-next _ _ (l .loop .end + 1) _ (omega arith) second (omega arith) (clean-next _ _ (l .loop .end) _ (omega arith) first refl (l .loop .inv))
 
 returns-4 : tie.Need-returns-4 Inv-loop μ-loop
@@ -81,12 +81,12 @@ pass-clean-spec =
     loop-holds
     shared-slice-read-if2
     cast-if2
-    element-copy-out-if2
+    array-read-if2
     returns-2
     add-if3
     shared-slice-read-if3
     cast-if3
-    element-copy-out-if3
+    array-read-if3
     returns-3
     add-end
     loop-less
