@@ -12,6 +12,7 @@ use Rattle.tree.specs.Laws.WrittenEntries.{length-nodeBytes, kind-is, nameOffset
 use Rattle.tree.specs.Laws.Nesting.{parent-most}
 use Rattle.tree.specs.Laws.WellNested.{root_is, entry_at}
 use Rattle.tree.specs.Inner.Patch.{records}
+use Rattle.tree.specs.Laws.OpenDirectories.{open_at}
 use Rattle.tree.specs.Laws.Records.{Twelve, drop-record, drop-records}
 
 -- what is written is a function of the entries alone: neither the texts nor the stored parents that they were read from have a part in it
@@ -155,7 +156,7 @@ good-fits c k dirs (directory nm next) h g = omega arith
 
 pub fits : (nodes : List Node) (k : ℕ) → WellFormed nodes → k < length nodes → length nodes < 2 ^ 32 → Fits32 (get_or nodes k none)
 fits nodes zero w h few = rw (root_is nodes w) few
-fits nodes (suc i) w h few = good-fits (length nodes) (suc i) _ (get_or nodes (suc i) none) few (entry_at nodes i w h).1
+fits nodes (suc i) w h few = good-fits (length nodes) (suc i) (open_at (length nodes ∷ []) 1 (tail nodes) i) (get_or nodes (suc i) none) few (entry_at nodes i w h).1
 
 pub written-fields : (nodes : List Node) (k : ℕ) → WellFormed nodes → length nodes < 2 ^ 32 → length (textsOf (tail nodes)) < 2 ^ 24 → k < length nodes →
     Fields (encode nodes) k (parent_of nodes k) (textStart nodes k) (get_or nodes k none)
