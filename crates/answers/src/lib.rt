@@ -1,4 +1,6 @@
 // What the calls on an image that opened share: their answers, and what is told of the disc and of a region.
+#![tactic(auto)]
+
 ghost use Rattle.std.specs.Prelude.{◌≡◌, length};
 ghost use Rattle.opening.specs.Opening.{opening};
 ghost use Rattle.answers.specs.Answers.{discOf, maxRegionSizeAnswer};

@@ -1,4 +1,6 @@
 // The part that every edit ends with: the new table and its place, and what is decided on carried out.
+#![tactic(auto)]
+
 mod table;
 mod written;
 

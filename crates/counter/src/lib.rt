@@ -1,5 +1,7 @@
 // The C face of Counter (host/include/counter.h): every public call as a function on numbers, slices and slots of fixed length. Each returns
 // 0 where it is accepted, and else document 01's number of the refusal; an answer goes into the slots.
+#![tactic(auto)]
+
 mod editing;
 mod headers;
 mod reading;

@@ -1,4 +1,6 @@
 // Opening an image, and every call that reads it. Each call opens the image anew, and leaves the working words zero.
+#![tactic(auto)]
+
 mod regions;
 
 use refusal::{Refusal, Verdict};

@@ -1,4 +1,6 @@
 // The disc header as a value (disc.rs): read, made and written.
+#![tactic(auto)]
+
 ghost use Rattle.std.specs.Prelude.{◌≡◌, ◌+◌, ◌≤◌, ◌<◌, length};
 ghost use Rattle.endian.specs.Bytes.{put, span};
 ghost use Rattle.disc_header.specs.Header.{headerOf, blank, headerRead, writeVerdict, headerWritten};

@@ -1,5 +1,7 @@
 // The header of a DOL executable, read from an image at an offset: 7 text and 11 data offsets, then addresses, then sizes in that order,
 // BSS address, BSS size, entry point; 0xE4 bytes. An enum cannot hold arrays, so the answer is a struct with a verdict.
+#![tactic(auto)]
+
 ghost use Rattle.std.specs.Prelude.{◌≡◌, ◌+◌, ◌*◌, ◌≤◌, ◌<◌, max, length};
 ghost use Rattle.window.specs.Window.{newWindow};
 ghost use Rattle.dol.specs.Dol.{wordsAt, largestOf, newHeader, dolHeaderOf, fileSizeOf, dolAnswerOf, dolSizeOf};

@@ -1,5 +1,7 @@
 // The edits of an image. Each opens the image, makes every test, builds the new table in the working bytes, and only then writes the image:
 // the one pipeline, with the edit's numbers and its name, path or clip.
+#![tactic(auto)]
+
 ghost use Rattle.edits.specs.Edits as edits;
 ghost use Rattle.edits.specs.Edits.{numberedAs};
 ghost use Rattle.edits.specs.Promise.{lent, onlyVerdict, Edited};

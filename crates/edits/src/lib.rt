@@ -1,1 +1,2 @@
 // What each edit does: definitions, and theorems about them. No code.
+#![tactic(auto)]

@@ -1,4 +1,6 @@
 // Fields of 1, 3 and 4 bytes, highest byte first, at an offset of a slice; and spans of bytes: copied, filled, compared.
+#![tactic(auto)]
+
 ghost use Rattle.std.specs.Prelude.{◌≡◌, [], ◌∷◌, ◌⊎◌, ◌+◌, ◌≤◌, ◌<◌, ◌^◌, min, length, get_or, replicate};
 ghost use Rattle.endian.specs.Bytes.{be24, be32, be24Bytes, be32Bytes, put, span, sameBytes};
 

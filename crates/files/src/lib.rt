@@ -1,4 +1,6 @@
 // The calls on an image's entries: by number, by path, all at once; a file's window and the size it can grow to; the executable.
+#![tactic(auto)]
+
 mod executable;
 mod listing;
 mod lookups;

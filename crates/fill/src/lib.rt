@@ -1,4 +1,6 @@
 // What a fill decides on: the file is resized to the clip, and then the clip is the file.
+#![tactic(auto)]
+
 ghost use Rattle.std.specs.Prelude.{◌≡◌, length};
 ghost use Rattle.opening.specs.Opening.{nodesIn, freeOf};
 ghost use Rattle.opening.specs.Inner.Prepared.{IsOpen};

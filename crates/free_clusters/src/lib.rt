@@ -1,4 +1,6 @@
 // The free regions counted in clusters of 0x8000 bytes, over the used regions that stand in lent words in order.
+#![tactic(auto)]
+
 ghost use Rattle.std.specs.Prelude.{◌≡◌, ◌+◌, ◌≤◌, length};
 ghost use Rattle.endian.specs.Bytes.{put};
 ghost use Rattle.space.specs.Free.{freeRegions};

@@ -1,4 +1,6 @@
 // Free regions, the largest size of a region, and allocation, over the used regions that stand in lent words in order (disc.rs).
+#![tactic(auto)]
+
 ghost use Rattle.std.specs.Prelude.{◌≡◌, true, false, ◌+◌, ◌-◌, ◌*◌, ◌≤◌, ◌<◌, length, get_or};
 ghost use Rattle.endian.specs.Bytes.{put};
 ghost use Rattle.space.specs.Used.{totalSize};

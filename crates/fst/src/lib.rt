@@ -1,4 +1,6 @@
 // The entries of an accepted file table, by number and by path (fst.rs).
+#![tactic(auto)]
+
 mod children;
 mod entries;
 mod text;

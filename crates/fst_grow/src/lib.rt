@@ -1,4 +1,6 @@
 // A written table that grows in the working bytes by one entry at a time.
+#![tactic(auto)]
+
 ghost use Rattle.std.specs.Prelude.{◌≡◌};
 ghost use Rattle.tree.specs.Table.{parent_of, limits};
 ghost use Rattle.tree.specs.Inner.WellFormed.{GoodName};

@@ -1,4 +1,6 @@
 // The size of the file table written anew: 12 for the root, and for each further entry 12, its name and one.
+#![tactic(auto)]
+
 ghost use Rattle.std.specs.Prelude.{◌≡◌, ◌+◌, ◌*◌, ◌≤◌, ◌<◌, length, drop};
 ghost use Rattle.tree.specs.Table.{upTo0, count};
 ghost use Rattle.fst_measure.specs.Inner.Valid.{Valid, nameSize};

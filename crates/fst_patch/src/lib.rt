@@ -1,4 +1,6 @@
 // A written table changed in place: the place of a file, and one entry put in. For that: the texts make room for the new name, then the records behind it move up.
+#![tactic(auto)]
+
 ghost use Rattle.std.specs.Prelude.{◌≡◌, ◌++◌, ◌+◌, ◌-◌, ◌*◌, ◌≤◌, ◌<◌, length, take};
 ghost use Rattle.endian.specs.Bytes.{put, be32Bytes};
 ghost use Rattle.tree.specs.Table.{sizeOrNext, count};

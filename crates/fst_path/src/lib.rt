@@ -1,4 +1,6 @@
 // An entry by its path (`at_descendant`).
+#![tactic(auto)]
+
 ghost use Rattle.std.specs.Prelude.{◌≡◌, [], ◌∷◌, ◌-◌, ◌≤◌, ◌<◌, ◌^◌, length, drop};
 ghost use Rattle.endian.specs.Bytes.{span};
 ghost use Rattle.tree.specs.Table as table_of;

@@ -1,4 +1,6 @@
 // One record of a written table changed in place, for an entry that is put in: before it, behind it, and its own.
+#![tactic(auto)]
+
 ghost use Rattle.std.specs.Prelude.{◌≡◌, [], ◌+◌, ◌*◌, ◌≤◌, ◌<◌, ◌^◌, length};
 ghost use Rattle.endian.specs.Bytes.{put};
 ghost use Rattle.tree.specs.Table.{nameOffset, nodeBytes};

@@ -1,5 +1,7 @@
 // The file table written anew, with no name shared: an entry that is a directory writes that directory, and a directory writes its entries.
 // The table is in preorder, so what is written is what `writeFlat` writes, entry by entry, and that is `encode` of the table's entries.
+#![tactic(auto)]
+
 ghost use Rattle.std.specs.Prelude.{◌≡◌, ◌+◌, ◌*◌, ◌≤◌, ◌<◌, ◌^◌, length};
 ghost use Rattle.endian.specs.Bytes.{put};
 ghost use Rattle.tree.specs.Table.{kind, sizeOrNext, count, nodesOf, parent_of, encode};

@@ -1,1 +1,2 @@
 // No code: what holds after any list of edits is in specs/.
+#![tactic(auto)]

@@ -2,6 +2,8 @@
 // `replay` cannot say this form; the same seeks and reads by value stand in host/replay/scripts/windows.txt, and give the same. The lines
 // of the first two windows are the Rust's answers; those of the third, a window that the Rust cannot be handed, are document 01's: current
 // with distance 0 always succeeds, and none are read past the image.
+#![tactic(auto)]
+
 use window::{SeekFrom, Sought, Window};
 
 fn number(label: &[u8], n: u64) {

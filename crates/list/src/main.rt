@@ -1,5 +1,6 @@
 // Lists the image that standard input gives, or says why not (document 01, "A small master"): what it writes is what `listing::report`
 // gives. The file `stdout` is document 01's listing of its small master.
+#![tactic(auto)]
 
 fn write(text: &[u8], size: usize) {
     if size <= text.len() {

@@ -1,4 +1,6 @@
 // The listing of an image as text (document 01, "A small master"), and what the listing program writes.
+#![tactic(auto)]
+
 ghost use Rattle.std.specs.Prelude.{◌≡◌, cond, ltb, length, replicate};
 ghost use Rattle.endian.specs.Bytes.{put};
 ghost use Rattle.opening.specs.Opening.{opening};

@@ -1,4 +1,6 @@
 // The lines of a listing written into a buffer (document 01, "A small master"), for `listing`.
+#![tactic(auto)]
+
 mod entries;
 mod lines;
 mod regions;

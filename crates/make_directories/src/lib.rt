@@ -1,5 +1,7 @@
 // Make-directories (`make_directories_from`): the troubles along the path, then the table with the directories that are missing, and only
 // then the image is written. All of them or none.
+#![tactic(auto)]
+
 mod making;
 
 ghost use Rattle.std.specs.Prelude.{◌≡◌, false, ◌<◌, ◌^◌, leb, length};

@@ -1,4 +1,6 @@
 // Opening an image: every test, and then its used regions in the lent words, for the calls and the edits above.
+#![tactic(auto)]
+
 ghost use Rattle.std.specs.Prelude.{◌≡◌, ◌+◌, ◌-◌, ◌*◌, ◌≤◌, ◌<◌, length};
 ghost use Rattle.program.specs.Program.{program_of, programVerdict, programBehind};
 ghost use Rattle.refusal.specs.declared.Verdict.TheVariants.{Passed};

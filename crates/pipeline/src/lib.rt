@@ -1,4 +1,6 @@
 // One way through every edit: opened, decided, entered in the record that is lent, carried out.
+#![tactic(auto)]
+
 ghost use Rattle.std.specs.Prelude.{◌≡◌, length};
 ghost use Rattle.opening.specs.Opening.{opening};
 ghost use Rattle.opening.specs.Inner.Prepared.{IsOpen};

@@ -1,4 +1,6 @@
 // The program that a nonzero DOL offset means, and what it takes of the space behind the table.
+#![tactic(auto)]
+
 ghost use Rattle.std.specs.Prelude.{◌≡◌, max};
 ghost use Rattle.program.specs.Program.{program_of, programVerdict, place_of, ownRegion};
 

@@ -1,4 +1,6 @@
 // Why a call refuses: document 01's 24 causes and document 02's after them, each with its number.
+#![tactic(auto)]
+
 ghost use Rattle.std.specs.Prelude.{◌≡◌};
 ghost use Rattle.refusal.specs.Refusal.{number_of, is_refused};
 

@@ -1,4 +1,6 @@
 // Cause 14: the used regions in lent words sorted where they stand, and judged.
+#![tactic(auto)]
+
 ghost use Rattle.std.specs.Prelude.{◌≡◌, ◌+◌, ◌*◌, ◌≤◌, length};
 ghost use Rattle.space.specs.Layout.{disjointBelow};
 ghost use Rattle.space.specs.Inner.Sort.{regionsIn, InOrder};

@@ -1,4 +1,6 @@
 // Edits that write the table alone: the tree of the image, from which the new table grows, and the new table judged and decided on.
+#![tactic(auto)]
+
 ghost use Rattle.std.specs.Prelude.{◌≡◌, length};
 ghost use Rattle.fst_grow.specs.Inner.Growth.{treeIn, Stands, Built};
 ghost use Rattle.opening.specs.Opening.{nodesIn};

@@ -1,4 +1,6 @@
 // Bytes and numbers written behind others, as far as the buffer goes: each function returns where its text ends.
+#![tactic(auto)]
+
 ghost use Rattle.std.specs.Prelude.{◌≡◌, [], ◌∷◌, ◌+◌, ◌<◌};
 ghost use Rattle.fst_text.specs.Inner.Texts.{textAt};
 ghost use Rattle.text_buffer.specs.Decimal as base_ten;

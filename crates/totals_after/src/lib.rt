@@ -1,4 +1,6 @@
 // The totals record after what an edit decides on: its test, which comes last, and the record that is lent moved on.
+#![tactic(auto)]
+
 ghost use Rattle.std.specs.Prelude.{◌≡◌, ◌+◌, ◌-◌, ◌≤◌};
 ghost use Rattle.header.specs.Verdicts.{fstOffset, fstSize, discEnd};
 ghost use Rattle.space.specs.Inner.Sort.{regionsIn};

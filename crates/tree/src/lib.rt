@@ -1,4 +1,6 @@
 // What the calls on a file table answer with. The table itself, as a list of entries, is in specs/.
+#![tactic(auto)]
+
 use refusal::Refusal;
 
 #[derive(Drop)]

@@ -1,5 +1,7 @@
 // A window shows a part of an image: where the part starts, how long it is, and the position in it. It goes in by value, and each
 // call gives back the moved window. `seek_lent` and `read_lent` are the same two calls on a window that the caller lends and finds moved.
+#![tactic(auto)]
+
 ghost use Rattle.std.specs.Prelude.{◌≡◌, ◌-◌, min, length};
 ghost use Rattle.window.specs.Window.{newWindow, movedBy, judged, seekOf, settled_of, count_of, movedOn, read_of, bufferOf, seekReadOf};
 
