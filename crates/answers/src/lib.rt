@@ -9,7 +9,7 @@ ghost use Rattle.opening.specs.Inner.Prepared.{IsOpen, Prepares};
 use opening::Prepared;
 use refusal::Refusal;
 
-#[derive(Drop)]
+#[derive(Clone, Copy)]
 pub struct Disc {
     pub fst_offset: u32,
     pub fst_size: u32,
@@ -18,13 +18,13 @@ pub struct Disc {
     pub used: u32,
 }
 
-#[derive(Drop)]
+#[derive(Clone, Copy)]
 pub enum Opened {
     Accepted(Disc),
     Refused(Refusal),
 }
 
-#[derive(Drop)]
+#[derive(Clone, Copy)]
 pub enum SizeAnswer {
     Bytes(u32),
     Refused(Refusal),

@@ -11,7 +11,7 @@ pub use written::{finish, verdict_of};
 
 // What a change does to the image besides the table: `kept` bytes are copied from the file's old place to the new one, and `lost_size` bytes
 // from `lost` on are zeroed.
-#[derive(Drop)]
+#[derive(Clone, Copy)]
 pub struct Writing {
     pub old: DiscRegion,
     pub place: DiscRegion,
@@ -22,7 +22,7 @@ pub struct Writing {
 
 // What an edit decides on before it writes: refused, nothing to write, nothing but the clip at that offset for that entry, or a change of
 // that entry, whose table of that size stands in the working bytes. The clip that fills a file stands beside it.
-#[derive(Drop)]
+#[derive(Clone, Copy)]
 pub enum Decision {
     Refused(Refusal),
     Nothing,

@@ -8,7 +8,7 @@ use refusal::Refusal;
 use space::DiscRegion;
 
 // A file's place, or why there is none.
-#[derive(Drop)]
+#[derive(Clone, Copy)]
 pub enum FileAt {
     Place(DiscRegion),
     Refused(Refusal),

@@ -9,20 +9,20 @@ pub use regions::{
 };
 use totals::Totals;
 
-#[derive(Drop)]
+#[derive(Clone, Copy)]
 pub struct DiscTotals {
     pub disc_end: u32,
     pub used: u32,
 }
 
-#[derive(Drop)]
+#[derive(Clone, Copy)]
 pub enum TotalsAnswer {
     Found(DiscTotals),
     Refused(Refusal),
 }
 
 // Whether a totals record is made, and the record; with a refusal zeros.
-#[derive(Drop)]
+#[derive(Clone, Copy)]
 pub struct RecordMade {
     pub verdict: Verdict,
     pub totals: Totals,

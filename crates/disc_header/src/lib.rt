@@ -10,7 +10,7 @@ ghost use Rattle.header.specs.Verdicts.{gcnMagic};
 use header::Field;
 use refusal::{Refusal, Verdict};
 
-#[derive(Drop)]
+#[derive(Clone, Copy)]
 pub struct DiscHeader {
     pub game_code: [u8; 4],
     pub maker_code: [u8; 2],
@@ -36,7 +36,7 @@ pub struct DiscHeader {
 }
 
 // What reading gives: a header, or why there is none, and then every field is 0. (An enum cannot hold an array.)
-#[derive(Drop)]
+#[derive(Clone, Copy)]
 pub struct HeaderRead {
     pub verdict: Verdict,
     pub header: DiscHeader,

@@ -11,7 +11,7 @@ use endian::wide;
 use refusal::{Refusal, Verdict};
 use window::Window;
 
-#[derive(Drop)]
+#[derive(Clone, Copy)]
 pub struct DolHeader {
     pub text_offsets: [u32; 7],
     pub data_offsets: [u32; 11],
@@ -24,14 +24,14 @@ pub struct DolHeader {
     pub entry_point: u32,
 }
 
-#[derive(Drop)]
+#[derive(Clone, Copy)]
 pub struct DolAnswer {
     pub verdict: Verdict,
     pub header: DolHeader,
     pub size: u32,
 }
 
-#[derive(Drop)]
+#[derive(Clone, Copy)]
 pub enum DolSize {
     Bytes(u32),
     Refused(Refusal),

@@ -12,14 +12,14 @@ pub use lookups::{entry, lookup, max_file_size, open_file};
 use refusal::{Refusal, Verdict};
 use window::Window;
 
-#[derive(Drop)]
+#[derive(Clone, Copy)]
 pub enum WindowAnswer {
     Opened(Window),
     Refused(Refusal),
 }
 
 // The executable: its header, and the window that shows it.
-#[derive(Drop)]
+#[derive(Clone, Copy)]
 pub struct DolFile {
     pub verdict: Verdict,
     pub header: DolHeader,

@@ -15,7 +15,7 @@ use refusal::Refusal;
 use space::DiscRegion;
 
 // A region in clusters: the bytes before its first multiple of 0x8000, the whole clusters from there on, and the rest.
-#[derive(Drop)]
+#[derive(Clone, Copy)]
 struct Clusters {
     before: u32,
     clusters: u32,

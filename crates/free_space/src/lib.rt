@@ -16,14 +16,14 @@ use refusal::Refusal;
 use space::DiscRegion;
 
 // The region that an allocation found, or why there is none.
-#[derive(Drop)]
+#[derive(Clone, Copy)]
 pub enum Allocation {
     Found(DiscRegion),
     Refused(Refusal),
 }
 
 // How many regions were listed, or why none was.
-#[derive(Drop)]
+#[derive(Clone, Copy)]
 pub enum Listing {
     Listed(usize),
     Refused(Refusal),

@@ -13,14 +13,14 @@ use refusal::Refusal;
 pub const TEXTS_LIMIT: usize = 1048576;
 
 // The size of the table written anew, or that its texts pass the limit.
-#[derive(Drop)]
+#[derive(Clone, Copy)]
 pub enum Measured {
     Size(usize),
     PastLimit,
 }
 
 // The size of a new table, or why it cannot be written.
-#[derive(Drop)]
+#[derive(Clone, Copy)]
 pub enum TableSize {
     Bytes(usize),
     Refused(Refusal),

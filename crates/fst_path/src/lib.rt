@@ -14,7 +14,7 @@ use refusal::Refusal;
 use tree::{Found, Located};
 
 // Where a component of a path leads: an entry, and how many named steps it is from the start.
-#[derive(Drop)]
+#[derive(Clone, Copy)]
 pub enum Step {
     To(usize, usize),
     Refused(Refusal),

@@ -15,7 +15,7 @@ pub const GCN_MAGIC: u32 = 0xC2339F3D;
 pub const WII_MAGIC: u32 = 0x5D1C9EA3;
 
 // The place of a field: its offset, and how many bytes it has.
-#[derive(Drop)]
+#[derive(Clone, Copy)]
 pub struct Field {
     pub at: usize,
     pub len: usize,

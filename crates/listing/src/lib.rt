@@ -14,7 +14,7 @@ use opening::Prepared;
 use refusal::Refusal;
 
 // The length of the text, or why there is none.
-#[derive(Drop)]
+#[derive(Clone, Copy)]
 pub enum Listed {
     Text(usize),
     Refused(Refusal),

@@ -14,7 +14,7 @@ use refusal::Refusal;
 use tree::Located;
 
 // Where a component leads: an entry, and the size of the table then.
-#[derive(Drop)]
+#[derive(Clone, Copy)]
 pub enum Reached {
     At(usize, usize),
     Refused(Refusal),

@@ -18,7 +18,7 @@ use tree::Located;
 
 // Where a component leads: an entry of the tree as it is, the number of new directories below it, and whether a new name has a unit that
 // no name may have.
-#[derive(Drop)]
+#[derive(Clone, Copy)]
 pub enum Step {
     To(usize, usize, bool),
     Refused(Refusal),

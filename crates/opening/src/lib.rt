@@ -14,7 +14,7 @@ use refusal::{Refusal, Verdict};
 use space::DiscRegion;
 
 // The used regions of an image that opened stand in the working words: how many there are.
-#[derive(Drop)]
+#[derive(Clone, Copy)]
 pub enum Prepared {
     Ready(usize),
     Refused(Refusal),

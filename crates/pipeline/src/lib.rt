@@ -17,7 +17,7 @@ use totals::Record;
 use tree::Located;
 
 // An edit with its numbers; its name, path or clip stands beside it.
-#[derive(Drop)]
+#[derive(Clone, Copy)]
 pub enum Edit {
     Rewrite,
     MoveFile(u32, u32),

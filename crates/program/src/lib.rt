@@ -8,7 +8,7 @@ use dol::DolSize;
 use refusal::{Refusal, Verdict};
 use space::DiscRegion;
 
-#[derive(Drop)]
+#[derive(Clone, Copy)]
 pub enum Program {
     At(DiscRegion),
     None,

@@ -4,7 +4,7 @@
 ghost use Rattle.std.specs.Prelude.{◌≡◌};
 ghost use Rattle.refusal.specs.Refusal.{number_of, is_refused};
 
-#[derive(Drop)]
+#[derive(Clone, Copy)]
 pub enum Refusal {
     HeaderPastImage,
     WiiNotSupported,
@@ -71,7 +71,7 @@ impl Refusal {
 }
 
 // The answer of a test that gives no value.
-#[derive(Drop)]
+#[derive(Clone, Copy)]
 pub enum Verdict {
     Passed,
     Refused(Refusal),

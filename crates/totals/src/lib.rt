@@ -12,7 +12,7 @@ use refusal::{Refusal, Verdict};
 use space::DiscRegion;
 
 // Used bytes, the largest free region's size, and the number of accepted edits.
-#[derive(Drop)]
+#[derive(Clone, Copy)]
 pub struct Totals {
     pub used: u32,
     pub largest: u32,

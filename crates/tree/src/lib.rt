@@ -3,34 +3,34 @@
 
 use refusal::Refusal;
 
-#[derive(Drop)]
+#[derive(Clone, Copy)]
 pub struct FileEntry {
     pub offset: u32,
     pub size: u32,
 }
 
 // The directory that this one is nested in, and the number of the entry after its last one.
-#[derive(Drop)]
+#[derive(Clone, Copy)]
 pub struct DirectoryEntry {
     pub parent: u32,
     pub next: u32,
 }
 
-#[derive(Drop)]
+#[derive(Clone, Copy)]
 pub enum Entry {
     File(FileEntry),
     Directory(DirectoryEntry),
 }
 
 // The answer of a call that looks for an entry: its number and the entry.
-#[derive(Drop)]
+#[derive(Clone, Copy)]
 pub enum Found {
     At(u32, Entry),
     Refused(Refusal),
 }
 
 // The number of an entry alone.
-#[derive(Drop)]
+#[derive(Clone, Copy)]
 pub enum Located {
     At(u32),
     Refused(Refusal),

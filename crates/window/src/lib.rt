@@ -7,27 +7,27 @@ ghost use Rattle.window.specs.Window.{newWindow, movedBy, judged, seekOf, settle
 
 use refusal::Refusal;
 
-#[derive(Drop)]
+#[derive(Clone, Copy)]
 pub struct Window {
     pub start: u64,
     pub len: u64,
     pub position: u64,
 }
 
-#[derive(Drop)]
+#[derive(Clone, Copy)]
 pub enum SeekFrom {
     Start(u64),
     Current(i64),
     End(i64),
 }
 
-#[derive(Drop)]
+#[derive(Clone, Copy)]
 pub enum Sought {
     At(Window),
     Refused(Refusal),
 }
 
-#[derive(Drop)]
+#[derive(Clone, Copy)]
 pub struct BytesRead {
     pub count: usize,
     pub window: Window,
@@ -160,7 +160,7 @@ pub fn read_lent(w: &mut Window, image: &[u8], buf: &mut [u8]) -> usize
     r.count
 }
 
-#[derive(Drop)]
+#[derive(Clone, Copy)]
 pub struct SoughtAndRead {
     pub sought: Sought,
     pub read: BytesRead,
