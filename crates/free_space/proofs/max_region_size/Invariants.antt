@@ -1,0 +1,12 @@
+-- `free_space::max_region_size` meets its contract: the search over the gaps that are left gives what the search over all free regions gives.
+use Prim.Native.Nat.{◌+◌, ◌-◌}
+use mathlib.Core.Path.{◌∙◌}
+use native.Mathlib.Omega.{arith}
+use Rattle.free_space.proofs.Choice.{Grown, grown-start, grown-end, grown-skip, grown-go, grown-stop}
+use Rattle.free_space.proofs.max_region_size.Given as goal
+
+abbrev pub invariant-loop-i : goal.invariant-loop-i
+invariant-loop-i l = Grown l.words l.count l.disc-end l.offset l.size l.prev l.i
+
+abbrev pub decreases-loop-i : goal.decreases-loop-i
+decreases-loop-i l = l.count + 1 - l.i

@@ -1,0 +1,52 @@
+-- `header::bounds` meets its contract: each way out is the definition with the tests that led there.
+use Prim.Native.Nat.{◌<◌, ◌≤◌, ◌-◌, ◌^◌}
+use native.Mathlib.Omega.{arith}
+use borrow.Author.Tests.{le-ltb, lt-ltb}
+use lib.ListN.{length}
+use Rattle.header.specs.Verdicts.{fstOffset, discEnd, table_end, boundsVerdict}
+use borrow.Author.Rules.{rules}
+use Rattle.header.proofs.bounds.Goals as goal
+
+pub returns-then-fst_offset-lt1088 : goal.returns-then-fst_offset-lt1088
+unfolding boundsVerdict
+returns-then-fst_offset-lt1088 c =
+    let i = c.args.image.now in
+    let f : fstOffset i < 0x440 = omega arith in
+    rw (lt-ltb (fstOffset i) 0x440 f)
+
+pub returns-then-end-gt4294967295 : goal.returns-then-end-gt4294967295
+unfolding boundsVerdict
+returns-then-end-gt4294967295 c =
+    let i = c.args.image.now in
+    let f : 0x440 ≤ fstOffset i = omega arith in
+    let d : 2 ^ 32 - 1 < discEnd i = omega arith in
+    rw (le-ltb (fstOffset i) 0x440 f, lt-ltb (2 ^ 32 - 1) (discEnd i) d)
+
+pub returns-then-end-table_end : goal.returns-then-end-table_end
+unfolding boundsVerdict
+returns-then-end-table_end c =
+    let i = c.args.image.now in
+    let f : 0x440 ≤ fstOffset i = omega arith in
+    let d : discEnd i ≤ 2 ^ 32 - 1 = omega arith in
+    let t : discEnd i < table_end i = omega arith in
+    rw (le-ltb (fstOffset i) 0x440 f, le-ltb (2 ^ 32 - 1) (discEnd i) d, lt-ltb (discEnd i) (table_end i) t)
+
+pub returns-then-image-end : goal.returns-then-image-end
+unfolding boundsVerdict
+returns-then-image-end c =
+    let i = c.args.image.now in
+    let f : 0x440 ≤ fstOffset i = omega arith in
+    let d : discEnd i ≤ 2 ^ 32 - 1 = omega arith in
+    let t : table_end i ≤ discEnd i = omega arith in
+    let l : length i < discEnd i = omega arith in
+    rw (le-ltb (fstOffset i) 0x440 f, le-ltb (2 ^ 32 - 1) (discEnd i) d, le-ltb (discEnd i) (table_end i) t, lt-ltb (length i) (discEnd i) l)
+
+pub returns : goal.returns
+unfolding boundsVerdict
+returns c =
+    let i = c.args.image.now in
+    let f : 0x440 ≤ fstOffset i = omega arith in
+    let d : discEnd i ≤ 2 ^ 32 - 1 = omega arith in
+    let t : table_end i ≤ discEnd i = omega arith in
+    let l : discEnd i ≤ length i = omega arith in
+    rw (le-ltb (fstOffset i) 0x440 f, le-ltb (2 ^ 32 - 1) (discEnd i) d, le-ltb (discEnd i) (table_end i) t, le-ltb (length i) (discEnd i) l)

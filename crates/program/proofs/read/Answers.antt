@@ -1,0 +1,13 @@
+-- `program::read` meets its contract: by the DOL offset, then by the file size that its header says. Assumes nothing.
+use Rattle.program.proofs.Reading.{no_program, a_program, no_header}
+use borrow.Author.Rules.{rules}
+use Rattle.program.proofs.read.Goals as goal
+
+pub returns-then-at-eq0 : goal.returns-then-at-eq0
+returns-then-at-eq0 c = search no_program
+
+pub returns-in-Bytes : goal.returns-in-Bytes
+returns-in-Bytes c = search a_program
+
+pub returns-in-Refused : goal.returns-in-Refused
+returns-in-Refused c = search no_header

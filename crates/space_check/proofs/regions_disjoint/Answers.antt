@@ -1,0 +1,37 @@
+-- `space_check::regions_disjoint` meets its contract: sorted regions are disjoint and below the disc end exactly if each starts where the one before ends or later.
+use Prim.Native.Nat.{◌-◌, ◌+◌, ◌*◌}
+use native.Mathlib.Omega.{arith}
+use mathlib.Core.Path.{◌≡◌}
+use lib.ListN.{get_or}
+use Rattle.space_check.proofs.Sweep.{Swept, sweep-start, sweep-stop, sweep-go, sweep-end, answers}
+use Rattle.space_check.proofs.regions_disjoint.Goals as goal
+
+pub loop-k-init : goal.loop-k-init
+loop-k-init c = sweep-start _ _ _
+
+pub wide-offset-requires : goal.wide-offset-requires
+wide-offset-requires c = tt
+
+pub wide-size-requires : goal.wide-size-requires
+wide-size-requires c = tt
+
+pub returns-then-offset-at : goal.returns-then-offset-at
+returns-then-offset-at c =
+    let p = c.requires in
+    let w = c.args.words.now in
+    let k = c.loop-k.k in
+    let e : c.wide-offset.result ≡ get_or w (2 * k) 0 = c.wide-offset.ensures.0 in
+    answers _ _ _ _ (λ i. omega (arith, c.type_inv.TABLE i)) p.1 p.2 (sweep-stop _ _ _ _ _ c.loop-k.invariant c.loop-k-test.true (omega arith))
+
+pub loop-k-preserved : goal.loop-k-preserved
+loop-k-preserved c =
+    let w = c.args.words.now in
+    let k = c.loop-k.k in
+    rw (c.wide-offset.ensures.0, c.wide-size.ensures.0)
+    (sweep-go _ _ _ _ _ c.loop-k.invariant c.loop-k-test.true (omega arith)
+    (omega (arith, c.type_inv.TABLE (2 * k))) (omega (arith, c.type_inv.TABLE (2 * k + 1))))
+
+pub returns : goal.returns
+returns c =
+    let p = c.requires in
+    answers _ _ _ _ (λ i. omega (arith, c.type_inv.TABLE i)) p.1 p.2 (sweep-end _ _ _ _ _ c.loop-k.invariant c.loop-k-test.false)

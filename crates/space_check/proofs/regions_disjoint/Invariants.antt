@@ -1,0 +1,13 @@
+-- `space_check::regions_disjoint` meets its contract: sorted regions are disjoint and below the disc end exactly if each starts where the one before ends or later.
+use Prim.Native.Nat.{◌-◌, ◌+◌, ◌*◌}
+use native.Mathlib.Omega.{arith}
+use mathlib.Core.Path.{◌≡◌}
+use lib.ListN.{get_or}
+use Rattle.space_check.proofs.Sweep.{Swept, sweep-start, sweep-stop, sweep-go, sweep-end, answers}
+use Rattle.space_check.proofs.regions_disjoint.Given as goal
+
+abbrev pub invariant-loop-k : goal.invariant-loop-k
+invariant-loop-k l = Swept l.words l.count l.disc-end l.at l.k
+
+abbrev pub decreases-loop-k : goal.decreases-loop-k
+decreases-loop-k l = l.count - l.k
