@@ -91,7 +91,7 @@ without-one old a e (x ∷ xs) i f c h = ⊎_elim here (λ q. later q (without-o
     here : x ≡ old → usesByte (without old.offset (x ∷ xs)) i ≡ (usesByte (x ∷ xs) i && not (inside old i))
     here q =
         let o : x.offset ≡ old.offset = ap (λ (y : DiscRegion). y.offset) q in
-        rw (← q, eq-eqb x.offset x.offset refl, without-none x.offset (end_of x) e xs next (omega (arith, f.0))) (go (inside x i) refl)
+        rw (eq-eqb x.offset old.offset o, without-none old.offset (end_of x) e xs next (omega (arith, f.0)), ← q) (go (inside x i) refl)
       where
         go : (t : Bool) → inside x i ≡ t → usesByte xs i ≡ ((t || usesByte xs i) && not t)
         go true u = rw (without-none x.offset (end_of x) e xs next (omega (arith, f.0))) at (without-low x.offset (end_of x) e xs i next (inside-to x i u))
