@@ -21,7 +21,7 @@ returns-then-offset-at c =
     let w = c.args.words.now in
     let k = c.loop-k.k in
     let e : c.wide-offset.result ≡ get_or w (2 * k) 0 = c.wide-offset.ensures.0 in
-    answers _ _ _ _ (λ i. omega (arith, c.type_inv.TABLE i)) p.1 p.2 (sweep-stop _ _ _ _ _ c.loop-k.invariant c.loop-k-test.true (omega arith))
+    answers _ _ _ _ (λ i. omega (arith, c.type_inv.words i)) p.1 p.2 (sweep-stop _ _ _ _ _ c.loop-k.invariant c.loop-k-test.true (omega arith))
 
 pub loop-k-preserved : goal.loop-k-preserved
 loop-k-preserved c =
@@ -29,9 +29,9 @@ loop-k-preserved c =
     let k = c.loop-k.k in
     rw (c.wide-offset.ensures.0, c.wide-size.ensures.0)
     (sweep-go _ _ _ _ _ c.loop-k.invariant c.loop-k-test.true (omega arith)
-    (omega (arith, c.type_inv.TABLE (2 * k))) (omega (arith, c.type_inv.TABLE (2 * k + 1))))
+    (omega (arith, c.type_inv.words (2 * k))) (omega (arith, c.type_inv.words (2 * k + 1))))
 
 pub returns : goal.returns
 returns c =
     let p = c.requires in
-    answers _ _ _ _ (λ i. omega (arith, c.type_inv.TABLE i)) p.1 p.2 (sweep-end _ _ _ _ _ c.loop-k.invariant c.loop-k-test.false)
+    answers _ _ _ _ (λ i. omega (arith, c.type_inv.words i)) p.1 p.2 (sweep-end _ _ _ _ _ c.loop-k.invariant c.loop-k-test.false)
