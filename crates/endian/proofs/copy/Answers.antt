@@ -1,9 +1,7 @@
 -- `endian::copy` meets its contract. The invariant of its loop: the first i bytes of the span are put.
 use mathlib.Core.Path.{◌≡◌, refl, sym}
-use Prim.Native.Nat.{◌-◌, ◌≤◌}
 use native.Mathlib.Omega.{arith}
-use lib.ListN.{length, length-set}
-use Rattle.endian.specs.Bytes.{put, span}
+use lib.ListN.{length-set}
 use Rattle.endian.specs.Laws.Stored.{put-none}
 use Rattle.endian.proofs.Turns.{copy-turn}
 use Rattle.endian.proofs.copy.Goals as goal

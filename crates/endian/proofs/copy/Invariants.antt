@@ -1,11 +1,8 @@
 -- `endian::copy` meets its contract. The invariant of its loop: the first i bytes of the span are put.
-use mathlib.Core.Path.{◌≡◌, refl, sym}
+use mathlib.Core.Path.{◌≡◌}
 use Prim.Native.Nat.{◌-◌, ◌≤◌}
-use native.Mathlib.Omega.{arith}
-use lib.ListN.{length, length-set}
+use lib.ListN.{length}
 use Rattle.endian.specs.Bytes.{put, span}
-use Rattle.endian.specs.Laws.Stored.{put-none}
-use Rattle.endian.proofs.Turns.{copy-turn}
 use Rattle.endian.proofs.copy.Given as goal
 
 abbrev pub invariant-loop-i : goal.invariant-loop-i

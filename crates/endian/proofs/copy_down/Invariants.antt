@@ -1,12 +1,8 @@
 -- `endian::copy_down` meets its contract. The invariant of its loop: the first i bytes of the span are put.
-use mathlib.Core.Path.{◌≡◌, refl, sym}
-use Prim.Native.Nat.{◌+◌, ◌-◌, ◌≤◌}
-use native.Mathlib.Omega.{arith}
+use mathlib.Core.Path.{◌≡◌}
+use Prim.Native.Nat.{◌-◌, ◌≤◌}
 use lib.ListN.{length}
-use borrow.Author.Rules.{rules}
 use Rattle.endian.specs.Bytes.{put, span}
-use Rattle.endian.specs.Laws.Stored.{put-none}
-use Rattle.endian.proofs.Parts.{put-length, down-part}
 use Rattle.endian.proofs.copy_down.Given as goal
 
 abbrev pub invariant-loop-i : goal.invariant-loop-i

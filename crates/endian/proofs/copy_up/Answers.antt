@@ -1,10 +1,7 @@
 -- `endian::copy_up` meets its contract. The invariant of its loop: all but the first `left` bytes of the span are put.
 use mathlib.Core.Path.{◌≡◌, refl}
-use Prim.Native.Nat.{◌+◌, ◌-◌, ◌≤◌}
+use Prim.Native.Nat.{◌-◌, ◌≤◌}
 use native.Mathlib.Omega.{arith}
-use lib.ListN.{length}
-use borrow.Author.Rules.{rules}
-use Rattle.endian.specs.Bytes.{put, span}
 use Rattle.endian.proofs.Turns.{up_start, up-end}
 use Rattle.endian.proofs.Parts.{put-from-length, up-part}
 use Rattle.endian.proofs.copy_up.Goals as goal

@@ -1,7 +1,6 @@
 -- `endian::copy_within` meets its contract: the bytes go down, or the spans are apart, or the bytes go up.
 use mathlib.Core.Logic.{inl, inr}
 use native.Mathlib.Omega.{arith}
-use borrow.Author.Rules.{rules}
 use Rattle.endian.proofs.copy_within.Goals as goal
 
 pub copy_down-requires : goal.copy_down-requires

@@ -1,9 +1,7 @@
 -- `endian::fill` meets its contract. The invariant of its loop: i bytes are put.
 use mathlib.Core.Path.{◌≡◌, refl, sym}
-use Prim.Native.Nat.{◌-◌, ◌≤◌}
 use native.Mathlib.Omega.{arith}
-use lib.ListN.{length, length-set, replicate}
-use Rattle.endian.specs.Bytes.{put}
+use lib.ListN.{length-set}
 use Rattle.endian.specs.Laws.Stored.{put-none}
 use Rattle.endian.proofs.Turns.{fill-turn}
 use Rattle.endian.proofs.fill.Goals as goal

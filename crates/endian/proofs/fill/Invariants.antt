@@ -1,11 +1,8 @@
 -- `endian::fill` meets its contract. The invariant of its loop: i bytes are put.
-use mathlib.Core.Path.{◌≡◌, refl, sym}
+use mathlib.Core.Path.{◌≡◌}
 use Prim.Native.Nat.{◌-◌, ◌≤◌}
-use native.Mathlib.Omega.{arith}
-use lib.ListN.{length, length-set, replicate}
+use lib.ListN.{length, replicate}
 use Rattle.endian.specs.Bytes.{put}
-use Rattle.endian.specs.Laws.Stored.{put-none}
-use Rattle.endian.proofs.Turns.{fill-turn}
 use Rattle.endian.proofs.fill.Given as goal
 
 abbrev pub invariant-loop-i : goal.invariant-loop-i

@@ -1,7 +1,6 @@
 -- `endian::read_u32` meets its contract: three bytes by `read_u24`, and one more.
 use native.Mathlib.Omega.{arith}
 use Rattle.endian.specs.Bytes.{be24, be32}
-use borrow.Author.Rules.{rules}
 use Rattle.endian.proofs.read_u32.Goals as goal
 
 pub returns : goal.returns

@@ -1,8 +1,6 @@
 -- `endian::same` meets its contract. The invariant of its loop: what is left of both spans decides.
-use Prim.Native.Nat.{◌+◌, ◌-◌, ◌≤◌}
-use mathlib.Core.Path.{◌≡◌, sym, ◌∙◌}
+use mathlib.Core.Path.{sym, ◌∙◌}
 use native.Mathlib.Omega.{arith}
-use Rattle.endian.specs.Bytes.{span, sameBytes}
 use Rattle.endian.proofs.Turns.{same_start}
 use Rattle.endian.proofs.Blocks.{same-part}
 use Rattle.endian.proofs.same.Goals as goal

@@ -1,10 +1,7 @@
 -- `endian::same` meets its contract. The invariant of its loop: what is left of both spans decides.
 use Prim.Native.Nat.{◌+◌, ◌-◌, ◌≤◌}
-use mathlib.Core.Path.{◌≡◌, sym, ◌∙◌}
-use native.Mathlib.Omega.{arith}
+use mathlib.Core.Path.{◌≡◌}
 use Rattle.endian.specs.Bytes.{span, sameBytes}
-use Rattle.endian.proofs.Turns.{same_start}
-use Rattle.endian.proofs.Blocks.{same-part}
 use Rattle.endian.proofs.same.Given as goal
 
 abbrev pub invariant-loop-i : goal.invariant-loop-i

@@ -1,14 +1,12 @@
 -- `endian::same_block` meets its contract. The invariant of its loop: whether none differed so far, and what is left of both spans, decide.
-use Prim.Native.Nat.{◌+◌, ◌-◌, ◌≤◌}
-use mathlib.Core.Path.{◌≡◌, sym, ap, ◌∙◌}
-use mathlib.Core.Logic.{⊎_elim}
+use mathlib.Core.Path.{sym, ap, ◌∙◌}
 use mathlib.Core.Bool.{Bool, ◌&&◌}
 use native.Mathlib.Omega.{arith}
 use borrow.Author.Tests.{eq-eqb, ne_eqb}
-use Rattle.endian.specs.Bytes.{span, sameBytes}
 use Rattle.endian.proofs.Turns.{same_start, same_end}
 use Rattle.endian.proofs.Blocks.{same-on, same-off, and-true}
 use Rattle.endian.proofs.same_block.Goals as goal
+use Rattle.endian.proofs.same_block.Goals.{then-a-at, else-a-at}
 
 pub loop-i-init : goal.loop-i-init
 loop-i-init c = (omega arith, same_start c.args.a.now c.args.b.now c.args.at c.args.start 1024)
@@ -21,10 +19,10 @@ loop-i-preserved c =
     let B = a.b.now in (
       omega arith,
       l.invariant.1
-          ∙ ⊎_elim
-          (λ t. rw t.1 (same-off A B a.at a.start l.i 1024 (omega arith) (omega arith) l.same (omega arith) (ne_eqb _ _ t.0.taken)))
-          (λ t. rw t.1 (same-on A B a.at a.start l.i 1024 (omega arith) (omega arith) l.same (omega arith) (eq-eqb _ _ t.0.left)))
-          c.if-a-at.branch,
+          ∙ elim c.if-a-at.branch [
+            | then-a-at w ↦ rw w.same-is (same-off A B a.at a.start l.i 1024 (omega arith) (omega arith) l.same (omega arith) (ne_eqb _ _ w.if-a-at.true))
+            | else-a-at w ↦ rw w.same-is (same-on A B a.at a.start l.i 1024 (omega arith) (omega arith) l.same (omega arith) (eq-eqb _ _ w.if-a-at.false))
+          ],
     )
 
 pub returns : goal.returns

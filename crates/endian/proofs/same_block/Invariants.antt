@@ -1,13 +1,8 @@
 -- `endian::same_block` meets its contract. The invariant of its loop: whether none differed so far, and what is left of both spans, decide.
 use Prim.Native.Nat.{◌+◌, ◌-◌, ◌≤◌}
-use mathlib.Core.Path.{◌≡◌, sym, ap, ◌∙◌}
-use mathlib.Core.Logic.{⊎_elim}
-use mathlib.Core.Bool.{Bool, ◌&&◌}
-use native.Mathlib.Omega.{arith}
-use borrow.Author.Tests.{eq-eqb, ne_eqb}
+use mathlib.Core.Path.{◌≡◌}
+use mathlib.Core.Bool.{◌&&◌}
 use Rattle.endian.specs.Bytes.{span, sameBytes}
-use Rattle.endian.proofs.Turns.{same_start, same_end}
-use Rattle.endian.proofs.Blocks.{same-on, same-off, and-true}
 use Rattle.endian.proofs.same_block.Given as goal
 
 abbrev pub invariant-loop-i : goal.invariant-loop-i

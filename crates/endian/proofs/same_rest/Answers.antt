@@ -1,8 +1,6 @@
 -- `endian::same_rest` meets its contract. The invariant of its loop: what is left of both spans decides.
-use mathlib.Core.Path.{◌≡◌, sym, ◌∙◌}
-use Prim.Native.Nat.{◌+◌, ◌-◌, ◌≤◌}
+use mathlib.Core.Path.{sym, ◌∙◌}
 use native.Mathlib.Omega.{arith}
-use Rattle.endian.specs.Bytes.{span, sameBytes}
 use borrow.Author.Tests.{eq-eqb, ne_eqb}
 use Rattle.endian.proofs.Turns.{same_start, same_turn, same_end}
 use Rattle.endian.proofs.same_rest.Goals as goal

@@ -1,10 +1,7 @@
 -- `endian::same_rest` meets its contract. The invariant of its loop: what is left of both spans decides.
-use mathlib.Core.Path.{◌≡◌, sym, ◌∙◌}
+use mathlib.Core.Path.{◌≡◌}
 use Prim.Native.Nat.{◌+◌, ◌-◌, ◌≤◌}
-use native.Mathlib.Omega.{arith}
 use Rattle.endian.specs.Bytes.{span, sameBytes}
-use borrow.Author.Tests.{eq-eqb, ne_eqb}
-use Rattle.endian.proofs.Turns.{same_start, same_turn, same_end}
 use Rattle.endian.proofs.same_rest.Given as goal
 
 abbrev pub invariant-loop-i : goal.invariant-loop-i

@@ -2,7 +2,6 @@
 use native.Mathlib.Omega.{arith}
 use lib.ListN.{length-set}
 use Rattle.endian.proofs.Turns.{stores-3}
-use borrow.Author.Rules.{rules}
 use Rattle.endian.proofs.write_u24.Goals as goal
 
 pub bounds-s-at-2 : goal.bounds-s-at-2

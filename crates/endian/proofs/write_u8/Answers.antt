@@ -2,7 +2,6 @@
 use native.Mathlib.Omega.{arith}
 use mathlib.Core.List.{[], ◌∷◌}
 use Rattle.endian.specs.Laws.Stored.{put-sets}
-use borrow.Author.Rules.{rules}
 use Rattle.endian.proofs.write_u8.Goals as goal
 
 pub returns : goal.returns
