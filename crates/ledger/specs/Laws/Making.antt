@@ -175,7 +175,7 @@ make-good nodes trail k bad (c ∷ cs) new j w l t e =
     (λ s e₅. added d s (plain c) refl e₅
     (λ p e₆. make-good (insertAt k (emptyDirectory c q) nodes) (k ∷ trail) q (bad || not (plain c)) cs new j (made-well nodes w k l d c p s)
     (rw (made-length nodes w k l d c) (omega (arith, (next-in nodes w k l d).1)))
-    (rw (made-length nodes w k l d c) (omega arith, below_more (length nodes) (suc (length nodes)) trail (omega arith) t)) e₆))
+    (rw (made-length nodes w k l d c) (omega arith), below_more (length nodes) (length (insertAt k (emptyDirectory c q) nodes)) trail (rw (made-length nodes w k l d c) (omega arith)) t) e₆))
     (λ s e₅. made-not-stopped UnsafeName new j false e₅) e₄) e₃) e₂) e₁)
     (λ d e₁. made-not-stopped ExpectedDirectory new j false e₁) e
   where
