@@ -1,0 +1,15 @@
+-- `fst_text::text::pass_clean` meets its contract: the chart tells which byte is clean, and each clean one is passed.
+use Prim.Native.Nat.{◌+◌, ◌-◌}
+use mathlib.Core.Path.{◌≡◌, refl}
+use native.Mathlib.Omega.{arith}
+use lib.ListN.{length}
+use Rattle.fst_text.specs.Inner.Texts.{cleanFrom, NoLead}
+use Rattle.fst_text.proofs.Chart.{Charts, charts}
+use Rattle.fst_text.proofs.Texts.{no-lead-yet, clean-next}
+use Rattle.fst_text.proofs.text.pass_clean.Given as goal
+
+abbrev pub invariant-loop-end : goal.invariant-loop-end
+invariant-loop-end l = Charts l.chart × NoLead l.table l.from l.end × (cleanFrom l.table l.from ≡ cleanFrom l.table l.end)
+
+abbrev pub decreases-loop-end : goal.decreases-loop-end
+decreases-loop-end l = length l.table - l.end

@@ -1,0 +1,12 @@
+-- `totals::largest_free` meets its contract: the best so far, carried on over the regions that are left, is the best of all.
+use Prim.Native.Nat.{◌-◌}
+use native.Mathlib.Omega.{arith}
+use borrow.Author.Rules.{rules}
+use Rattle.totals.proofs.Scanned.{Scanned, scan-fits, scan-start, scan-past, scan-kept, scan-end}
+use Rattle.totals.proofs.largest_free.Given as goal
+
+abbrev pub invariant-loop-k : goal.invariant-loop-k
+invariant-loop-k l = Scanned l.words l.count l.disc-end l.table-end l.gone l.new l.at l.best l.k
+
+abbrev pub decreases-loop-k : goal.decreases-loop-k
+decreases-loop-k l = l.count - l.k
