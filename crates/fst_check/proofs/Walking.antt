@@ -30,6 +30,7 @@ entries-held tab k (suc n) e =
     omega (arith, entries-held tab (suc k) n e₁.1)
 
 pub entries-inside : (tab : List ℕ) (c : ℕ) → 12 ≤ length tab → 1 ≤ c → c ≤ 16384 → entriesVerdict tab 1 (c - 1) ≡ Passed → Inside tab c
+entries-inside tab zero h l s e = elim l [ ]
 entries-inside tab (suc zero) h l s e = record { held = h; some = l; small = s }
 entries-inside tab (suc (suc n)) h l s e =
     let m : suc (suc n) - 1 ≡ suc n = omega arith in

@@ -4,71 +4,64 @@
 // with distance 0 always succeeds, and none are read past the image.
 #![tactic(auto)]
 
+use std::io;
+use std::io::Write;
+
 use window::{SeekFrom, Sought, Window};
 
-fn number(label: &[u8], n: u64) {
-    io::write_all(1, label);
-    io::print_decimal(1, n);
-}
-
 // What a seek gave: the position, or the refusal's number.
-fn say_sought(s: Sought) {
+fn say_sought<P: Print>(rt: &P, s: Sought) -> io::Result<()> {
     match s {
-        Sought::At(w) => number(b"seek ", w.position),
-        Sought::Refused(cause) => {
-            let n = cause.number();
-            number(b"seek refused ", n as u64);
-        }
+        Sought::At(w) => print!(rt; "seek {}", w.position),
+        Sought::Refused(cause) => print!(rt; "seek refused {}", cause.number()),
     }
 }
 
 // Seeks, reads up to four bytes into a buffer of dots, and prints the answers. Gives back the window that both left.
-fn step(w: Window, to: SeekFrom, image: &[u8]) -> Window {
+fn step<P: Print>(rt: &P, w: Window, to: SeekFrom, image: &[u8]) -> io::Result<Window> {
     let mut buf = [46u8; 4];
     let r = window::seek_and_read(w, to, image, &mut buf);
-    let read = r.read;
-    let after = read.window;
-    let sought = r.sought;
-    say_sought(sought);
-    number(b" read ", read.count as u64);
-    io::write_all(1, b" ");
-    io::write_all(1, &buf);
-    number(b" position ", after.position);
-    io::write_all(1, b"\n");
-    after
+    let after = r.read.window;
+    say_sought(rt, r.sought)?;
+    print!(rt; " read {} ", r.read.count)?;
+    io::writer(rt).write_all(&buf)?;
+    println!(rt; " position {}", after.position)?;
+    Ok(after)
 }
 
 // Six bytes at 4: positions in the window, at its end and past it, and the last position that a window at 4 has.
-fn inside(image: &[u8]) {
+fn inside<P: Print>(rt: &P, image: &[u8]) -> io::Result<()> {
     let w = Window::new(4, 6);
-    let w = step(w, SeekFrom::Start(0), image);
-    let w = step(w, SeekFrom::Current(0), image);
-    let w = step(w, SeekFrom::End(-1), image);
-    let w = step(w, SeekFrom::Current(-7), image);
-    let w = step(w, SeekFrom::Current(-6), image);
-    let w = step(w, SeekFrom::End(3), image);
-    let w = step(w, SeekFrom::Start(18446744073709551611), image);
-    let w = step(w, SeekFrom::Start(18446744073709551612), image);
-    step(w, SeekFrom::Current(7), image);
+    let w = step(rt, w, SeekFrom::Start(0), image)?;
+    let w = step(rt, w, SeekFrom::Current(0), image)?;
+    let w = step(rt, w, SeekFrom::End(-1), image)?;
+    let w = step(rt, w, SeekFrom::Current(-7), image)?;
+    let w = step(rt, w, SeekFrom::Current(-6), image)?;
+    let w = step(rt, w, SeekFrom::End(3), image)?;
+    let w = step(rt, w, SeekFrom::Start(18446744073709551611), image)?;
+    let w = step(rt, w, SeekFrom::Start(18446744073709551612), image)?;
+    step(rt, w, SeekFrom::Current(7), image)?;
+    Ok(())
 }
 
 // A window that goes past the image's end, and one handed in with start + position above 2^64 - 1.
-fn outside(image: &[u8]) {
+fn outside<P: Print>(rt: &P, image: &[u8]) -> io::Result<()> {
     let w = Window::new(14, 100);
-    let w = step(w, SeekFrom::Start(0), image);
-    step(w, SeekFrom::Current(1), image);
+    let w = step(rt, w, SeekFrom::Start(0), image)?;
+    step(rt, w, SeekFrom::Current(1), image)?;
     let broken = Window {
         start: 4,
         len: 18446744073709551615,
         position: 18446744073709551614,
     };
-    let w = step(broken, SeekFrom::Current(0), image);
-    let w = step(w, SeekFrom::Current(1), image);
-    step(w, SeekFrom::Current(3), image);
+    let w = step(rt, broken, SeekFrom::Current(0), image)?;
+    let w = step(rt, w, SeekFrom::Current(1), image)?;
+    step(rt, w, SeekFrom::Current(3), image)?;
+    Ok(())
 }
 
-fn main() {
+fn main(rt: HostRuntime) -> io::Result<()> {
     let image = b"0123456789abcdef";
-    inside(image);
-    outside(image);
+    inside(&rt, image)?;
+    outside(&rt, image)
 }
