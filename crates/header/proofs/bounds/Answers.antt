@@ -4,7 +4,6 @@ use native.Mathlib.Omega.{arith}
 use borrow.Author.Tests.{le-ltb, lt-ltb}
 use lib.ListN.{length}
 use Rattle.header.specs.Verdicts.{fstOffset, discEnd, table_end, boundsVerdict}
-use borrow.Author.Rules.{rules}
 use Rattle.header.proofs.bounds.Goals as goal
 
 pub returns-then-fst_offset-lt1088 : goal.returns-then-fst_offset-lt1088

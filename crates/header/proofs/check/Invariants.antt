@@ -1,13 +1,9 @@
 -- `header::check` meets its contract: the fields that are left give the answer of all, as long as none refuses.
 use Prim.Native.Nat.{◌≤◌, ◌-◌}
-use mathlib.Core.Path.{◌≡◌, refl, sym, ◌∙◌}
-use native.Mathlib.Omega.{arith}
-use borrow.Author.Rules.{rules}
+use mathlib.Core.Path.{◌≡◌}
 use lib.ListN.{drop}
 use Rattle.header.specs.Fields.{fields}
 use Rattle.header.specs.Verdicts.{fieldsVerdict, headerVerdict}
-use Rattle.header.specs.Laws.FieldTests.{judged}
-use Rattle.header.proofs.Turns.{fields-end, fields-stop, fields_go}
 use Rattle.header.proofs.check.Given as goal
 
 abbrev pub invariant-loop-k : goal.invariant-loop-k
