@@ -1,0 +1,18 @@
+-- `fst_check::opening::walk` meets its contract. The invariant of its loop: what is left of the walk has the answer of the whole.
+use native.Mathlib.Omega.{arith}
+use Prim.Native.Nat.{◌-◌, ◌*◌}
+use mathlib.Core.Path.{◌≡◌, sym, ◌∙◌}
+use mathlib.Core.Bool.{true, false}
+use Rattle.refusal.specs.Refusal.{is_refused}
+use Rattle.fst_check.proofs.Walking.{Walked, walked_start, walked_stop, walked-passed, walked-turn, walked_end}
+use Rattle.fst_text.specs.Inner.Texts.{cleanFrom}
+use Rattle.fst_text.specs.Inner.Blocks.{Marked}
+use Rattle.fst_text.proofs.BlockLaws.{marked-none}
+use borrow.Author.Rules.{rules}
+use Rattle.fst_check.proofs.opening.walk.Given as goal
+
+abbrev pub invariant-loop-k : goal.invariant-loop-k
+invariant-loop-k l = Walked l.table l.count l.nexts l.depth l.k × Marked l.table (12 * l.count) l.marks × (l.clean ≡ true → cleanFrom l.table (12 * l.count) ≡ true)
+
+abbrev pub decreases-loop-k : goal.decreases-loop-k
+decreases-loop-k l = l.count - l.k

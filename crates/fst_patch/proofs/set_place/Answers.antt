@@ -1,0 +1,12 @@
+-- `fst_patch::set_place` meets its contract: the second number stands right behind the first.
+use Prim.Native.Nat.{◌+◌, ◌*◌}
+use native.Mathlib.Omega.{arith}
+use Rattle.endian.specs.Bytes.{be32Bytes}
+use Rattle.fst_measure.proofs.Puts.{put-append}
+use borrow.Author.Rules.{rules}
+use Rattle.fst_patch.proofs.set_place.Goals as goal
+
+pub returns : goal.returns
+returns c =
+    let s = c in
+    cc (put-append s.args.table.now (12 * s.args.k + 4) (be32Bytes s.args.offset) (12 * s.args.k + 8) (be32Bytes s.args.size) (omega arith) (omega (arith, s.requires)))
