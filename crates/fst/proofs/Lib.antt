@@ -4,3 +4,4 @@ pub mod ChildLaws
 pub mod Ended
 pub mod Comparing
 pub mod NamePlaces
+pub mod Unlike

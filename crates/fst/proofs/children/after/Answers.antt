@@ -6,7 +6,6 @@ use lib.ListN.{get_or}
 use Rattle.tree.specs.Table.{none, nodesOf}
 use Rattle.tree.specs.Lookup.{isDirectory}
 use Rattle.fst.proofs.Nodes.{opens-inside}
-use borrow.Author.Rules.{rules}
 use Rattle.fst.proofs.children.after.Goals as goal
 
 pub overflow_add-result : goal.overflow_add-result

@@ -1,7 +1,6 @@
 -- `fst::children::child` meets its contract: a name with a zero byte is that of no entry.
 use mathlib.Core.Path.{sym, ◌∙◌}
 use Rattle.fst.proofs.Comparing.{child-none}
-use borrow.Author.Rules.{rules}
 use Rattle.fst.proofs.children.child.Goals as goal
 
 pub returns-then-has_zero : goal.returns-then-has_zero

@@ -1,14 +1,11 @@
 -- `fst::children::child_named` meets its contract. The invariant of its loop: entry k is a child, if it stands in the directory, no child before
 -- it has the name, and none of the texts that are kept is the name.
 use native.Mathlib.Omega.{arith}
-use Prim.Native.Nat.{ℕ, ◌-◌, ◌<◌, ◌/◌, ◌%◌}
+use Prim.Native.Nat.{ℕ, ◌<◌, ◌/◌, ◌%◌}
 use mathlib.Core.Path.{◌≡◌, sym, ◌∙◌}
-use mathlib.Core.Bool.{Bool, false}
+use mathlib.Core.Bool.{Bool}
 use mathlib.Core.List.{List}
-use mathlib.Core.Logic.{⊎_elim}
-use lib.ListN.{length, get_or, set, replicate, length-set, length-replicate, get_or-replicate}
-use lib.Seq.{get_or-set_same, get_or-set_other}
-use Rattle.refusal.specs.Laws.Tests.{lt-or-le}
+use lib.ListN.{get_or}
 use Rattle.endian.specs.Bytes.{sameBytes}
 use Rattle.tree.specs.Table.{none, count, name_of, nodesOf, namePlace}
 use Rattle.tree.specs.Inner.WellFormed.{WellFormed}
@@ -18,8 +15,8 @@ use Rattle.fst_text.specs.Inner.Texts.{textAt}
 use Rattle.fst.proofs.Nodes.{opened, opens-inside}
 use Rattle.fst.proofs.NamePlaces.{place_inside}
 use Rattle.fst.proofs.Ended.{name-there, place-some}
-use Rattle.fst.proofs.ChildLaws.{Searching, search-start, search-found, search-turn, search-end, next_le, after-past}
-use borrow.Author.Rules.{rules}
+use Rattle.fst.proofs.ChildLaws.{search-start, search-found, search-turn, search-end, next_le, after-past}
+use Rattle.fst.proofs.Unlike.{unlike-start, unlike-turn}
 use Rattle.fst.proofs.children.child_named.Goals as goal
 
 below : (T : List ℕ) (d stop k : ℕ) → WellFormed (nodesOf T) → d < count T → stop ≡ next_of (get_or (nodesOf T) d none) → k < stop → k < count T
@@ -27,26 +24,6 @@ below T d stop k w h e l = omega (arith, next_le (nodesOf T) d w (rw (length-nod
 
 named : (T nm : List ℕ) (k place : ℕ) (r : Bool) → 0 < k → k < count T → place ≡ namePlace T k → r ≡ sameBytes (textAt T place) nm → sameBytes (name_of (get_or (nodesOf T) k none)) nm ≡ r
 named T nm k place r h l p e = rw (name-there T k h l) (sym (rw p at e))
-
-record Unlike (T nm s : List ℕ) : Type 0 where
-  slots : length s ≡ 32
-  each : (i : ℕ) → i < 32 → 0 < get_or s i 0 → sameBytes (textAt T (get_or s i 0)) nm ≡ false
-
-unlike-start : (T nm : List ℕ) → Unlike T nm (replicate 32 0)
-unlike-start T nm = record { slots = length-replicate {A = ℕ} 32 0; each = λ i l h. absurd (omega (arith, get_or-replicate {A = ℕ} 32 i 0 0 l)) }
-
-unlike-turn : (T nm s : List ℕ) (i place : ℕ) → Unlike T nm s → i < 32 → sameBytes (textAt T place) nm ≡ false → Unlike T nm (set s i place)
-unlike-turn T nm s i place u l e = record {
-  slots = length-set s i place ∙ u.slots;
-  each = λ j b. ⊎_elim (λ ji. other j b (λ q. omega arith)) (λ ij. ⊎_elim (λ q. other j b (λ r. omega arith)) (λ q. let f : j ≡ i = omega arith in rw f here) (lt-or-le i j)) (lt-or-le j i);
-
-}
-  where
-    here : 0 < get_or (set s i place) i 0 → sameBytes (textAt T (get_or (set s i place) i 0)) nm ≡ false
-    here = rw (get_or-set_same s i place 0 (omega (arith, u.slots))) (λ h. e)
-
-    other : (j : ℕ) → j < 32 → (j ≡ i → ⊥) → 0 < get_or (set s i place) j 0 → sameBytes (textAt T (get_or (set s i place) j 0)) nm ≡ false
-    other j b n = rw (get_or-set_other s i j place 0 n) (u.each j b)
 
 pub overflow_add-k : goal.overflow_add-k
 overflow_add-k c = let i = opens-inside c.args.table.now c.requires.0 in omega arith
@@ -75,7 +52,10 @@ has_name-requires c =
     let a = opened T (λ i. omega (arith, n.type_inv.table i)) s.requires.0 in
     let h : 0 < l.k = omega (arith, l.invariant.0.later) in
     let b : l.k < count T = below T s.args.d n.next-stop.result l.k a.well s.requires.1 n.next-stop.ensures c.loop-k-test.true in
-    ((omega (arith, c.name_place-place.ensures.0, place-some T l.k h), omega (arith, c.name_place-place.ensures.0, place_inside a l.k h b), s.requires.2), l.invariant.1.each (c.name_place-place.result / 65536 % 32) (omega arith))
+    record {
+      place_nonzero = (omega (arith, c.name_place-place.ensures.0, place-some T l.k h), omega (arith, c.name_place-place.ensures.0, place_inside a l.k h b), s.requires.2);
+      name_value = l.invariant.1.each (c.name_place-place.result / 65536 % 32) (omega arith);
+    }
 
 pub overflow_cast-result : goal.overflow_cast-result
 overflow_cast-result c =

@@ -4,7 +4,6 @@ use borrow.Author.Tests.{lt-ltb, le-ltb}
 use Rattle.tree.specs.Table.{count}
 use Rattle.tree.specs.Laws.Accepted.{length-nodesOf}
 use Rattle.fst.proofs.Nodes.{opens-inside}
-use borrow.Author.Rules.{rules}
 use Rattle.fst.proofs.entries.entry.Goals as goal
 
 pub count-requires : goal.count-requires

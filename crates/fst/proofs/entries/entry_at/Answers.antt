@@ -1,7 +1,6 @@
 -- `fst::entries::entry_at` meets its contract: by the entry's kind.
 use native.Mathlib.Omega.{arith}
 use Rattle.fst.proofs.Nodes.{opened, opens-inside, file-is, directory-is}
-use borrow.Author.Rules.{rules}
 use Rattle.fst.proofs.entries.entry_at.Goals as goal
 
 pub overflow_mul-k : goal.overflow_mul-k

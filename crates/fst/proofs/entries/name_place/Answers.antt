@@ -2,7 +2,6 @@
 use native.Mathlib.Omega.{arith}
 use Rattle.fst.proofs.Nodes.{opens-inside}
 use Rattle.fst.proofs.NamePlaces.{place_is}
-use borrow.Author.Rules.{rules}
 use Rattle.fst.proofs.entries.name_place.Goals as goal
 
 pub count-requires : goal.count-requires

@@ -3,7 +3,6 @@ use native.Mathlib.Omega.{arith}
 use mathlib.Core.Path.{sym, ◌∙◌, ap}
 use Rattle.tree.specs.Lookup.{next_of}
 use Rattle.fst.proofs.Nodes.{opened, opens-inside, file-is, directory-is}
-use borrow.Author.Rules.{rules}
 use Rattle.fst.proofs.entries.next.Goals as goal
 
 pub overflow_mul-k : goal.overflow_mul-k

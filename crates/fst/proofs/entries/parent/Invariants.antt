@@ -1,9 +1,7 @@
 -- `fst::entries::parent` meets its contract. The invariant of its loop: no directory from i on encloses the entry.
-use native.Mathlib.Omega.{arith}
 use Prim.Native.Nat.{◌≤◌}
-use mathlib.Core.Path.{◌≡◌, sym, ◌∙◌}
+use mathlib.Core.Path.{◌≡◌}
 use Rattle.tree.specs.Table.{nodesOf, parent_of, parentBelow}
-use Rattle.fst.proofs.Nodes.{parent-found, parent-on, parent-whole, parent-none}
 use Rattle.fst.proofs.entries.parent.Given as goal
 
 abbrev pub invariant-loop-i : goal.invariant-loop-i

@@ -1,11 +1,7 @@
 -- `fst::text::has_zero` meets its contract. The invariant of its loop: the rest has the answer of the whole.
-use native.Mathlib.Omega.{arith}
-use Prim.Native.Nat.{◌-◌}
-use mathlib.Core.Path.{◌≡◌, refl, sym, ◌∙◌}
+use mathlib.Core.Path.{refl, sym, ◌∙◌}
 use mathlib.Core.Bool.{true, false}
 use borrow.Author.Tests.{eq-eqb, ne_eqb}
-use lib.ListN.{length, drop}
-use Rattle.fst.specs.Inner.Zeros.{hasZero}
 use Rattle.fst.proofs.Comparing.{zero_turn, zero-past}
 use Rattle.fst.proofs.text.has_zero.Goals as goal
 

@@ -1,10 +1,6 @@
 -- `fst::text::text_length` meets its contract. The invariant of its loop: the bytes passed and the rest make the whole, so that the loop is at
 -- the zero byte, or before it.
 use native.Mathlib.Omega.{arith}
-use Prim.Native.Nat.{◌+◌, ◌-◌, ◌≤◌}
-use mathlib.Core.Path.{◌≡◌}
-use lib.ListN.{length}
-use Rattle.fst_text.specs.Inner.Texts.{textAt}
 use Rattle.fst_text.proofs.Texts.{length-end, length-turn}
 use Rattle.fst.proofs.text.text_length.Goals as goal
 
@@ -21,7 +17,7 @@ pub loop-i-smaller : goal.loop-i-smaller
 loop-i-smaller c = omega (arith, c.requires)
 
 pub loop-i-preserved : goal.loop-i-preserved
-loop-i-preserved c = (omega arith, omega (arith, length-turn c.args.table.now c.loop-i.i c.if1.true))
+loop-i-preserved c = (omega arith, omega (arith, length-turn c.args.table.now c.loop-i.i c.loop-i-test.true))
 
 pub returns : goal.returns
-returns c = omega (arith, length-end c.args.table.now c.loop-i.i c.if1.false)
+returns c = omega (arith, length-end c.args.table.now c.loop-i.i c.loop-i-test.false)

@@ -1,11 +1,9 @@
 -- `fst::text::text_length` meets its contract. The invariant of its loop: the bytes passed and the rest make the whole, so that the loop is at
 -- the zero byte, or before it.
-use native.Mathlib.Omega.{arith}
 use Prim.Native.Nat.{◌+◌, ◌-◌, ◌≤◌}
 use mathlib.Core.Path.{◌≡◌}
 use lib.ListN.{length}
 use Rattle.fst_text.specs.Inner.Texts.{textAt}
-use Rattle.fst_text.proofs.Texts.{length-end, length-turn}
 use Rattle.fst.proofs.text.text_length.Given as goal
 
 abbrev pub invariant-loop-i : goal.invariant-loop-i
