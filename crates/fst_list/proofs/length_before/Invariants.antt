@@ -1,0 +1,14 @@
+-- `fst_list::length_before` meets its contract. The invariant of its loop: the bytes passed and the rest make the whole.
+use native.Mathlib.Omega.{arith}
+use Prim.Native.Nat.{◌+◌, ◌-◌, ◌≤◌}
+use mathlib.Core.Path.{◌≡◌}
+use lib.ListN.{length}
+use Rattle.fst_text.specs.Inner.Texts.{textAt}
+use Rattle.fst_text.proofs.Texts.{length-end, length-turn}
+use Rattle.fst_list.proofs.length_before.Given as goal
+
+abbrev pub invariant-loop-i : goal.invariant-loop-i
+invariant-loop-i l = (l.at ≤ l.i) × (l.i ≤ l.stop) × (length (textAt l.table l.at) ≡ (l.i - l.at) + length (textAt l.table l.i))
+
+abbrev pub decreases-loop-i : goal.decreases-loop-i
+decreases-loop-i l = l.stop - l.i

@@ -1,0 +1,21 @@
+-- `fst_path::find` meets its contract: an entry that a lookup gives is in the table.
+use native.Mathlib.Omega.{arith}
+use mathlib.Core.Path.{sym, ◌∙◌}
+use borrow.Author.Tests.{lt-ltb}
+use lib.ListN.{length}
+use Rattle.tree.specs.Table.{nodesOf}
+use Rattle.fst.proofs.Nodes.{opened}
+use Rattle.fst_path.proofs.PathLaws.{lookup-inside}
+use borrow.Author.Rules.{rules}
+use Rattle.fst_path.proofs.find.Goals as goal
+
+pub returns-in-At : goal.returns-in-At
+returns-in-At c =
+    let s = c in
+    let T = s.args.table.now in
+    let w = (opened T (λ i. omega (arith, c.type_inv.table i)) s.requires.0).well in
+    let l = lookup-inside (nodesOf T) w s.args.start s.args.path.now _ (sym c.lookup.ensures ∙ c.k.given.1) in
+    rw (← c.lookup.ensures, c.k.given.1) (c.entry.ensures ∙ rw (lt-ltb _ (length (nodesOf T)) l))
+
+pub returns-in-Refused : goal.returns-in-Refused
+returns-in-Refused c = rw (← c.lookup.ensures, c.cause.given.1)
