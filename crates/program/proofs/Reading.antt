@@ -16,9 +16,8 @@ use Rattle.dol.specs.declared.DolSize.{DolSize}
 use Rattle.dol.specs.declared.DolSize.TheVariants as size
 use Rattle.dol.specs.Laws.Facts.{size-passed, size-refused}
 use Rattle.dol.specs.Dol.{dolVerdictOf, dolSizeOf}
-use Rattle.program.specs.declared.Program.{Program}
 use Rattle.program.specs.declared.Program.TheVariants.{At, None, Refused}
-use Rattle.program.specs.Program.{programFrom, programAs, program_of, programVerdict, nowhere, place_of, beforeTable, ownRegion}
+use Rattle.program.specs.Program.{programFrom, programAs, program_of, nowhere, beforeTable, ownRegion}
 
 -- ---- read
 
@@ -40,16 +39,7 @@ module _ (image : List ℕ) (at : ℕ) (here : at ≡ dolOffset image) where
     pub no_header : (c : Refusal) → a ≡ size.Refused c → Refused c ≡ program_of image
     no_header c e = sym (by-verdict (verdict.Refused c) (size-refused image at c (sym read ∙ e)))
 
-pub verdict-refused : (p : Program) (c : Refusal) → p ≡ Refused c → verdict.Refused c ≡ programVerdict p
-verdict-refused p c e = rw e
-
 -- ---- the region
-
-pub place_none : (p : Program) → p ≡ None → nowhere ≡ place_of p
-place_none p e = rw e
-
-pub place-refused : (p : Program) (c : Refusal) → p ≡ Refused c → nowhere ≡ place_of p
-place-refused p c e = rw e
 
 module _ (r x : DiscRegion) (fst : ℕ) (e : r ≡ x) where
   pub own-low : r.offset < 0x440 → r ≡ ownRegion fst x

@@ -1,6 +1,5 @@
 -- `program::own_region` meets its contract: below 0x440, before the table, elsewhere. Assumes nothing.
 use Rattle.program.proofs.Reading.{own-low, own-before, own_behind}
-use borrow.Author.Rules.{rules}
 use Rattle.program.proofs.own_region.Goals as goal
 
 pub returns-then-region-lt1088 : goal.returns-then-region-lt1088

@@ -1,6 +1,5 @@
 -- `program::read` meets its contract: by the DOL offset, then by the file size that its header says. Assumes nothing.
 use Rattle.program.proofs.Reading.{no_program, a_program, no_header}
-use borrow.Author.Rules.{rules}
 use Rattle.program.proofs.read.Goals as goal
 
 pub returns-then-at-eq0 : goal.returns-then-at-eq0
