@@ -1,6 +1,5 @@
 -- `fst_path::back` meets its contract: by the count of named steps.
 use Rattle.fst_path.proofs.PathLaws.{back_none, back_some}
-use borrow.Author.Rules.{rules}
 use Rattle.fst_path.proofs.back.Goals as goal
 
 pub returns-then-steps-eq0 : goal.returns-then-steps-eq0

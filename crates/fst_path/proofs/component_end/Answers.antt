@@ -1,11 +1,8 @@
 -- `fst_path::component_end` meets its contract. The invariant of its loop: the component reaches to the unit that is next.
 use native.Mathlib.Omega.{arith}
-use Prim.Native.Nat.{◌-◌, ◌≤◌}
 use mathlib.Core.Path.{sym, ◌∙◌}
-use lib.ListN.{length}
 use Rattle.tree.specs.Laws.UnitLaws.{pair_inside}
-use Rattle.fst_path.proofs.Components.{Reaches, cut-start, cut-pair, cut-here, cut-single, cut-end}
-use borrow.Author.Rules.{rules}
+use Rattle.fst_path.proofs.Components.{cut-start, cut-pair, cut-here, cut-single, cut-end}
 use Rattle.fst_path.proofs.component_end.Goals as goal
 
 pub loop-end-init : goal.loop-end-init

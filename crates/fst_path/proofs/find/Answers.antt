@@ -6,7 +6,6 @@ use lib.ListN.{length}
 use Rattle.tree.specs.Table.{nodesOf}
 use Rattle.fst.proofs.Nodes.{opened}
 use Rattle.fst_path.proofs.PathLaws.{lookup-inside}
-use borrow.Author.Rules.{rules}
 use Rattle.fst_path.proofs.find.Goals as goal
 
 pub returns-in-At : goal.returns-in-At
@@ -14,8 +13,8 @@ returns-in-At c =
     let s = c in
     let T = s.args.table.now in
     let w = (opened T (λ i. omega (arith, c.type_inv.table i)) s.requires.0).well in
-    let l = lookup-inside (nodesOf T) w s.args.start s.args.path.now _ (sym c.lookup.ensures ∙ c.k.given.1) in
-    rw (← c.lookup.ensures, c.k.given.1) (c.entry.ensures ∙ rw (lt-ltb _ (length (nodesOf T)) l))
+    let l = lookup-inside (nodesOf T) w s.args.start s.args.path.now _ (sym c.in-At.ensures) in
+    rw (← c.in-At.ensures) (c.entry.ensures ∙ rw (lt-ltb _ (length (nodesOf T)) l))
 
 pub returns-in-Refused : goal.returns-in-Refused
-returns-in-Refused c = rw (← c.lookup.ensures, c.cause.given.1)
+returns-in-Refused c = rw (← c.in-Refused.ensures)

@@ -1,13 +1,12 @@
 -- `fst_path::follow` meets its contract. The invariant of its loop: what is left of the path leads from here, with the trail kept, to where the whole leads from the start.
 use native.Mathlib.Omega.{arith}
-use Prim.Native.Nat.{ℕ, ◌-◌}
-use mathlib.Core.Path.{sym, ◌∙◌}
-use lib.ListN.{length, length-replicate}
+use Prim.Native.Nat.{ℕ}
+use mathlib.Core.Path.{sym}
+use lib.ListN.{length-replicate}
 use Rattle.tree.specs.Table.{nodesOf}
 use Rattle.tree.specs.Laws.Accepted.{length-nodesOf}
 use Rattle.fst.proofs.Nodes.{opened}
-use Rattle.fst_path.proofs.PathLaws.{Following, follow-start, follow-refused, follow-end, follow-turn, step-lands}
-use borrow.Author.Rules.{rules}
+use Rattle.fst_path.proofs.PathLaws.{follow-start, follow-refused, follow-end, follow-turn, step-lands}
 use Rattle.fst_path.proofs.follow.Goals as goal
 
 pub loop-j-init : goal.loop-j-init
@@ -22,14 +21,14 @@ take_step-requires c =
     let t = c.loop-j.invariant.trail in
     (s.requires.0, omega (arith, t.inside, length-nodesOf s.args.table.now), t.few)
 
-pub offset_bounds-trail-steps : goal.offset_bounds-trail-steps
-offset_bounds-trail-steps c =
+pub bounds-trail-steps : goal.bounds-trail-steps
+bounds-trail-steps c =
     let s = c in
     let T = s.args.table.now in
     let a = opened T (λ i. omega (arith, c.type_inv.table i)) s.requires.0 in
     let e = c.component_end-end in
-    let l = step-lands a.well a.depth c.loop-j.invariant e.result _ e.ensures.2 _ _ (sym c.take_step.ensures ∙ c.j.given.1) in
-    omega (arith, l.0, c.loop-j.invariant.long)
+    let l = step-lands a.well a.depth c.loop-j.invariant e.result _ e.ensures.2 _ _ (sym c.in-To.ensures) in
+    l.0
 
 pub returns-in-Refused : goal.returns-in-Refused
 returns-in-Refused c =
@@ -37,7 +36,7 @@ returns-in-Refused c =
     let T = s.args.table.now in
     let a = opened T (λ i. omega (arith, c.type_inv.table i)) s.requires.0 in
     let e = c.component_end-end in
-    sym (follow-refused a.well a.depth c.loop-j.invariant e.result _ e.ensures.2 _ (sym c.take_step.ensures ∙ c.cause.given.1))
+    sym (follow-refused a.well a.depth c.loop-j.invariant e.result _ e.ensures.2 _ (sym c.in-Refused.ensures))
 
 pub overflow_cast-result : goal.overflow_cast-result
 overflow_cast-result c =
@@ -45,7 +44,7 @@ overflow_cast-result c =
     let T = s.args.table.now in
     let a = opened T (λ i. omega (arith, c.type_inv.table i)) s.requires.0 in
     let e = c.component_end-end in
-    let l = step-lands a.well a.depth c.loop-j.invariant e.result _ e.ensures.2 _ _ (sym c.take_step.ensures ∙ c.j.given.1) in
+    let l = step-lands a.well a.depth c.loop-j.invariant e.result _ e.ensures.2 _ _ (sym c.in-To.ensures) in
     omega (arith, l.1.inside, a.few, length-nodesOf T)
 
 pub returns-then-path-end : goal.returns-then-path-end
@@ -54,7 +53,7 @@ returns-then-path-end c =
     let T = s.args.table.now in
     let a = opened T (λ i. omega (arith, c.type_inv.table i)) s.requires.0 in
     let e = c.component_end-end in
-    sym (follow-end a.well a.depth c.loop-j.invariant e.result _ e.ensures.2 _ _ (sym c.take_step.ensures ∙ c.j.given.1) c.if-path-end.true)
+    sym (follow-end a.well a.depth c.loop-j.invariant e.result _ e.ensures.2 _ _ (sym c.in-To.ensures) c.if-path-end.true)
 
 pub loop-j-preserved : goal.loop-j-preserved
 loop-j-preserved c =
@@ -62,4 +61,4 @@ loop-j-preserved c =
     let T = s.args.table.now in
     let a = opened T (λ i. omega (arith, c.type_inv.table i)) s.requires.0 in
     let e = c.component_end-end in
-    follow-turn a.well a.depth c.loop-j.invariant e.result _ e.ensures.2 _ _ (sym c.take_step.ensures ∙ c.j.given.1) c.if-path-end.false
+    follow-turn a.well a.depth c.loop-j.invariant e.result _ e.ensures.2 _ _ (sym c.in-To.ensures) c.if-path-end.false

@@ -1,13 +1,8 @@
 -- `fst_path::follow` meets its contract. The invariant of its loop: what is left of the path leads from here, with the trail kept, to where the whole leads from the start.
-use native.Mathlib.Omega.{arith}
-use Prim.Native.Nat.{ℕ, ◌-◌}
-use mathlib.Core.Path.{sym, ◌∙◌}
-use lib.ListN.{length, length-replicate}
+use Prim.Native.Nat.{◌-◌}
+use lib.ListN.{length}
 use Rattle.tree.specs.Table.{nodesOf}
-use Rattle.tree.specs.Laws.Accepted.{length-nodesOf}
-use Rattle.fst.proofs.Nodes.{opened}
-use Rattle.fst_path.proofs.PathLaws.{Following, follow-start, follow-refused, follow-end, follow-turn, step-lands}
-use borrow.Author.Rules.{rules}
+use Rattle.fst_path.proofs.PathLaws.{Following}
 use Rattle.fst_path.proofs.follow.Given as goal
 
 abbrev pub invariant-loop-j : goal.invariant-loop-j

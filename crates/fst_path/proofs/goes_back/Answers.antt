@@ -2,7 +2,6 @@
 use mathlib.Core.Path.{sym}
 use borrow.Author.Tests.{eq-eqb, ne_eqb}
 use Rattle.fst_path.proofs.Components.{back-two, back-other}
-use borrow.Author.Rules.{rules}
 use Rattle.fst_path.proofs.goes_back.Goals as goal
 
 pub returns-then-name-ne2 : goal.returns-then-name-ne2

@@ -5,7 +5,6 @@ use Rattle.tree.specs.Table.{count}
 use Rattle.tree.specs.Lookup.{lookup}
 use Rattle.tree.specs.Laws.Accepted.{length-nodesOf}
 use Rattle.fst.proofs.Nodes.{opens-inside}
-use borrow.Author.Rules.{rules}
 use Rattle.fst_path.proofs.lookup.Goals as goal
 
 pub count-requires : goal.count-requires
