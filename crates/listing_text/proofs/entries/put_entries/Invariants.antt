@@ -1,0 +1,17 @@
+-- `listing_text::entries::put_entries` meets its contract. The invariant of its loop: the lines of the entries below k are written, and the directories around the last of them are kept.
+use Rattle.text_buffer.proofs.Joining.{kept-two}
+use Rattle.listing_text.proofs.LineParts.{below-count}
+use Rattle.listing_text.proofs.Tables.{Read, read, opens-some, opens-long}
+use Prim.Native.Nat.{◌-◌, ◌<◌, ◌≤◌}
+use native.Mathlib.Omega.{arith}
+use Rattle.tree.specs.Table.{nodesOf}
+use Rattle.listing_text.specs.Inner.Around.{Chain}
+use Rattle.listing_text.proofs.Chains.{Climbs, chain-start, climbs-start}
+use Rattle.listing_text.proofs.LineParts.{Walking, walk_start, walk_turn, walk_end}
+use Rattle.listing_text.proofs.entries.put_entries.Given as goal
+
+abbrev pub invariant-loop-k : goal.invariant-loop-k
+invariant-loop-k l = (0 < l.k) × (l.k ≤ l.count) × Chain (nodesOf l.table) l.dirs l.depth l.k × Climbs (nodesOf l.table) l.dirs l.depth l.k × Walking (nodesOf l.table) l.initial.text l.text l.initial.end l.end l.k
+
+abbrev pub decreases-loop-k : goal.decreases-loop-k
+decreases-loop-k l = l.count - l.k

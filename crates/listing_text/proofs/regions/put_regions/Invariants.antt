@@ -1,0 +1,11 @@
+-- `listing_text::regions::put_regions` meets its contract: the lines written, and those of the gaps that are left, are those of the free regions.
+use Prim.Native.Nat.{◌+◌, ◌-◌}
+use native.Mathlib.Omega.{arith}
+use Rattle.listing_text.proofs.Gaps.{Listing, regions-start, regions-end, regions-skip, regions-go}
+use Rattle.listing_text.proofs.regions.put_regions.Given as goal
+
+abbrev pub invariant-loop-i : goal.invariant-loop-i
+invariant-loop-i l = Listing l.words l.count l.disc-end l.initial.text l.text l.at l.end l.i
+
+abbrev pub decreases-loop-i : goal.decreases-loop-i
+decreases-loop-i l = l.count + 1 - l.i
