@@ -39,9 +39,6 @@ module _ (s : List ℕ) (at n : ℕ) where
   abbrev pub left : ℕ → ℕ
   left i = largestOf (wordsAt s (at + 4 * i) (n - i)) (wordsAt s (at + 0x90 + 4 * i) (n - i))
 
-  pub at-start : left 0 ≡ max 0 (left 0)
-  at-start = omega arith
-
   next : (i : ℕ) → i < n → left i ≡ max (be32 s (at + 4 * i) + be32 s (at + 4 * i + 0x90)) (left (i + 1))
   unfolding wordsAt largestOf
   next i h =

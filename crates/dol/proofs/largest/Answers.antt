@@ -1,10 +1,8 @@
 -- `dol::largest` meets its contract. The invariant of its loop: the larger of `top` and the largest of what is left is the largest of all.
 use mathlib.Core.Path.{◌≡◌, ap, ◌∙◌}
-use Prim.Native.Nat.{ℕ, ◌+◌, ◌-◌, ◌≤◌, max}
+use Prim.Native.Nat.{ℕ, ◌+◌, max}
 use native.Mathlib.Omega.{arith}
-use lib.ListN.{length, get_or, drop}
-use borrow.Author.Rules.{rules}
-use Rattle.dol.specs.Dol.{largestOf}
+use lib.ListN.{get_or}
 use Rattle.dol.proofs.Turns.{largest-turn, largest-end}
 use Rattle.dol.proofs.largest.Goals as goal
 

@@ -1,11 +1,8 @@
 -- `dol::largest` meets its contract. The invariant of its loop: the larger of `top` and the largest of what is left is the largest of all.
-use mathlib.Core.Path.{◌≡◌, ap, ◌∙◌}
-use Prim.Native.Nat.{ℕ, ◌+◌, ◌-◌, ◌≤◌, max}
-use native.Mathlib.Omega.{arith}
-use lib.ListN.{length, get_or, drop}
-use borrow.Author.Rules.{rules}
+use mathlib.Core.Path.{◌≡◌}
+use Prim.Native.Nat.{◌-◌, ◌≤◌, max}
+use lib.ListN.{length, drop}
 use Rattle.dol.specs.Dol.{largestOf}
-use Rattle.dol.proofs.Turns.{largest-turn, largest-end}
 use Rattle.dol.proofs.largest.Given as goal
 
 abbrev pub invariant-loop-i : goal.invariant-loop-i

@@ -1,9 +1,7 @@
 -- `dol::largest_at` meets its contract. The invariant of its loop: the larger of `top` and the largest of what is left is the largest of all.
 use mathlib.Core.Path.{◌≡◌}
 use Prim.Native.Nat.{◌-◌, ◌≤◌, max}
-use native.Mathlib.Omega.{arith}
-use borrow.Author.Rules.{rules}
-use Rattle.dol.proofs.Turns.{left, at-start, at_turn, at-end}
+use Rattle.dol.proofs.Turns.{left}
 use Rattle.dol.proofs.largest_at.Given as goal
 
 abbrev pub invariant-loop-i : goal.invariant-loop-i

@@ -1,9 +1,8 @@
 -- `dol::read_words` meets its contract. The invariant of its loop: the first i places hold the first i words, and the others what they held.
-use mathlib.Core.Path.{◌≡◌, refl, ap, ◌∙◌}
-use mathlib.Core.List.{[], ◌++◌, append-nil}
-use Prim.Native.Nat.{ℕ, ◌-◌, ◌≤◌}
+use mathlib.Core.Path.{refl, ap, ◌∙◌}
+use Prim.Native.Nat.{ℕ}
 use native.Mathlib.Omega.{arith}
-use lib.ListN.{length, drop, set, length-set, drop_of_length-le}
+use lib.ListN.{set, length-set}
 use Rattle.dol.specs.Dol.{wordsAt}
 use Rattle.dol.proofs.Turns.{words-turn}
 use Rattle.dol.proofs.read_words.Goals as goal
@@ -16,13 +15,3 @@ pub loop-i-preserved : goal.loop-i-preserved
 loop-i-preserved c =
     let l = c.loop-i in
     (omega arith, simp length-set l.invariant.1, ap (λ (v : ℕ). set l.out l.i v) c.read_u32.ensures ∙ words-turn _ _ _ _ _ l.invariant.2 (omega arith))
-
-pub shape_of-out : goal.shape_of-out
-shape_of-out c = c.loop-i.invariant.1
-
-pub returns : goal.returns
-returns c =
-    let a = c.args in
-    let e : c.loop-i.i ≡ length a.out.now = omega arith in
-    let d : drop c.loop-i.i a.out.now ≡ [] = drop_of_length-le a.out.now {i = c.loop-i.i} (omega arith) in
-    rw (← e) (c.loop-i.invariant.2 ∙ rw d (append-nil _))
