@@ -4,12 +4,10 @@ use lib.ListN.{length}
 use Rattle.endian.specs.Bytes.{span}
 use Rattle.endian.specs.Laws.Stored.{length-span}
 use Rattle.disc_header.proofs.Whole.{put_all}
-use borrow.Author.Rules.{rules}
 use Rattle.disc_header.proofs.read_exact.Goals as goal
 
 pub returns : goal.returns
 returns c =
-    let s = c in
-    let i = s.args.image.now in
-    let o = s.args.out.now in
-    c.copy.ensures ∙ put_all o (span i s.args.at (length o)) (length-span i s.args.at (length o) s.requires)
+    let i = c.args.image.now in
+    let o = c.args.out.now in
+    c.copy.ensures ∙ put_all o (span i c.args.at (length o)) (length-span i c.args.at (length o) c.requires)

@@ -1,29 +1,6 @@
 -- `disc_header::read_fields` meets its contract: each field of the struct is what one call read.
-use native.Mathlib.Omega.{arith}
 use Rattle.disc_header.specs.Header.{headerOf}
-use borrow.Author.Rules.{rules}
 use Rattle.disc_header.proofs.read_fields.Goals as goal
-
-pub read_u32-fst_offset-requires : goal.read_u32-fst_offset-requires
-read_u32-fst_offset-requires c = omega (arith, c.requires)
-
-pub read_u32-fst_size-requires : goal.read_u32-fst_size-requires
-read_u32-fst_size-requires c = omega (arith, c.requires)
-
-pub read_u32-fst_max_size-requires : goal.read_u32-fst_max_size-requires
-read_u32-fst_max_size-requires c = omega (arith, c.requires)
-
-pub read_u32-user_position-requires : goal.read_u32-user_position-requires
-read_u32-user_position-requires c = omega (arith, c.requires)
-
-pub read_u32-user_size-requires : goal.read_u32-user_size-requires
-read_u32-user_size-requires c = omega (arith, c.requires)
-
-pub read_u32-disc_size-requires : goal.read_u32-disc_size-requires
-read_u32-disc_size-requires c = omega (arith, c.requires)
-
-pub read_u32-unused_43c-requires : goal.read_u32-unused_43c-requires
-read_u32-unused_43c-requires c = omega (arith, c.requires)
 
 pub returns : goal.returns
 unfolding headerOf
@@ -49,5 +26,4 @@ returns c = λ i. record {
   user_size = c.read_u32-user_size.ensures i;
   disc_size = c.read_u32-disc_size.ensures i;
   unused_43c = c.read_u32-unused_43c.ensures i;
-
 }

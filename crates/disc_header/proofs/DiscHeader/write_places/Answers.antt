@@ -2,7 +2,6 @@
 use Rattle.header.specs.Fields.{fields}
 use Rattle.disc_header.specs.Header.{fieldBytes, putFields}
 use Rattle.disc_header.specs.Inner.Writing.{put_some}
-use borrow.Author.Rules.{rules}
 use Rattle.disc_header.proofs.DiscHeader.write_places.Goals as goal
 
 pub returns : goal.returns
