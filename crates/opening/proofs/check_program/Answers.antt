@@ -1,6 +1,5 @@
 -- `opening::check_program` meets its contract: 24 comes before 14, and what `check_used` asks is the program's own region. Assumes nothing.
 use Rattle.opening.proofs.Tests.{refused-24, passed-24, own_is}
-use borrow.Author.Rules.{rules}
 use Rattle.opening.proofs.check_program.Goals as goal
 
 pub returns-in-Refused : goal.returns-in-Refused

@@ -1,11 +1,8 @@
 -- `opening::collect_entries` meets its contract. The invariant of its loop: the regions of the entries passed stand after those that were there.
 use mathlib.Core.Path.{◌≡◌}
 use Prim.Native.Nat.{◌+◌, ◌-◌, ◌≤◌}
-use native.Mathlib.Omega.{arith}
 use lib.ListN.{length}
-use borrow.Author.Rules.{rules}
 use Rattle.opening.specs.Inner.Prepared.{CollectedTo}
-use Rattle.opening.proofs.UsedRegions.{collected-start, collected-turn, collected-end}
 use Rattle.opening.proofs.collect_entries.Given as goal
 
 abbrev pub invariant-loop-k : goal.invariant-loop-k

@@ -1,7 +1,5 @@
 -- `opening::next_file` meets its contract: the entry stays between k and the end. Assumes nothing.
 use Prim.Native.Nat.{◌-◌, ◌≤◌}
-use native.Mathlib.Omega.{arith}
-use borrow.Author.Rules.{rules}
 use Rattle.opening.proofs.next_file.Given as goal
 
 abbrev pub invariant-loop-i : goal.invariant-loop-i

@@ -1,6 +1,5 @@
 -- `opening::prepare` meets its contract: a refusal before 24 is opening's, and otherwise `check_program` gives the answer.
 use Rattle.opening.proofs.Tests.{refused-before, passed-before}
-use borrow.Author.Rules.{rules}
 use Rattle.opening.proofs.prepare.Goals as goal
 
 pub returns-in-Refused : goal.returns-in-Refused

@@ -1,7 +1,5 @@
 -- `opening::turn_of` meets its contract: the turn stays between the first entry and the last. Assumes nothing.
-use Prim.Native.Nat.{◌-◌, ◌≤◌}
 use native.Mathlib.Omega.{arith}
-use borrow.Author.Rules.{rules}
 use Rattle.opening.proofs.turn_of.Goals as goal
 
 pub returns-then-program-eq0 : goal.returns-then-program-eq0
