@@ -6,15 +6,14 @@ use mathlib.Core.Bool.{Bool, true, false, true≢false, ◌&&◌}
 use mathlib.Core.List.{List}
 use native.Mathlib.Omega.{arith}
 use borrow.Author.Tests.{ne_eqb, eqb-true, eqb-false}
-use lib.ListN.{get_or, set, replicate, length, length-replicate, length-set, get_or-eq_default}
-use lib.Seq.{get_or-set_same, get_or-set_other}
+use lib.ListN.{get_or, replicate, length, length-replicate, get_or-eq_default}
 use lib.Dec.{eqb}
 use Rattle.tree.specs.Units.{leadByte}
 use Rattle.tree.specs.Table.{plain_byte, safeByte, plainUnit, safeUnit}
 use Rattle.tree.specs.Inner.Pairs.{pair_at}
 use Rattle.refusal.specs.Laws.Tests.{lt-or-le, and_left, and_right}
 use Rattle.fst_text.specs.Inner.Texts.{cleanByte, cleanFrom, NoLead}
-use Rattle.fst_text.specs.Inner.Blocks.{Fit, markPlace, Marked}
+use Rattle.fst_text.specs.Inner.Blocks.{Fit, Marked}
 use Rattle.fst_text.proofs.Texts.{inside, every-end, every-pair, every-single, clean-no-pair, clean-pair, clean-single, clean-behind}
 
 -- ---- fit texts
@@ -86,13 +85,3 @@ unmarked (suc n) (suc b) = unmarked n b
 
 pub marked-none : (tab : List ℕ) (base : ℕ) → Marked tab base (replicate 2048 false)
 marked-none tab base = record { long = length-replicate 2048 false; fit = λ b e. absurd (true≢false (sym e ∙ unmarked 2048 b)) }
-
-pub marked-set : (tab : List ℕ) (base : ℕ) (marks : List Bool) (mark : ℕ) (v : Bool) → Marked tab base marks → mark < 2048 → (v ≡ true → Fit tab (base + markPlace mark)) →
-    Marked tab base (set marks mark v)
-marked-set tab base marks mark v m h f = record { long = length-set marks mark v ∙ m.long; fit = λ j e. go j (eqb j mark) refl e }
-  where
-    go : (j : ℕ) (t : Bool) → eqb j mark ≡ t → get_or (set marks mark v) j false ≡ true → Fit tab (base + markPlace j)
-    go j true q e =
-        let s : j ≡ mark = eqb-true j mark q in
-        rw s (f (sym (get_or-set_same marks mark v false (omega (arith, m.long))) ∙ rw s at e))
-    go j false q e = m.fit j (sym (get_or-set_other marks mark j v false (eqb-false j mark q)) ∙ e)

@@ -3,5 +3,4 @@ pub mod BlockLaws
 pub mod Chart
 pub mod Judging
 pub mod NameLaws
-pub mod Ranges
 pub mod Texts

@@ -1,35 +1,16 @@
 -- A name that is passed in, unit by unit. Assumes nothing.
 use Prim.Native.Nat.{ℕ, ◌+◌}
 use mathlib.Core.Path.{◌≡◌, refl, sym, ◌∙◌}
-use borrow.Author.Tests.{eq-eqb, ne_eqb}
 use mathlib.Core.Bool.{Bool, true, false, not, ◌&&◌}
 use mathlib.Core.List.{List, [], ◌∷◌}
 use native.Mathlib.Omega.{arith}
-use lib.Dec.{eqb}
-use lib.ListN.{length, get_or, drop}
+use lib.ListN.{length, drop}
 use Rattle.tree.specs.Units.{units}
 use Rattle.tree.specs.Table.{every, dots, safe, plain}
 use Rattle.tree.specs.Inner.Pairs.{pair_at}
 use Rattle.tree.specs.Laws.UnitLaws.{units-pair}
 use Rattle.fst_text.specs.Inner.Texts.{unitTest}
 use Rattle.fst_text.proofs.Judging.{pair_fits}
-
-pub dots-one : (nm : List ℕ) → length nm ≡ 1 → dots nm ≡ eqb (get_or nm 0 0) 0x2E
-dots-one [] h = absurd (omega arith)
-dots-one (a ∷ []) h = refl
-dots-one (a ∷ b ∷ s) h = absurd (omega arith)
-
-pub dots-two : (nm : List ℕ) → length nm ≡ 2 → dots nm ≡ (eqb (get_or nm 0 0) 0x2E && eqb (get_or nm 1 0) 0x2E)
-dots-two [] h = absurd (omega arith)
-dots-two (a ∷ []) h = absurd (omega arith)
-dots-two (a ∷ b ∷ []) h = refl
-dots-two (a ∷ b ∷ c ∷ s) h = absurd (omega arith)
-
-pub dots-other : (nm : List ℕ) → (length nm ≡ 1 → ⊥) → (length nm ≡ 2 → ⊥) → dots nm ≡ false
-dots-other [] h g = refl
-dots-other (a ∷ []) h g = absurd (h (omega arith))
-dots-other (a ∷ b ∷ []) h g = absurd (g (omega arith))
-dots-other (a ∷ b ∷ c ∷ s) h g = refl
 
 -- what is left from i on has the answer of the whole name
 pub record Judged (only : Bool) (nm : List ℕ) (i : ℕ) : Type 0 where
@@ -56,18 +37,6 @@ safe-is [] h = absurd (h (omega arith))
 safe-is (b ∷ s) h = refl
 
 -- ---- by what the code compared
-
-pub one-dot : (nm : List ℕ) → length nm ≡ 1 → eqb (get_or nm 0 0) 0x2E ≡ dots nm
-one-dot nm h = sym (dots-one nm h)
-
-pub no-dots : (nm : List ℕ) → (length nm ≡ 1 → ⊥) → (length nm ≡ 2 → ⊥) → false ≡ dots nm
-no-dots nm h g = sym (dots-other nm h g)
-
-pub no-first-dot : (nm : List ℕ) → length nm ≡ 2 → (get_or nm 0 0 ≡ 0x2E → ⊥) → false ≡ dots nm
-no-first-dot nm h g = rw (dots-two nm h, ne_eqb (get_or nm 0 0) 0x2E g)
-
-pub second-dot : (nm : List ℕ) → length nm ≡ 2 → get_or nm 0 0 ≡ 0x2E → eqb (get_or nm 1 0) 0x2E ≡ dots nm
-second-dot nm h g = rw (dots-two nm h, eq-eqb (get_or nm 0 0) 0x2E g)
 
 pub plain-read : (nm : List ℕ) (r : Bool) → r ≡ every (unitTest false) (units nm) → r ≡ plain nm
 plain-read nm r e = e ∙ plain-is nm

@@ -6,7 +6,7 @@ use mathlib.Core.Bool.{Bool, true, false, true≢false, not, ◌&&◌}
 use mathlib.Core.List.{List, [], ◌∷◌}
 use native.Mathlib.Omega.{arith}
 use native.Mathlib.Numerals.{add-one}
-use borrow.Author.Tests.{ne_eqb, eqb-true, eqb-false}
+use borrow.Author.Tests.{eqb-true, eqb-false}
 use lib.ListN.{length, get_or, drop}
 use lib.Seq.{drop-drop, get_or-drop}
 use lib.Dec.{eqb}
@@ -15,7 +15,7 @@ use Rattle.tree.specs.Table.{every, dots, safe, plain_byte, safeByte, safeUnit}
 use Rattle.tree.specs.Inner.Pairs.{pair_at}
 use Rattle.tree.specs.Laws.UnitLaws.{in_either, lead_is, trail_is, by_units, units-pair, units-single, units-none}
 use Rattle.refusal.specs.Laws.Tests.{lt-or-le, and_left, and_right, or_cases, is_false}
-use Rattle.fst_text.specs.Inner.Texts.{textAt, cleanByte, cleanUnit, cleanFrom, NoLead, CleanTo}
+use Rattle.fst_text.specs.Inner.Texts.{textAt, cleanByte, cleanUnit, cleanFrom, NoLead}
 
 pub text-end : (tab : List ℕ) (i : ℕ) → get_or tab i 0 ≡ 0 → textAt tab i ≡ []
 text-end [] zero h = refl
@@ -38,17 +38,6 @@ pub inside : (tab : List ℕ) (i : ℕ) → (get_or tab i 0 ≡ 0 → ⊥) → i
 inside [] i h = absurd (h refl)
 inside (b ∷ s) zero h = omega arith
 inside (b ∷ s) (suc i) h = let r : i < length s = inside s i h in omega arith
-
--- so is a lead byte, and the place behind it is one in the text or its end
-pub lead-inside : (s : List ℕ) (i b : ℕ) (t : Bool) → b ≡ get_or s i 0 → t ≡ leadByte b → t ≡ true → i < length s
-lead-inside s i b t e f g = inside s i (λ z. omega (arith, (lead_is b (sym f ∙ g)).0))
-
--- a lead byte, and then the byte at the next place
-pub pair_read : (s : List ℕ) (i j a b : ℕ) (t u : Bool) → a ≡ get_or s i 0 → t ≡ leadByte a → t ≡ true → b ≡ get_or s j 0 → j ≡ i + 1 → u ≡ trailByte b → u ≡ pair_at s i
-pair_read s i j a b t u e f g h n k = rw (← add-one i, ← n, ← e, ← f, g, ← h) k
-
-pub no-pair : (s : List ℕ) (i a : ℕ) (t : Bool) → a ≡ get_or s i 0 → t ≡ leadByte a → t ≡ false → false ≡ pair_at s i
-no-pair s i a t e f g = rw (← e, ← f, g)
 
 -- ---- the units of a text
 
@@ -88,46 +77,6 @@ every-pair p tab i h e = rw (text-pair tab i h, e)
 pub every-single : (p : TextUnit → Bool) (tab : List ℕ) (i : ℕ) (t : Bool) → (get_or tab i 0 ≡ 0 → ⊥) → pair_at tab i ≡ false → p (single (get_or tab i 0)) ≡ t →
     every p (units (textAt tab i)) ≡ (t && every p (units (textAt tab (i + 1))))
 every-single p tab i t h n e = rw (text-single tab i h n, e)
-
--- ---- `.` and `..`
-
-dots-more : (a : ℕ) (s : List ℕ) → eqb a 0x2E ≡ false → dots (a ∷ s) ≡ false
-dots-more a [] h = h
-dots-more a (b ∷ []) h = rw h
-dots-more a (b ∷ c ∷ s) h = refl
-
-dots-second : (a b : ℕ) (s : List ℕ) → eqb b 0x2E ≡ false → dots (a ∷ b ∷ s) ≡ false
-dots-second a b [] h = go (eqb a 0x2E)
-  where
-    go : (t : Bool) → (t && eqb b 0x2E) ≡ false
-    go true = h
-    go false = refl
-dots-second a b (c ∷ s) h = refl
-
-module _ (tab : List ℕ) (at : ℕ) where
-  pub dots-none : (get_or tab at 0 ≡ 0x2E → ⊥) → dots (textAt tab at) ≡ false
-  dots-none h = go (eqb (get_or tab at 0) 0) refl
-    where
-      go : (t : Bool) → eqb (get_or tab at 0) 0 ≡ t → dots (textAt tab at) ≡ false
-      go true e = rw (text-end tab at (eqb-true _ _ e))
-      go false e = rw (text-more tab at (eqb-false _ _ e)) (dots-more (get_or tab at 0) (textAt tab (at + 1)) (ne_eqb _ _ h))
-
-  -- the bytes after a first `.`
-  pub dots-one : get_or tab at 0 ≡ 0x2E → get_or tab (at + 1) 0 ≡ 0 → dots (textAt tab at) ≡ true
-  dots-one a b = rw (text-more tab at (omega arith), text-end tab (at + 1) b, a)
-
-  pub dots-other : get_or tab at 0 ≡ 0x2E → (get_or tab (at + 1) 0 ≡ 0 → ⊥) → (get_or tab (at + 1) 0 ≡ 0x2E → ⊥) → dots (textAt tab at) ≡ false
-  dots-other a n b =
-      rw (text-more tab at (omega arith), text-more tab (at + 1) n) (dots-second (get_or tab at 0) (get_or tab (at + 1) 0) (textAt tab (at + 1 + 1)) (ne_eqb _ _ b))
-
-  pub dots-two : get_or tab at 0 ≡ 0x2E → get_or tab (at + 1) 0 ≡ 0x2E → dots (textAt tab at) ≡ eqb (get_or tab (at + 2) 0) 0
-  dots-two a b =
-      let n : at + 1 + 1 ≡ at + 2 = omega arith in
-      rw (text-more tab at (omega arith), text-more tab (at + 1) (omega arith), n) (go (eqb (get_or tab (at + 2) 0) 0) refl)
-    where
-      go : (t : Bool) → eqb (get_or tab (at + 2) 0) 0 ≡ t → dots (get_or tab at 0 ∷ get_or tab (at + 1) 0 ∷ textAt tab (at + 2)) ≡ eqb (get_or tab (at + 2) 0) 0
-      go true e = rw (e, text-end tab (at + 2) (eqb-true _ _ e), a, b)
-      go false e = rw (e, text-more tab (at + 2) (eqb-false _ _ e))
 
 -- ---- a safe name
 
@@ -189,14 +138,6 @@ pub clean-next : (tab : List ℕ) (from end next : ℕ) → end < length tab →
     NoLead tab from end × (cleanFrom tab from ≡ cleanFrom tab end) → NoLead tab from next × (cleanFrom tab from ≡ cleanFrom tab next)
 clean-next tab from end next h e n g =
     rw n (no-lead-next tab from end g.0 (clean-no-lead (get_or tab end 0) e), g.1 ∙ clean-single tab end true h (clean-no-pair tab end e) e)
-
--- LAW: one stretch of clean bytes behind the other
-pub clean-twice : (tab : List ℕ) (from mid end : ℕ) → NoLead tab from mid × (cleanFrom tab from ≡ cleanFrom tab mid) → CleanTo tab mid end → CleanTo tab from end
-clean-twice tab from mid end a b = (
-  record { before = omega (arith, a.0.before, b.0.before); none = λ i h l. ⊎_elim (λ (k : i < mid). a.0.none i h k) (λ (k : mid ≤ i). b.0.none i k l) (lt-or-le i mid) },
-  a.1 ∙ b.1,
-  b.2,
-)
 
 -- what follows a byte that is no lead byte does not start in the middle of a unit
 clean_drop : (l : List ℕ) (n : ℕ) → every cleanUnit (units l) ≡ true → leadByte (get_or l n 0) ≡ false → every cleanUnit (units (drop (suc n) l)) ≡ true

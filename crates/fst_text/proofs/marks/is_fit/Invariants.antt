@@ -1,12 +1,7 @@
 -- `fst_text::marks::is_fit` meets its contract. The invariant of its loop: if the rest of the text is fit, so is the whole; a pair may end a byte
 -- behind the block.
-use native.Mathlib.Omega.{arith}
-use Prim.Native.Nat.{◌+◌, ◌-◌, ◌*◌, ◌/◌, ◌≤◌}
-use mathlib.Core.Path.{◌≡◌, sym}
-use mathlib.Core.Bool.{true≢false}
-use Rattle.fst_text.specs.Inner.Blocks.{Fit, markPlace}
-use Rattle.fst_text.proofs.BlockLaws.{fit-here, fit-byte, fit-two}
-use borrow.Author.Rules.{rules}
+use Prim.Native.Nat.{◌+◌, ◌-◌, ◌≤◌}
+use Rattle.fst_text.specs.Inner.Blocks.{Fit}
 use Rattle.fst_text.proofs.marks.is_fit.Given as goal
 
 abbrev pub invariant-loop-i : goal.invariant-loop-i

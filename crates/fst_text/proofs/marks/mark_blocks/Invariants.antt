@@ -1,8 +1,6 @@
 -- `fst_text::marks::mark_blocks` meets its contract. The invariant of its loop: the marks say what they should.
-use native.Mathlib.Omega.{arith}
-use Prim.Native.Nat.{◌-◌, ◌≤◌}
+use Prim.Native.Nat.{◌≤◌}
 use Rattle.fst_text.specs.Inner.Blocks.{Marked}
-use Rattle.fst_text.proofs.BlockLaws.{marked-set}
 use Rattle.fst_text.proofs.marks.mark_blocks.Given as goal
 
 abbrev pub invariant-loop-mark : goal.invariant-loop-mark

@@ -1,6 +1,5 @@
 -- `fst_text::names::is_plain` meets its contract: each unit is.
 use Rattle.fst_text.proofs.NameLaws.{plain-read}
-use borrow.Author.Rules.{rules}
 use Rattle.fst_text.proofs.names.is_plain.Goals as goal
 
 pub returns : goal.returns

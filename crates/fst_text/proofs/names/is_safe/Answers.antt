@@ -1,6 +1,5 @@
 -- `fst_text::names::is_safe` meets its contract: not empty, no dots, and each unit is.
 use Rattle.fst_text.proofs.NameLaws.{unsafe-none, unsafe-dots, safe-read}
-use borrow.Author.Rules.{rules}
 use Rattle.fst_text.proofs.names.is_safe.Goals as goal
 
 pub returns-then-name-eq0 : goal.returns-then-name-eq0

@@ -1,25 +1,13 @@
 -- `fst_text::text::clean_from` meets its contract. The invariant of its loop: the rest has the answer of the whole, and starts with no clean byte.
-use native.Mathlib.Omega.{arith}
-use Prim.Native.Nat.{◌-◌, ◌<◌}
-use mathlib.Core.Path.{◌≡◌, sym, ◌∙◌}
+use mathlib.Core.Path.{sym, ◌∙◌}
 use mathlib.Core.Bool.{false}
-use lib.ListN.{length, get_or}
-use Rattle.fst_text.specs.Inner.Texts.{cleanByte, cleanFrom}
 use Rattle.fst_text.proofs.Texts.{clean-past, clean-pair, clean-single}
-use borrow.Author.Rules.{rules}
 use Rattle.fst_text.proofs.text.clean_from.Goals as goal
-
-pub loop-i-init : goal.loop-i-init
-loop-i-init c = (c.clean_to-i.ensures.1, c.clean_to-i.ensures.2)
-
-pub loop-i-smaller : goal.loop-i-smaller
-loop-i-smaller c = omega (arith, c.clean_to-i-then-is_pair.ensures.0.before)
 
 pub loop-i-preserved : goal.loop-i-preserved
 loop-i-preserved c =
     let e = c.clean_to-i-then-is_pair.ensures in
-    let l = c in
-    (l.loop-i.invariant.0 ∙ (clean-pair _ l.loop-i.i (sym c.is_pair.ensures ∙ c.if-is_pair.true) ∙ e.1), e.2)
+    (c.loop-i.invariant.0 ∙ (clean-pair _ c.loop-i.i (sym c.is_pair.ensures ∙ c.if-is_pair.true) ∙ e.1), e.2)
 
 pub returns-else-is_pair : goal.returns-else-is_pair
 returns-else-is_pair c =

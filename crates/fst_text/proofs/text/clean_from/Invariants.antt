@@ -1,12 +1,9 @@
 -- `fst_text::text::clean_from` meets its contract. The invariant of its loop: the rest has the answer of the whole, and starts with no clean byte.
-use native.Mathlib.Omega.{arith}
 use Prim.Native.Nat.{◌-◌, ◌<◌}
-use mathlib.Core.Path.{◌≡◌, sym, ◌∙◌}
+use mathlib.Core.Path.{◌≡◌}
 use mathlib.Core.Bool.{false}
 use lib.ListN.{length, get_or}
 use Rattle.fst_text.specs.Inner.Texts.{cleanByte, cleanFrom}
-use Rattle.fst_text.proofs.Texts.{clean-past, clean-pair, clean-single}
-use borrow.Author.Rules.{rules}
 use Rattle.fst_text.proofs.text.clean_from.Given as goal
 
 abbrev pub invariant-loop-i : goal.invariant-loop-i

@@ -1,11 +1,8 @@
 -- `fst_text::text::clean_to` meets its contract. The invariant of its loop: no byte passed is a lead byte, and the rest has the answer of the whole.
-use native.Mathlib.Omega.{arith}
 use Prim.Native.Nat.{◌-◌}
-use mathlib.Core.Path.{◌≡◌, refl, sym, ◌∙◌}
+use mathlib.Core.Path.{◌≡◌}
 use lib.ListN.{length}
 use Rattle.fst_text.specs.Inner.Texts.{cleanFrom, NoLead}
-use Rattle.fst_text.proofs.Texts.{no-lead-yet, clean-next}
-use borrow.Author.Rules.{rules}
 use Rattle.fst_text.proofs.text.clean_to.Given as goal
 
 abbrev pub invariant-loop-end : goal.invariant-loop-end

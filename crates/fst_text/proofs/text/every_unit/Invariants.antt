@@ -1,18 +1,14 @@
 -- `fst_text::text::every_unit` meets its contract. The invariant of its loop: the rest of the text has the answer of the whole.
-use native.Mathlib.Omega.{arith}
 use Prim.Native.Nat.{◌-◌}
-use mathlib.Core.Path.{◌≡◌, refl, sym, ◌∙◌}
-use lib.ListN.{length, get_or-eq_default}
+use mathlib.Core.Path.{◌≡◌}
+use lib.ListN.{length}
 use Rattle.tree.specs.Units.{units}
 use Rattle.tree.specs.Table.{every}
 use Rattle.fst_text.specs.Inner.Texts.{textAt, unitTest}
-use Rattle.fst_text.proofs.Texts.{units-end, text-pair, text-single}
-use Rattle.fst_text.proofs.Judging.{none_left, pair_fits, byte_fits, byte-fails}
-use borrow.Author.Rules.{rules}
 use Rattle.fst_text.proofs.text.every_unit.Given as goal
 
 abbrev pub invariant-loop-i : goal.invariant-loop-i
-invariant-loop-i l = every (unitTest l.safe-only) (units (textAt l.table l.at)) ≡ every (unitTest l.safe-only) (units (textAt l.table l.i))
+invariant-loop-i l = every (unitTest l.safe_only) (units (textAt l.table l.at)) ≡ every (unitTest l.safe_only) (units (textAt l.table l.i))
 
 abbrev pub decreases-loop-i : goal.decreases-loop-i
 decreases-loop-i l = length l.table - l.i

@@ -3,7 +3,6 @@ use mathlib.Core.Path.{refl, sym, ◌∙◌}
 use mathlib.Core.Bool.{true, false}
 use Rattle.tree.specs.Table.{safe}
 use Rattle.fst_text.proofs.Texts.{text-end, safe-more}
-use borrow.Author.Rules.{rules}
 use Rattle.fst_text.proofs.text.is_safe_name.Goals as goal
 
 pub returns-then-byte_at-eq0 : goal.returns-then-byte_at-eq0

@@ -1,11 +1,9 @@
 -- `fst_text::text::pass_clean` meets its contract: the chart tells which byte is clean, and each clean one is passed.
-use Prim.Native.Nat.{◌+◌, ◌-◌}
-use mathlib.Core.Path.{◌≡◌, refl}
-use native.Mathlib.Omega.{arith}
+use Prim.Native.Nat.{◌-◌}
+use mathlib.Core.Path.{◌≡◌}
 use lib.ListN.{length}
 use Rattle.fst_text.specs.Inner.Texts.{cleanFrom, NoLead}
-use Rattle.fst_text.proofs.Chart.{Charts, charts}
-use Rattle.fst_text.proofs.Texts.{no-lead-yet, clean-next}
+use Rattle.fst_text.proofs.Chart.{Charts}
 use Rattle.fst_text.proofs.text.pass_clean.Given as goal
 
 abbrev pub invariant-loop-end : goal.invariant-loop-end
