@@ -1,9 +1,7 @@
 -- `fst_measure::name_len` meets its contract. The invariant: no zero byte was passed. The measure: the bytes that are left before it.
 use Prim.Native.Nat.{◌≤◌, ◌-◌}
-use native.Mathlib.Omega.{arith}
 use lib.ListN.{length, drop}
 use Rattle.tree.specs.Table.{upTo0}
-use Rattle.fst_measure.proofs.Names.{run_more, run-done}
 use Rattle.fst_measure.proofs.name_len.Given as goal
 
 abbrev pub invariant-loop-i : goal.invariant-loop-i
