@@ -1,6 +1,5 @@
 -- `fst_raise::place_after` meets its contract: by the test on the parent.
 use native.Mathlib.Numerals.{add-one}
-use borrow.Author.Rules.{rules}
 use borrow.Author.Tests.{le-leb, lt-leb}
 use Rattle.tree.specs.Insert.{shifted}
 use Rattle.fst_raise.proofs.place_after.Goals as goal

@@ -35,4 +35,4 @@ pub returns-else-first-ge16777216 : goal.returns-else-first-ge16777216
 returns-else-first-ge16777216 c =
     let s = c in
     let is-file = first-file s.args.table.now s.args.q s.args.grow s.args.k s.requires.0 s.requires.1.kinds s.requires.2 (omega (arith, c.read_u32.ensures, c.if-first-ge16777216.false)) in
-    cc (c.read_u32.ensures, c.write_u32.ensures, raised-file s.args.table.now s.args.q s.args.grow s.args.k s.requires.0 s.requires.1.kinds s.requires.2 (λ i. omega (arith, c.type_inv.table i)) is-file)
+    cc (c.read_u32.ensures, c.write_u32.ensures, raised-file s.args.table.now s.args.q s.args.grow s.args.k s.requires.0 s.requires.1.kinds s.requires.2 (search rules) is-file)
