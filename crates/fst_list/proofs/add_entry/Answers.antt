@@ -6,56 +6,55 @@ use Rattle.tree.specs.Table.{none, nodesOf, name_of, parent_of, offsetOrParent, 
 use Rattle.fst_list.specs.Rows.{imagePlace}
 use Rattle.fst.proofs.Nodes.{opened, opens-inside}
 use Rattle.fst_list.proofs.RowLaws.{row-file, row-directory}
-use borrow.Author.Rules.{rules}
 use Rattle.fst_list.proofs.add_entry.Goals as goal
 
 pub overflow_cast-parent : goal.overflow_cast-parent
 overflow_cast-parent c =
     let s = c in
-    let i = opens-inside s.args.table.now s.requires.0.0 in omega (arith, s.requires.0.1, c.parent_in-parent.ensures.1)
+    let i = opens-inside s.args.table.now s.requires.opens.0 in omega (arith, s.requires.opens.1, c.parent_in-parent.ensures.1)
 
 pub read_u32-last-requires : goal.read_u32-last-requires
 read_u32-last-requires c =
     let s = c in
-    let i = opens-inside s.args.table.now s.requires.0.0 in omega (arith, s.requires.0.1)
+    let i = opens-inside s.args.table.now s.requires.opens.0 in omega (arith, s.requires.opens.1)
 
 pub bounds-table-k : goal.bounds-table-k
 bounds-table-k c =
     let s = c in
-    let i = opens-inside s.args.table.now s.requires.0.0 in omega (arith, s.requires.0.1)
+    let i = opens-inside s.args.table.now s.requires.opens.0 in omega (arith, s.requires.opens.1)
 
 pub read_u32-offset-requires : goal.read_u32-offset-requires
 read_u32-offset-requires c =
     let s = c in
-    let i = opens-inside s.args.table.now s.requires.0.0 in omega (arith, s.requires.0.1)
+    let i = opens-inside s.args.table.now s.requires.opens.0 in omega (arith, s.requires.opens.1)
 
 pub write_row-requires : goal.write_row-requires
 write_row-requires c =
     let s = c in
-    let i = opens-inside s.args.table.now s.requires.0.0 in (omega (arith, s.requires.0.1, s.requires.0.2), omega (arith, s.requires.0.1))
+    let i = opens-inside s.args.table.now s.requires.opens.0 in (omega (arith, s.requires.opens.1, s.requires.opens.2), omega (arith, s.requires.opens.1))
 
 pub write_row-requires-else-table-k-eq0 : goal.write_row-requires-else-table-k-eq0
 write_row-requires-else-table-k-eq0 c =
     let s = c in
-    let i = opens-inside s.args.table.now s.requires.0.0 in (omega (arith, s.requires.0.1, s.requires.0.2), omega (arith, s.requires.0.1))
+    let i = opens-inside s.args.table.now s.requires.opens.0 in (omega (arith, s.requires.opens.1, s.requires.opens.2), omega (arith, s.requires.opens.1))
 
 pub returns-then-table-k-eq0 : goal.returns-then-table-k-eq0
 returns-then-table-k-eq0 c =
     let T = c.args.table.now in
-    let a = opened T (λ i. omega (arith, c.type_inv.table i)) c.requires.0.0 in
+    let a = opened T (λ i. omega (arith, c.type_inv.table i)) c.requires.opens.0 in
     let p : c.parent_in-parent.result ≡ parent_of (nodesOf T) c.args.k = c.parent_in-parent.ensures.0 in
     let q : c.image_place-place.result ≡ imagePlace c.args.base T c.args.k = c.image_place-place.ensures in
-    let s : c.args.size ≡ length (name_of (get_or (nodesOf T) c.args.k none)) = c.requires.1.1 in
+    let s : c.args.size ≡ length (name_of (get_or (nodesOf T) c.args.k none)) = c.requires.parents_in.1 in
     let l : c.read_u32-last.result ≡ sizeOrNext T c.args.k = c.read_u32-last.ensures in
     let o : c.read_u32-offset.result ≡ offsetOrParent T c.args.k = c.read_u32-offset.ensures in
-    c.write_row.ensures ∙ rw (row-file a c.args.base c.args.k c.requires.0.1 c.if-table-k-eq0.true, p, q, s, l, o)
+    c.write_row.ensures ∙ rw (row-file a c.args.base c.args.k c.requires.opens.1 c.if-table-k-eq0.true, p, q, s, l, o)
 
 pub returns-else-table-k-eq0 : goal.returns-else-table-k-eq0
 returns-else-table-k-eq0 c =
     let T = c.args.table.now in
-    let a = opened T (λ i. omega (arith, c.type_inv.table i)) c.requires.0.0 in
+    let a = opened T (λ i. omega (arith, c.type_inv.table i)) c.requires.opens.0 in
     let p : c.parent_in-parent.result ≡ parent_of (nodesOf T) c.args.k = c.parent_in-parent.ensures.0 in
     let q : c.image_place-place.result ≡ imagePlace c.args.base T c.args.k = c.image_place-place.ensures in
-    let s : c.args.size ≡ length (name_of (get_or (nodesOf T) c.args.k none)) = c.requires.1.1 in
+    let s : c.args.size ≡ length (name_of (get_or (nodesOf T) c.args.k none)) = c.requires.parents_in.1 in
     let l : c.read_u32-last.result ≡ sizeOrNext T c.args.k = c.read_u32-last.ensures in
-    c.write_row-else-table-k-eq0.ensures ∙ rw (row-directory a c.args.base c.args.k c.requires.0.1 c.if-table-k-eq0.false, p, q, s, l)
+    c.write_row-else-table-k-eq0.ensures ∙ rw (row-directory a c.args.base c.args.k c.requires.opens.1 c.if-table-k-eq0.false, p, q, s, l)

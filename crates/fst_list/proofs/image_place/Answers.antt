@@ -3,7 +3,6 @@ use native.Mathlib.Omega.{arith}
 use Rattle.fst.proofs.Nodes.{opened}
 use Rattle.fst_list.proofs.RowLaws.{image-place-is}
 use Rattle.fst.proofs.NamePlaces.{place_inside}
-use borrow.Author.Rules.{rules}
 use Rattle.fst_list.proofs.image_place.Goals as goal
 
 pub overflow_add-result : goal.overflow_add-result

@@ -1,9 +1,6 @@
 -- `fst_list::length_before` meets its contract. The invariant of its loop: the bytes passed and the rest make the whole.
 use native.Mathlib.Omega.{arith}
-use Prim.Native.Nat.{◌+◌, ◌-◌, ◌≤◌}
 use mathlib.Core.Path.{◌≡◌}
-use lib.ListN.{length}
-use Rattle.fst_text.specs.Inner.Texts.{textAt}
 use Rattle.fst_text.proofs.Texts.{length-end, length-turn}
 use Rattle.fst_list.proofs.length_before.Goals as goal
 

@@ -1,6 +1,6 @@
 -- `fst_list::list_entries` meets its contract. The invariant of its loop: the rows of the entries below k stand in the list, and the ends that are kept are right.
 use native.Mathlib.Omega.{arith}
-use Prim.Native.Nat.{◌*◌, ◌-◌, ◌≤◌}
+use Prim.Native.Nat.{◌*◌, ◌≤◌}
 use mathlib.Core.Path.{◌≡◌}
 use mathlib.Core.Bool.{true}
 use borrow.Author.Tests.{lt-ltb, le-ltb}
@@ -8,9 +8,8 @@ use lib.ListN.{length}
 use lib.Dec.{ltb}
 use Rattle.tree.specs.Table as tab
 use Rattle.fst_list.specs.Rows.{listVerdict, listed}
-use Rattle.fst_list.specs.Inner.Ends.{EndsIn}
 use Rattle.fst.proofs.Nodes.{opens-inside}
-use Rattle.fst_list.proofs.RowLaws.{Listing, listing_start, listing-parents, listing-turn, listing-end}
+use Rattle.fst_list.proofs.RowLaws.{listing_start, listing-parents, listing-turn, listing-end}
 use Rattle.fst_list.proofs.Lengths.{ends-start}
 use Rattle.fst_list.proofs.list_entries.Goals as goal
 
@@ -26,7 +25,7 @@ returns-then-list-count c =
     let T = c.args.table.now in
     let L = c.args.list.now in
     let t : ltb (length L) (6 * tab.count T) ≡ true = lt-ltb (length L) (6 * tab.count T) (omega (arith, c.count-count.ensures)) in
-    (rw t, rw t)
+    record { value = rw t; list_after = rw t }
 
 pub loop-k-init : goal.loop-k-init
 loop-k-init c =
@@ -39,16 +38,19 @@ name_length-size-requires c =
     (s.requires.0, omega (arith, c.count-count.ensures, c.loop-k-test.true), omega (arith, s.requires.1), c.loop-k.invariant.1)
 
 pub overflow_cast-size : goal.overflow_cast-size
-overflow_cast-size c = omega (arith, c.name_length-size.ensures.0.1)
+overflow_cast-size c = omega (arith, c.name_length-size.ensures.value.1)
 
 pub add_entry-requires : goal.add_entry-requires
 add_entry-requires c =
     let s = c in
     let T = s.args.table.now in
     let L = s.args.list.now in
-    let z = c.name_length-size.ensures.0 in
+    let z = c.name_length-size.ensures.value in
     let r : 6 * tab.count T ≤ length L = omega (arith, c.count-count.ensures, c.if-list-count.false) in
-    ((s.requires.0, omega (arith, c.count-count.ensures, c.loop-k-test.true), omega (arith, c.loop-k.invariant.0.long), s.requires.1), (listing-parents s.args.base T L c.loop-k.list c.loop-k.k r c.loop-k.invariant.0, z.0))
+    record {
+      opens = (s.requires.0, omega (arith, c.count-count.ensures, c.loop-k-test.true), omega (arith, c.loop-k.invariant.0.long), s.requires.1);
+      parents_in = (listing-parents s.args.base T L c.loop-k.list c.loop-k.k r c.loop-k.invariant.0, z.0);
+    }
 
 pub loop-k-preserved : goal.loop-k-preserved
 loop-k-preserved c =
@@ -56,7 +58,7 @@ loop-k-preserved c =
     let T = s.args.table.now in
     let L = s.args.list.now in
     let r : 6 * tab.count T ≤ length L = omega (arith, c.count-count.ensures, c.if-list-count.false) in
-    (listing-turn s.args.base T L c.loop-k.list c.loop-k.k r c.loop-k.invariant.0 (omega (arith, c.count-count.ensures, c.loop-k-test.true)) _ c.add_entry.ensures, c.name_length-size.ensures.1)
+    (listing-turn s.args.base T L c.loop-k.list c.loop-k.k r c.loop-k.invariant.0 (omega (arith, c.count-count.ensures, c.loop-k-test.true)) _ c.add_entry.ensures, c.name_length-size.ensures.ends_in)
 
 pub shape_of-list : goal.shape_of-list
 shape_of-list c = omega (arith, c.loop-k.invariant.0.long)
@@ -68,4 +70,7 @@ returns c =
     let T = s.args.table.now in
     let L = s.args.list.now in
     let r : 6 * tab.count T ≤ length L = omega (arith, c.count-count.ensures, c.if-list-count.false) in
-    (rw (le-ltb (length L) (6 * tab.count T) r), listing-end s.args.base T L c.loop-k.list c.loop-k.k r c.loop-k.invariant.0 (omega (arith, c.count-count.ensures, c.loop-k-test.false)))
+    record {
+      value = rw (le-ltb (length L) (6 * tab.count T) r);
+      list_after = listing-end s.args.base T L c.loop-k.list c.loop-k.k r c.loop-k.invariant.0 (omega (arith, c.count-count.ensures, c.loop-k-test.false));
+    }

@@ -1,17 +1,7 @@
 -- `fst_list::list_entries` meets its contract. The invariant of its loop: the rows of the entries below k stand in the list, and the ends that are kept are right.
-use native.Mathlib.Omega.{arith}
-use Prim.Native.Nat.{◌*◌, ◌-◌, ◌≤◌}
-use mathlib.Core.Path.{◌≡◌}
-use mathlib.Core.Bool.{true}
-use borrow.Author.Tests.{lt-ltb, le-ltb}
-use lib.ListN.{length}
-use lib.Dec.{ltb}
-use Rattle.tree.specs.Table as tab
-use Rattle.fst_list.specs.Rows.{listVerdict, listed}
+use Prim.Native.Nat.{◌-◌}
 use Rattle.fst_list.specs.Inner.Ends.{EndsIn}
-use Rattle.fst.proofs.Nodes.{opens-inside}
-use Rattle.fst_list.proofs.RowLaws.{Listing, listing_start, listing-parents, listing-turn, listing-end}
-use Rattle.fst_list.proofs.Lengths.{ends-start}
+use Rattle.fst_list.proofs.RowLaws.{Listing}
 use Rattle.fst_list.proofs.list_entries.Given as goal
 
 abbrev pub invariant-loop-k : goal.invariant-loop-k

@@ -10,7 +10,7 @@ use borrow.Author.Rules.{rules}
 use Rattle.fst_list.proofs.name_length.Goals as goal
 
 pub returns-then-k-eq0 : goal.returns-then-k-eq0
-returns-then-k-eq0 c = (search (root-name, rules), c.requires.3)
+returns-then-k-eq0 c = record { value = search (root-name, rules); ends_in = c.requires.3 }
 
 pub text_length-requires : goal.text_length-requires
 text_length-requires c =
@@ -25,5 +25,5 @@ returns c =
     let T = s.args.table.now in
     let a = opened T (λ i. omega (arith, c.type_inv.table i)) s.requires.0 in
     let n : name_of (get_or (nodesOf T) s.args.k none) ≡ textAt T (namePlace T s.args.k) = name-there T s.args.k (omega arith) s.requires.1 in
-    let e : c.text_length.result ≡ length (name_of (get_or (nodesOf T) s.args.k none)) = rw n (rw c.name_place.ensures.0 at c.text_length.ensures.0) in
-    ((e, omega (arith, name-short a s.args.k (omega arith) s.requires.1)), c.text_length.ensures.1)
+    let e : c.text_length.result ≡ length (name_of (get_or (nodesOf T) s.args.k none)) = rw n (rw c.name_place.ensures.0 at c.text_length.ensures.value) in
+    record { value = (e, omega (arith, name-short a s.args.k (omega arith) s.requires.1)); ends_in = c.text_length.ensures.ends_in }

@@ -1,11 +1,7 @@
 -- `fst_list::parent_in` meets its contract. The invariant of its loop: no directory past p encloses the entry.
-use native.Mathlib.Omega.{arith}
 use Prim.Native.Nat.{◌+◌, ◌<◌}
-use mathlib.Core.Path.{◌≡◌, refl, sym, ◌∙◌}
+use mathlib.Core.Path.{◌≡◌}
 use Rattle.tree.specs.Table.{nodesOf, parent_of, parentBelow}
-use Rattle.tree.specs.Laws.Nesting.{parent-before}
-use Rattle.fst.proofs.Nodes.{opens-inside, parent-whole, parent-none}
-use Rattle.fst_list.proofs.RowLaws.{climb-start, climb-found, climb-turn, climb-end}
 use Rattle.fst_list.proofs.parent_in.Given as goal
 
 abbrev pub invariant-loop-p : goal.invariant-loop-p

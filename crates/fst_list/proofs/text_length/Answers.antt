@@ -13,7 +13,7 @@ pub text_length-requires : goal.text_length-requires
 text_length-requires c = c.requires.0
 
 pub returns-then-next-ge320 : goal.returns-then-next-ge320
-returns-then-next-ge320 c = (c.text_length.ensures, c.requires.2)
+returns-then-next-ge320 c = record { value = c.text_length.ensures; ends_in = c.requires.2 }
 
 pub overflow_cast-end : goal.overflow_cast-end
 overflow_cast-end c =
@@ -26,7 +26,7 @@ length_before-requires c =
     (s.requires.0, omega arith, s.requires.2.each (s.args.at / 4096 + 1) (omega arith) c.if-end-gt0.true)
 
 pub returns-then-end-gt0 : goal.returns-then-end-gt0
-returns-then-end-gt0 c = (c.length_before.ensures, c.requires.2)
+returns-then-end-gt0 c = record { value = c.length_before.ensures; ends_in = c.requires.2 }
 
 pub text_length-size-requires : goal.text_length-size-requires
 text_length-size-requires c = c.requires.0
@@ -41,7 +41,10 @@ pub returns-then-size-gt4096 : goal.returns-then-size-gt4096
 returns-then-size-gt4096 c =
     let s = c in
     let e = c.text_length-size.ensures in
-    (e, ends-turn _ _ s.args.at (s.args.at / 4096 + 1) _ s.requires.2 (omega arith) (omega arith) (omega arith) (ap (λ (n : ℕ). s.args.at + n) e) (omega (arith, e, s.requires.0, s.requires.1)))
+    record {
+      value = e;
+      ends_in = ends-turn _ _ s.args.at (s.args.at / 4096 + 1) _ s.requires.2 (omega arith) (omega arith) (omega arith) (ap (λ (n : ℕ). s.args.at + n) e) (omega (arith, e, s.requires.0, s.requires.1));
+    }
 
 pub returns-else-size-gt4096 : goal.returns-else-size-gt4096
-returns-else-size-gt4096 c = (c.text_length-size.ensures, c.requires.2)
+returns-else-size-gt4096 c = record { value = c.text_length-size.ensures; ends_in = c.requires.2 }
