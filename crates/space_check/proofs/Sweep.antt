@@ -20,9 +20,6 @@ pub record Swept (w : List ℕ) (m e at k : ℕ) : Type 0 where
   pub small : at < 8589934592
   pub rest : inSequence 0 e (regionsIn w 0 m) ≡ inSequence at e (regionsIn w k (m - k))
 
-pub sweep-start : (w : List ℕ) (m e : ℕ) → Swept w m e 0 0
-sweep-start w m e = let z : m - 0 ≡ m = omega arith in record { bound = omega arith; small = omega arith; rest = rw z }
-
 module _ (w : List ℕ) (m e at k : ℕ) (s : Swept w m e at k) where
   pub sweep-stop : k < m → get_or w (2 * k) 0 < at → false ≡ inSequence 0 e (regionsIn w 0 m)
   unfolding inSequence regionAt

@@ -11,13 +11,13 @@ regions_disjoint-requires c = (omega arith, search sorted-nonempty, search sorte
 pub returns-then-regions_disjoint : goal.returns-then-regions_disjoint
 returns-then-regions_disjoint c =
     let s = c.sort in
-    let l = s.auto.0 in
+    let l = s.auto.words in
     let r = c.regions_disjoint.ensures in
-    checked-passed _ _ _ _ _ c.requires.2 (omega arith) s.ensures.0 s.ensures.1 _ r.0 r.1 c.if-regions_disjoint.true
+    checked-passed _ _ _ _ _ c.requires.2 (omega arith) s.ensures.count_after s.ensures.same_beside _ r.value r.value_2 c.if-regions_disjoint.true
 
 pub returns-else-regions_disjoint : goal.returns-else-regions_disjoint
 returns-else-regions_disjoint c =
     let s = c.sort in
-    let l = s.auto.0 in
+    let l = s.auto.words in
     let r = c.regions_disjoint.ensures in
-    checked_refused _ _ _ _ _ c.requires.2 (omega arith) s.ensures.0 s.ensures.1 _ r.0 r.1 c.if-regions_disjoint.false
+    checked_refused _ _ _ _ _ c.requires.2 (omega arith) s.ensures.count_after s.ensures.same_beside _ r.value r.value_2 c.if-regions_disjoint.false

@@ -6,22 +6,11 @@ use lib.ListN.{get_or}
 use Rattle.space_check.proofs.Sweep.{Swept, sweep-start, sweep-stop, sweep-go, sweep-end, answers}
 use Rattle.space_check.proofs.regions_disjoint.Goals as goal
 
-pub loop-k-init : goal.loop-k-init
-loop-k-init c = sweep-start _ _ _
-
-pub wide-offset-requires : goal.wide-offset-requires
-wide-offset-requires c = tt
-
-pub wide-size-requires : goal.wide-size-requires
-wide-size-requires c = tt
-
 pub returns-then-offset-at : goal.returns-then-offset-at
 returns-then-offset-at c =
     let p = c.requires in
-    let w = c.args.words.now in
-    let k = c.loop-k.k in
-    let e : c.wide-offset.result ≡ get_or w (2 * k) 0 = c.wide-offset.ensures.0 in
-    answers _ _ _ _ (λ i. omega (arith, c.type_inv.words i)) p.1 p.2 (sweep-stop _ _ _ _ _ c.loop-k.invariant c.loop-k-test.true (omega arith))
+    let e : c.wide-offset.result ≡ get_or c.args.words.now (2 * c.loop-k.k) 0 = c.wide-offset.ensures.0 in
+    let a = answers _ _ _ _ (λ i. omega (arith, c.type_inv.words i)) p.1 p.2 (sweep-stop _ _ _ _ _ c.loop-k.invariant c.loop-k-test.true (omega arith)) in record { value = a.0; value_2 = a.1 }
 
 pub loop-k-preserved : goal.loop-k-preserved
 loop-k-preserved c =
@@ -34,4 +23,4 @@ loop-k-preserved c =
 pub returns : goal.returns
 returns c =
     let p = c.requires in
-    answers _ _ _ _ (λ i. omega (arith, c.type_inv.words i)) p.1 p.2 (sweep-end _ _ _ _ _ c.loop-k.invariant c.loop-k-test.false)
+    let a = answers _ _ _ _ (λ i. omega (arith, c.type_inv.words i)) p.1 p.2 (sweep-end _ _ _ _ _ c.loop-k.invariant c.loop-k-test.false) in record { value = a.0; value_2 = a.1 }

@@ -7,7 +7,7 @@ use Rattle.space_check.proofs.Sweep.{Swept, sweep-start, sweep-stop, sweep-go, s
 use Rattle.space_check.proofs.regions_disjoint.Given as goal
 
 abbrev pub invariant-loop-k : goal.invariant-loop-k
-invariant-loop-k l = Swept l.words l.count l.disc-end l.at l.k
+invariant-loop-k l = Swept l.words l.count l.disc_end l.at l.k
 
 abbrev pub decreases-loop-k : goal.decreases-loop-k
 decreases-loop-k l = l.count - l.k
