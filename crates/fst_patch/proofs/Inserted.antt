@@ -185,9 +185,6 @@ module _ (s : List ℕ) (size p : ℕ) (d : Bool) (nm : List ℕ) (r : Insertabl
 
   -- the same of the numbers that were read and the bytes in between
   module _ (c' q' start' : ℕ) (ec : c' ≡ c) (eq : q' ≡ q) (es : start' ≡ start_in s size c' q') where
-    pub inside-read : 12 * c' + start' ≤ size
-    inside-read = rw (es, ec, eq) start-inside
-
     module _ (t : List ℕ) (et : t ≡ put s (12 * c' + 12) (newTexts s size c' start' nm)) where
       pub patchable-read : Patchable t c' p q' start' (length nm + 1)
       patchable-read = rw (et, es, ec, eq) patchable

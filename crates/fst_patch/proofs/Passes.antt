@@ -83,12 +83,6 @@ module _ (s : List ℕ) (p : ℕ) where
     before-again out' e l =
         fill-again s (recordBefore s p) (before-twelve s p) (p + 1) room out k u more out' (rw (same-before out s p (k - 1) same-below) at e) l
 
-  pub before-end : (out : List ℕ) (k : ℕ) → Filled s (recordBefore s p) (p + 1) out k → k ≡ 0 → out ≡ put s 0 (records (recordBefore s p) 0 (p + 1))
-  before-end out k u z =
-      let e : 12 * 0 ≡ 0 = omega arith in
-      let n : p + 1 - 0 ≡ p + 1 = omega arith in
-      rw (e, n) at (rw z at u.done)
-
 -- ---- all records
 
 -- the same records under other numbers

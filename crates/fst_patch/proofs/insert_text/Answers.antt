@@ -1,6 +1,5 @@
 -- `fst_patch::insert_text` meets its contract: the last texts move first, so none is lost.
 use Rattle.fst_patch.proofs.Inserted.{texts-moved}
-use borrow.Author.Rules.{rules}
 use Rattle.fst_patch.proofs.insert_text.Goals as goal
 
 pub returns : goal.returns

@@ -1,9 +1,7 @@
 -- `fst_patch::patch_behind` meets its contract: once all records are moved, those behind k are the new ones, and those up to k are the moved ones.
-use Prim.Native.Nat.{◌≤◌}
-use mathlib.Core.Path.{◌≡◌, ◌∙◌}
+use mathlib.Core.Path.{◌≡◌}
 use native.Mathlib.Omega.{arith}
-use borrow.Author.Rules.{rules}
-use Rattle.fst_patch.proofs.Behind.{Raised, raise-start, raise-turn, raise-again, raise-end}
+use Rattle.fst_patch.proofs.Behind.{raise-start, raise-turn, raise-again, raise-end}
 use Rattle.fst_patch.proofs.patch_behind.Goals as goal
 
 pub loop-k-init : goal.loop-k-init
@@ -17,20 +15,12 @@ raise-requires c =
     let l = c.loop-k in
     raise-turn s.args.table.now s.args.count s.args.q s.args.grow s.requires.0 s.requires.1 _ c.copy_within.ensures l.table l.k l.invariant.1 c.loop-k-test.true s.requires.2 s.requires.3
 
-pub loop-k-smaller : goal.loop-k-smaller
-loop-k-smaller c =
-    omega (arith, c.loop-k-test.true)
-
 pub loop-k-preserved : goal.loop-k-preserved
 loop-k-preserved c =
     let s = c in
     let l = c.loop-k in
     let w = c.raise in
-    (omega (arith, c.loop-k-test.true), raise-again s.args.table.now s.args.count s.args.q s.args.grow s.requires.0 s.requires.1 _ c.copy_within.ensures l.table l.k l.invariant.1 c.loop-k-test.true _ w.ensures w.auto.0)
-
-pub shape_of-table : goal.shape_of-table
-shape_of-table c =
-    c.loop-k.invariant.1.long ∙ c.copy_within.auto.0
+    (omega (arith, c.loop-k-test.true), raise-again s.args.table.now s.args.count s.args.q s.args.grow s.requires.0 s.requires.1 _ c.copy_within.ensures l.table l.k l.invariant.1 c.loop-k-test.true _ w.ensures w.auto.table)
 
 pub returns : goal.returns
 returns c =

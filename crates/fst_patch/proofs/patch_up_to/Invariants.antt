@@ -1,10 +1,7 @@
 -- `fst_patch::patch_up_to` meets its contract: the records from k on are the new ones, and those below are untouched.
 use Prim.Native.Nat.{◌+◌}
-use native.Mathlib.Omega.{arith}
-use borrow.Author.Rules.{rules}
 use Rattle.tree.specs.Inner.Patch.{recordBefore}
-use Rattle.fst_raise.proofs.Patches.{before-twelve}
-use Rattle.fst_patch.proofs.Passes.{Filled, fill_start, before-turn, before-again, before-end}
+use Rattle.fst_patch.proofs.Passes.{Filled}
 use Rattle.fst_patch.proofs.patch_up_to.Given as goal
 
 abbrev pub invariant-loop-k : goal.invariant-loop-k

@@ -3,7 +3,6 @@ use Prim.Native.Nat.{◌+◌, ◌*◌}
 use native.Mathlib.Omega.{arith}
 use Rattle.endian.specs.Bytes.{be32Bytes}
 use Rattle.fst_measure.proofs.Puts.{put-append}
-use borrow.Author.Rules.{rules}
 use Rattle.fst_patch.proofs.set_place.Goals as goal
 
 pub returns : goal.returns
