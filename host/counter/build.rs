@@ -13,7 +13,7 @@ fn main() {
     let sys = PathBuf::from(env::var("CARGO_MANIFEST_DIR").unwrap()).join("../sys");
     let folder = match env::var_os("COUNTER_LIB") {
         Some(folder) => sys.join(folder),
-        None => sys.join("../../target/staticlib"),
+        None => sys.join("../../crates/counter/out"),
     };
     let library = folder.join("libcounter.a");
     println!("cargo:rerun-if-changed={}", library.display());

@@ -1,4 +1,4 @@
-// Links libcounter.a from the folder COUNTER_LIB; without it from where `rt staticlib` writes it.
+// Links libcounter.a from the folder COUNTER_LIB; without it from where `rt lib` writes it.
 
 use std::env;
 use std::path::PathBuf;
@@ -8,7 +8,7 @@ fn main() {
     let here = PathBuf::from(env::var("CARGO_MANIFEST_DIR").unwrap());
     let folder = match env::var_os("COUNTER_LIB") {
         Some(folder) => here.join(folder),
-        None => here.join("../../target/staticlib"),
+        None => here.join("../../crates/counter/out"),
     };
     println!("cargo:rerun-if-changed={}", folder.join("libcounter.a").display());
     println!("cargo:rustc-link-search=native={}", folder.display());

@@ -4,8 +4,7 @@
 // with distance 0 always succeeds, and none are read past the image.
 #![tactic(auto)]
 
-use std::io;
-use std::io::Write;
+use std::io::{self, Write};
 
 use window::{SeekFrom, Sought, Window};
 

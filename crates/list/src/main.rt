@@ -2,8 +2,7 @@
 // gives. The file `stdout` is document 01's listing of its small master.
 #![tactic(auto)]
 
-use std::io;
-use std::io::{Read, Write};
+use std::io::{self, Read, Write};
 
 // Reads until the buffer is full or the input ends, and says how many bytes there are.
 fn read_full<R: Read>(reader: &mut R, buffer: &mut [u8]) -> io::Result<usize> {

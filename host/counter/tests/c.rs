@@ -16,7 +16,7 @@ fn library() -> PathBuf {
     let sys = Path::new(env!("CARGO_MANIFEST_DIR")).join("../sys");
     match std::env::var_os("COUNTER_LIB") {
         Some(folder) => sys.join(folder),
-        None => sys.join("../../target/staticlib"),
+        None => sys.join("../../crates/counter/out"),
     }
 }
 

@@ -1,5 +1,5 @@
 //! The listing program of crates/list itself, on every image whose report a script has: it writes what `report` has to give.
-//! `rt check list` makes it; where it is not there, the test says so and passes.
+//! `rt run` in crates/list makes it; where it is not there, the test says so and passes.
 
 use replay::run::Stage;
 use replay::script;
@@ -23,9 +23,9 @@ fn listing(program: &Path, image: &[u8]) -> Vec<u8> {
 #[test]
 fn the_listing_program_writes_each_report() {
     let here = Path::new(env!("CARGO_MANIFEST_DIR"));
-    let program = here.join("../../target/bin/list");
+    let program = here.join("../../crates/list/out/list");
     if !program.exists() {
-        println!("{} is not there: `rt check list` makes it", program.display());
+        println!("{} is not there: `rt run` in crates/list makes it", program.display());
         return;
     }
     let script = fs::read_to_string(here.join("scripts/listing.txt")).unwrap();

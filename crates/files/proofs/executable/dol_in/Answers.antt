@@ -1,0 +1,10 @@
+-- `files::executable::dol_in` meets its contract, by the verdict on the DOL's header.
+use Rattle.files.proofs.Dol.{dol-refused, dol-is}
+use borrow.Author.Rules.{rules}
+use Rattle.files.proofs.executable.dol_in.Goals as goal
+
+pub returns-in-Refused : goal.returns-in-Refused
+returns-in-Refused c = search dol-refused
+
+pub returns : goal.returns
+returns c = search dol-is
