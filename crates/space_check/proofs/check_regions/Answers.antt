@@ -1,6 +1,5 @@
 -- `space_check::check_regions` meets its contract: the test of the sorted regions is the test of the regions as they came.
 use native.Mathlib.Omega.{arith}
-use borrow.Author.Rules.{rules}
 use Rattle.space.proofs.Order.{sorted-nonempty, sorted-ordered}
 use Rattle.space_check.proofs.Checking.{checked-passed, checked_refused}
 use Rattle.space_check.proofs.check_regions.Goals as goal

@@ -1,9 +1,9 @@
 -- `space_check::regions_disjoint` meets its contract: sorted regions are disjoint and below the disc end exactly if each starts where the one before ends or later.
-use Prim.Native.Nat.{◌-◌, ◌+◌, ◌*◌}
+use Prim.Native.Nat.{◌+◌, ◌*◌}
 use native.Mathlib.Omega.{arith}
 use mathlib.Core.Path.{◌≡◌}
 use lib.ListN.{get_or}
-use Rattle.space_check.proofs.Sweep.{Swept, sweep-start, sweep-stop, sweep-go, sweep-end, answers}
+use Rattle.space_check.proofs.Sweep.{sweep-stop, sweep-go, sweep-end, answers}
 use Rattle.space_check.proofs.regions_disjoint.Goals as goal
 
 pub returns-then-offset-at : goal.returns-then-offset-at

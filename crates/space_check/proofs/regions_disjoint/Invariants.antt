@@ -1,9 +1,6 @@
 -- `space_check::regions_disjoint` meets its contract: sorted regions are disjoint and below the disc end exactly if each starts where the one before ends or later.
-use Prim.Native.Nat.{◌-◌, ◌+◌, ◌*◌}
-use native.Mathlib.Omega.{arith}
-use mathlib.Core.Path.{◌≡◌}
-use lib.ListN.{get_or}
-use Rattle.space_check.proofs.Sweep.{Swept, sweep-start, sweep-stop, sweep-go, sweep-end, answers}
+use Prim.Native.Nat.{◌-◌}
+use Rattle.space_check.proofs.Sweep.{Swept}
 use Rattle.space_check.proofs.regions_disjoint.Given as goal
 
 abbrev pub invariant-loop-k : goal.invariant-loop-k
