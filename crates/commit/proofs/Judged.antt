@@ -1,16 +1,15 @@
--- The tests of a new table's size and place, by what the code found: whether the maximum is passed, the largest size in the working words, and whether
+-- The verdict on a new table's size and place, by what the code found: whether the maximum is passed, the largest size in the working words, and whether
 -- the place reaches the table.
 -- Assumes nothing.
 use Prim.Native.Nat.{ℕ, ◌+◌, ◌≤◌, ◌<◌}
 use mathlib.Core.Path.{◌≡◌, refl, sym, ap, ◌∙◌}
 use mathlib.Core.Bool.{Bool, true, false, ◌&&◌}
 use mathlib.Core.List.{List}
-use native.Mathlib.Omega.{arith}
 use borrow.Author.Tests.{lt-ltb, le-ltb}
 use lib.Dec.{ltb}
 use Rattle.refusal.specs.declared.Refusal.TheVariants.{LimitOrMemory, NotEnoughSpace, TableAboveMaximum}
 use Rattle.refusal.specs.declared.Verdict.TheVariants.{Passed, Refused}
-use Rattle.header.specs.Verdicts.{fstOffset, fstSize, fstMaxSize, discEnd}
+use Rattle.header.specs.Verdicts.{fstOffset, fstSize, discEnd}
 use Rattle.space.specs.declared.DiscRegion.{DiscRegion}
 use Rattle.space.specs.Free.{freeRegions}
 use Rattle.space.specs.Inner.Sort.{regionsIn}
@@ -20,24 +19,6 @@ use Rattle.opening.specs.Inner.Prepared.{IsOpen}
 use Rattle.edits.specs.Change.{aboveMaximum, placeVerdict}
 use Rattle.edits.specs.Laws.PlaceTests.{stated-first}
 use Rattle.commit.proofs.Images.{free-size, place-verdict}
-
--- ---- whether a place reaches the table
-
-pub empty-reaches-not : (size offset end : ℕ) → size ≡ 0 → false ≡ (ltb 0 size && ltb offset end)
-empty-reaches-not size offset end e = rw (le-ltb 0 size (omega arith))
-
-pub reaches-by-start : (size offset end : ℕ) → (size ≡ 0 → ⊥) → ltb offset end ≡ (ltb 0 size && ltb offset end)
-reaches-by-start size offset end h = rw (lt-ltb 0 size (omega arith))
-
--- ---- whether a table is above the stated maximum
-
-pub none-stated : (image : List ℕ) (m size : ℕ) → m ≡ fstMaxSize image → m ≡ 0 → false ≡ aboveMaximum image size
-none-stated image m size e z = rw (← e) (empty-reaches-not m m size z)
-
-pub some-stated : (image : List ℕ) (m size : ℕ) → m ≡ fstMaxSize image → (m ≡ 0 → ⊥) → ltb m size ≡ aboveMaximum image size
-some-stated image m size e h = rw (← e) (reaches-by-start m m size h)
-
--- ---- the verdict
 
 pub too-few-bytes : (image : List ℕ) (room size : ℕ) (place : DiscRegion) → room < size → Refused LimitOrMemory ≡ placeVerdict image room size place
 unfolding placeVerdict

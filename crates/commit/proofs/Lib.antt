@@ -1,5 +1,4 @@
 -- What the proofs of the functions cite.
-pub mod Asked
 pub mod Carried
 pub mod Decisions
 pub mod Images

@@ -1,8 +1,5 @@
 -- `commit::table::check_place` meets its contract: each test is the definition's, once the largest size found in the words is that of the free regions.
 use Rattle.commit.proofs.Judged.{too-few-bytes, above-stated, no-room-to-grow, place-taken, place-clear}
-use Rattle.opening.specs.Laws.OpeningLaws.{still-opens}
-use Rattle.opening.proofs.Words.{sorted-below}
-use borrow.Author.Rules.{rules}
 use Rattle.commit.proofs.table.check_place.Goals as goal
 
 pub returns-then-room-size : goal.returns-then-room-size
@@ -10,12 +7,6 @@ returns-then-room-size c = search too-few-bytes
 
 pub returns-then-above_maximum : goal.returns-then-above_maximum
 returns-then-above_maximum c = search above-stated
-
-pub disc_end-disc_end-requires : goal.disc_end-disc_end-requires
-disc_end-disc_end-requires c = search still-opens
-
-pub max_region_size-most-requires : goal.max_region_size-most-requires
-max_region_size-most-requires c = search sorted-below
 
 pub returns-then-most-size : goal.returns-then-most-size
 returns-then-most-size c = search no-room-to-grow

@@ -1,6 +1,5 @@
 -- `commit::table::write_table` meets its contract: the slice that is written anew is the table.
 use Rattle.commit.proofs.TableSlice.{opens-valid, table-shorter, table-written}
-use borrow.Author.Rules.{rules}
 use Rattle.commit.proofs.table.write_table.Goals as goal
 
 pub write_table-requires : goal.write_table-requires

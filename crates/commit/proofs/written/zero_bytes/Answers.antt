@@ -1,6 +1,5 @@
 -- `commit::written::zero_bytes` meets its contract: the whole slice is filled.
 use Rattle.commit.proofs.Puts.{filled-whole}
-use borrow.Author.Rules.{rules}
 use Rattle.commit.proofs.written.zero_bytes.Goals as goal
 
 pub returns : goal.returns
