@@ -11,10 +11,10 @@ pub gap_at-gap-requires : goal.gap_at-gap-requires
 gap_at-gap-requires c = (c.requires, omega arith)
 
 pub loop-i-preserved-then-gap-eq0 : goal.loop-i-preserved-then-gap-eq0
-loop-i-preserved-then-gap-eq0 c = count-skip _ _ _ _ _ c.loop-i.invariant _ c.loop-i-test.true c.gap_at-gap.ensures.0 c.if-gap-eq0.true
+loop-i-preserved-then-gap-eq0 c = count-skip _ _ _ _ _ c.loop-i.invariant _ c.loop-i-test.true c.gap_at-gap.ensures.value c.if-gap-eq0.true
 
 pub loop-i-preserved : goal.loop-i-preserved
-loop-i-preserved c = count-go _ _ _ _ _ c.loop-i.invariant _ c.loop-i-test.true c.gap_at-gap.ensures.0 c.if-gap-eq0.false
+loop-i-preserved c = count-go _ _ _ _ _ c.loop-i.invariant _ c.loop-i-test.true c.gap_at-gap.ensures.value c.if-gap-eq0.false
 
 pub returns : goal.returns
 returns c = count-end _ _ _ _ _ c.loop-i.invariant c.loop-i-test.false

@@ -5,7 +5,7 @@ use Rattle.free_space.proofs.Listed.{Counted, count-start, count-end, count-skip
 use Rattle.free_space.proofs.count_free_regions.Given as goal
 
 abbrev pub invariant-loop-i : goal.invariant-loop-i
-invariant-loop-i l = Counted l.words l.count l.disc-end l.found l.i
+invariant-loop-i l = Counted l.words l.count l.disc_end l.found l.i
 
 abbrev pub decreases-loop-i : goal.decreases-loop-i
 decreases-loop-i l = l.count + 1 - l.i

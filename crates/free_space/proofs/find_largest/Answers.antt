@@ -11,7 +11,7 @@ pub gap_at-gap-requires : goal.gap_at-gap-requires
 gap_at-gap-requires c = (c.requires.0, omega arith)
 
 pub loop-i-preserved : goal.loop-i-preserved
-loop-i-preserved c = search-turn _ _ _ _ _ _ _ _ _ c.loop-i.invariant c.loop-i-test.true c.gap_at-gap.ensures.0 c.better-best.ensures
+loop-i-preserved c = search-turn _ _ _ _ _ _ _ _ _ c.loop-i.invariant c.loop-i-test.true c.gap_at-gap.ensures.value c.better-best.ensures
 
 pub returns : goal.returns
 returns c = search-end _ _ _ _ _ _ _ c.loop-i.invariant c.loop-i-test.false c.requires.1 c.requires.0

@@ -5,7 +5,7 @@ use Rattle.free_space.proofs.Choice.{Searched, search-start, search-turn, search
 use Rattle.free_space.proofs.find_largest.Given as goal
 
 abbrev pub invariant-loop-i : goal.invariant-loop-i
-invariant-loop-i l = Searched l.words l.count l.disc-end l.align l.size l.best l.i
+invariant-loop-i l = Searched l.words l.count l.disc_end l.align l.size l.best l.i
 
 abbrev pub decreases-loop-i : goal.decreases-loop-i
 decreases-loop-i l = l.count + 1 - l.i

@@ -15,5 +15,7 @@ overflow_sub-result c = let g = gap_at _ _ _ _ c.requires.0 c.requires.1 in omeg
 
 pub returns : goal.returns
 returns c =
-    let g = gap_at _ _ _ _ c.requires.0 c.requires.1 in
-    (rw (c.end_Before.ensures, c.start_at-stop.ensures) (sym g.is), omega arith)
+    let g = gap_at _ _ _ _ c.requires.0 c.requires.1 in record {
+      value = rw (c.end_before-start.ensures, c.start_at-stop.ensures) (sym g.is);
+      size_bound = omega arith;
+    }

@@ -12,7 +12,7 @@ pub gap_at-gap-requires : goal.gap_at-gap-requires
 gap_at-gap-requires c = (c.requires, omega arith)
 
 pub loop-i-preserved-then-gap-eq0 : goal.loop-i-preserved-then-gap-eq0
-loop-i-preserved-then-gap-eq0 c = grown-skip _ _ _ _ _ _ _ c.loop-i.invariant _ c.loop-i-test.true c.gap_at-gap.ensures.0 c.if-gap-eq0.true
+loop-i-preserved-then-gap-eq0 c = grown-skip _ _ _ _ _ _ _ c.loop-i.invariant _ c.loop-i-test.true c.gap_at-gap.ensures.value c.if-gap-eq0.true
 
 pub wide-requires : goal.wide-requires
 wide-requires c = tt
@@ -23,10 +23,10 @@ wide-requires-then-gap-offset c = tt
 pub loop-i-preserved : goal.loop-i-preserved
 loop-i-preserved c =
     rw (c.wide.ensures.0, c.wide-then-gap-offset.ensures.0)
-    (grown-go _ _ _ _ _ _ _ c.loop-i.invariant _ c.loop-i-test.true c.gap_at-gap.ensures.0 c.if-gap-eq0.false c.if-gap-offset.true c.gap_at-gap.ensures.1)
+    (grown-go _ _ _ _ _ _ _ c.loop-i.invariant _ c.loop-i-test.true c.gap_at-gap.ensures.value c.if-gap-eq0.false c.if-gap-offset.true c.gap_at-gap.ensures.size_bound)
 
 pub returns-else-gap-offset : goal.returns-else-gap-offset
-returns-else-gap-offset c = c.beside_free.ensures ∙ grown-stop _ _ _ _ _ _ _ c.loop-i.invariant _ c.loop-i-test.true c.gap_at-gap.ensures.0 c.if-gap-eq0.false c.if-gap-offset.false
+returns-else-gap-offset c = c.beside_free.ensures ∙ grown-stop _ _ _ _ _ _ _ c.loop-i.invariant _ c.loop-i-test.true c.gap_at-gap.ensures.value c.if-gap-eq0.false c.if-gap-offset.false
 
 pub returns : goal.returns
 returns c = c.inside_free.ensures ∙ grown-end _ _ _ _ _ _ _ c.loop-i.invariant c.loop-i-test.false

@@ -6,7 +6,7 @@ use Rattle.free_space.proofs.Choice.{Grown, grown-start, grown-end, grown-skip, 
 use Rattle.free_space.proofs.max_region_size.Given as goal
 
 abbrev pub invariant-loop-i : goal.invariant-loop-i
-invariant-loop-i l = Grown l.words l.count l.disc-end l.offset l.size l.prev l.i
+invariant-loop-i l = Grown l.words l.count l.disc_end l.offset l.size l.prev_end l.i
 
 abbrev pub decreases-loop-i : goal.decreases-loop-i
 decreases-loop-i l = l.count + 1 - l.i

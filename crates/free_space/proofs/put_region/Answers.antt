@@ -5,8 +5,5 @@ use Rattle.endian.proofs.Turns.{stores-2}
 use borrow.Author.Rules.{rules}
 use Rattle.free_space.proofs.put_region.Goals as goal
 
-pub offset_bounds-list-at-2 : goal.offset_bounds-list-at-2
-offset_bounds-list-at-2 c = simp length-set (omega arith)
-
 pub returns : goal.returns
 returns c = let a = c.args in stores-2 a.list.now a.at a.region.offset a.region.size (omega arith)

@@ -11,10 +11,10 @@ pub gap_at-gap-requires : goal.gap_at-gap-requires
 gap_at-gap-requires c = (c.requires, omega arith)
 
 pub overflow_sub-used : goal.overflow_sub-used
-overflow_sub-used c = sum-enough _ _ _ _ _ c.loop-i.invariant _ c.loop-i-test.true c.gap_at-gap.ensures.0
+overflow_sub-used c = sum-enough _ _ _ _ _ c.loop-i.invariant _ c.loop-i-test.true c.gap_at-gap.ensures.value
 
 pub loop-i-preserved : goal.loop-i-preserved
-loop-i-preserved c = sum-go _ _ _ _ _ c.loop-i.invariant _ c.loop-i-test.true c.gap_at-gap.ensures.0
+loop-i-preserved c = sum-go _ _ _ _ _ c.loop-i.invariant _ c.loop-i-test.true c.gap_at-gap.ensures.value
 
 pub returns : goal.returns
 returns c = sum-end _ _ _ _ _ c.loop-i.invariant c.loop-i-test.false

@@ -5,7 +5,7 @@ use Rattle.free_space.proofs.Listed.{Summed, sum-start, sum-end, sum-enough, sum
 use Rattle.free_space.proofs.used_size.Given as goal
 
 abbrev pub invariant-loop-i : goal.invariant-loop-i
-invariant-loop-i l = Summed l.words l.count l.disc-end l.used l.i
+invariant-loop-i l = Summed l.words l.count l.disc_end l.used l.i
 
 abbrev pub decreases-loop-i : goal.decreases-loop-i
 decreases-loop-i l = l.count + 1 - l.i
