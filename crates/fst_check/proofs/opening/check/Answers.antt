@@ -52,10 +52,9 @@ texts_verdict-requires c =
 pub returns : goal.returns
 unfolding check textsVerdict
 returns c =
-    let s = c in
-    let T = s.args.table.now in
+    let T = c.args.table.now in
     let v = c.entries_verdict-entries in
     let r : is_refused v.result ≡ false = sym c.is_refused.ensures ∙ c.if-is_refused.false in
     let e : v.result ≡ entriesVerdict T 1 (count T - 1) = rw c.count-count.ensures at v.ensures in
-    let t : c.texts_verdict.result ≡ textsVerdict T (count T) s.args.words = rw c.count-count.ensures at c.texts_verdict.ensures in
-    rw (le-ltb (length T) 12 c.if-table-lt12.false, le-ltb 1 (kind T 0) c.if-table-gt1.false, ne_eqb (kind T 0) 0 c.if-table-eq0.false, le-ltb 16384 (count T) (omega arith), ← e) (t ∙ sym (first-go v.result (textsVerdict T (count T) s.args.words) r))
+    let t : c.texts_verdict.result ≡ textsVerdict T (count T) c.args.words = rw c.count-count.ensures at c.texts_verdict.ensures in
+    rw (le-ltb (length T) 12 c.if-table-lt12.false, le-ltb 1 (kind T 0) c.if-table-gt1.false, ne_eqb (kind T 0) 0 c.if-table-eq0.false, le-ltb 16384 (count T) (omega arith), ← e) (t ∙ sym (first-go v.result (textsVerdict T (count T) c.args.words) r))

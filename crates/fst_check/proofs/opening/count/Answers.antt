@@ -1,7 +1,6 @@
 -- `fst_check::opening::count` meets its contract: the larger of 1 and the root's next.
 use native.Mathlib.Omega.{arith}
 use Rattle.tree.specs.Table.{count}
-use borrow.Author.Rules.{rules}
 use Rattle.fst_check.proofs.opening.count.Goals as goal
 
 pub returns-then-next-eq0 : goal.returns-then-next-eq0

@@ -10,13 +10,13 @@ use Rattle.fst_check.proofs.opening.enter.Goals as goal
 pub returns-then-table-k-eq0 : goal.returns-then-table-k-eq0
 returns-then-table-k-eq0 c = search (node-file, rules)
 
-pub offset_bounds-nexts-depth : goal.offset_bounds-nexts-depth
-offset_bounds-nexts-depth c =
+pub bounds-nexts-depth : goal.bounds-nexts-depth
+bounds-nexts-depth c =
     let a = c.args in
-    omega (arith, enter-room a.table.now a.count a.k a.nexts.now a.depth c.if-table-k-eq0.false c.requires.1)
+    omega (arith, enter-room a.table.now a.count a.k a.nexts.now a.depth c.if-table-k-eq0.false c.requires.k_value)
 
 pub returns : goal.returns
 returns c =
     let a = c.args in
-    let r : a.depth < 65 = omega (arith, enter-room a.table.now a.count a.k a.nexts.now a.depth c.if-table-k-eq0.false c.requires.1) in
+    let r : a.depth < 65 = omega (arith, enter-room a.table.now a.count a.k a.nexts.now a.depth c.if-table-k-eq0.false c.requires.k_value) in
     (rw (node-directory a.table.now a.count a.k c.if-table-k-eq0.false, c.read_u32.ensures) (open-enter a.nexts.now a.depth (sizeOrNext a.table.now a.k) (omega arith)), omega arith, simp length-set (omega arith))

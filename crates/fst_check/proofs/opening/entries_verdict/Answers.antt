@@ -1,16 +1,10 @@
 -- `fst_check::opening::entries_verdict` meets its contract. The invariant of its loop: what is left has the answer of the whole.
 use native.Mathlib.Omega.{arith}
-use Prim.Native.Nat.{◌≤◌, ◌-◌}
-use mathlib.Core.Path.{◌≡◌, refl, sym, ◌∙◌}
+use mathlib.Core.Path.{◌≡◌, sym, ◌∙◌}
 use mathlib.Core.Bool.{true, false}
 use Rattle.refusal.specs.Refusal.{is_refused}
-use Rattle.tree.specs.Table.{entriesVerdict}
 use Rattle.tree.specs.Laws.Steps.{entries-stop, entries-go, entries-end}
-use borrow.Author.Rules.{rules}
 use Rattle.fst_check.proofs.opening.entries_verdict.Goals as goal
-
-pub loop-k-init : goal.loop-k-init
-loop-k-init c = (omega arith, refl)
 
 pub returns-then-is_refused : goal.returns-then-is_refused
 returns-then-is_refused c =

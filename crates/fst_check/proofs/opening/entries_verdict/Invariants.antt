@@ -1,12 +1,7 @@
 -- `fst_check::opening::entries_verdict` meets its contract. The invariant of its loop: what is left has the answer of the whole.
-use native.Mathlib.Omega.{arith}
 use Prim.Native.Nat.{◌≤◌, ◌-◌}
-use mathlib.Core.Path.{◌≡◌, refl, sym, ◌∙◌}
-use mathlib.Core.Bool.{true, false}
-use Rattle.refusal.specs.Refusal.{is_refused}
+use mathlib.Core.Path.{◌≡◌}
 use Rattle.tree.specs.Table.{entriesVerdict}
-use Rattle.tree.specs.Laws.Steps.{entries-stop, entries-go, entries-end}
-use borrow.Author.Rules.{rules}
 use Rattle.fst_check.proofs.opening.entries_verdict.Given as goal
 
 abbrev pub invariant-loop-k : goal.invariant-loop-k

@@ -5,7 +5,6 @@ use Prim.Native.Nat.{◌-◌, ◌*◌}
 use borrow.Author.Tests.{le-leb, lt-leb}
 use lib.ListN.{length}
 use Rattle.tree.specs.Table.{nameOffset, name_at, nameVerdict}
-use borrow.Author.Rules.{rules}
 use Rattle.fst_check.proofs.opening.name_verdict.Goals as goal
 
 pub returns-then-table-count : goal.returns-then-table-count
@@ -14,21 +13,12 @@ returns-then-table-count c =
     let a = c.args in
     rw (le-leb (length a.table.now - 12 * a.count) (nameOffset a.table.now a.k) (omega arith))
 
-pub clean_verdict-requires : goal.clean_verdict-requires
-clean_verdict-requires c =
-    let s = c in
-    let o : c.read_u24-offset.result ≡ nameOffset s.args.table.now s.args.k = c.read_u24-offset.ensures.0 in
-    rw o (s.requires.2 c.if-clean.true)
-
 pub returns-then-clean : goal.returns-then-clean
 unfolding nameVerdict name_at
 returns-then-clean c =
     let a = c.args in
     let o : c.read_u24-offset.result ≡ nameOffset a.table.now a.k = c.read_u24-offset.ensures.0 in
     rw (lt-leb (length a.table.now - 12 * a.count) (nameOffset a.table.now a.k) (omega arith)) (rw o at c.clean_verdict.ensures)
-
-pub clean_verdict-requires-then-is_fit : goal.clean_verdict-requires-then-is_fit
-clean_verdict-requires-then-is_fit c = c.is_fit.ensures c.if-is_fit.true
 
 pub returns-then-is_fit : goal.returns-then-is_fit
 unfolding nameVerdict name_at

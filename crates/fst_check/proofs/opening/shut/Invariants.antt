@@ -1,11 +1,8 @@
 -- `fst_check::opening::shut` meets its contract. The invariant of its loop: those that are left shut to the same as all.
-use native.Mathlib.Omega.{arith}
 use Prim.Native.Nat.{◌≤◌}
-use mathlib.Core.Path.{◌≡◌, refl, sym, ◌∙◌}
+use mathlib.Core.Path.{◌≡◌}
 use Rattle.tree.specs.Table.{shut}
 use Rattle.fst_check.specs.Inner.Reading.{open_in}
-use Rattle.fst_check.proofs.Walking.{shut-keep, shut-drop, shut_none}
-use borrow.Author.Rules.{rules}
 use Rattle.fst_check.proofs.opening.shut.Given as goal
 
 abbrev pub invariant-loop-left : goal.invariant-loop-left

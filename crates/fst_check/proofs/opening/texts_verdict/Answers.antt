@@ -7,7 +7,6 @@ use borrow.Author.Tests.{lt-ltb, le-ltb, le-leb, lt-leb}
 use lib.ListN.{length}
 use Rattle.tree.specs.Table.{unended, sizeOrNext}
 use Rattle.fst_check.specs.Inner.Reading.{textsVerdict}
-use borrow.Author.Rules.{rules}
 use Rattle.fst_check.proofs.opening.texts_verdict.Goals as goal
 
 pub returns-then-unended : goal.returns-then-unended

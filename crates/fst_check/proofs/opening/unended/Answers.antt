@@ -1,7 +1,6 @@
 -- `fst_check::opening::unended` meets its contract: each return by the tests that led there.
 use borrow.Author.Tests.{le-ltb, lt-ltb}
 use Rattle.tree.specs.Table.{unended}
-use borrow.Author.Rules.{rules}
 use Rattle.fst_check.proofs.opening.unended.Goals as goal
 
 pub returns-then-table-count : goal.returns-then-table-count

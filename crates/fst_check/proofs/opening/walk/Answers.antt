@@ -1,14 +1,11 @@
 -- `fst_check::opening::walk` meets its contract. The invariant of its loop: what is left of the walk has the answer of the whole.
 use native.Mathlib.Omega.{arith}
-use Prim.Native.Nat.{◌-◌, ◌*◌}
+use Prim.Native.Nat.{◌*◌}
 use mathlib.Core.Path.{◌≡◌, sym, ◌∙◌}
 use mathlib.Core.Bool.{true, false}
 use Rattle.refusal.specs.Refusal.{is_refused}
-use Rattle.fst_check.proofs.Walking.{Walked, walked_start, walked_stop, walked-passed, walked-turn, walked_end}
-use Rattle.fst_text.specs.Inner.Texts.{cleanFrom}
-use Rattle.fst_text.specs.Inner.Blocks.{Marked}
+use Rattle.fst_check.proofs.Walking.{walked_start, walked_stop, walked-turn, walked_end}
 use Rattle.fst_text.proofs.BlockLaws.{marked-none}
-use borrow.Author.Rules.{rules}
 use Rattle.fst_check.proofs.opening.walk.Goals as goal
 
 pub survey-clean-requires : goal.survey-clean-requires
@@ -22,28 +19,11 @@ loop-k-init c =
     let s = c.survey-clean in
     (walked_start a.table.now a.count, s.ensures.1, λ e. c.clean_end-first.ensures.1 ∙ (sym s.ensures.0 ∙ e))
 
-pub starts_clean-clean-requires : goal.starts_clean-clean-requires
-starts_clean-clean-requires c =
-    let l = c.loop-k in
-    (c.requires, omega arith, l.invariant.1, l.invariant.2, c.clean_end-first.ensures.0)
-
-pub node_verdict-verdict-requires : goal.node_verdict-verdict-requires
-node_verdict-verdict-requires c =
-    let s = c.starts_clean-clean in
-    (c.requires, omega arith, omega arith, λ e. (s.ensures.0 e).1, s.ensures.1)
-
 pub returns-then-is_refused : goal.returns-then-is_refused
 returns-then-is_refused c =
     let v = c.node_verdict-verdict in
     let r : is_refused v.result ≡ true = sym c.is_refused.ensures ∙ c.if-is_refused.true in
     walked_stop c.loop-k.invariant.0 _ c.shut-depth.ensures.0 _ v.ensures c.loop-k-test.true r
-
-pub enter-depth-requires : goal.enter-depth-requires
-enter-depth-requires c =
-    let v = c.node_verdict-verdict in
-    let l = c.loop-k in
-    let r : is_refused v.result ≡ false = sym c.is_refused.ensures ∙ c.if-is_refused.false in
-    ((search rules, omega arith, omega arith, l.invariant.0.long), walked-passed l.invariant.0 _ c.shut-depth.ensures.0 _ v.ensures c.loop-k-test.true r)
 
 pub loop-k-preserved : goal.loop-k-preserved
 loop-k-preserved c =

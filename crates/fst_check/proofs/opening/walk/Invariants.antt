@@ -1,14 +1,10 @@
 -- `fst_check::opening::walk` meets its contract. The invariant of its loop: what is left of the walk has the answer of the whole.
-use native.Mathlib.Omega.{arith}
 use Prim.Native.Nat.{◌-◌, ◌*◌}
-use mathlib.Core.Path.{◌≡◌, sym, ◌∙◌}
-use mathlib.Core.Bool.{true, false}
-use Rattle.refusal.specs.Refusal.{is_refused}
-use Rattle.fst_check.proofs.Walking.{Walked, walked_start, walked_stop, walked-passed, walked-turn, walked_end}
+use mathlib.Core.Path.{◌≡◌}
+use mathlib.Core.Bool.{true}
+use Rattle.fst_check.proofs.Walking.{Walked}
 use Rattle.fst_text.specs.Inner.Texts.{cleanFrom}
 use Rattle.fst_text.specs.Inner.Blocks.{Marked}
-use Rattle.fst_text.proofs.BlockLaws.{marked-none}
-use borrow.Author.Rules.{rules}
 use Rattle.fst_check.proofs.opening.walk.Given as goal
 
 abbrev pub invariant-loop-k : goal.invariant-loop-k
