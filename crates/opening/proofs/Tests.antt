@@ -1,7 +1,7 @@
 -- The tests of opening, joined: the table's slice, what `collect` needs, and what the test of the regions leaves. Assumes nothing.
 use Prim.Native.Nat.{ℕ, ◌+◌, ◌-◌, ◌*◌, ◌^◌, ◌<◌, ◌≤◌}
 use mathlib.Core.Path.{◌≡◌, sym, ap, ◌∙◌}
-use mathlib.Core.Bool.{Bool, true, false}
+use mathlib.Core.Bool.{Bool, false}
 use mathlib.Core.List.{List, ◌∷◌, ◌++◌}
 use native.Mathlib.Omega.{arith}
 use lib.ListN.{length, take, drop}
@@ -28,7 +28,7 @@ use Rattle.program.specs.declared.Program.{Program}
 use Rattle.program.specs.Program.{program_of, programVerdict, place_of, programIn, ownRegion, programBehind}
 use Rattle.opening.specs.Opening.{table_of, nodesIn, behindTable, usedIn, freeOf, layoutVerdict, opening}
 use Rattle.opening.specs.Inner.Prepared.{verdictBefore24, entryRegions, CollectedUsed, SameUse, UsedWords, Readable, IsOpen}
-use Rattle.opening.specs.Laws.OpeningLaws.{opens, opening-split, program-first, stopped, went_on}
+use Rattle.opening.specs.Laws.OpeningLaws.{opens, opening-split, program-first, went_on}
 use Rattle.opening.proofs.UsedRegions.{regions-of-tree}
 
 -- the slice that is passed on is the table
@@ -44,9 +44,6 @@ part-holds image from to n e f h = rw (part-table image from to e f) h
 -- ---- the tests before 24, one after another
 
 module _ (image : List ℕ) (v : Verdict) (b : Bool) (first_two : v ≡ first (headerVerdict image) (boundsVerdict image)) (asked : b ≡ is_refused v) where
-  pub stopped-before : (words : ℕ) → b ≡ true → v ≡ verdictBefore24 image words
-  stopped-before words t = stopped v (headerVerdict image) (boundsVerdict image) (check (table_of image) words) first_two (sym asked ∙ t)
-
   pub bounds-before : b ≡ false → Bounded image
   bounds-before f = bounds-passed image (first-passed (headerVerdict image) (boundsVerdict image) (sym first_two ∙ not-refused v (sym asked ∙ f))).1
 
@@ -57,9 +54,6 @@ module _ (image : List ℕ) (v : Verdict) (b : Bool) (first_two : v ≡ first (h
 module _ (image : List ℕ) (words : ℕ) (v : Verdict) (e : v ≡ verdictBefore24 image words) where
   pub refused-before : (c : Refusal) → v ≡ Refused c → opening image words ≡ Refused c
   refused-before c r = opening-split image words ∙ ap (λ (a : Verdict). first a (layoutVerdict image)) (sym e ∙ r)
-
-  pub passed-before : v ≡ Passed → verdictBefore24 image words ≡ Passed
-  passed-before p = sym e ∙ p
 
 -- ---- the table in the image
 

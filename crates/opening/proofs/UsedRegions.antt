@@ -20,12 +20,6 @@ unfolding nonempty
 directory-empty zero a b h = absurd (h refl)
 directory-empty (suc n) a b h = refl
 
--- the kind was read, and then the fields
-pub added-file : (tab : List ℕ) (k : ℕ) (w w' : List ℕ) (m r o n t : ℕ) → t ≡ kind tab k → t ≡ 0 → o ≡ offsetOrParent tab k → n ≡ sizeOrNext tab k → Added w w' m o n r → AddedEntry tab k w w' m r
-added-file tab k w w' m r o n t d e p q a =
-    let l : regionsIn w' 0 r ≡ regionsIn w 0 m ++ nonempty (record { offset = offsetOrParent tab k; size = sizeOrNext tab k } ∷ []) = rw (← p, ← q) a.list in
-    record { list = rw (sym d ∙ e) l; bound = a.bound }
-
 pub added_none : (tab : List ℕ) (k : ℕ) (w : List ℕ) (m t : ℕ) → t ≡ kind tab k → (t ≡ 0 → ⊥) → AddedEntry tab k w w m m
 added_none tab k w m t d h =
     record { list = rw (directory-empty (kind tab k) (offsetOrParent tab k) (sizeOrNext tab k) (λ e. h (d ∙ e))) (sym (append-nil (regionsIn w 0 m))); bound = omega arith }
@@ -54,11 +48,6 @@ collected-turn tab w₀ w w' k m k' m' r c a =
       from = omega (arith, c.from);
       bound = omega (arith, c.from, c.bound, a.bound);
     }
-
-pub collected-end : (tab w₀ w : List ℕ) (k m k' n to : ℕ) → CollectedTo tab k m w₀ w k' n → k' ≤ to → to ≤ k' → CollectedTo tab k m w₀ w to n
-collected-end tab w₀ w k m k' n to c h l =
-    let e : k' ≡ to = omega arith in
-    rw e at c
 
 -- the table, entries, the program, entries
 pub used-collected : (tab w w₁ w₂ w₃ w₄ : List ℕ) (program : DiscRegion) (n t m₁ k m₂ m₃ m₄ : ℕ) → 1 ≤ k → k ≤ n → Added w w₁ 0 0 t m₁ → CollectedTo tab 1 m₁ w₁ w₂ k m₂ → Added w₂ w₃ m₂ program.offset program.size m₃ → CollectedTo tab k m₃ w₃ w₄ n m₄ →
