@@ -13,8 +13,8 @@ use Rattle.refusal.specs.declared.Verdict.{Verdict}
 use Rattle.refusal.specs.declared.Verdict.TheVariants.{Passed}
 use Rattle.refusal.specs.declared.Refusal.TheVariants.{EntryPastTable, UnrecognizedKind, InvalidNextIndex, LimitOrMemory}
 use Rattle.refusal.specs.Refusal.{refuse, is_refused}
-use Rattle.refusal.specs.Laws.Chains.{refuse-passed, first-passed, not-refused}
-use Rattle.tree.specs.Table.{file, directory, name_of, count, kind, nameOffset, offsetOrParent, sizeOrNext, name_at, nodeWith, nodeAt, nodesFrom, entryVerdict, entriesVerdict, top, shut, enter, nameVerdict, nextVerdict, walk}
+use Rattle.refusal.specs.Laws.Chains.{refuse-passed, first-passed}
+use Rattle.tree.specs.Table.{file, directory, name_of, count, kind, nameOffset, offsetOrParent, sizeOrNext, name_at, nodeWith, nodeAt, nodesFrom, entryVerdict, entriesVerdict, top, shut, enter, nextVerdict, walk}
 use Rattle.tree.specs.Laws.Steps.{walkEntry, walk-stop, walk-go, walk_end}
 use Rattle.fst_check.specs.Inner.Reading.{Inside, open_in, nodeVerdict}
 
@@ -143,10 +143,6 @@ module _ {tab : List ℕ} {c : ℕ} {words : List ℕ} {d k : ℕ} (w : Walked t
 
   pub walked_stop : is_refused v ≡ true → v ≡ walk tab c (c ∷ []) 1 (nodesFrom tab c 1 (c - 1))
   walked_stop r = sym (w.left ∙ walk-stop tab c (open_in words d) k c v more same r)
-
-  -- an entry that passes has a next that does
-  pub walked-passed : is_refused v ≡ false → nextVerdict c (open_in words d') k (nodeAt tab c k) ≡ Passed
-  walked-passed r = (first-passed (nameVerdict tab c k (name_at tab c (nameOffset tab k))) (nextVerdict c (open_in words d') k (nodeAt tab c k)) (sym test ∙ not-refused v r)).1
 
   pub walked-turn : is_refused v ≡ false → (words'' : List ℕ) (d'' : ℕ) → open_in words'' d'' ≡ enter (open_in words d') (nodeAt tab c k) → d'' ≤ 65 → length words'' ≡ 65 → Walked tab c words'' d'' (k + 1)
   walked-turn r words'' d'' e s l =
