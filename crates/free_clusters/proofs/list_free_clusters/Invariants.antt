@@ -6,7 +6,7 @@ use Rattle.free_space.proofs.Listed.{Written, write-start, write-end, write_skip
 use Rattle.free_clusters.proofs.list_free_clusters.Given as goal
 
 abbrev pub invariant-loop-i : goal.invariant-loop-i
-invariant-loop-i l = Written clusterRow l.words l.count l.disc-end l.initial.list l.list l.at l.i
+invariant-loop-i l = Written clusterRow l.words l.count l.disc_end l.initial.list l.list l.at l.i
 
 abbrev pub decreases-loop-i : goal.decreases-loop-i
 decreases-loop-i l = l.count + 1 - l.i

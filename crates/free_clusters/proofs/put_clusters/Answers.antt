@@ -5,12 +5,6 @@ use Rattle.endian.proofs.Turns.{stores-3}
 use borrow.Author.Rules.{rules}
 use Rattle.free_clusters.proofs.put_clusters.Goals as goal
 
-pub offset_bounds-list-at-2 : goal.offset_bounds-list-at-2
-offset_bounds-list-at-2 c = simp length-set (omega arith)
-
-pub offset_bounds-list-at-3 : goal.offset_bounds-list-at-3
-offset_bounds-list-at-3 c = simp length-set (omega arith)
-
 pub returns : goal.returns
 returns c =
     let n = c.in_clusters-counted.ensures in
