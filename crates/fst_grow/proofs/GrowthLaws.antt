@@ -34,7 +34,7 @@ use Rattle.fst_patch.proofs.Written.{fresh-new, insertable, insert-written}
 use Rattle.fst_measure.specs.declared.TableSize.{TableSize}
 use Rattle.fst_measure.specs.declared.TableSize.TheVariants as table
 use Rattle.fst_grow.specs.Inner.Growth.{treeIn, Stands, IsDirectory, added, depthAllows, Built}
-use Rattle.fst_grow.proofs.StandingTable.{M, size_is, front, inside, built-stands}
+use Rattle.fst_grow.proofs.StandingTable.{size_is, front, inside, built-stands}
 
 -- ---- one entry more
 

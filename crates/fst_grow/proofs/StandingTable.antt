@@ -83,9 +83,6 @@ pub record Counted (nodes : List Node) (k at n : ℕ) : Type 0 where
   pub counted : depth_of nodes k ≡ depth_of nodes at + n
   pub most : n + at ≤ k
 
-pub depth-start : (nodes : List Node) (k : ℕ) → IsDirectory nodes k → Counted nodes k k 0
-depth-start nodes k d = record { is = d; counted = omega arith; most = omega arith }
-
 parent-directory : (nodes : List Node) (k : ℕ) → WellFormed nodes → 0 < k → k < length nodes → IsDirectory nodes (parent_of nodes k)
 parent-directory nodes k w z h = go (get_or nodes (parent_of nodes k) none) refl (parent-inside nodes k w z h).1
   where

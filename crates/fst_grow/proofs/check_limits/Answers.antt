@@ -1,6 +1,5 @@
 -- `fst_grow::check_limits` meets its contract: the tests of the tree with one entry more, one by one.
 use Rattle.fst_grow.proofs.Limits.{count_held, entries_fit, texts-fit, past-count, past-texts, past_words, not-too-deep, too-deep}
-use borrow.Author.Rules.{rules}
 use Rattle.fst_grow.proofs.check_limits.Goals as goal
 
 pub read_u32-count-requires : goal.read_u32-count-requires

@@ -1,7 +1,6 @@
 -- `fst_grow::depth` meets its contract. The invariant of its loop: the directories around k are those counted and those around the one where it stands.
-use Rattle.fst_grow.proofs.StandingTable.{Counted, depth-start, depth-done, few-entries, depth_falls, depth-turn}
+use Rattle.fst_grow.proofs.StandingTable.{Counted}
 use Rattle.fst_grow.specs.Inner.Growth.{treeIn}
-use native.Mathlib.Omega.{arith}
 use Rattle.fst_grow.proofs.depth.Given as goal
 
 abbrev pub invariant-loop-at : goal.invariant-loop-at

@@ -1,6 +1,5 @@
 -- `fst_grow::grow` meets its contract: past a limit, too long, or the old table with the new entry put in.
 use Rattle.fst_grow.proofs.GrowthLaws.{past-cause, past-never, name-fits, grown-size-fits, short-built, may-insert, inserted-built}
-use borrow.Author.Rules.{rules}
 use Rattle.fst_grow.proofs.grow.Goals as goal
 
 pub returns-in-Refused : goal.returns-in-Refused

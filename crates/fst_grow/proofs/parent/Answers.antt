@@ -1,7 +1,6 @@
 -- `fst_grow::parent` meets its contract: a directory of a written table stores what it is nested in.
 use Rattle.fst_grow.proofs.StandingTable.{parent-read, few-entries, parent-held}
 use native.Mathlib.Omega.{arith}
-use borrow.Author.Rules.{rules}
 use Rattle.fst_grow.proofs.parent.Goals as goal
 
 pub overflow_mul-k : goal.overflow_mul-k
