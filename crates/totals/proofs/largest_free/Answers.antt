@@ -21,5 +21,5 @@ loop-k-preserved c =
 
 pub returns : goal.returns
 returns c =
-    let gone = c.Gone-of.ensures in
+    let gone = c.gone_of-gone.ensures in
     rw (← gone) (scan-end _ _ _ _ _ _ _ _ _ c.loop-k.invariant c.loop-k-test.false _ c.longer.ensures)

@@ -6,7 +6,7 @@ use Rattle.totals.proofs.Scanned.{Scanned, scan-fits, scan-start, scan-past, sca
 use Rattle.totals.proofs.largest_free.Given as goal
 
 abbrev pub invariant-loop-k : goal.invariant-loop-k
-invariant-loop-k l = Scanned l.words l.count l.disc-end l.table-end l.gone l.new l.at l.best l.k
+invariant-loop-k l = Scanned l.words l.count l.disc_end l.table_end l.gone l.new l.at l.best l.k
 
 abbrev pub decreases-loop-k : goal.decreases-loop-k
 decreases-loop-k l = l.count - l.k

@@ -17,6 +17,4 @@ returns-then-edits-ge4294967295 c = moved-last _ _ _ _ _ refl (omega arith) (ome
 
 pub returns : goal.returns
 unfolding totalsMoved
-returns c =
-    let s : tie.After-wide = search in
-    rw s.wide.ensures.0 (moved_to _ _ _ _ (omega arith) (omega arith) (omega arith))
+returns c = rw c.wide.ensures.0 (moved_to _ _ _ _ (omega arith) (omega arith) (omega arith))
