@@ -1,15 +1,15 @@
 -- A file of an open image: found by its number, given another place, and what that place asks. Assumes nothing.
 use Prim.Native.Nat.{ℕ, ◌+◌, ◌-◌, ◌*◌, ◌≤◌, ◌<◌, min}
 use mathlib.Core.Path.{◌≡◌, refl, sym, ap, ◌∙◌}
-use mathlib.Core.Bool.{Bool, true, false, cond, ◌||◌}
+use mathlib.Core.Bool.{Bool, true, false, cond}
 use mathlib.Core.List.{List, ◌++◌}
 use native.Mathlib.Omega.{arith}
-use borrow.Author.Tests.{ltb-true, ltb-false, leb-false, le-leb, lt-leb, ne_eqb, eq-eqb}
+use borrow.Author.Tests.{ltb-true, ltb-false, leb-false, le-leb, lt-leb, eq-eqb}
 use lib.Dec.{ltb, leb}
 use lib.ListN.{length, get_or}
 use Rattle.endian.specs.Bytes.{put, be32Bytes}
 use Rattle.refusal.specs.declared.Refusal.{Refusal}
-use Rattle.refusal.specs.declared.Refusal.TheVariants.{NoSuchEntry, ExpectedFile, OverlappingMove, NotEnoughSpace}
+use Rattle.refusal.specs.declared.Refusal.TheVariants.{NoSuchEntry, ExpectedFile}
 use Rattle.refusal.specs.declared.Verdict.{Verdict}
 use Rattle.refusal.specs.declared.Verdict.TheVariants.{Passed, Refused}
 use Rattle.refusal.specs.Refusal.{refuse, first}
@@ -23,10 +23,6 @@ use Rattle.tree.specs.Insert.{setPlace}
 use Rattle.tree.specs.Laws.PatchLaws.{place-patched}
 use Rattle.tree.specs.Laws.WrittenEntries.{length-encode}
 use Rattle.space.specs.declared.DiscRegion.{DiscRegion}
-use Rattle.free_space.specs.declared.Allocation.{Allocation}
-use Rattle.free_space.specs.declared.Allocation.TheVariants as allocation
-use Rattle.free_space.specs.MaxRegionSize.{maxRegionSize}
-use Rattle.free_space.specs.Allocate.{allocationOf}
 use Rattle.opening.specs.Opening.{nodesIn, regionOf, freeOf}
 use Rattle.opening.specs.Inner.Prepared.{OpenImage}
 use Rattle.commit.specs.declared.Decision.{Decision}
@@ -34,11 +30,11 @@ use Rattle.commit.specs.declared.Decision.TheVariants as decision
 use Rattle.decide.specs.declared.FileAt.{FileAt}
 use Rattle.decide.specs.declared.FileAt.TheVariants as place
 use Rattle.edits.specs.Change.{change}
-use Rattle.edits.specs.Edits.{fileVerdict, overlapsItself, relocateVerdict, relocated, resized, planned, planElsewhere, planMove, planResize, planSized}
+use Rattle.edits.specs.Edits.{fileVerdict, relocateVerdict, relocated, planned, planMove, planResize, planSized}
 use Rattle.decide.specs.Inner.Files.{IsFile, fileOf, fileAs}
 use Rattle.commit.specs.Inner.Decision.{InImage, Decided}
 use Rattle.commit.proofs.Puts.{put-inside}
-use Rattle.commit.proofs.Decisions.{planned-first, refused-decided, behind-passed, behind-refused}
+use Rattle.commit.proofs.Decisions.{planned-first, behind-passed, behind-refused}
 use Rattle.commit.proofs.Images.{file-lies, new-place}
 
 -- ---- found by its number
@@ -108,12 +104,6 @@ placed-table nodes k o n s l m f h e g =
 
 -- ---- a new place
 
-pub relocate-verdict : (free : List DiscRegion) (old new : DiscRegion) (t : Bool) (most : ℕ) → t ≡ overlapsItself old new → most ≡ maxRegionSize new.offset 0 free →
-    relocateVerdict free old new ≡ refuse t OverlappingMove (refuse (ltb most new.size) NotEnoughSpace Passed)
-relocate-verdict free old new t most p q =
-    ap (λ (b : Bool). refuse b OverlappingMove (refuse (ltb (maxRegionSize new.offset 0 free) new.size) NotEnoughSpace Passed)) (sym p)
-    ∙ ap (λ (n : ℕ). refuse t OverlappingMove (refuse (ltb n new.size) NotEnoughSpace Passed)) (sym q)
-
 module _ (image : List ℕ) (words : ℕ) (known : OpenImage image words) (k : ℕ) (old : DiscRegion) (here : regionOf (get_or (nodesIn image) k none) ≡ old) where
   ends : 0 < old.size → old.offset + old.size ≤ length image
   ends z = rw here at (file-lies image words known k (rw here z)).1
@@ -170,20 +160,3 @@ module _ (image : List ℕ) (words room : ℕ) (bytes : List ℕ) (free : List D
   module _ (old : DiscRegion) (n : ℕ) where
     pub size-kept : n ≡ old.size → Decided (planSized free nodes k old n) image words room bytes decision.Nothing
     size-kept e = rw (eq-eqb n old.size e) (record { fits = tt; carries = tt; answer = refl; after = refl })
-
-    pub size-in-place : (d : Decision) → (n ≡ old.size → ⊥) → (leb n old.size || leb n (maxRegionSize old.offset old.size free)) ≡ true →
-        Decided (change k (resized nodes k old n)) image words room bytes d → Decided (planSized free nodes k old n) image words room bytes d
-    size-in-place d e t h = rw (ne_eqb n old.size e, t) h
-
-    pub size-elsewhere : (d : Decision) → (n ≡ old.size → ⊥) → (leb n old.size || leb n (maxRegionSize old.offset old.size free)) ≡ false →
-        Decided (planElsewhere nodes free k old n (allocationOf 0x8000 n free)) image words room bytes d → Decided (planSized free nodes k old n) image words room bytes d
-    size-elsewhere d e t h = rw (ne_eqb n old.size e, t) h
-
-    pub elsewhere-refused : (a : Allocation) (c : Refusal) → a ≡ allocation.Refused c → Decided (planElsewhere nodes free k old n a) image words room bytes (decision.Refused c)
-    elsewhere-refused (allocation.Refused x) c e = let y : x ≡ c = cc in refused-decided image words room bytes (planElsewhere nodes free k old n (allocation.Refused x)) c (ap Refused y)
-    elsewhere-refused (allocation.Found r) c e = let z : ◌≡◌ {A = ℕ} 0 1 = cc in absurd (omega arith)
-
-    pub elsewhere-decided : (a : Allocation) (r : DiscRegion) (d : Decision) → a ≡ allocation.Found r →
-        Decided (planned (relocateVerdict free old (record { offset = r.offset; size = n })) (change k (relocated nodes k old (record { offset = r.offset; size = n })))) image words room bytes d →
-        Decided (planElsewhere nodes free k old n a) image words room bytes d
-    elsewhere-decided a r d e h = rw e h

@@ -2,10 +2,8 @@
 -- Assumes nothing.
 use Prim.Native.Nat.{ℕ, ◌+◌, ◌-◌, ◌*◌, ◌≤◌, ◌^◌, min}
 use mathlib.Core.Path.{◌≡◌, sym, ap, ◌∙◌}
-use mathlib.Core.Bool.{Bool, true, false, ◌||◌}
 use mathlib.Core.List.{List, ◌++◌}
 use native.Mathlib.Omega.{arith}
-use lib.Dec.{leb}
 use lib.ListN.{length, get_or}
 use Rattle.endian.specs.Bytes.{put, be32Bytes}
 use Rattle.refusal.specs.declared.Refusal.{Refusal}
@@ -18,15 +16,11 @@ use Rattle.tree.specs.Laws.WrittenEntries.{length-encode}
 use Rattle.space.specs.declared.DiscRegion.{DiscRegion}
 use Rattle.space.specs.Free.{freeRegions}
 use Rattle.space.specs.Inner.Sort.{regionsIn}
-use Rattle.free_space.specs.declared.Allocation.{Allocation}
-use Rattle.free_space.specs.declared.Allocation.TheVariants as allocation
-use Rattle.free_space.specs.MaxRegionSize.{maxRegionSize}
-use Rattle.free_space.specs.Allocate.{allocationOf}
 use Rattle.opening.specs.Opening.{nodesIn, freeOf, regionOf}
 use Rattle.opening.specs.Inner.Prepared.{OpenImage, IsOpen}
 use Rattle.opening.proofs.Words.{free-below}
 use Rattle.edits.specs.Change.{tableVerdict, change}
-use Rattle.edits.specs.Edits.{noPlace, tableOnly, planned, fileVerdict, relocateVerdict, relocated, resized, planElsewhere, planMove, planResize, planSized}
+use Rattle.edits.specs.Edits.{noPlace, tableOnly, planned, fileVerdict, relocateVerdict, relocated, resized, planMove, planResize, planSized}
 use Rattle.commit.specs.declared.Writing.{Writing}
 use Rattle.commit.specs.declared.Decision.{Decision}
 use Rattle.commit.specs.declared.Decision.TheVariants as decision
@@ -34,12 +28,12 @@ use Rattle.fst_measure.specs.declared.TableSize.{TableSize}
 use Rattle.fst_measure.specs.declared.TableSize.TheVariants as table
 use Rattle.commit.specs.Inner.Decision.{InImage, Decided, placing, changeWith, sizedAs}
 use Rattle.commit.proofs.Puts.{span-start}
-use Rattle.commit.proofs.Decisions.{sized-refused, refused-decided, write-decided, behind-passed, behind-refused, same_tests, length-encode-setPlace}
+use Rattle.commit.proofs.Decisions.{sized-refused, refused-decided, write-decided, same_tests, length-encode-setPlace}
 use Rattle.commit.proofs.Images.{new-table}
 use Rattle.decide.specs.declared.FileAt.{FileAt}
 use Rattle.decide.specs.declared.FileAt.TheVariants as place
 use Rattle.decide.specs.Inner.Files.{IsFile, fileAs}
-use Rattle.decide.proofs.Files.{file-found, file-refused, placed-table, relocate-inside, resize-inside, move-decided, move-refused, resize-decided, resize-refused, size-in-place, size-elsewhere, elsewhere-refused, elsewhere-decided}
+use Rattle.decide.proofs.Files.{file-found, file-refused, placed-table, relocate-inside, resize-inside, move-decided, move-refused, resize-decided, resize-refused}
 
 -- ---- the table, judged and written
 
@@ -60,10 +54,6 @@ module _ (image w : List ℕ) (room : ℕ) (to : DiscRegion) (r : TableSize)
       omega (arith, n.held, length-encode (nodesIn image), f.inside)
 
 module _ (image w bytes : List ℕ) (r : TableSize) where
-  pub rewrite-refused : (c : Refusal) (after : List ℕ) → r ≡ sizedAs (tableVerdict (placing (nodesIn image) noPlace) image (length w) (length bytes)) (length (encode (nodesIn image))) → r ≡ table.Refused c →
-      Decided (change 0 (tableOnly (nodesIn image))) image (length w) (length bytes) after (decision.Refused c)
-  rewrite-refused c after q e = refused-decided image (length w) (length bytes) after (change 0 (tableOnly (nodesIn image))) c (past image w (length bytes) noPlace r q c e)
-
   pub rewrite-decided : (size : ℕ) (after : List ℕ) → r ≡ sizedAs (tableVerdict (placing (nodesIn image) noPlace) image (length w) (length bytes)) (length (encode (nodesIn image))) → r ≡ table.Bytes size →
       OpenImage image (length w) → after ≡ put bytes 0 (encode (nodesIn image)) →
       Decided (change 0 (tableOnly (nodesIn image))) image (length w) (length bytes) after (decision.Write 0 size (record { old = noPlace; place = noPlace; kept = 0; lost = 0; lost_size = 0 }))
@@ -101,47 +91,9 @@ module _ (image w : List ℕ) (m e : ℕ) (o : IsOpen image w m) (end : e ≡ di
     verdict-is : (u : Verdict) → v ≡ u → relocateVerdict (freeOf image) old new ≡ u
     verdict-is u q = sym (judged ∙ ap (λ (l : List DiscRegion). relocateVerdict l old new) free-is) ∙ q
 
-    pub relocate-refused : (k room : ℕ) (bytes : List ℕ) (c : Refusal) → v ≡ Refused c →
-        Decided (planned (relocateVerdict (freeOf image) old new) (change k (relocated (nodesIn image) k old new))) image (length w) room bytes (decision.Refused c)
-    relocate-refused k room bytes c q =
-        behind-refused image (length w) room bytes (relocateVerdict (freeOf image) old new) (change k (relocated (nodesIn image) k old new)) c (verdict-is (Refused c) q)
-
     pub relocated-in-image : (k kept : ℕ) → v ≡ Passed → regionOf (get_or (nodesIn image) k none) ≡ old → kept ≡ min old.size new.size →
         InImage (length image) (record { old = old; place = new; kept = kept; lost = old.offset; lost_size = old.size })
     relocated-in-image k kept q here g = relocate-inside image (length w) o.known k old here new kept (verdict-is Passed q) g
-
-    pub relocate-decided : (k kept room : ℕ) (bytes : List ℕ) (d : Decision) → v ≡ Passed → kept ≡ min old.size new.size →
-        Decided (change k (changeWith (setPlace k new.offset new.size (nodesIn image)) (record { old = old; place = new; kept = kept; lost = old.offset; lost_size = old.size }))) image (length w) room bytes d →
-        Decided (planned (relocateVerdict (freeOf image) old new) (change k (relocated (nodesIn image) k old new))) image (length w) room bytes d
-    relocate-decided k kept room bytes d q g h =
-        behind-passed image (length w) room bytes (relocateVerdict (freeOf image) old new) (change k (relocated (nodesIn image) k old new)) d (verdict-is Passed q) (rw g at h)
-
-  module _ (k room n : ℕ) (bytes : List ℕ) (old : DiscRegion) where
-    pub nowhere-else : (a : Allocation) (c : Refusal) → a ≡ allocationOf 0x8000 n (freeRegions e (regionsIn w 0 m)) → a ≡ allocation.Refused c →
-        Decided (planElsewhere (nodesIn image) (freeOf image) k old n (allocationOf 0x8000 n (freeOf image))) image (length w) room bytes (decision.Refused c)
-    nowhere-else a c p q =
-        elsewhere-refused image (length w) room bytes (freeOf image) (nodesIn image) k old n (allocationOf 0x8000 n (freeOf image)) c
-        (sym (p ∙ ap (λ (l : List DiscRegion). allocationOf 0x8000 n l) free-is) ∙ q)
-
-    pub elsewhere : (a : Allocation) (r : DiscRegion) (d : Decision) → a ≡ allocationOf 0x8000 n (freeRegions e (regionsIn w 0 m)) → a ≡ allocation.Found r →
-        Decided (planned (relocateVerdict (freeOf image) old (record { offset = r.offset; size = n })) (change k (relocated (nodesIn image) k old (record { offset = r.offset; size = n })))) image (length w) room bytes d →
-        Decided (planElsewhere (nodesIn image) (freeOf image) k old n (allocationOf 0x8000 n (freeOf image))) image (length w) room bytes d
-    elsewhere a r d p q h =
-        elsewhere-decided image (length w) room bytes (freeOf image) (nodesIn image) k old n (allocationOf 0x8000 n (freeOf image)) r d
-        (sym (p ∙ ap (λ (l : List DiscRegion). allocationOf 0x8000 n l) free-is) ∙ q) h
-
-    module _ (t : Bool) (judged : t ≡ (leb n old.size || leb n (maxRegionSize old.offset old.size (freeRegions e (regionsIn w 0 m))))) (other : n ≡ old.size → ⊥) where
-      stays-is : (b : Bool) → t ≡ b → (leb n old.size || leb n (maxRegionSize old.offset old.size (freeOf image))) ≡ b
-      stays-is b q = sym (judged ∙ ap (λ (l : List DiscRegion). leb n old.size || leb n (maxRegionSize old.offset old.size l)) free-is) ∙ q
-
-      pub resized-in-place : (d : Decision) → t ≡ true → Decided (change k (resized (nodesIn image) k old n)) image (length w) room bytes d → Decided (planSized (freeOf image) (nodesIn image) k old n) image (length w) room bytes d
-      resized-in-place d q h = size-in-place image (length w) room bytes (freeOf image) (nodesIn image) k old n d other (stays-is true q) h
-
-      pub resized-elsewhere : (d : Decision) → t ≡ false → Decided (planElsewhere (nodesIn image) (freeOf image) k old n (allocationOf 0x8000 n (freeOf image))) image (length w) room bytes d →
-          Decided (planSized (freeOf image) (nodesIn image) k old n) image (length w) room bytes d
-      resized-elsewhere d q h = size-elsewhere image (length w) room bytes (freeOf image) (nodesIn image) k old n d other (stays-is false q) h
-
--- ---- the same place
 
 module _ (image w : List ℕ) (k n least : ℕ) (old : DiscRegion) (smaller : least ≡ min old.size n) where
   lost-is : old.size - least ≡ old.size - n

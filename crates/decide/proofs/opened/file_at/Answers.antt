@@ -1,6 +1,5 @@
 -- `decide::opened::file_at` meets its contract: its entry of the table is a file or refused.
 use Rattle.decide.proofs.Tests.{no-entry-there, entry-there}
-use borrow.Author.Rules.{rules}
 use Rattle.decide.proofs.opened.file_at.Goals as goal
 
 pub returns-in-Refused : goal.returns-in-Refused

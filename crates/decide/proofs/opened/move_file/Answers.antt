@@ -1,10 +1,6 @@
 -- `decide::opened::move_file` meets its contract: 15 and 16, then the move of the file that was found.
-use Rattle.decide.proofs.Outcomes.{no-file-to-move, file-moved, found-file, found-place}
-use borrow.Author.Rules.{rules}
+use Rattle.decide.proofs.Outcomes.{no-file-to-move, file-moved}
 use Rattle.decide.proofs.opened.move_file.Goals as goal
-
-pub relocate-requires : goal.relocate-requires
-relocate-requires c = search (found-file, found-place)
 
 pub returns-in-Refused : goal.returns-in-Refused
 returns-in-Refused c = search no-file-to-move

@@ -1,6 +1,5 @@
 -- `decide::opened::resize_in_place` meets its contract: the change that keeps the place, whose lost end lies in the old one.
 use Rattle.decide.proofs.Outcomes.{kept-in-place, resized-in-image}
-use borrow.Author.Rules.{rules}
 use Rattle.decide.proofs.opened.resize_in_place.Goals as goal
 
 pub set_place-requires : goal.set_place-requires

@@ -1,14 +1,10 @@
 -- `decide::opened::rewrite` meets its contract: the tests of the table as it is, and the table written anew.
-use Rattle.decide.proofs.Outcomes.{rewrite-refused, rewrite-decided, table-held, table-small}
+use Rattle.decide.proofs.Outcomes.{rewrite-decided, table-held, table-small}
 use Rattle.opening.specs.Laws.OpeningLaws.{still-opens}
-use borrow.Author.Rules.{rules}
 use Rattle.decide.proofs.opened.rewrite.Goals as goal
 
 pub write_table-requires : goal.write_table-requires
 write_table-requires c = (search still-opens, search table-held, search table-small)
-
-pub returns-in-Refused : goal.returns-in-Refused
-returns-in-Refused c = search rewrite-refused
 
 pub returns-in-Bytes : goal.returns-in-Bytes
 returns-in-Bytes c = search rewrite-decided

@@ -1,7 +1,6 @@
 -- `decide::opened::set_place` meets its contract: the tree with another place passes the tests of the tree as it is, and its table is the one written anew with 8 bytes changed.
 use Rattle.decide.proofs.Outcomes.{place-held, place-refused, place-decided, table-held, table-small}
 use Rattle.opening.specs.Laws.OpeningLaws.{still-opens}
-use borrow.Author.Rules.{rules}
 use Rattle.decide.proofs.opened.set_place.Goals as goal
 
 pub write_table-requires : goal.write_table-requires
