@@ -12,8 +12,4 @@ pub largest_free-largest-requires : goal.largest_free-largest-requires
 largest_free-largest-requires c = search (sorted-to, some-region)
 
 pub returns : goal.returns
-returns c =
-    let s : tie.Start = search in
-    let d : tie.After-disc-of = search in
-    let l : tie.After-largest-free = search in
-    recorded _ _ _ s.pre _ d.disc-of.ensures _ _ _ l.largest-free.ensures (omega arith) (omega arith)
+returns c = recorded _ _ _ c.requires _ c.disc_of-disc.ensures _ _ _ c.largest_free-largest.ensures (omega arith) (omega arith)
