@@ -52,14 +52,6 @@ pub copy_start : (source text : List ℕ) (from at : ℕ) → Copying source tex
 copy_start source text from at = record { same = refl; done = []; wrote = wrote_none text at; left = refl }
 
 module _ {source text₀ text : List ℕ} {from i at end : ℕ} (c : Copying source text₀ text from i at end) where
-  pub copy-stop : get_or source i 0 ≡ 0 → Wrote text₀ text at (textAt source from) end
-  copy-stop h =
-      let e : c.done ≡ textAt source from = sym (append-nil c.done) ∙ (rw (text-end source i h) at c.left) in
-      rw e at c.wrote
-
-  pub copy-end : length source ≤ i → Wrote text₀ text at (textAt source from) end
-  copy-end h = copy-stop (get_or-eq_default source 0 h)
-
   pub copy-turn : {text' : List ℕ} {end' : ℕ} → (get_or source i 0 ≡ 0 → ⊥) → length text' ≡ length text → Wrote text text' end (get_or source i 0 ∷ []) end' → Copying source text₀ text' from (i + 1) at end'
   copy-turn h l w = record {
     same = l ∙ c.same;

@@ -1,8 +1,7 @@
 -- `text_buffer::put_text` meets its contract. The invariant of its loop: what is written and what is left are the text.
 use Prim.Native.Nat.{◌-◌}
-use native.Mathlib.Omega.{arith}
 use lib.ListN.{length}
-use Rattle.text_buffer.proofs.Joining.{Copying, copy_start, copy-stop, copy-end, copy-turn}
+use Rattle.text_buffer.proofs.Joining.{Copying}
 use Rattle.text_buffer.proofs.put_text.Given as goal
 
 abbrev pub invariant-loop-i : goal.invariant-loop-i
