@@ -1,6 +1,5 @@
 -- `make_walk::into` meets its contract: by what the search for a child answered.
 use Rattle.make_walk.proofs.Steps.{child-found, child-missing}
-use borrow.Author.Rules.{rules}
 use Rattle.make_walk.proofs.into.Goals as goal
 
 pub returns-in-At : goal.returns-in-At

@@ -1,6 +1,5 @@
 -- `make_walk::into_new` meets its contract: by the tests of the name.
 use Rattle.make_walk.proofs.Steps.{new-unsafe, new-bad, new-named}
-use borrow.Author.Rules.{rules}
 use Rattle.make_walk.proofs.into_new.Goals as goal
 
 pub returns-then-not-is_safe : goal.returns-then-not-is_safe

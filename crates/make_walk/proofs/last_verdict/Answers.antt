@@ -1,6 +1,5 @@
 -- `make_walk::last_verdict` meets its contract: each return by the tests that led there.
 use Rattle.make_walk.proofs.Steps.{ends-among-new, ends-on-file, ends-on-directory}
-use borrow.Author.Rules.{rules}
 use Rattle.make_walk.proofs.last_verdict.Goals as goal
 
 pub returns-then-level-ne0 : goal.returns-then-level-ne0

@@ -1,6 +1,5 @@
 -- `make_walk::step_below` meets its contract: each return by the tests that led there.
 use Rattle.make_walk.proofs.Steps.{below_stays, below-back, below_new}
-use borrow.Author.Rules.{rules}
 use Rattle.make_walk.proofs.step_below.Goals as goal
 
 pub returns-then-stays : goal.returns-then-stays

@@ -1,6 +1,5 @@
 -- `make_walk::step_in_tree` meets its contract: each return by the tests that led there.
 use Rattle.make_walk.proofs.Steps.{old-file, old-stays, old-back, old-into}
-use borrow.Author.Rules.{rules}
 use Rattle.make_walk.proofs.step_in_tree.Goals as goal
 
 pub returns-then-not-is_directory : goal.returns-then-not-is_directory

@@ -1,6 +1,5 @@
 -- `make_walk::take_step` meets its contract: by the level.
 use Rattle.make_walk.proofs.Steps.{step-in-tree, step-among-new}
-use borrow.Author.Rules.{rules}
 use Rattle.make_walk.proofs.take_step.Goals as goal
 
 pub returns-then-level-eq0 : goal.returns-then-level-eq0

@@ -1,5 +1,4 @@
 -- `make_walk::told` meets its contract: by the test.
-use borrow.Author.Rules.{rules}
 use Rattle.make_walk.proofs.told.Goals as goal
 
 pub returns-then-bad : goal.returns-then-bad

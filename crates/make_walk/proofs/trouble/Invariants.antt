@@ -1,12 +1,8 @@
 -- `make_walk::trouble` meets its contract. The invariant of its loop: what is left of the walk is what the whole has.
-use Rattle.tree.specs.Inner.WellFormed.{WellFormed}
-use native.Mathlib.Omega.{arith}
 use Prim.Native.Nat.{◌-◌}
 use lib.ListN.{length}
 use Rattle.tree.specs.Table.{nodesOf}
-use Rattle.fst.proofs.Nodes.{opened}
-use Rattle.make_walk.proofs.WalkLaws.{Walking, walk_from, walks-inside, walk-stops, walk-lands-inside, walk_ends, walk-goes-on}
-use borrow.Author.Rules.{rules}
+use Rattle.make_walk.proofs.WalkLaws.{Walking}
 use Rattle.make_walk.proofs.trouble.Given as goal
 
 abbrev pub invariant-loop-j : goal.invariant-loop-j
