@@ -5,6 +5,7 @@ use mathlib.Core.Logic.{◌⊎◌, ⊎_elim}
 use mathlib.Core.List.{List, ◌++◌, append_assoc}
 use native.Mathlib.Omega.{arith}
 use lib.ListN.{length, take, drop, length-append}
+use borrow.Rule.Slice.PartMut.{put_mid}
 use lib.Seq.{length-take-le, take_at, drop_at, take-append-le, take-take, take-add, drop-drop}
 use Rattle.endian.specs.Bytes.{put, span}
 use Rattle.endian.specs.Laws.Stored.{length-put, put-before, put-after, drop-put, span-put, length-span, span_ext}
@@ -100,3 +101,16 @@ up-part s₀ s t from to n left j k is e f h fits up =
     let v : from + left ≡ from + j + k = omega arith in
     let w : span s₀ (from + j) (n - j) ≡ a ++ b = rw (q, v) (span-add s₀ (from + j) k (n - left)) in
     f ∙ rw (r, e) (put-prepend s₀ (to + j) a (to + left) b (omega arith) (omega arith)) ∙ ap (λ (x : List ℕ). put s₀ (to + j) x) (sym w)
+
+-- ---- a part that a slice's own methods wrote
+
+-- what the part from `at` to `at + n` holds afterwards has been put there
+pub part-put : (s ys bs : List ℕ) (at n : ℕ) → ys ≡ bs → length bs ≡ n → put_mid at (at + n - at) s ys ≡ put s at bs
+unfolding put
+part-put s ys bs at n e l =
+    let k : at + n - at ≡ length bs = omega (arith, l) in
+    rw (e, k, drop-drop (length bs) at s) refl
+
+-- the part from `at` to `at + n` is the span
+pub part-span : (s : List ℕ) (at n : ℕ) → take (at + n - at) (drop at s) ≡ span s at n
+part-span s at n = let k : at + n - at ≡ n = omega arith in rw k refl

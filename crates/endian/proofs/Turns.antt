@@ -4,27 +4,15 @@ use mathlib.Core.Path.{◌≡◌, sym}
 use mathlib.Core.Bool.{true, ◌&&◌}
 use mathlib.Core.List.{List, [], ◌∷◌}
 use native.Mathlib.Omega.{arith}
-use native.Mathlib.Numerals.{add-one}
-use lib.ListN.{length, get_or, set, replicate, length-replicate, replicate-append-replicate}
+use lib.ListN.{length, get_or, set}
 use lib.Dec.{eqb}
 use Rattle.endian.specs.Bytes.{put, span, sameBytes}
-use Rattle.endian.specs.Laws.Stored.{put-none, put-snoc, put-sets, length-span, span-snoc, span-cons}
+use Rattle.endian.specs.Laws.Stored.{put-none, put-sets, span-cons}
 
 -- a copy from one list to another, the lowest byte first
-pub copy-turn : (source s₀ s : List ℕ) (from to i : ℕ) → s ≡ put s₀ to (span source from i) → from + i < length source → to + i < length s₀
-    → set s (to + i) (get_or source (from + i) 0) ≡ put s₀ to (span source from (i + 1))
-copy-turn source s₀ s from to i e h k =
-    let l : length (span source from i) ≡ i = length-span source from i (omega arith) in
-    rw (e, add-one i, span-snoc source from i h) (rw l at (put-snoc s₀ to (span source from i) (get_or source (from + i) 0) (rw l k)))
-
 -- within one list, the highest bytes first: none yet, and all of them
 pub up_start : (s : List ℕ) (from to n : ℕ) → s ≡ put s (to + n) (span s (from + n) (n - n))
 up_start s from to n = let z : n - n ≡ 0 = omega arith in rw z (sym (put-none s (to + n)))
-
-pub fill-turn : (s₀ s : List ℕ) (at i b : ℕ) → s ≡ put s₀ at (replicate i b) → at + i < length s₀ → set s (at + i) b ≡ put s₀ at (replicate (i + 1) b)
-fill-turn s₀ s at i b e h =
-    let l : length (replicate i b) ≡ i = length-replicate i b in
-    rw (e, ← replicate-append-replicate i 1 b) (rw l at (put-snoc s₀ at (replicate i b) b (rw l h)))
 
 -- what is left of two spans, compared from place i on
 pub same_turn : (a b : List ℕ) (at start i n : ℕ) → i < n → at + n ≤ length a → start + n ≤ length b
@@ -57,11 +45,6 @@ unfolding sameBytes
 same_end a b at start i n h = let z : n - i ≡ 0 = omega arith in rw z
 
 -- two, three and four single stores, one behind the other
-pub stores-2 : (s : List ℕ) (at a b : ℕ) → at + 2 ≤ length s → set (set s at a) (at + 1) b ≡ put s at (a ∷ b ∷ [])
-stores-2 s at a b h =
-    let o : at + 1 ≡ suc at = omega arith in
-    rw o (put-sets s at (a ∷ b ∷ []) h)
-
 pub stores-3 : (s : List ℕ) (at a b c : ℕ) → at + 3 ≤ length s → set (set (set s at a) (at + 1) b) (at + 2) c ≡ put s at (a ∷ b ∷ c ∷ [])
 stores-3 s at a b c h =
     let p : at + 1 ≡ suc at = omega arith in

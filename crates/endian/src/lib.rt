@@ -4,13 +4,6 @@
 ghost use Rattle.std.specs.Prelude.{◌≡◌, [], ◌∷◌, ◌⊎◌, ◌+◌, ◌≤◌, ◌<◌, ◌^◌, min, length, get_or, replicate};
 ghost use Rattle.endian.specs.Bytes.{be24, be32, be24Bytes, be32Bytes, put, span, sameBytes};
 
-// A byte as a wider number, which asks its caller for no proof.
-fn wide_byte(x: u8) -> u32
-    ensures { (result ≡ x) × (result < 256) }
-{
-    x as u32
-}
-
 // A word as a wider number, which asks its caller for no proof.
 pub fn wide(x: u32) -> u64
     ensures { (result ≡ x) × (result < 4294967296) }
@@ -29,7 +22,7 @@ pub fn read_u24(s: &[u8], at: usize) -> u32
     requires { at + 3 ≤ length s.now }
     ensures { (result ≡ be24 s.now at) × (result < 2 ^ 24) }
 {
-    (wide_byte(s[at]) * 256 + wide_byte(s[at + 1])) * 256 + wide_byte(s[at + 2])
+    (u32::from(s[at]) * 256 + u32::from(s[at + 1])) * 256 + u32::from(s[at + 2])
 }
 
 pub fn read_u32(s: &[u8], at: usize) -> u32
@@ -37,7 +30,7 @@ pub fn read_u32(s: &[u8], at: usize) -> u32
     ensures { result ≡ be32 s.now at }
 {
     let high = read_u24(s, at);
-    high * 256 + wide_byte(s[at + 3])
+    high * 256 + u32::from(s[at + 3])
 }
 
 pub fn write_u8(s: &mut [u8], at: usize, v: u8)
@@ -71,11 +64,7 @@ pub fn copy(source: &[u8], from: usize, s: &mut [u8], to: usize, n: usize)
     requires { (from + n ≤ length source.now) × (to + n ≤ length s.old) }
     ensures { s.new ≡ put s.old to (span source.now from n) }
 {
-    let mut i = 0;
-    while i < n {
-        s[to + i] = source[from + i];
-        i += 1;
-    }
+    s[to..to + n].copy_from_slice(&source[from..from + n]);
 }
 
 // Up to 65,536 bytes by way of an array, so it does not matter where the two spans lie. The compiler makes one memmove of it, which a loop
@@ -141,11 +130,7 @@ pub fn fill(s: &mut [u8], at: usize, n: usize, b: u8)
     requires { at + n ≤ length s.old }
     ensures { s.new ≡ put s.old at (replicate n b) }
 {
-    let mut i = 0;
-    while i < n {
-        s[at + i] = b;
-        i += 1;
-    }
+    s[at..at + n].fill(b);
 }
 
 // The rest of `same`, byte by byte.
@@ -153,11 +138,8 @@ fn same_rest(a: &[u8], at: usize, b: &[u8], start: usize, n: usize) -> bool
     requires { (at + n ≤ length a.now) × (start + n ≤ length b.now) }
     ensures { result ≡ sameBytes (span a.now at n) (span b.now start n) }
 {
-    let mut i = 0;
-    while i < n {
-        if a[at + i] == b[start + i] {
-            i += 1;
-        } else {
+    for i in 0..n {
+        if a[at + i] != b[start + i] {
             return false;
         }
     }
@@ -170,12 +152,10 @@ fn same_block(a: &[u8], at: usize, b: &[u8], start: usize) -> bool
     ensures { result ≡ sameBytes (span a.now at 1024) (span b.now start 1024) }
 {
     let mut same = true;
-    let mut i = 0;
-    while i < 1024 {
+    for i in 0..1024 {
         if a[at + i] != b[start + i] {
             same = false;
         }
-        i += 1;
     }
     same
 }

@@ -8,6 +8,3 @@ use Rattle.endian.proofs.same_block.Given as goal
 abbrev pub invariant-loop-i : goal.invariant-loop-i
 invariant-loop-i l =
     (l.i ≤ 1024) × (sameBytes (span l.a l.at 1024) (span l.b l.start 1024) ≡ (l.same && sameBytes (span l.a (l.at + l.i) (1024 - l.i)) (span l.b (l.start + l.i) (1024 - l.i))))
-
-abbrev pub decreases-loop-i : goal.decreases-loop-i
-decreases-loop-i l = 1024 - l.i

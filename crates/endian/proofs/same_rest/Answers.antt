@@ -12,13 +12,13 @@ pub loop-i-preserved : goal.loop-i-preserved
 loop-i-preserved c =
     let l = c.loop-i in
     let a = c.args in
-    (omega arith, l.invariant.1 ∙ rw (eq-eqb _ _ c.if-a-at.true) at (same_turn a.a.now a.b.now a.at a.start l.i a.n (omega arith) (omega arith) (omega arith)))
+    (omega arith, l.invariant.1 ∙ rw (eq-eqb _ _ c.if-a-at.false) at (same_turn a.a.now a.b.now a.at a.start l.i a.n (omega arith) (omega arith) (omega arith)))
 
-pub returns-else-a-at : goal.returns-else-a-at
-returns-else-a-at c =
+pub returns-then-a-at : goal.returns-then-a-at
+returns-then-a-at c =
     let l = c.loop-i in
     let a = c.args in
-    sym (l.invariant.1 ∙ rw (ne_eqb _ _ c.if-a-at.false) at (same_turn a.a.now a.b.now a.at a.start l.i a.n (omega arith) (omega arith) (omega arith)))
+    sym (l.invariant.1 ∙ rw (ne_eqb _ _ c.if-a-at.true) at (same_turn a.a.now a.b.now a.at a.start l.i a.n (omega arith) (omega arith) (omega arith)))
 
 pub returns : goal.returns
 returns c = sym (c.loop-i.invariant.1 ∙ same_end _ _ _ _ _ _ c.loop-i-test.false)

@@ -6,6 +6,3 @@ use Rattle.endian.proofs.same_rest.Given as goal
 
 abbrev pub invariant-loop-i : goal.invariant-loop-i
 invariant-loop-i l = (l.i ≤ l.n) × (sameBytes (span l.a l.at l.n) (span l.b l.start l.n) ≡ sameBytes (span l.a (l.at + l.i) (l.n - l.i)) (span l.b (l.start + l.i) (l.n - l.i)))
-
-abbrev pub decreases-loop-i : goal.decreases-loop-i
-decreases-loop-i l = l.n - l.i
