@@ -1,42 +1,18 @@
 -- `listing_text::entries::put_entries` meets its contract. The invariant of its loop: the lines of the entries below k are written, and the directories around the last of them are kept.
-use Rattle.text_buffer.proofs.Joining.{kept-two}
-use Rattle.listing_text.proofs.LineParts.{below-count}
+use Rattle.std.proofs.Common.{arith}
 use Rattle.listing_text.proofs.Tables.{Read, read, opens-some, opens-long}
-use Prim.Native.Nat.{◌-◌, ◌<◌, ◌≤◌}
-use native.Mathlib.Omega.{arith}
-use Rattle.tree.specs.Table.{nodesOf}
-use Rattle.listing_text.specs.Inner.Around.{Chain}
-use Rattle.listing_text.proofs.Chains.{Climbs, chain-start, climbs-start}
-use Rattle.listing_text.proofs.LineParts.{Walking, walk_start, walk_turn, walk_end}
+use Rattle.listing_text.proofs.Chains.{chain-start, climbs-start}
+use Rattle.listing_text.proofs.LineParts.{walk_start, walk_turn, walk_end}
 use Rattle.listing_text.proofs.entries.put_entries.Goals as goal
 
--- (helper)
-reads : (c : tie.After-shared-slice-known invariant-loop decreases-loop) → Read c.args.table.now
-reads c = read _ (λ i. omega (arith, c.type_inv.table i)) (search)
-
 pub count-count-requires : goal.count-count-requires
-count-count-requires c = search opens-long
-
-pub put_root-end-requires : goal.put_root-end-requires
-put_root-end-requires c = let s : tie.Start invariant-loop decreases-loop = search in s.pre
+count-count-requires c = opens-long _ c.requires
 
 pub loop-k-init : goal.loop-k-init
-loop-k-init c = (omega arith, omega (arith, opens-some), search (chain-start, reads), search climbs-start, search walk_start)
-
-pub shut-depth-requires : goal.shut-depth-requires
-shut-depth-requires c = ((search, search below-count, search), search)
-
-pub put_entry-end-requires : goal.put_entry-end-requires
-put_entry-end-requires c = (search, search, search below-count, search)
-
-pub enter-depth-requires : goal.enter-depth-requires
-enter-depth-requires c = (search, search, search below-count, search)
+loop-k-init c = let r : Read c.args.table.now = read _ (λ i. omega (arith, c.type_inv.table i)) c.requires in (omega arith, omega (arith, opens-some _ c.requires), chain-start _ r, climbs-start _, walk_start _ _ _)
 
 pub loop-k-preserved : goal.loop-k-preserved
-loop-k-preserved c = (omega arith, omega arith, c.enter-depth.ensures.0, c.enter-depth.ensures.1, search walk_turn)
-
-pub shape_of-text : goal.shape_of-text
-shape_of-text c = search kept-two
+loop-k-preserved c = (omega arith, omega arith, c.enter-depth.ensures.chain, c.enter-depth.ensures.k_value, search walk_turn)
 
 pub returns : goal.returns
 returns c = search walk_end

@@ -5,7 +5,7 @@ use Rattle.listing_text.proofs.Gaps.{Listing, regions-start, regions-end, region
 use Rattle.listing_text.proofs.regions.put_regions.Given as goal
 
 abbrev pub invariant-loop-i : goal.invariant-loop-i
-invariant-loop-i l = Listing l.words l.count l.disc-end l.initial.text l.text l.at l.end l.i
+invariant-loop-i l = Listing l.words l.count l.disc_end l.initial.text l.text l.at l.end l.i
 
 abbrev pub decreases-loop-i : goal.decreases-loop-i
 decreases-loop-i l = l.count + 1 - l.i
