@@ -1,6 +1,5 @@
 -- `table_only::place_table` meets its contract: the limits are passed, so the verdict on the place is the table's.
 use Rattle.table_only.proofs.TableChanges.{place-refused, place-passed}
-use borrow.Author.Rules.{rules}
 use Rattle.table_only.proofs.place_table.Goals as goal
 
 pub returns-in-Refused : goal.returns-in-Refused
