@@ -1,7 +1,6 @@
 -- `insert::opened::add_entry` meets its contract: what grew stands in the bytes; what could not cannot be written.
 use Rattle.fst_grow.proofs.GrowthLaws.{grown-stands}
 use Rattle.table_only.proofs.BuiltTable.{grown-decided, ungrown-decided}
-use borrow.Author.Rules.{rules}
 use Rattle.insert.proofs.opened.add_entry.Goals as goal
 
 pub place_table-requires : goal.place_table-requires

@@ -1,6 +1,5 @@
 -- `insert::opened::build` meets its contract: the tree of the image stands in the bytes, or cannot, and then neither can a larger one.
 use Rattle.table_only.proofs.BuiltTable.{started-stands, started-directory, started-decided, unstarted-decided}
-use borrow.Author.Rules.{rules}
 use Rattle.insert.proofs.opened.build.Goals as goal
 
 pub add_entry-requires : goal.add_entry-requires

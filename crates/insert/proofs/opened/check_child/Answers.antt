@@ -1,6 +1,5 @@
 -- `insert::opened::check_child` meets its contract: each return by the tests that led there.
 use Rattle.insert.proofs.Tests.{no-directory, already-there, not_plain, may-be-child}
-use borrow.Author.Rules.{rules}
 use Rattle.insert.proofs.opened.check_child.Goals as goal
 
 pub returns-then-not-is_directory : goal.returns-then-not-is_directory

@@ -1,6 +1,5 @@
 -- `insert::opened::check_insert` meets its contract: 15, 13, then the rest.
 use Rattle.insert.proofs.Tests.{count_held, no-parent, unsafe-name, child-judged}
-use borrow.Author.Rules.{rules}
 use Rattle.insert.proofs.opened.check_insert.Goals as goal
 
 pub count-requires : goal.count-requires

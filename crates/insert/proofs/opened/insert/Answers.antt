@@ -1,6 +1,5 @@
 -- `insert::opened::insert` meets its contract: refused by its own tests, or the tree that was built with the number that was found.
 use Rattle.insert.proofs.InsertionLaws.{into-directory, under-name, insert-refused, insert-numbered}
-use borrow.Author.Rules.{rules}
 use Rattle.insert.proofs.opened.insert.Goals as goal
 
 pub build-built-requires : goal.build-built-requires

@@ -1,6 +1,5 @@
 -- `insert::opened::number_in` meets its contract: the table is the image's.
 use Rattle.insert.proofs.Tests.{image-number}
-use borrow.Author.Rules.{rules}
 use Rattle.insert.proofs.opened.number_in.Goals as goal
 
 pub returns : goal.returns
