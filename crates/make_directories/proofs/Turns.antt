@@ -12,7 +12,7 @@ use Rattle.refusal.specs.declared.Refusal.TheVariants.{UnsafeName, ExpectedDirec
 use Rattle.refusal.specs.declared.Verdict.TheVariants.{Passed}
 use Rattle.tree.specs.declared.Located.{Located}
 use Rattle.tree.specs.declared.Located.TheVariants as located
-use Rattle.tree.specs.Table.{Node, directory, none, plain, safe, parent_of, encode, limits}
+use Rattle.tree.specs.Table.{Node, none, plain, safe, parent_of, encode, limits}
 use Rattle.tree.specs.Inner.WellFormed.{GoodName, WellFormed}
 use Rattle.tree.specs.Lookup.{isDirectory, components, childOf, stays, goesBack}
 use Rattle.tree.specs.Laws.Children.{child-is}

@@ -1,6 +1,5 @@
 -- `make_directories::check_start` meets its contract: the count is the number of entries.
 use Rattle.make_directories.proofs.Outcomes.{no_start, start-there, count_held}
-use borrow.Author.Rules.{rules}
 use Rattle.make_directories.proofs.check_start.Goals as goal
 
 pub count-requires : goal.count-requires

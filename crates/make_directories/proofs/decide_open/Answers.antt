@@ -1,7 +1,6 @@
 -- `make_directories::decide_open` meets its contract: refused by the tests that need no memory, or what the table comes to.
 use Rattle.make_directories.proofs.Outcomes.{path-stops, path-passes, unstarted, same-room}
 use Rattle.table_only.proofs.BuiltTable.{started-stands, started-tree}
-use borrow.Author.Rules.{rules}
 use Rattle.make_directories.proofs.decide_open.Goals as goal
 
 pub returns-in-Refused : goal.returns-in-Refused

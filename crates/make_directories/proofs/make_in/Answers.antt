@@ -1,7 +1,6 @@
 -- `make_directories::make_in` meets its contract: the tree that the path makes stands in the bytes, or there is no room for it.
 use Rattle.make_directories.proofs.Outcomes.{starts-in-tree, makes-in-tree, walk_refused, reached-fits, walk-placed, reached-stands}
 use Rattle.table_only.proofs.BuiltTable.{well-open}
-use borrow.Author.Rules.{rules}
 use Rattle.make_directories.proofs.make_in.Goals as goal
 
 pub make_along-reached-requires : goal.make_along-reached-requires

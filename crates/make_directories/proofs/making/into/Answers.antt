@@ -1,7 +1,6 @@
 -- `make_directories::making::into` meets its contract: by what the search for a child answered.
 use Rattle.make_directories.proofs.Steps.{new-name, child-made, child-there}
 use Rattle.make_directories.proofs.Turns.{in_bytes}
-use borrow.Author.Rules.{rules}
 use Rattle.make_directories.proofs.making.into.Goals as goal
 
 pub child-found-requires : goal.child-found-requires

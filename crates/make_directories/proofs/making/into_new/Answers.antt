@@ -1,6 +1,5 @@
 -- `make_directories::making::into_new` meets its contract: the tree that was built stands in the bytes, or there is no room for it.
 use Rattle.make_directories.proofs.Turns.{in_bytes, new-reached, new-refused}
-use borrow.Author.Rules.{rules}
 use Rattle.make_directories.proofs.making.into_new.Goals as goal
 
 pub new_number-number-requires : goal.new_number-number-requires

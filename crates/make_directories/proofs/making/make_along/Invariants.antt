@@ -1,6 +1,4 @@
 -- `make_directories::making::make_along` meets its contract. The invariant of its loop: what is left of the walk makes what the whole makes.
-use Rattle.make_directories.proofs.Steps.{making-from, making-goes-on, making-cause, making-no-room, making-entry, making-stands, making-tree}
-use native.Mathlib.Omega.{arith}
 use Prim.Native.Nat.{◌-◌}
 use mathlib.Core.Bool.{false}
 use mathlib.Core.List.{[]}
@@ -9,8 +7,7 @@ use Rattle.tree.specs.Lookup.{components}
 use Rattle.edits.specs.Edits.{make}
 use Rattle.fst_grow.specs.Inner.Growth.{treeIn}
 use Rattle.make_directories.specs.Inner.Making.{madeTree, madeEntry}
-use Rattle.make_directories.proofs.Turns.{Making, making-can}
-use borrow.Author.Rules.{rules}
+use Rattle.make_directories.proofs.Turns.{Making}
 use Rattle.make_directories.proofs.making.make_along.Given as goal
 
 abbrev pub invariant-loop-j : goal.invariant-loop-j

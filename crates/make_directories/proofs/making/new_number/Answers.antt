@@ -1,7 +1,6 @@
 -- `make_directories::making::new_number` meets its contract: the part of the bytes is the table.
 use Rattle.make_directories.proofs.Steps.{part_count}
 use Rattle.fst_grow.specs.Inner.Growth.{treeIn}
-use borrow.Author.Rules.{rules}
 use Rattle.make_directories.proofs.making.new_number.Goals as goal
 
 pub slice_bounds-next-end : goal.slice_bounds-next-end

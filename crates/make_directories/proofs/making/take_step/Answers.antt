@@ -1,6 +1,5 @@
 -- `make_directories::making::take_step` meets its contract: each return by the tests that led there.
 use Rattle.make_directories.proofs.Steps.{turn-stays, turn-back, turn-into, turn-may-name}
-use borrow.Author.Rules.{rules}
 use Rattle.make_directories.proofs.making.take_step.Goals as goal
 
 pub returns-then-stays : goal.returns-then-stays
