@@ -1,2 +1,1 @@
-pub mod Accounts
 pub mod Edited
