@@ -1,0 +1,12 @@
+-- `counter::editing::give_located` meets its contract, by the cases of the answer.
+use Rattle.counter.specs.Replies.{locatedReply}
+use borrow.Author.Rules.{rules}
+use Rattle.counter.proofs.editing.give_located.Goals as goal
+
+pub returns-in-At : goal.returns-in-At
+unfolding locatedReply
+returns-in-At c = let o : tie.After-located = search in rw o.located.given.1
+
+pub returns-in-Refused : goal.returns-in-Refused
+unfolding locatedReply
+returns-in-Refused c = let o : tie.After-located2 = search in rw (o.located2.given.1, c.number.ensures)
