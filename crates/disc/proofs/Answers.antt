@@ -15,9 +15,7 @@ use Rattle.opening.specs.Opening.{opening, freeOf, usedOf}
 use Rattle.opening.specs.Inner.Prepared.{Prepares}
 use Rattle.answers.specs.declared.Disc.{Disc}
 use Rattle.answers.specs.declared.Opened.TheVariants as opened
-use Rattle.answers.specs.declared.Opened.{Opened}
-use Rattle.answers.specs.declared.SizeAnswer.{SizeAnswer}
-use Rattle.answers.specs.Answers.{behind, discOf, maxRegionSizeAnswer}
+use Rattle.answers.specs.Answers.{behind, discOf}
 use Rattle.answers.specs.Laws.AnswerLaws.{behind-passed}
 use Rattle.opening.specs.Laws.OpeningLaws.{was-refused}
 use Rattle.answers.proofs.Prepared.{ready-opened, ready-behind, refused-behind}
@@ -31,9 +29,7 @@ use Rattle.totals.specs.declared.Totals.{Totals}
 use Rattle.program.specs.declared.Program.{Program}
 use Rattle.program.specs.declared.Program.TheVariants as program
 use Rattle.program.specs.Program.{program_of}
-use Rattle.disc.specs.declared.TotalsAnswer.{TotalsAnswer}
 use Rattle.disc.specs.declared.TotalsAnswer.TheVariants as totals
-use Rattle.disc.specs.declared.RecordMade.{RecordMade}
 use Rattle.disc.specs.Calls.{opened_of, totalsAnswer, totalsOf, recordMade, noRecord, recordAnswer, programAnswer, freeAnswer, freeList, allocateAnswer}
 
 module _ (image w : List ℕ) (p : Prepared) (h : Prepares image w p) where
@@ -102,27 +98,3 @@ module _ (image w : List ℕ) (p : Prepared) (h : Prepares image w p) where
   pub refused-allocation : (size align : ℕ) (c : Refusal) → p ≡ Refused c → allocation.Refused c ≡ allocateAnswer image (length w) size align
   unfolding allocateAnswer
   refused-allocation size align c r = refused-behind image w p h allocation.Refused (allocationOf align size (freeOf image)) c r
-
--- ---- after `prepare`, which keeps the number of the words
-
-module _ (image : List ℕ) (n n' : ℕ) (kept : n' ≡ n) where
-  pub opened-kept : (a : Opened) → a ≡ opened_of image n' → a ≡ opened_of image n
-  opened-kept a h = rw kept at h
-
-  pub totals-kept : (a : TotalsAnswer) → a ≡ totalsAnswer image n' → a ≡ totalsAnswer image n
-  totals-kept a h = rw kept at h
-
-  pub record-kept : (a : RecordMade) → a ≡ recordAnswer image n' → a ≡ recordAnswer image n
-  record-kept a h = rw kept at h
-
-  pub listing-kept : (row : DiscRegion → List ℕ) (room : ℕ) (a : Listing) → a ≡ freeAnswer row image n' room → a ≡ freeAnswer row image n room
-  listing-kept row room a h = rw kept at h
-
-  pub list-kept : (row : DiscRegion → List ℕ) (list list' : List ℕ) → list' ≡ freeList row image n' list → list' ≡ freeList row image n list
-  list-kept row list list' h = rw kept at h
-
-  pub allocation-kept : (size align : ℕ) (a : Allocation) → a ≡ allocateAnswer image n' size align → a ≡ allocateAnswer image n size align
-  allocation-kept size align a h = rw kept at h
-
-  pub size-kept : (offset size : ℕ) (a : SizeAnswer) → a ≡ maxRegionSizeAnswer image n' offset size → a ≡ maxRegionSizeAnswer image n offset size
-  size-kept offset size a h = rw kept at h

@@ -3,8 +3,6 @@ use Prim.Native.Nat.{ℕ, ◌+◌, ◌-◌}
 use mathlib.Core.Path.{◌≡◌, ◌∙◌}
 use mathlib.Core.List.{List}
 use native.Mathlib.Omega.{arith}
-use mir.Syntax.{w32}
-use mir.Val.{Fits}
 use Rattle.header.specs.Verdicts.{discEnd, table_end}
 use Rattle.space.specs.Free.{largestSize}
 use Rattle.space.specs.Inner.Sort.{regionsIn}
@@ -26,9 +24,6 @@ module _ (image w : List ℕ) (m : ℕ) (o : IsOpen image w m) where
       largest-now w m (discEnd image) (table_end image) (behindTable image) o.used.sorted (omega (arith, o.known.reads.bounds.after-header)) (used-regions image w m o.used) o.known.layout
 
   module _ (d : Disc) (is : d ≡ discOf image) where
-    pub table-end-fits : Fits w32 (d.fst_offset + d.fst_size)
-    table-end-fits = rw is (record { fits = omega (arith, o.known.reads.bounds.table, o.known.reads.bounds.small) })
-
     pub sorted-to : SortedDisjoint w m d.disc_end
     sorted-to = rw is o.used.sorted
 

@@ -1,7 +1,6 @@
 -- `disc::regions::program` meets its contract, by the two cases of a prepared image. Assumes nothing.
 use Rattle.disc.proofs.Answers.{ready-program, refused-program}
 use Rattle.opening.proofs.Words.{zeroed-kept}
-use borrow.Author.Rules.{rules}
 use Rattle.disc.proofs.regions.program.Goals as goal
 
 pub returns-in-Ready : goal.returns-in-Ready
