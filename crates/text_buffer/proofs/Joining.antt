@@ -1,14 +1,14 @@
 -- Texts written one behind the other are one text; a text copied byte by byte. Assumes nothing.
 use Prim.Native.Nat.{ℕ, ◌+◌, ◌<◌, ◌≤◌, ◌^◌}
 use mathlib.Core.Path.{◌≡◌, refl, sym, ap, ◌∙◌}
-use mathlib.Core.List.{List, [], ◌∷◌, ◌++◌, append-nil, append_assoc}
+use mathlib.Core.List.{List, [], ◌∷◌, ◌++◌, append_assoc}
 use native.Mathlib.Omega.{arith}
-use lib.ListN.{length, get_or, length-append, get_or-eq_default}
+use lib.ListN.{length, get_or, length-append}
 use Rattle.endian.specs.Bytes.{put}
 use Rattle.endian.specs.Laws.Stored.{length-put, put-none}
 use Rattle.endian.proofs.Parts.{put-append}
 use Rattle.fst_text.specs.Inner.Texts.{textAt}
-use Rattle.fst_text.proofs.Texts.{text-end, text-more}
+use Rattle.fst_text.proofs.Texts.{text-more}
 use Rattle.text_buffer.specs.Inner.Writing.{Wrote}
 
 pub wrote_none : (text : List ℕ) (at : ℕ) → Wrote text text at [] at
@@ -35,10 +35,6 @@ wrote-two text text₁ text₂ at m end a b bs f g e = rw e at (wrote-join f g)
 pub wrote-three : (text text₁ text₂ text₃ : List ℕ) (at m₁ m₂ end : ℕ) (a b c bs : List ℕ) → Wrote text text₁ at a m₁ → Wrote text₁ text₂ m₁ b m₂ → Wrote text₂ text₃ m₂ c end
     → a ++ (b ++ c) ≡ bs → Wrote text text₃ at bs end
 wrote-three text text₁ text₂ text₃ at m₁ m₂ end a b c bs f g h e = rw e at (wrote-join f (wrote-join g h))
-
--- the buffer keeps its length
-pub kept-two : (a b c : ℕ) → a ≡ b → b ≡ c → a ≡ c
-kept-two a b c p q = p ∙ q
 
 -- ---- a text up to its end
 
