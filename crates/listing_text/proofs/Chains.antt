@@ -76,10 +76,6 @@ module _ (nodes : List Node) (dirs : List ℕ) (depth d k : ℕ) (c : Chain node
   shorter : Chain nodes dirs d k
   shorter = chain-shorter c d some few
 
-  -- the last of them is before k
-  pub shut-before : (n : ℕ) → k < n → get_or dirs (d - 1) 0 < n
-  shut-before n h = omega (arith, c.before (d - 1) (omega arith))
-
   -- entry k is among those of the last
   pub shut-found : (n : ℕ) → Climbs nodes dirs d k → n ≡ next_of (get_or nodes (get_or dirs (d - 1) 0) none) → k < n → Around nodes dirs d k
   shut-found n s e h = record { chain = shorter; last = s ∙ climb-found nodes k (get_or dirs (d - 1) 0) (rw e at h) }
@@ -109,19 +105,8 @@ module _ {nodes : List Node} {dirs : List ℕ} {d k : ℕ} (a : Around nodes dir
       let e : depth_of nodes k ≡ suc (depth_of nodes (get_or dirs (d - 1) 0)) = depth-parent nodes k w some few ∙ ap (λ (p : ℕ). suc (depth_of nodes p)) a.last in
       omega (arith, c.some, depth_is c w few (d - 1) (omega (arith, c.some)), directory-depth nodes k w s few h)
 
-  pass-file : isDirectory (get_or nodes k none) ≡ false → Chain nodes dirs d (k + 1) × Climbs nodes dirs d (k + 1)
-  pass-file h = (
-    record {
-      long = c.long;
-      some = c.some;
-      few = c.few;
-      root = c.root;
-      before = λ i q. omega (arith, c.before i q);
-      directories = c.directories;
-      nested = c.nested;
-    },
-    parent-whole nodes (k + 1) ∙ climb-turn nodes (k + 1) k some (omega arith) (ended (get_or nodes k none) h) ∙ ap (λ (p : ℕ). parentBelow nodes (k + 1) (p + 1)) a.last,
-  )
+  pass-file : isDirectory (get_or nodes k none) ≡ false → Climbs nodes dirs d (k + 1)
+  pass-file h = parent-whole nodes (k + 1) ∙ climb-turn nodes (k + 1) k some (omega arith) (ended (get_or nodes k none) h) ∙ ap (λ (p : ℕ). parentBelow nodes (k + 1) (p + 1)) a.last
     where
       ended : (x : Node) → isDirectory x ≡ false → next_of x ≤ k + 1
       ended (file nm offset size) q = omega arith
@@ -175,11 +160,5 @@ module _ (tab dirs : List ℕ) (d k : ℕ) (b : Bool) (a : Around (nodesOf tab) 
   pub entered-climbs : b ≡ true → Climbs (nodesOf tab) (set dirs d k) (d + 1) (k + 1)
   entered-climbs h = (entered h).1
 
-  passed : b ≡ false → Chain (nodesOf tab) dirs d (k + 1) × Climbs (nodesOf tab) dirs d (k + 1)
-  passed h = pass-file a r.is.well some inside (sym asked ∙ h)
-
-  pub passed-chain : b ≡ false → Chain (nodesOf tab) dirs d (k + 1)
-  passed-chain h = (passed h).0
-
   pub passed-climbs : b ≡ false → Climbs (nodesOf tab) dirs d (k + 1)
-  passed-climbs h = (passed h).1
+  passed-climbs h = pass-file a r.is.well some inside (sym asked ∙ h)

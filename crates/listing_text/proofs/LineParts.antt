@@ -101,21 +101,9 @@ module _ {nodes : List Node} {dirs : List ℕ} {d k : ℕ} (a : Around nodes dir
     is = sym (path-root (get_or dirs 0 0) nodes (get_or dirs 0 0) a.chain.root);
   }
 
-  pub around-before : get_or dirs (d - 1) 0 ≤ k
-  around-before = omega (arith, a.chain.before (d - 1) (omega (arith, a.chain.some)))
-
-  pub step-below : (i n : ℕ) → i < d → k < n → get_or dirs i 0 < n
-  step-below i n h l = omega (arith, a.chain.before i h)
-
   module _ {text₀ text : List ℕ} {at end i : ℕ} (s : Stepping nodes dirs d text₀ text at end i) where
-    here : ℕ
-    here = get_or dirs i 0
-
     step-nested : i < d → (0 < get_or dirs i 0) × (parent_of nodes (get_or dirs i 0) ≡ get_or dirs (i - 1) 0)
     step-nested h = let n : i - 1 + 1 ≡ i = omega (arith, s.some) in rw n at (a.chain.nested (i - 1) (omega (arith, s.some)))
-
-    pub step-some : i < d → 0 < get_or dirs i 0
-    step-some h = (step-nested h).0
 
     pub step-turn : {text' : List ℕ} {end' : ℕ} → i < d → length text' ≡ length text → Wrote text text' end (name_of (get_or nodes (get_or dirs i 0) none) ++ ending (get_or nodes (get_or dirs i 0) none)) end' →
         Stepping nodes dirs d text₀ text' at end' (i + 1)
@@ -182,10 +170,6 @@ pub entry-written : (nodes : List Node) (dirs : List ℕ) (d k : ℕ) (text text
     → Wrote text₂ text₃ m₂ (name_of (get_or nodes k none) ++ ending (get_or nodes k none)) m₃ → Wrote text₃ text₄ m₃ lineFeed end → Wrote text text₄ at (entryLine nodes k) end
 entry-written nodes dirs d k text text₁ text₂ text₃ text₄ at m₁ m₂ m₃ end some a f g h i =
     wrote_as (wrote-join (rw (← a.last) at f) (wrote-join g (wrote-join h i))) (line-parts nodes k some)
-
--- the number that was read
-pub below-count : (k c n : ℕ) → k < c → c ≡ n → k < n
-below-count k c n h e = rw e at h
 
 -- ---- the totals, the entries, the free regions
 

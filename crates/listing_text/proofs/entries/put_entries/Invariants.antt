@@ -1,13 +1,9 @@
 -- `listing_text::entries::put_entries` meets its contract. The invariant of its loop: the lines of the entries below k are written, and the directories around the last of them are kept.
-use Rattle.text_buffer.proofs.Joining.{kept-two}
-use Rattle.listing_text.proofs.LineParts.{below-count}
-use Rattle.listing_text.proofs.Tables.{Read, read, opens-some, opens-long}
 use Prim.Native.Nat.{◌-◌, ◌<◌, ◌≤◌}
-use native.Mathlib.Omega.{arith}
 use Rattle.tree.specs.Table.{nodesOf}
 use Rattle.listing_text.specs.Inner.Around.{Chain}
-use Rattle.listing_text.proofs.Chains.{Climbs, chain-start, climbs-start}
-use Rattle.listing_text.proofs.LineParts.{Walking, walk_start, walk_turn, walk_end}
+use Rattle.listing_text.proofs.Chains.{Climbs}
+use Rattle.listing_text.proofs.LineParts.{Walking}
 use Rattle.listing_text.proofs.entries.put_entries.Given as goal
 
 abbrev pub invariant-loop-k : goal.invariant-loop-k

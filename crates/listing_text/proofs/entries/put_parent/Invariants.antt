@@ -1,10 +1,7 @@
 -- `listing_text::entries::put_parent` meets its contract. The invariant of its loop: behind the space stands the path of a directory.
-use Rattle.text_buffer.proofs.Joining.{kept-two}
 use Prim.Native.Nat.{◌-◌}
-use native.Mathlib.Omega.{arith}
-use borrow.Author.Rules.{rules}
 use Rattle.tree.specs.Table.{nodesOf}
-use Rattle.listing_text.proofs.LineParts.{Stepping, step_start, step-some, step-below, step-turn, step_end}
+use Rattle.listing_text.proofs.LineParts.{Stepping}
 use Rattle.listing_text.proofs.entries.put_parent.Given as goal
 
 abbrev pub invariant-loop-i : goal.invariant-loop-i

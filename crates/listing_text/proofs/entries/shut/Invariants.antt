@@ -1,8 +1,7 @@
 -- `listing_text::entries::shut` meets its contract. The invariant of its loop: the entry is nested in the last of the directories or in one around that.
 use Prim.Native.Nat.{◌<◌, ◌≤◌}
-use native.Mathlib.Omega.{arith}
 use Rattle.tree.specs.Table.{nodesOf}
-use Rattle.listing_text.proofs.Chains.{Climbs, shut-before, shut-found, shut-root, shut-turn}
+use Rattle.listing_text.proofs.Chains.{Climbs}
 use Rattle.listing_text.proofs.entries.shut.Given as goal
 
 abbrev pub invariant-loop-d : goal.invariant-loop-d

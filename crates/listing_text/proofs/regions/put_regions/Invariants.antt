@@ -1,7 +1,6 @@
 -- `listing_text::regions::put_regions` meets its contract: the lines written, and those of the gaps that are left, are those of the free regions.
 use Prim.Native.Nat.{◌+◌, ◌-◌}
-use native.Mathlib.Omega.{arith}
-use Rattle.listing_text.proofs.Gaps.{Listing, regions-start, regions-end, regions-skip, regions-go}
+use Rattle.listing_text.proofs.Gaps.{Listing}
 use Rattle.listing_text.proofs.regions.put_regions.Given as goal
 
 abbrev pub invariant-loop-i : goal.invariant-loop-i
