@@ -47,15 +47,8 @@ module _ (text : List ℕ) {none none' bs : List ℕ} {size : ℕ} (w : Wrote no
   short : size ≤ length text → (size ≡ length bs) × (length bs ≤ length text)
   short h = (omega (arith, w.stop), omega (arith, w.stop))
 
-  pub refused-short : length text < size → (◌≡◌ {A = ℕ} 0 (cond (ltb (length text) (length bs)) 0 (length bs))) × (text ≡ cond (ltb (length text) (length bs)) text (put text 0 bs))
-  refused-short h = let t = lt-ltb (length text) (length bs) (too_long h) in (rw t, rw t)
-
   written : {text' : List ℕ} {r : ℕ} → size ≤ length text → Wrote text text' 0 bs r → (r ≡ length bs) × (text' ≡ put text 0 bs)
   written h v = let s = short h in (omega (arith, v.stop, s.0, s.1), v.laid (omega (arith, s.1)) (omega (arith, s.1)))
-
-  pub refused-fits : {text' : List ℕ} {r : ℕ} → size ≤ length text → Wrote text text' 0 bs r →
-      (r ≡ cond (ltb (length text) (length bs)) 0 (length bs)) × (text' ≡ cond (ltb (length text) (length bs)) text (put text 0 bs))
-  refused-fits h v = let t = le-ltb (length text) (length bs) (short h).1 in (rw t (written h v).0, rw t (written h v).1)
 
   module _ (image : List ℕ) (words : ℕ) (passed : opening image words ≡ verdict.Passed) (is : bs ≡ listingText image) where
     pub list-short : length text < size → (Refused LimitOrMemory ≡ listAnswer image words (length text)) × (text ≡ listBuffer image words text)
@@ -78,15 +71,6 @@ module _ (image w : List ℕ) (p : Prepared) (h : Prepares image w p) (c : Refus
   pub buffer-refused : (text : List ℕ) → text ≡ listBuffer image (length w) text
   unfolding listBuffer listingVerdict
   buffer-refused text = rw (was-refused image w p h c e)
-
--- ---- after `prepare`, which keeps the number of the words
-
-module _ (image : List ℕ) (n n' : ℕ) (kept : n' ≡ n) where
-  pub list-kept : (room : ℕ) (a : Listed) → a ≡ listAnswer image n' room → a ≡ listAnswer image n room
-  list-kept room a h = rw kept at h
-
-  pub buffer-kept : (text text' : List ℕ) → text' ≡ listBuffer image n' text → text' ≡ listBuffer image n text
-  buffer-kept text text' h = rw kept at h
 
 -- ---- images of the program's length
 
