@@ -6,10 +6,9 @@ use mathlib.Core.Logic.{⊎_elim}
 use mathlib.Core.Bool.{Bool, true, false, ◌&&◌, ◌||◌}
 use mathlib.Core.List.{List, [], ◌∷◌}
 use native.Mathlib.Omega.{arith}
-use native.Mathlib.Numerals.{add-one}
 use borrow.Author.Tests.{ne_eqb, eqb-true, eqb-false}
-use lib.ListN.{length, get_or, drop, take, length-drop, get_or-eq_default, drop_of_length-le}
-use lib.Seq.{get_or-drop, drop-cons, take-length}
+use lib.ListN.{length, get_or, drop, take, length-drop, get_or-eq_default}
+use lib.Seq.{get_or-drop, take-length}
 use lib.Dec.{eqb}
 use Rattle.endian.specs.Bytes.{span, sameBytes}
 use Rattle.refusal.specs.Laws.Tests.{lt-or-le}
@@ -26,14 +25,6 @@ use Rattle.fst.proofs.Ended.{name-there}
 and-false : (b : Bool) → (b && false) ≡ false
 and-false true = refl
 and-false false = refl
-
--- ---- the search for a zero byte
-
-pub zero_turn : (s : List ℕ) (i : ℕ) (t : Bool) → i < length s → eqb (get_or s i 0) 0 ≡ t → hasZero (drop i s) ≡ (t || hasZero (drop (i + 1) s))
-zero_turn s i t h e = rw (drop-cons s i 0 h, e, add-one i)
-
-pub zero-past : (s : List ℕ) (i : ℕ) → length s ≤ i → hasZero (drop i s) ≡ false
-zero-past s i h = rw (drop_of_length-le s {i = i} h)
 
 -- ---- the bytes of a list up to the first 0, compared with a name
 

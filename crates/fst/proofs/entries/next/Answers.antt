@@ -19,9 +19,6 @@ returns-then-table-k-eq0 c =
 pub overflow_mul-k-2 : goal.overflow_mul-k-2
 overflow_mul-k-2 c = let i = opens-inside c.args.table.now c.requires.0 in omega arith
 
-pub overflow_add-k : goal.overflow_add-k
-overflow_add-k c = let i = opens-inside c.args.table.now c.requires.0 in omega arith
-
 pub read_u32-requires : goal.read_u32-requires
 read_u32-requires c = let i = opens-inside c.args.table.now c.requires.0 in omega arith
 

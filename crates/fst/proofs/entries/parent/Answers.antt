@@ -8,9 +8,6 @@ use Rattle.fst.proofs.entries.parent.Goals as goal
 pub loop-i-init : goal.loop-i-init
 loop-i-init c = (omega arith, parent-whole (nodesOf c.args.table.now) c.args.k)
 
-pub next-requires : goal.next-requires
-next-requires c = (c.requires.0, omega arith)
-
 pub returns-then-k-next : goal.returns-then-k-next
 returns-then-k-next c = (sym (c.loop-i.invariant.1 ∙ parent-found (nodesOf c.args.table.now) c.args.k c.loop-i.i (omega arith) (omega arith)), omega arith)
 
