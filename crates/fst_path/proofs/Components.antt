@@ -1,16 +1,15 @@
--- A path cut into components, unit by unit, and what `.` and `..` are. Assumes nothing.
+-- A path cut into components, unit by unit.
 use Prim.Native.Nat.{ℕ, suc, ◌+◌, ◌-◌, ◌<◌, ◌≤◌}
 use mathlib.Core.Path.{◌≡◌, refl, sym, ◌∙◌}
-use mathlib.Core.Bool.{Bool, true, false, cond, ◌&&◌}
+use mathlib.Core.Bool.{Bool, true, false, cond}
 use mathlib.Core.List.{List, [], ◌∷◌, ◌++◌, append_assoc, append-nil}
 use native.Mathlib.Omega.{arith}
 use borrow.Author.Tests.{lt-ltb, le-ltb}
 use lib.ListN.{length, get_or, drop}
-use lib.Dec.{eqb}
 use Rattle.endian.specs.Bytes.{span}
 use Rattle.endian.specs.Laws.Stored.{span-snoc}
 use Rattle.tree.specs.Units.{TextUnit, single, pair, unitBytes, units}
-use Rattle.tree.specs.Lookup.{separator, separates, longer, componentsOf, components, stays, goesBack}
+use Rattle.tree.specs.Lookup.{separator, separates, longer, componentsOf, components}
 use Rattle.tree.specs.Inner.Pairs.{pair_at}
 use Rattle.tree.specs.Laws.UnitLaws.{units-pair, units-single, units-none, pair_inside}
 use Rattle.fst_path.specs.Inner.Steps.{componentsAfter}
@@ -76,31 +75,3 @@ module _ (path : List ℕ) (at : ℕ) where
   pub cut-end : (e : ℕ) → Reaches path at e → length path ≤ e → components (drop at path) ≡ span path at (e - at) ∷ componentsAfter path e
   unfolding components componentsOf
   cut-end e so_far l = so_far.cut ∙ rw (units-none path e l, le-ltb e (length path) l, append-nil (span path at (e - at)))
-
--- ---- `.` and `..`
-
-pub stays-none : (nm : List ℕ) → length nm ≡ 0 → stays nm ≡ true
-stays-none [] h = refl
-stays-none (a ∷ nm) h = absurd (omega arith)
-
-pub stays-one : (nm : List ℕ) → length nm ≡ 1 → stays nm ≡ eqb (get_or nm 0 0) 0x2E
-stays-one [] h = absurd (omega arith)
-stays-one (a ∷ []) h = refl
-stays-one (a ∷ b ∷ nm) h = absurd (omega arith)
-
-pub stays-more : (nm : List ℕ) → (length nm ≡ 0 → ⊥) → (length nm ≡ 1 → ⊥) → stays nm ≡ false
-stays-more [] h l = absurd (h refl)
-stays-more (a ∷ []) h l = absurd (l refl)
-stays-more (a ∷ b ∷ nm) h l = refl
-
-pub back-two : (nm : List ℕ) → length nm ≡ 2 → goesBack nm ≡ (eqb (get_or nm 0 0) 0x2E && eqb (get_or nm 1 0) 0x2E)
-back-two [] h = absurd (omega arith)
-back-two (a ∷ []) h = absurd (omega arith)
-back-two (a ∷ b ∷ []) h = refl
-back-two (a ∷ b ∷ c ∷ nm) h = absurd (omega arith)
-
-pub back-other : (nm : List ℕ) → (length nm ≡ 2 → ⊥) → goesBack nm ≡ false
-back-other [] h = refl
-back-other (a ∷ []) h = refl
-back-other (a ∷ b ∷ []) h = absurd (h refl)
-back-other (a ∷ b ∷ c ∷ nm) h = refl

@@ -1,5 +1,5 @@
 -- Lookup with the entries left by named steps in words, for which an accepted tree is shallow enough. Assumes nothing.
-use Prim.Native.Nat.{ℕ, zero, suc, ◌+◌, ◌-◌, ◌<◌, ◌≤◌}
+use Prim.Native.Nat.{ℕ, zero, suc, ◌+◌, ◌<◌, ◌≤◌}
 use mathlib.Core.Path.{◌≡◌, refl, ap, ◌∙◌}
 use mathlib.Core.Logic.{⊎_elim}
 use mathlib.Core.Bool.{Bool, true, false, cond}
@@ -12,7 +12,7 @@ use lib.Seq.{get_or-set_same, get_or-set_other}
 use lib.Dec.{ltb}
 use Rattle.refusal.specs.Laws.Tests.{lt-or-le, and_left, and_right}
 use Rattle.refusal.specs.declared.Refusal.{Refusal}
-use Rattle.refusal.specs.declared.Refusal.TheVariants.{NoSuchEntry, NotFound, ExpectedDirectory}
+use Rattle.refusal.specs.declared.Refusal.TheVariants.{NoSuchEntry, ExpectedDirectory}
 use Rattle.tree.specs.declared.Located.{Located}
 use Rattle.tree.specs.declared.Located.TheVariants as located
 use Rattle.tree.specs.Table.{Node, file, directory, none, shut, enter, shallowEntry, shallowFrom, shallow}
@@ -179,15 +179,6 @@ module _ {nodes : List Node} {start : ℕ} {path words : List ℕ} {k n at : ℕ
         at_most = omega arith;
         left = stepped (To j m) q ∙ rw (lt-ltb e (length path) l);
       }
-
--- ---- `..` by the count of named steps
-
-pub back_none : (words : List ℕ) (n : ℕ) → n ≡ 0 → Refused NotFound ≡ backOf words n
-back_none words n e = rw e
-
-pub back_some : (words : List ℕ) (n : ℕ) → (n ≡ 0 → ⊥) → To (get_or words (n - 1) 0) (n - 1) ≡ backOf words n
-back_some words zero h = absurd (h refl)
-back_some words (suc n) h = let e : suc n - 1 ≡ n = omega arith in rw e
 
 -- ---- a lookup ends at an entry of the tree
 

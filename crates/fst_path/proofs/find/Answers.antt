@@ -15,6 +15,3 @@ returns-in-At c =
     let w = (opened T (λ i. omega (arith, c.type_inv.table i)) s.requires.0).well in
     let l = lookup-inside (nodesOf T) w s.args.start s.args.path.now _ (sym c.in-At.ensures) in
     rw (← c.in-At.ensures) (c.entry.ensures ∙ rw (lt-ltb _ (length (nodesOf T)) l))
-
-pub returns-in-Refused : goal.returns-in-Refused
-returns-in-Refused c = rw (← c.in-Refused.ensures)
