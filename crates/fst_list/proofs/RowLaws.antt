@@ -12,7 +12,7 @@ use lib.Seq.{get_or-append-add, take-append_seam, drop-append-add, drop-drop}
 use Rattle.endian.specs.Bytes.{put}
 use Rattle.endian.specs.Laws.Stored.{length-put, put-sets, put_in, put-none}
 use Rattle.refusal.specs.Laws.Tests.{lt-or-le}
-use Rattle.tree.specs.Table.{Node, file, directory, name_of, none, count, kind, offsetOrParent, sizeOrNext, nodesOf, encloses, parentBelow, parent_of, namePlace}
+use Rattle.tree.specs.Table.{Node, file, directory, name_of, none, count, kind, offsetOrParent, sizeOrNext, nodesOf, encloses, parentBelow, parent_of}
 use Rattle.tree.specs.Lookup.{next_of}
 use Rattle.tree.specs.Laws.Accepted.{Accepted}
 use Rattle.tree.specs.Laws.Nesting.{parent-here, parent-lower, parent-before}
@@ -151,10 +151,3 @@ module _ (nodes : List Node) (k p : ℕ) where
       go : (t : Bool) → ◌≡◌ {A = ℕ} (cond t 0 0) 0
       go true = refl
       go false = refl
-
--- ---- the place of a name
-
--- in the image; it lies in the table, so that it is below the table's end
-pub image-place-is : (base : ℕ) (tab : List ℕ) (k : ℕ) → (k ≡ 0 → ⊥) → imagePlace base tab k ≡ base + namePlace tab k
-image-place-is base tab zero h = absurd (h refl)
-image-place-is base tab (suc k) h = refl

@@ -28,16 +28,6 @@ read_u32-offset-requires c =
     let s = c in
     let i = opens-inside s.args.table.now s.requires.opens.0 in omega (arith, s.requires.opens.1)
 
-pub write_row-requires : goal.write_row-requires
-write_row-requires c =
-    let s = c in
-    let i = opens-inside s.args.table.now s.requires.opens.0 in (omega (arith, s.requires.opens.1, s.requires.opens.2), omega (arith, s.requires.opens.1))
-
-pub write_row-requires-else-table-k-eq0 : goal.write_row-requires-else-table-k-eq0
-write_row-requires-else-table-k-eq0 c =
-    let s = c in
-    let i = opens-inside s.args.table.now s.requires.opens.0 in (omega (arith, s.requires.opens.1, s.requires.opens.2), omega (arith, s.requires.opens.1))
-
 pub returns-then-table-k-eq0 : goal.returns-then-table-k-eq0
 returns-then-table-k-eq0 c =
     let T = c.args.table.now in

@@ -32,14 +32,6 @@ loop-k-init c =
     let s = c in
     (listing_start s.args.base s.args.table.now s.args.list.now, ends-start s.args.table.now)
 
-pub name_length-size-requires : goal.name_length-size-requires
-name_length-size-requires c =
-    let s = c in
-    (s.requires.0, omega (arith, c.count-count.ensures, c.loop-k-test.true), omega (arith, s.requires.1), c.loop-k.invariant.1)
-
-pub overflow_cast-size : goal.overflow_cast-size
-overflow_cast-size c = omega (arith, c.name_length-size.ensures.value.1)
-
 pub add_entry-requires : goal.add_entry-requires
 add_entry-requires c =
     let s = c in
@@ -59,9 +51,6 @@ loop-k-preserved c =
     let L = s.args.list.now in
     let r : 6 * tab.count T ≤ length L = omega (arith, c.count-count.ensures, c.if-list-count.false) in
     (listing-turn s.args.base T L c.loop-k.list c.loop-k.k r c.loop-k.invariant.0 (omega (arith, c.count-count.ensures, c.loop-k-test.true)) _ c.add_entry.ensures, c.name_length-size.ensures.ends_in)
-
-pub shape_of-list : goal.shape_of-list
-shape_of-list c = omega (arith, c.loop-k.invariant.0.long)
 
 pub returns : goal.returns
 unfolding listVerdict

@@ -3,7 +3,7 @@ use native.Mathlib.Omega.{arith}
 use mathlib.Core.Path.{refl, sym, ◌∙◌}
 use Rattle.tree.specs.Table.{nodesOf}
 use Rattle.tree.specs.Laws.Nesting.{parent-before}
-use Rattle.fst.proofs.Nodes.{opens-inside, parent-whole, parent-none}
+use Rattle.fst.proofs.Nodes.{parent-whole, parent-none}
 use Rattle.fst_list.proofs.RowLaws.{climb-start, climb-found, climb-turn, climb-end}
 use Rattle.fst_list.proofs.parent_in.Goals as goal
 
@@ -16,22 +16,8 @@ returns-then-k-eq0 c =
 pub loop-p-init : goal.loop-p-init
 loop-p-init c = (omega arith, climb-start (nodesOf c.args.table.now) c.args.k _ (omega arith) refl)
 
-pub next-requires : goal.next-requires
-next-requires c = (c.requires.opens.0, omega arith)
-
 pub returns-then-k-next : goal.returns-then-k-next
 returns-then-k-next c = (sym (c.loop-p.invariant.1 ∙ climb-found (nodesOf c.args.table.now) c.args.k c.loop-p.p (omega arith)), omega arith)
-
-pub overflow_mul-p : goal.overflow_mul-p
-overflow_mul-p c = let i = opens-inside c.args.table.now c.requires.opens.0 in omega arith
-
-pub overflow_add-p : goal.overflow_add-p
-overflow_add-p c = let i = opens-inside c.args.table.now c.requires.opens.0 in omega arith
-
-pub overflow_cast-p : goal.overflow_cast-p
-overflow_cast-p c =
-    let e = c.requires.parents_in.at c.loop-p.p (omega arith) in
-    omega (arith, parent-before (nodesOf c.args.table.now) c.loop-p.p (omega arith))
 
 pub loop-p-smaller : goal.loop-p-smaller
 loop-p-smaller c =
