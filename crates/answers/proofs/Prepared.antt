@@ -1,56 +1,53 @@
 -- What a prepared image gives the calls on it: what they ask of its words, and their answers behind its verdict. Assumes nothing.
+use Rattle.std.specs.Prelude.{Result, Ok, Err}
 use Prim.Native.Nat.{ℕ, ◌+◌, ◌^◌, ◌<◌}
 use lib.ListN.{length}
 use Rattle.header.specs.Verdicts.{fstOffset}
 use mathlib.Core.Path.{◌≡◌, ap, ◌∙◌}
 use mathlib.Core.List.{List}
 use Rattle.refusal.specs.declared.Refusal.{Refusal}
-use Rattle.refusal.specs.declared.Verdict.TheVariants as verdict
 use Rattle.opening.proofs.Tests.{table_below}
 use Rattle.opening.proofs.Words.{DiscRegion, freeRegions, regionsIn, SortedDisjoint}
 use Rattle.free_space.specs.MaxRegionSize.{maxRegionSize}
-use Rattle.opening.specs.declared.Prepared.{Prepared}
-use Rattle.opening.specs.declared.Prepared.TheVariants.{Ready, Refused}
 use Rattle.opening.specs.Opening.{opening, table_of, freeOf}
 use Rattle.opening.specs.Inner.Prepared.{OpensImage, Prepares}
 use Rattle.opening.specs.Laws.OpeningLaws.{still-opens, was-ready, was-refused}
 use Rattle.answers.specs.declared.Disc.{Disc}
-use Rattle.answers.specs.declared.SizeAnswer.TheVariants as size
 use Rattle.answers.specs.Answers.{behind, discOf, maxRegionSizeAnswer}
 use Rattle.answers.specs.Laws.AnswerLaws.{behind-passed, behind-refused}
 
-module _ (image w : List ℕ) (p : Prepared) (h : Prepares image w p) where
-  pub ready-opened : (m : ℕ) → p ≡ Ready m → opening image (length w) ≡ verdict.Passed
+module _ (image w : List ℕ) (p : Result ℕ Refusal) (h : Prepares image w p) where
+  pub ready-opened : (m : ℕ) → p ≡ Ok m → opening image (length w) ≡ Ok tt
   ready-opened m r = (was-ready image w p h m r).known.passed
 
   -- its table
-  pub ready-opens : (m : ℕ) → p ≡ Ready m → OpensImage image
+  pub ready-opens : (m : ℕ) → p ≡ Ok m → OpensImage image
   ready-opens m r = still-opens image w m (was-ready image w p h m r)
 
-  pub ready-table-below : (m from : ℕ) (tab : List ℕ) → p ≡ Ready m → from ≡ fstOffset image → tab ≡ table_of image → from + length tab < 2 ^ 32
+  pub ready-table-below : (m from : ℕ) (tab : List ℕ) → p ≡ Ok m → from ≡ fstOffset image → tab ≡ table_of image → from + length tab < 2 ^ 32
   ready-table-below m from tab r e f = table_below image w m from tab (was-ready image w p h m r) e f
 
   -- its words
-  pub ready-sorted : (m : ℕ) (d : Disc) → p ≡ Ready m → d ≡ discOf image → SortedDisjoint w m d.disc_end
+  pub ready-sorted : (m : ℕ) (d : Disc) → p ≡ Ok m → d ≡ discOf image → SortedDisjoint w m d.disc_end
   ready-sorted m d r e = rw e (was-ready image w p h m r).used.sorted
 
-  pub ready-free : (m : ℕ) (d : Disc) → p ≡ Ready m → d ≡ discOf image → freeRegions d.disc_end (regionsIn w 0 m) ≡ freeOf image
+  pub ready-free : (m : ℕ) (d : Disc) → p ≡ Ok m → d ≡ discOf image → freeRegions d.disc_end (regionsIn w 0 m) ≡ freeOf image
   ready-free m d r e = rw e (was-ready image w p h m r).used.free
 
   -- an answer of the free regions
-  pub ready-behind : {A : Type 0} (f : Refusal → A) (g : List DiscRegion → A) (m : ℕ) (d : Disc) → p ≡ Ready m → d ≡ discOf image
+  pub ready-behind : {A : Type 0} (f : Refusal → A) (g : List DiscRegion → A) (m : ℕ) (d : Disc) → p ≡ Ok m → d ≡ discOf image
       → g (freeRegions d.disc_end (regionsIn w 0 m)) ≡ behind (opening image (length w)) f (g (freeOf image))
   ready-behind f g m d r e = ap g (ready-free m d r e) ∙ behind-passed (opening image (length w)) f (g (freeOf image)) (ready-opened m r)
 
-  pub refused-behind : {A : Type 0} (f : Refusal → A) (a : A) (c : Refusal) → p ≡ Refused c → f c ≡ behind (opening image (length w)) f a
+  pub refused-behind : {A : Type 0} (f : Refusal → A) (a : A) (c : Refusal) → p ≡ Err c → f c ≡ behind (opening image (length w)) f a
   refused-behind f a c r = behind-refused (opening image (length w)) f a c (was-refused image w p h c r)
 
   -- the size that a region can have
-  pub ready-size : (offset s m r : ℕ) (d : Disc) → p ≡ Ready m → d ≡ discOf image → r ≡ maxRegionSize offset s (freeRegions d.disc_end (regionsIn w 0 m))
-      → size.Bytes r ≡ maxRegionSizeAnswer image (length w) offset s
+  pub ready-size : (offset s m r : ℕ) (d : Disc) → p ≡ Ok m → d ≡ discOf image → r ≡ maxRegionSize offset s (freeRegions d.disc_end (regionsIn w 0 m))
+      → Ok r ≡ maxRegionSizeAnswer image (length w) offset s
   unfolding maxRegionSizeAnswer
-  ready-size offset s m r d q e f = ap size.Bytes f ∙ ready-behind size.Refused (λ (l : List DiscRegion). size.Bytes (maxRegionSize offset s l)) m d q e
+  ready-size offset s m r d q e f = ap Ok f ∙ ready-behind Err (λ (l : List DiscRegion). Ok (maxRegionSize offset s l)) m d q e
 
-  pub refused-size : (offset s : ℕ) (c : Refusal) → p ≡ Refused c → size.Refused c ≡ maxRegionSizeAnswer image (length w) offset s
+  pub refused-size : (offset s : ℕ) (c : Refusal) → p ≡ Err c → Err c ≡ maxRegionSizeAnswer image (length w) offset s
   unfolding maxRegionSizeAnswer
-  refused-size offset s c r = refused-behind size.Refused (size.Bytes (maxRegionSize offset s (freeOf image))) c r
+  refused-size offset s c r = refused-behind Err (Ok (maxRegionSize offset s (freeOf image))) c r

@@ -1,21 +1,19 @@
 -- Answers that several calls share: behind the tests, what an image that opened says of its disc, and the size that a region can have.
 -- Assumes nothing: these are definitions.
+use Rattle.std.specs.Prelude.{Result, Ok, Err}
+use Rattle.refusal.specs.Refusal.{Verdict}
 use Rattle.std.specs.Prelude.{ℕ, List}
 use Rattle.refusal.specs.declared.Refusal.{Refusal}
-use Rattle.refusal.specs.declared.Verdict.{Verdict}
-use Rattle.refusal.specs.declared.Verdict.TheVariants as verdict
 use Rattle.header.specs.Verdicts.{fstOffset, discEnd, fstSize}
 use Rattle.free_space.specs.MaxRegionSize.{maxRegionSize}
-use Rattle.answers.specs.declared.SizeAnswer.{SizeAnswer}
-use Rattle.answers.specs.declared.SizeAnswer.TheVariants as size
 use Rattle.opening.specs.Opening.{opening, table_of, freeOf, usedOf}
 use Rattle.tree.specs.Table.{count}
 use Rattle.answers.specs.declared.Disc.{Disc}
 
 -- an answer behind tests: the refusal that they give, or the answer
 abbrev pub behind : {A : Type 0} → Verdict → (Refusal → A) → A → A
-behind verdict.Passed f a = a
-behind (verdict.Refused c) f a = f c
+behind (Ok _) f a = a
+behind (Err c) f a = f c
 
 abbrev pub discOf : List ℕ → Disc
 discOf image = record {
@@ -26,5 +24,5 @@ discOf image = record {
   used = usedOf image;
 }
 
-unfoldable pub maxRegionSizeAnswer : List ℕ → ℕ → ℕ → ℕ → SizeAnswer
-maxRegionSizeAnswer image words offset n = behind (opening image words) size.Refused (size.Bytes (maxRegionSize offset n (freeOf image)))
+unfoldable pub maxRegionSizeAnswer : List ℕ → ℕ → ℕ → ℕ → Result ℕ Refusal
+maxRegionSizeAnswer image words offset n = behind (opening image words) Err (Ok (maxRegionSize offset n (freeOf image)))

@@ -6,7 +6,6 @@ ghost use Rattle.opening.specs.Opening.{opening};
 ghost use Rattle.answers.specs.Answers.{discOf, maxRegionSizeAnswer};
 ghost use Rattle.opening.specs.Inner.Prepared.{IsOpen, Prepares};
 
-use opening::Prepared;
 use refusal::Refusal;
 
 #[derive(Clone, Copy)]
@@ -16,18 +15,6 @@ pub struct Disc {
     pub disc_end: u32,
     pub entries: u32,
     pub used: u32,
-}
-
-#[derive(Clone, Copy)]
-pub enum Opened {
-    Accepted(Disc),
-    Refused(Refusal),
-}
-
-#[derive(Clone, Copy)]
-pub enum SizeAnswer {
-    Bytes(u32),
-    Refused(Refusal),
 }
 
 // What opening tells of an image that it accepts.
@@ -49,21 +36,21 @@ pub fn disc_of(image: &[u8], words: &[u32], count: usize) -> Disc
     }
 }
 
-pub fn sized(image: &[u8], words: &[u32], prepared: Prepared, offset: u32, size: u32) -> SizeAnswer
+pub fn sized(
+    image: &[u8],
+    words: &[u32],
+    prepared: Result<usize, Refusal>,
+    offset: u32,
+    size: u32,
+) -> Result<u32, Refusal>
     requires { Prepares image.now words.now prepared }
     ensures { result ≡ maxRegionSizeAnswer image.now (length words.now) offset size }
 {
     match prepared {
-        Prepared::Ready(count) => {
+        Ok(count) => {
             let disc = disc_of(image, words, count);
-            SizeAnswer::Bytes(free_space::max_region_size(
-                words,
-                count,
-                disc.disc_end,
-                offset,
-                size,
-            ))
+            Ok(free_space::max_region_size(words, count, disc.disc_end, offset, size))
         }
-        Prepared::Refused(cause) => SizeAnswer::Refused(cause),
+        Err(cause) => Err(cause),
     }
 }

@@ -1,5 +1,7 @@
 -- When a decision is what a plan comes to: behind tests that passed or refused, and for a change that is written.
 -- Assumes nothing.
+use Rattle.std.specs.Prelude.{Ok, Err}
+use Rattle.refusal.specs.Refusal.{Verdict}
 use Prim.Native.Nat.{ℕ}
 use mathlib.Core.Path.{◌≡◌, refl, sym, ap, ◌∙◌}
 use mathlib.Core.Bool.{cond}
@@ -8,8 +10,6 @@ use native.Mathlib.Omega.{arith}
 use lib.ListN.{length}
 use Rattle.endian.specs.Bytes.{span}
 use Rattle.refusal.specs.declared.Refusal.{Refusal}
-use Rattle.refusal.specs.declared.Verdict.{Verdict}
-use Rattle.refusal.specs.declared.Verdict.TheVariants.{Passed, Refused}
 use Rattle.refusal.specs.Refusal.{first, is_refused}
 use Rattle.tree.specs.Table.{Node, encode}
 use Rattle.tree.specs.Insert.{setPlace}
@@ -18,25 +18,23 @@ use Rattle.tree.specs.Laws.WrittenEntries.{length-encode}
 use Rattle.commit.specs.declared.Writing.{Writing}
 use Rattle.commit.specs.declared.Decision.{Decision}
 use Rattle.commit.specs.declared.Decision.TheVariants as decision
-use Rattle.fst_measure.specs.declared.TableSize.TheVariants as table
 use Rattle.edits.specs.Change.{written, tableVerdict, Plan, refused, nothing, change, filled, placeVerdict}
-use Rattle.tree.specs.declared.Located.TheVariants as located
 use Rattle.edits.specs.Edits.{planned, planVerdict, planImage, planNumber, numberedAs}
 use Rattle.edits.specs.Laws.Behind as behind
 use Rattle.commit.specs.Inner.Decision.{changeWith, placing, writtenWith, Fits, sizedAs, carriedAnswer, Decided, DecidedAs}
 
 pub planned-first : (a b : Verdict) (p : Plan) → planned (first a b) p ≡ planned a (planned b p)
-planned-first Passed b p = refl
-planned-first (Refused c) b p = refl
+planned-first (Ok _) b p = refl
+planned-first (Err c) b p = refl
 
 -- the size of a table that passed, and the cause of one that did not
-pub sized-passed : (v : Verdict) (n size : ℕ) → sizedAs v n ≡ table.Bytes size → (v ≡ Passed) × (size ≡ n)
-sized-passed Passed n size e = (refl, cc)
-sized-passed (Refused c) n size e = let z : ◌≡◌ {A = ℕ} 0 1 = cc in absurd (omega arith)
+pub sized-passed : (v : Verdict) (n size : ℕ) → sizedAs v n ≡ Ok size → (v ≡ Ok tt) × (size ≡ n)
+sized-passed (Ok _) n size e = (refl, cc)
+sized-passed (Err c) n size e = let z : ◌≡◌ {A = ℕ} 0 1 = cc in absurd (omega arith)
 
-pub sized-refused : (v : Verdict) (n : ℕ) (c : Refusal) → sizedAs v n ≡ table.Refused c → v ≡ Refused c
-sized-refused Passed n c e = let z : ◌≡◌ {A = ℕ} 0 1 = cc in absurd (omega arith)
-sized-refused (Refused d) n c e = cc
+pub sized-refused : (v : Verdict) (n : ℕ) (c : Refusal) → sizedAs v n ≡ Err c → v ≡ Err c
+sized-refused (Ok _) n c e = let z : ◌≡◌ {A = ℕ} 0 1 = cc in absurd (omega arith)
+sized-refused (Err d) n c e = cc
 
 written_same : (image : List ℕ) (nodes : List Node) (w : Writing) → writtenWith w (encode nodes) image ≡ written (changeWith nodes w) image
 unfolding writtenWith written
@@ -44,7 +42,7 @@ written_same image nodes w = refl
 
 module _ (image : List ℕ) (words room : ℕ) (bytes : List ℕ) where
   -- with any clip: none is written
-  refused-with : (clip : List ℕ) (p : Plan) (c : Refusal) → planVerdict p image words room ≡ Refused c → DecidedAs (planVerdict p image words room) p image room bytes clip (decision.Refused c)
+  refused-with : (clip : List ℕ) (p : Plan) (c : Refusal) → planVerdict p image words room ≡ Err c → DecidedAs (planVerdict p image words room) p image room bytes clip (decision.Refused c)
   refused-with clip p c e = record {
     fits = tt;
     carries = tt;
@@ -52,20 +50,20 @@ module _ (image : List ℕ) (words room : ℕ) (bytes : List ℕ) where
     after = sym (ap (λ (v : Verdict). cond (is_refused v) image (planImage p image)) e);
   }
 
-  pub refused-decided : (p : Plan) (c : Refusal) → planVerdict p image words room ≡ Refused c → Decided p image words room bytes (decision.Refused c)
+  pub refused-decided : (p : Plan) (c : Refusal) → planVerdict p image words room ≡ Err c → Decided p image words room bytes (decision.Refused c)
   refused-decided p c e = refused-with [] p c e
 
-  pub behind-passed : (v : Verdict) (p : Plan) (d : Decision) → v ≡ Passed → Decided p image words room bytes d → Decided (planned v p) image words room bytes d
+  pub behind-passed : (v : Verdict) (p : Plan) (d : Decision) → v ≡ Ok tt → Decided p image words room bytes d → Decided (planned v p) image words room bytes d
   behind-passed v p d e h = rw (behind.behind-passed v p e) h
 
-  pub behind-refused-with : (clip : List ℕ) (v : Verdict) (p : Plan) (c : Refusal) → v ≡ Refused c → DecidedAs (planVerdict (planned v p) image words room) (planned v p) image room bytes clip (decision.Refused c)
-  behind-refused-with clip v p c e = rw (behind.behind-refused v p c e) (refused-with clip (refused (Refused c)) c refl)
+  pub behind-refused-with : (clip : List ℕ) (v : Verdict) (p : Plan) (c : Refusal) → v ≡ Err c → DecidedAs (planVerdict (planned v p) image words room) (planned v p) image room bytes clip (decision.Refused c)
+  behind-refused-with clip v p c e = rw (behind.behind-refused v p c e) (refused-with clip (refused (Err c)) c refl)
 
-  pub behind-refused : (v : Verdict) (p : Plan) (c : Refusal) → v ≡ Refused c → Decided (planned v p) image words room bytes (decision.Refused c)
+  pub behind-refused : (v : Verdict) (p : Plan) (c : Refusal) → v ≡ Err c → Decided (planned v p) image words room bytes (decision.Refused c)
   behind-refused v p c e = behind-refused-with [] v p c e
 
   -- a change whose tests passed, with its table in the working bytes
-  pub write-decided : (k : ℕ) (nodes : List Node) (size : ℕ) (w : Writing) → Fits image room size w → tableVerdict (changeWith nodes w) image words room ≡ Passed → span bytes 0 size ≡ encode nodes →
+  pub write-decided : (k : ℕ) (nodes : List Node) (size : ℕ) (w : Writing) → Fits image room size w → tableVerdict (changeWith nodes w) image words room ≡ Ok tt → span bytes 0 size ≡ encode nodes →
       Decided (change k (changeWith nodes w)) image words room bytes (decision.Write k size w)
   write-decided k nodes size w f e s = record {
     fits = (λ z. omega arith, f);
@@ -96,14 +94,14 @@ answered v (filled k x p) image room bytes clip decision.Nothing h = absurd h.ca
 answered v nothing image room bytes clip (decision.Clip n at) h = absurd h.carries
 answered v (refused u) image room bytes clip (decision.Clip n at) h = absurd h.carries
 answered v (change k c) image room bytes clip (decision.Clip n at) h = absurd h.carries
-answered v (filled k x nothing) image room bytes clip (decision.Clip n at) h = rw (← h.answer) (ap located.At h.carries)
+answered v (filled k x nothing) image room bytes clip (decision.Clip n at) h = rw (← h.answer) (ap Ok h.carries)
 answered v (filled k x (refused u)) image room bytes clip (decision.Clip n at) h = absurd h.carries
 answered v (filled k x (change j c)) image room bytes clip (decision.Clip n at) h = absurd h.carries
 answered v (filled k x (filled j y p)) image room bytes clip (decision.Clip n at) h = absurd h.carries
-answered v (change k c) image room bytes clip (decision.Write n size w) h = rw (← h.answer) (ap located.At h.carries.number)
+answered v (change k c) image room bytes clip (decision.Write n size w) h = rw (← h.answer) (ap Ok h.carries.number)
 answered v (refused u) image room bytes clip (decision.Write n size w) h = absurd h.carries
 answered v nothing image room bytes clip (decision.Write n size w) h = absurd h.carries
-answered v (filled k x (change j c)) image room bytes clip (decision.Write n size w) h = rw (← h.answer) (ap located.At h.carries.number)
+answered v (filled k x (change j c)) image room bytes clip (decision.Write n size w) h = rw (← h.answer) (ap Ok h.carries.number)
 answered v (filled k x nothing) image room bytes clip (decision.Write n size w) h = absurd h.carries
 answered v (filled k x (refused u)) image room bytes clip (decision.Write n size w) h = absurd h.carries
 answered v (filled k x (filled j y p)) image room bytes clip (decision.Write n size w) h = absurd h.carries

@@ -1,4 +1,7 @@
 -- An open image: its table, the tests of a new one, and where its files lie. Assumes nothing.
+use Rattle.std.specs.Prelude.{Result, Ok, Err}
+use Rattle.refusal.specs.Refusal.{Verdict}
+use Rattle.refusal.specs.declared.Refusal.{Refusal}
 use Prim.Native.Nat.{ℕ, zero, suc, ◌+◌, ◌≤◌, ◌<◌, ◌^◌}
 use mathlib.Core.Path.{◌≡◌, refl, sym, ap, ◌∙◌}
 use mathlib.Core.Logic.{⊎_elim}
@@ -9,8 +12,6 @@ use borrow.Author.Tests.{ltb-false, le-ltb, leb-true, eqb-true}
 use lib.Dec.{ltb, leb, eqb}
 use lib.ListN.{length, get_or}
 use Rattle.refusal.specs.declared.Refusal.TheVariants.{LimitOrMemory, NotEnoughSpace, OverlappingMove, TableAboveMaximum}
-use Rattle.refusal.specs.declared.Verdict.{Verdict}
-use Rattle.refusal.specs.declared.Verdict.TheVariants.{Passed, Refused}
 use Rattle.refusal.specs.Refusal.{refuse, first}
 use Rattle.refusal.specs.Laws.Chains.{refuse-passed, first-passed}
 use Rattle.header.specs.Verdicts.{fstOffset, fstSize, discEnd, table_end}
@@ -35,8 +36,6 @@ use Rattle.edits.specs.Laws.PlaceTests.{place-passed, free-byte}
 use Rattle.space.specs.Inner.Sort.{regionsIn}
 use Rattle.opening.specs.Inner.Prepared.{OpenImage, IsOpen}
 use Rattle.opening.proofs.Words.{free-below}
-use Rattle.fst_measure.specs.declared.TableSize.{TableSize}
-use Rattle.fst_measure.specs.declared.TableSize.TheVariants as table
 use Rattle.commit.specs.Inner.Decision.{TableFits, placing, sizedAs}
 use Rattle.commit.proofs.Decisions.{sized-passed}
 
@@ -75,27 +74,27 @@ module _ (image : List ℕ) (words : ℕ) (known : OpenImage image words) where
     depth = known.reads.table.depth;
   }
 
-  pub measured-past : measureOf (table_of image) ≡ PastLimit → limits (nodesIn image) words ≡ Refused LimitOrMemory
+  pub measured-past : measureOf (table_of image) ≡ PastLimit → limits (nodesIn image) words ≡ Err LimitOrMemory
   unfolding measureOf limits nodesIn
   measured-past e = go (ltb 1048576 (length (textsOf (tail (nodesIn image))))) refl e
     where
-      go : (t : Bool) → ltb 1048576 (length (textsOf (tail (nodesIn image)))) ≡ t → cond t PastLimit (Size (length (encode (nodesIn image)))) ≡ PastLimit → limits (nodesIn image) words ≡ Refused LimitOrMemory
+      go : (t : Bool) → ltb 1048576 (length (textsOf (tail (nodesIn image)))) ≡ t → cond t PastLimit (Size (length (encode (nodesIn image)))) ≡ PastLimit → limits (nodesIn image) words ≡ Err LimitOrMemory
       go true a q = let f : length (nodesIn image) ≤ 16384 = omega (arith, length-nodes, known.reads.table.few) in
           rw (le-ltb 16384 (length (nodesIn image)) f, a)
       go false a q = let z : ◌≡◌ {A = ℕ} 0 1 = cc in absurd (omega arith)
 
-  pub measured-size : (n : ℕ) → measureOf (table_of image) ≡ Size n → (limits (nodesIn image) words ≡ Passed) × (n ≡ length (encode (nodesIn image)))
+  pub measured-size : (n : ℕ) → measureOf (table_of image) ≡ Size n → (limits (nodesIn image) words ≡ Ok tt) × (n ≡ length (encode (nodesIn image)))
   unfolding measureOf nodesIn
   measured-size n e = go (ltb 1048576 (length (textsOf (tail (nodesIn image))))) refl e
     where
       go : (t : Bool) → ltb 1048576 (length (textsOf (tail (nodesIn image)))) ≡ t → cond t PastLimit (Size (length (encode (nodesIn image)))) ≡ Size n →
-          (limits (nodesIn image) words ≡ Passed) × (n ≡ length (encode (nodesIn image)))
+          (limits (nodesIn image) words ≡ Ok tt) × (n ≡ length (encode (nodesIn image)))
       go true a q = let z : ◌≡◌ {A = ℕ} 0 1 = cc in absurd (omega arith)
       go false a q = (limits-within (nodesIn image) words (within (ltb-false 1048576 _ a)), cc)
 
   -- ---- where the table and the files lie
 
-  pub place-fits : (room size : ℕ) (place : DiscRegion) → placeVerdict image room size place ≡ Passed → TableFits (length image) room (fstOffset image) (fstSize image) size
+  pub place-fits : (room size : ℕ) (place : DiscRegion) → placeVerdict image room size place ≡ Ok tt → TableFits (length image) room (fstOffset image) (fstSize image) size
   unfolding freeOf usedIn
   place-fits room size place e =
       let p = place-passed image room size place e in
@@ -128,7 +127,7 @@ module _ (image : List ℕ) (words : ℕ) (known : OpenImage image words) where
       ((free-byte (table_end image) (behindTable image) o (rw e at (p.1 0 z))).0, omega (arith, p.0, known.reads.bounds.image_holds))
 
   -- a new place that is not empty
-  pub new-place : (old new : DiscRegion) → relocateVerdict (freeOf image) old new ≡ Passed → 0 < new.size → (table_end image ≤ new.offset) × (end_of new ≤ length image)
+  pub new-place : (old new : DiscRegion) → relocateVerdict (freeOf image) old new ≡ Ok tt → 0 < new.size → (table_end image ≤ new.offset) × (end_of new ≤ length image)
   new-place old new e z =
       let a = refuse-passed (overlapsItself old new) OverlappingMove _ e in
       let b = refuse-passed (ltb (maxRegionSize new.offset 0 (freeOf image)) new.size) NotEnoughSpace _ a.1 in
@@ -141,8 +140,8 @@ unfolding tableVerdict placeVerdict
 table-tests nodes place image words room = refl
 
 -- what the tests of a table that passed give: it is small, and it fits
-pub table-passed : (nodes : List Node) (place : DiscRegion) (image : List ℕ) (words room : ℕ) → tableVerdict (placing nodes place) image words room ≡ Passed →
-    (length (encode nodes) ≤ 2 ^ 24) × (placeVerdict image room (length (encode nodes)) place ≡ Passed)
+pub table-passed : (nodes : List Node) (place : DiscRegion) (image : List ℕ) (words room : ℕ) → tableVerdict (placing nodes place) image words room ≡ Ok tt →
+    (length (encode nodes) ≤ 2 ^ 24) × (placeVerdict image room (length (encode nodes)) place ≡ Ok tt)
 table-passed nodes place image words room e =
     let p = first-passed (limits nodes words) (placeVerdict image room (length (encode nodes)) place) (sym (table-tests nodes place image words room) ∙ e) in
     let w = within-limits nodes words p.0 in
@@ -157,18 +156,18 @@ free-size image w m e o n r o' n' u p q s t = t ∙ ap (maxRegionSize o n) (free
 -- the tests of a table's place, by their results
 pub place-verdict : (image : List ℕ) (room size : ℕ) (place : DiscRegion) (most : ℕ) (r : Bool) → most ≡ maxRegionSize (fstOffset image) (fstSize image) (freeOf image) →
     r ≡ (ltb 0 place.size && ltb place.offset (fstOffset image + size)) →
-    placeVerdict image room size place ≡ refuse (ltb room size) LimitOrMemory (refuse (aboveMaximum image size) TableAboveMaximum (refuse (ltb most size) NotEnoughSpace (refuse r NotEnoughSpace Passed)))
+    placeVerdict image room size place ≡ refuse (ltb room size) LimitOrMemory (refuse (aboveMaximum image size) TableAboveMaximum (refuse (ltb most size) NotEnoughSpace (refuse r NotEnoughSpace (Ok tt))))
 unfolding placeVerdict
 place-verdict image room size place most r p q =
-    ap (λ (m : ℕ). refuse (ltb room size) LimitOrMemory (refuse (aboveMaximum image size) TableAboveMaximum (refuse (ltb m size) NotEnoughSpace (refuse (ltb 0 place.size && ltb place.offset (fstOffset image + size)) NotEnoughSpace Passed)))) (sym p)
-    ∙ ap (λ (b : Bool). refuse (ltb room size) LimitOrMemory (refuse (aboveMaximum image size) TableAboveMaximum (refuse (ltb most size) NotEnoughSpace (refuse b NotEnoughSpace Passed)))) (sym q)
+    ap (λ (m : ℕ). refuse (ltb room size) LimitOrMemory (refuse (aboveMaximum image size) TableAboveMaximum (refuse (ltb m size) NotEnoughSpace (refuse (ltb 0 place.size && ltb place.offset (fstOffset image + size)) NotEnoughSpace (Ok tt))))) (sym p)
+    ∙ ap (λ (b : Bool). refuse (ltb room size) LimitOrMemory (refuse (aboveMaximum image size) TableAboveMaximum (refuse (ltb most size) NotEnoughSpace (refuse b NotEnoughSpace (Ok tt))))) (sym q)
 
 -- the limits were passed, or the table's place was judged
-pub table-past : (nodes : List Node) (place : DiscRegion) (image : List ℕ) (words room : ℕ) → limits nodes words ≡ Refused LimitOrMemory → table.Refused LimitOrMemory ≡ sizedAs (tableVerdict (placing nodes place) image words room) (length (encode nodes))
+pub table-past : (nodes : List Node) (place : DiscRegion) (image : List ℕ) (words room : ℕ) → limits nodes words ≡ Err LimitOrMemory → Err LimitOrMemory ≡ sizedAs (tableVerdict (placing nodes place) image words room) (length (encode nodes))
 table-past nodes place image words room e =
     sym (ap (λ (v : Verdict). sizedAs v (length (encode nodes))) (table-tests nodes place image words room ∙ ap (λ (v : Verdict). first v (placeVerdict image room (length (encode nodes)) place)) e))
 
-pub table-sized : (nodes : List Node) (place : DiscRegion) (image : List ℕ) (words room size : ℕ) (v : Verdict) (r : TableSize) → limits nodes words ≡ Passed → size ≡ length (encode nodes) → v ≡ placeVerdict image room size place → r ≡ sizedAs v size →
+pub table-sized : (nodes : List Node) (place : DiscRegion) (image : List ℕ) (words room size : ℕ) (v : Verdict) (r : Result ℕ Refusal) → limits nodes words ≡ Ok tt → size ≡ length (encode nodes) → v ≡ placeVerdict image room size place → r ≡ sizedAs v size →
     r ≡ sizedAs (tableVerdict (placing nodes place) image words room) (length (encode nodes))
 table-sized nodes place image words room size v r a b p q =
     q ∙ ap (λ (x : Verdict). sizedAs x size) p ∙ ap (λ (n : ℕ). sizedAs (placeVerdict image room n place) n) b
@@ -176,14 +175,14 @@ table-sized nodes place image words room size v r a b p q =
 
 -- a table that passed its tests
 pub record NewTable (nodes : List Node) (place : DiscRegion) (image : List ℕ) (words room size : ℕ) : Type 0 where
-  pub passed : tableVerdict (placing nodes place) image words room ≡ Passed
+  pub passed : tableVerdict (placing nodes place) image words room ≡ Ok tt
   pub length-is : size ≡ length (encode nodes)
   pub small : length (encode nodes) ≤ 2 ^ 24
   pub held : length (encode nodes) ≤ room
   pub fits : TableFits (length image) room (fstOffset image) (fstSize image) size
 
-pub new-table : (nodes : List Node) (place : DiscRegion) (image : List ℕ) (words room size : ℕ) (r : TableSize) → OpenImage image words →
-    r ≡ sizedAs (tableVerdict (placing nodes place) image words room) (length (encode nodes)) → r ≡ table.Bytes size → NewTable nodes place image words room size
+pub new-table : (nodes : List Node) (place : DiscRegion) (image : List ℕ) (words room size : ℕ) (r : Result ℕ Refusal) → OpenImage image words →
+    r ≡ sizedAs (tableVerdict (placing nodes place) image words room) (length (encode nodes)) → r ≡ Ok size → NewTable nodes place image words room size
 new-table nodes place image words room size r known e f =
     let p = sized-passed (tableVerdict (placing nodes place) image words room) (length (encode nodes)) size (sym e ∙ f) in
     let q = table-passed nodes place image words room p.0 in

@@ -1,13 +1,14 @@
 -- The table of an open image as it is read: it is valid, it is measured, and it is written anew.
 -- Assumes nothing.
+use Rattle.std.specs.Prelude.{Result, Ok, Err}
+use Rattle.refusal.specs.Refusal.{Verdict}
+use Rattle.refusal.specs.declared.Refusal.{Refusal}
 use Prim.Native.Nat.{ℕ, ◌≤◌}
 use mathlib.Core.Path.{◌≡◌, sym, ap, ◌∙◌}
 use mathlib.Core.List.{List}
 use lib.ListN.{length}
 use Rattle.endian.specs.Bytes.{put}
 use Rattle.refusal.specs.declared.Refusal.TheVariants.{LimitOrMemory}
-use Rattle.refusal.specs.declared.Verdict.{Verdict}
-use Rattle.refusal.specs.declared.Verdict.TheVariants.{Passed, Refused}
 use Rattle.tree.specs.Table.{count, encode, nodesOf, limits}
 use Rattle.space.specs.declared.DiscRegion.{DiscRegion}
 use Rattle.fst_measure.specs.declared.Measured.{Measured}
@@ -19,8 +20,6 @@ use Rattle.opening.specs.Opening.{table_of, nodesIn}
 use Rattle.opening.specs.Inner.Prepared.{OpenImage}
 use Rattle.opening.proofs.Words.{Opens}
 use Rattle.edits.specs.Change.{tableVerdict, placeVerdict}
-use Rattle.fst_measure.specs.declared.TableSize.{TableSize}
-use Rattle.fst_measure.specs.declared.TableSize.TheVariants as table
 use Rattle.commit.specs.Inner.Decision.{placing, sizedAs}
 use Rattle.commit.proofs.Images.{measured-past, measured-size, table-past, table-sized}
 
@@ -37,17 +36,17 @@ module _ (image tab : List ℕ) (is : tab ≡ table_of image) where
   table-written bytes after e = rw is at e
 
   module _ (words : ℕ) (known : OpenImage image words) (r : Measured) (measured : r ≡ measureOf tab) where
-    pub limits-past : r ≡ PastLimit → limits (nodesIn image) words ≡ Refused LimitOrMemory
+    pub limits-past : r ≡ PastLimit → limits (nodesIn image) words ≡ Err LimitOrMemory
     limits-past e = measured-past image words known (ap measureOf (sym is) ∙ sym measured ∙ e)
 
-    pub limits-passed : (n : ℕ) → r ≡ Size n → (limits (nodesIn image) words ≡ Passed) × (n ≡ length (encode (nodesIn image)))
+    pub limits-passed : (n : ℕ) → r ≡ Size n → (limits (nodesIn image) words ≡ Ok tt) × (n ≡ length (encode (nodesIn image)))
     limits-passed n e = measured-size image words known n (ap measureOf (sym is) ∙ sym measured ∙ e)
 
     pub tree-past : (room : ℕ) (place : DiscRegion) → r ≡ PastLimit →
-        table.Refused LimitOrMemory ≡ sizedAs (tableVerdict (placing (nodesIn image) place) image words room) (length (encode (nodesIn image)))
+        Err LimitOrMemory ≡ sizedAs (tableVerdict (placing (nodesIn image) place) image words room) (length (encode (nodesIn image)))
     tree-past room place e = table-past (nodesIn image) place image words room (limits-past e)
 
-    pub tree-sized : (room n : ℕ) (place : DiscRegion) (v : Verdict) (t : TableSize) → r ≡ Size n → v ≡ placeVerdict image room n place → t ≡ sizedAs v n →
+    pub tree-sized : (room n : ℕ) (place : DiscRegion) (v : Verdict) (t : Result ℕ Refusal) → r ≡ Size n → v ≡ placeVerdict image room n place → t ≡ sizedAs v n →
         t ≡ sizedAs (tableVerdict (placing (nodesIn image) place) image words room) (length (encode (nodesIn image)))
     tree-sized room n place v t e p q =
         let m = limits-passed n e in

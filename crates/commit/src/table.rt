@@ -7,7 +7,7 @@ ghost use Rattle.edits.specs.Change.{aboveMaximum, tableVerdict, placeVerdict};
 ghost use Rattle.opening.specs.Inner.Prepared.{OpensImage, IsOpen};
 ghost use Rattle.commit.specs.Inner.Decision.{sizedAs, placing};
 
-use fst_measure::{Measured, TableSize};
+use fst_measure::Measured;
 use refusal::{Refusal, Verdict};
 use space::DiscRegion;
 
@@ -45,30 +45,30 @@ pub fn check_place(
     ensures { result ≡ placeVerdict image.now room size place }
 {
     if room < size {
-        return Verdict::Refused(Refusal::LimitOrMemory);
+        return Err(Refusal::LimitOrMemory);
     }
     if above_maximum(image, size) {
-        return Verdict::Refused(Refusal::TableAboveMaximum);
+        return Err(Refusal::TableAboveMaximum);
     }
     let fst_offset = header::fst_offset(image);
     let fst_size = header::fst_size(image);
     let disc_end = opening::disc_end(image);
     let most = free_space::max_region_size(words, m, disc_end, fst_offset, fst_size);
     if (most as usize) < size {
-        return Verdict::Refused(Refusal::NotEnoughSpace);
+        return Err(Refusal::NotEnoughSpace);
     }
     if reaches(place, fst_offset as usize + size) {
-        return Verdict::Refused(Refusal::NotEnoughSpace);
+        return Err(Refusal::NotEnoughSpace);
     }
-    Verdict::Passed
+    Ok(())
 }
 
-fn sized(verdict: Verdict, size: usize) -> TableSize
+fn sized(verdict: Verdict, size: usize) -> Result<usize, Refusal>
     ensures { result ≡ sizedAs verdict size }
 {
     match verdict {
-        Verdict::Passed => TableSize::Bytes(size),
-        Verdict::Refused(cause) => TableSize::Refused(cause),
+        Ok(()) => Ok(size),
+        Err(cause) => Err(cause),
     }
 }
 
@@ -79,13 +79,13 @@ pub fn check_table(
     m: usize,
     room: usize,
     place: DiscRegion,
-) -> TableSize
+) -> Result<usize, Refusal>
     requires { IsOpen image.now words.now m }
     ensures { result ≡ sizedAs (tableVerdict (placing (nodesIn image.now) place) image.now (length words.now) room) (length (encode (nodesIn image.now))) }
 {
     let measured = fst_measure::measure(opening::table(image));
     match measured {
-        Measured::PastLimit => TableSize::Refused(Refusal::LimitOrMemory),
+        Measured::PastLimit => Err(Refusal::LimitOrMemory),
         Measured::Size(size) => sized(check_place(image, words, m, room, size, place), size),
     }
 }

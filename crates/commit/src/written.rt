@@ -6,8 +6,7 @@ ghost use Rattle.commit.specs.Inner.Decision.{Into, clipped, CopyFits, ZeroFits,
 
 use crate::{Decision, Writing};
 use header::Field;
-use refusal::Verdict;
-use tree::Located;
+use refusal::{Refusal, Verdict};
 
 // a - b, or 0 where b is the larger.
 fn less(a: usize, b: usize) -> usize
@@ -76,23 +75,28 @@ fn put_clip(image: &mut [u8], at: usize, clip: &[u8])
 }
 
 // The clip comes before the table, so a table with the new place or size has the whole clip.
-fn carry_out(image: &mut [u8], bytes: &[u8], clip: &[u8], decision: Decision) -> Located
+fn carry_out(
+    image: &mut [u8],
+    bytes: &[u8],
+    clip: &[u8],
+    decision: Decision,
+) -> Result<u32, Refusal>
     requires { CanCarry image.old (length bytes.now) clip.now decision }
     ensures { (result ≡ carriedAnswer decision) × (image.new ≡ carriedImage decision bytes.now clip.now image.old) }
 {
     match decision {
-        Decision::Refused(cause) => Located::Refused(cause),
-        Decision::Nothing => Located::At(0),
+        Decision::Refused(cause) => Err(cause),
+        Decision::Nothing => Ok(0),
         Decision::Clip(number, at) => {
             put_clip(image, at as usize, clip);
-            Located::At(number)
+            Ok(number)
         }
         Decision::Write(number, size, w) => {
             let place = w.place;
             let at = place.offset as usize;
             put_clip(image, at, clip);
             write_change(image, bytes, size, w);
-            Located::At(number)
+            Ok(number)
         }
     }
 }
@@ -111,7 +115,7 @@ pub fn finish(
     bytes: &mut [u8],
     clip: &[u8],
     decision: Decision,
-) -> Located
+) -> Result<u32, Refusal>
     requires { CanCarry image.old (length bytes.old) clip.now decision }
     ensures value { (result ≡ carriedAnswer decision) × (image.new ≡ carriedImage decision bytes.old clip.now image.old) }
     ensures words_after { (words.new ≡ replicate (length words.old) 0) × (bytes.new ≡ replicate (length bytes.old) 0) }
@@ -123,11 +127,11 @@ pub fn finish(
 }
 
 // Whether an edit that gives an entry's number was accepted.
-pub fn verdict_of(located: Located) -> Verdict
+pub fn verdict_of(located: Result<u32, Refusal>) -> Verdict
     ensures { result ≡ verdictIn located }
 {
     match located {
-        Located::At(_) => Verdict::Passed,
-        Located::Refused(cause) => Verdict::Refused(cause),
+        Ok(_) => Ok(()),
+        Err(cause) => Err(cause),
     }
 }

@@ -1,4 +1,7 @@
 -- There are fewer than 2^32 free regions: each has a byte of its own below the disc end. Assumes nothing.
+use Rattle.std.specs.Prelude.{Result, Ok, Err}
+use Rattle.refusal.specs.Refusal.{Verdict}
+use Rattle.refusal.specs.declared.Refusal.{Refusal}
 use Prim.Native.Nat.{ℕ, zero, suc, ◌^◌, ◌<◌, ◌≤◌}
 use mathlib.Core.Path.{◌≡◌, refl, sym, ◌∙◌}
 use mathlib.Core.Bool.{Bool, true, false, cond}
@@ -7,14 +10,10 @@ use native.Mathlib.Omega.{arith}
 use lib.Dec.{eqb, ltb}
 use lib.ListN.{length}
 use Rattle.refusal.specs.declared.Refusal.TheVariants.{LimitOrMemory}
-use Rattle.refusal.specs.declared.Verdict.{Verdict}
-use Rattle.refusal.specs.declared.Verdict.TheVariants.{Passed, Refused}
 use Rattle.refusal.specs.Laws.Chains.{first-passed}
 use Rattle.header.specs.Verdicts.{headerVerdict, boundsVerdict, discEnd}
 use Rattle.header.specs.Laws.FieldTests.{bounds-passed}
 use Rattle.space.specs.declared.DiscRegion.{DiscRegion}
-use Rattle.free_space.specs.declared.Listing.{Listing}
-use Rattle.free_space.specs.declared.Listing.TheVariants as listing
 use Rattle.space.specs.Free.{join, runs, freeRegions}
 use Rattle.free_space.specs.Listing.{rows_of, listingOf}
 use Rattle.opening.specs.Opening.{opening, freeOf}
@@ -44,22 +43,22 @@ unfolding freeOf freeRegions
 free-count image = runs-count _ 0 (discEnd image)
 
 module _ (row : DiscRegion → List ℕ) (image : List ℕ) (words room n : ℕ) where
-  small-end : opening image words ≡ Passed → discEnd image < 2 ^ 32
+  small-end : opening image words ≡ Ok tt → discEnd image < 2 ^ 32
   unfolding opening
   small-end e =
       let b = bounds-passed image (first-passed (boundsVerdict image) _ (first-passed (headerVerdict image) _ e).1).0 in
       omega (arith, b.small)
 
-  counted : (t : Bool) (m : ℕ) → cond t (listing.Refused LimitOrMemory) (listing.Listed m) ≡ listing.Listed n → m ≡ n
+  counted : (t : Bool) (m : ℕ) → cond t (Err LimitOrMemory) (Ok m) ≡ Ok n → m ≡ n
   counted true m e = let z : ◌≡◌ {A = ℕ} 0 1 = cc in absurd (omega arith)
   counted false m e = cc
 
-  go : (v : Verdict) → opening image words ≡ v → behind v listing.Refused (listingOf row (freeOf image) room) ≡ listing.Listed n → n < 2 ^ 32
-  go Passed o e =
+  go : (v : Verdict) → opening image words ≡ v → behind v Err (listingOf row (freeOf image) room) ≡ Ok n → n < 2 ^ 32
+  go (Ok tt) o e =
       let m = counted (ltb room (length (rows_of row (freeOf image)))) (length (freeOf image)) e in
       omega (arith, m, small-end o, free-count image)
-  go (Refused c) o e = let z : ◌≡◌ {A = ℕ} 0 1 = cc in absurd (omega arith)
+  go (Err c) o e = let z : ◌≡◌ {A = ℕ} 0 1 = cc in absurd (omega arith)
 
-  pub listed_small : (a : Listing) → a ≡ freeAnswer row image words room → a ≡ listing.Listed n → n < 2 ^ 32
+  pub listed_small : (a : Result ℕ Refusal) → a ≡ freeAnswer row image words room → a ≡ Ok n → n < 2 ^ 32
   unfolding freeAnswer
   listed_small a f e = go (opening image words) refl (sym f ∙ e)

@@ -1,4 +1,6 @@
 -- A header that was read as good and written back into 0x440 bytes gives the image's first bytes. Assumes nothing.
+use Rattle.std.specs.Prelude.{Ok, Err}
+use Rattle.refusal.specs.Refusal.{Verdict}
 use Prim.Native.Nat.{ℕ, ◌+◌, ◌-◌, ◌≤◌, ◌<◌}
 use mathlib.Core.Path.{◌≡◌, refl, sym, ap, ◌∙◌}
 use mathlib.Core.List.{List}
@@ -9,8 +11,6 @@ use lib.Seq.{ext_get_or, get_or-take, length-take-le}
 use Rattle.endian.specs.Bytes.{AllBytes}
 use Rattle.endian.specs.Laws.Stored.{length-span, getD-span}
 use Rattle.refusal.specs.declared.Refusal.{Refusal}
-use Rattle.refusal.specs.declared.Verdict.{Verdict}
-use Rattle.refusal.specs.declared.Verdict.TheVariants.{Passed, Refused}
 use Rattle.header.specs.declared.Field.{Field}
 use Rattle.disc_header.specs.declared.HeaderRead.{HeaderRead}
 use Rattle.header.specs.Fields.{fields, gameCodeField, makerCodeField, unused00aField, gameNameField, unused408Field}
@@ -22,7 +22,7 @@ use Rattle.header.specs.Laws.Tiling.{fields-tile, fields-count, one_field}
 use Rattle.disc_header.specs.Laws.RoundTrip.{Fills, length-putFields, putFields-in, write_read}
 use Rattle.counter.specs.Replies.{accepts, refuses, verdictReply}
 
-module _ (image slots : List ℕ) (good : headerVerdict image ≡ Passed) (bytes : AllBytes image) (room : length slots ≡ 0x440) where
+module _ (image slots : List ℕ) (good : headerVerdict image ≡ Ok tt) (bytes : AllBytes image) (room : length slots ≡ 0x440) where
   whole : 0x440 ≤ length image
   whole = (header-passed image good).whole
 
@@ -63,18 +63,18 @@ module _ (image slots : List ℕ) (good : headerVerdict image ≡ Passed) (bytes
   back = rw (le-ltb (length slots) 0x440 (omega arith)) taken
 
 module _ (image slots : List ℕ) (read : HeaderRead) (e : read ≡ headerRead image) where
-  pub header-written : read.verdict ≡ Passed → AllBytes image → length slots ≡ 0x440 → accepts (headerWritten read.header slots) ≡ verdictReply slots (headerVerdict image) (take 0x440 image)
+  pub header-written : read.verdict ≡ Ok tt → AllBytes image → length slots ≡ 0x440 → accepts (headerWritten read.header slots) ≡ verdictReply slots (headerVerdict image) (take 0x440 image)
   unfolding verdictReply
   header-written p bytes room = go (headerVerdict image) refl e
     where
       go : (v : Verdict) → headerVerdict image ≡ v → read ≡ headerAnswer v (headerOf image) → accepts (headerWritten read.header slots) ≡ verdictReply slots v (take 0x440 image)
-      go Passed g h = rw (h, back image slots g bytes room)
-      go (Refused c) g h = let z : ◌≡◌ {A = ℕ} 0 1 = cc in absurd (omega arith)
+      go (Ok _) g h = rw (h, back image slots g bytes room)
+      go (Err c) g h = let z : ◌≡◌ {A = ℕ} 0 1 = cc in absurd (omega arith)
 
-  pub header_refused : (c : Refusal) → read.verdict ≡ Refused c → refuses slots c ≡ verdictReply slots (headerVerdict image) (take 0x440 image)
+  pub header_refused : (c : Refusal) → read.verdict ≡ Err c → refuses slots c ≡ verdictReply slots (headerVerdict image) (take 0x440 image)
   unfolding verdictReply
   header_refused c p = go (headerVerdict image) e
     where
       go : (v : Verdict) → read ≡ headerAnswer v (headerOf image) → refuses slots c ≡ verdictReply slots v (take 0x440 image)
-      go Passed h = let z : ◌≡◌ {A = ℕ} 0 1 = cc in absurd (omega arith)
-      go (Refused d) h = let k : c ≡ d = cc in rw k
+      go (Ok _) h = let z : ◌≡◌ {A = ℕ} 0 1 = cc in absurd (omega arith)
+      go (Err d) h = let k : c ≡ d = cc in rw k

@@ -1,4 +1,6 @@
 -- What a call that opens the image and reads it promises, with its answer given in C: by the answer's own reply, or case by case. Assumes nothing.
+use Rattle.std.specs.Prelude.{Result, Ok, Err}
+use Rattle.answers.specs.declared.Disc.{Disc}
 use Prim.Native.Nat.{ℕ}
 use mathlib.Core.Path.{◌≡◌, ap, ◌∙◌}
 use mathlib.Core.List.{List, [], ◌∷◌}
@@ -6,53 +8,41 @@ use Rattle.refusal.specs.declared.Refusal.{Refusal}
 use Rattle.refusal.specs.Refusal.{number_of}
 use Rattle.tree.specs.declared.Found.{Found}
 use Rattle.space.specs.declared.DiscRegion.{DiscRegion}
-use Rattle.free_space.specs.declared.Allocation.{Allocation}
-use Rattle.free_space.specs.declared.Allocation.TheVariants as allocation
 use Rattle.program.specs.declared.Program.{Program}
 use Rattle.program.specs.declared.Program.TheVariants as program
-use Rattle.free_space.specs.declared.Listing.{Listing}
 use Rattle.opening.specs.Opening.{zeros}
-use Rattle.answers.specs.declared.Opened.{Opened}
-use Rattle.answers.specs.declared.SizeAnswer.{SizeAnswer}
 use Rattle.disc.specs.declared.DiscTotals.{DiscTotals}
-use Rattle.disc.specs.declared.TotalsAnswer.{TotalsAnswer}
-use Rattle.disc.specs.declared.TotalsAnswer.TheVariants as totals
 use Rattle.disc.specs.declared.RecordMade.{RecordMade}
-use Rattle.refusal.specs.declared.Verdict.TheVariants as verdict
-use Rattle.files.specs.declared.WindowAnswer.{WindowAnswer}
-use Rattle.files.specs.declared.WindowAnswer.TheVariants as window
-use Rattle.listing.specs.declared.Listed.{Listed}
-use Rattle.listing.specs.declared.Listed.TheVariants as listed
 use Rattle.window.specs.declared.Window.{Window}
 use Rattle.counter.specs.Replies.{Reply, reply, Read, openedReply, foundReply, sizeReply, totalsReply, recordReply, totalsWords, programReply, allocationReply, listingReply, listedReply, windowReply, windowWords, verdictReply}
 
 -- ---- the answer is a, and g is its reply
 
 module _ (before : List ℕ) (g : Reply) (w w' : List ℕ) (zeroed : w' ≡ zeros w) where
-  pub opened-by : (a b : Opened) → b ≡ a → g ≡ openedReply before b → Read (openedReply before a) g w w'
+  pub opened-by : (a b : Result Disc Refusal) → b ≡ a → g ≡ openedReply before b → Read (openedReply before a) g w w'
   opened-by a b e h = record { answered = h ∙ ap (openedReply before) e; words = zeroed }
 
   pub found-by : (a b : Found) → b ≡ a → g ≡ foundReply before b → Read (foundReply before a) g w w'
   found-by a b e h = record { answered = h ∙ ap (foundReply before) e; words = zeroed }
 
-  pub listing-by : (a b : Listing) → b ≡ a → g ≡ listingReply before b → Read (listingReply before a) g w w'
+  pub listing-by : (a b : Result ℕ Refusal) → b ≡ a → g ≡ listingReply before b → Read (listingReply before a) g w w'
   listing-by a b e h = record { answered = h ∙ ap (listingReply before) e; words = zeroed }
 
-  pub sized-by : (a b : SizeAnswer) → b ≡ a → g ≡ sizeReply before b → Read (sizeReply before a) g w w'
+  pub sized-by : (a b : Result ℕ Refusal) → b ≡ a → g ≡ sizeReply before b → Read (sizeReply before a) g w w'
   sized-by a b e h = record { answered = h ∙ ap (sizeReply before) e; words = zeroed }
 
 -- ---- the answer is a, and b its case
 
 module _ (before w w' : List ℕ) (zeroed : w' ≡ zeros w) where
-  pub totals-found : (a b : TotalsAnswer) (t : DiscTotals) → b ≡ a → b ≡ totals.Found t → Read (totalsReply before a) (reply 0 (t.disc_end ∷ t.used ∷ [])) w w'
+  pub totals-found : (a b : Result DiscTotals Refusal) (t : DiscTotals) → b ≡ a → b ≡ Ok t → Read (totalsReply before a) (reply 0 (t.disc_end ∷ t.used ∷ [])) w w'
   unfolding totalsReply
   totals-found a b t e h = record { answered = rw (← e, h); words = zeroed }
 
-  pub record-made : (a b : RecordMade) → b ≡ a → b.verdict ≡ verdict.Passed → Read (recordReply before a) (reply 0 (totalsWords b.totals)) w w'
+  pub record-made : (a b : RecordMade) → b ≡ a → b.verdict ≡ Ok tt → Read (recordReply before a) (reply 0 (totalsWords b.totals)) w w'
   unfolding verdictReply
   record-made a b e h = record { answered = rw (← e, h); words = zeroed }
 
-  pub allocation-found : (a b : Allocation) (r : DiscRegion) → b ≡ a → b ≡ allocation.Found r → Read (allocationReply before a) (reply 0 (r.offset ∷ r.size ∷ [])) w w'
+  pub allocation-found : (a b : Result DiscRegion Refusal) (r : DiscRegion) → b ≡ a → b ≡ Ok r → Read (allocationReply before a) (reply 0 (r.offset ∷ r.size ∷ [])) w w'
   unfolding allocationReply
   allocation-found a b r e h = record { answered = rw (← e, h); words = zeroed }
 
@@ -64,24 +54,24 @@ module _ (before w w' : List ℕ) (zeroed : w' ≡ zeros w) where
   unfolding programReply
   program-none a b e h = record { answered = rw (← e, h); words = zeroed }
 
-  pub text-made : (a b : Listed) (n : ℕ) → b ≡ a → b ≡ listed.Text n → Read (listedReply before a) (reply 0 (n ∷ [])) w w'
+  pub text-made : (a b : Result ℕ Refusal) (n : ℕ) → b ≡ a → b ≡ Ok n → Read (listedReply before a) (reply 0 (n ∷ [])) w w'
   unfolding listedReply
   text-made a b n e h = record { answered = rw (← e, h); words = zeroed }
 
-  pub window-opened : (a b : WindowAnswer) (v : Window) → b ≡ a → b ≡ window.Opened v → Read (windowReply before a) (reply 0 (windowWords v)) w w'
+  pub window-opened : (a b : Result Window Refusal) (v : Window) → b ≡ a → b ≡ Ok v → Read (windowReply before a) (reply 0 (windowWords v)) w w'
   unfolding windowReply
   window-opened a b v e h = record { answered = rw (← e, h); words = zeroed }
 
   module _ (r : ℕ) (c : Refusal) (number : r ≡ number_of c) where
-    pub totals-refused : (a b : TotalsAnswer) → b ≡ a → b ≡ totals.Refused c → Read (totalsReply before a) (reply r before) w w'
+    pub totals-refused : (a b : Result DiscTotals Refusal) → b ≡ a → b ≡ Err c → Read (totalsReply before a) (reply r before) w w'
     unfolding totalsReply
     totals-refused a b e h = record { answered = rw (← e, h, number); words = zeroed }
 
-    pub record-refused : (a b : RecordMade) → b ≡ a → b.verdict ≡ verdict.Refused c → Read (recordReply before a) (reply r before) w w'
+    pub record-refused : (a b : RecordMade) → b ≡ a → b.verdict ≡ Err c → Read (recordReply before a) (reply r before) w w'
     unfolding verdictReply
     record-refused a b e h = record { answered = rw (← e, h, number); words = zeroed }
 
-    pub allocation-refused : (a b : Allocation) → b ≡ a → b ≡ allocation.Refused c → Read (allocationReply before a) (reply r before) w w'
+    pub allocation-refused : (a b : Result DiscRegion Refusal) → b ≡ a → b ≡ Err c → Read (allocationReply before a) (reply r before) w w'
     unfolding allocationReply
     allocation-refused a b e h = record { answered = rw (← e, h, number); words = zeroed }
 
@@ -89,10 +79,10 @@ module _ (before w w' : List ℕ) (zeroed : w' ≡ zeros w) where
     unfolding programReply
     program-refused a b e h = record { answered = rw (← e, h, number); words = zeroed }
 
-    pub text-refused : (a b : Listed) → b ≡ a → b ≡ listed.Refused c → Read (listedReply before a) (reply r before) w w'
+    pub text-refused : (a b : Result ℕ Refusal) → b ≡ a → b ≡ Err c → Read (listedReply before a) (reply r before) w w'
     unfolding listedReply
     text-refused a b e h = record { answered = rw (← e, h, number); words = zeroed }
 
-    pub window-refused : (a b : WindowAnswer) → b ≡ a → b ≡ window.Refused c → Read (windowReply before a) (reply r before) w w'
+    pub window-refused : (a b : Result Window Refusal) → b ≡ a → b ≡ Err c → Read (windowReply before a) (reply r before) w w'
     unfolding windowReply
     window-refused a b e h = record { answered = rw (← e, h, number); words = zeroed }

@@ -1,40 +1,25 @@
 -- What the calls give back in C: for each answer of the crates below its number (document 01: "Causes and their numbers"; 0 where the call
 -- is accepted), and the slots that the caller lends, as many as the answer has words. With a refusal they are "left as it was".
 -- Assumes nothing: these are definitions.
+use Rattle.std.specs.Prelude.{Result, Ok, Err}
+use Rattle.refusal.specs.Refusal.{Verdict}
+use Rattle.answers.specs.declared.Disc.{Disc}
+use Rattle.space.specs.declared.DiscRegion.{DiscRegion}
+use Rattle.disc.specs.declared.DiscTotals.{DiscTotals}
 use Rattle.std.specs.Prelude.{ℕ, ◌≡◌, List, [], ◌∷◌, ◌++◌, get_or}
 use Rattle.refusal.specs.declared.Refusal.{Refusal}
-use Rattle.refusal.specs.declared.Verdict.{Verdict}
-use Rattle.refusal.specs.declared.Verdict.TheVariants as verdict
 use Rattle.refusal.specs.Refusal.{number_of}
 use Rattle.tree.specs.declared.Entry.{Entry}
 use Rattle.tree.specs.declared.Entry.TheVariants.{File, Directory}
 use Rattle.tree.specs.declared.Found.{Found}
 use Rattle.tree.specs.declared.Found.TheVariants as found
-use Rattle.tree.specs.declared.Located.{Located}
-use Rattle.tree.specs.declared.Located.TheVariants as located
-use Rattle.free_space.specs.declared.Allocation.{Allocation}
-use Rattle.free_space.specs.declared.Allocation.TheVariants as allocation
-use Rattle.free_space.specs.declared.Listing.{Listing}
-use Rattle.free_space.specs.declared.Listing.TheVariants as listing
 use Rattle.dol.specs.declared.DolHeader.{DolHeader}
 use Rattle.files.specs.declared.DolFile.{DolFile}
-use Rattle.answers.specs.declared.Opened.{Opened}
-use Rattle.answers.specs.declared.Opened.TheVariants as opened
-use Rattle.disc.specs.declared.TotalsAnswer.{TotalsAnswer}
-use Rattle.disc.specs.declared.TotalsAnswer.TheVariants as totaled
 use Rattle.disc.specs.declared.RecordMade.{RecordMade}
 use Rattle.totals.specs.declared.Totals.{Totals}
 use Rattle.program.specs.declared.Program.{Program}
 use Rattle.program.specs.declared.Program.TheVariants as program
-use Rattle.answers.specs.declared.SizeAnswer.{SizeAnswer}
-use Rattle.answers.specs.declared.SizeAnswer.TheVariants as size
-use Rattle.files.specs.declared.WindowAnswer.{WindowAnswer}
-use Rattle.files.specs.declared.WindowAnswer.TheVariants as windowed
-use Rattle.listing.specs.declared.Listed.{Listed}
-use Rattle.listing.specs.declared.Listed.TheVariants as listed
 use Rattle.window.specs.declared.Window.{Window}
-use Rattle.window.specs.declared.Sought.{Sought}
-use Rattle.window.specs.declared.Sought.TheVariants as sought
 use Rattle.edits.specs.Edits.{numberedAs}
 use Rattle.opening.specs.Opening.{zeros}
 
@@ -60,13 +45,13 @@ pub record Read (wanted given : Reply) (before after : List ℕ) : Type 0 where
 
 -- ---- the answers, case by case, over the slots as they were
 
-unfoldable pub openedReply : List ℕ → Opened → Reply
-openedReply before (opened.Accepted d) = accepts (d.fst_offset ∷ d.fst_size ∷ d.disc_end ∷ d.entries ∷ d.used ∷ [])
-openedReply before (opened.Refused c) = refuses before c
+unfoldable pub openedReply : List ℕ → Result Disc Refusal → Reply
+openedReply before (Ok d) = accepts (d.fst_offset ∷ d.fst_size ∷ d.disc_end ∷ d.entries ∷ d.used ∷ [])
+openedReply before (Err c) = refuses before c
 
-unfoldable pub totalsReply : List ℕ → TotalsAnswer → Reply
-totalsReply before (totaled.Found t) = accepts (t.disc_end ∷ t.used ∷ [])
-totalsReply before (totaled.Refused c) = refuses before c
+unfoldable pub totalsReply : List ℕ → Result DiscTotals Refusal → Reply
+totalsReply before (Ok t) = accepts (t.disc_end ∷ t.used ∷ [])
+totalsReply before (Err c) = refuses before c
 
 abbrev pub totalsWords : Totals → List ℕ
 totalsWords t = t.used ∷ t.largest ∷ t.edits ∷ []
@@ -86,32 +71,32 @@ unfoldable pub foundReply : List ℕ → Found → Reply
 foundReply before (found.At k e) = accepts (entryWords k e)
 foundReply before (found.Refused c) = refuses before c
 
-unfoldable pub listingReply : List ℕ → Listing → Reply
-listingReply before (listing.Listed n) = accepts (n ∷ [])
-listingReply before (listing.Refused c) = refuses before c
+unfoldable pub listingReply : List ℕ → Result ℕ Refusal → Reply
+listingReply before (Ok n) = accepts (n ∷ [])
+listingReply before (Err c) = refuses before c
 
-unfoldable pub sizeReply : List ℕ → SizeAnswer → Reply
-sizeReply before (size.Bytes n) = accepts (n ∷ [])
-sizeReply before (size.Refused c) = refuses before c
+unfoldable pub sizeReply : List ℕ → Result ℕ Refusal → Reply
+sizeReply before (Ok n) = accepts (n ∷ [])
+sizeReply before (Err c) = refuses before c
 
-unfoldable pub allocationReply : List ℕ → Allocation → Reply
-allocationReply before (allocation.Found r) = accepts (r.offset ∷ r.size ∷ [])
-allocationReply before (allocation.Refused c) = refuses before c
+unfoldable pub allocationReply : List ℕ → Result DiscRegion Refusal → Reply
+allocationReply before (Ok r) = accepts (r.offset ∷ r.size ∷ [])
+allocationReply before (Err c) = refuses before c
 
 -- the length of the text
-unfoldable pub listedReply : List ℕ → Listed → Reply
-listedReply before (listed.Text n) = accepts (n ∷ [])
-listedReply before (listed.Refused c) = refuses before c
+unfoldable pub listedReply : List ℕ → Result ℕ Refusal → Reply
+listedReply before (Ok n) = accepts (n ∷ [])
+listedReply before (Err c) = refuses before c
 
-unfoldable pub locatedReply : List ℕ → Located → Reply
-locatedReply before (located.At k) = accepts (k ∷ [])
-locatedReply before (located.Refused c) = refuses before c
+unfoldable pub locatedReply : List ℕ → Result ℕ Refusal → Reply
+locatedReply before (Ok k) = accepts (k ∷ [])
+locatedReply before (Err c) = refuses before c
 
 -- ---- the edits, for `Edited`: one that gives only that it is done, and one that gives an entry's number
 
 unfoldable pub verdictNumber : Verdict → ℕ
-verdictNumber verdict.Passed = 0
-verdictNumber (verdict.Refused c) = number_of c
+verdictNumber (Ok _) = 0
+verdictNumber (Err c) = number_of c
 
 abbrev pub done : Verdict → ℕ → ℕ
 done v k = verdictNumber v
@@ -127,20 +112,20 @@ windowIn slots = record { start = get_or slots 0 0; len = get_or slots 1 0; posi
 abbrev pub windowWords : Window → List ℕ
 windowWords w = w.start ∷ w.len ∷ w.position ∷ []
 
-unfoldable pub windowReply : List ℕ → WindowAnswer → Reply
-windowReply before (windowed.Opened w) = accepts (windowWords w)
-windowReply before (windowed.Refused c) = refuses before c
+unfoldable pub windowReply : List ℕ → Result Window Refusal → Reply
+windowReply before (Ok w) = accepts (windowWords w)
+windowReply before (Err c) = refuses before c
 
-unfoldable pub soughtReply : List ℕ → Sought → Reply
-soughtReply before (sought.At w) = accepts (windowWords w)
-soughtReply before (sought.Refused c) = refuses before c
+unfoldable pub soughtReply : List ℕ → Result Window Refusal → Reply
+soughtReply before (Ok w) = accepts (windowWords w)
+soughtReply before (Err c) = refuses before c
 
 -- ---- headers
 
 -- slots after a verdict: with these words, or as they were
 unfoldable pub verdictReply : List ℕ → Verdict → List ℕ → Reply
-verdictReply before verdict.Passed ws = accepts ws
-verdictReply before (verdict.Refused c) ws = refuses before c
+verdictReply before (Ok _) ws = accepts ws
+verdictReply before (Err c) ws = refuses before c
 
 abbrev pub recordReply : List ℕ → RecordMade → Reply
 recordReply before a = verdictReply before a.verdict (totalsWords a.totals)

@@ -7,16 +7,15 @@ ghost use Rattle.pipeline.specs.Inner.Decides.{editOf};
 ghost use Rattle.counter.specs.Replies.{reply, verdictNumber, locatedReply, done, numbered};
 
 use pipeline::Edit;
-use refusal::Verdict;
+use refusal::{Refusal, Verdict};
 use totals::Record;
-use tree::Located;
 
 fn number_of(verdict: Verdict) -> u32
     ensures { result ≡ verdictNumber verdict }
 {
     match verdict {
-        Verdict::Passed => 0,
-        Verdict::Refused(cause) => cause.number(),
+        Ok(()) => 0,
+        Err(cause) => cause.number(),
     }
 }
 
@@ -105,15 +104,15 @@ pub extern "C" fn counter_rewrite(
 
 // ---- the edits that add entries, each with the number of the entry that it gives
 
-fn give_located(answer: &mut [u32; 1], located: Located) -> u32
+fn give_located(answer: &mut [u32; 1], located: Result<u32, Refusal>) -> u32
     ensures { reply result answer.new ≡ locatedReply answer.old located }
 {
     match located {
-        Located::At(number) => {
+        Ok(number) => {
             *answer = [number];
             0
         }
-        Located::Refused(cause) => cause.number(),
+        Err(cause) => cause.number(),
     }
 }
 

@@ -7,7 +7,6 @@ ghost use Rattle.counter.specs.Replies.{Read, reply, verdictReply, dolWords, dol
 
 use disc_header::DiscHeader;
 use dol::DolHeader;
-use refusal::Verdict;
 
 // The header is read field by field, and written back: the image's first 0x440 bytes.
 #[unsafe(no_mangle)]
@@ -17,12 +16,12 @@ pub extern "C" fn counter_header(image: &[u8], fields: &mut [u8; 0x440]) -> u32
     let read = DiscHeader::read_from(image);
     let verdict = read.verdict;
     match verdict {
-        Verdict::Passed => {
+        Ok(()) => {
             let header = read.header;
             header.write_to(fields);
             0
         }
-        Verdict::Refused(cause) => cause.number(),
+        Err(cause) => cause.number(),
     }
 }
 
@@ -78,13 +77,13 @@ pub extern "C" fn counter_open_dol(
     let file = files::open_dol(image, words);
     let verdict = file.verdict;
     match verdict {
-        Verdict::Passed => {
+        Ok(()) => {
             let h = file.header;
             give_dol_header(header, h);
             let w = file.window;
             *window = [w.start, w.len, w.position];
             0
         }
-        Verdict::Refused(cause) => cause.number(),
+        Err(cause) => cause.number(),
     }
 }

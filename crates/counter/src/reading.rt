@@ -4,24 +4,23 @@ ghost use Rattle.disc.specs.Calls.{opened_of, totalsAnswer, recordAnswer, progra
 ghost use Rattle.files.specs.Files.{entryAnswer, lookupAnswer, entriesAnswer, entriesList};
 ghost use Rattle.counter.specs.Replies.{Read, reply, openedReply, foundReply, totalsReply, recordReply, programReply};
 
-use answers::Opened;
-use disc::TotalsAnswer;
+use answers::Disc;
 use program::Program;
-use refusal::Verdict;
+use refusal::Refusal;
 use totals::Record;
 use tree::{Entry, Found};
 
 // ---- answers that several calls give
 
-fn give_opened(answer: &mut [u32; 5], opened: Opened) -> u32
+fn give_opened(answer: &mut [u32; 5], opened: Result<Disc, Refusal>) -> u32
     ensures { reply result answer.new ≡ openedReply answer.old opened }
 {
     match opened {
-        Opened::Accepted(d) => {
+        Ok(d) => {
             *answer = [d.fst_offset, d.fst_size, d.disc_end, d.entries, d.used];
             0
         }
-        Opened::Refused(cause) => cause.number(),
+        Err(cause) => cause.number(),
     }
 }
 
@@ -56,11 +55,11 @@ pub extern "C" fn counter_totals(image: &[u8], words: &mut [u32], answer: &mut [
 {
     let totals = disc::totals(image, words);
     match totals {
-        TotalsAnswer::Found(t) => {
+        Ok(t) => {
             *answer = [t.disc_end, t.used];
             0
         }
-        TotalsAnswer::Refused(cause) => cause.number(),
+        Err(cause) => cause.number(),
     }
 }
 
@@ -73,11 +72,11 @@ pub extern "C" fn counter_make_record(image: &[u8], words: &mut [u32], record: &
     let verdict = made.verdict;
     let t = made.totals;
     match verdict {
-        Verdict::Passed => {
+        Ok(()) => {
             *record = [t.used, t.largest, t.edits];
             0
         }
-        Verdict::Refused(cause) => cause.number(),
+        Err(cause) => cause.number(),
     }
 }
 

@@ -1,25 +1,23 @@
 // The calls on an image's free regions.
 ghost use Rattle.std.specs.Prelude.{◌≡◌, ℕ, ◌^◌, ◌<◌, length};
-ghost use Rattle.free_space.specs.declared.Listing.TheVariants.{Listed};
 ghost use Rattle.disc.specs.Calls.{freeRegionsAnswer, freeRegionsList, freeClustersAnswer, freeClustersList, allocateAnswer};
 ghost use Rattle.answers.specs.Answers.{maxRegionSizeAnswer};
 ghost use Rattle.files.specs.Files.{maxFileSizeAnswer};
 ghost use Rattle.counter.specs.Replies.{Read, reply, listingReply, sizeReply, allocationReply};
 
-use answers::SizeAnswer;
-use free_space::{Allocation, Listing};
+use refusal::Refusal;
 
 // How many regions there are; their number fits a slot, since each has a byte below the disc end.
-fn give_listing(answer: &mut [u32; 1], listing: Listing) -> u32
-    requires { (n : ℕ) → listing ≡ Listed n → n < 2 ^ 32 }
+fn give_listing(answer: &mut [u32; 1], listing: Result<usize, Refusal>) -> u32
+    requires { (n : ℕ) → listing ≡ Ok n → n < 2 ^ 32 }
     ensures { reply result answer.new ≡ listingReply answer.old listing }
 {
     match listing {
-        Listing::Listed(n) => {
+        Ok(n) => {
             *answer = [n as u32];
             0
         }
-        Listing::Refused(cause) => cause.number(),
+        Err(cause) => cause.number(),
     }
 }
 
@@ -49,15 +47,15 @@ pub extern "C" fn counter_free_clusters(
     give_listing(answer, listing)
 }
 
-fn give_size(answer: &mut [u32; 1], size: SizeAnswer) -> u32
+fn give_size(answer: &mut [u32; 1], size: Result<u32, Refusal>) -> u32
     ensures { reply result answer.new ≡ sizeReply answer.old size }
 {
     match size {
-        SizeAnswer::Bytes(n) => {
+        Ok(n) => {
             *answer = [n];
             0
         }
-        SizeAnswer::Refused(cause) => cause.number(),
+        Err(cause) => cause.number(),
     }
 }
 
@@ -100,10 +98,10 @@ pub extern "C" fn counter_allocate(
 {
     let allocation = disc::allocate(image, words, size, align);
     match allocation {
-        Allocation::Found(region) => {
+        Ok(region) => {
             *answer = [region.offset, region.size];
             0
         }
-        Allocation::Refused(cause) => cause.number(),
+        Err(cause) => cause.number(),
     }
 }

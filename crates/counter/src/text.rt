@@ -3,8 +3,6 @@ ghost use Rattle.std.specs.Prelude.{◌≡◌, [], ◌∷◌, length};
 ghost use Rattle.listing.specs.Listing.{listAnswer, listBuffer, reportAnswer, reportBuffer};
 ghost use Rattle.counter.specs.Replies.{Read, reply, accepts, listedReply};
 
-use listing::Listed;
-
 #[unsafe(no_mangle)]
 pub extern "C" fn counter_list(
     image: &[u8],
@@ -16,11 +14,11 @@ pub extern "C" fn counter_list(
 {
     let listed = listing::list(image, words, text);
     match listed {
-        Listed::Text(n) => {
+        Ok(n) => {
             *answer = [n as u64];
             0
         }
-        Listed::Refused(cause) => cause.number(),
+        Err(cause) => cause.number(),
     }
 }
 

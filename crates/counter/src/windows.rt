@@ -5,8 +5,7 @@ ghost use Rattle.window.specs.declared.SeekFrom.TheVariants.{Start, Current, End
 ghost use Rattle.files.specs.Files.{openFileAnswer};
 ghost use Rattle.counter.specs.Replies.{Read, reply, windowIn, windowWords, windowReply, soughtReply};
 
-use files::WindowAnswer;
-use window::{SeekFrom, Sought, Window};
+use window::{SeekFrom, Window};
 
 fn window_in(slots: &[u64; 3]) -> Window
     ensures { result ≡ windowIn slots.now }
@@ -29,11 +28,11 @@ pub extern "C" fn counter_open_file(
 {
     let opened = files::open_file(image, words, number);
     match opened {
-        WindowAnswer::Opened(w) => {
+        Ok(w) => {
             *window = [w.start, w.len, w.position];
             0
         }
-        WindowAnswer::Refused(cause) => cause.number(),
+        Err(cause) => cause.number(),
     }
 }
 
@@ -43,11 +42,11 @@ fn seek(window: &mut [u64; 3], to: SeekFrom) -> u32
     let before = window_in(window);
     let sought = before.seek(to);
     match sought {
-        Sought::At(w) => {
+        Ok(w) => {
             *window = [w.start, w.len, w.position];
             0
         }
-        Sought::Refused(cause) => cause.number(),
+        Err(cause) => cause.number(),
     }
 }
 

@@ -1,4 +1,6 @@
 -- A file of an open image: found by its number, given another place, and what that place asks. Assumes nothing.
+use Rattle.std.specs.Prelude.{Result, Ok, Err}
+use Rattle.refusal.specs.Refusal.{Verdict}
 use Prim.Native.Nat.{ℕ, ◌+◌, ◌-◌, ◌*◌, ◌≤◌, ◌<◌, min}
 use mathlib.Core.Path.{◌≡◌, refl, sym, ap, ◌∙◌}
 use mathlib.Core.Bool.{Bool, true, false, cond}
@@ -10,15 +12,12 @@ use lib.ListN.{length, get_or}
 use Rattle.endian.specs.Bytes.{put, be32Bytes}
 use Rattle.refusal.specs.declared.Refusal.{Refusal}
 use Rattle.refusal.specs.declared.Refusal.TheVariants.{NoSuchEntry, ExpectedFile}
-use Rattle.refusal.specs.declared.Verdict.{Verdict}
-use Rattle.refusal.specs.declared.Verdict.TheVariants.{Passed, Refused}
 use Rattle.refusal.specs.Refusal.{refuse, first}
 use Rattle.refusal.specs.Laws.Chains.{refuse-passed}
 use Rattle.tree.specs.Table.{Node, file, directory, none, parent_of, encode}
 use Rattle.tree.specs.Lookup.{isDirectory, entryWith, entry_of, entryFound, found_at}
 use Rattle.tree.specs.declared.Entry.{Entry}
 use Rattle.tree.specs.declared.Found.TheVariants as found
-use Rattle.tree.specs.declared.Located.TheVariants as located
 use Rattle.tree.specs.Insert.{setPlace}
 use Rattle.tree.specs.Laws.PatchLaws.{place-patched}
 use Rattle.tree.specs.Laws.WrittenEntries.{length-encode}
@@ -27,8 +26,6 @@ use Rattle.opening.specs.Opening.{nodesIn, regionOf, freeOf}
 use Rattle.opening.specs.Inner.Prepared.{OpenImage}
 use Rattle.commit.specs.declared.Decision.{Decision}
 use Rattle.commit.specs.declared.Decision.TheVariants as decision
-use Rattle.decide.specs.declared.FileAt.{FileAt}
-use Rattle.decide.specs.declared.FileAt.TheVariants as place
 use Rattle.edits.specs.Change.{change}
 use Rattle.edits.specs.Edits.{fileVerdict, relocateVerdict, relocated, planned, planMove, planResize, planSized}
 use Rattle.decide.specs.Inner.Files.{IsFile, fileOf, fileAs}
@@ -39,7 +36,7 @@ use Rattle.commit.proofs.Images.{file-lies, new-place}
 
 -- ---- found by its number
 
-file-case : (parent : ℕ) (x : Node) → fileOf (entryWith parent x) ≡ fileAs (refuse (isDirectory x) ExpectedFile Passed) (regionOf x)
+file-case : (parent : ℕ) (x : Node) → fileOf (entryWith parent x) ≡ fileAs (refuse (isDirectory x) ExpectedFile (Ok tt)) (regionOf x)
 file-case parent (file nm a b) = refl
 file-case parent (directory nm n) = refl
 
@@ -47,45 +44,45 @@ module _ (nodes : List Node) (k : ℕ) where
   abbrev node : Node
   node = get_or nodes k none
 
-  pub entry-refused : (c : Refusal) → entryFound nodes k ≡ found.Refused c → place.Refused c ≡ fileAs (fileVerdict nodes k) (regionOf node)
+  pub entry-refused : (c : Refusal) → entryFound nodes k ≡ found.Refused c → Err c ≡ fileAs (fileVerdict nodes k) (regionOf node)
   entry-refused c e = go (ltb k (length nodes)) refl e
     where
-      go : (t : Bool) → ltb k (length nodes) ≡ t → found_at nodes (cond t (located.At k) (located.Refused NoSuchEntry)) ≡ found.Refused c → place.Refused c ≡ fileAs (fileVerdict nodes k) (regionOf node)
+      go : (t : Bool) → ltb k (length nodes) ≡ t → found_at nodes (cond t (Ok k) (Err NoSuchEntry)) ≡ found.Refused c → Err c ≡ fileAs (fileVerdict nodes k) (regionOf node)
       go true a q = let z : ◌≡◌ {A = ℕ} 0 1 = cc in absurd (omega arith)
       go false a q =
           let r : c ≡ NoSuchEntry = cc in
           rw (le-leb (length nodes) k (ltb-false k (length nodes) a), r)
 
-  pub entry-file : (j : ℕ) (x : Entry) (r : FileAt) → entryFound nodes k ≡ found.At j x → r ≡ fileOf x → r ≡ fileAs (fileVerdict nodes k) (regionOf node)
+  pub entry-file : (j : ℕ) (x : Entry) (r : Result DiscRegion Refusal) → entryFound nodes k ≡ found.At j x → r ≡ fileOf x → r ≡ fileAs (fileVerdict nodes k) (regionOf node)
   entry-file j x r e f = go (ltb k (length nodes)) refl e
     where
-      go : (t : Bool) → ltb k (length nodes) ≡ t → found_at nodes (cond t (located.At k) (located.Refused NoSuchEntry)) ≡ found.At j x → r ≡ fileAs (fileVerdict nodes k) (regionOf node)
+      go : (t : Bool) → ltb k (length nodes) ≡ t → found_at nodes (cond t (Ok k) (Err NoSuchEntry)) ≡ found.At j x → r ≡ fileAs (fileVerdict nodes k) (regionOf node)
       go true a q =
           let y : x ≡ entry_of nodes k = cc in
           rw (lt-leb (length nodes) k (ltb-true k (length nodes) a)) (f ∙ ap fileOf y ∙ file-case (parent_of nodes k) node)
       go false a q = let z : ◌≡◌ {A = ℕ} 0 1 = cc in absurd (omega arith)
 
-  as_place : (v : Verdict) (s old : DiscRegion) → fileAs v s ≡ place.Place old → (v ≡ Passed) × (s ≡ old)
-  as_place Passed s old e = (refl, cc)
-  as_place (Refused c) s old e = let z : ◌≡◌ {A = ℕ} 0 1 = cc in absurd (omega arith)
+  as_place : (v : Verdict) (s old : DiscRegion) → fileAs v s ≡ Ok old → (v ≡ Ok tt) × (s ≡ old)
+  as_place (Ok _) s old e = (refl, cc)
+  as_place (Err c) s old e = let z : ◌≡◌ {A = ℕ} 0 1 = cc in absurd (omega arith)
 
-  as-refused : (v : Verdict) (s : DiscRegion) (c : Refusal) → fileAs v s ≡ place.Refused c → v ≡ Refused c
-  as-refused Passed s c e = let z : ◌≡◌ {A = ℕ} 0 1 = cc in absurd (omega arith)
-  as-refused (Refused d) s c e = cc
+  as-refused : (v : Verdict) (s : DiscRegion) (c : Refusal) → fileAs v s ≡ Err c → v ≡ Err c
+  as-refused (Ok _) s c e = let z : ◌≡◌ {A = ℕ} 0 1 = cc in absurd (omega arith)
+  as-refused (Err d) s c e = cc
 
   pub record FoundFile (old : DiscRegion) : Type 0 where
-    pub passed : fileVerdict nodes k ≡ Passed
+    pub passed : fileVerdict nodes k ≡ Ok tt
     pub place : regionOf node ≡ old
     pub is : IsFile nodes k
 
-  pub file-found : (r : FileAt) (old : DiscRegion) → r ≡ fileAs (fileVerdict nodes k) (regionOf node) → r ≡ place.Place old → FoundFile old
+  pub file-found : (r : Result DiscRegion Refusal) (old : DiscRegion) → r ≡ fileAs (fileVerdict nodes k) (regionOf node) → r ≡ Ok old → FoundFile old
   file-found r old e f =
       let p = as_place (fileVerdict nodes k) (regionOf node) old (sym e ∙ f) in
       let a = refuse-passed (leb (length nodes) k) NoSuchEntry _ p.0 in
       let b = refuse-passed (isDirectory node) ExpectedFile _ a.1 in
       record { passed = p.0; place = p.1; is = record { inside = leb-false (length nodes) k a.0; kind = b.0 } }
 
-  pub file-refused : (r : FileAt) (c : Refusal) → r ≡ fileAs (fileVerdict nodes k) (regionOf node) → r ≡ place.Refused c → fileVerdict nodes k ≡ Refused c
+  pub file-refused : (r : Result DiscRegion Refusal) (c : Refusal) → r ≡ fileAs (fileVerdict nodes k) (regionOf node) → r ≡ Err c → fileVerdict nodes k ≡ Err c
   file-refused r c e f = as-refused (fileVerdict nodes k) (regionOf node) c (sym e ∙ f)
 
 -- ---- the table with another place for it
@@ -108,7 +105,7 @@ module _ (image : List ℕ) (words : ℕ) (known : OpenImage image words) (k : �
   ends : 0 < old.size → old.offset + old.size ≤ length image
   ends z = rw here at (file-lies image words known k (rw here z)).1
 
-  pub relocate-inside : (new : DiscRegion) (kept : ℕ) → relocateVerdict (freeOf image) old new ≡ Passed → kept ≡ min old.size new.size →
+  pub relocate-inside : (new : DiscRegion) (kept : ℕ) → relocateVerdict (freeOf image) old new ≡ Ok tt → kept ≡ min old.size new.size →
       InImage (length image) (record { old = old; place = new; kept = kept; lost = old.offset; lost_size = old.size })
   relocate-inside new kept p e = record {
     copied = record {
@@ -128,7 +125,7 @@ module _ (image : List ℕ) (words : ℕ) (known : OpenImage image words) (k : �
 -- ---- the decisions
 
 module _ (image : List ℕ) (words room : ℕ) (bytes : List ℕ) (free : List DiscRegion) (nodes : List Node) (k : ℕ) where
-  pub move-decided : (to : ℕ) (old : DiscRegion) (d : Decision) → fileVerdict nodes k ≡ Passed → regionOf (get_or nodes k none) ≡ old →
+  pub move-decided : (to : ℕ) (old : DiscRegion) (d : Decision) → fileVerdict nodes k ≡ Ok tt → regionOf (get_or nodes k none) ≡ old →
       Decided (planned (relocateVerdict free old (record { offset = to; size = old.size })) (change k (relocated nodes k old (record { offset = to; size = old.size })))) image words room bytes d →
       Decided (planMove free nodes k to) image words room bytes d
   unfolding planMove
@@ -138,14 +135,14 @@ module _ (image : List ℕ) (words room : ℕ) (bytes : List ℕ) (free : List D
       rw (planned-first (fileVerdict nodes k) (relocateVerdict free r (record { offset = to; size = r.size })) (change k (relocated nodes k r (record { offset = to; size = r.size }))))
       (behind-passed image words room bytes (fileVerdict nodes k) (planned (relocateVerdict free r (record { offset = to; size = r.size })) (change k (relocated nodes k r (record { offset = to; size = r.size })))) d p h')
 
-  pub move-refused : (to : ℕ) (c : Refusal) → fileVerdict nodes k ≡ Refused c → Decided (planMove free nodes k to) image words room bytes (decision.Refused c)
+  pub move-refused : (to : ℕ) (c : Refusal) → fileVerdict nodes k ≡ Err c → Decided (planMove free nodes k to) image words room bytes (decision.Refused c)
   unfolding planMove
   move-refused to c e =
       let r : DiscRegion = regionOf (get_or nodes k none) in
       behind-refused image words room bytes (first (fileVerdict nodes k) (relocateVerdict free r (record { offset = to; size = r.size }))) (change k (relocated nodes k r (record { offset = to; size = r.size }))) c
       (ap (λ (v : Verdict). first v (relocateVerdict free r (record { offset = to; size = r.size }))) e)
 
-  pub resize-decided : (n : ℕ) (old : DiscRegion) (d : Decision) → fileVerdict nodes k ≡ Passed → regionOf (get_or nodes k none) ≡ old →
+  pub resize-decided : (n : ℕ) (old : DiscRegion) (d : Decision) → fileVerdict nodes k ≡ Ok tt → regionOf (get_or nodes k none) ≡ old →
       Decided (planSized free nodes k old n) image words room bytes d → Decided (planResize free nodes k n) image words room bytes d
   unfolding planResize
   resize-decided n old d p e h =
@@ -153,7 +150,7 @@ module _ (image : List ℕ) (words room : ℕ) (bytes : List ℕ) (free : List D
       let h' : Decided (planSized free nodes k r n) image words room bytes d = rw (← e) at h in
       behind-passed image words room bytes (fileVerdict nodes k) (planSized free nodes k r n) d p h'
 
-  pub resize-refused : (n : ℕ) (c : Refusal) → fileVerdict nodes k ≡ Refused c → Decided (planResize free nodes k n) image words room bytes (decision.Refused c)
+  pub resize-refused : (n : ℕ) (c : Refusal) → fileVerdict nodes k ≡ Err c → Decided (planResize free nodes k n) image words room bytes (decision.Refused c)
   unfolding planResize
   resize-refused n c e = behind-refused image words room bytes (fileVerdict nodes k) (planSized free nodes k (regionOf (get_or nodes k none)) n) c e
 

@@ -1,5 +1,7 @@
 -- What each function that decides found, as the decision that its plan comes to.
 -- Assumes nothing.
+use Rattle.std.specs.Prelude.{Result, Ok, Err}
+use Rattle.refusal.specs.Refusal.{Verdict}
 use Prim.Native.Nat.{ℕ, ◌+◌, ◌-◌, ◌*◌, ◌≤◌, ◌^◌, min}
 use mathlib.Core.Path.{◌≡◌, sym, ap, ◌∙◌}
 use mathlib.Core.List.{List, ◌++◌}
@@ -7,8 +9,6 @@ use native.Mathlib.Omega.{arith}
 use lib.ListN.{length, get_or}
 use Rattle.endian.specs.Bytes.{put, be32Bytes}
 use Rattle.refusal.specs.declared.Refusal.{Refusal}
-use Rattle.refusal.specs.declared.Verdict.{Verdict}
-use Rattle.refusal.specs.declared.Verdict.TheVariants.{Passed, Refused}
 use Rattle.header.specs.Verdicts.{discEnd}
 use Rattle.tree.specs.Table.{none, encode}
 use Rattle.tree.specs.Insert.{setPlace}
@@ -24,37 +24,33 @@ use Rattle.edits.specs.Edits.{noPlace, tableOnly, planned, fileVerdict, relocate
 use Rattle.commit.specs.declared.Writing.{Writing}
 use Rattle.commit.specs.declared.Decision.{Decision}
 use Rattle.commit.specs.declared.Decision.TheVariants as decision
-use Rattle.fst_measure.specs.declared.TableSize.{TableSize}
-use Rattle.fst_measure.specs.declared.TableSize.TheVariants as table
 use Rattle.commit.specs.Inner.Decision.{InImage, Decided, placing, changeWith, sizedAs}
 use Rattle.commit.proofs.Puts.{span-start}
 use Rattle.commit.proofs.Decisions.{sized-refused, refused-decided, write-decided, same_tests, length-encode-setPlace}
 use Rattle.commit.proofs.Images.{new-table}
-use Rattle.decide.specs.declared.FileAt.{FileAt}
-use Rattle.decide.specs.declared.FileAt.TheVariants as place
 use Rattle.decide.specs.Inner.Files.{IsFile, fileAs}
 use Rattle.decide.proofs.Files.{file-found, file-refused, placed-table, relocate-inside, resize-inside, move-decided, move-refused, resize-decided, resize-refused}
 
 -- ---- the table, judged and written
 
-module _ (image w : List ℕ) (room : ℕ) (to : DiscRegion) (r : TableSize)
+module _ (image w : List ℕ) (room : ℕ) (to : DiscRegion) (r : Result ℕ Refusal)
     (judged : r ≡ sizedAs (tableVerdict (placing (nodesIn image) to) image (length w) room) (length (encode (nodesIn image)))) where
-  past : (c : Refusal) → r ≡ table.Refused c → tableVerdict (placing (nodesIn image) to) image (length w) room ≡ Refused c
+  past : (c : Refusal) → r ≡ Err c → tableVerdict (placing (nodesIn image) to) image (length w) room ≡ Err c
   past c e = sized-refused (tableVerdict (placing (nodesIn image) to) image (length w) room) (length (encode (nodesIn image))) c (sym judged ∙ e)
 
-  pub table-held : (size : ℕ) → OpenImage image (length w) → r ≡ table.Bytes size → length (encode (nodesIn image)) ≤ room
+  pub table-held : (size : ℕ) → OpenImage image (length w) → r ≡ Ok size → length (encode (nodesIn image)) ≤ room
   table-held size known e = (new-table (nodesIn image) to image (length w) room size r known judged e).held
 
-  pub table-small : (size : ℕ) → OpenImage image (length w) → r ≡ table.Bytes size → length (encode (nodesIn image)) ≤ 2 ^ 24
+  pub table-small : (size : ℕ) → OpenImage image (length w) → r ≡ Ok size → length (encode (nodesIn image)) ≤ 2 ^ 24
   table-small size known e = (new-table (nodesIn image) to image (length w) room size r known judged e).small
 
-  pub place-held : (k size : ℕ) (l : List ℕ) → IsFile (nodesIn image) k → OpenImage image (length w) → r ≡ table.Bytes size → length l ≡ room → 12 * k + 12 ≤ length l
+  pub place-held : (k size : ℕ) (l : List ℕ) → IsFile (nodesIn image) k → OpenImage image (length w) → r ≡ Ok size → length l ≡ room → 12 * k + 12 ≤ length l
   place-held k size l f known e q =
       let n = new-table (nodesIn image) to image (length w) room size r known judged e in
       omega (arith, n.held, length-encode (nodesIn image), f.inside)
 
-module _ (image w bytes : List ℕ) (r : TableSize) where
-  pub rewrite-decided : (size : ℕ) (after : List ℕ) → r ≡ sizedAs (tableVerdict (placing (nodesIn image) noPlace) image (length w) (length bytes)) (length (encode (nodesIn image))) → r ≡ table.Bytes size →
+module _ (image w bytes : List ℕ) (r : Result ℕ Refusal) where
+  pub rewrite-decided : (size : ℕ) (after : List ℕ) → r ≡ sizedAs (tableVerdict (placing (nodesIn image) noPlace) image (length w) (length bytes)) (length (encode (nodesIn image))) → r ≡ Ok size →
       OpenImage image (length w) → after ≡ put bytes 0 (encode (nodesIn image)) →
       Decided (change 0 (tableOnly (nodesIn image))) image (length w) (length bytes) after (decision.Write 0 size (record { old = noPlace; place = noPlace; kept = 0; lost = 0; lost_size = 0 }))
   rewrite-decided size after q e known h =
@@ -64,13 +60,13 @@ module _ (image w bytes : List ℕ) (r : TableSize) where
       (span-start bytes (encode (nodesIn image)) after size h n.held n.length-is)
 
   module _ (k : ℕ) (x : Writing) (judged : r ≡ sizedAs (tableVerdict (placing (nodesIn image) x.place) image (length w) (length bytes)) (length (encode (nodesIn image)))) where
-    pub place-refused : (c : Refusal) (after : List ℕ) → r ≡ table.Refused c →
+    pub place-refused : (c : Refusal) (after : List ℕ) → r ≡ Err c →
         Decided (change k (changeWith (setPlace k x.place.offset x.place.size (nodesIn image)) x)) image (length w) (length bytes) after (decision.Refused c)
     place-refused c after e =
         refused-decided image (length w) (length bytes) after (change k (changeWith (setPlace k x.place.offset x.place.size (nodesIn image)) x)) c
         (same_tests image (length w) (length bytes) k x.place.offset x.place.size (nodesIn image) x ∙ past image w (length bytes) x.place r judged c e)
 
-    pub place-decided : (size : ℕ) (l after : List ℕ) → r ≡ table.Bytes size → OpenImage image (length w) → IsFile (nodesIn image) k → InImage (length image) x → l ≡ put bytes 0 (encode (nodesIn image)) →
+    pub place-decided : (size : ℕ) (l after : List ℕ) → r ≡ Ok size → OpenImage image (length w) → IsFile (nodesIn image) k → InImage (length image) x → l ≡ put bytes 0 (encode (nodesIn image)) →
         after ≡ put l (12 * k + 4) (be32Bytes x.place.offset ++ be32Bytes x.place.size) →
         Decided (change k (changeWith (setPlace k x.place.offset x.place.size (nodesIn image)) x)) image (length w) (length bytes) after (decision.Write k size x)
     place-decided size l after e known f inside h g =
@@ -91,9 +87,9 @@ module _ (image w : List ℕ) (m e : ℕ) (o : IsOpen image w m) (end : e ≡ di
     verdict-is : (u : Verdict) → v ≡ u → relocateVerdict (freeOf image) old new ≡ u
     verdict-is u q = sym (judged ∙ ap (λ (l : List DiscRegion). relocateVerdict l old new) free-is) ∙ q
 
-    pub relocated-in-image : (k kept : ℕ) → v ≡ Passed → regionOf (get_or (nodesIn image) k none) ≡ old → kept ≡ min old.size new.size →
+    pub relocated-in-image : (k kept : ℕ) → v ≡ Ok tt → regionOf (get_or (nodesIn image) k none) ≡ old → kept ≡ min old.size new.size →
         InImage (length image) (record { old = old; place = new; kept = kept; lost = old.offset; lost_size = old.size })
-    relocated-in-image k kept q here g = relocate-inside image (length w) o.known k old here new kept (verdict-is Passed q) g
+    relocated-in-image k kept q here g = relocate-inside image (length w) o.known k old here new kept (verdict-is (Ok tt) q) g
 
 module _ (image w : List ℕ) (k n least : ℕ) (old : DiscRegion) (smaller : least ≡ min old.size n) where
   lost-is : old.size - least ≡ old.size - n
@@ -110,25 +106,25 @@ module _ (image w : List ℕ) (k n least : ℕ) (old : DiscRegion) (smaller : le
 
 -- ---- a file found by its number
 
-module _ (image : List ℕ) (k : ℕ) (r : FileAt) (read : r ≡ fileAs (fileVerdict (nodesIn image) k) (regionOf (get_or (nodesIn image) k none))) where
-  pub found-file : (old : DiscRegion) → r ≡ place.Place old → IsFile (nodesIn image) k
+module _ (image : List ℕ) (k : ℕ) (r : Result DiscRegion Refusal) (read : r ≡ fileAs (fileVerdict (nodesIn image) k) (regionOf (get_or (nodesIn image) k none))) where
+  pub found-file : (old : DiscRegion) → r ≡ Ok old → IsFile (nodesIn image) k
   found-file old e = (file-found (nodesIn image) k r old read e).is
 
-  pub found-place : (old : DiscRegion) → r ≡ place.Place old → regionOf (get_or (nodesIn image) k none) ≡ old
+  pub found-place : (old : DiscRegion) → r ≡ Ok old → regionOf (get_or (nodesIn image) k none) ≡ old
   found-place old e = (file-found (nodesIn image) k r old read e).place
 
   module _ (w : List ℕ) (room : ℕ) (bytes : List ℕ) where
-    pub no-file-to-move : (to : ℕ) (c : Refusal) → r ≡ place.Refused c → Decided (planMove (freeOf image) (nodesIn image) k to) image (length w) room bytes (decision.Refused c)
+    pub no-file-to-move : (to : ℕ) (c : Refusal) → r ≡ Err c → Decided (planMove (freeOf image) (nodesIn image) k to) image (length w) room bytes (decision.Refused c)
     no-file-to-move to c e = move-refused image (length w) room bytes (freeOf image) (nodesIn image) k to c (file-refused (nodesIn image) k r c read e)
 
-    pub file-moved : (to : ℕ) (old : DiscRegion) (d : Decision) → r ≡ place.Place old →
+    pub file-moved : (to : ℕ) (old : DiscRegion) (d : Decision) → r ≡ Ok old →
         Decided (planned (relocateVerdict (freeOf image) old (record { offset = to; size = old.size })) (change k (relocated (nodesIn image) k old (record { offset = to; size = old.size })))) image (length w) room bytes d →
         Decided (planMove (freeOf image) (nodesIn image) k to) image (length w) room bytes d
     file-moved to old d e h = let f = file-found (nodesIn image) k r old read e in move-decided image (length w) room bytes (freeOf image) (nodesIn image) k to old d f.passed f.place h
 
-    pub no-file-to-resize : (n : ℕ) (c : Refusal) → r ≡ place.Refused c → Decided (planResize (freeOf image) (nodesIn image) k n) image (length w) room bytes (decision.Refused c)
+    pub no-file-to-resize : (n : ℕ) (c : Refusal) → r ≡ Err c → Decided (planResize (freeOf image) (nodesIn image) k n) image (length w) room bytes (decision.Refused c)
     no-file-to-resize n c e = resize-refused image (length w) room bytes (freeOf image) (nodesIn image) k n c (file-refused (nodesIn image) k r c read e)
 
-    pub file-resized : (n : ℕ) (old : DiscRegion) (d : Decision) → r ≡ place.Place old → Decided (planSized (freeOf image) (nodesIn image) k old n) image (length w) room bytes d →
+    pub file-resized : (n : ℕ) (old : DiscRegion) (d : Decision) → r ≡ Ok old → Decided (planSized (freeOf image) (nodesIn image) k old n) image (length w) room bytes d →
         Decided (planResize (freeOf image) (nodesIn image) k n) image (length w) room bytes d
     file-resized n old d e h = let f = file-found (nodesIn image) k r old read e in resize-decided image (length w) room bytes (freeOf image) (nodesIn image) k n old d f.passed f.place h

@@ -4,12 +4,4 @@
 mod opened;
 
 pub use opened::{file_at, move_file, resize, resize_file, rewrite};
-use refusal::Refusal;
 use space::DiscRegion;
-
-// A file's place, or why there is none.
-#[derive(Clone, Copy)]
-pub enum FileAt {
-    Place(DiscRegion),
-    Refused(Refusal),
-}

@@ -15,10 +15,7 @@ ghost use Rattle.opening.specs.Inner.Prepared.{OpensImage, IsOpen};
 ghost use Rattle.decide.specs.Inner.Files.{IsFile, fileOf, fileAs};
 ghost use Rattle.commit.specs.Inner.Decision.{InImage, Decided, changeWith};
 
-use crate::FileAt;
 use commit::{Decision, Writing};
-use free_space::Allocation;
-use fst_measure::TableSize;
 use refusal::{Refusal, Verdict};
 use space::DiscRegion;
 use tree::{Entry, Found};
@@ -31,8 +28,8 @@ pub fn rewrite(image: &[u8], words: &[u32], m: usize, bytes: &mut [u8]) -> Decis
     let place = DiscRegion { offset: 0, size: 0 };
     let found = commit::check_table(image, words, m, bytes.len(), place);
     match found {
-        TableSize::Refused(cause) => Decision::Refused(cause),
-        TableSize::Bytes(size) => {
+        Err(cause) => Decision::Refused(cause),
+        Ok(size) => {
             commit::write_table(image, bytes);
             let w = Writing {
                 old: place,
@@ -61,8 +58,8 @@ fn set_place(
     let place = w.place;
     let found = commit::check_table(image, words, m, bytes.len(), place);
     match found {
-        TableSize::Refused(cause) => Decision::Refused(cause),
-        TableSize::Bytes(size) => {
+        Err(cause) => Decision::Refused(cause),
+        Ok(size) => {
             commit::write_table(image, bytes);
             fst_patch::set_place(bytes, number as usize, place.offset, place.size);
             Decision::Write(number, size, w)
@@ -70,26 +67,26 @@ fn set_place(
     }
 }
 
-fn file_of(entry: Entry) -> FileAt
+fn file_of(entry: Entry) -> Result<DiscRegion, Refusal>
     ensures { result ≡ fileOf entry }
 {
     match entry {
-        Entry::File(file) => FileAt::Place(DiscRegion {
+        Entry::File(file) => Ok(DiscRegion {
             offset: file.offset,
             size: file.size,
         }),
-        Entry::Directory(_) => FileAt::Refused(Refusal::ExpectedFile),
+        Entry::Directory(_) => Err(Refusal::ExpectedFile),
     }
 }
 
 // The place of a file: 15, then 16.
-pub fn file_at(image: &[u8], number: u32) -> FileAt
+pub fn file_at(image: &[u8], number: u32) -> Result<DiscRegion, Refusal>
     requires { OpensImage image.now }
     ensures { result ≡ fileAs (fileVerdict (nodesIn image.now) number) (regionOf (get_or (nodesIn image.now) number none)) }
 {
     let found = fst::entry(opening::table(image), number);
     match found {
-        Found::Refused(cause) => FileAt::Refused(cause),
+        Found::Refused(cause) => Err(cause),
         Found::At(_, entry) => file_of(entry),
     }
 }
@@ -122,13 +119,13 @@ fn check_relocate(
     ensures { result ≡ relocateVerdict (freeRegions disc_end (regionsIn words.now 0 m)) old new }
 {
     if overlaps_itself(old, new) {
-        return Verdict::Refused(Refusal::OverlappingMove);
+        return Err(Refusal::OverlappingMove);
     }
     let most = free_space::max_region_size(words, m, disc_end, new.offset, 0);
     if most < new.size {
-        return Verdict::Refused(Refusal::NotEnoughSpace);
+        return Err(Refusal::NotEnoughSpace);
     }
-    Verdict::Passed
+    Ok(())
 }
 
 fn least(a: u32, b: u32) -> u32
@@ -152,7 +149,7 @@ fn relocate(
 {
     let disc_end = opening::disc_end(image);
     let verdict = check_relocate(words, m, disc_end, old, new);
-    if let Verdict::Refused(cause) = verdict {
+    if let Err(cause) = verdict {
         return Decision::Refused(cause);
     }
     let w = Writing {
@@ -178,8 +175,8 @@ pub fn move_file(
 {
     let found = file_at(image, number);
     match found {
-        FileAt::Refused(cause) => Decision::Refused(cause),
-        FileAt::Place(old) => {
+        Err(cause) => Decision::Refused(cause),
+        Ok(old) => {
             let new = DiscRegion {
                 offset: new_offset,
                 size: old.size,
@@ -244,8 +241,8 @@ fn grow_elsewhere(
     let disc_end = opening::disc_end(image);
     let found = free_space::allocate(words, m, disc_end, new_size, 0x8000);
     match found {
-        Allocation::Refused(cause) => Decision::Refused(cause),
-        Allocation::Found(region) => {
+        Err(cause) => Decision::Refused(cause),
+        Ok(region) => {
             let new = DiscRegion {
                 offset: region.offset,
                 size: new_size,
@@ -291,7 +288,7 @@ pub fn resize_file(
 {
     let found = file_at(image, number);
     match found {
-        FileAt::Refused(cause) => Decision::Refused(cause),
-        FileAt::Place(old) => resize(image, words, m, bytes, number, old, new_size),
+        Err(cause) => Decision::Refused(cause),
+        Ok(old) => resize(image, words, m, bytes, number, old, new_size),
     }
 }

@@ -1,39 +1,33 @@
 -- The answers of the calls on the disc and its space (document 01: after opening "result list short 9 .. allocation 22, 21").
 -- Assumes nothing: these are definitions.
+use Rattle.std.specs.Prelude.{Result, Ok, Err}
+use Rattle.answers.specs.declared.Disc.{Disc}
+use Rattle.disc.specs.declared.DiscTotals.{DiscTotals}
 use Rattle.std.specs.Prelude.{ℕ, List}
 use Rattle.refusal.specs.declared.Refusal.{Refusal}
-use Rattle.refusal.specs.declared.Verdict.TheVariants as verdict
 use Rattle.header.specs.Verdicts.{discEnd}
 use Rattle.space.specs.declared.DiscRegion.{DiscRegion}
 use Rattle.space.specs.Free.{largestSize}
-use Rattle.free_space.specs.declared.Allocation.{Allocation}
-use Rattle.free_space.specs.declared.Allocation.TheVariants as allocation
-use Rattle.free_space.specs.declared.Listing.{Listing}
-use Rattle.free_space.specs.declared.Listing.TheVariants as listing
 use Rattle.free_space.specs.Listing.{regionRow, clusterRow, listingOf, listAfter}
 use Rattle.free_space.specs.Allocate.{allocationOf}
 use Rattle.totals.specs.declared.Totals.{Totals}
 use Rattle.program.specs.declared.Program.{Program}
 use Rattle.program.specs.declared.Program.TheVariants as program
 use Rattle.program.specs.Program.{program_of}
-use Rattle.disc.specs.declared.TotalsAnswer.{TotalsAnswer}
-use Rattle.disc.specs.declared.TotalsAnswer.TheVariants as totaled
 use Rattle.disc.specs.declared.RecordMade.{RecordMade}
-use Rattle.answers.specs.declared.Opened.{Opened}
-use Rattle.answers.specs.declared.Opened.TheVariants as opened
 use Rattle.opening.specs.Opening.{opening, freeOf, usedOf}
 use Rattle.answers.specs.Answers.{behind, discOf}
 
 -- ---- the answer of `open`
 
-unfoldable pub opened_of : List ℕ → ℕ → Opened
-opened_of image words = behind (opening image words) opened.Refused (opened.Accepted (discOf image))
+unfoldable pub opened_of : List ℕ → ℕ → Result Disc Refusal
+opened_of image words = behind (opening image words) Err (Ok (discOf image))
 
 -- ---- space
 
-unfoldable pub totalsAnswer : List ℕ → ℕ → TotalsAnswer
+unfoldable pub totalsAnswer : List ℕ → ℕ → Result DiscTotals Refusal
 totalsAnswer image words =
-    behind (opening image words) totaled.Refused (totaled.Found (record { disc_end = discEnd image; used = usedOf image }))
+    behind (opening image words) Err (Ok (record { disc_end = discEnd image; used = usedOf image }))
 
 -- document 02, Point 6: "used bytes, the largest free region's size (0 if none) and accepted edits", worked out afresh of an image, after n edits
 abbrev pub totalsOf : List ℕ → ℕ → Totals
@@ -41,10 +35,10 @@ totalsOf image n = record { used = usedOf image; largest = largestSize (freeOf i
 
 -- whether one is made, and its numbers; with a refusal zeros
 abbrev pub recordMade : Totals → RecordMade
-recordMade t = record { verdict = verdict.Passed; totals = t }
+recordMade t = record { verdict = Ok tt; totals = t }
 
 abbrev pub noRecord : Refusal → RecordMade
-noRecord c = record { verdict = verdict.Refused c; totals = record { used = 0; largest = 0; edits = 0 } }
+noRecord c = record { verdict = Err c; totals = record { used = 0; largest = 0; edits = 0 } }
 
 -- "A record made at opening, its count 0"
 unfoldable pub recordAnswer : List ℕ → ℕ → RecordMade
@@ -55,25 +49,25 @@ unfoldable pub programAnswer : List ℕ → ℕ → Program
 programAnswer image words = behind (opening image words) program.Refused (program_of image)
 
 -- the free regions in a result list, with the words of each as `row` has them
-unfoldable pub freeAnswer : (DiscRegion → List ℕ) → List ℕ → ℕ → ℕ → Listing
-freeAnswer row image words room = behind (opening image words) listing.Refused (listingOf row (freeOf image) room)
+unfoldable pub freeAnswer : (DiscRegion → List ℕ) → List ℕ → ℕ → ℕ → Result ℕ Refusal
+freeAnswer row image words room = behind (opening image words) Err (listingOf row (freeOf image) room)
 
 -- the list afterwards: a refusal leaves it as it is
 unfoldable pub freeList : (DiscRegion → List ℕ) → List ℕ → ℕ → List ℕ → List ℕ
 freeList row image words list = behind (opening image words) (λ c. list) (listAfter row (freeOf image) list)
 
-abbrev pub freeRegionsAnswer : List ℕ → ℕ → ℕ → Listing
+abbrev pub freeRegionsAnswer : List ℕ → ℕ → ℕ → Result ℕ Refusal
 freeRegionsAnswer image words room = freeAnswer regionRow image words room
 
 abbrev pub freeRegionsList : List ℕ → ℕ → List ℕ → List ℕ
 freeRegionsList image words list = freeList regionRow image words list
 
 -- document 02, Point 1: "For each free region give the bytes before its first multiple of 0x8000, the whole clusters, and the exact rest"
-abbrev pub freeClustersAnswer : List ℕ → ℕ → ℕ → Listing
+abbrev pub freeClustersAnswer : List ℕ → ℕ → ℕ → Result ℕ Refusal
 freeClustersAnswer image words room = freeAnswer clusterRow image words room
 
 abbrev pub freeClustersList : List ℕ → ℕ → List ℕ → List ℕ
 freeClustersList image words list = freeList clusterRow image words list
 
-unfoldable pub allocateAnswer : List ℕ → ℕ → ℕ → ℕ → Allocation
-allocateAnswer image words n align = behind (opening image words) allocation.Refused (allocationOf align n (freeOf image))
+unfoldable pub allocateAnswer : List ℕ → ℕ → ℕ → ℕ → Result DiscRegion Refusal
+allocateAnswer image words n align = behind (opening image words) Err (allocationOf align n (freeOf image))

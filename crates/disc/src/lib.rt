@@ -3,7 +3,7 @@
 
 mod regions;
 
-use refusal::{Refusal, Verdict};
+use refusal::Verdict;
 pub use regions::{
     allocate, free_clusters, free_regions, make_record, max_region_size, open, program, totals,
 };
@@ -13,12 +13,6 @@ use totals::Totals;
 pub struct DiscTotals {
     pub disc_end: u32,
     pub used: u32,
-}
-
-#[derive(Clone, Copy)]
-pub enum TotalsAnswer {
-    Found(DiscTotals),
-    Refused(Refusal),
 }
 
 // Whether a totals record is made, and the record; with a refusal zeros.

@@ -5,39 +5,41 @@ ghost use Rattle.answers.specs.Answers.{maxRegionSizeAnswer};
 ghost use Rattle.disc.specs.Calls.{opened_of, totalsAnswer, totalsOf, recordAnswer, programAnswer, freeRegionsAnswer, freeRegionsList, freeClustersAnswer, freeClustersList, allocateAnswer};
 ghost use Rattle.opening.specs.Inner.Prepared.{IsOpen, Prepares};
 
-use crate::{DiscTotals, RecordMade, TotalsAnswer};
-use answers::{Opened, SizeAnswer};
-use free_space::{Allocation, Listing};
-use opening::Prepared;
+use crate::{DiscTotals, RecordMade};
+use answers::Disc;
 use program::Program;
-use refusal::Verdict;
+use refusal::Refusal;
 use space::DiscRegion;
 use totals::Totals;
 
 // The answers, once the image is prepared.
-fn opened(image: &[u8], words: &[u32], prepared: Prepared) -> Opened
+fn opened(image: &[u8], words: &[u32], prepared: Result<usize, Refusal>) -> Result<Disc, Refusal>
     requires { Prepares image.now words.now prepared }
     ensures { result ≡ opened_of image.now (length words.now) }
 {
     match prepared {
-        Prepared::Ready(count) => Opened::Accepted(answers::disc_of(image, words, count)),
-        Prepared::Refused(cause) => Opened::Refused(cause),
+        Ok(count) => Ok(answers::disc_of(image, words, count)),
+        Err(cause) => Err(cause),
     }
 }
 
-fn totaled(image: &[u8], words: &[u32], prepared: Prepared) -> TotalsAnswer
+fn totaled(
+    image: &[u8],
+    words: &[u32],
+    prepared: Result<usize, Refusal>,
+) -> Result<DiscTotals, Refusal>
     requires { Prepares image.now words.now prepared }
     ensures { result ≡ totalsAnswer image.now (length words.now) }
 {
     match prepared {
-        Prepared::Ready(count) => {
+        Ok(count) => {
             let disc = answers::disc_of(image, words, count);
-            TotalsAnswer::Found(DiscTotals {
+            Ok(DiscTotals {
                 disc_end: disc.disc_end,
                 used: disc.used,
             })
         }
-        Prepared::Refused(cause) => TotalsAnswer::Refused(cause),
+        Err(cause) => Err(cause),
     }
 }
 
@@ -58,20 +60,20 @@ fn record_of(image: &[u8], words: &[u32], count: usize) -> Totals
     }
 }
 
-fn recorded(image: &[u8], words: &[u32], prepared: Prepared) -> RecordMade
+fn recorded(image: &[u8], words: &[u32], prepared: Result<usize, Refusal>) -> RecordMade
     requires { Prepares image.now words.now prepared }
     ensures { result ≡ recordAnswer image.now (length words.now) }
 {
     match prepared {
-        Prepared::Ready(count) => {
+        Ok(count) => {
             let totals = record_of(image, words, count);
             RecordMade {
-                verdict: Verdict::Passed,
+                verdict: Ok(()),
                 totals,
             }
         }
-        Prepared::Refused(cause) => RecordMade {
-            verdict: Verdict::Refused(cause),
+        Err(cause) => RecordMade {
+            verdict: Err(cause),
             totals: Totals {
                 used: 0,
                 largest: 0,
@@ -81,48 +83,64 @@ fn recorded(image: &[u8], words: &[u32], prepared: Prepared) -> RecordMade
     }
 }
 
-fn listed(image: &[u8], words: &[u32], prepared: Prepared, list: &mut [u32]) -> Listing
+fn listed(
+    image: &[u8],
+    words: &[u32],
+    prepared: Result<usize, Refusal>,
+    list: &mut [u32],
+) -> Result<usize, Refusal>
     requires { Prepares image.now words.now prepared }
     ensures { (result ≡ freeRegionsAnswer image.now (length words.now) (length list.old)) × (list.new ≡ freeRegionsList image.now (length words.now) list.old) }
 {
     match prepared {
-        Prepared::Ready(count) => {
+        Ok(count) => {
             let disc = answers::disc_of(image, words, count);
             free_space::free_regions(words, count, disc.disc_end, list)
         }
-        Prepared::Refused(cause) => Listing::Refused(cause),
+        Err(cause) => Err(cause),
     }
 }
 
-fn counted(image: &[u8], words: &[u32], prepared: Prepared, list: &mut [u32]) -> Listing
+fn counted(
+    image: &[u8],
+    words: &[u32],
+    prepared: Result<usize, Refusal>,
+    list: &mut [u32],
+) -> Result<usize, Refusal>
     requires { Prepares image.now words.now prepared }
     ensures { (result ≡ freeClustersAnswer image.now (length words.now) (length list.old)) × (list.new ≡ freeClustersList image.now (length words.now) list.old) }
 {
     match prepared {
-        Prepared::Ready(count) => {
+        Ok(count) => {
             let disc = answers::disc_of(image, words, count);
             free_clusters::free_clusters(words, count, disc.disc_end, list)
         }
-        Prepared::Refused(cause) => Listing::Refused(cause),
+        Err(cause) => Err(cause),
     }
 }
 
-fn allocated(image: &[u8], words: &[u32], prepared: Prepared, size: u32, align: u32) -> Allocation
+fn allocated(
+    image: &[u8],
+    words: &[u32],
+    prepared: Result<usize, Refusal>,
+    size: u32,
+    align: u32,
+) -> Result<DiscRegion, Refusal>
     requires { Prepares image.now words.now prepared }
     ensures { result ≡ allocateAnswer image.now (length words.now) size align }
 {
     match prepared {
-        Prepared::Ready(count) => {
+        Ok(count) => {
             let disc = answers::disc_of(image, words, count);
             free_space::allocate(words, count, disc.disc_end, size, align)
         }
-        Prepared::Refused(cause) => Allocation::Refused(cause),
+        Err(cause) => Err(cause),
     }
 }
 
 // ---- the calls
 
-pub fn open(image: &[u8], words: &mut [u32]) -> Opened
+pub fn open(image: &[u8], words: &mut [u32]) -> Result<Disc, Refusal>
     ensures { (result ≡ opened_of image.now (length words.old)) × (words.new ≡ zeros words.old) }
 {
     let prepared = opening::prepare(image, words);
@@ -132,7 +150,7 @@ pub fn open(image: &[u8], words: &mut [u32]) -> Opened
 }
 
 // The disc end and the used total.
-pub fn totals(image: &[u8], words: &mut [u32]) -> TotalsAnswer
+pub fn totals(image: &[u8], words: &mut [u32]) -> Result<DiscTotals, Refusal>
     ensures { (result ≡ totalsAnswer image.now (length words.old)) × (words.new ≡ zeros words.old) }
 {
     let prepared = opening::prepare(image, words);
@@ -158,13 +176,13 @@ pub fn program(image: &[u8], words: &mut [u32]) -> Program
     let prepared = opening::prepare(image, words);
     space::zero_words(words);
     match prepared {
-        Prepared::Ready(_) => program::read(image),
-        Prepared::Refused(cause) => Program::Refused(cause),
+        Ok(_) => program::read(image),
+        Err(cause) => Program::Refused(cause),
     }
 }
 
 // The free regions, an offset and a size each, into `list`.
-pub fn free_regions(image: &[u8], words: &mut [u32], list: &mut [u32]) -> Listing
+pub fn free_regions(image: &[u8], words: &mut [u32], list: &mut [u32]) -> Result<usize, Refusal>
     ensures { (result ≡ freeRegionsAnswer image.now (length words.old) (length list.old)) × (list.new ≡ freeRegionsList image.now (length words.old) list.old) × (words.new ≡ zeros words.old) }
 {
     let prepared = opening::prepare(image, words);
@@ -174,7 +192,7 @@ pub fn free_regions(image: &[u8], words: &mut [u32], list: &mut [u32]) -> Listin
 }
 
 // The free regions in clusters of 0x8000 bytes into `list`: the bytes before the first multiple, the clusters and the rest of each.
-pub fn free_clusters(image: &[u8], words: &mut [u32], list: &mut [u32]) -> Listing
+pub fn free_clusters(image: &[u8], words: &mut [u32], list: &mut [u32]) -> Result<usize, Refusal>
     ensures { (result ≡ freeClustersAnswer image.now (length words.old) (length list.old)) × (list.new ≡ freeClustersList image.now (length words.old) list.old) × (words.new ≡ zeros words.old) }
 {
     let prepared = opening::prepare(image, words);
@@ -184,7 +202,12 @@ pub fn free_clusters(image: &[u8], words: &mut [u32], list: &mut [u32]) -> Listi
 }
 
 // What the Rust answers for a region; for a file's own place, the largest size that it can grow to.
-pub fn max_region_size(image: &[u8], words: &mut [u32], offset: u32, size: u32) -> SizeAnswer
+pub fn max_region_size(
+    image: &[u8],
+    words: &mut [u32],
+    offset: u32,
+    size: u32,
+) -> Result<u32, Refusal>
     ensures { (result ≡ maxRegionSizeAnswer image.now (length words.old) offset size) × (words.new ≡ zeros words.old) }
 {
     let prepared = opening::prepare(image, words);
@@ -194,7 +217,12 @@ pub fn max_region_size(image: &[u8], words: &mut [u32], offset: u32, size: u32) 
 }
 
 // The largest free place for `size` bytes at a multiple of `align`, the last among equals.
-pub fn allocate(image: &[u8], words: &mut [u32], size: u32, align: u32) -> Allocation
+pub fn allocate(
+    image: &[u8],
+    words: &mut [u32],
+    size: u32,
+    align: u32,
+) -> Result<DiscRegion, Refusal>
     ensures { (result ≡ allocateAnswer image.now (length words.old) size align) × (words.new ≡ zeros words.old) }
 {
     let prepared = opening::prepare(image, words);

@@ -1,9 +1,9 @@
 -- The header as it is read, made and written, from document 01, "The header". Assumes nothing: these are definitions.
+use Rattle.std.specs.Prelude.{Ok, Err}
+use Rattle.refusal.specs.Refusal.{Verdict}
 use Rattle.std.specs.Prelude.{ℕ, List, [], ◌∷◌, ltb, length, get_or, replicate}
 use Rattle.endian.specs.Bytes.{be32Bytes, put, span}
 use Rattle.refusal.specs.declared.Refusal.TheVariants.{HeaderPastImage}
-use Rattle.refusal.specs.declared.Verdict.{Verdict}
-use Rattle.refusal.specs.declared.Verdict.TheVariants.{Passed, Refused}
 use Rattle.refusal.specs.Refusal.{refuse}
 use Rattle.header.specs.declared.Field.{Field}
 use Rattle.disc_header.specs.declared.DiscHeader.{DiscHeader}
@@ -72,8 +72,8 @@ blank magic = record {
 
 -- a refusal carries no header: every field is 0
 abbrev pub headerAnswer : Verdict → DiscHeader → HeaderRead
-headerAnswer Passed h = record { verdict = Passed; header = h }
-headerAnswer (Refused c) h = record { verdict = Refused c; header = blank 0 }
+headerAnswer (Ok _) h = record { verdict = Ok tt; header = h }
+headerAnswer (Err c) h = record { verdict = Err c; header = blank 0 }
 
 abbrev pub headerRead : List ℕ → HeaderRead
 headerRead image = headerAnswer (headerVerdict image) (headerOf image)
@@ -118,11 +118,11 @@ putHeader h image = putFields fields (fieldBytes h) image
 
 -- an image that is too short is refused, and left as it was
 abbrev pub writeVerdict : List ℕ → Verdict
-writeVerdict image = refuse (ltb (length image) 0x440) HeaderPastImage Passed
+writeVerdict image = refuse (ltb (length image) 0x440) HeaderPastImage (Ok tt)
 
 abbrev pub written_by : Verdict → DiscHeader → List ℕ → List ℕ
-written_by Passed h image = putHeader h image
-written_by (Refused c) h image = image
+written_by (Ok _) h image = putHeader h image
+written_by (Err c) h image = image
 
 abbrev pub headerWritten : DiscHeader → List ℕ → List ℕ
 headerWritten h image = written_by (writeVerdict image) h image

@@ -232,11 +232,11 @@ impl DiscHeader {
         ensures { (result ≡ writeVerdict image.old) × (image.new ≡ headerWritten self image.old) }
     {
         if image.len() < 0x440 {
-            return Verdict::Refused(Refusal::HeaderPastImage);
+            return Err(Refusal::HeaderPastImage);
         }
         self.write_codes(image);
         self.write_magics_and_name(image);
         self.write_places(image);
-        Verdict::Passed
+        Ok(())
     }
 }

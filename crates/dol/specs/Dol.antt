@@ -1,16 +1,15 @@
 -- The DOL header, as document 01 has it: "DOL header, 0xE4 bytes: 7 text and 11 data offsets, then addresses, then sizes in that order,
 -- BSS address, BSS size, entry point. File size: largest offset + size of the 18." Refused 24: "DOL header past the image, or a sum above
 -- 2^32 - 1". Fields are big-endian, of 4 bytes. Assumes nothing: these are definitions.
+use Rattle.std.specs.Prelude.{Result, Ok, Err}
+use Rattle.refusal.specs.Refusal.{Verdict}
+use Rattle.refusal.specs.declared.Refusal.{Refusal}
 use Rattle.std.specs.Prelude.{ℕ, zero, suc, ◌+◌, ◌-◌, ◌^◌, max, List, [], ◌∷◌, ltb, length, replicate}
 use Rattle.endian.specs.Bytes.{be32}
 use Rattle.refusal.specs.declared.Refusal.TheVariants.{InvalidDol}
-use Rattle.refusal.specs.declared.Verdict.{Verdict}
-use Rattle.refusal.specs.declared.Verdict.TheVariants.{Passed, Refused}
 use Rattle.refusal.specs.Refusal.{refuse}
 use Rattle.dol.specs.declared.DolHeader.{DolHeader}
 use Rattle.dol.specs.declared.DolAnswer.{DolAnswer}
-use Rattle.dol.specs.declared.DolSize.{DolSize}
-use Rattle.dol.specs.declared.DolSize.TheVariants as size
 
 -- the n fields of 4 bytes from `at` on
 unfoldable pub wordsAt : List ℕ → ℕ → ℕ → List ℕ
@@ -43,7 +42,7 @@ fileSizeOf h = max (largestOf h.text_offsets h.text_sizes) (largestOf h.data_off
 
 -- "DOL header past the image, or a sum above 2^32 - 1", which is the largest sum above it
 abbrev pub dolVerdictOf : List ℕ → ℕ → Verdict
-dolVerdictOf s at = refuse (ltb (length s) (at + 0xE4)) InvalidDol (refuse (ltb (2 ^ 32 - 1) (fileSizeOf (dolHeaderOf s at))) InvalidDol Passed)
+dolVerdictOf s at = refuse (ltb (length s) (at + 0xE4)) InvalidDol (refuse (ltb (2 ^ 32 - 1) (fileSizeOf (dolHeaderOf s at))) InvalidDol (Ok tt))
 
 -- a header of zeros
 abbrev pub newHeader : DolHeader
@@ -61,16 +60,16 @@ newHeader = record {
 
 -- the answer by its verdict: the header and its file size, or with a refusal zeros
 abbrev pub dolAnswered : Verdict → DolHeader → DolAnswer
-dolAnswered Passed h = record { verdict = Passed; header = h; size = fileSizeOf h }
-dolAnswered (Refused c) h = record { verdict = Refused c; header = newHeader; size = 0 }
+dolAnswered (Ok _) h = record { verdict = Ok tt; header = h; size = fileSizeOf h }
+dolAnswered (Err c) h = record { verdict = Err c; header = newHeader; size = 0 }
 
 abbrev pub dolAnswerOf : List ℕ → ℕ → DolAnswer
 dolAnswerOf s at = dolAnswered (dolVerdictOf s at) (dolHeaderOf s at)
 
 -- the file size alone, by the same verdict
-abbrev pub dolSized : Verdict → ℕ → DolSize
-dolSized Passed n = size.Bytes n
-dolSized (Refused c) n = size.Refused c
+abbrev pub dolSized : Verdict → ℕ → Result ℕ Refusal
+dolSized (Ok _) n = Ok n
+dolSized (Err c) n = Err c
 
-abbrev pub dolSizeOf : List ℕ → ℕ → DolSize
+abbrev pub dolSizeOf : List ℕ → ℕ → Result ℕ Refusal
 dolSizeOf s at = dolSized (dolVerdictOf s at) (fileSizeOf (dolHeaderOf s at))

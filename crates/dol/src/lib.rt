@@ -31,12 +31,6 @@ pub struct DolAnswer {
     pub size: u32,
 }
 
-#[derive(Clone, Copy)]
-pub enum DolSize {
-    Bytes(u32),
-    Refused(Refusal),
-}
-
 fn larger(a: u64, b: u64) -> u64
     ensures { result ≡ max a b }
 {
@@ -155,7 +149,7 @@ fn refused() -> DolAnswer
 {
     let header = DolHeader::new();
     DolAnswer {
-        verdict: Verdict::Refused(Refusal::InvalidDol),
+        verdict: Err(Refusal::InvalidDol),
         header,
         size: 0,
     }
@@ -178,22 +172,22 @@ fn largest_at(s: &[u8], at: usize, n: usize) -> u64
 }
 
 // The file size alone, for whoever opens an image: the header is read in place, and not made.
-pub fn size(image: &[u8], at: usize) -> DolSize
+pub fn size(image: &[u8], at: usize) -> Result<u32, Refusal>
     ensures { result ≡ dolSizeOf image.now at }
 {
     if image.len() < 0xE4 {
-        return DolSize::Refused(Refusal::InvalidDol);
+        return Err(Refusal::InvalidDol);
     }
     if image.len() - 0xE4 < at {
-        return DolSize::Refused(Refusal::InvalidDol);
+        return Err(Refusal::InvalidDol);
     }
     let text = largest_at(image, at, 7);
     let data = largest_at(image, at + 0x1C, 11);
     let most = larger(text, data);
     if 0xFFFF_FFFF < most {
-        return DolSize::Refused(Refusal::InvalidDol);
+        return Err(Refusal::InvalidDol);
     }
-    DolSize::Bytes(most as u32)
+    Ok(most as u32)
 }
 
 pub fn read(image: &[u8], at: usize) -> DolAnswer
@@ -201,15 +195,15 @@ pub fn read(image: &[u8], at: usize) -> DolAnswer
 {
     let size = size(image, at);
     match size {
-        DolSize::Bytes(n) => {
+        Ok(n) => {
             let header = header_at(image, at);
             DolAnswer {
-                verdict: Verdict::Passed,
+                verdict: Ok(()),
                 header,
                 size: n,
             }
         }
-        DolSize::Refused(_) => refused(),
+        Err(_) => refused(),
     }
 }
 

@@ -8,9 +8,8 @@ ghost use Rattle.edits.specs.Promise.{lent, onlyVerdict, Edited};
 ghost use Rattle.totals.specs.Totals.{totalsIn};
 
 use pipeline::Edit;
-use refusal::Verdict;
+use refusal::{Refusal, Verdict};
 use totals::Record;
-use tree::Located;
 
 // A bare table rewrite.
 pub fn rewrite(
@@ -88,7 +87,7 @@ pub fn insert_file(
     record: &mut Record,
     parent: u32,
     name: &[u8],
-) -> Located
+) -> Result<u32, Refusal>
     ensures { Edited numberedAs (edits.insertFile parent name.now) (lent image.old words.old bytes.old (totalsIn «record».old)) (lent image.new words.new bytes.new (totalsIn «record».new)) result }
 {
     pipeline::run(image, words, bytes, record, Edit::InsertFile(parent), name)
@@ -102,7 +101,7 @@ pub fn insert_directory(
     record: &mut Record,
     parent: u32,
     name: &[u8],
-) -> Located
+) -> Result<u32, Refusal>
     ensures { Edited numberedAs (edits.insertDirectory parent name.now) (lent image.old words.old bytes.old (totalsIn «record».old)) (lent image.new words.new bytes.new (totalsIn «record».new)) result }
 {
     pipeline::run(
@@ -124,7 +123,7 @@ pub fn make_directories(
     record: &mut Record,
     start: u32,
     path: &[u8],
-) -> Located
+) -> Result<u32, Refusal>
     ensures { Edited numberedAs (edits.makeDirectories start path.now) (lent image.old words.old bytes.old (totalsIn «record».old)) (lent image.new words.new bytes.new (totalsIn «record».new)) result }
 {
     pipeline::run(

@@ -1,10 +1,10 @@
 -- What an accepted edit does to an image, and the tests that each edit which writes a table ends with (document 01, "Edits"; document 02, Point 7).
 -- Assumes nothing: these are definitions.
+use Rattle.std.specs.Prelude.{Ok}
+use Rattle.refusal.specs.Refusal.{Verdict}
 use Rattle.std.specs.Prelude.{ℕ, ◌+◌, ◌-◌, Bool, ◌&&◌, List, ◌++◌, ltb, length, replicate}
 use Rattle.endian.specs.Bytes.{put, span, be32Bytes}
 use Rattle.refusal.specs.declared.Refusal.TheVariants.{LimitOrMemory, NotEnoughSpace, TableAboveMaximum}
-use Rattle.refusal.specs.declared.Verdict.{Verdict}
-use Rattle.refusal.specs.declared.Verdict.TheVariants.{Passed}
 use Rattle.refusal.specs.Refusal.{refuse, first}
 use Rattle.header.specs.Fields.{fstSizeField}
 use Rattle.header.specs.Verdicts.{fstOffset, fstSize, fstMaxSize}
@@ -48,7 +48,7 @@ abbrev pub roomVerdict : List ℕ → ℕ → DiscRegion → Verdict
 roomVerdict image size place =
     refuse (ltb (maxRegionSize (fstOffset image) (fstSize image) (freeOf image)) size) NotEnoughSpace
     (refuse (ltb 0 place.size && ltb place.offset (fstOffset image + size)) NotEnoughSpace
-    Passed)
+    (Ok tt))
 
 -- "working bytes fewer than the new table's size (9), then the table's place (21)"; "26, new table above the maximum, tested just before the
 -- table's 21"

@@ -1,21 +1,17 @@
 -- The edits (document 01, "Edits"; the orders of their refusals: "Calls go on: .. insert 15, 13, 17, 19, 12; move 20, 21; resize 21, 20 .."
 -- and "Make-directories gives the first trouble along the path, 12 last"; document 02, Points 4 and 6). Assumes nothing: these are definitions.
+use Rattle.std.specs.Prelude.{Result, Ok, Err}
+use Rattle.refusal.specs.Refusal.{Verdict}
 use Rattle.std.specs.Prelude.{ℕ, ◌+◌, ◌-◌, ◌^◌, min, Bool, true, false, cond, not, ◌&&◌, ◌||◌, List, [], ◌∷◌, ltb, leb, eqb, length, get_or}
 use Rattle.endian.specs.Bytes.{put}
 use Rattle.refusal.specs.declared.Refusal.{Refusal}
 use Rattle.refusal.specs.declared.Refusal.TheVariants.{LimitOrMemory, InvalidNameByte, UnsafeName, NoSuchEntry, ExpectedFile, ExpectedDirectory, NotFound, AlreadyExists, OverlappingMove, NotEnoughSpace}
-use Rattle.refusal.specs.declared.Verdict.{Verdict}
-use Rattle.refusal.specs.declared.Verdict.TheVariants.{Passed, Refused}
 use Rattle.refusal.specs.Refusal.{refuse, first, is_refused}
 use Rattle.tree.specs.Table.{Node, none, plain, safe}
 use Rattle.tree.specs.Lookup.{isDirectory, next_of, components, stays, goesBack, childOf}
-use Rattle.tree.specs.declared.Located.{Located}
-use Rattle.tree.specs.declared.Located.TheVariants as located
 use Rattle.tree.specs.Insert.{insertAt, setPlace, emptyFile, emptyDirectory}
 use Rattle.space.specs.declared.DiscRegion.{DiscRegion}
 use Rattle.space.specs.Free.{largestSize}
-use Rattle.free_space.specs.declared.Allocation.{Allocation}
-use Rattle.free_space.specs.declared.Allocation.TheVariants as allocation
 use Rattle.free_space.specs.MaxRegionSize.{maxRegionSize}
 use Rattle.free_space.specs.Allocate.{allocationOf}
 use Rattle.totals.specs.declared.Totals.{Totals}
@@ -42,8 +38,8 @@ tableOnly nodes = record { nodes = nodes; old = noPlace; place = noPlace; kept =
 
 -- a plan behind tests
 abbrev pub planned : Verdict → Plan → Plan
-planned Passed p = p
-planned (Refused c) p = refused (Refused c)
+planned (Ok _) p = p
+planned (Err c) p = refused (Err c)
 
 -- ---- "Insert adds an empty directory or an empty file (offset 0, size 0) as last child"
 
@@ -52,9 +48,9 @@ abbrev pub newNumber : List Node → ℕ → ℕ
 newNumber nodes p = next_of (get_or nodes p none)
 
 -- a child of p has that name
-abbrev pub isFound : Located → Bool
-isFound (located.At k) = true
-isFound (located.Refused c) = false
+abbrev pub isFound : Result ℕ Refusal → Bool
+isFound (Ok k) = true
+isFound (Err c) = false
 
 -- the last three of "insert 15, 13, 17, 19, 12"
 abbrev pub childVerdict : List Node → ℕ → List ℕ → Verdict
@@ -62,7 +58,7 @@ childVerdict nodes p nm =
     refuse (not (isDirectory (get_or nodes p none))) ExpectedDirectory
     (refuse (isFound (childOf nodes p nm)) AlreadyExists
     (refuse (not (plain nm)) InvalidNameByte
-    Passed))
+    (Ok tt)))
 
 -- "insert 15, 13, 17, 19, 12"
 unfoldable pub insertVerdict : List Node → ℕ → List ℕ → Verdict
@@ -87,9 +83,9 @@ abbrev pub madeBack : List ℕ → (ℕ → List ℕ → Made) → Made
 madeBack [] f = stopped NotFound
 madeBack (k ∷ trail) f = f k trail
 
-abbrev pub ifFound : Located → (ℕ → Made) → Made → Made
-ifFound (located.At k) f missing = f k
-ifFound (located.Refused c) f missing = missing
+abbrev pub ifFound : Result ℕ Refusal → (ℕ → Made) → Made → Made
+ifFound (Ok k) f missing = f k
+ifFound (Err c) f missing = missing
 
 -- along the components from entry k; a directory made earlier is found again; the walk must end on a directory
 unfoldable pub make : List Node → List ℕ → ℕ → Bool → List (List ℕ) → Made
@@ -105,20 +101,20 @@ make nodes trail k bad (c ∷ cs) =
     (stopped ExpectedDirectory)
 
 abbrev pub planMade : Made → Plan
-planMade (stopped c) = refused (Refused c)
+planMade (stopped c) = refused (Err c)
 planMade (made nodes k false) = change k (tableOnly nodes)
-planMade (made nodes k true) = refused (Refused InvalidNameByte)
+planMade (made nodes k true) = refused (Err InvalidNameByte)
 
 unfoldable pub planMakeDirectories : List Node → ℕ → List ℕ → Plan
 planMakeDirectories nodes start path =
-    planned (refuse (ltb 1024 (length path)) LimitOrMemory (refuse (leb (length nodes) start) NoSuchEntry Passed))
+    planned (refuse (ltb 1024 (length path)) LimitOrMemory (refuse (leb (length nodes) start) NoSuchEntry (Ok tt)))
     (planMade (make nodes [] start false (components path)))
 
 -- ---- moves and resizes
 
 -- 15, then 16
 abbrev pub fileVerdict : List Node → ℕ → Verdict
-fileVerdict nodes k = refuse (leb (length nodes) k) NoSuchEntry (refuse (isDirectory (get_or nodes k none)) ExpectedFile Passed)
+fileVerdict nodes k = refuse (leb (length nodes) k) NoSuchEntry (refuse (isDirectory (get_or nodes k none)) ExpectedFile (Ok tt))
 
 -- "20 means: new offset below old offset + old size, and new offset + new size above old offset"
 abbrev pub overlapsItself : DiscRegion → DiscRegion → Bool
@@ -138,7 +134,7 @@ relocated nodes k old new = record {
 abbrev pub relocateVerdict : List DiscRegion → DiscRegion → DiscRegion → Verdict
 relocateVerdict free old new =
     refuse (overlapsItself old new) OverlappingMove
-    (refuse (ltb (maxRegionSize new.offset 0 free) new.size) NotEnoughSpace Passed)
+    (refuse (ltb (maxRegionSize new.offset 0 free) new.size) NotEnoughSpace (Ok tt))
 
 unfoldable pub planMove : List DiscRegion → List Node → ℕ → ℕ → Plan
 planMove free nodes k to =
@@ -157,9 +153,9 @@ resized nodes k old n = record {
 }
 
 -- "Growth finds a place with alignment 0x8000 where the file can't grow where it is."
-abbrev pub planElsewhere : List Node → List DiscRegion → ℕ → DiscRegion → ℕ → Allocation → Plan
-planElsewhere nodes free k old n (allocation.Refused c) = refused (Refused c)
-planElsewhere nodes free k old n (allocation.Found r) =
+abbrev pub planElsewhere : List Node → List DiscRegion → ℕ → DiscRegion → ℕ → Result DiscRegion Refusal → Plan
+planElsewhere nodes free k old n (Err c) = refused (Err c)
+planElsewhere nodes free k old n (Ok r) =
     let new : DiscRegion = record { offset = r.offset; size = n } in
     planned (relocateVerdict free old new) (change k (relocated nodes k old new))
 
@@ -178,7 +174,7 @@ planResize free nodes k n = planned (fileVerdict nodes k) (planSized free nodes 
 
 -- 15, 16, then "A clip above 2^32 - 1 bytes finds no place and is 21."
 abbrev pub clipVerdict : List Node → ℕ → ℕ → Verdict
-clipVerdict nodes k n = first (fileVerdict nodes k) (refuse (ltb (2 ^ 32 - 1) n) NotEnoughSpace Passed)
+clipVerdict nodes k n = first (fileVerdict nodes k) (refuse (ltb (2 ^ 32 - 1) n) NotEnoughSpace (Ok tt))
 
 unfoldable pub planFill : List DiscRegion → List Node → ℕ → List ℕ → Plan
 planFill free nodes k clip = planned (clipVerdict nodes k (length clip)) (filled k clip (planResize free nodes k (length clip)))
@@ -196,7 +192,7 @@ plan_of rewrite image = change 0 (tableOnly (nodesIn image))
 
 abbrev pub planVerdict : Plan → List ℕ → ℕ → ℕ → Verdict
 planVerdict (refused v) image words bytes = v
-planVerdict nothing image words bytes = Passed
+planVerdict nothing image words bytes = Ok tt
 planVerdict (change k c) image words bytes = tableVerdict c image words bytes
 planVerdict (filled k clip p) image words bytes = planVerdict p image words bytes
 
@@ -241,6 +237,6 @@ planNumber nothing = 0
 planNumber (change k c) = k
 planNumber (filled k clip p) = k
 
-abbrev pub numberedAs : Verdict → ℕ → Located
-numberedAs Passed k = located.At k
-numberedAs (Refused c) k = located.Refused c
+abbrev pub numberedAs : Verdict → ℕ → Result ℕ Refusal
+numberedAs (Ok _) k = Ok k
+numberedAs (Err c) k = Err c

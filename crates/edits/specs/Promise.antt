@@ -1,7 +1,7 @@
 -- The one promise of every edit: given what was lent, the answer and how everything is afterwards. Whatever a later edit is lent
 -- joins here. Assumes nothing: these are definitions.
+use Rattle.refusal.specs.Refusal.{Verdict}
 use Rattle.std.specs.Prelude.{ℕ, ◌≡◌, List, length}
-use Rattle.refusal.specs.declared.Verdict.{Verdict}
 use Rattle.totals.specs.declared.Totals.{Totals}
 use Rattle.opening.specs.Opening.{zeros}
 use Rattle.edits.specs.Edits.{Edit, plan_of, planNumber, verdictOf, imageAfter, totalsAfter}

@@ -1,4 +1,5 @@
 -- The answers about a file, from the answer of its entry. Assumes nothing.
+use Rattle.std.specs.Prelude.{Result, Ok, Err}
 use Prim.Native.Nat.{ℕ}
 use mathlib.Core.Path.{◌≡◌, ap, ◌∙◌}
 use mathlib.Core.List.{List}
@@ -12,39 +13,35 @@ use Rattle.tree.specs.declared.Found.{Found}
 use Rattle.tree.specs.declared.Found.TheVariants as found
 use Rattle.window.specs.declared.Window.{Window}
 use Rattle.window.specs.Window.{newWindow}
-use Rattle.answers.specs.declared.SizeAnswer.{SizeAnswer}
-use Rattle.answers.specs.declared.SizeAnswer.TheVariants as size
 use Rattle.answers.specs.Answers.{maxRegionSizeAnswer}
-use Rattle.files.specs.declared.WindowAnswer.{WindowAnswer}
-use Rattle.files.specs.declared.WindowAnswer.TheVariants as window
 use Rattle.files.specs.Files.{entryAnswer, windowAnswer, openFileAnswer, maxFileSizeAnswer}
 
 -- ---- its window
 
-pub window-of-file : (f : Found) (k : ℕ) (e : Entry) (x : FileEntry) (w : Window) → f ≡ found.At k e → e ≡ File x → w ≡ newWindow x.offset x.size → window.Opened w ≡ windowAnswer f
-window-of-file f k e x w p q r = rw (p, q) (ap window.Opened r)
+pub window-of-file : (f : Found) (k : ℕ) (e : Entry) (x : FileEntry) (w : Window) → f ≡ found.At k e → e ≡ File x → w ≡ newWindow x.offset x.size → Ok w ≡ windowAnswer f
+window-of-file f k e x w p q r = rw (p, q) (ap Ok r)
 
-pub window-of-directory : (f : Found) (k : ℕ) (e : Entry) (d : DirectoryEntry) → f ≡ found.At k e → e ≡ Directory d → window.Refused ExpectedFile ≡ windowAnswer f
+pub window-of-directory : (f : Found) (k : ℕ) (e : Entry) (d : DirectoryEntry) → f ≡ found.At k e → e ≡ Directory d → Err ExpectedFile ≡ windowAnswer f
 window-of-directory f k e d p q = rw (p, q)
 
-pub window-of-none : (f : Found) (c : Refusal) → f ≡ found.Refused c → window.Refused c ≡ windowAnswer f
+pub window-of-none : (f : Found) (c : Refusal) → f ≡ found.Refused c → Err c ≡ windowAnswer f
 window-of-none f c p = rw p
 
-pub window-of-entry : (image : List ℕ) (n k : ℕ) (f : Found) (a : WindowAnswer) → f ≡ entryAnswer image n k → a ≡ windowAnswer f → a ≡ openFileAnswer image n k
+pub window-of-entry : (image : List ℕ) (n k : ℕ) (f : Found) (a : Result Window Refusal) → f ≡ entryAnswer image n k → a ≡ windowAnswer f → a ≡ openFileAnswer image n k
 unfolding openFileAnswer
 window-of-entry image n k f a e h = h ∙ ap windowAnswer e
 
 -- ---- the size that it can grow to
 
 module _ (image : List ℕ) (n k : ℕ) (f : Found) (answered : f ≡ entryAnswer image n k) where
-  pub size-of-file : (j : ℕ) (e : Entry) (x : FileEntry) (a : SizeAnswer) → f ≡ found.At j e → e ≡ File x → a ≡ maxRegionSizeAnswer image n x.offset x.size → a ≡ maxFileSizeAnswer image n k
+  pub size-of-file : (j : ℕ) (e : Entry) (x : FileEntry) (a : Result ℕ Refusal) → f ≡ found.At j e → e ≡ File x → a ≡ maxRegionSizeAnswer image n x.offset x.size → a ≡ maxFileSizeAnswer image n k
   unfolding maxFileSizeAnswer
   size-of-file j e x a p q r = rw (← answered, p, q) r
 
-  pub size-of-directory : (j : ℕ) (e : Entry) (d : DirectoryEntry) → f ≡ found.At j e → e ≡ Directory d → size.Refused ExpectedFile ≡ maxFileSizeAnswer image n k
+  pub size-of-directory : (j : ℕ) (e : Entry) (d : DirectoryEntry) → f ≡ found.At j e → e ≡ Directory d → Err ExpectedFile ≡ maxFileSizeAnswer image n k
   unfolding maxFileSizeAnswer
   size-of-directory j e d p q = rw (← answered, p, q)
 
-  pub size-of-none : (c : Refusal) → f ≡ found.Refused c → size.Refused c ≡ maxFileSizeAnswer image n k
+  pub size-of-none : (c : Refusal) → f ≡ found.Refused c → Err c ≡ maxFileSizeAnswer image n k
   unfolding maxFileSizeAnswer
   size-of-none c p = rw (← answered, p)

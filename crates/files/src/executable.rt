@@ -7,8 +7,7 @@ ghost use Rattle.opening.specs.Opening.{zeros};
 
 use crate::DolFile;
 use dol::DolHeader;
-use opening::Prepared;
-use refusal::{Refusal, Verdict};
+use refusal::Refusal;
 use window::Window;
 
 // No header, and an empty window.
@@ -16,7 +15,7 @@ fn refused(cause: Refusal) -> DolFile
     ensures { result ≡ dolAs (Verdict.Refused cause) [] }
 {
     DolFile {
-        verdict: Verdict::Refused(cause),
+        verdict: Err(cause),
         header: DolHeader::new(),
         window: Window::new(0, 0),
     }
@@ -29,7 +28,7 @@ fn dol_in(image: &[u8]) -> DolFile
     let at = header::dol_offset(image);
     let answer = dol::read(image, at as usize);
     let verdict = answer.verdict;
-    if let Verdict::Refused(cause) = verdict {
+    if let Err(cause) = verdict {
         return refused(cause);
     }
     let header = answer.header;
@@ -46,7 +45,7 @@ pub fn open_dol(image: &[u8], words: &mut [u32]) -> DolFile
     let prepared = opening::prepare(image, words);
     space::zero_words(words);
     match prepared {
-        Prepared::Ready(_) => dol_in(image),
-        Prepared::Refused(cause) => refused(cause),
+        Ok(_) => dol_in(image),
+        Err(cause) => refused(cause),
     }
 }

@@ -9,14 +9,8 @@ use dol::DolHeader;
 pub use executable::open_dol;
 pub use listing::entries;
 pub use lookups::{entry, lookup, max_file_size, open_file};
-use refusal::{Refusal, Verdict};
+use refusal::Verdict;
 use window::Window;
-
-#[derive(Clone, Copy)]
-pub enum WindowAnswer {
-    Opened(Window),
-    Refused(Refusal),
-}
 
 // The executable: its header, and the window that shows it.
 #[derive(Clone, Copy)]

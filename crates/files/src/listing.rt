@@ -4,32 +4,36 @@ ghost use Rattle.opening.specs.Inner.Prepared.{Prepares};
 ghost use Rattle.files.specs.Files.{entriesAnswer, entriesList};
 ghost use Rattle.opening.specs.Opening.{zeros};
 
-use answers::Opened;
-use opening::Prepared;
-use refusal::Verdict;
+use answers::Disc;
+use refusal::Refusal;
 
 // The answer, once the image is prepared.
-fn entries_in(image: &[u8], words: &[u32], prepared: Prepared, list: &mut [u32]) -> Opened
+fn entries_in(
+    image: &[u8],
+    words: &[u32],
+    prepared: Result<usize, Refusal>,
+    list: &mut [u32],
+) -> Result<Disc, Refusal>
     requires { Prepares image.now words.now prepared }
     ensures { (result ≡ entriesAnswer image.now (length words.now) (length list.old)) × (list.new ≡ entriesList image.now (length words.now) list.old) }
 {
     match prepared {
-        Prepared::Ready(count) => {
+        Ok(count) => {
             let base = header::fst_offset(image);
             let table = opening::table(image);
             let verdict = fst_list::list_entries(table, base, list);
-            if let Verdict::Refused(cause) = verdict {
-                return Opened::Refused(cause);
+            if let Err(cause) = verdict {
+                return Err(cause);
             }
-            Opened::Accepted(answers::disc_of(image, words, count))
+            Ok(answers::disc_of(image, words, count))
         }
-        Prepared::Refused(cause) => Opened::Refused(cause),
+        Err(cause) => Err(cause),
     }
 }
 
 // Each entry into `list`: kind, the directory it is nested in, offset, size or next, the place of its name in the image, the name's
 // length. The answer is that of `open`.
-pub fn entries(image: &[u8], words: &mut [u32], list: &mut [u32]) -> Opened
+pub fn entries(image: &[u8], words: &mut [u32], list: &mut [u32]) -> Result<Disc, Refusal>
     ensures { (result ≡ entriesAnswer image.now (length words.old) (length list.old)) × (list.new ≡ entriesList image.now (length words.old) list.old) × (words.new ≡ zeros words.old) }
 {
     let prepared = opening::prepare(image, words);

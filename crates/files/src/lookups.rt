@@ -4,36 +4,39 @@ ghost use Rattle.opening.specs.Opening.{zeros};
 ghost use Rattle.opening.specs.Inner.Prepared.{Prepares};
 ghost use Rattle.files.specs.Files.{entryAnswer, lookupAnswer, windowAnswer, openFileAnswer, maxFileSizeAnswer};
 
-use crate::WindowAnswer;
-use answers::SizeAnswer;
-use opening::Prepared;
 use refusal::Refusal;
 use tree::{Entry, Found};
 use window::Window;
 
 // The answers, once the image is prepared.
-fn entry_in(image: &[u8], words: &[u32], prepared: Prepared, number: u32) -> Found
+fn entry_in(image: &[u8], words: &[u32], prepared: Result<usize, Refusal>, number: u32) -> Found
     requires { Prepares image.now words.now prepared }
     ensures { result ≡ entryAnswer image.now (length words.now) number }
 {
     match prepared {
-        Prepared::Ready(_) => fst::entry(opening::table(image), number),
-        Prepared::Refused(cause) => Found::Refused(cause),
+        Ok(_) => fst::entry(opening::table(image), number),
+        Err(cause) => Found::Refused(cause),
     }
 }
 
-fn lookup_in(image: &[u8], words: &[u32], prepared: Prepared, start: u32, path: &[u8]) -> Found
+fn lookup_in(
+    image: &[u8],
+    words: &[u32],
+    prepared: Result<usize, Refusal>,
+    start: u32,
+    path: &[u8],
+) -> Found
     requires { Prepares image.now words.now prepared }
     ensures { result ≡ lookupAnswer image.now (length words.now) start path.now }
 {
     match prepared {
-        Prepared::Ready(_) => {
+        Ok(_) => {
             if 1024 < path.len() {
                 return Found::Refused(Refusal::LimitOrMemory);
             }
             fst_path::find(opening::table(image), start, path)
         }
-        Prepared::Refused(cause) => Found::Refused(cause),
+        Err(cause) => Found::Refused(cause),
     }
 }
 
@@ -60,23 +63,20 @@ pub fn lookup(image: &[u8], words: &mut [u32], start: u32, path: &[u8]) -> Found
 }
 
 // The window of a file, by its answer as an entry.
-fn window_of(found: Found) -> WindowAnswer
+fn window_of(found: Found) -> Result<Window, Refusal>
     ensures { result ≡ windowAnswer found }
 {
     match found {
         Found::At(_, entry) => match entry {
-            Entry::File(file) => WindowAnswer::Opened(Window::new(
-                file.offset as u64,
-                file.size as u64,
-            )),
-            Entry::Directory(_) => WindowAnswer::Refused(Refusal::ExpectedFile),
+            Entry::File(file) => Ok(Window::new(file.offset as u64, file.size as u64)),
+            Entry::Directory(_) => Err(Refusal::ExpectedFile),
         },
-        Found::Refused(cause) => WindowAnswer::Refused(cause),
+        Found::Refused(cause) => Err(cause),
     }
 }
 
 // The window that shows file `number`.
-pub fn open_file(image: &[u8], words: &mut [u32], number: u32) -> WindowAnswer
+pub fn open_file(image: &[u8], words: &mut [u32], number: u32) -> Result<Window, Refusal>
     ensures { (result ≡ openFileAnswer image.now (length words.old) number) × (words.new ≡ zeros words.old) }
 {
     let found = entry(image, words, number);
@@ -84,7 +84,12 @@ pub fn open_file(image: &[u8], words: &mut [u32], number: u32) -> WindowAnswer
 }
 
 // The size that the file can grow to, once the image is prepared.
-fn file_size_in(image: &[u8], words: &[u32], prepared: Prepared, number: u32) -> SizeAnswer
+fn file_size_in(
+    image: &[u8],
+    words: &[u32],
+    prepared: Result<usize, Refusal>,
+    number: u32,
+) -> Result<u32, Refusal>
     requires { Prepares image.now words.now prepared }
     ensures { result ≡ maxFileSizeAnswer image.now (length words.now) number }
 {
@@ -92,14 +97,14 @@ fn file_size_in(image: &[u8], words: &[u32], prepared: Prepared, number: u32) ->
     match found {
         Found::At(_, entry) => match entry {
             Entry::File(file) => answers::sized(image, words, prepared, file.offset, file.size),
-            Entry::Directory(_) => SizeAnswer::Refused(Refusal::ExpectedFile),
+            Entry::Directory(_) => Err(Refusal::ExpectedFile),
         },
-        Found::Refused(cause) => SizeAnswer::Refused(cause),
+        Found::Refused(cause) => Err(cause),
     }
 }
 
 // The size that file `number` can grow to where it is.
-pub fn max_file_size(image: &[u8], words: &mut [u32], number: u32) -> SizeAnswer
+pub fn max_file_size(image: &[u8], words: &mut [u32], number: u32) -> Result<u32, Refusal>
     ensures { (result ≡ maxFileSizeAnswer image.now (length words.old) number) × (words.new ≡ zeros words.old) }
 {
     let prepared = opening::prepare(image, words);

@@ -1,4 +1,5 @@
 -- What a fill decides on, as what its plan comes to: the clip first, and then what the resize writes besides. Assumes nothing.
+use Rattle.std.specs.Prelude.{Result, Ok, Err}
 use Prim.Native.Nat.{ℕ, ◌-◌, ◌^◌, ◌≤◌}
 use mathlib.Core.Path.{◌≡◌, refl, sym, ap, ◌∙◌}
 use mathlib.Core.Bool.{true}
@@ -11,7 +12,6 @@ use Rattle.endian.specs.Bytes.{put, span}
 use Rattle.endian.specs.Laws.Stored.{length-span}
 use Rattle.refusal.specs.declared.Refusal.{Refusal}
 use Rattle.refusal.specs.declared.Refusal.TheVariants.{NotEnoughSpace}
-use Rattle.refusal.specs.declared.Verdict.TheVariants as verdict
 use Rattle.tree.specs.Table.{none}
 use Rattle.space.specs.declared.DiscRegion.{DiscRegion}
 use Rattle.opening.specs.Opening.{nodesIn, freeOf, regionOf}
@@ -19,8 +19,6 @@ use Rattle.opening.specs.Inner.Prepared.{OpenImage, IsOpen}
 use Rattle.edits.specs.Change.{Plan, filled}
 use Rattle.edits.specs.Edits.{fileVerdict, clipVerdict, planSized, planResize, planFill, planVerdict, planImage}
 use Rattle.edits.specs.Laws.Puts.{put-length}
-use Rattle.decide.specs.declared.FileAt.{FileAt}
-use Rattle.decide.specs.declared.FileAt.TheVariants as place
 use Rattle.decide.specs.Inner.Files.{IsFile, fileAs}
 use Rattle.decide.proofs.Files.{file-found, file-refused}
 use Rattle.commit.specs.declared.Writing.{Writing}
@@ -82,21 +80,21 @@ module _ (image : List ℕ) (words room : ℕ) (bytes clip : List ℕ) (known : 
 
 -- ---- by what the code found
 
-module _ (image w bytes bytes' clip : List ℕ) (k : ℕ) (r : FileAt) (read : r ≡ fileAs (fileVerdict (nodesIn image) k) (regionOf (get_or (nodesIn image) k none))) where
+module _ (image w bytes bytes' clip : List ℕ) (k : ℕ) (r : Result DiscRegion Refusal) (read : r ≡ fileAs (fileVerdict (nodesIn image) k) (regionOf (get_or (nodesIn image) k none))) where
   abbrev plan : Plan
   plan = planFill (freeOf image) (nodesIn image) k clip
 
   abbrev Fills : Decision → Type 0
   Fills d = DecidedAs (planVerdict plan image (length w) (length bytes)) plan image (length bytes) bytes' clip d
 
-  fill-refused : (c : Refusal) → clipVerdict (nodesIn image) k (length clip) ≡ verdict.Refused c → Fills (decision.Refused c)
+  fill-refused : (c : Refusal) → clipVerdict (nodesIn image) k (length clip) ≡ Err c → Fills (decision.Refused c)
   unfolding planFill
   fill-refused c e = behind-refused-with image (length w) (length bytes) bytes' clip (clipVerdict (nodesIn image) k (length clip)) _ c e
 
-  pub no-file-to-fill : (c : Refusal) → r ≡ place.Refused c → Fills (decision.Refused c)
+  pub no-file-to-fill : (c : Refusal) → r ≡ Err c → Fills (decision.Refused c)
   no-file-to-fill c e = fill-refused c (rw (file-refused (nodesIn image) k r c read e))
 
-  module _ (old : DiscRegion) (found : r ≡ place.Place old) where
+  module _ (old : DiscRegion) (found : r ≡ Ok old) where
     pub clip-too-long : ltb (2 ^ 32 - 1) (length clip) ≡ true → Fills (decision.Refused NotEnoughSpace)
     clip-too-long h = let f = file-found (nodesIn image) k r old read found in fill-refused NotEnoughSpace (rw (f.passed, h))
 

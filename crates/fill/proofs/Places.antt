@@ -1,4 +1,6 @@
 -- Where a file lies once it is resized to the clip: behind both tables, in the image, and apart from what is zeroed. Assumes nothing.
+use Rattle.std.specs.Prelude.{Result, Ok, Err}
+use Rattle.refusal.specs.Refusal.{Verdict}
 use Prim.Native.Nat.{ℕ, ◌+◌, ◌<◌, ◌≤◌, max}
 use mathlib.Core.Path.{◌≡◌, refl, sym, ap, ◌∙◌}
 use mathlib.Core.Logic.{◌⊎◌, inl, inr, ⊎_elim}
@@ -12,8 +14,6 @@ use Rattle.endian.specs.Bytes.{span}
 use Rattle.endian.specs.Laws.Stored.{length-span}
 use Rattle.refusal.specs.declared.Refusal.{Refusal}
 use Rattle.refusal.specs.declared.Refusal.TheVariants.{OverlappingMove}
-use Rattle.refusal.specs.declared.Verdict.{Verdict}
-use Rattle.refusal.specs.declared.Verdict.TheVariants.{Passed, Refused}
 use Rattle.refusal.specs.Laws.Chains.{refuse-passed, first-passed}
 use Rattle.refusal.specs.Laws.Tests.{lt-or-le, or_cases}
 use Rattle.header.specs.Verdicts.{discEnd, table_end}
@@ -24,8 +24,6 @@ use Rattle.tree.specs.Laws.PlaceLaws.{setPlace-at}
 use Rattle.space.specs.declared.DiscRegion.{DiscRegion}
 use Rattle.space.specs.Used.{end_of}
 use Rattle.space.specs.Laws.FreeLaws.{In}
-use Rattle.free_space.specs.declared.Allocation.{Allocation}
-use Rattle.free_space.specs.declared.Allocation.TheVariants as allocation
 use Rattle.free_space.specs.MaxRegionSize.{maxRegionSize}
 use Rattle.free_space.specs.Allocate.{allocationOf}
 use Rattle.free_space.specs.Laws.GrowthLaws.{file-largest}
@@ -65,7 +63,7 @@ record Lies (image : List ℕ) (c : Change) (n : ℕ) : Type 0 where
   apart : 0 < n → 0 < c.lost.size → (c.place.offset + n ≤ c.lost.offset) ⊎ (c.lost.offset + c.lost.size ≤ c.place.offset)
 
 -- the same of the numbers that are written
-clear : (image : List ℕ) (c : Change) (n words room size : ℕ) (bytes : List ℕ) (w : Writing) → Lies image c n → tableVerdict c image words room ≡ Passed → span bytes 0 size ≡ encode c.nodes → size ≤ length bytes →
+clear : (image : List ℕ) (c : Change) (n words room size : ℕ) (bytes : List ℕ) (w : Writing) → Lies image c n → tableVerdict c image words room ≡ Ok tt → span bytes 0 size ≡ encode c.nodes → size ≤ length bytes →
     c ≡ changeWith c.nodes w → Clear image size w n
 unfolding tableVerdict
 clear image c n words room size bytes w l v t s e =
@@ -113,7 +111,7 @@ module _ (image : List ℕ) (words : ℕ) (known : OpenImage image words) (k : �
 
   -- ---- where it goes elsewhere
 
-  lies-there : (o : ℕ) → relocateVerdict (freeOf image) old (record { offset = o; size = n }) ≡ Passed → Lies image (relocated (nodesIn image) k old (record { offset = o; size = n })) n
+  lies-there : (o : ℕ) → relocateVerdict (freeOf image) old (record { offset = o; size = n }) ≡ Ok tt → Lies image (relocated (nodesIn image) k old (record { offset = o; size = n })) n
   lies-there o v =
       let new : DiscRegion = record { offset = o; size = n } in
       record {
@@ -126,17 +124,17 @@ module _ (image : List ℕ) (words : ℕ) (known : OpenImage image words) (k : �
   -- ---- the resize
 
   -- LAW: what its plan is: nothing, refused, or a change that leaves the clip's place clear
-  sized : (Shown : Plan → Type 0) → (n ≡ old.size → Shown nothing) → ((c : Refusal) → Shown (refused (Refused c))) →
+  sized : (Shown : Plan → Type 0) → (n ≡ old.size → Shown nothing) → ((c : Refusal) → Shown (refused (Err c))) →
       ((c : Change) → Lies image c n → (regionOf (get_or c.nodes k none)).offset ≡ c.place.offset → Shown (change k c)) → Shown (planSized (freeOf image) (nodesIn image) k old n)
   sized Shown same none-fits some = by_size (eqb n old.size) refl
     where
       moved : (o : ℕ) (v : Verdict) → relocateVerdict (freeOf image) old (record { offset = o; size = n }) ≡ v → Shown (planned v (change k (relocated (nodesIn image) k old (record { offset = o; size = n }))))
-      moved o Passed e = some (relocated (nodesIn image) k old (record { offset = o; size = n })) (lies-there o e) (put-there (nodesIn image) k o n f)
-      moved o (Refused c) e = none-fits c
+      moved o (Ok _) e = some (relocated (nodesIn image) k old (record { offset = o; size = n })) (lies-there o e) (put-there (nodesIn image) k o n f)
+      moved o (Err c) e = none-fits c
 
-      by_place : (r : Allocation) → Shown (planElsewhere (nodesIn image) (freeOf image) k old n r)
-      by_place (allocation.Refused c) = none-fits c
-      by_place (allocation.Found r) = moved r.offset (relocateVerdict (freeOf image) old (record { offset = r.offset; size = n })) refl
+      by_place : (r : Result DiscRegion Refusal) → Shown (planElsewhere (nodesIn image) (freeOf image) k old n r)
+      by_place (Err c) = none-fits c
+      by_place (Ok r) = moved r.offset (relocateVerdict (freeOf image) old (record { offset = r.offset; size = n })) refl
 
       by-room : (t : Bool) → (leb n old.size || leb n (maxRegionSize old.offset old.size (freeOf image))) ≡ t →
           Shown (cond t (change k (resized (nodesIn image) k old n)) (planElsewhere (nodesIn image) (freeOf image) k old n (allocationOf 0x8000 n (freeOf image))))
@@ -160,12 +158,12 @@ module _ (image : List ℕ) (words : ℕ) (known : OpenImage image words) (k : �
   never-clip bytes number at = sized (λ (x : Plan). Carries (decision.Clip number at) bytes x → ⊥) (λ e h. h) (λ c h. h) (λ c l g h. h)
 
   -- and a change that passes its tests can be written behind the clip
-  pub clip-clear : (room number size : ℕ) (bytes clip : List ℕ) (w : Writing) → size ≤ length bytes → Carries (decision.Write number size w) bytes p → planVerdict p image words room ≡ Passed →
+  pub clip-clear : (room number size : ℕ) (bytes clip : List ℕ) (w : Writing) → size ≤ length bytes → Carries (decision.Write number size w) bytes p → planVerdict p image words room ≡ Ok tt →
       Clear image size w n × ((regionOf (get_or (planTree p (nodesIn image)) k none)).offset ≡ w.place.offset) × Carries (decision.Write k size (uncopied w)) bytes (filled k clip p)
   clip-clear room number size bytes clip w held =
       sized
       (λ (x : Plan).
-      Carries (decision.Write number size w) bytes x → planVerdict x image words room ≡ Passed → Clear image size w n × ((regionOf (get_or (planTree x (nodesIn image)) k none)).offset ≡ w.place.offset) × Carries (decision.Write k size (uncopied w)) bytes (filled k clip x))
+      Carries (decision.Write number size w) bytes x → planVerdict x image words room ≡ Ok tt → Clear image size w n × ((regionOf (get_or (planTree x (nodesIn image)) k none)).offset ≡ w.place.offset) × Carries (decision.Write k size (uncopied w)) bytes (filled k clip x))
       (λ e h. absurd h) (λ c h. absurd h)
       (λ c l g h v. (
         clear image c n words room size bytes w l v h.table held h.change,

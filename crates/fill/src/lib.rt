@@ -9,7 +9,6 @@ ghost use Rattle.commit.specs.Inner.Decision.{DecidedAs};
 ghost use Rattle.fill.specs.Inner.Filling.{withClip};
 
 use commit::{Decision, Writing};
-use decide::FileAt;
 use refusal::Refusal;
 
 // A resize's decision with the clip: a file of the clip's size stays at `at`, and only the clip is written. No byte of the old file is copied,
@@ -50,8 +49,8 @@ pub fn fill(
 {
     let found = decide::file_at(image, number);
     match found {
-        FileAt::Refused(cause) => Decision::Refused(cause),
-        FileAt::Place(old) => {
+        Err(cause) => Decision::Refused(cause),
+        Ok(old) => {
             if 0xFFFFFFFF < clip.len() {
                 return Decision::Refused(Refusal::NotEnoughSpace);
             }

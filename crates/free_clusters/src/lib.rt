@@ -10,7 +10,6 @@ ghost use Rattle.space.specs.Inner.Words.{SortedDisjoint};
 ghost use Rattle.free_space.specs.Listing.{clusterRow, rows_of, listingOf, listAfter};
 
 use endian::wide;
-use free_space::Listing;
 use refusal::Refusal;
 use space::DiscRegion;
 
@@ -75,15 +74,20 @@ fn list_free_clusters(words: &[u32], count: usize, disc_end: u32, list: &mut [u3
 }
 
 // Lists the free regions in clusters, three words each, rising. Refuses 9, with nothing written, if the list is short.
-pub fn free_clusters(words: &[u32], count: usize, disc_end: u32, list: &mut [u32]) -> Listing
+pub fn free_clusters(
+    words: &[u32],
+    count: usize,
+    disc_end: u32,
+    list: &mut [u32],
+) -> Result<usize, Refusal>
     requires { SortedDisjoint words.now count disc_end }
     ensures value { result ≡ listingOf clusterRow (freeRegions disc_end (regionsIn words.now 0 count)) (length list.old) }
     ensures list_after { list.new ≡ listAfter clusterRow (freeRegions disc_end (regionsIn words.now 0 count)) list.old }
 {
     let found = free_space::count_free_regions(words, count, disc_end);
     if list.len() / 3 < found {
-        return Listing::Refused(Refusal::LimitOrMemory);
+        return Err(Refusal::LimitOrMemory);
     }
     list_free_clusters(words, count, disc_end, list);
-    Listing::Listed(found)
+    Ok(found)
 }

@@ -1,5 +1,6 @@
 -- What allocation and growth choose, one gap at a time.
 -- Assumes nothing.
+use Rattle.std.specs.Prelude.{Ok, Err}
 use Prim.Native.Nat.{ℕ, ◌+◌, ◌-◌, ◌<◌, ◌≤◌}
 use mathlib.Core.Path.{◌≡◌, refl, sym, ap, ◌∙◌}
 use mathlib.Core.Logic.{⊎_elim}
@@ -12,7 +13,6 @@ use lib.ListN.{get_or, drop, drop_of_length-le}
 use lib.Seq.{drop-cons}
 use lib.Dec.{leb, ltb}
 use Rattle.space.specs.declared.DiscRegion.{DiscRegion}
-use Rattle.free_space.specs.declared.Allocation.TheVariants.{Found, Refused}
 use Rattle.refusal.specs.declared.Refusal.TheVariants.{NotEnoughSpace, InvalidAlignment}
 use Rattle.space.specs.Used.{end_of, nonempty}
 use Rattle.space.specs.Free.{freeRegions}
@@ -96,15 +96,15 @@ search-end w m e align wish best i s h z l =
 -- ---- the answer of an allocation
 
 module _ (align wish : ℕ) (rs : List DiscRegion) where
-  pub no_power : powers 32 0 align ≡ false → Refused InvalidAlignment ≡ allocationOf align wish rs
+  pub no_power : powers 32 0 align ≡ false → Err InvalidAlignment ≡ allocationOf align wish rs
   unfolding allocationOf
   no_power h = rw h
 
-  pub no_place : (b : DiscRegion) → powers 32 0 align ≡ true → b ≡ largest align wish noRegion rs → b.size ≡ 0 → Refused NotEnoughSpace ≡ allocationOf align wish rs
+  pub no_place : (b : DiscRegion) → powers 32 0 align ≡ true → b ≡ largest align wish noRegion rs → b.size ≡ 0 → Err NotEnoughSpace ≡ allocationOf align wish rs
   unfolding allocationOf
   no_place b h e z = rw (h, ← e, z)
 
-  pub a-place : (b : DiscRegion) → powers 32 0 align ≡ true → b ≡ largest align wish noRegion rs → (b.size ≡ 0 → ⊥) → Found b ≡ allocationOf align wish rs
+  pub a-place : (b : DiscRegion) → powers 32 0 align ≡ true → b ≡ largest align wish noRegion rs → (b.size ≡ 0 → ⊥) → Ok b ≡ allocationOf align wish rs
   unfolding allocationOf
   a-place b h e z = rw (h, ← e, ne_eqb b.size 0 z)
 

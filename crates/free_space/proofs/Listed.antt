@@ -1,5 +1,6 @@
 -- The free regions counted, listed and summed, one gap at a time.
 -- Assumes nothing.
+use Rattle.std.specs.Prelude.{Ok, Err}
 use Prim.Native.Nat.{ℕ, ◌+◌, ◌-◌, ◌*◌, ◌<◌, ◌≤◌}
 use mathlib.Core.Path.{◌≡◌, refl, sym, ap, ◌∙◌}
 use mathlib.Core.Bool.{true}
@@ -11,7 +12,6 @@ use lib.ListN.{length, get_or, drop, length-append}
 use lib.Dec.{leb}
 use Rattle.refusal.specs.declared.Refusal.TheVariants.{LimitOrMemory}
 use Rattle.space.specs.declared.DiscRegion.{DiscRegion}
-use Rattle.free_space.specs.declared.Listing.TheVariants.{Listed, Refused}
 use Rattle.endian.specs.Bytes.{put}
 use Rattle.endian.specs.Laws.Stored.{length-put, put-none}
 use Rattle.endian.proofs.Parts.{put-append}
@@ -151,11 +151,11 @@ module _ (row : DiscRegion → List ℕ) (w : List ℕ) (m e : ℕ) (l₀ l : Li
 -- ---- the answer
 
 module _ (row : DiscRegion → List ℕ) (rs : List DiscRegion) (l : List ℕ) where
-  pub list-short : length l < length (rows_of row rs) → (Refused LimitOrMemory ≡ listingOf row rs (length l)) × (l ≡ listAfter row rs l)
+  pub list-short : length l < length (rows_of row rs) → (Err LimitOrMemory ≡ listingOf row rs (length l)) × (l ≡ listAfter row rs l)
   list-short a = (rw (lt-ltb (length l) (length (rows_of row rs)) a), rw (lt-ltb (length l) (length (rows_of row rs)) a))
 
   pub list-fits : (l' : List ℕ) (n : ℕ) → n ≡ length rs → length (rows_of row rs) ≤ length l → l' ≡ put l 0 (rows_of row rs) →
-      (Listed n ≡ listingOf row rs (length l)) × (l' ≡ listAfter row rs l)
+      (Ok n ≡ listingOf row rs (length l)) × (l' ≡ listAfter row rs l)
   list-fits l' n q a e = (rw (le-ltb (length l) (length (rows_of row rs)) a, q), rw (le-ltb (length l) (length (rows_of row rs)) a) e)
 
 -- ---- summed

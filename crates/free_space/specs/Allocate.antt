@@ -1,10 +1,10 @@
 -- Document 01, "Free space": "Allocation takes each free region from its first multiple of the alignment, drops it if the padding reaches its size
 -- or the rest is below the wish, and returns the largest rest, the last among equals." Calls: "allocation 22, 21". Assumes nothing: these are definitions.
+use Rattle.std.specs.Prelude.{Result, Ok, Err}
+use Rattle.refusal.specs.declared.Refusal.{Refusal}
 use Rattle.std.specs.Prelude.{ℕ, zero, suc, ◌-◌, ◌^◌, Bool, false, cond, ◌&&◌, ◌||◌, List, [], ◌∷◌, leb, ltb, eqb}
 use Rattle.refusal.specs.declared.Refusal.TheVariants.{NotEnoughSpace, InvalidAlignment}
 use Rattle.space.specs.declared.DiscRegion.{DiscRegion}
-use Rattle.free_space.specs.declared.Allocation.{Allocation}
-use Rattle.free_space.specs.declared.Allocation.TheVariants.{Found, Refused}
 use Rattle.space.specs.Used.{end_of}
 use Rattle.space.specs.Align.{align_up}
 
@@ -38,9 +38,9 @@ abbrev pub isPowerOfTwo : ℕ → Bool
 isPowerOfTwo x = powers 32 0 x
 
 -- a rest has a byte, so size 0 means that there is none
-abbrev pub foundOrRefused : DiscRegion → Allocation
-foundOrRefused b = cond (eqb b.size 0) (Refused NotEnoughSpace) (Found b)
+abbrev pub foundOrRefused : DiscRegion → Result DiscRegion Refusal
+foundOrRefused b = cond (eqb b.size 0) (Err NotEnoughSpace) (Ok b)
 
 -- the answer of `allocate`, among the free regions rs
-unfoldable pub allocationOf : ℕ → ℕ → List DiscRegion → Allocation
-allocationOf align wish rs = cond (isPowerOfTwo align) (foundOrRefused (largest align wish noRegion rs)) (Refused InvalidAlignment)
+unfoldable pub allocationOf : ℕ → ℕ → List DiscRegion → Result DiscRegion Refusal
+allocationOf align wish rs = cond (isPowerOfTwo align) (foundOrRefused (largest align wish noRegion rs)) (Err InvalidAlignment)

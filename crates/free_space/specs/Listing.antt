@@ -1,12 +1,12 @@
 -- Free regions in a result list, some words for each: "result list short 9", "Result words past an answer stay". Nothing is written to a short list.
 -- Assumes nothing: these are definitions.
+use Rattle.std.specs.Prelude.{Result, Ok, Err}
+use Rattle.refusal.specs.declared.Refusal.{Refusal}
 use Rattle.std.specs.Prelude.{ℕ, cond, List, [], ◌∷◌, ◌++◌, length, ltb}
 use Rattle.refusal.specs.declared.Refusal.TheVariants.{LimitOrMemory}
 use Rattle.endian.specs.Bytes.{put}
 use Rattle.space.specs.declared.DiscRegion.{DiscRegion}
 use Rattle.space.specs.Clusters.{bytesBefore, wholeClusters, exactRest}
-use Rattle.free_space.specs.declared.Listing.{Listing}
-use Rattle.free_space.specs.declared.Listing.TheVariants.{Listed, Refused}
 
 -- a region's offset and size
 abbrev pub regionRow : DiscRegion → List ℕ
@@ -22,8 +22,8 @@ rows_of row [] = []
 rows_of row (r ∷ rs) = row r ++ rows_of row rs
 
 -- how many regions are listed, in a list of n words
-abbrev pub listingOf : (DiscRegion → List ℕ) → List DiscRegion → ℕ → Listing
-listingOf row rs n = cond (ltb n (length (rows_of row rs))) (Refused LimitOrMemory) (Listed (length rs))
+abbrev pub listingOf : (DiscRegion → List ℕ) → List DiscRegion → ℕ → Result ℕ Refusal
+listingOf row rs n = cond (ltb n (length (rows_of row rs))) (Err LimitOrMemory) (Ok (length rs))
 
 -- the result list afterwards
 abbrev pub listAfter : (DiscRegion → List ℕ) → List DiscRegion → List ℕ → List ℕ

@@ -15,20 +15,6 @@ ghost use Rattle.space.specs.Inner.Words.{SortedDisjoint, gaps, endBefore, start
 use refusal::Refusal;
 use space::DiscRegion;
 
-// The region that an allocation found, or why there is none.
-#[derive(Clone, Copy)]
-pub enum Allocation {
-    Found(DiscRegion),
-    Refused(Refusal),
-}
-
-// How many regions were listed, or why none was.
-#[derive(Clone, Copy)]
-pub enum Listing {
-    Listed(usize),
-    Refused(Refusal),
-}
-
 // ---- the free regions, read off the sorted words
 
 // Where the region before region i ends, 0 before the first.
@@ -113,17 +99,22 @@ fn list_free_regions(words: &[u32], count: usize, disc_end: u32, list: &mut [u32
 }
 
 // Lists the free regions, an offset and a size each, rising. Refuses 9, with nothing written, if the list is short.
-pub fn free_regions(words: &[u32], count: usize, disc_end: u32, list: &mut [u32]) -> Listing
+pub fn free_regions(
+    words: &[u32],
+    count: usize,
+    disc_end: u32,
+    list: &mut [u32],
+) -> Result<usize, Refusal>
     requires { SortedDisjoint words.now count disc_end }
     ensures value { result ≡ listingOf regionRow (freeRegions disc_end (regionsIn words.now 0 count)) (length list.old) }
     ensures list_after { list.new ≡ listAfter regionRow (freeRegions disc_end (regionsIn words.now 0 count)) list.old }
 {
     let found = count_free_regions(words, count, disc_end);
     if list.len() / 2 < found {
-        return Listing::Refused(Refusal::LimitOrMemory);
+        return Err(Refusal::LimitOrMemory);
     }
     list_free_regions(words, count, disc_end, list);
-    Listing::Listed(found)
+    Ok(found)
 }
 
 // The used total: the disc end less the free regions, which is the sizes of the used regions together.
@@ -255,16 +246,22 @@ fn power_of_two(x: u32) -> bool
 }
 
 // Finds the largest free region for `size` bytes at a multiple of `align`.
-pub fn allocate(words: &[u32], count: usize, disc_end: u32, size: u32, align: u32) -> Allocation
+pub fn allocate(
+    words: &[u32],
+    count: usize,
+    disc_end: u32,
+    size: u32,
+    align: u32,
+) -> Result<DiscRegion, Refusal>
     requires { SortedDisjoint words.now count disc_end }
     ensures { result ≡ allocationOf align size (freeRegions disc_end (regionsIn words.now 0 count)) }
 {
     if !power_of_two(align) {
-        return Allocation::Refused(Refusal::InvalidAlignment);
+        return Err(Refusal::InvalidAlignment);
     }
     let best = find_largest(words, count, disc_end, size, align);
     if best.size == 0 {
-        return Allocation::Refused(Refusal::NotEnoughSpace);
+        return Err(Refusal::NotEnoughSpace);
     }
-    Allocation::Found(best)
+    Ok(best)
 }

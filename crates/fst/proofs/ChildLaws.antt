@@ -1,5 +1,6 @@
 -- The children of a directory of a well-formed tree: the first stands right behind it, and each further one behind all that is in the
 -- one before. Assumes nothing.
+use Rattle.std.specs.Prelude.{Ok, Err}
 use Prim.Native.Nat.{ℕ, zero, suc, ◌+◌, ◌-◌, ◌<◌, ◌≤◌}
 use mathlib.Core.Path.{◌≡◌, refl, sym, ap, ◌∙◌}
 use mathlib.Core.Logic.{⊎_elim}
@@ -13,7 +14,6 @@ use lib.Dec.{eqb}
 use Rattle.endian.specs.Bytes.{sameBytes}
 use Rattle.refusal.specs.Laws.Tests.{lt-or-le, and_left, and-false}
 use Rattle.refusal.specs.declared.Refusal.TheVariants.{NotFound}
-use Rattle.tree.specs.declared.Located.TheVariants.{At, Refused}
 use Rattle.tree.specs.Table.{Node, file, directory, name_of, none, encloses, parentBelow, parent_of}
 use Rattle.tree.specs.Inner.WellFormed.{WellFormed}
 use Rattle.tree.specs.Lookup.{isDirectory, next_of, childNamed, firstChild, childOf}
@@ -122,7 +122,7 @@ module _ (nodes : List Node) (d : ℕ) (nm : List ℕ) (stop : ℕ) (w : WellFor
   unfolding childOf
   search-start = record { later = omega arith; child = λ h. child-first nodes d w (omega arith); left = rw (add-one d, is) }
 
-  pub search-found : (k : ℕ) → Searching nodes d nm stop k → k < stop → sameBytes (name_of (get_or nodes k none)) nm ≡ true → childOf nodes d nm ≡ At k
+  pub search-found : (k : ℕ) → Searching nodes d nm stop k → k < stop → sameBytes (name_of (get_or nodes k none)) nm ≡ true → childOf nodes d nm ≡ Ok k
   unfolding firstChild
   search-found k s h t =
       let e : stop - k ≡ suc (stop - (k + 1)) = omega arith in
@@ -153,7 +153,7 @@ module _ (nodes : List Node) (d : ℕ) (nm : List ℕ) (stop : ℕ) (w : WellFor
       passed j a b =
           ⊎_elim (λ q. rw (ne_eqb (parent_of nodes j) d (inner-parent nodes d w k j s.later q (omega arith)))) (λ q. let r : j ≡ k = omega arith in rw (r, t) (and-false (eqb (parent_of nodes k) d))) (lt-or-le k j)
 
-  pub search-end : (k : ℕ) → Searching nodes d nm stop k → stop ≤ k → childOf nodes d nm ≡ Refused NotFound
+  pub search-end : (k : ℕ) → Searching nodes d nm stop k → stop ≤ k → childOf nodes d nm ≡ Err NotFound
   unfolding firstChild
   search-end k s h =
       let e : stop - k ≡ 0 = omega arith in
@@ -161,19 +161,19 @@ module _ (nodes : List Node) (d : ℕ) (nm : List ℕ) (stop : ℕ) (w : WellFor
 
 -- ---- what was found is a child
 
-first_found : (nodes : List Node) (d : ℕ) (nm : List ℕ) (k n j : ℕ) → firstChild nodes d nm k n ≡ At j → (parent_of nodes j ≡ d) × (k ≤ j) × (j < k + n)
+first_found : (nodes : List Node) (d : ℕ) (nm : List ℕ) (k n j : ℕ) → firstChild nodes d nm k n ≡ Ok j → (parent_of nodes j ≡ d) × (k ≤ j) × (j < k + n)
 unfolding firstChild
 first_found nodes d nm k zero j e = let z : ◌≡◌ {A = ℕ} 0 1 = cc in absurd (omega arith)
 first_found nodes d nm k (suc n) j e = go (childNamed nodes d nm k) refl (first_found nodes d nm (suc k) n j) e
   where
-    go : (t : Bool) → childNamed nodes d nm k ≡ t → (firstChild nodes d nm (suc k) n ≡ At j → (parent_of nodes j ≡ d) × (suc k ≤ j) × (j < suc k + n)) →
-        cond t (At k) (firstChild nodes d nm (suc k) n) ≡ At j → (parent_of nodes j ≡ d) × (k ≤ j) × (j < k + suc n)
+    go : (t : Bool) → childNamed nodes d nm k ≡ t → (firstChild nodes d nm (suc k) n ≡ Ok j → (parent_of nodes j ≡ d) × (suc k ≤ j) × (j < suc k + n)) →
+        cond t (Ok k) (firstChild nodes d nm (suc k) n) ≡ Ok j → (parent_of nodes j ≡ d) × (k ≤ j) × (j < k + suc n)
     go true c ih q =
         let r : k ≡ j = cc in
         (rw (← r) (eqb-true (parent_of nodes k) d (and_left (eqb (parent_of nodes k) d) _ c)), omega arith, omega arith)
     go false c ih q = let i = ih q in (i.0, omega arith, omega arith)
 
-pub child-found : (nodes : List Node) (d : ℕ) (nm : List ℕ) (j : ℕ) → WellFormed nodes → d < length nodes → childOf nodes d nm ≡ At j → (parent_of nodes j ≡ d) × (j < length nodes)
+pub child-found : (nodes : List Node) (d : ℕ) (nm : List ℕ) (j : ℕ) → WellFormed nodes → d < length nodes → childOf nodes d nm ≡ Ok j → (parent_of nodes j ≡ d) × (j < length nodes)
 unfolding childOf
 child-found nodes d nm j w h e =
     let f = first_found nodes d nm (suc d) (next_of (get_or nodes d none) - suc d) j e in

@@ -1,5 +1,6 @@
 -- A text compared with a name that has no zero byte: by the byte behind as many bytes as the name has, and then by those bytes. A name with a
 -- zero byte is no text. Assumes nothing.
+use Rattle.std.specs.Prelude.{Err}
 use Prim.Native.Nat.{ℕ, zero, suc, ◌+◌, ◌-◌, ◌<◌, ◌≤◌}
 use mathlib.Core.Path.{◌≡◌, refl, sym, ap}
 use mathlib.Core.Logic.{⊎_elim}
@@ -13,7 +14,6 @@ use lib.Dec.{eqb}
 use Rattle.endian.specs.Bytes.{span, sameBytes}
 use Rattle.refusal.specs.Laws.Tests.{lt-or-le}
 use Rattle.refusal.specs.declared.Refusal.TheVariants.{NotFound}
-use Rattle.tree.specs.declared.Located.TheVariants.{Refused}
 use Rattle.tree.specs.Table.{Node, name_of, none, count, nodesOf, upTo0, namePlace}
 use Rattle.tree.specs.Lookup.{firstChild, childOf}
 use Rattle.tree.specs.Laws.Accepted.{length-nodesOf}
@@ -93,11 +93,11 @@ names-differ tab nm z (suc j) =
     (λ l. rw (get_or-eq_default (nodesOf tab) none {n = suc j} (rw (length-nodesOf tab) l)) (zeroed [] nm z))
     (lt-or-le (suc j) (count tab))
 
-none_from : (nodes : List Node) (d : ℕ) (nm : List ℕ) → ((j : ℕ) → sameBytes (name_of (get_or nodes j none)) nm ≡ false) → (k n : ℕ) → firstChild nodes d nm k n ≡ Refused NotFound
+none_from : (nodes : List Node) (d : ℕ) (nm : List ℕ) → ((j : ℕ) → sameBytes (name_of (get_or nodes j none)) nm ≡ false) → (k n : ℕ) → firstChild nodes d nm k n ≡ Err NotFound
 unfolding firstChild
 none_from nodes d nm f k zero = refl
 none_from nodes d nm f k (suc n) = rw (f k, and-false _) (none_from nodes d nm f (suc k) n)
 
-pub child-none : (tab : List ℕ) (d : ℕ) (nm : List ℕ) → hasZero nm ≡ true → childOf (nodesOf tab) d nm ≡ Refused NotFound
+pub child-none : (tab : List ℕ) (d : ℕ) (nm : List ℕ) → hasZero nm ≡ true → childOf (nodesOf tab) d nm ≡ Err NotFound
 unfolding childOf
 child-none tab d nm z = none_from (nodesOf tab) d nm (names-differ tab nm z) _ _

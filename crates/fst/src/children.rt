@@ -11,7 +11,6 @@ ghost use Rattle.fst.specs.Inner.Zeros.{hasZero};
 
 use crate::{entries, text};
 use refusal::Refusal;
-use tree::Located;
 
 // Whether the text at `place` has the bytes of `name`. The text at `differs` has not, unless this is 0, and is not compared again, since
 // entries can share a long text.
@@ -40,7 +39,7 @@ fn after(table: &[u8], k: usize) -> usize
 
 // The first child of directory d with that name, which has no zero byte. A subdirectory is stepped over by its next. Of each 65,536 bytes of
 // texts the last text that differs is kept: only one that starts there can be longer than that.
-fn child_named(table: &[u8], d: usize, name: &[u8]) -> Located
+fn child_named(table: &[u8], d: usize, name: &[u8]) -> Result<u32, Refusal>
     requires { Opens table.now × (d < table_of.count table.now) × (hasZero name.now ≡ false) }
     ensures { result ≡ childOf (nodesOf table.now) d name.now }
 {
@@ -51,21 +50,21 @@ fn child_named(table: &[u8], d: usize, name: &[u8]) -> Located
         let place = entries::name_place(table, k);
         let slot = place / 65536 % 32;
         if has_name(table, place, differs[slot], name) {
-            return Located::At(k as u32);
+            return Ok(k as u32);
         }
         differs[slot] = place;
         k = after(table, k);
     }
-    Located::Refused(Refusal::NotFound)
+    Err(Refusal::NotFound)
 }
 
 // The first child of directory d with that name.
-pub fn child(table: &[u8], d: usize, name: &[u8]) -> Located
+pub fn child(table: &[u8], d: usize, name: &[u8]) -> Result<u32, Refusal>
     requires { Opens table.now × (d < table_of.count table.now) }
     ensures { result ≡ childOf (nodesOf table.now) d name.now }
 {
     if text::has_zero(name) {
-        return Located::Refused(Refusal::NotFound);
+        return Err(Refusal::NotFound);
     }
     child_named(table, d, name)
 }

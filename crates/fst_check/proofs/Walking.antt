@@ -1,4 +1,6 @@
 -- One turn of each loop that looks for the first refusal, and the open directories kept in words. Assumes nothing.
+use Rattle.std.specs.Prelude.{Ok}
+use Rattle.refusal.specs.Refusal.{Verdict}
 use Prim.Native.Nat.{ℕ, zero, suc, ◌+◌, ◌-◌, ◌*◌, ◌<◌, ◌≤◌}
 use mathlib.Core.Path.{◌≡◌, refl, sym, ap, ◌∙◌}
 use mathlib.Core.Bool.{true, false}
@@ -9,8 +11,6 @@ use borrow.Author.Tests.{ltb-false, le-leb, lt-leb}
 use lib.ListN.{length, get_or, set, replicate, get_or-replicate, length-replicate}
 use lib.Seq.{get_or-set_same, get_or-set_other}
 use lib.Dec.{leb, ltb}
-use Rattle.refusal.specs.declared.Verdict.{Verdict}
-use Rattle.refusal.specs.declared.Verdict.TheVariants.{Passed}
 use Rattle.refusal.specs.declared.Refusal.TheVariants.{EntryPastTable, UnrecognizedKind, InvalidNextIndex, LimitOrMemory}
 use Rattle.refusal.specs.Refusal.{refuse, is_refused}
 use Rattle.refusal.specs.Laws.Chains.{refuse-passed, first-passed}
@@ -19,17 +19,17 @@ use Rattle.tree.specs.Laws.Steps.{walkEntry, walk-stop, walk-go, walk_end}
 use Rattle.fst_check.specs.Inner.Reading.{Inside, open_in, nodeVerdict}
 
 -- entries that pass stand in the table
-entries-held : (tab : List ℕ) (k n : ℕ) → entriesVerdict tab k (suc n) ≡ Passed → 12 * (k + suc n) ≤ length tab
+entries-held : (tab : List ℕ) (k n : ℕ) → entriesVerdict tab k (suc n) ≡ Ok tt → 12 * (k + suc n) ≤ length tab
 unfolding entriesVerdict entryVerdict
 entries-held tab k zero e =
     let e₁ = first-passed (entryVerdict tab k) (entriesVerdict tab (suc k) zero) e in
-    let e₂ = refuse-passed (ltb (length tab) (12 * k + 12)) EntryPastTable (refuse (ltb 1 (kind tab k)) UnrecognizedKind Passed) e₁.0 in
+    let e₂ = refuse-passed (ltb (length tab) (12 * k + 12)) EntryPastTable (refuse (ltb 1 (kind tab k)) UnrecognizedKind (Ok tt)) e₁.0 in
     omega (arith, ltb-false (length tab) (12 * k + 12) e₂.0)
 entries-held tab k (suc n) e =
     let e₁ = first-passed (entryVerdict tab k) (entriesVerdict tab (suc k) (suc n)) e in
     omega (arith, entries-held tab (suc k) n e₁.1)
 
-pub entries-inside : (tab : List ℕ) (c : ℕ) → 12 ≤ length tab → 1 ≤ c → c ≤ 16384 → entriesVerdict tab 1 (c - 1) ≡ Passed → Inside tab c
+pub entries-inside : (tab : List ℕ) (c : ℕ) → 12 ≤ length tab → 1 ≤ c → c ≤ 16384 → entriesVerdict tab 1 (c - 1) ≡ Ok tt → Inside tab c
 entries-inside tab zero h l s e = elim l [ ]
 entries-inside tab (suc zero) h l s e = record { held = h; some = l; small = s }
 entries-inside tab (suc (suc n)) h l s e =
@@ -108,18 +108,18 @@ unfolding open_in
 open-root n v h = rw (get_or-replicate n 0 v 0 h)
 
 -- a directory that passes is at most 64 deep
-pub next-depth : (c : ℕ) (dirs : List ℕ) (k : ℕ) (nm : List ℕ) (next : ℕ) → nextVerdict c dirs k (directory nm next) ≡ Passed → length dirs ≤ 64
+pub next-depth : (c : ℕ) (dirs : List ℕ) (k : ℕ) (nm : List ℕ) (next : ℕ) → nextVerdict c dirs k (directory nm next) ≡ Ok tt → length dirs ≤ 64
 unfolding nextVerdict
 next-depth c dirs k nm next e =
-    let d = refuse (ltb 64 (length dirs)) LimitOrMemory Passed in
+    let d = refuse (ltb 64 (length dirs)) LimitOrMemory (Ok tt) in
     let t = refuse (ltb (top dirs) next) InvalidNextIndex d in
     let e₁ = refuse-passed (leb next k) InvalidNextIndex (refuse (ltb c next) InvalidNextIndex t) e in
     let e₂ = refuse-passed (ltb c next) InvalidNextIndex t e₁.1 in
     let e₃ = refuse-passed (ltb (top dirs) next) InvalidNextIndex d e₂.1 in
-    ltb-false 64 (length dirs) (refuse-passed (ltb 64 (length dirs)) LimitOrMemory Passed e₃.1).0
+    ltb-false 64 (length dirs) (refuse-passed (ltb 64 (length dirs)) LimitOrMemory (Ok tt) e₃.1).0
 
 -- so there is room for its next
-pub enter-room : (tab : List ℕ) (c k : ℕ) (words : List ℕ) (d : ℕ) → (kind tab k ≡ 0 → ⊥) → nextVerdict c (open_in words d) k (nodeAt tab c k) ≡ Passed → d ≤ 64
+pub enter-room : (tab : List ℕ) (c k : ℕ) (words : List ℕ) (d : ℕ) → (kind tab k ≡ 0 → ⊥) → nextVerdict c (open_in words d) k (nodeAt tab c k) ≡ Ok tt → d ≤ 64
 enter-room tab c k words d h e =
     omega
     (arith, length-open words d, next-depth c (open_in words d) k (name_at tab c (nameOffset tab k)) (sizeOrNext tab k) (rw (node-directory tab c k h) at e))
@@ -153,5 +153,5 @@ module _ {tab : List ℕ} {c : ℕ} {words : List ℕ} {d k : ℕ} (w : Walked t
         left = w.left ∙ walk-go tab c (open_in words d) k c v more same r ∙ rw (e, shuts);
       }
 
-pub walked_end : (tab : List ℕ) (c : ℕ) (words : List ℕ) (d k : ℕ) → Walked tab c words d k → c ≤ k → Passed ≡ walk tab c (c ∷ []) 1 (nodesFrom tab c 1 (c - 1))
+pub walked_end : (tab : List ℕ) (c : ℕ) (words : List ℕ) (d k : ℕ) → Walked tab c words d k → c ≤ k → Ok tt ≡ walk tab c (c ∷ []) 1 (nodesFrom tab c 1 (c - 1))
 walked_end tab c words d k w h = sym (w.left ∙ walk_end tab c (open_in words d) k c h)

@@ -1,6 +1,5 @@
 // Whether a table is accepted: document 01's tests 5 to 13, in the order of "Opening".
 ghost use Rattle.std.specs.Prelude.{◌≡◌, true, [], ◌∷◌, ◌+◌, ◌-◌, ◌*◌, ◌≤◌, ◌<◌, length};
-ghost use Rattle.refusal.specs.declared.Verdict.TheVariants.{Passed};
 ghost use Rattle.tree.specs.Table as table_of;
 ghost use Rattle.tree.specs.Table.{nameOffset, name_at, nodeAt, nodesFrom, entryVerdict, entriesVerdict, nameVerdict, nextVerdict, top};
 ghost use Rattle.fst_check.specs.Inner.Reading.{Inside, open_in, nodeVerdict, textsVerdict, textVerdict};
@@ -24,12 +23,12 @@ fn entry_verdict(table: &[u8], k: usize) -> Verdict
     ensures { result ≡ entryVerdict table.now k }
 {
     if table.len() < 12 * k + 12 {
-        return Verdict::Refused(Refusal::EntryPastTable);
+        return Err(Refusal::EntryPastTable);
     }
     if 1 < table[12 * k] {
-        return Verdict::Refused(Refusal::UnrecognizedKind);
+        return Err(Refusal::UnrecognizedKind);
     }
-    Verdict::Passed
+    Ok(())
 }
 
 // Each entry after the root in turn.
@@ -39,13 +38,10 @@ fn entries_verdict(table: &[u8], count: usize) -> Verdict
 {
     let mut k = 1;
     while k < count {
-        let verdict = entry_verdict(table, k);
-        if verdict.is_refused() {
-            return verdict;
-        }
+        entry_verdict(table, k)?;
         k += 1;
     }
-    Verdict::Passed
+    Ok(())
 }
 
 // The units of the name at `at`: 12, 13.
@@ -53,12 +49,12 @@ fn units_verdict(table: &[u8], at: usize) -> Verdict
     ensures { result ≡ textVerdict (textAt table.now at) }
 {
     if !fst_text::every_unit(table, at, false) {
-        return Verdict::Refused(Refusal::InvalidNameByte);
+        return Err(Refusal::InvalidNameByte);
     }
     if !fst_text::is_safe_name(table, at) {
-        return Verdict::Refused(Refusal::UnsafeName);
+        return Err(Refusal::UnsafeName);
     }
-    Verdict::Passed
+    Ok(())
 }
 
 // The same where the text is fit: the first bytes decide.
@@ -67,12 +63,12 @@ fn clean_verdict(table: &[u8], at: usize) -> Verdict
     ensures { result ≡ textVerdict (textAt table.now at) }
 {
     if fst_text::byte_at(table, at) == 0 {
-        return Verdict::Refused(Refusal::UnsafeName);
+        return Err(Refusal::UnsafeName);
     }
     if fst_text::is_dots(table, at) {
-        return Verdict::Refused(Refusal::UnsafeName);
+        return Err(Refusal::UnsafeName);
     }
-    Verdict::Passed
+    Ok(())
 }
 
 // The name of entry k: 11, 12, 13. Where its text starts clean, it is not looked at unit by unit. Elsewhere only a name that is refused, and so ends
@@ -83,7 +79,7 @@ fn name_verdict(table: &[u8], count: usize, marks: &[bool; 2048], k: usize, clea
 {
     let offset = endian::read_u24(table, 12 * k + 1) as usize;
     if table.len() - 12 * count <= offset {
-        return Verdict::Refused(Refusal::InvalidNameOffset);
+        return Err(Refusal::InvalidNameOffset);
     }
     let at = 12 * count + offset;
     if clean {
@@ -125,22 +121,22 @@ fn next_verdict(table: &[u8], count: usize, nexts: &[u32; 65], depth: usize, k: 
     ensures { result ≡ nextVerdict count (open_in nexts.now depth) k (nodeAt table.now count k) }
 {
     if table[12 * k] == 0 {
-        return Verdict::Passed;
+        return Ok(());
     }
     let next = endian::read_u32(table, 12 * k + 8) as usize;
     if next <= k {
-        return Verdict::Refused(Refusal::InvalidNextIndex);
+        return Err(Refusal::InvalidNextIndex);
     }
     if count < next {
-        return Verdict::Refused(Refusal::InvalidNextIndex);
+        return Err(Refusal::InvalidNextIndex);
     }
     if (innermost(nexts, depth) as usize) < next {
-        return Verdict::Refused(Refusal::InvalidNextIndex);
+        return Err(Refusal::InvalidNextIndex);
     }
     if 64 < depth {
-        return Verdict::Refused(Refusal::LimitOrMemory);
+        return Err(Refusal::LimitOrMemory);
     }
-    Verdict::Passed
+    Ok(())
 }
 
 // How many directories are still open at entry k.
@@ -161,7 +157,7 @@ fn shut(nexts: &[u32; 65], depth: usize, k: usize) -> usize
 // Opens entry k, if it is a directory; how many are open then.
 fn enter(table: &[u8], count: usize, nexts: &mut [u32; 65], depth: usize, k: usize) -> usize
     requires inside { Inside table.now count × (k < count) × (depth ≤ 65) × (length nexts.old ≡ 65) }
-    requires k_value { nextVerdict count (open_in nexts.old depth) k (nodeAt table.now count k) ≡ Passed }
+    requires k_value { nextVerdict count (open_in nexts.old depth) k (nodeAt table.now count k) ≡ (Ok tt) }
     ensures { (open_in nexts.new result ≡ table_of.enter (open_in nexts.old depth) (nodeAt table.now count k)) × (result ≤ 65) × (length nexts.new ≡ 65) }
 {
     if table[12 * k] == 0 {
@@ -184,10 +180,7 @@ fn node_verdict(
     requires { Inside table.now count × (k < count) × (depth ≤ 65) × ((clean ≡ true) → Fit table.now (12 * count + nameOffset table.now k)) × Marked table.now (12 * count) marks.now }
     ensures { result ≡ nodeVerdict table.now count (open_in nexts.now depth) k }
 {
-    let name = name_verdict(table, count, marks, k, clean);
-    if name.is_refused() {
-        return name;
-    }
+    name_verdict(table, count, marks, k, clean)?;
     next_verdict(table, count, nexts, depth, k)
 }
 
@@ -205,14 +198,11 @@ fn walk(table: &[u8], count: usize) -> Verdict
     while k < count {
         depth = shut(&nexts, depth, k);
         clean = starts_clean(table, count, &mut marks, first, k, clean);
-        let verdict = node_verdict(table, count, &marks, &nexts, depth, k, clean);
-        if verdict.is_refused() {
-            return verdict;
-        }
+        node_verdict(table, count, &marks, &nexts, depth, k, clean)?;
         depth = enter(table, count, &mut nexts, depth, k);
         k += 1;
     }
-    Verdict::Passed
+    Ok(())
 }
 
 // Whether texts stand after the entries, and the last has no zero byte at its end.
@@ -232,16 +222,16 @@ fn texts_verdict(table: &[u8], count: usize, words: usize) -> Verdict
     ensures { result ≡ textsVerdict table.now count words }
 {
     if unended(table, count) {
-        return Verdict::Refused(Refusal::MissingNullTerminator);
+        return Err(Refusal::MissingNullTerminator);
     }
     if 1048576 < table.len() - 12 * count {
-        return Verdict::Refused(Refusal::LimitOrMemory);
+        return Err(Refusal::LimitOrMemory);
     }
     if words < 4 * (count + 2) {
-        return Verdict::Refused(Refusal::LimitOrMemory);
+        return Err(Refusal::LimitOrMemory);
     }
     if endian::read_u32(table, 8) == 0 {
-        return Verdict::Refused(Refusal::InvalidNextIndex);
+        return Err(Refusal::InvalidNextIndex);
     }
     walk(table, count)
 }
@@ -251,21 +241,18 @@ pub fn check(table: &[u8], words: usize) -> Verdict
     ensures { result ≡ table_of.check table.now words }
 {
     if table.len() < 12 {
-        return Verdict::Refused(Refusal::EntryPastTable);
+        return Err(Refusal::EntryPastTable);
     }
     if 1 < table[0] {
-        return Verdict::Refused(Refusal::UnrecognizedKind);
+        return Err(Refusal::UnrecognizedKind);
     }
     if table[0] == 0 {
-        return Verdict::Refused(Refusal::RootIsNotDirectory);
+        return Err(Refusal::RootIsNotDirectory);
     }
     let count = count(table);
     if 16384 < count {
-        return Verdict::Refused(Refusal::LimitOrMemory);
+        return Err(Refusal::LimitOrMemory);
     }
-    let entries = entries_verdict(table, count);
-    if entries.is_refused() {
-        return entries;
-    }
+    entries_verdict(table, count)?;
     texts_verdict(table, count, words)
 }

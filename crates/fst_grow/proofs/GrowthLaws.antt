@@ -1,4 +1,6 @@
 -- A table that stands in the working bytes with one entry more: its limits, its size, and that it then stands there. Assumes nothing.
+use Rattle.std.specs.Prelude.{Result, Ok, Err}
+use Rattle.refusal.specs.Refusal.{Verdict}
 use Prim.Native.Nat.{ℕ, suc, ◌+◌, ◌-◌, ◌*◌, ◌<◌, ◌≤◌, ◌^◌}
 use mathlib.Core.Path.{◌≡◌, refl, sym, ap, ◌∙◌}
 use mathlib.Core.Logic.{⊎_elim}
@@ -13,8 +15,6 @@ use mir.Val.{Fits}
 use Rattle.endian.specs.Bytes.{put}
 use Rattle.refusal.specs.declared.Refusal.{Refusal}
 use Rattle.refusal.specs.declared.Refusal.TheVariants.{LimitOrMemory}
-use Rattle.refusal.specs.declared.Verdict.{Verdict}
-use Rattle.refusal.specs.declared.Verdict.TheVariants.{Passed, Refused}
 use Rattle.refusal.specs.Refusal.{refuse}
 use Rattle.tree.specs.Table.{Node, name_of, none, sizeOrNext, textsOf, encode, limits}
 use Rattle.tree.specs.Inner.WellFormed.{GoodName, WellFormed}
@@ -31,8 +31,6 @@ use Rattle.tree.specs.Laws.WrittenEntries.{length-encode}
 use Rattle.fst_raise.specs.Inner.Inserting.{newNode, Insertable}
 use Rattle.fst_raise.proofs.Patches.{new-name}
 use Rattle.fst_patch.proofs.Written.{fresh-new, insertable, insert-written}
-use Rattle.fst_measure.specs.declared.TableSize.{TableSize}
-use Rattle.fst_measure.specs.declared.TableSize.TheVariants as table
 use Rattle.fst_grow.specs.Inner.Growth.{treeIn, Stands, IsDirectory, added, depthAllows, Built}
 use Rattle.fst_grow.proofs.StandingTable.{size_is, front, inside, built-stands}
 
@@ -64,7 +62,7 @@ module _ (M : List Node) (d : Bool) (p : ℕ) (nm : List ℕ) (w : WellFormed M)
       refuse (ltb 16384 (suc (length M))) LimitOrMemory
       (refuse (ltb 1048576 (length (textsOf (tail M)) + suc (length nm))) LimitOrMemory
       (refuse (ltb words (4 * (suc (length M) + 2))) LimitOrMemory
-      (refuse (not (depthAllows d (depth_of M p))) LimitOrMemory Passed)))
+      (refuse (not (depthAllows d (depth_of M p))) LimitOrMemory (Ok tt))))
   limits-added words i =
       let x = directory-is (get_or M p none) dir.kind in
       limits-insert M p (next_of (get_or M p none)) x.0 new words w x.1 dir.inside named (fresh-new d nm (next_of (get_or M p none)))
@@ -79,15 +77,15 @@ module _ (M : List Node) (d : Bool) (p : ℕ) (nm : List ℕ) (w : WellFormed M)
     abbrev F : List Node
     F = added M d p nm
 
-    pub too_many : 16384 ≤ length M → limits F words ≡ Refused LimitOrMemory
+    pub too_many : 16384 ≤ length M → limits F words ≡ Err LimitOrMemory
     too_many h = limits-added words i ∙ rw (lt-ltb 16384 (suc (length M)) (omega arith))
 
-    pub too_long : length M < 16384 → 1048576 - length (textsOf (tail M)) ≤ length nm → limits F words ≡ Refused LimitOrMemory
+    pub too_long : length M < 16384 → 1048576 - length (textsOf (tail M)) ≤ length nm → limits F words ≡ Err LimitOrMemory
     too_long a h =
         limits-added words i
         ∙ rw (le-ltb 16384 (suc (length M)) (omega arith), lt-ltb 1048576 (length (textsOf (tail M)) + suc (length nm)) (omega (arith, i.texts)))
 
-    pub too_few : length M < 16384 → length nm < 1048576 - length (textsOf (tail M)) → words < 4 * (length M + 3) → limits F words ≡ Refused LimitOrMemory
+    pub too_few : length M < 16384 → length nm < 1048576 - length (textsOf (tail M)) → words < 4 * (length M + 3) → limits F words ≡ Err LimitOrMemory
     too_few a b h =
         limits-added words i
         ∙ rw (
@@ -97,7 +95,7 @@ module _ (M : List Node) (d : Bool) (p : ℕ) (nm : List ℕ) (w : WellFormed M)
         )
 
     pub depth-decides : (t : Bool) → length M < 16384 → length nm < 1048576 - length (textsOf (tail M)) → 4 * (length M + 3) ≤ words → t ≡ depthAllows d (depth_of M p) →
-        limits F words ≡ refuse (not t) LimitOrMemory Passed
+        limits F words ≡ refuse (not t) LimitOrMemory (Ok tt)
     depth-decides t a b h e =
         limits-added words i
         ∙ rw (
@@ -109,13 +107,13 @@ module _ (M : List Node) (d : Bool) (p : ℕ) (nm : List ℕ) (w : WellFormed M)
 
 -- ---- the table with one entry more, written over the old one
 
-limits-cause : (nodes : List Node) (words : ℕ) (c : Refusal) → limits nodes words ≡ Refused c → c ≡ LimitOrMemory
+limits-cause : (nodes : List Node) (words : ℕ) (c : Refusal) → limits nodes words ≡ Err c → c ≡ LimitOrMemory
 limits-cause nodes words c e = ⊎_elim (λ q. let z : ◌≡◌ {A = ℕ} 0 1 = cc in absurd (omega arith)) (λ q. cc) (limits-either nodes words)
 
-pub past-cause : (F : List Node) (words : ℕ) (v : Verdict) (c : Refusal) → v ≡ limits F words → v ≡ Refused c → c ≡ LimitOrMemory
+pub past-cause : (F : List Node) (words : ℕ) (v : Verdict) (c : Refusal) → v ≡ limits F words → v ≡ Err c → c ≡ LimitOrMemory
 past-cause F words v c e f = limits-cause F words c (sym e ∙ f)
 
-pub past-never : (F : List Node) (words : ℕ) (s : List ℕ) (v : Verdict) (c : Refusal) → v ≡ limits F words → v ≡ Refused c → limits F words ≡ Passed → length s < length (encode F)
+pub past-never : (F : List Node) (words : ℕ) (s : List ℕ) (v : Verdict) (c : Refusal) → v ≡ limits F words → v ≡ Err c → limits F words ≡ Ok tt → length s < length (encode F)
 past-never F words s v c e f g = let z : ◌≡◌ {A = ℕ} 0 1 = cc in absurd (omega arith)
 
 module _ (s : List ℕ) (size words : ℕ) (st : Stands s size words) (d : Bool) (p : ℕ) (nm : List ℕ) (dir : IsDirectory (treeIn s size) p) (good : GoodName nm) where
@@ -134,10 +132,10 @@ module _ (s : List ℕ) (size words : ℕ) (st : Stands s size words) (d : Bool)
       let new : Node = newNode d nm (next_of (get_or T p none)) in
       omega (arith, size_is s size words st, size-insert T p (next_of (get_or T p none)) x.0 new well x.1 dir.inside, ap length (new-name d nm (next_of (get_or T p none))))
 
-  pub short-built : (t : List ℕ) → length s < size + 12 + length nm + 1 → Built G words s t (table.Refused LimitOrMemory)
+  pub short-built : (t : List ℕ) → length s < size + 12 + length nm + 1 → Built G words s t (Err LimitOrMemory)
   short-built t h = (refl, λ e. omega (arith, grown-size))
 
-  module _ (v : Verdict) (judged : v ≡ limits G words) (passed : v ≡ Passed) where
+  module _ (v : Verdict) (judged : v ≡ limits G words) (passed : v ≡ Ok tt) where
     small : size + 12 + length nm + 1 ≤ 2 ^ 24
     small = let w = within-limits G words (sym judged ∙ passed) in omega (arith, grown-size, length-encode G, w.few, w.texts)
 
@@ -155,7 +153,7 @@ module _ (s : List ℕ) (size words : ℕ) (st : Stands s size words) (d : Bool)
           insertable s T p (next_of (get_or T p none)) x.0 d nm well x.1 dir.inside (inside s size words st).few (omega (arith, size_is s size words st)) (omega (arith, size_is s size words st, small)) in
           rw (front s size words st, ← (size_is s size words st)) at i
 
-      pub inserted-built : (t : List ℕ) → t ≡ put s 0 (insertPatch (take size s) (sizeOrNext s 0) p (newNode d nm (sizeOrNext s p))) → Built G words s t (table.Bytes (size + 12 + length nm + 1))
+      pub inserted-built : (t : List ℕ) → t ≡ put s 0 (insertPatch (take size s) (sizeOrNext s 0) p (newNode d nm (sizeOrNext s p))) → Built G words s t (Ok (size + 12 + length nm + 1))
       inserted-built t g =
           let x = directory-is (get_or T p none) dir.kind in
           let i : put (put s 0 (encode T)) 0 (insertPatch (take (length (encode T)) (put s 0 (encode T))) (sizeOrNext (put s 0 (encode T)) 0) p (newNode d nm (sizeOrNext (put s 0 (encode T)) p))) ≡ put s 0 (encode G) =
@@ -163,7 +161,7 @@ module _ (s : List ℕ) (size words : ℕ) (st : Stands s size words) (d : Bool)
           (sym judged ∙ passed, sym grown-size, room, g ∙ (rw (front s size words st, ← (size_is s size words st)) at i))
 
   -- what grew stands there
-  module _ (t : List ℕ) (r : TableSize) (built : Built G words s t r) (n : ℕ) (e : r ≡ table.Bytes n) where
+  module _ (t : List ℕ) (r : Result ℕ Refusal) (built : Built G words s t r) (n : ℕ) (e : r ≡ Ok n) where
     pub grown : Stands t n words × (treeIn t n ≡ G)
     grown = built-stands G words s t r n (bigger-added T d p nm well dir good).well built e
 

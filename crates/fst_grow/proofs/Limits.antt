@@ -1,5 +1,6 @@
 -- The limits of the tree with one entry more, by the numbers that the code reads and compares.
 -- Assumes nothing.
+use Rattle.std.specs.Prelude.{Ok, Err}
 use Prim.Native.Nat.{ℕ, ◌+◌, ◌-◌, ◌*◌, ◌≤◌, ◌<◌}
 use mathlib.Core.Path.{◌≡◌, sym, ap, ◌∙◌}
 use mathlib.Core.Bool.{Bool, true, false, not}
@@ -8,7 +9,6 @@ use native.Mathlib.Omega.{arith}
 use lib.ListN.{length}
 use Rattle.endian.specs.Bytes.{be32}
 use Rattle.refusal.specs.declared.Refusal.TheVariants.{LimitOrMemory}
-use Rattle.refusal.specs.declared.Verdict.TheVariants.{Passed, Refused}
 use Rattle.refusal.specs.Refusal.{refuse}
 use Rattle.tree.specs.Table.{limits}
 use Rattle.tree.specs.Inner.WellFormed.{GoodName}
@@ -33,26 +33,26 @@ module _ (s : List ℕ) (size words n : ℕ) (st : Stands s size words) (read : 
   texts-fit = omega (arith, count, texts-are s size words st, (inside s size words st).texts)
 
   module _ (is : Bool) (p : ℕ) (nm : List ℕ) (dir : IsDirectory (treeIn s size) p) (good : GoodName nm) where
-    pub past-count : 16384 ≤ n → Refused LimitOrMemory ≡ limits (added (treeIn s size) is p nm) words
+    pub past-count : 16384 ≤ n → Err LimitOrMemory ≡ limits (added (treeIn s size) is p nm) words
     past-count h = sym (too_many (treeIn s size) is p nm st.well dir good words (inside s size words st) (omega (arith, count)))
 
     module _ (few : n < 16384) where
-      pub past-texts : 1048576 - (size - 12 * n) ≤ length nm → Refused LimitOrMemory ≡ limits (added (treeIn s size) is p nm) words
+      pub past-texts : 1048576 - (size - 12 * n) ≤ length nm → Err LimitOrMemory ≡ limits (added (treeIn s size) is p nm) words
       past-texts h =
           sym (too_long (treeIn s size) is p nm st.well dir good words (inside s size words st) (omega (arith, count)) (omega (arith, count, texts-are s size words st)))
 
       module _ (short : length nm < 1048576 - (size - 12 * n)) where
-        pub past_words : words < 4 * (n + 3) → Refused LimitOrMemory ≡ limits (added (treeIn s size) is p nm) words
+        pub past_words : words < 4 * (n + 3) → Err LimitOrMemory ≡ limits (added (treeIn s size) is p nm) words
         past_words h =
             sym (too_few (treeIn s size) is p nm st.well dir good words (inside s size words st) (omega (arith, count)) (omega (arith, count, texts-are s size words st)) (omega (arith, count)))
 
         module _ (room : 4 * (n + 3) ≤ words) (t : Bool) (shallow : t ≡ depthAllows is (depth_of (treeIn s size) p)) where
-          by-depth : limits (added (treeIn s size) is p nm) words ≡ refuse (not t) LimitOrMemory Passed
+          by-depth : limits (added (treeIn s size) is p nm) words ≡ refuse (not t) LimitOrMemory (Ok tt)
           by-depth =
               depth-decides (treeIn s size) is p nm st.well dir good words (inside s size words st) t (omega (arith, count)) (omega (arith, count, texts-are s size words st)) (omega (arith, count)) shallow
 
-          pub not-too-deep : t ≡ true → Passed ≡ limits (added (treeIn s size) is p nm) words
-          not-too-deep e = sym (by-depth ∙ ap (λ (x : Bool). refuse (not x) LimitOrMemory Passed) e)
+          pub not-too-deep : t ≡ true → Ok tt ≡ limits (added (treeIn s size) is p nm) words
+          not-too-deep e = sym (by-depth ∙ ap (λ (x : Bool). refuse (not x) LimitOrMemory (Ok tt)) e)
 
-          pub too-deep : t ≡ false → Refused LimitOrMemory ≡ limits (added (treeIn s size) is p nm) words
-          too-deep e = sym (by-depth ∙ ap (λ (x : Bool). refuse (not x) LimitOrMemory Passed) e)
+          pub too-deep : t ≡ false → Err LimitOrMemory ≡ limits (added (treeIn s size) is p nm) words
+          too-deep e = sym (by-depth ∙ ap (λ (x : Bool). refuse (not x) LimitOrMemory (Ok tt)) e)

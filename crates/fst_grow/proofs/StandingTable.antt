@@ -1,4 +1,6 @@
 -- A table that stands in the working bytes: what is read of it, and that one which was built stands there. Assumes nothing.
+use Rattle.std.specs.Prelude.{Result, Ok}
+use Rattle.refusal.specs.declared.Refusal.{Refusal}
 use Prim.Native.Nat.{ℕ, suc, ◌+◌, ◌-◌, ◌*◌, ◌<◌, ◌≤◌}
 use mathlib.Core.Path.{◌≡◌, refl, sym, ap, ◌∙◌}
 use mathlib.Core.Bool.{true, false}
@@ -20,8 +22,6 @@ use Rattle.tree.specs.Laws.RoundTrip.{Within, within-limits, written-reads}
 use Rattle.tree.specs.Laws.WrittenEntries.{length-encode}
 use Rattle.tree.specs.Laws.Writing.{Fields, textStart, written-fields}
 use Rattle.fst_raise.proofs.Patches.{SameEntry, same-entry}
-use Rattle.fst_measure.specs.declared.TableSize.{TableSize}
-use Rattle.fst_measure.specs.declared.TableSize.TheVariants as table
 use Rattle.fst_measure.proofs.Puts.{put-start}
 use Rattle.fst_grow.specs.Inner.Growth.{treeIn, Stands, IsDirectory, Built}
 
@@ -113,10 +113,10 @@ depth-turn s size words k at n up st c z e = (depth-up s size words k at n up st
 
 -- ---- a tree that was built stands there
 
-pub built-stands : (F : List Node) (words : ℕ) (s t : List ℕ) (r : TableSize) (n : ℕ) → WellFormed F → Built F words s t r → r ≡ table.Bytes n → Stands t n words × (treeIn t n ≡ F)
+pub built-stands : (F : List Node) (words : ℕ) (s t : List ℕ) (r : Result ℕ Refusal) (n : ℕ) → WellFormed F → Built F words s t r → r ≡ Ok n → Stands t n words × (treeIn t n ≡ F)
 unfolding treeIn
 built-stands F words s t r n w built is =
-    let b : Built F words s t (table.Bytes n) = rw is at built in
+    let b : Built F words s t (Ok n) = rw is at built in
     let e : take n t ≡ encode F = rw (b.3, b.1, put-start s (encode F)) (take-append_seam (encode F) (drop (length (encode F)) s)) in
     let q : nodesOf (take n t) ≡ F = ap nodesOf e ∙ written-reads F words w b.0 in
     let l : length t ≡ length s = ap length b.3 ∙ length-put s 0 (encode F) (omega (arith, b.1, b.2)) in

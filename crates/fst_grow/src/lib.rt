@@ -7,7 +7,6 @@ ghost use Rattle.tree.specs.Inner.WellFormed.{GoodName};
 ghost use Rattle.tree.specs.Inner.Depths.{depth_of};
 ghost use Rattle.fst_grow.specs.Inner.Growth.{treeIn, Stands, IsDirectory, added, depthAllows, Built};
 
-use fst_measure::TableSize;
 use refusal::{Refusal, Verdict};
 
 // The directory that directory k is nested in. A table written anew stores it.
@@ -57,19 +56,19 @@ fn check_limits(
 {
     let count = endian::read_u32(bytes, 8) as usize;
     if 16384 <= count {
-        return Verdict::Refused(Refusal::LimitOrMemory);
+        return Err(Refusal::LimitOrMemory);
     }
     let texts = size - 12 * count;
     if fst_measure::TEXTS_LIMIT - texts <= name.len() {
-        return Verdict::Refused(Refusal::LimitOrMemory);
+        return Err(Refusal::LimitOrMemory);
     }
     if words < 4 * (count + 3) {
-        return Verdict::Refused(Refusal::LimitOrMemory);
+        return Err(Refusal::LimitOrMemory);
     }
     if is_shallow(bytes, size, words, p, is_directory) {
-        Verdict::Passed
+        Ok(())
     } else {
-        Verdict::Refused(Refusal::LimitOrMemory)
+        Err(Refusal::LimitOrMemory)
     }
 }
 
@@ -82,18 +81,18 @@ pub fn grow(
     p: usize,
     is_directory: bool,
     name: &[u8],
-) -> TableSize
+) -> Result<usize, Refusal>
     requires { Stands bytes.old size words × IsDirectory (treeIn bytes.old size) p × GoodName name.now }
     ensures { Built (added (treeIn bytes.old size) is_directory p name.now) words bytes.old bytes.new result }
 {
     let verdict = check_limits(bytes, size, words, p, is_directory, name);
-    if let Verdict::Refused(cause) = verdict {
-        return TableSize::Refused(cause);
+    if let Err(cause) = verdict {
+        return Err(cause);
     }
     let grown = size + 12 + name.len() + 1;
     if bytes.len() < grown {
-        return TableSize::Refused(Refusal::LimitOrMemory);
+        return Err(Refusal::LimitOrMemory);
     }
     fst_patch::insert(bytes, size, p, is_directory, name);
-    TableSize::Bytes(grown)
+    Ok(grown)
 }

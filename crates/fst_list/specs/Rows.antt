@@ -1,8 +1,8 @@
 -- All entries of an accepted table at once, six words an entry. Assumes nothing: these are definitions.
+use Rattle.std.specs.Prelude.{Ok}
+use Rattle.refusal.specs.Refusal.{Verdict}
 use Rattle.std.specs.Prelude.{ℕ, zero, suc, ◌+◌, ◌*◌, cond, List, [], ◌∷◌, ◌++◌, length, get_or, ltb}
 use Rattle.endian.specs.Bytes.{put}
-use Rattle.refusal.specs.declared.Verdict.{Verdict}
-use Rattle.refusal.specs.declared.Verdict.TheVariants.{Passed}
 use Rattle.refusal.specs.declared.Refusal.TheVariants.{LimitOrMemory}
 use Rattle.refusal.specs.Refusal.{refuse}
 use Rattle.tree.specs.Table.{namePlace, Node, file, directory, none, count, nodesOf, parent_of}
@@ -28,7 +28,7 @@ rowsBelow base tab (suc k) = rowsBelow base tab k ++ row_of base tab k
 
 -- "result list short 9": nothing is written then; words past the answer stay
 unfoldable pub listVerdict : List ℕ → ℕ → Verdict
-listVerdict tab room = refuse (ltb room (6 * count tab)) LimitOrMemory Passed
+listVerdict tab room = refuse (ltb room (6 * count tab)) LimitOrMemory (Ok tt)
 
 unfoldable pub listed : ℕ → List ℕ → List ℕ → List ℕ
 listed base tab list = cond (ltb (length list) (6 * count tab)) list (put list 0 (rowsBelow base tab (count tab)))

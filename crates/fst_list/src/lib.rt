@@ -140,7 +140,7 @@ pub fn list_entries(table: &[u8], base: u32, list: &mut [u32]) -> Verdict
 {
     let count = fst_check::count(table);
     if list.len() < 6 * count {
-        return Verdict::Refused(Refusal::LimitOrMemory);
+        return Err(Refusal::LimitOrMemory);
     }
     let mut ends = [0u32; 320];
     let mut k = 0;
@@ -149,5 +149,5 @@ pub fn list_entries(table: &[u8], base: u32, list: &mut [u32]) -> Verdict
         add_entry(table, base, list, k, size as u32);
         k += 1;
     }
-    Verdict::Passed
+    Ok(())
 }

@@ -7,8 +7,6 @@ ghost use Rattle.fst_measure.specs.Inner.Valid.{Valid, nameSize};
 ghost use Rattle.fst_measure.specs.Inner.Measure.{measureOf};
 ghost use Rattle.fst_measure.specs.Inner.Flat.{afterIn};
 
-use refusal::Refusal;
-
 // More bytes of texts than this are refused (document 01: "texts over 1,048,576 bytes (9)").
 pub const TEXTS_LIMIT: usize = 1048576;
 
@@ -17,13 +15,6 @@ pub const TEXTS_LIMIT: usize = 1048576;
 pub enum Measured {
     Size(usize),
     PastLimit,
-}
-
-// The size of a new table, or why it cannot be written.
-#[derive(Clone, Copy)]
-pub enum TableSize {
-    Bytes(usize),
-    Refused(Refusal),
 }
 
 // The length of the text at `at`, without its zero byte.

@@ -1,4 +1,5 @@
 -- Lookup with the entries left by named steps in words, for which an accepted tree is shallow enough. Assumes nothing.
+use Rattle.std.specs.Prelude.{Result, Ok, Err}
 use Prim.Native.Nat.{ℕ, zero, suc, ◌+◌, ◌<◌, ◌≤◌}
 use mathlib.Core.Path.{◌≡◌, refl, ap, ◌∙◌}
 use mathlib.Core.Logic.{⊎_elim}
@@ -13,8 +14,6 @@ use lib.Dec.{ltb}
 use Rattle.refusal.specs.Laws.Tests.{lt-or-le, and_left, and_right}
 use Rattle.refusal.specs.declared.Refusal.{Refusal}
 use Rattle.refusal.specs.declared.Refusal.TheVariants.{NoSuchEntry, ExpectedDirectory}
-use Rattle.tree.specs.declared.Located.{Located}
-use Rattle.tree.specs.declared.Located.TheVariants as located
 use Rattle.tree.specs.Table.{Node, file, directory, none, shut, enter, shallowEntry, shallowFrom, shallow}
 use Rattle.tree.specs.Inner.WellFormed.{WellFormed}
 use Rattle.tree.specs.Lookup.{isDirectory, components, childOf, stays, goesBack, and_then, stepBack, follow, lookup}
@@ -60,9 +59,9 @@ pub record Trail (nodes : List Node) (words : List ℕ) (k n : ℕ) : Type 0 whe
   pub behind : (i : ℕ) → i < n → (get_or words i 0 < length nodes) × (i ≤ depth_of nodes (get_or words i 0))
 
 -- what is left of a lookup after a step
-abbrev pub onward : List Node → List ℕ → List (List ℕ) → Step → Located
+abbrev pub onward : List Node → List ℕ → List (List ℕ) → Step → Result ℕ Refusal
 onward nodes words cs (To j n) = follow nodes (open_in words n) j cs
-onward nodes words cs (Refused c) = located.Refused c
+onward nodes words cs (Refused c) = Err c
 
 open_kept : (words : List ℕ) (n v : ℕ) → n < length words → open_in (set words n v) n ≡ open_in words n
 unfolding open_in
@@ -83,9 +82,9 @@ module _ (nodes : List Node) (w : WellFormed nodes) (s : shallow nodes ≡ true)
   into-step : (nm : List ℕ) (cs : List (List ℕ)) → n < 65 → and_then (childOf nodes k nm) (λ j. follow nodes (k ∷ open_in words n) j cs) ≡ onward nodes (set words n k) cs (intoOf nodes k n nm)
   into-step nm cs h = go (childOf nodes k nm)
     where
-      go : (r : Located) → and_then r (λ j. follow nodes (k ∷ open_in words n) j cs) ≡ onward nodes (set words n k) cs (stepTo n r)
-      go (located.At j) = rw (open-enter words n k (omega arith))
-      go (located.Refused c) = refl
+      go : (r : Result ℕ Refusal) → and_then r (λ j. follow nodes (k ∷ open_in words n) j cs) ≡ onward nodes (set words n k) cs (stepTo n r)
+      go (Ok j) = rw (open-enter words n k (omega arith))
+      go (Err c) = refl
 
   pub follow-step : (nm : List ℕ) (cs : List (List ℕ)) → follow nodes (open_in words n) k (nm ∷ cs) ≡ onward nodes (set words n k) cs (step_of nodes words k n nm)
   unfolding follow
@@ -93,7 +92,7 @@ module _ (nodes : List Node) (w : WellFormed nodes) (s : shallow nodes ≡ true)
     where
       go : (d u v : Bool) → (d ≡ true → n < 65) →
           cond d (cond u (follow nodes (open_in words n) k cs) (cond v (stepBack (open_in words n) (λ j rest. follow nodes rest j cs)) (and_then (childOf nodes k nm) (λ j. follow nodes (k ∷ open_in words n) j cs))))
-          (located.Refused ExpectedDirectory) ≡ onward nodes (set words n k) cs (cond d (cond u (To k n) (cond v (backOf words n) (intoOf nodes k n nm))) (Refused ExpectedDirectory))
+          (Err ExpectedDirectory) ≡ onward nodes (set words n k) cs (cond d (cond u (To k n) (cond v (backOf words n) (intoOf nodes k n nm))) (Refused ExpectedDirectory))
       go false u v h = refl
       go true true v h = rw (open_kept words n k (omega (arith, h refl)))
       go true false true h = back_step n cs refl (h refl)
@@ -119,14 +118,14 @@ module _ (nodes : List Node) (w : WellFormed nodes) (s : shallow nodes ≡ true)
           let b = t.behind i (omega arith) in
           (r, rw (← p, ← o) (record { inside = b.0; few = omega arith; deep = b.1; behind = behind-same i (omega arith) }))
 
-      into : (a : Located) → childOf nodes k nm ≡ a → n < 65 → stepTo n a ≡ To j m → (n < 65) × Trail nodes (set words n k) j m
-      into (located.At i) c r e =
+      into : (a : Result ℕ Refusal) → childOf nodes k nm ≡ a → n < 65 → stepTo n a ≡ To j m → (n < 65) × Trail nodes (set words n k) j m
+      into (Ok i) c r e =
           let p : i ≡ j = cc in
           let o : n + 1 ≡ m = cc in
           let f = child-found nodes k nm i w t.inside c in
           let d : depth_of nodes i ≡ suc (depth_of nodes k) = rw f.0 at (depth-parent nodes i w (omega (arith, (child-is nodes k nm i c).after)) f.1) in
           (r, rw (← p, ← o) (record { inside = f.1; few = omega arith; deep = omega (arith, t.deep); behind = behind_more r }))
-      into (located.Refused c') c r e = let z : ◌≡◌ {A = ℕ} 0 1 = cc in absurd (omega arith)
+      into (Err c') c r e = let z : ◌≡◌ {A = ℕ} 0 1 = cc in absurd (omega arith)
 
       go : (d u v : Bool) → (d ≡ true → n < 65) → cond d (cond u (To k n) (cond v (backOf words n) (intoOf nodes k n nm))) (Refused ExpectedDirectory) ≡ To j m → (n < 65) × Trail nodes (set words n k) j m
       go false u v r e = let z : ◌≡◌ {A = ℕ} 0 1 = cc in absurd (omega arith)
@@ -164,10 +163,10 @@ module _ {nodes : List Node} {start : ℕ} {path words : List ℕ} {k n at : ℕ
   pub step-lands : (j m : ℕ) → step_of nodes words k n nm ≡ To j m → (n < 65) × Trail nodes (set words n k) j m
   step-lands j m q = step-trail nodes w shallows words f.long k n f.trail nm j m q
 
-  pub follow-refused : (c : Refusal) → step_of nodes words k n nm ≡ Refused c → follow nodes [] start (components path) ≡ located.Refused c
+  pub follow-refused : (c : Refusal) → step_of nodes words k n nm ≡ Refused c → follow nodes [] start (components path) ≡ Err c
   follow-refused c q = stepped (Refused c) q
 
-  pub follow-end : (j m : ℕ) → step_of nodes words k n nm ≡ To j m → length path ≤ e → follow nodes [] start (components path) ≡ located.At j
+  pub follow-end : (j m : ℕ) → step_of nodes words k n nm ≡ To j m → length path ≤ e → follow nodes [] start (components path) ≡ Ok j
   unfolding follow
   follow-end j m q h = stepped (To j m) q ∙ rw (le-ltb e (length path) h)
 
@@ -186,33 +185,33 @@ abbrev AllBelow : ℕ → List ℕ → Type 0
 AllBelow c [] = Unit {0}
 AllBelow c (k ∷ trail) = (k < c) × AllBelow c trail
 
-follow-inside : (nodes : List Node) → WellFormed nodes → (cs : List (List ℕ)) (trail : List ℕ) (k j : ℕ) → AllBelow (length nodes) trail → k < length nodes → follow nodes trail k cs ≡ located.At j → j < length nodes
+follow-inside : (nodes : List Node) → WellFormed nodes → (cs : List (List ℕ)) (trail : List ℕ) (k j : ℕ) → AllBelow (length nodes) trail → k < length nodes → follow nodes trail k cs ≡ Ok j → j < length nodes
 unfolding follow
 follow-inside nodes w [] trail k j a h e = let q : k ≡ j = cc in omega arith
 follow-inside nodes w (nm ∷ cs) trail k j a h e = go (isDirectory (get_or nodes k none)) (stays nm) (goesBack nm) e (λ rest i. follow-inside nodes w cs rest i j)
   where
     Below : Type 0
-    Below = (rest : List ℕ) (i : ℕ) → AllBelow (length nodes) rest → i < length nodes → follow nodes rest i cs ≡ located.At j → j < length nodes
+    Below = (rest : List ℕ) (i : ℕ) → AllBelow (length nodes) rest → i < length nodes → follow nodes rest i cs ≡ Ok j → j < length nodes
 
-    back : (rest : List ℕ) → AllBelow (length nodes) rest → stepBack rest (λ i r. follow nodes r i cs) ≡ located.At j → Below → j < length nodes
+    back : (rest : List ℕ) → AllBelow (length nodes) rest → stepBack rest (λ i r. follow nodes r i cs) ≡ Ok j → Below → j < length nodes
     back [] b q ih = let z : ◌≡◌ {A = ℕ} 0 1 = cc in absurd (omega arith)
     back (i ∷ rest) b q ih = ih rest i b.1 b.0 q
 
-    into : (r : Located) → childOf nodes k nm ≡ r → and_then r (λ i. follow nodes (k ∷ trail) i cs) ≡ located.At j → Below → j < length nodes
-    into (located.At i) c q ih = ih (k ∷ trail) i (h, a) (child-found nodes k nm i w h c).1 q
-    into (located.Refused c') c q ih = let z : ◌≡◌ {A = ℕ} 0 1 = cc in absurd (omega arith)
+    into : (r : Result ℕ Refusal) → childOf nodes k nm ≡ r → and_then r (λ i. follow nodes (k ∷ trail) i cs) ≡ Ok j → Below → j < length nodes
+    into (Ok i) c q ih = ih (k ∷ trail) i (h, a) (child-found nodes k nm i w h c).1 q
+    into (Err c') c q ih = let z : ◌≡◌ {A = ℕ} 0 1 = cc in absurd (omega arith)
 
     go : (d u v : Bool) →
-        cond d (cond u (follow nodes trail k cs) (cond v (stepBack trail (λ i rest. follow nodes rest i cs)) (and_then (childOf nodes k nm) (λ i. follow nodes (k ∷ trail) i cs)))) (located.Refused ExpectedDirectory) ≡ located.At j → Below → j < length nodes
+        cond d (cond u (follow nodes trail k cs) (cond v (stepBack trail (λ i rest. follow nodes rest i cs)) (and_then (childOf nodes k nm) (λ i. follow nodes (k ∷ trail) i cs)))) (Err ExpectedDirectory) ≡ Ok j → Below → j < length nodes
     go false u v q ih = let z : ◌≡◌ {A = ℕ} 0 1 = cc in absurd (omega arith)
     go true true v q ih = ih trail k a h q
     go true false true q ih = back trail a q ih
     go true false false q ih = into (childOf nodes k nm) refl q ih
 
-pub lookup-inside : (nodes : List Node) → WellFormed nodes → (start : ℕ) (path : List ℕ) (j : ℕ) → lookup nodes start path ≡ located.At j → j < length nodes
+pub lookup-inside : (nodes : List Node) → WellFormed nodes → (start : ℕ) (path : List ℕ) (j : ℕ) → lookup nodes start path ≡ Ok j → j < length nodes
 unfolding lookup
 lookup-inside nodes w start path j e = go (ltb start (length nodes)) refl e
   where
-    go : (t : Bool) → ltb start (length nodes) ≡ t → cond t (follow nodes [] start (components path)) (located.Refused NoSuchEntry) ≡ located.At j → j < length nodes
+    go : (t : Bool) → ltb start (length nodes) ≡ t → cond t (follow nodes [] start (components path)) (Err NoSuchEntry) ≡ Ok j → j < length nodes
     go true h q = follow-inside nodes w (components path) [] start j tt (ltb-true _ _ h) q
     go false h q = let z : ◌≡◌ {A = ℕ} 0 1 = cc in absurd (omega arith)

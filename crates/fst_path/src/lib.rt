@@ -11,7 +11,7 @@ ghost use Rattle.fst_check.specs.Inner.Reading.{Opens};
 ghost use Rattle.fst_path.specs.Inner.Steps.{componentsAfter, step_of, backOf, intoOf};
 
 use refusal::Refusal;
-use tree::{Found, Located};
+use tree::Found;
 
 // Where a component of a path leads: an entry, and how many named steps it is from the start.
 #[derive(Clone, Copy)]
@@ -90,8 +90,8 @@ fn into(table: &[u8], k: usize, steps: usize, name: &[u8]) -> Step
     ensures { result ≡ intoOf (nodesOf table.now) k steps name.now }
 {
     match fst::child(table, k, name) {
-        Located::At(j) => Step::To(j as usize, steps + 1),
-        Located::Refused(cause) => Step::Refused(cause),
+        Ok(j) => Step::To(j as usize, steps + 1),
+        Err(cause) => Step::Refused(cause),
     }
 }
 
@@ -113,7 +113,7 @@ fn take_step(table: &[u8], trail: &[usize; 65], k: usize, steps: usize, name: &[
 }
 
 // Along the components of a path. The entries left by named steps are kept for `..`: 65 at most, since no directory is deeper than 64.
-fn follow(table: &[u8], start: usize, path: &[u8]) -> Located
+fn follow(table: &[u8], start: usize, path: &[u8]) -> Result<u32, Refusal>
     requires { Opens table.now × (start < table_of.count table.now) }
     ensures { result ≡ lookup_of.follow (nodesOf table.now) [] start (components path.now) }
 {
@@ -130,24 +130,24 @@ fn follow(table: &[u8], start: usize, path: &[u8]) -> Located
                 steps = n;
             }
             Step::Refused(cause) => {
-                return Located::Refused(cause);
+                return Err(cause);
             }
         }
         if path.len() <= end {
-            return Located::At(k as u32);
+            return Ok(k as u32);
         }
         at = end + 1;
     }
 }
 
 // The entry that a path leads to from the entry `start`: 15, then along the path 17 and 18.
-pub fn lookup(table: &[u8], start: u32, path: &[u8]) -> Located
+pub fn lookup(table: &[u8], start: u32, path: &[u8]) -> Result<u32, Refusal>
     requires { Opens table.now × (length path.now < 2 ^ 63) }
     ensures { result ≡ lookup_of.lookup (nodesOf table.now) start path.now }
 {
     let place = start as usize;
     if fst_check::count(table) <= place {
-        return Located::Refused(Refusal::NoSuchEntry);
+        return Err(Refusal::NoSuchEntry);
     }
     follow(table, place, path)
 }
@@ -158,7 +158,7 @@ pub fn find(table: &[u8], start: u32, path: &[u8]) -> Found
     ensures { result ≡ found_at (nodesOf table.now) (lookup_of.lookup (nodesOf table.now) start path.now) }
 {
     match lookup(table, start, path) {
-        Located::At(k) => fst::entry(table, k),
-        Located::Refused(cause) => Found::Refused(cause),
+        Ok(k) => fst::entry(table, k),
+        Err(cause) => Found::Refused(cause),
     }
 }

@@ -1,4 +1,6 @@
 -- One turn of the loop over the fields: the answer of those that are left. Assumes nothing.
+use Rattle.std.specs.Prelude.{Ok}
+use Rattle.refusal.specs.Refusal.{Verdict}
 use Prim.Native.Nat.{ℕ, suc, ◌+◌, ◌<◌, ◌≤◌}
 use mathlib.Core.Path.{◌≡◌, ◌∙◌}
 use mathlib.Core.Bool.{true, false}
@@ -7,8 +9,6 @@ use native.Mathlib.Omega.{arith}
 use native.Mathlib.Numerals.{add-one}
 use lib.ListN.{length, drop, drop_of_length-le}
 use lib.Seq.{drop-cons}
-use Rattle.refusal.specs.declared.Verdict.{Verdict}
-use Rattle.refusal.specs.declared.Verdict.TheVariants.{Passed}
 use Rattle.refusal.specs.Refusal.{first, is_refused}
 use Rattle.refusal.specs.Laws.Chains.{first-stop, first-go}
 use Rattle.header.specs.Fields.{place, fields}
@@ -17,7 +17,7 @@ use Rattle.header.specs.Verdicts.{fieldVerdict, fieldsVerdict}
 use Rattle.header.specs.Laws.Tiling.{fields-count}
 
 module _ (image : List ℕ) (k : ℕ) where
-  pub fields-end : 21 ≤ k → fieldsVerdict image (drop k fields) ≡ Passed
+  pub fields-end : 21 ≤ k → fieldsVerdict image (drop k fields) ≡ Ok tt
   unfolding fieldsVerdict
   fields-end h = let l : length fields ≤ k = omega (arith, fields-count) in rw (drop_of_length-le fields {i = k} l)
 

@@ -1,9 +1,9 @@
 -- The header's refusals, 1 to 3 field by field, and 4, from document 01. Assumes nothing: these are definitions.
+use Rattle.std.specs.Prelude.{Ok}
+use Rattle.refusal.specs.Refusal.{Verdict}
 use Rattle.std.specs.Prelude.{ℕ, ◌+◌, ◌-◌, ◌^◌, ◌&&◌, not, List, [], ◌∷◌, eqb, ltb, length}
 use Rattle.endian.specs.Bytes.{be32}
 use Rattle.refusal.specs.declared.Refusal.TheVariants.{HeaderPastImage, WiiNotSupported, InvalidMagic, InvalidBounds}
-use Rattle.refusal.specs.declared.Verdict.{Verdict}
-use Rattle.refusal.specs.declared.Verdict.TheVariants.{Passed}
 use Rattle.refusal.specs.Refusal.{refuse, first}
 use Rattle.header.specs.declared.Field.{Field}
 use Rattle.header.specs.Fields.{fields, wiiMagicField, gcnMagicField, dolOffsetField, fstOffsetField, fstSizeField, fstMaxSizeField, userSizeField, discSizeField}
@@ -25,11 +25,11 @@ fieldVerdict image f =
     refuse (ltb (length image) (f.at + f.len)) HeaderPastImage
     (refuse (eqb f.at wiiMagicField.at && eqb (word_of f image) wiiMagic) WiiNotSupported
     (refuse (eqb f.at gcnMagicField.at && not (eqb (word_of f image) gcnMagic)) InvalidMagic
-    Passed))
+    (Ok tt)))
 
 -- "header fields in order (Wii before GameCube)"
 unfoldable pub fieldsVerdict : List ℕ → List Field → Verdict
-fieldsVerdict image [] = Passed
+fieldsVerdict image [] = Ok tt
 fieldsVerdict image (f ∷ fs) = first (fieldVerdict image f) (fieldsVerdict image fs)
 
 unfoldable pub headerVerdict : List ℕ → Verdict
@@ -70,4 +70,4 @@ boundsVerdict image =
     (refuse (ltb (2 ^ 32 - 1) (discEnd image)) InvalidBounds
     (refuse (ltb (discEnd image) (table_end image)) InvalidBounds
     (refuse (ltb (length image) (discEnd image)) InvalidBounds
-    Passed)))
+    (Ok tt))))

@@ -105,21 +105,21 @@ fn check_field(image: &[u8], f: Field) -> Verdict
 {
     let at = f.at;
     if image.len() < at + f.len {
-        return Verdict::Refused(Refusal::HeaderPastImage);
+        return Err(Refusal::HeaderPastImage);
     }
     if at == Field::WII_MAGIC.at {
         if endian::read_u32(image, at) == WII_MAGIC {
-            return Verdict::Refused(Refusal::WiiNotSupported);
+            return Err(Refusal::WiiNotSupported);
         }
-        return Verdict::Passed;
+        return Ok(());
     }
     if at == Field::GCN_MAGIC.at {
         if endian::read_u32(image, at) == GCN_MAGIC {
-            return Verdict::Passed;
+            return Ok(());
         }
-        return Verdict::Refused(Refusal::InvalidMagic);
+        return Err(Refusal::InvalidMagic);
     }
-    Verdict::Passed
+    Ok(())
 }
 
 // Field by field: 1 at the first that the image does not hold, 2 and 3 as soon as their magic is read.
@@ -128,13 +128,10 @@ pub fn check(image: &[u8]) -> Verdict
 {
     let mut k: usize = 0;
     while k < 21 {
-        let verdict = check_field(image, field_at(k));
-        if verdict.is_refused() {
-            return verdict;
-        }
+        check_field(image, field_at(k))?;
         k += 1;
     }
-    Verdict::Passed
+    Ok(())
 }
 
 // ---- what the header of an image says of the disc, for the layers above: they ask once the header has passed. In an image too short for
@@ -209,28 +206,25 @@ fn bounds(image: &[u8]) -> Verdict
     ensures { result ≡ boundsVerdict image.now }
 {
     if fst_offset(image) < 0x440 {
-        return Verdict::Refused(Refusal::InvalidBounds);
+        return Err(Refusal::InvalidBounds);
     }
     let end = disc_end(image);
     if 0xFFFF_FFFF < end {
-        return Verdict::Refused(Refusal::InvalidBounds);
+        return Err(Refusal::InvalidBounds);
     }
     if end < table_end(image) {
-        return Verdict::Refused(Refusal::InvalidBounds);
+        return Err(Refusal::InvalidBounds);
     }
     if (image.len() as u64) < end {
-        return Verdict::Refused(Refusal::InvalidBounds);
+        return Err(Refusal::InvalidBounds);
     }
-    Verdict::Passed
+    Ok(())
 }
 
 // The header's own tests, then the places that it gives.
 pub fn check_bounds(image: &[u8]) -> Verdict
     ensures { result ≡ first (headerVerdict image.now) (boundsVerdict image.now) }
 {
-    let verdict = check(image);
-    if verdict.is_refused() {
-        return verdict;
-    }
+    check(image)?;
     bounds(image)
 }

@@ -14,9 +14,7 @@ ghost use Rattle.insert.specs.Inner.Insertion.{insertion};
 ghost use Rattle.table_only.specs.Inner.Decisions.{tableDecision};
 
 use commit::Decision;
-use fst_measure::TableSize;
 use refusal::{Refusal, Verdict};
-use tree::Located;
 
 // The tests of the new name among the entries of p: 17, 19, 12.
 fn check_child(table: &[u8], p: usize, name: &[u8]) -> Verdict
@@ -24,15 +22,15 @@ fn check_child(table: &[u8], p: usize, name: &[u8]) -> Verdict
     ensures { result ≡ childVerdict (nodesOf table.now) p name.now }
 {
     if !fst::is_directory(table, p) {
-        return Verdict::Refused(Refusal::ExpectedDirectory);
+        return Err(Refusal::ExpectedDirectory);
     }
-    if let Located::At(_) = fst::child(table, p, name) {
-        return Verdict::Refused(Refusal::AlreadyExists);
+    if let Ok(_) = fst::child(table, p, name) {
+        return Err(Refusal::AlreadyExists);
     }
     if !fst_text::is_plain(name) {
-        return Verdict::Refused(Refusal::InvalidNameByte);
+        return Err(Refusal::InvalidNameByte);
     }
-    Verdict::Passed
+    Ok(())
 }
 
 // The tests of an insert: 15, 13, 17, 19, 12.
@@ -42,27 +40,27 @@ fn check_insert(table: &[u8], parent: u32, name: &[u8]) -> Verdict
 {
     let p = parent as usize;
     if fst_check::count(table) <= p {
-        return Verdict::Refused(Refusal::NoSuchEntry);
+        return Err(Refusal::NoSuchEntry);
     }
     if !fst_text::is_safe(name) {
-        return Verdict::Refused(Refusal::UnsafeName);
+        return Err(Refusal::UnsafeName);
     }
     check_child(table, p, name)
 }
 
 // The number that the new entry gets: it becomes the last child of its directory.
-fn new_number(table: &[u8], parent: u32, name: &[u8]) -> Located
+fn new_number(table: &[u8], parent: u32, name: &[u8]) -> Result<u32, Refusal>
     requires { reading.Opens table.now }
     ensures { result ≡ numberedAs (insertVerdict (nodesOf table.now) parent name.now) (newNumber (nodesOf table.now) parent) }
 {
     let verdict = check_insert(table, parent, name);
     match verdict {
-        Verdict::Refused(cause) => Located::Refused(cause),
-        Verdict::Passed => Located::At(fst::next(table, parent as usize) as u32),
+        Err(cause) => Err(cause),
+        Ok(()) => Ok(fst::next(table, parent as usize) as u32),
     }
 }
 
-fn number_in(image: &[u8], parent: u32, name: &[u8]) -> Located
+fn number_in(image: &[u8], parent: u32, name: &[u8]) -> Result<u32, Refusal>
     requires { OpensImage image.now }
     ensures { result ≡ numberedAs (insertVerdict (nodesIn image.now) parent name.now) (newNumber (nodesIn image.now) parent) }
 {
@@ -79,14 +77,14 @@ fn add_entry(
     p: usize,
     is_directory: bool,
     name: &[u8],
-) -> TableSize
+) -> Result<usize, Refusal>
     requires { IsOpen image.now words.now m × Stands bytes.old size (length words.now) × IsDirectory (treeIn bytes.old size) p × GoodName name.now }
     ensures { Decided (change 0 (tableOnly (added (treeIn bytes.old size) is_directory p name.now))) image.now (length words.now) (length bytes.old) bytes.new (tableDecision 0 result) }
 {
     let grown = fst_grow::grow(bytes, size, words.len(), p, is_directory, name);
     match grown {
-        TableSize::Refused(cause) => TableSize::Refused(cause),
-        TableSize::Bytes(n) => table_only::place_table(image, words, m, bytes, n),
+        Err(cause) => Err(cause),
+        Ok(n) => table_only::place_table(image, words, m, bytes, n),
     }
 }
 
@@ -99,14 +97,14 @@ fn build(
     p: usize,
     is_directory: bool,
     name: &[u8],
-) -> TableSize
+) -> Result<usize, Refusal>
     requires { IsOpen image.now words.now m × IsDirectory (nodesIn image.now) p × GoodName name.now }
     ensures { Decided (change 0 (tableOnly (added (nodesIn image.now) is_directory p name.now))) image.now (length words.now) (length bytes.old) bytes.new (tableDecision 0 result) }
 {
     let started = table_only::start_table(image, words, m, bytes);
     match started {
-        TableSize::Refused(cause) => TableSize::Refused(cause),
-        TableSize::Bytes(size) => { add_entry(image, words, m, bytes, size, p, is_directory, name) }
+        Err(cause) => Err(cause),
+        Ok(size) => { add_entry(image, words, m, bytes, size, p, is_directory, name) }
     }
 }
 
@@ -124,8 +122,8 @@ pub fn insert(
 {
     let found = number_in(image, parent, name);
     match found {
-        Located::Refused(cause) => Decision::Refused(cause),
-        Located::At(number) => {
+        Err(cause) => Decision::Refused(cause),
+        Ok(number) => {
             let built = build(image, words, m, bytes, parent as usize, is_directory, name);
             table_only::numbered(built, number)
         }

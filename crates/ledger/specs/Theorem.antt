@@ -3,9 +3,9 @@
 -- handed on through the list; and what the stated maximum keeps the table to. All are proved: `demand-3` and `unnamed-stays` of
 -- Laws/Demand3, `fill-reads` of Laws/FillReads, `record-tells` of Laws/RecordTells, `maximum-kept` of Laws/MaximumKept. Assumes nothing: these
 -- are definitions.
+use Rattle.std.specs.Prelude.{Ok}
 use Rattle.std.specs.Prelude.{ℕ, ◌+◌, ◌<◌, ◌≤◌, ◌≡◌, true, false, List, map, length, get_or, take}
 use Rattle.endian.specs.Bytes.{put, span, AllBytes}
-use Rattle.refusal.specs.declared.Verdict.TheVariants.{Passed}
 use Rattle.header.specs.Verdicts.{dolOffset, fstSize, fstMaxSize, table_end, discEnd}
 use Rattle.tree.specs.Table.{file, none}
 use Rattle.space.specs.Used.{end_of, inside, totalSize}
@@ -14,10 +14,8 @@ use Rattle.program.specs.Program.{program_of, programIn, programBehind}
 use Rattle.totals.specs.declared.Totals.{Totals}
 use Rattle.opening.specs.Opening.{table_of, nodesIn, regionOf, usedIn, freeOf, opening}
 use Rattle.disc.specs.Calls.{totalsAnswer, programAnswer, freeRegionsAnswer, freeRegionsList, totalsOf, recordMade, recordAnswer}
-use Rattle.disc.specs.declared.TotalsAnswer.TheVariants.{Found}
 use Rattle.window.specs.Window.{newWindow, count_of, bufferOf}
 use Rattle.files.specs.Files.{openFileAnswer}
-use Rattle.files.specs.declared.WindowAnswer.TheVariants as window
 use Rattle.edits.specs.Edits.{fillFile, noPlace, verdictOf, imageAfter}
 use Rattle.ledger.specs.Ledger.{Ledger, bare, filesBefore, historyOf, firstLedger, ledgerAfter}
 use Rattle.ledger.specs.Runs.{Call, imageAfterAll, reportsOf, totalsAfterAll, HandedOn, acceptedIn, AllWithin}
@@ -43,7 +41,7 @@ pub record SameProgram (first last : List ℕ) : Type 0 where
 
 -- of the image after a list of calls, and the list's ledger; w is the "same memory"
 pub record Demand3 (w : ℕ) (first image : List ℕ) (l : Ledger) : Type 0 where
-  pub opens : opening image w ≡ Passed
+  pub opens : opening image w ≡ Ok tt
   -- "After the list, opening reads the ledger's names, kinds, nesting, order and sizes"
   pub tree : map bare (nodesIn image) ≡ l.nodes
   -- no two used regions share a byte: used regions i and j that both have byte n are one
@@ -51,7 +49,7 @@ pub record Demand3 (w : ℕ) (first image : List ℕ) (l : Ledger) : Type 0 wher
   -- table end + the program "where it lies past the table" + all file sizes + free bytes = disc end; "Free bytes are the free regions' sizes together"
   pub sum : table_end image + (programBehind image).size + totalSize (map regionOf (nodesIn image)) + totalSize (freeOf image) ≡ discEnd image
   -- "a used total or free region reported then is the one defined above"
-  pub used-reported : totalsAnswer image w ≡ Found (record { disc_end = discEnd image; used = table_end image + (programBehind image).size + totalSize (map regionOf (nodesIn image)) })
+  pub used-reported : totalsAnswer image w ≡ Ok (record { disc_end = discEnd image; used = table_end image + (programBehind image).size + totalSize (map regionOf (nodesIn image)) })
   pub free-reported : (room : ℕ) → freeRegionsAnswer image w room ≡ listingOf regionRow (freeOf image) room
   pub free-listed : (list : List ℕ) → freeRegionsList image w list ≡ listAfter regionRow (freeOf image) list
   -- the program is the first image's, and reported so
@@ -64,7 +62,7 @@ pub record Demand3 (w : ℕ) (first image : List ℕ) (l : Ledger) : Type 0 wher
 -- the list was lent
 abbrev pub AnyList : Type 0
 AnyList =
-    (image : List ℕ) (w₀ w : ℕ) (calls : List Call) → AllBytes image → opening image w₀ ≡ Passed → w₀ ≤ w → AllWithin w calls →
+    (image : List ℕ) (w₀ w : ℕ) (calls : List Call) → AllBytes image → opening image w₀ ≡ Ok tt → w₀ ≤ w → AllWithin w calls →
     Demand3 w image (imageAfterAll calls image) (ledgerAfter (reportsOf calls image) (firstLedger image))
 
 -- ---- after any list, a file that no accepted edit named lies where it lay, byte for byte
@@ -80,7 +78,7 @@ pub record StillThere (first last : List ℕ) (f : ℕ) (nm : List ℕ) (offset 
 -- THEOREM
 abbrev pub UnnamedStays : Type 0
 UnnamedStays =
-    (image : List ℕ) (w₀ w : ℕ) (calls : List Call) → AllBytes image → opening image w₀ ≡ Passed → w₀ ≤ w → AllWithin w calls →
+    (image : List ℕ) (w₀ w : ℕ) (calls : List Call) → AllBytes image → opening image w₀ ≡ Ok tt → w₀ ≤ w → AllWithin w calls →
     (k : ℕ) (nm : List ℕ) (offset size : ℕ) → get_or (nodesIn image) k none ≡ file nm offset size → Spared (reportsOf calls image) (firstLedger image) (filesBefore k (nodesIn image)) →
     StillThere image (imageAfterAll calls image) (numberAfter (reportsOf calls image) (firstLedger image) (filesBefore k (nodesIn image))) nm offset size
 
@@ -89,14 +87,14 @@ UnnamedStays =
 -- file k as its window shows it: as long as the clip, and a read into a buffer that is long enough gives the clip and no more
 pub record ShowsClip (image : List ℕ) (w k : ℕ) (clip : List ℕ) : Type 0 where
   pub offset : ℕ
-  pub window : openFileAnswer image w k ≡ window.Opened (newWindow offset (length clip))
+  pub window : openFileAnswer image w k ≡ Ok (newWindow offset (length clip))
   pub count : (asked : ℕ) → length clip ≤ asked → count_of (newWindow offset (length clip)) (length image) asked ≡ length clip
   pub bytes : (buffer : List ℕ) → length clip ≤ length buffer → bufferOf (newWindow offset (length clip)) image buffer ≡ put buffer 0 clip
 
 -- THEOREM: an accepted fill, and w words, which are no fewer than it was lent
 abbrev pub FillReads : Type 0
 FillReads =
-    (totals : Totals) (image clip : List ℕ) (k words bytes w : ℕ) → AllBytes image → AllBytes clip → words ≤ w → verdictOf (fillFile k clip) totals image words bytes ≡ Passed →
+    (totals : Totals) (image clip : List ℕ) (k words bytes w : ℕ) → AllBytes image → AllBytes clip → words ≤ w → verdictOf (fillFile k clip) totals image words bytes ≡ Ok tt →
     ShowsClip (imageAfter (fillFile k clip) totals image words bytes) w k clip
 
 -- ---- "always holds the used bytes and largest region worked out afresh, and the number of edits accepted since" (document 02, Point 6)
@@ -126,4 +124,4 @@ pub record WithinMaximum (first last : List ℕ) : Type 0 where
 -- THEOREM: the same images, lists and memory as above
 abbrev pub MaximumKept : Type 0
 MaximumKept =
-    (image : List ℕ) (w₀ w : ℕ) (calls : List Call) → AllBytes image → opening image w₀ ≡ Passed → w₀ ≤ w → AllWithin w calls → WithinMaximum image (imageAfterAll calls image)
+    (image : List ℕ) (w₀ w : ℕ) (calls : List Call) → AllBytes image → opening image w₀ ≡ Ok tt → w₀ ≤ w → AllWithin w calls → WithinMaximum image (imageAfterAll calls image)

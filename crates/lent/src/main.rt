@@ -4,15 +4,15 @@
 // with distance 0 always succeeds, and none are read past the image.
 #![tactic(auto)]
 
+use refusal::Refusal;
 use std::io::{self, Write};
-
-use window::{SeekFrom, Sought, Window};
+use window::{SeekFrom, Window};
 
 // What a seek gave: the position, or the refusal's number.
-fn say_sought<P: Print>(rt: &P, s: Sought) -> io::Result<()> {
+fn say_sought<P: Print>(rt: &P, s: Result<Window, Refusal>) -> io::Result<()> {
     match s {
-        Sought::At(w) => print!(rt; "seek {}", w.position),
-        Sought::Refused(cause) => print!(rt; "seek refused {}", cause.number()),
+        Ok(w) => print!(rt; "seek {}", w.position),
+        Err(cause) => print!(rt; "seek refused {}", cause.number()),
     }
 }
 

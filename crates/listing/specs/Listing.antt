@@ -1,19 +1,17 @@
 -- The listing of an image: its text (document 01, "A small master": "The listing program reads up to 65,536 bytes from standard input
 -- (more: 9), .. and prints lines"), and what the two calls answer. Assumes nothing: these are definitions.
+use Rattle.std.specs.Prelude.{Result, Ok, Err}
+use Rattle.refusal.specs.Refusal.{Verdict}
 use Rattle.std.specs.Prelude.{ℕ, cond, List, [], ◌∷◌, ◌++◌, ltb, length}
 use Rattle.endian.specs.Bytes.{put}
 use Rattle.refusal.specs.declared.Refusal.{Refusal}
 use Rattle.refusal.specs.declared.Refusal.TheVariants.{LimitOrMemory}
-use Rattle.refusal.specs.declared.Verdict.{Verdict}
-use Rattle.refusal.specs.declared.Verdict.TheVariants.{Passed}
 use Rattle.refusal.specs.Refusal.{number_of, refuse, first}
 use Rattle.header.specs.Verdicts.{discEnd}
 use Rattle.opening.specs.Opening.{opening, nodesIn, usedOf, freeOf}
 use Rattle.answers.specs.Answers.{behind}
 use Rattle.listing_text.specs.Lines.{lineFeed, totalsLine, entryLines, regionLines}
 use Rattle.text_buffer.specs.Decimal.{decimal}
-use Rattle.listing.specs.declared.Listed.{Listed}
-use Rattle.listing.specs.declared.Listed.TheVariants as listed
 
 -- "disc end and used total; entries in table order ..; free regions"
 unfoldable pub listingText : List ℕ → List ℕ
@@ -21,10 +19,10 @@ listingText image = totalsLine (discEnd image) (usedOf image) ++ (entryLines (no
 
 -- `list`: opening's refusals; then 9 where the text does not fit the buffer
 unfoldable pub listingVerdict : List ℕ → ℕ → ℕ → Verdict
-listingVerdict image words room = first (opening image words) (refuse (ltb room (length (listingText image))) LimitOrMemory Passed)
+listingVerdict image words room = first (opening image words) (refuse (ltb room (length (listingText image))) LimitOrMemory (Ok tt))
 
-unfoldable pub listAnswer : List ℕ → ℕ → ℕ → Listed
-listAnswer image words room = behind (listingVerdict image words room) listed.Refused (listed.Text (length (listingText image)))
+unfoldable pub listAnswer : List ℕ → ℕ → ℕ → Result ℕ Refusal
+listAnswer image words room = behind (listingVerdict image words room) Err (Ok (length (listingText image)))
 
 -- the buffer afterwards: the text in front, or with a refusal all as it was
 unfoldable pub listBuffer : List ℕ → ℕ → List ℕ → List ℕ
@@ -38,7 +36,7 @@ refusedText c = (0x72 ∷ 0x65 ∷ 0x66 ∷ 0x75 ∷ 0x73 ∷ 0x65 ∷ 0x64 ∷ 
 
 -- "reads up to 65,536 bytes from standard input (more: 9)"
 unfoldable pub reportVerdict : List ℕ → ℕ → ℕ → Verdict
-reportVerdict image words room = first (refuse (ltb 65536 (length image)) LimitOrMemory Passed) (listingVerdict image words room)
+reportVerdict image words room = first (refuse (ltb 65536 (length image)) LimitOrMemory (Ok tt)) (listingVerdict image words room)
 
 unfoldable pub reportText : List ℕ → ℕ → ℕ → List ℕ
 reportText image words room = behind (reportVerdict image words room) refusedText (listingText image)

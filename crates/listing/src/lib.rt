@@ -7,21 +7,12 @@ ghost use Rattle.opening.specs.Opening.{opening};
 ghost use Rattle.opening.specs.Inner.Prepared.{IsOpen, Prepares};
 ghost use Rattle.answers.specs.Answers.{behind};
 ghost use Rattle.text_buffer.specs.Inner.Writing.{Wrote};
-ghost use Rattle.listing.specs.declared.Listed.TheVariants as listed;
 ghost use Rattle.listing.specs.Listing.{listingText, listAnswer, listBuffer, refusedText, reportVerdict, reportAnswer, reportBuffer};
 
-use opening::Prepared;
 use refusal::Refusal;
 
-// The length of the text, or why there is none.
-#[derive(Clone, Copy)]
-pub enum Listed {
-    Text(usize),
-    Refused(Refusal),
-}
-
 // The text of an image that opened: measured first, so that a short buffer stays as it is.
-fn list_opened(image: &[u8], words: &[u32], count: usize, text: &mut [u8]) -> Listed
+fn list_opened(image: &[u8], words: &[u32], count: usize, text: &mut [u8]) -> Result<usize, Refusal>
     requires { IsOpen image.now words.now count }
     ensures { (result ≡ listAnswer image.now (length words.now) (length text.old)) × (text.new ≡ listBuffer image.now (length words.now) text.old) }
 {
@@ -30,24 +21,29 @@ fn list_opened(image: &[u8], words: &[u32], count: usize, text: &mut [u8]) -> Li
     let mut nothing: [u8; 1] = [0; 1];
     let size = listing_text::put_listing(table, words, count, end, &mut nothing);
     if text.len() < size {
-        return Listed::Refused(Refusal::LimitOrMemory);
+        return Err(Refusal::LimitOrMemory);
     }
     listing_text::put_listing(table, words, count, end, text);
-    Listed::Text(size)
+    Ok(size)
 }
 
-fn list_in(image: &[u8], words: &[u32], prepared: Prepared, text: &mut [u8]) -> Listed
+fn list_in(
+    image: &[u8],
+    words: &[u32],
+    prepared: Result<usize, Refusal>,
+    text: &mut [u8],
+) -> Result<usize, Refusal>
     requires { Prepares image.now words.now prepared }
     ensures { (result ≡ listAnswer image.now (length words.now) (length text.old)) × (text.new ≡ listBuffer image.now (length words.now) text.old) }
 {
     match prepared {
-        Prepared::Ready(count) => list_opened(image, words, count, text),
-        Prepared::Refused(cause) => Listed::Refused(cause),
+        Ok(count) => list_opened(image, words, count, text),
+        Err(cause) => Err(cause),
     }
 }
 
 // The listing of an image, in front of `text`: its length; or why there is none, with the buffer as it was.
-pub fn list(image: &[u8], words: &mut [u32], text: &mut [u8]) -> Listed
+pub fn list(image: &[u8], words: &mut [u32], text: &mut [u8]) -> Result<usize, Refusal>
     ensures { (result ≡ listAnswer image.now (length words.old) (length text.old)) × (text.new ≡ listBuffer image.now (length words.old) text.old) × (words.new ≡ replicate (length words.old) 0) }
 {
     let prepared = opening::prepare(image, words);
@@ -80,12 +76,12 @@ fn write_refused(text: &mut [u8], cause: Refusal) -> usize
 }
 
 // The listing of an image of at most 65,536 bytes.
-fn list_small(image: &[u8], words: &mut [u32], text: &mut [u8]) -> Listed
-    ensures { (result ≡ behind (reportVerdict image.now (length words.old) (length text.old)) listed.Refused (listed.Text (length (listingText image.now)))) × (text.new ≡ behind (reportVerdict image.now (length words.old) (length text.old)) (λ c. text.old) (put text.old 0 (listingText image.now))) × (words.new ≡ replicate (length words.old) 0) }
+fn list_small(image: &[u8], words: &mut [u32], text: &mut [u8]) -> Result<usize, Refusal>
+    ensures { (result ≡ behind (reportVerdict image.now (length words.old) (length text.old)) Err (Ok (length (listingText image.now)))) × (text.new ≡ behind (reportVerdict image.now (length words.old) (length text.old)) (λ c. text.old) (put text.old 0 (listingText image.now))) × (words.new ≡ replicate (length words.old) 0) }
 {
     if 65536 < image.len() {
         space::zero_words(words);
-        return Listed::Refused(Refusal::LimitOrMemory);
+        return Err(Refusal::LimitOrMemory);
     }
     list(image, words, text)
 }
@@ -96,7 +92,7 @@ pub fn report(image: &[u8], words: &mut [u32], text: &mut [u8]) -> usize
 {
     let listed = list_small(image, words, text);
     match listed {
-        Listed::Text(size) => size,
-        Listed::Refused(cause) => write_refused(text, cause),
+        Ok(size) => size,
+        Err(cause) => write_refused(text, cause),
     }
 }

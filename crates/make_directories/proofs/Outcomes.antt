@@ -1,5 +1,7 @@
 -- What the code found before and after the walk, as the plan that it comes to.
 -- Assumes nothing.
+use Rattle.std.specs.Prelude.{Result, Ok, Err}
+use Rattle.refusal.specs.Refusal.{Verdict}
 use Prim.Native.Nat.{ℕ, ◌<◌, ◌≤◌}
 use mathlib.Core.Path.{◌≡◌, refl, sym, ◌∙◌}
 use mathlib.Core.Bool.{false}
@@ -12,8 +14,6 @@ use mir.Syntax.{w32}
 use mir.Val.{Fits}
 use Rattle.refusal.specs.declared.Refusal.{Refusal}
 use Rattle.refusal.specs.declared.Refusal.TheVariants.{NoSuchEntry}
-use Rattle.refusal.specs.declared.Verdict.{Verdict}
-use Rattle.refusal.specs.declared.Verdict.TheVariants.{Passed, Refused}
 use Rattle.refusal.specs.Refusal.{refuse}
 use Rattle.tree.specs.Table.{Node, count, nodesOf}
 use Rattle.tree.specs.Inner.WellFormed.{WellFormed}
@@ -23,8 +23,6 @@ use Rattle.fst_check.specs.Inner.Reading.{Opens}
 use Rattle.fst.proofs.Nodes.{opens-inside}
 use Rattle.opening.specs.Opening.{table_of, nodesIn}
 use Rattle.opening.specs.Inner.Prepared.{OpenImage, IsOpen}
-use Rattle.fst_measure.specs.declared.TableSize.{TableSize}
-use Rattle.fst_measure.specs.declared.TableSize.TheVariants as table
 use Rattle.commit.specs.Inner.Decision.{Decided}
 use Rattle.edits.specs.Change.{Plan, change}
 use Rattle.edits.specs.Edits.{make, tableOnly, planMakeDirectories}
@@ -46,7 +44,7 @@ pub count_held : (tab : List ℕ) → Opens tab → 12 ≤ length tab
 count_held tab o = let i = opens-inside tab o in omega arith
 
 module _ (tab : List ℕ) (start n : ℕ) (v : Verdict) (counted : n ≡ count tab) where
-  pub no_start : n ≤ start → Refused NoSuchEntry ≡ refuse (leb (length (nodesOf tab)) start) NoSuchEntry v
+  pub no_start : n ≤ start → Err NoSuchEntry ≡ refuse (leb (length (nodesOf tab)) start) NoSuchEntry v
   no_start h = rw (le-leb (length (nodesOf tab)) start (omega (arith, length-nodesOf tab)))
 
   pub start-there : (r : Verdict) → start < n → r ≡ v → r ≡ refuse (leb (length (nodesOf tab)) start) NoSuchEntry v
@@ -58,16 +56,16 @@ unfolding nodesIn
 path-judged image tab words start path r is known h q = rw is at q ∙ path-short (nodesIn image) start path (well-open image words known) h
 
 module _ (nodes : List Node) (start : ℕ) (path : List ℕ) (v : Verdict) (judged : v ≡ pathVerdict nodes start path) where
-  pub path-stops : (image : List ℕ) (words room : ℕ) (bytes : List ℕ) (c : Refusal) → v ≡ Refused c → Decided (planMakeDirectories nodes start path) image words room bytes (decision.Refused c)
+  pub path-stops : (image : List ℕ) (words room : ℕ) (bytes : List ℕ) (c : Refusal) → v ≡ Err c → Decided (planMakeDirectories nodes start path) image words room bytes (decision.Refused c)
   path-stops image words room bytes c e = path-refused nodes start path image words room bytes c (sym judged ∙ e)
 
-  pub path-passes : v ≡ Passed → pathVerdict nodes start path ≡ Passed
+  pub path-passes : v ≡ Ok tt → pathVerdict nodes start path ≡ Ok tt
   path-passes e = sym judged ∙ e
 
 -- ---- the tree of the image could not be written anew
 
-pub unstarted : (image w s t after : List ℕ) (m start : ℕ) (path : List ℕ) (v : Verdict) (r : TableSize) (c : Refusal) → v ≡ pathVerdict (nodesIn image) start path → v ≡ Passed → IsOpen image w m →
-    Built (nodesIn image) (length w) s t r → r ≡ table.Refused c → Decided (planMakeDirectories (nodesIn image) start path) image (length w) (length s) after (decision.Refused c)
+pub unstarted : (image w s t after : List ℕ) (m start : ℕ) (path : List ℕ) (v : Verdict) (r : Result ℕ Refusal) (c : Refusal) → v ≡ pathVerdict (nodesIn image) start path → v ≡ Ok tt → IsOpen image w m →
+    Built (nodesIn image) (length w) s t r → r ≡ Err c → Decided (planMakeDirectories (nodesIn image) start path) image (length w) (length s) after (decision.Refused c)
 unstarted image w s t after m start path v r c judged passed o b e =
     start-refused (nodesIn image) start path (sym judged ∙ passed) (well-open image (length w) o.known) image (length w) (length s) s t after r c refl b e
 
@@ -77,11 +75,11 @@ same-room p image words s t after g e h = rw e at h
 
 -- ---- the walk made the directories, or there was no room
 
-module _ (image s : List ℕ) (size start : ℕ) (path : List ℕ) (same : treeIn s size ≡ nodesIn image) (passed : pathVerdict (nodesIn image) start path ≡ Passed) where
+module _ (image s : List ℕ) (size start : ℕ) (path : List ℕ) (same : treeIn s size ≡ nodesIn image) (passed : pathVerdict (nodesIn image) start path ≡ Ok tt) where
   pub starts-in-tree : start < length (treeIn s size)
   starts-in-tree = rw same (starts-inside (nodesIn image) start path passed)
 
-  pub makes-in-tree : madeVerdict (make (treeIn s size) [] start false (components path)) ≡ Passed
+  pub makes-in-tree : madeVerdict (make (treeIn s size) [] start false (components path)) ≡ Ok tt
   makes-in-tree = rw same (makes-all (nodesIn image) start path passed)
 
   module _ (words room : ℕ) (after : List ℕ) (r : Reached) (w : WellFormed (nodesIn image)) (h : Reaches (make (treeIn s size) [] start false (components path)) words room after r) where
@@ -92,7 +90,7 @@ module _ (image s : List ℕ) (size start : ℕ) (path : List ℕ) (same : treeI
       pub reached-fits : Fits w32 k
       reached-fits = record { fits = made-small (nodesIn image) start path passed w image words room (treeIn s size) same after r h k n e }
 
-      pub walk-placed : (x : TableSize) (g : Decision) → length after ≡ room → Decided (change 0 (tableOnly (treeIn after n))) image words (length after) after (tableDecision 0 x) → g ≡ tableDecision k x →
+      pub walk-placed : (x : Result ℕ Refusal) (g : Decision) → length after ≡ room → Decided (change 0 (tableOnly (treeIn after n))) image words (length after) after (tableDecision 0 x) → g ≡ tableDecision k x →
           Decided (planMakeDirectories (nodesIn image) start path) image words room after g
       walk-placed x g l d q = rw q (made-placed (nodesIn image) start path passed w image words room (treeIn s size) same after r h k n (length after) x e l d)
 

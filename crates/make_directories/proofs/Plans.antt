@@ -1,5 +1,6 @@
 -- Make-directories as a plan: its tests that need no memory, the tree and the entry that it comes to, and what is decided once there was room
 -- for the table, or none. Assumes nothing.
+use Rattle.std.specs.Prelude.{Result, Ok, Err}
 use Prim.Native.Nat.{ℕ, ◌<◌, ◌≤◌, ◌^◌}
 use mathlib.Core.Path.{◌≡◌, refl, sym, ap, ◌∙◌}
 use mathlib.Core.Bool.{Bool, true, false}
@@ -10,7 +11,6 @@ use lib.Dec.{ltb, leb}
 use lib.ListN.{length}
 use Rattle.refusal.specs.declared.Refusal.{Refusal}
 use Rattle.refusal.specs.declared.Refusal.TheVariants.{LimitOrMemory, NoSuchEntry}
-use Rattle.refusal.specs.declared.Verdict.TheVariants.{Passed, Refused}
 use Rattle.refusal.specs.Refusal.{refuse}
 use Rattle.refusal.specs.Laws.Chains.{refuse-passed}
 use Rattle.tree.specs.Table.{Node}
@@ -19,8 +19,6 @@ use Rattle.tree.specs.Lookup.{components}
 use Rattle.tree.specs.Laws.InsertedList.{well-nested}
 use Rattle.tree.specs.Laws.Growing.{Bigger, bigger-same}
 use Rattle.tree.specs.Laws.RoundTrip.{within-limits}
-use Rattle.fst_measure.specs.declared.TableSize.{TableSize}
-use Rattle.fst_measure.specs.declared.TableSize.TheVariants as table
 use Rattle.edits.specs.Change.{Plan, change}
 use Rattle.edits.specs.Edits.{Made, stopped, made, make, tableOnly, planned, planMade, planMakeDirectories, planVerdict}
 use Rattle.edits.specs.Inner.Troubles.{madeVerdict, troubleOf}
@@ -47,7 +45,7 @@ module _ (nodes : List Node) (start : ℕ) (path : List ℕ) where
 
   -- ---- the tests that need no memory
 
-  pub path-long : 1024 < length path → Refused LimitOrMemory ≡ pathVerdict nodes start path
+  pub path-long : 1024 < length path → Err LimitOrMemory ≡ pathVerdict nodes start path
   unfolding pathVerdict
   path-long h = rw (lt-ltb 1024 (length path) h)
 
@@ -60,12 +58,12 @@ module _ (nodes : List Node) (start : ℕ) (path : List ℕ) where
       go true e = refl
       go false e = sym (make-trouble nodes start (components path) (well-nested nodes w) (leb-false (length nodes) start e))
 
-  pub path-refused : (image : List ℕ) (words room : ℕ) (bytes : List ℕ) (c : Refusal) → pathVerdict nodes start path ≡ Refused c → Decided plan image words room bytes (decision.Refused c)
+  pub path-refused : (image : List ℕ) (words room : ℕ) (bytes : List ℕ) (c : Refusal) → pathVerdict nodes start path ≡ Err c → Decided plan image words room bytes (decision.Refused c)
   unfolding pathVerdict planMakeDirectories
   path-refused image words room bytes c e = refused-decided image words room bytes plan c (go (ltb 1024 (length path)) (leb (length nodes) start) whole e)
     where
-      go : (a b : Bool) (x : Made) → refuse a LimitOrMemory (refuse b NoSuchEntry (madeVerdict x)) ≡ Refused c →
-          planVerdict (planned (refuse a LimitOrMemory (refuse b NoSuchEntry Passed)) (planMade x)) image words room ≡ Refused c
+      go : (a b : Bool) (x : Made) → refuse a LimitOrMemory (refuse b NoSuchEntry (madeVerdict x)) ≡ Err c →
+          planVerdict (planned (refuse a LimitOrMemory (refuse b NoSuchEntry (Ok tt))) (planMade x)) image words room ≡ Err c
       go true b x q = q
       go false true x q = q
       go false false (stopped d) q = q
@@ -74,8 +72,8 @@ module _ (nodes : List Node) (start : ℕ) (path : List ℕ) where
 
   -- ---- once they are passed: the tree that is made, and the entry where the path leads
 
-  module _ (p : pathVerdict nodes start path ≡ Passed) where
-    passed : (leb (length nodes) start ≡ false) × (ltb 1024 (length path) ≡ false) × (madeVerdict whole ≡ Passed)
+  module _ (p : pathVerdict nodes start path ≡ Ok tt) where
+    passed : (leb (length nodes) start ≡ false) × (ltb 1024 (length path) ≡ false) × (madeVerdict whole ≡ Ok tt)
     unfolding pathVerdict
     passed =
         let a = refuse-passed (ltb 1024 (length path)) LimitOrMemory _ p in
@@ -85,14 +83,14 @@ module _ (nodes : List Node) (start : ℕ) (path : List ℕ) where
     pub starts-inside : start < length nodes
     starts-inside = leb-false (length nodes) start passed.0
 
-    pub makes-all : madeVerdict whole ≡ Passed
+    pub makes-all : madeVerdict whole ≡ Ok tt
     makes-all = passed.2
 
     plan-is : plan ≡ change (madeEntry whole) (tableOnly (madeTree whole))
     unfolding planMakeDirectories
     plan-is = rw (passed.0, passed.1) (go whole makes-all)
       where
-        go : (x : Made) → madeVerdict x ≡ Passed → planMade x ≡ change (madeEntry x) (tableOnly (madeTree x))
+        go : (x : Made) → madeVerdict x ≡ Ok tt → planMade x ≡ change (madeEntry x) (tableOnly (madeTree x))
         go x e = ap planMade (all_made x e)
 
     grows : WellFormed nodes → Bigger nodes (madeTree whole) × (madeEntry whole < length (madeTree whole))
@@ -102,9 +100,9 @@ module _ (nodes : List Node) (start : ℕ) (path : List ℕ) where
       -- there was no room for a tree on the way
       no_room : (M : List Node) (c : Refusal) (bytes : List ℕ) → Bigger M (madeTree whole) → Reaches (made M 0 false) words room bytes (reached.Refused c) → Decided plan image words room bytes (decision.Refused c)
       no_room M c bytes g h =
-          rw plan-is (refused-decided image words room bytes (change (madeEntry whole) (tableOnly (madeTree whole))) c (unbuilt M (madeTree whole) words room (madeEntry whole) image g h.1 ∙ ap Refused (sym h.0)))
+          rw plan-is (refused-decided image words room bytes (change (madeEntry whole) (tableOnly (madeTree whole))) c (unbuilt M (madeTree whole) words room (madeEntry whole) image g h.1 ∙ ap Err (sym h.0)))
 
-      pub start-refused : (s t bytes : List ℕ) (r : TableSize) (c : Refusal) → length s ≡ room → Built nodes words s t r → r ≡ table.Refused c → Decided plan image words room bytes (decision.Refused c)
+      pub start-refused : (s t bytes : List ℕ) (r : Result ℕ Refusal) (c : Refusal) → length s ≡ room → Built nodes words s t r → r ≡ Err c → Decided plan image words room bytes (decision.Refused c)
       start-refused s t bytes r c l b e = no_room nodes c bytes (grows w).0 (rw (e, l) at b)
 
       module _ (T : List Node) (same : T ≡ nodes) (after : List ℕ) (r : Reached) (h : Reaches (make T [] start false (components path)) words room after r) where
@@ -120,7 +118,7 @@ module _ (nodes : List Node) (start : ℕ) (path : List ℕ) where
             let i = within-limits (treeIn after n) words a.1.within in
             omega (arith, a.0, (grows w).1, i.few, ap length a.2)
 
-        pub made-placed : (k n room' : ℕ) (x : TableSize) → r ≡ reached.At k n → room' ≡ room → Decided (change 0 (tableOnly (treeIn after n))) image words room' after (tableDecision 0 x) →
+        pub made-placed : (k n room' : ℕ) (x : Result ℕ Refusal) → r ≡ reached.At k n → room' ≡ room → Decided (change 0 (tableOnly (treeIn after n))) image words room' after (tableDecision 0 x) →
             Decided plan image words room after (tableDecision k x)
         made-placed k n room' x e l d =
             let a = made_at k n e in

@@ -1,5 +1,6 @@
 -- Each step of the walk that makes directories, by what the code found.
 -- Assumes nothing.
+use Rattle.std.specs.Prelude.{Result, Ok, Err}
 use Prim.Native.Nat.{ℕ, ◌+◌, ◌<◌, ◌≤◌}
 use mathlib.Core.Path.{◌≡◌, refl, sym, ◌∙◌}
 use mathlib.Core.Bool.{Bool, true, false}
@@ -8,9 +9,6 @@ use lib.ListN.{length, take, drop}
 use lib.Seq.{length-take-le}
 use Rattle.refusal.specs.declared.Refusal.{Refusal}
 use Rattle.refusal.specs.declared.Refusal.TheVariants.{LimitOrMemory}
-use Rattle.refusal.specs.declared.Verdict.TheVariants.{Passed}
-use Rattle.tree.specs.declared.Located.{Located}
-use Rattle.tree.specs.declared.Located.TheVariants as located
 use Rattle.tree.specs.Table.{Node, parent_of, encode, limits}
 use Rattle.tree.specs.Inner.WellFormed.{GoodName}
 use Rattle.tree.specs.Lookup.{components, childOf, stays, goesBack}
@@ -29,14 +27,14 @@ part_count s size k i = sym (length-take-le size s i.held)
 
 -- ---- to a child, or into a new one
 
-module _ (nodes : List Node) (k : ℕ) (nm : List ℕ) (x : Located) (child : x ≡ childOf nodes k nm) where
-  pub new-name : (c : Refusal) → MayName nodes k nm → x ≡ located.Refused c → GoodName nm
+module _ (nodes : List Node) (k : ℕ) (nm : List ℕ) (x : Result ℕ Refusal) (child : x ≡ childOf nodes k nm) where
+  pub new-name : (c : Refusal) → MayName nodes k nm → x ≡ Err c → GoodName nm
   new-name c m e = m.good c (sym child ∙ e)
 
-  pub child-made : (c : Refusal) (words room : ℕ) (t : List ℕ) (r : Reached) → x ≡ located.Refused c → Reaches (newIn nodes k nm) words room t r → Reaches (intoOf nodes k nm) words room t r
+  pub child-made : (c : Refusal) (words room : ℕ) (t : List ℕ) (r : Reached) → x ≡ Err c → Reaches (newIn nodes k nm) words room t r → Reaches (intoOf nodes k nm) words room t r
   child-made c words room t r e h = rw (← child, e) h
 
-pub child-there : (s : List ℕ) (size words room k : ℕ) (nm : List ℕ) (x : Located) (j : ℕ) → Stands s size words → x ≡ childOf (treeIn s size) k nm → x ≡ located.At j →
+pub child-there : (s : List ℕ) (size words room k : ℕ) (nm : List ℕ) (x : Result ℕ Refusal) (j : ℕ) → Stands s size words → x ≡ childOf (treeIn s size) k nm → x ≡ Ok j →
     Reaches (intoOf (treeIn s size) k nm) words room s (At j size)
 child-there s size words room k nm x j st child e = rw (← child, e) (refl, st, refl)
 
@@ -64,20 +62,20 @@ turn-may-name nodes k nm u v c s e b f = c.named (sym s ∙ e) (sym b ∙ f)
 
 -- ---- the loop along the path
 
-pub making-from : (start : ℕ) (path : List ℕ) (words : ℕ) (bytes : List ℕ) (size : ℕ) → Stands bytes size words → start < length (treeIn bytes size) → madeVerdict (make (treeIn bytes size) [] start false (components path)) ≡ Passed →
+pub making-from : (start : ℕ) (path : List ℕ) (words : ℕ) (bytes : List ℕ) (size : ℕ) → Stands bytes size words → start < length (treeIn bytes size) → madeVerdict (make (treeIn bytes size) [] start false (components path)) ≡ Ok tt →
     Making (madeTree (make (treeIn bytes size) [] start false (components path))) (madeEntry (make (treeIn bytes size) [] start false (components path))) path words (length bytes) bytes size start 0
 making-from start path words bytes size st h e = making-start start path words bytes size st h (make (treeIn bytes size) [] start false (components path)) refl e
 
 module _ (F : List Node) (j : ℕ) (path : List ℕ) (words room : ℕ) (bytes t : List ℕ) (size k at e : ℕ) (nm : List ℕ) (r : Reached) (f : Making F j path words room bytes size k at)
     (cut : components (drop at path) ≡ nm ∷ componentsAfter path e) (took : Reaches (turn_of (treeIn bytes size) k nm) words (length bytes) t r) where
   module _ (c : Refusal) (q : r ≡ Refused c) where
-    stops : (c ≡ LimitOrMemory) × (limits F words ≡ Passed → room < length (encode F))
+    stops : (c ≡ LimitOrMemory) × (limits F words ≡ Ok tt → room < length (encode F))
     stops = making-refused f e nm cut c (rw q at took)
 
     pub making-cause : c ≡ LimitOrMemory
     making-cause = stops.0
 
-    pub making-no-room : limits F words ≡ Passed → room < length (encode F)
+    pub making-no-room : limits F words ≡ Ok tt → room < length (encode F)
     making-no-room = stops.1
 
   module _ (i n : ℕ) (went : r ≡ At i n) where

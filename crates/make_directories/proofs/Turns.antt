@@ -1,5 +1,6 @@
 -- Make-directories turn by turn, once no trouble stands on the path: each component leads on to what the whole makes, and what there is no
 -- room for on the way there is none for at the end. Assumes nothing.
+use Rattle.std.specs.Prelude.{Result, Ok, Err}
 use Prim.Native.Nat.{ℕ, zero, suc, ◌+◌, ◌<◌, ◌≤◌}
 use mathlib.Core.Path.{◌≡◌, refl, ap, ◌∙◌}
 use mathlib.Core.Bool.{Bool, true, false, cond, not}
@@ -9,9 +10,6 @@ use borrow.Author.Tests.{lt-ltb, le-ltb}
 use lib.ListN.{length, get_or, drop, take}
 use Rattle.refusal.specs.declared.Refusal.{Refusal}
 use Rattle.refusal.specs.declared.Refusal.TheVariants.{UnsafeName, ExpectedDirectory, LimitOrMemory}
-use Rattle.refusal.specs.declared.Verdict.TheVariants.{Passed}
-use Rattle.tree.specs.declared.Located.{Located}
-use Rattle.tree.specs.declared.Located.TheVariants as located
 use Rattle.tree.specs.Table.{Node, none, plain, safe, parent_of, encode, limits}
 use Rattle.tree.specs.Inner.WellFormed.{GoodName, WellFormed}
 use Rattle.tree.specs.Lookup.{isDirectory, components, childOf, stays, goesBack}
@@ -29,8 +27,6 @@ use Rattle.fst_path.specs.Inner.Steps.{componentsAfter}
 use Rattle.edits.specs.Edits.{newNumber, Made, stopped, made, madeBack, ifFound, make}
 use Rattle.edits.specs.Inner.Troubles.{madeVerdict}
 use Rattle.edits.specs.Laws.MadeTree.{bad-stays, AllLt, make-grows}
-use Rattle.fst_measure.specs.declared.TableSize.{TableSize}
-use Rattle.fst_measure.specs.declared.TableSize.TheVariants as table
 use Rattle.fst_grow.specs.Inner.Growth.{treeIn, Stands, IsDirectory, added, Built}
 use Rattle.fst_grow.proofs.GrowthLaws.{grown}
 use Rattle.make_directories.specs.declared.making.Reached.TheVariants.{At, Refused}
@@ -110,7 +106,7 @@ module _ (M : List Node) (k n : ℕ) (nm : List ℕ) (cs : List (List ℕ)) (F :
   pub can-turn : CanTurn M k nm
   can-turn = record { directory = record { inside = k<n; kind = tested.0 }; named = λ s b. record { good = λ c f. go s b c f tested.1 } }
     where
-      go : stays nm ≡ false → goesBack nm ≡ false → (c : Refusal) → childOf M k nm ≡ located.Refused c → rest ≡ made F j false → GoodName nm
+      go : stays nm ≡ false → goesBack nm ≡ false → (c : Refusal) → childOf M k nm ≡ Err c → rest ≡ made F j false → GoodName nm
       go s b c f q = (new-name (rw (s, b, f) at q)).0
 
   onward-new : GoodName nm → make M' (k ∷ ups M k n) (newNumber M k) false cs ≡ made F j false → Onward (made M' (newNumber M k) false) cs F j
@@ -133,7 +129,7 @@ module _ (M : List Node) (k n : ℕ) (nm : List ℕ) (cs : List (List ℕ)) (F :
   unfolding turn_of ups
   onward-turn = go (stays nm) (goesBack nm) n (childOf M k nm) refl tested.1
     where
-      go : (u v : Bool) (t : ℕ) (x : Located) → childOf M k nm ≡ x →
+      go : (u v : Bool) (t : ℕ) (x : Result ℕ Refusal) → childOf M k nm ≡ x →
           cond u (make M (ups M k n) k false cs)
           (cond v (madeBack (ups M k t) (λ i trail. make M trail i false cs))
           (ifFound x (λ i. make M (k ∷ ups M k n) i false cs)
@@ -142,8 +138,8 @@ module _ (M : List Node) (k n : ℕ) (nm : List ℕ) (cs : List (List ℕ)) (F :
       go true v t x f q = record { well = w; inside = k<n; steps = n; left = q }
       go false true zero x f q = let z : ◌≡◌ {A = ℕ} 0 1 = cc in absurd (omega arith)
       go false true (suc t) x f q = record { well = w; inside = omega (arith, parent-most M k); steps = t; left = q }
-      go false false t (located.At i) f q = record { well = w; inside = child-inside M k nm i w k<n f; steps = suc n; left = rw (child-is M k nm i f).parent q }
-      go false false t (located.Refused c) f q = let g = new-name q in onward-new g.0 g.1
+      go false false t (Ok i) f q = record { well = w; inside = child-inside M k nm i w k<n f; steps = suc n; left = rw (child-is M k nm i f).parent q }
+      go false false t (Err c) f q = let g = new-name q in onward-new g.0 g.1
 
 -- ---- the loop along the path, which stands before the component that starts at `at`; F is the tree at its end, and j the entry
 
@@ -156,13 +152,13 @@ pub record Making (F : List Node) (j : ℕ) (path : List ℕ) (words room : ℕ)
   pub left : make (treeIn bytes size) (ups (treeIn bytes size) k steps) k false (components (drop at path)) ≡ made F j false
 
 -- the walk met no trouble
-pub all_made : (m : Made) → madeVerdict m ≡ Passed → m ≡ made (madeTree m) (madeEntry m) false
+pub all_made : (m : Made) → madeVerdict m ≡ Ok tt → m ≡ made (madeTree m) (madeEntry m) false
 all_made (stopped c) e = let z : ◌≡◌ {A = ℕ} 0 1 = cc in absurd (omega arith)
 all_made (made nodes k true) e = let z : ◌≡◌ {A = ℕ} 0 1 = cc in absurd (omega arith)
 all_made (made nodes k false) e = refl
 
 pub making-start : (start : ℕ) (path : List ℕ) (words : ℕ) (bytes : List ℕ) (size : ℕ) → Stands bytes size words → start < length (treeIn bytes size) →
-    (m : Made) → make (treeIn bytes size) [] start false (components path) ≡ m → madeVerdict m ≡ Passed → Making (madeTree m) (madeEntry m) path words (length bytes) bytes size start 0
+    (m : Made) → make (treeIn bytes size) [] start false (components path) ≡ m → madeVerdict m ≡ Ok tt → Making (madeTree m) (madeEntry m) path words (length bytes) bytes size start 0
 unfolding ups
 making-start start path words bytes size s h m f e = record { stands = s; long = refl; inside = h; at_most = omega arith; steps = 0; left = f ∙ all_made m e }
 
@@ -180,7 +176,7 @@ module _ {F : List Node} {j : ℕ} {path : List ℕ} {words room : ℕ} {bytes :
   next : Onward (turn_of M k nm) (componentsAfter path e) F j
   next = onward-turn M k v.steps nm (componentsAfter path e) F j v.stands.well v.inside onwards
 
-  pub making-refused : (c : Refusal) → Reaches (turn_of M k nm) words (length bytes) bytes (Refused c) → (c ≡ LimitOrMemory) × (limits F words ≡ Passed → room < length (encode F))
+  pub making-refused : (c : Refusal) → Reaches (turn_of M k nm) words (length bytes) bytes (Refused c) → (c ≡ LimitOrMemory) × (limits F words ≡ Ok tt → room < length (encode F))
   making-refused c r =
       let o = next in
       let T = madeTree (turn_of M k nm) in
@@ -213,12 +209,12 @@ module _ {F : List Node} {j : ℕ} {path : List ℕ} {words room : ℕ} {bytes :
 
 -- ---- a directory made in the bytes
 
-module _ (s t : List ℕ) (size words k : ℕ) (nm : List ℕ) (st : Stands s size words) (dir : IsDirectory (treeIn s size) k) (good : GoodName nm) (r : TableSize)
+module _ (s t : List ℕ) (size words k : ℕ) (nm : List ℕ) (st : Stands s size words) (dir : IsDirectory (treeIn s size) k) (good : GoodName nm) (r : Result ℕ Refusal)
     (b : Built (added (treeIn s size) true k nm) words s t r) where
-  pub new-reached : (number n : ℕ) → number ≡ newNumber (treeIn s size) k → r ≡ table.Bytes n → Reaches (newIn (treeIn s size) k nm) words (length s) t (At number n)
+  pub new-reached : (number n : ℕ) → number ≡ newNumber (treeIn s size) k → r ≡ Ok n → Reaches (newIn (treeIn s size) k nm) words (length s) t (At number n)
   new-reached number n e f =
       let q = grown s size words st true k nm dir good t r b n f in
       (e, q.0, q.1)
 
-  pub new-refused : (c : Refusal) → r ≡ table.Refused c → Reaches (newIn (treeIn s size) k nm) words (length s) t (Refused c)
+  pub new-refused : (c : Refusal) → r ≡ Err c → Reaches (newIn (treeIn s size) k nm) words (length s) t (Refused c)
   new-refused c f = rw f at b

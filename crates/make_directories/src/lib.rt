@@ -6,7 +6,6 @@ mod making;
 
 ghost use Rattle.std.specs.Prelude.{◌≡◌, false, ◌<◌, ◌^◌, leb, length};
 ghost use Rattle.refusal.specs.declared.Refusal.TheVariants.{NoSuchEntry};
-ghost use Rattle.refusal.specs.declared.Verdict.TheVariants.{Passed};
 ghost use Rattle.refusal.specs.Refusal.{refuse};
 ghost use Rattle.tree.specs.Table.{nodesOf};
 ghost use Rattle.tree.specs.Lookup.{components};
@@ -20,7 +19,6 @@ ghost use Rattle.commit.specs.Inner.Decision.{Decided};
 ghost use Rattle.make_walk.specs.Inner.Walk.{pathVerdict};
 
 use commit::Decision;
-use fst_measure::TableSize;
 use making::Reached;
 use refusal::{Refusal, Verdict};
 
@@ -31,7 +29,7 @@ fn check_start(table: &[u8], start: u32, path: &[u8]) -> Verdict
 {
     let place = start as usize;
     if fst_check::count(table) <= place {
-        return Verdict::Refused(Refusal::NoSuchEntry);
+        return Err(Refusal::NoSuchEntry);
     }
     make_walk::trouble(table, place, path)
 }
@@ -42,7 +40,7 @@ fn check_path(image: &[u8], start: u32, path: &[u8]) -> Verdict
     ensures { result ≡ pathVerdict (nodesIn image.now) start path.now }
 {
     if 1024 < path.len() {
-        return Verdict::Refused(Refusal::LimitOrMemory);
+        return Err(Refusal::LimitOrMemory);
     }
     check_start(opening::table(image), start, path)
 }
@@ -57,7 +55,7 @@ fn make_in(
     start: u32,
     path: &[u8],
 ) -> Decision
-    requires { IsOpen image.now words.now m × Stands bytes.old size (length words.now) × (treeIn bytes.old size ≡ nodesIn image.now) × (pathVerdict (nodesIn image.now) start path.now ≡ Passed) }
+    requires { IsOpen image.now words.now m × Stands bytes.old size (length words.now) × (treeIn bytes.old size ≡ nodesIn image.now) × (pathVerdict (nodesIn image.now) start path.now ≡ (Ok tt)) }
     ensures { Decided (planMakeDirectories (nodesIn image.now) start path.now) image.now (length words.now) (length bytes.old) bytes.new result }
 {
     let reached = making::make_along(bytes, size, words.len(), start as usize, path);
@@ -83,12 +81,12 @@ pub fn decide_open(
     ensures { Decided (planMakeDirectories (nodesIn image.now) start path.now) image.now (length words.now) (length bytes.old) bytes.new result }
 {
     let verdict = check_path(image, start, path);
-    if let Verdict::Refused(cause) = verdict {
+    if let Err(cause) = verdict {
         return Decision::Refused(cause);
     }
     let found = table_only::start_table(image, words, m, bytes);
     match found {
-        TableSize::Refused(cause) => Decision::Refused(cause),
-        TableSize::Bytes(size) => make_in(image, words, m, bytes, size, start, path),
+        Err(cause) => Decision::Refused(cause),
+        Ok(size) => make_in(image, words, m, bytes, size, start, path),
     }
 }

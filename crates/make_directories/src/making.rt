@@ -1,7 +1,6 @@
 // The table that stands in the working bytes, with the directories of a path. No trouble stands on the path, so that what is missing may be
 // made.
 ghost use Rattle.std.specs.Prelude.{◌≡◌, false, [], ◌<◌, length};
-ghost use Rattle.refusal.specs.declared.Verdict.TheVariants.{Passed};
 ghost use Rattle.tree.specs.Inner.WellFormed.{GoodName};
 ghost use Rattle.tree.specs.Lookup.{components, childOf};
 ghost use Rattle.edits.specs.Edits.{newNumber, make};
@@ -9,9 +8,7 @@ ghost use Rattle.edits.specs.Inner.Troubles.{madeVerdict};
 ghost use Rattle.fst_grow.specs.Inner.Growth.{treeIn, Stands, IsDirectory};
 ghost use Rattle.make_directories.specs.Inner.Making.{InBytes, newIn, intoOf, turn_of, MayName, CanTurn, Reaches};
 
-use fst_measure::TableSize;
 use refusal::Refusal;
-use tree::Located;
 
 // Where a component leads: an entry, and the size of the table then.
 #[derive(Clone, Copy)]
@@ -21,7 +18,7 @@ pub enum Reached {
 }
 
 // The first child of directory k with that name.
-fn child(bytes: &[u8], size: usize, k: usize, name: &[u8]) -> Located
+fn child(bytes: &[u8], size: usize, k: usize, name: &[u8]) -> Result<u32, Refusal>
     requires { InBytes bytes.now size k }
     ensures { result ≡ childOf (treeIn bytes.now size) k name.now }
 {
@@ -44,8 +41,8 @@ fn into_new(bytes: &mut [u8], size: usize, words: usize, k: usize, name: &[u8]) 
     let number = new_number(bytes, size, k);
     let grown = fst_grow::grow(bytes, size, words, k, true, name);
     match grown {
-        TableSize::Bytes(n) => Reached::At(number, n),
-        TableSize::Refused(cause) => Reached::Refused(cause),
+        Ok(n) => Reached::At(number, n),
+        Err(cause) => Reached::Refused(cause),
     }
 }
 
@@ -56,8 +53,8 @@ fn into(bytes: &mut [u8], size: usize, words: usize, k: usize, name: &[u8]) -> R
 {
     let found = child(bytes, size, k, name);
     match found {
-        Located::At(j) => Reached::At(j as usize, size),
-        Located::Refused(_) => into_new(bytes, size, words, k, name),
+        Ok(j) => Reached::At(j as usize, size),
+        Err(_) => into_new(bytes, size, words, k, name),
     }
 }
 
@@ -77,7 +74,7 @@ fn take_step(bytes: &mut [u8], size: usize, words: usize, k: usize, name: &[u8])
 
 // Along the components of a path from the entry `start`; 9 once there is no room for a directory, since there is none for the whole then.
 pub fn make_along(bytes: &mut [u8], size: usize, words: usize, start: usize, path: &[u8]) -> Reached
-    requires { Stands bytes.old size words × (start < length (treeIn bytes.old size)) × (madeVerdict (make (treeIn bytes.old size) [] start false (components path.now)) ≡ Passed) }
+    requires { Stands bytes.old size words × (start < length (treeIn bytes.old size)) × (madeVerdict (make (treeIn bytes.old size) [] start false (components path.now)) ≡ (Ok tt)) }
     ensures { Reaches (make (treeIn bytes.old size) [] start false (components path.now)) words (length bytes.old) bytes.new result }
 {
     let mut k = start;

@@ -1,5 +1,7 @@
 -- Each step of the walk, and its last verdict, by what the code found.
 -- Assumes nothing.
+use Rattle.std.specs.Prelude.{Result, Ok, Err}
+use Rattle.refusal.specs.Refusal.{Verdict}
 use Prim.Native.Nat.{ℕ, ◌+◌, ◌-◌}
 use mathlib.Core.Path.{◌≡◌, sym, ◌∙◌}
 use mathlib.Core.Bool.{Bool, true, false, not}
@@ -8,11 +10,7 @@ use borrow.Author.Tests.{eq-eqb, ne_eqb, not-true, not-false}
 use lib.ListN.{get_or}
 use Rattle.refusal.specs.declared.Refusal.{Refusal}
 use Rattle.refusal.specs.declared.Refusal.TheVariants.{InvalidNameByte, UnsafeName, ExpectedDirectory, NotFound}
-use Rattle.refusal.specs.declared.Verdict.{Verdict}
-use Rattle.refusal.specs.declared.Verdict.TheVariants as verdict
 use Rattle.refusal.specs.Refusal.{refuse}
-use Rattle.tree.specs.declared.Located.{Located}
-use Rattle.tree.specs.declared.Located.TheVariants as located
 use Rattle.tree.specs.Table.{Node, none, plain, safe, parent_of}
 use Rattle.tree.specs.Lookup.{isDirectory, childOf, stays, goesBack}
 use Rattle.make_walk.specs.declared.Step.{Step}
@@ -44,11 +42,11 @@ module _ (nodes : List Node) (start k : ℕ) (bad : Bool) where
   pub back-up : (r : ℕ) → (k ≡ start → ⊥) → r ≡ parent_of nodes k → To r 0 bad ≡ backStep nodes start k bad
   back-up r e f = rw (ne_eqb k start e, f)
 
-module _ (nodes : List Node) (k : ℕ) (bad : Bool) (nm : List ℕ) (x : Located) (child : x ≡ childOf nodes k nm) (missing : Step) where
-  pub child-found : (j : ℕ) → x ≡ located.At j → To j 0 bad ≡ childStep (childOf nodes k nm) bad missing
+module _ (nodes : List Node) (k : ℕ) (bad : Bool) (nm : List ℕ) (x : Result ℕ Refusal) (child : x ≡ childOf nodes k nm) (missing : Step) where
+  pub child-found : (j : ℕ) → x ≡ Ok j → To j 0 bad ≡ childStep (childOf nodes k nm) bad missing
   child-found j e = rw (← child, e)
 
-  pub child-missing : (c : Refusal) (r : Step) → x ≡ located.Refused c → r ≡ missing → r ≡ childStep (childOf nodes k nm) bad missing
+  pub child-missing : (c : Refusal) (r : Step) → x ≡ Err c → r ≡ missing → r ≡ childStep (childOf nodes k nm) bad missing
   child-missing c r e f = rw (← child, e) f
 
 -- ---- at an entry of the tree as it is
@@ -102,15 +100,15 @@ module _ (nodes : List Node) (start k level : ℕ) (bad : Bool) (nm : List ℕ) 
   step-among-new e q = rw (ne_eqb level 0 e) q
 
 module _ (nodes : List Node) (k level : ℕ) (bad : Bool) where
-  pub ends-among-new : (r : Verdict) → (level ≡ 0 → ⊥) → r ≡ refuse bad InvalidNameByte verdict.Passed → r ≡ lastVerdict nodes k level bad
+  pub ends-among-new : (r : Verdict) → (level ≡ 0 → ⊥) → r ≡ refuse bad InvalidNameByte (Ok tt) → r ≡ lastVerdict nodes k level bad
   unfolding lastVerdict
   ends-among-new r e q = rw (ne_eqb level 0 e) q
 
   module _ (e : level ≡ 0) (t : Bool) (kind : t ≡ isDirectory (get_or nodes k none)) where
-    pub ends-on-file : not t ≡ true → verdict.Refused ExpectedDirectory ≡ lastVerdict nodes k level bad
+    pub ends-on-file : not t ≡ true → Err ExpectedDirectory ≡ lastVerdict nodes k level bad
     unfolding lastVerdict
     ends-on-file h = let d : isDirectory (get_or nodes k none) ≡ false = sym kind ∙ not-true t h in rw (eq-eqb level 0 e, d)
 
-    pub ends-on-directory : (r : Verdict) → not t ≡ false → r ≡ refuse bad InvalidNameByte verdict.Passed → r ≡ lastVerdict nodes k level bad
+    pub ends-on-directory : (r : Verdict) → not t ≡ false → r ≡ refuse bad InvalidNameByte (Ok tt) → r ≡ lastVerdict nodes k level bad
     unfolding lastVerdict
     ends-on-directory r h q = let d : isDirectory (get_or nodes k none) ≡ true = sym kind ∙ not-false t h in rw (eq-eqb level 0 e, d) q

@@ -1,4 +1,6 @@
 -- The walk that finds the troubles of a path, a component at a time: each step leaves what the whole has. Assumes nothing.
+use Rattle.std.specs.Prelude.{Result, Ok, Err}
+use Rattle.refusal.specs.Refusal.{Verdict}
 use Prim.Native.Nat.{ℕ, zero, suc, ◌+◌, ◌-◌, ◌<◌, ◌≤◌}
 use mathlib.Core.Path.{◌≡◌, refl, sym, ◌∙◌}
 use mathlib.Core.Bool.{Bool, true, false, cond, not, ◌||◌}
@@ -10,10 +12,6 @@ use lib.ListN.{length, get_or, drop}
 use lib.Dec.{eqb}
 use Rattle.refusal.specs.declared.Refusal.{Refusal}
 use Rattle.refusal.specs.declared.Refusal.TheVariants.{UnsafeName, ExpectedDirectory, NotFound}
-use Rattle.refusal.specs.declared.Verdict.{Verdict}
-use Rattle.refusal.specs.declared.Verdict.TheVariants as verdict
-use Rattle.tree.specs.declared.Located.{Located}
-use Rattle.tree.specs.declared.Located.TheVariants as located
 use Rattle.tree.specs.Table.{Node, none, count, nodesOf, plain, safe, parent_of}
 use Rattle.tree.specs.Laws.Accepted.{length-nodesOf}
 use Rattle.tree.specs.Inner.WellFormed.{WellFormed}
@@ -29,32 +27,32 @@ use Rattle.make_walk.specs.Inner.Walk.{newStep, childStep, oldStep, belowStep, s
 -- what is left of the walk after a step
 abbrev pub onward : List Node → ℕ → List (List ℕ) → Step → Verdict
 onward nodes start cs (To k level bad) = troubleOf nodes start k level bad cs
-onward nodes start cs (Refused c) = verdict.Refused c
+onward nodes start cs (Refused c) = Err c
 
 module _ (nodes : List Node) (start k : ℕ) (bad : Bool) where
   pub trouble-step : (level : ℕ) (nm : List ℕ) (cs : List (List ℕ)) → troubleOf nodes start k level bad (nm ∷ cs) ≡ onward nodes start cs (step_of nodes start k level bad nm)
   unfolding troubleOf step_of
   trouble-step zero nm cs = go (isDirectory (get_or nodes k none)) (stays nm) (goesBack nm) (eqb k start) (childOf nodes k nm) (safe nm)
     where
-      go : (t u v w : Bool) (a : Located) (s : Bool) →
-          cond t (cond u (troubleOf nodes start k zero bad cs) (cond v (cond w (verdict.Refused NotFound) (troubleOf nodes start (parent_of nodes k) zero bad cs))
-          (ifChild a (λ j. troubleOf nodes start j zero bad cs) (cond s (troubleOf nodes start k 1 (bad || not (plain nm)) cs) (verdict.Refused UnsafeName))))) (verdict.Refused ExpectedDirectory) ≡
+      go : (t u v w : Bool) (a : Result ℕ Refusal) (s : Bool) →
+          cond t (cond u (troubleOf nodes start k zero bad cs) (cond v (cond w (Err NotFound) (troubleOf nodes start (parent_of nodes k) zero bad cs))
+          (ifChild a (λ j. troubleOf nodes start j zero bad cs) (cond s (troubleOf nodes start k 1 (bad || not (plain nm)) cs) (Err UnsafeName))))) (Err ExpectedDirectory) ≡
           onward nodes start cs (cond t (cond u (To k 0 bad) (cond v (cond w (Refused NotFound) (To (parent_of nodes k) 0 bad))
           (childStep a bad (cond s (To k 1 (bad || not (plain nm))) (Refused UnsafeName))))) (Refused ExpectedDirectory))
       go false u v w a s = refl
       go true true v w a s = refl
       go true false true true a s = refl
       go true false true false a s = refl
-      go true false false w (located.At j) s = refl
-      go true false false w (located.Refused c) true = refl
-      go true false false w (located.Refused c) false = refl
+      go true false false w (Ok j) s = refl
+      go true false false w (Err c) true = refl
+      go true false false w (Err c) false = refl
   trouble-step (suc level) nm cs =
       let e : suc level - 1 ≡ level = omega arith in
       rw (ne_eqb (suc level) 0 (λ z. omega arith), e, add-one (suc level)) (go (stays nm) (goesBack nm) (safe nm))
     where
       go : (u v s : Bool) →
           cond u (troubleOf nodes start k (suc level) bad cs) (cond v (troubleOf nodes start k level bad cs)
-          (cond s (troubleOf nodes start k (suc (suc level)) (bad || not (plain nm)) cs) (verdict.Refused UnsafeName))) ≡
+          (cond s (troubleOf nodes start k (suc (suc level)) (bad || not (plain nm)) cs) (Err UnsafeName))) ≡
           onward nodes start cs (cond u (To k (suc level) bad) (cond v (To k level bad) (cond s (To k (suc (suc level)) (bad || not (plain nm))) (Refused UnsafeName))))
       go true v s = refl
       go false true s = refl
@@ -80,7 +78,7 @@ module _ (nodes : List Node) (start k : ℕ) (bad : Bool) where
     old-inside : oldStep nodes start k bad nm ≡ To j n b → (j < length nodes) × (n ≤ 1)
     old-inside e = go (isDirectory (get_or nodes k none)) (stays nm) (goesBack nm) (eqb k start) (childOf nodes k nm) refl e
       where
-        go : (t u v x : Bool) (a : Located) → childOf nodes k nm ≡ a → cond t (cond u (To k 0 bad) (cond v (cond x (Refused NotFound) (To (parent_of nodes k) 0 bad))
+        go : (t u v x : Bool) (a : Result ℕ Refusal) → childOf nodes k nm ≡ a → cond t (cond u (To k 0 bad) (cond v (cond x (Refused NotFound) (To (parent_of nodes k) 0 bad))
             (childStep a bad (newStep k 0 bad nm)))) (Refused ExpectedDirectory) ≡ To j n b → (j < length nodes) × (n ≤ 1)
         go false u v x a f q = let z : ◌≡◌ {A = ℕ} 0 1 = cc in absurd (omega arith)
         go true true v x a f q =
@@ -92,11 +90,11 @@ module _ (nodes : List Node) (start k : ℕ) (bad : Bool) where
             let p : parent_of nodes k ≡ j = cc in
             let r : 0 ≡ n = cc in
             (omega (arith, parent-at-most nodes k), omega arith)
-        go true false false x (located.At i) f q =
+        go true false false x (Ok i) f q =
             let p : i ≡ j = cc in
             let r : 0 ≡ n = cc in
             (omega (arith, child-inside nodes k nm i w inside f), omega arith)
-        go true false false x (located.Refused c) f q = new-inside 0 q
+        go true false false x (Err c) f q = new-inside 0 q
 
     below-inside : belowStep k level bad nm ≡ To j n b → (j < length nodes) × (n ≤ level + 1)
     below-inside e = go (stays nm) (goesBack nm) e
@@ -140,7 +138,7 @@ module _ {nodes : List Node} {start : ℕ} {path : List ℕ} {k level : ℕ} {ba
   pub walk-lands : (j n : ℕ) (b : Bool) → step_of nodes start k level bad nm ≡ To j n b → j < length nodes
   walk-lands j n b q = (step-inside nodes start k bad w f.inside level nm j n b q).0
 
-  pub walk_refused : (c : Refusal) → step_of nodes start k level bad nm ≡ Refused c → troubleOf nodes start start 0 false (components path) ≡ verdict.Refused c
+  pub walk_refused : (c : Refusal) → step_of nodes start k level bad nm ≡ Refused c → troubleOf nodes start start 0 false (components path) ≡ Err c
   walk_refused c q = stepped (Refused c) q
 
   pub walk_end : (j n : ℕ) (b : Bool) → step_of nodes start k level bad nm ≡ To j n b → length path ≤ e → troubleOf nodes start start 0 false (components path) ≡ lastVerdict nodes j n b
@@ -161,7 +159,7 @@ walks-inside tab start path k level bad at f = omega (arith, f.inside, length-no
 
 module _ (tab : List ℕ) (start : ℕ) (path : List ℕ) (k level : ℕ) (bad : Bool) (at e : ℕ) (nm : List ℕ) (s : Step) (f : Walking (nodesOf tab) start path k level bad at)
     (cut : components (drop at path) ≡ nm ∷ componentsAfter path e) (took : s ≡ step_of (nodesOf tab) start k level bad nm) (w : WellFormed (nodesOf tab)) where
-  pub walk-stops : (c : Refusal) → s ≡ Refused c → verdict.Refused c ≡ troubleOf (nodesOf tab) start start 0 false (components path)
+  pub walk-stops : (c : Refusal) → s ≡ Refused c → Err c ≡ troubleOf (nodesOf tab) start start 0 false (components path)
   walk-stops c q = sym (walk_refused w f e nm cut c (sym took ∙ q))
 
   module _ (j n : ℕ) (b : Bool) (went : s ≡ To j n b) where

@@ -8,13 +8,11 @@ ghost use Rattle.tree.specs.Table.{nodesOf};
 ghost use Rattle.tree.specs.Lookup.{components, childOf};
 ghost use Rattle.fst_check.specs.Inner.Reading.{Opens};
 ghost use Rattle.refusal.specs.declared.Refusal.TheVariants.{InvalidNameByte};
-ghost use Rattle.refusal.specs.declared.Verdict.TheVariants.{Passed};
 ghost use Rattle.refusal.specs.Refusal.{refuse};
 ghost use Rattle.edits.specs.Inner.Troubles.{troubleOf};
 ghost use Rattle.make_walk.specs.Inner.Walk.{newStep, backStep, childStep, oldStep, belowStep, step_of, lastVerdict};
 
 use refusal::{Refusal, Verdict};
-use tree::Located;
 
 // Where a component leads: an entry of the tree as it is, the number of new directories below it, and whether a new name has a unit that
 // no name may have.
@@ -55,8 +53,8 @@ fn into(table: &[u8], k: usize, bad: bool, name: &[u8]) -> Step
     ensures { result ≡ childStep (childOf (nodesOf table.now) k name.now) bad (newStep k 0 bad name.now) }
 {
     match fst::child(table, k, name) {
-        Located::At(j) => Step::To(j as usize, 0, bad),
-        Located::Refused(_) => into_new(k, 0, bad, name),
+        Ok(j) => Step::To(j as usize, 0, bad),
+        Err(_) => into_new(k, 0, bad, name),
     }
 }
 
@@ -103,12 +101,12 @@ fn take_step(table: &[u8], start: usize, k: usize, level: usize, bad: bool, name
 
 // A name byte is the last trouble to be told.
 fn told(bad: bool) -> Verdict
-    ensures { result ≡ refuse bad InvalidNameByte Passed }
+    ensures { result ≡ refuse bad InvalidNameByte (Ok tt) }
 {
     if bad {
-        return Verdict::Refused(Refusal::InvalidNameByte);
+        return Err(Refusal::InvalidNameByte);
     }
-    Verdict::Passed
+    Ok(())
 }
 
 // The path is at its end: on a file 17, then 12.
@@ -120,7 +118,7 @@ fn last_verdict(table: &[u8], k: usize, level: usize, bad: bool) -> Verdict
         return told(bad);
     }
     if !fst::is_directory(table, k) {
-        return Verdict::Refused(Refusal::ExpectedDirectory);
+        return Err(Refusal::ExpectedDirectory);
     }
     told(bad)
 }
@@ -143,7 +141,7 @@ pub fn trouble(table: &[u8], start: usize, path: &[u8]) -> Verdict
                 bad = b;
             }
             Step::Refused(cause) => {
-                return Verdict::Refused(cause);
+                return Err(cause);
             }
         }
         if path.len() <= end {

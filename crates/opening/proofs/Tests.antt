@@ -1,4 +1,6 @@
 -- The tests of opening, joined: the table's slice, what `collect` needs, and what the test of the regions leaves. Assumes nothing.
+use Rattle.std.specs.Prelude.{Ok, Err}
+use Rattle.refusal.specs.Refusal.{Verdict}
 use Prim.Native.Nat.{ℕ, ◌+◌, ◌-◌, ◌*◌, ◌^◌, ◌<◌, ◌≤◌}
 use mathlib.Core.Path.{◌≡◌, sym, ap, ◌∙◌}
 use mathlib.Core.Bool.{Bool, false}
@@ -7,8 +9,6 @@ use native.Mathlib.Omega.{arith}
 use lib.ListN.{length, take, drop}
 use Rattle.endian.specs.Bytes.{be32, AllBytes}
 use Rattle.refusal.specs.declared.Refusal.{Refusal}
-use Rattle.refusal.specs.declared.Verdict.{Verdict}
-use Rattle.refusal.specs.declared.Verdict.TheVariants.{Passed, Refused}
 use Rattle.refusal.specs.Refusal.{first, is_refused}
 use Rattle.refusal.specs.Laws.Chains.{not-refused, first-passed}
 use Rattle.header.specs.Laws.FieldTests.{Bounded, bounds-passed}
@@ -52,7 +52,7 @@ module _ (image : List ℕ) (v : Verdict) (b : Bool) (first_two : v ≡ first (h
       (e ∙ ap (λ (l : List ℕ). check l words) (part-table image from to p q)) ∙ went_on v (headerVerdict image) (boundsVerdict image) (check (table_of image) words) first_two (sym asked ∙ f)
 
 module _ (image : List ℕ) (words : ℕ) (v : Verdict) (e : v ≡ verdictBefore24 image words) where
-  pub refused-before : (c : Refusal) → v ≡ Refused c → opening image words ≡ Refused c
+  pub refused-before : (c : Refusal) → v ≡ Err c → opening image words ≡ Err c
   refused-before c r = opening-split image words ∙ ap (λ (a : Verdict). first a (layoutVerdict image)) (sym e ∙ r)
 
 -- ---- the table in the image
@@ -113,10 +113,10 @@ regions-room image n n' m c k e b l = omega (arith, k.table.room)
 
 -- test 24, after the others passed
 module _ (image : List ℕ) (words : ℕ) (p : Program) (v : Verdict) (read : p ≡ program_of image) (asked : v ≡ programVerdict p) where
-  pub refused-24 : (c : Refusal) → verdictBefore24 image words ≡ Passed → v ≡ Refused c → opening image words ≡ Refused c
+  pub refused-24 : (c : Refusal) → verdictBefore24 image words ≡ Ok tt → v ≡ Err c → opening image words ≡ Err c
   refused-24 c before h = opening-split image words ∙ rw before (program-first image c (rw (← read) (sym asked ∙ h)))
 
-  pub passed-24 : v ≡ Passed → programVerdict (program_of image) ≡ Passed
+  pub passed-24 : v ≡ Ok tt → programVerdict (program_of image) ≡ Ok tt
   passed-24 h = rw (← read) (sym asked ∙ h)
 
 pub own_is : (image : List ℕ) (p : Program) (fst : ℕ) (r : DiscRegion) → p ≡ program_of image → fst ≡ fstOffset image → r ≡ ownRegion fst (place_of p) → r ≡ programBehind image
@@ -124,7 +124,7 @@ unfolding programIn
 own_is image p fst r e f h = rw (← e, ← f) h
 
 -- the test of the regions, after the others passed
-module _ (image w w' : List ℕ) (words buf m e : ℕ) (v : Verdict) (before : verdictBefore24 image words ≡ Passed) (program : programVerdict (program_of image) ≡ Passed) (used : SameUse (discEnd image) (regionsIn w 0 m) (usedIn image)) (end : e ≡ discEnd image)
+module _ (image w w' : List ℕ) (words buf m e : ℕ) (v : Verdict) (before : verdictBefore24 image words ≡ Ok tt) (program : programVerdict (program_of image) ≡ Ok tt) (used : SameUse (discEnd image) (regionsIn w 0 m) (usedIn image)) (end : e ≡ discEnd image)
     (k : Checked w w' buf m e v) (kept : length w' ≡ words) where
   verdict : v ≡ regionsVerdict (discEnd image) (usedIn image)
   verdict = rw (end, used.below) at k.answer
@@ -133,10 +133,10 @@ module _ (image w w' : List ℕ) (words buf m e : ℕ) (v : Verdict) (before : v
   unfolding layoutVerdict
   all u h = opening-split image words ∙ rw (before, program) (sym verdict ∙ h)
 
-  pub left-refused : (c : Refusal) → v ≡ Refused c → opening image (length w') ≡ Refused c
-  left-refused c h = rw kept (all (Refused c) h)
+  pub left-refused : (c : Refusal) → v ≡ Err c → opening image (length w') ≡ Err c
+  left-refused c h = rw kept (all (Err c) h)
 
-  left-words : v ≡ Passed → UsedWords image w' m
+  left-words : v ≡ Ok tt → UsedWords image w' m
   unfolding freeOf
   left-words h = record {
     sorted = rw (← end) (k.ready h);
@@ -144,5 +144,5 @@ module _ (image w w' : List ℕ) (words buf m e : ℕ) (v : Verdict) (before : v
     sums = λ f. rw k.order (sum-sorted (regionsIn w 0 m) f ∙ used.sums f);
   }
 
-  pub left_open : AllBytes image → v ≡ Passed → IsOpen image w' m
-  left_open bytes h = record { known = rw kept (opens image words bytes (all Passed h)); used = left-words h }
+  pub left_open : AllBytes image → v ≡ Ok tt → IsOpen image w' m
+  left_open bytes h = record { known = rw kept (opens image words bytes (all (Ok tt) h)); used = left-words h }

@@ -3,7 +3,6 @@
 
 ghost use Rattle.std.specs.Prelude.{◌≡◌, ◌+◌, ◌-◌, ◌*◌, ◌≤◌, ◌<◌, length};
 ghost use Rattle.program.specs.Program.{program_of, programVerdict, programBehind};
-ghost use Rattle.refusal.specs.declared.Verdict.TheVariants.{Passed};
 ghost use Rattle.opening.specs.Inner.Prepared.{verdictBefore24, AddedEntry, CollectedTo, CollectedUsed, OpensImage, Prepares};
 ghost use Rattle.opening.specs.Opening.{table_of};
 ghost use Rattle.header.specs.Verdicts.{discEnd};
@@ -12,13 +11,6 @@ ghost use Rattle.fst_check.specs.Inner.Reading.{Opens};
 use header::Field;
 use refusal::{Refusal, Verdict};
 use space::DiscRegion;
-
-// The used regions of an image that opened stand in the working words: how many there are.
-#[derive(Clone, Copy)]
-pub enum Prepared {
-    Ready(usize),
-    Refused(Refusal),
-}
 
 // Entry k's region, after the m that the words hold, unless it is empty.
 fn add_entry(table: &[u8], words: &mut [u32], m: usize, k: usize) -> usize
@@ -111,18 +103,15 @@ fn collect(
 fn check_table(image: &[u8], words: usize) -> Verdict
     ensures { result ≡ verdictBefore24 image.now words }
 {
-    let verdict = header::check_bounds(image);
-    if verdict.is_refused() {
-        return verdict;
-    }
+    header::check_bounds(image)?;
     let from = header::fst_offset(image) as usize;
     let to = header::table_end(image) as usize;
     fst_check::check(&image[from..to], words)
 }
 
 // Test 14, which leaves the used regions in order.
-fn check_used(image: &[u8], words: &mut [u32], program: DiscRegion) -> Prepared
-    requires { (verdictBefore24 image.now (length words.old) ≡ Passed) × (programVerdict (program_of image.now) ≡ Passed) × (program ≡ programBehind image.now) }
+fn check_used(image: &[u8], words: &mut [u32], program: DiscRegion) -> Result<usize, Refusal>
+    requires { (verdictBefore24 image.now (length words.old) ≡ (Ok tt)) × (programVerdict (program_of image.now) ≡ (Ok tt)) × (program ≡ programBehind image.now) }
     ensures { Prepares image.now words.new result }
 {
     let from = header::fst_offset(image) as usize;
@@ -132,32 +121,32 @@ fn check_used(image: &[u8], words: &mut [u32], program: DiscRegion) -> Prepared
     let m = collect(&image[from..to], words, count, to as u32, program);
     let verdict = space_check::check_regions(words, count + 2, m, end);
     match verdict {
-        Verdict::Passed => Prepared::Ready(m),
-        Verdict::Refused(cause) => Prepared::Refused(cause),
+        Ok(()) => Ok(m),
+        Err(cause) => Err(cause),
     }
 }
 
 // Test 24, and then 14.
-fn check_program(image: &[u8], words: &mut [u32]) -> Prepared
-    requires { verdictBefore24 image.now (length words.old) ≡ Passed }
+fn check_program(image: &[u8], words: &mut [u32]) -> Result<usize, Refusal>
+    requires { verdictBefore24 image.now (length words.old) ≡ (Ok tt) }
     ensures { Prepares image.now words.new result }
 {
     let program = program::read(image);
     let verdict = program::verdict(program);
-    if let Verdict::Refused(cause) = verdict {
-        return Prepared::Refused(cause);
+    if let Err(cause) = verdict {
+        return Err(cause);
     }
     let own = program::own_region(program, header::fst_offset(image));
     check_used(image, words, own)
 }
 
 // Opens the image. Accepted, it leaves the used regions in the words, in order.
-pub fn prepare(image: &[u8], words: &mut [u32]) -> Prepared
+pub fn prepare(image: &[u8], words: &mut [u32]) -> Result<usize, Refusal>
     ensures { Prepares image.now words.new result }
 {
     let verdict = check_table(image, words.len());
-    if let Verdict::Refused(cause) = verdict {
-        return Prepared::Refused(cause);
+    if let Err(cause) = verdict {
+        return Err(cause);
     }
     check_program(image, words)
 }

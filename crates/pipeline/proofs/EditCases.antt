@@ -1,17 +1,15 @@
 -- Each edit's decision is that of the edit asked for; and it is entered in the record as any edit's is. Assumes nothing.
+use Rattle.std.specs.Prelude.{Result, Ok, Err}
+use Rattle.refusal.specs.Refusal.{Verdict}
+use Rattle.refusal.specs.declared.Refusal.{Refusal}
 use Prim.Native.Nat.{ℕ, ◌-◌, ◌^◌, ◌<◌}
 use mathlib.Core.Path.{◌≡◌, refl, ap, ◌∙◌}
 use mathlib.Core.List.{List}
 use lib.ListN.{length}
 use Rattle.endian.specs.Bytes.{AllBytes}
-use Rattle.refusal.specs.declared.Verdict.{Verdict}
-use Rattle.refusal.specs.declared.Verdict.TheVariants.{Passed, Refused}
-use Rattle.tree.specs.declared.Located.{Located}
 use Rattle.space.specs.Inner.Sort.{regionsIn}
 use Rattle.totals.specs.declared.Totals.{Totals}
 use Rattle.opening.specs.Opening.{opening, nodesIn, freeOf}
-use Rattle.opening.specs.declared.Prepared.{Prepared}
-use Rattle.opening.specs.declared.Prepared.TheVariants as prepared
 use Rattle.opening.specs.Inner.Prepared.{Prepares}
 use Rattle.edits.specs.Change.{change}
 use Rattle.edits.specs.Edits as edits
@@ -48,17 +46,17 @@ module _ (a : Edit) (text image : List ℕ) (words room : ℕ) (bytes : List ℕ
   pub make-decides : (start : ℕ) → a ≡ edit.MakeDirectories start → Decided (planMakeDirectories (nodesIn image) start text) image words room bytes d → Decides (editOf a text) image words room bytes (clipOf a text) d
   make-decides start e h = rw e (record { decided = h; passable = tt })
 
-pub decides-accounted : (ed : edits.Edit) (image w w' : List ℕ) (r : Prepared) (m room : ℕ) (bytes clip : List ℕ) (d : Decision) → Prepares image w' r → r ≡ prepared.Ready m → length w' ≡ length w → length bytes ≡ room →
+pub decides-accounted : (ed : edits.Edit) (image w w' : List ℕ) (r : Result ℕ Refusal) (m room : ℕ) (bytes clip : List ℕ) (d : Decision) → Prepares image w' r → r ≡ Ok m → length w' ≡ length w → length bytes ≡ room →
     Decides ed image (length w') room bytes clip d → (t : Totals) (a : Accounted) → a ≡ accountOf image (regionsIn w' 1 (m - 1)) d t → AccountedFor (planned (opening image (length w)) (plan_of ed image)) image (length w) room bytes clip t a
 decides-accounted ed image w w' r m room bytes clip d ready is same long h t a q = open-accounted ed h.passable image w w' r m room bytes clip d ready is same long h.decided t a q
 
 -- ---- an edit that gives only that it is done
 
 in-numbered : (v : Verdict) (k : ℕ) → verdictIn (numberedAs v k) ≡ v
-in-numbered Passed k = refl
-in-numbered (Refused c) k = refl
+in-numbered (Ok _) k = refl
+in-numbered (Err c) k = refl
 
-pub only-done : (ed : edits.Edit) (x y : Lent) (l : Located) (v : Verdict) → Edited numberedAs ed x y l → v ≡ verdictIn l → Edited onlyVerdict ed x y v
+pub only-done : (ed : edits.Edit) (x y : Lent) (l : Result ℕ Refusal) (v : Verdict) → Edited numberedAs ed x y l → v ≡ verdictIn l → Edited onlyVerdict ed x y v
 only-done ed x y l v h e = record {
   answered = e ∙ ap verdictIn h.answered ∙ in-numbered _ _;
   image = h.image;

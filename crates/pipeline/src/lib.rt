@@ -11,10 +11,8 @@ ghost use Rattle.totals.specs.Totals.{totalsIn};
 ghost use Rattle.pipeline.specs.Inner.Decides.{editOf, clipOf, Decides};
 
 use commit::Decision;
-use opening::Prepared;
-use refusal::Verdict;
+use refusal::{Refusal, Verdict};
 use totals::Record;
-use tree::Located;
 
 // An edit with its numbers; its name, path or clip stands beside it.
 #[derive(Clone, Copy)]
@@ -66,8 +64,8 @@ fn decide(
 {
     let prepared = opening::prepare(image, words);
     match prepared {
-        Prepared::Refused(cause) => Decision::Refused(cause),
-        Prepared::Ready(m) => {
+        Err(cause) => Decision::Refused(cause),
+        Ok(m) => {
             let decision = decide_open(image, words, m, bytes, edit, text);
             totals_after::account(image, words, m, decision, record)
         }
@@ -97,7 +95,7 @@ pub fn run(
     record: &mut Record,
     edit: Edit,
     text: &[u8],
-) -> Located
+) -> Result<u32, Refusal>
     ensures { Edited numberedAs (editOf edit text.now) (lent image.old words.old bytes.old (totalsIn «record».old)) (lent image.new words.new bytes.new (totalsIn «record».new)) result }
 {
     let decision = decide(image, words, bytes, record, edit, text);

@@ -1,4 +1,6 @@
 -- The program by the cases of its header, and its own region by where it lies. Assumes nothing.
+use Rattle.std.specs.Prelude.{Result, Ok, Err}
+use Rattle.refusal.specs.Refusal.{Verdict}
 use Prim.Native.Nat.{ℕ, ◌+◌, ◌<◌, ◌≤◌, max}
 use mathlib.Core.Path.{◌≡◌, refl, sym, ap, ◌∙◌}
 use mathlib.Core.Bool.{Bool, true, false, cond}
@@ -8,12 +10,8 @@ use borrow.Author.Tests.{eq-eqb, ne_eqb, le-leb, lt-leb, leb-true}
 use lib.Dec.{leb}
 use Rattle.refusal.specs.Laws.Tests.{and_right}
 use Rattle.refusal.specs.declared.Refusal.{Refusal}
-use Rattle.refusal.specs.declared.Verdict.{Verdict}
-use Rattle.refusal.specs.declared.Verdict.TheVariants as verdict
 use Rattle.header.specs.Verdicts.{dolOffset}
 use Rattle.space.specs.declared.DiscRegion.{DiscRegion}
-use Rattle.dol.specs.declared.DolSize.{DolSize}
-use Rattle.dol.specs.declared.DolSize.TheVariants as size
 use Rattle.dol.specs.Laws.Facts.{size-passed, size-refused}
 use Rattle.dol.specs.Dol.{dolVerdictOf, dolSizeOf}
 use Rattle.program.specs.declared.Program.TheVariants.{At, None, Refused}
@@ -26,18 +24,18 @@ module _ (image : List ℕ) (at : ℕ) (here : at ≡ dolOffset image) where
   unfolding program_of
   no_program z = rw (← here, eq-eqb at 0 z)
 
-  module _ (some : at ≡ 0 → ⊥) (a : DolSize) (read : a ≡ dolSizeOf image at) where
+  module _ (some : at ≡ 0 → ⊥) (a : Result ℕ Refusal) (read : a ≡ dolSizeOf image at) where
     by-verdict : (v : Verdict) → dolVerdictOf image at ≡ v → program_of image ≡ programAs v (programFrom image at)
     unfolding program_of
     by-verdict v e = rw (← here, ne_eqb at 0 some, e)
 
-    pub a_program : (m n : ℕ) → a ≡ size.Bytes m → n ≡ max m 0xE4 → At (record { offset = at; size = n }) ≡ program_of image
+    pub a_program : (m n : ℕ) → a ≡ Ok m → n ≡ max m 0xE4 → At (record { offset = at; size = n }) ≡ program_of image
     a_program m n e f =
         let t = size-passed image at m (sym read ∙ e) in
-        sym (by-verdict verdict.Passed t.0 ∙ ap (λ (x : ℕ). At (record { offset = at; size = x })) (ap (λ (x : ℕ). max x 0xE4) (sym t.1) ∙ sym f))
+        sym (by-verdict (Ok tt) t.0 ∙ ap (λ (x : ℕ). At (record { offset = at; size = x })) (ap (λ (x : ℕ). max x 0xE4) (sym t.1) ∙ sym f))
 
-    pub no_header : (c : Refusal) → a ≡ size.Refused c → Refused c ≡ program_of image
-    no_header c e = sym (by-verdict (verdict.Refused c) (size-refused image at c (sym read ∙ e)))
+    pub no_header : (c : Refusal) → a ≡ Err c → Refused c ≡ program_of image
+    no_header c e = sym (by-verdict (Err c) (size-refused image at c (sym read ∙ e)))
 
 -- ---- the region
 

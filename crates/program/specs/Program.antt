@@ -2,9 +2,9 @@
 -- 0xE4. It must lie wholly between 0x440 and the FST offset, as part of the used bytes 0 up to the table end, or wholly from the table end on,
 -- as a used region of its own; otherwise, or where it overlaps a file or passes the disc end, 14. At opening 24 now comes just before 14."
 -- Assumes nothing: these are definitions.
+use Rattle.std.specs.Prelude.{Ok, Err}
+use Rattle.refusal.specs.Refusal.{Verdict}
 use Rattle.std.specs.Prelude.{ℕ, ◌+◌, max, Bool, cond, ◌&&◌, List, leb, eqb}
-use Rattle.refusal.specs.declared.Verdict.{Verdict}
-use Rattle.refusal.specs.declared.Verdict.TheVariants as verdict
 use Rattle.header.specs.Verdicts.{dolOffset, fstOffset}
 use Rattle.space.specs.declared.DiscRegion.{DiscRegion}
 use Rattle.dol.specs.Dol.{dolHeaderOf, fileSizeOf, dolVerdictOf}
@@ -17,17 +17,17 @@ programFrom image at = record { offset = at; size = max (fileSizeOf (dolHeaderOf
 
 -- by the verdict on its header
 abbrev pub programAs : Verdict → DiscRegion → Program
-programAs verdict.Passed r = At r
-programAs (verdict.Refused c) r = Refused c
+programAs (Ok _) r = At r
+programAs (Err c) r = Refused c
 
 -- "a nonzero DOL offset means a program"; its header may be refused, 24
 unfoldable pub program_of : List ℕ → Program
 program_of image = cond (eqb (dolOffset image) 0) None (programAs (dolVerdictOf image (dolOffset image)) (programFrom image (dolOffset image)))
 
 abbrev pub programVerdict : Program → Verdict
-programVerdict (At r) = verdict.Passed
-programVerdict None = verdict.Passed
-programVerdict (Refused c) = verdict.Refused c
+programVerdict (At r) = Ok tt
+programVerdict None = Ok tt
+programVerdict (Refused c) = Err c
 
 -- ---- where it lies
 

@@ -4,7 +4,6 @@
 ghost use Rattle.std.specs.Prelude.{◌≡◌, max};
 ghost use Rattle.program.specs.Program.{program_of, programVerdict, place_of, ownRegion};
 
-use dol::DolSize;
 use refusal::{Refusal, Verdict};
 use space::DiscRegion;
 
@@ -31,11 +30,11 @@ pub fn read(image: &[u8]) -> Program
     }
     let size = dol::size(image, at as usize);
     match size {
-        DolSize::Bytes(n) => Program::At(DiscRegion {
+        Ok(n) => Program::At(DiscRegion {
             offset: at,
             size: larger(n, 0xE4),
         }),
-        DolSize::Refused(cause) => Program::Refused(cause),
+        Err(cause) => Program::Refused(cause),
     }
 }
 
@@ -44,9 +43,9 @@ pub fn verdict(program: Program) -> Verdict
     ensures { result ≡ programVerdict program }
 {
     match program {
-        Program::At(_) => Verdict::Passed,
-        Program::None => Verdict::Passed,
-        Program::Refused(cause) => Verdict::Refused(cause),
+        Program::At(_) => Ok(()),
+        Program::None => Ok(()),
+        Program::Refused(cause) => Err(cause),
     }
 }
 

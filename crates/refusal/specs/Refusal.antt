@@ -2,11 +2,10 @@
 -- those of document 02 ("It and each later new number join 01's table"): 25, "used bytes or edit count would leave 0 to 2^32 - 1", and
 -- 26, "new table above the maximum".
 -- Assumes nothing: these are definitions.
+use Rattle.std.specs.Prelude.{Result, Ok, Err}
 use Rattle.std.specs.Prelude.{ℕ, Bool, true, false}
 use Rattle.refusal.specs.declared.Refusal.{Refusal}
 use Rattle.refusal.specs.declared.Refusal.TheVariants.{HeaderPastImage, WiiNotSupported, InvalidMagic, InvalidBounds, EntryPastTable, UnrecognizedKind, RootIsNotDirectory, MissingNullTerminator, LimitOrMemory, InvalidNextIndex, InvalidNameOffset, InvalidNameByte, UnsafeName, OverlappingRegions, NoSuchEntry, ExpectedFile, ExpectedDirectory, NotFound, AlreadyExists, OverlappingMove, NotEnoughSpace, InvalidAlignment, InvalidSeek, InvalidDol, TotalsOutOfRange, TableAboveMaximum}
-use Rattle.refusal.specs.declared.Verdict.{Verdict}
-use Rattle.refusal.specs.declared.Verdict.TheVariants.{Passed, Refused}
 
 abbrev pub number_of : Refusal → ℕ
 number_of HeaderPastImage = 1
@@ -38,16 +37,20 @@ number_of TableAboveMaximum = 26
 
 -- ---- chains of tests, in the order in which a call makes them
 
+-- the answer of a test that gives no value
+abbrev pub Verdict : Type 0
+Verdict = Result (Unit {0}) Refusal
+
 -- refused with this cause if the test holds, else what the later tests say
 abbrev pub refuse : Bool → Refusal → Verdict → Verdict
-refuse true c later = Refused c
+refuse true c later = Err c
 refuse false c later = later
 
 -- the first refusal of two groups of tests
 abbrev pub first : Verdict → Verdict → Verdict
-first Passed later = later
-first (Refused c) later = Refused c
+first (Ok _) later = later
+first (Err c) later = Err c
 
 abbrev pub is_refused : Verdict → Bool
-is_refused Passed = false
-is_refused (Refused c) = true
+is_refused (Ok _) = false
+is_refused (Err c) = true

@@ -71,19 +71,4 @@ impl Refusal {
 }
 
 // The answer of a test that gives no value.
-#[derive(Clone, Copy)]
-pub enum Verdict {
-    Passed,
-    Refused(Refusal),
-}
-
-impl Verdict {
-    pub fn is_refused(self) -> bool
-        ensures { result ≡ is_refused self }
-    {
-        match self {
-            Verdict::Passed => false,
-            Verdict::Refused(_) => true,
-        }
-    }
-}
+pub type Verdict = Result<(), Refusal>;

@@ -36,8 +36,8 @@ pub fn check_regions(words: &mut [u32], buf: usize, count: usize, disc_end: u32)
 {
     space_sort::sort(words, buf, count);
     if regions_disjoint(words, count, disc_end) {
-        Verdict::Passed
+        Ok(())
     } else {
-        Verdict::Refused(Refusal::OverlappingRegions)
+        Err(Refusal::OverlappingRegions)
     }
 }

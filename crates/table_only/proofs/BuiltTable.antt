@@ -1,5 +1,6 @@
 -- The tree of the image written anew, or with one entry more, as the code builds it: past a limit, too long for the bytes, or standing in
 -- them. Assumes nothing.
+use Rattle.std.specs.Prelude.{Result, Ok, Err}
 use Prim.Native.Nat.{ℕ, ◌≤◌, ◌<◌, ◌^◌}
 use mathlib.Core.Path.{◌≡◌, ap}
 use mathlib.Core.Bool.{Bool}
@@ -7,7 +8,6 @@ use mathlib.Core.List.{List}
 use native.Mathlib.Omega.{arith}
 use lib.ListN.{length}
 use Rattle.refusal.specs.declared.Refusal.{Refusal}
-use Rattle.refusal.specs.declared.Verdict.TheVariants.{Passed}
 use Rattle.tree.specs.Table.{Node, encode, limits}
 use Rattle.tree.specs.Inner.WellFormed.{GoodName, WellFormed}
 use Rattle.tree.specs.Laws.WrittenEntries.{length-encode}
@@ -15,8 +15,6 @@ use Rattle.tree.specs.Laws.RoundTrip.{within-limits}
 use Rattle.tree.specs.Laws.Growing.{bigger-same}
 use Rattle.fst_measure.specs.declared.Measured.{Measured}
 use Rattle.fst_measure.specs.declared.Measured.TheVariants.{Size, PastLimit}
-use Rattle.fst_measure.specs.declared.TableSize.{TableSize}
-use Rattle.fst_measure.specs.declared.TableSize.TheVariants as table
 use Rattle.fst_measure.specs.Inner.Measure.{measureOf}
 use Rattle.fst_grow.specs.Inner.Growth.{treeIn, Stands, IsDirectory, added, Built}
 use Rattle.fst_grow.proofs.StandingTable.{built-stands}
@@ -38,14 +36,14 @@ unfolding nodesIn
 well-open image words known = known.reads.table.well
 
 module _ (image w bytes : List ℕ) (m : ℕ) (tab : List ℕ) (r : Measured) (is : tab ≡ table_of image) (measured : r ≡ measureOf tab) (opened : IsOpen image w m) where
-  pub past-limits : r ≡ PastLimit → limits (nodesIn image) (length w) ≡ Passed → length bytes < length (encode (nodesIn image))
+  pub past-limits : r ≡ PastLimit → limits (nodesIn image) (length w) ≡ Ok tt → length bytes < length (encode (nodesIn image))
   past-limits e p = let q = limits-past image tab is (length w) opened.known r measured e in let z : ◌≡◌ {A = ℕ} 0 1 = cc in absurd (omega arith)
 
   module _ (n : ℕ) (sized : r ≡ Size n) where
-    both : (limits (nodesIn image) (length w) ≡ Passed) × (n ≡ length (encode (nodesIn image)))
+    both : (limits (nodesIn image) (length w) ≡ Ok tt) × (n ≡ length (encode (nodesIn image)))
     both = limits-passed image tab is (length w) opened.known r measured n sized
 
-    pub within-limit : limits (nodesIn image) (length w) ≡ Passed
+    pub within-limit : limits (nodesIn image) (length w) ≡ Ok tt
     within-limit = both.0
 
     pub size-measured : n ≡ length (encode (nodesIn image))
@@ -62,8 +60,8 @@ module _ (image w bytes : List ℕ) (m : ℕ) (tab : List ℕ) (r : Measured) (i
 
 -- ---- the tree of the image, built
 
-module _ (image w s t : List ℕ) (m : ℕ) (r : TableSize) (opened : IsOpen image w m) (built : Built (nodesIn image) (length w) s t r) where
-  module _ (n : ℕ) (e : r ≡ table.Bytes n) where
+module _ (image w s t : List ℕ) (m : ℕ) (r : Result ℕ Refusal) (opened : IsOpen image w m) (built : Built (nodesIn image) (length w) s t r) where
+  module _ (n : ℕ) (e : r ≡ Ok n) where
     stands : Stands t n (length w) × (treeIn t n ≡ nodesIn image)
     stands = built-stands (nodesIn image) (length w) s t r n (well-open image (length w) opened.known) built e
 
@@ -81,20 +79,20 @@ module _ (image w s t : List ℕ) (m : ℕ) (r : TableSize) (opened : IsOpen ima
     started-decided is p nm after d l h =
         same-decided (added (treeIn t n) is p nm) (added (nodesIn image) is p nm) (length w) (length t) (length s) image after d (ap (λ (x : List Node). added x is p nm) stands.1) l h
 
-  pub unstarted-decided : (is : Bool) (p : ℕ) (nm after : List ℕ) (c : Refusal) → IsDirectory (nodesIn image) p → GoodName nm → r ≡ table.Refused c →
-      Decided (change 0 (tableOnly (added (nodesIn image) is p nm))) image (length w) (length s) after (tableDecision 0 (table.Refused c))
+  pub unstarted-decided : (is : Bool) (p : ℕ) (nm after : List ℕ) (c : Refusal) → IsDirectory (nodesIn image) p → GoodName nm → r ≡ Err c →
+      Decided (change 0 (tableOnly (added (nodesIn image) is p nm))) image (length w) (length s) after (tableDecision 0 (Err c))
   unstarted-decided is p nm after c dir good e =
       unbuilt-decided (nodesIn image) (added (nodesIn image) is p nm) (length w) 0 s t r c image after (bigger-added (nodesIn image) is p nm (well-open image (length w) opened.known) dir good) built e
 
 -- ---- one entry more, built
 
-module _ (s : List ℕ) (size words : ℕ) (is : Bool) (p : ℕ) (nm : List ℕ) (st : Stands s size words) (dir : IsDirectory (treeIn s size) p) (good : GoodName nm) (t : List ℕ) (r : TableSize)
+module _ (s : List ℕ) (size words : ℕ) (is : Bool) (p : ℕ) (nm : List ℕ) (st : Stands s size words) (dir : IsDirectory (treeIn s size) p) (good : GoodName nm) (t : List ℕ) (r : Result ℕ Refusal)
     (built : Built (added (treeIn s size) is p nm) words s t r) (image after : List ℕ) where
-  pub grown-decided : (n : ℕ) (d : Decision) → r ≡ table.Bytes n → length t ≡ length s → Decided (change 0 (tableOnly (treeIn t n))) image words (length t) after d →
+  pub grown-decided : (n : ℕ) (d : Decision) → r ≡ Ok n → length t ≡ length s → Decided (change 0 (tableOnly (treeIn t n))) image words (length t) after d →
       Decided (change 0 (tableOnly (added (treeIn s size) is p nm))) image words (length s) after d
   grown-decided n d e l h = same-decided (treeIn t n) (added (treeIn s size) is p nm) words (length t) (length s) image after d (grown s size words st is p nm dir good t r built n e).1 l h
 
-  pub ungrown-decided : (c : Refusal) → r ≡ table.Refused c → Decided (change 0 (tableOnly (added (treeIn s size) is p nm))) image words (length s) after (tableDecision 0 (table.Refused c))
+  pub ungrown-decided : (c : Refusal) → r ≡ Err c → Decided (change 0 (tableOnly (added (treeIn s size) is p nm))) image words (length s) after (tableDecision 0 (Err c))
   ungrown-decided c e =
       unbuilt-decided (added (treeIn s size) is p nm) (added (treeIn s size) is p nm) words 0 s t r c image after
       (bigger-same (added (treeIn s size) is p nm) (bigger-added (treeIn s size) is p nm st.well dir good).well) built e

@@ -11,38 +11,49 @@ ghost use Rattle.commit.specs.Inner.Decision.{Decided};
 ghost use Rattle.table_only.specs.Inner.Decisions.{noWriting, tableDecision};
 
 use commit::{Decision, Writing};
-use fst_measure::{Measured, TableSize};
-use refusal::{Refusal, Verdict};
+use fst_measure::Measured;
+use refusal::Refusal;
 use space::DiscRegion;
 
 // The tree of the image, written anew; 9 if its texts pass the limit or the bytes are too few.
-pub fn start_table(image: &[u8], words: &[u32], m: usize, bytes: &mut [u8]) -> TableSize
+pub fn start_table(
+    image: &[u8],
+    words: &[u32],
+    m: usize,
+    bytes: &mut [u8],
+) -> Result<usize, Refusal>
     requires { IsOpen image.now words.now m }
     ensures { Built (nodesIn image.now) (length words.now) bytes.old bytes.new result }
 {
     let measured = fst_measure::measure(opening::table(image));
     match measured {
-        Measured::PastLimit => TableSize::Refused(Refusal::LimitOrMemory),
+        Measured::PastLimit => Err(Refusal::LimitOrMemory),
         Measured::Size(size) => {
             if bytes.len() < size {
-                return TableSize::Refused(Refusal::LimitOrMemory);
+                return Err(Refusal::LimitOrMemory);
             }
             commit::write_table(image, bytes);
-            TableSize::Bytes(size)
+            Ok(size)
         }
     }
 }
 
 // The new table stands in the bytes: its size and its place in the image are judged.
-pub fn place_table(image: &[u8], words: &[u32], m: usize, bytes: &[u8], size: usize) -> TableSize
+pub fn place_table(
+    image: &[u8],
+    words: &[u32],
+    m: usize,
+    bytes: &[u8],
+    size: usize,
+) -> Result<usize, Refusal>
     requires { IsOpen image.now words.now m × Stands bytes.now size (length words.now) }
     ensures { Decided (change 0 (tableOnly (treeIn bytes.now size))) image.now (length words.now) (length bytes.now) bytes.now (tableDecision 0 result) }
 {
     let place = DiscRegion { offset: 0, size: 0 };
     let verdict = commit::check_place(image, words, m, bytes.len(), size, place);
     match verdict {
-        Verdict::Refused(cause) => TableSize::Refused(cause),
-        Verdict::Passed => TableSize::Bytes(size),
+        Err(cause) => Err(cause),
+        Ok(()) => Ok(size),
     }
 }
 
@@ -61,11 +72,11 @@ fn nothing() -> Writing
 }
 
 // A grown table as a decision, with the number of the entry that the edit gives.
-pub fn numbered(built: TableSize, number: u32) -> Decision
+pub fn numbered(built: Result<usize, Refusal>, number: u32) -> Decision
     ensures { result ≡ tableDecision number built }
 {
     match built {
-        TableSize::Bytes(size) => Decision::Write(number, size, nothing()),
-        TableSize::Refused(cause) => Decision::Refused(cause),
+        Ok(size) => Decision::Write(number, size, nothing()),
+        Err(cause) => Decision::Refused(cause),
     }
 }

@@ -1,9 +1,9 @@
 -- The totals record (document 02, Point 6): "Keep these three in a record that goes into an edit and comes back". Whatever the record holds
 -- joins here. Assumes nothing: these are definitions.
+use Rattle.std.specs.Prelude.{Ok}
+use Rattle.refusal.specs.Refusal.{Verdict}
 use Rattle.std.specs.Prelude.{ℕ, ◌+◌, ◌-◌, ◌^◌, List, ltb, get_or}
 use Rattle.refusal.specs.declared.Refusal.TheVariants.{TotalsOutOfRange}
-use Rattle.refusal.specs.declared.Verdict.{Verdict}
-use Rattle.refusal.specs.declared.Verdict.TheVariants.{Passed}
 use Rattle.refusal.specs.Refusal.{refuse}
 use Rattle.totals.specs.declared.Totals.{Totals}
 
@@ -18,7 +18,7 @@ totalsVerdict t before after =
     refuse (ltb (t.used + after) before) TotalsOutOfRange
     (refuse (ltb (2 ^ 32 - 1) (t.used + after - before)) TotalsOutOfRange
     (refuse (ltb (2 ^ 32 - 1) (t.edits + 1)) TotalsOutOfRange
-    Passed))
+    (Ok tt)))
 
 -- "Used bytes move by the edit's change, the count by one; the largest region is the new image's."
 unfoldable pub totalsMoved : Totals → ℕ → ℕ → ℕ → Totals

@@ -111,15 +111,15 @@ pub fn move_totals(record: &mut Record, before: u64, after: u64, largest: u32) -
     let sum = wide(record[0]) + after;
     let edits = record[2];
     if sum < before {
-        return Verdict::Refused(Refusal::TotalsOutOfRange);
+        return Err(Refusal::TotalsOutOfRange);
     }
     let used = sum - before;
     if 0xFFFFFFFF < used {
-        return Verdict::Refused(Refusal::TotalsOutOfRange);
+        return Err(Refusal::TotalsOutOfRange);
     }
     if 0xFFFFFFFF <= edits {
-        return Verdict::Refused(Refusal::TotalsOutOfRange);
+        return Err(Refusal::TotalsOutOfRange);
     }
     *record = [used as u32, largest, edits + 1];
-    Verdict::Passed
+    Ok(())
 }

@@ -1,21 +1,18 @@
 -- What is decided on, entered in the record, is what the plan comes to by all its tests; and with the working memory zeroed it is the edit.
 -- Assumes nothing.
+use Rattle.std.specs.Prelude.{Result, Ok, Err}
+use Rattle.refusal.specs.Refusal.{Verdict}
 use Prim.Native.Nat.{ℕ, ◌-◌}
 use mathlib.Core.Path.{◌≡◌, refl, sym, ap, ◌∙◌}
 use mathlib.Core.Bool.{cond}
 use mathlib.Core.List.{List}
 use lib.ListN.{length, replicate}
 use Rattle.refusal.specs.declared.Refusal.{Refusal}
-use Rattle.refusal.specs.declared.Verdict.{Verdict}
-use Rattle.refusal.specs.declared.Verdict.TheVariants.{Passed, Refused}
 use Rattle.refusal.specs.Refusal.{first, is_refused}
 use Rattle.refusal.specs.Laws.Chains.{first-passed}
 use Rattle.space.specs.Inner.Sort.{regionsIn}
-use Rattle.tree.specs.declared.Located.{Located}
 use Rattle.totals.specs.declared.Totals.{Totals}
 use Rattle.opening.specs.Opening.{opening}
-use Rattle.opening.specs.declared.Prepared.{Prepared}
-use Rattle.opening.specs.declared.Prepared.TheVariants as prepared
 use Rattle.opening.specs.Inner.Prepared.{Prepares, IsOpen}
 use Rattle.opening.specs.Laws.OpeningLaws.{was-ready, was-refused}
 use Rattle.edits.specs.Change.{Plan, refused}
@@ -36,17 +33,17 @@ use Rattle.totals_after.specs.Laws.AccountLaws as laws
 
 module _ (p : Plan) (image : List ℕ) (words room : ℕ) (bytes clip : List ℕ) (t : Totals) where
   -- refused by the plan's tests, or by 25
-  pub refused-accounted : (c : Refusal) (a : Accounted) → countedVerdict p t image words room ≡ Refused c → a ≡ accounted (decision.Refused c) t → AccountedFor p image words room bytes clip t a
+  pub refused-accounted : (c : Refusal) (a : Accounted) → countedVerdict p t image words room ≡ Err c → a ≡ accounted (decision.Refused c) t → AccountedFor p image words room bytes clip t a
   refused-accounted c a e q = rw q (record {
     decided = record { fits = tt; carries = tt; answer = sym e; after = rw e };
     totals = rw e;
   })
 
-  passed-accounted : (d : Decision) (a : Accounted) → countedVerdict p t image words room ≡ Passed → DecidedAs (planVerdict p image words room) p image room bytes clip d → a ≡ accounted d (totalsTo t image (planImage p image)) → AccountedFor p image words room bytes clip t a
+  passed-accounted : (d : Decision) (a : Accounted) → countedVerdict p t image words room ≡ Ok tt → DecidedAs (planVerdict p image words room) p image room bytes clip d → a ≡ accounted d (totalsTo t image (planImage p image)) → AccountedFor p image words room bytes clip t a
   unfolding countedVerdict
   passed-accounted d a e h q =
-      let o : planVerdict p image words room ≡ Passed = (first-passed (planVerdict p image words room) _ e).0 in
-      let k : DecidedAs Passed p image room bytes clip d = rw o at h in
+      let o : planVerdict p image words room ≡ Ok tt = (first-passed (planVerdict p image words room) _ e).0 in
+      let k : DecidedAs (Ok tt) p image room bytes clip d = rw o at h in
       rw q (record { decided = rw e k; totals = rw e })
 
   -- as the law of AccountLaws has it
@@ -55,17 +52,17 @@ module _ (p : Plan) (image : List ℕ) (words room : ℕ) (bytes clip : List ℕ
   entered-accounted d a h n = go (countedVerdict p t image words room) refl
     where
       go : (v : Verdict) → countedVerdict p t image words room ≡ v → AccountedFor p image words room bytes clip t a
-      go Passed e = passed-accounted d a e h (n.passed e)
-      go (Refused c) e = refused-accounted c a e (n.refused c e)
+      go (Ok _) e = passed-accounted d a e h (n.passed e)
+      go (Err c) e = refused-accounted c a e (n.refused c e)
 
 -- ---- an edit: opening, then its plan
 
-module _ (ed : Edit) (h : Passable ed) (image w w' : List ℕ) (r : Prepared) (m room : ℕ) (bytes clip : List ℕ) (d : Decision) (ready : Prepares image w' r) (is : r ≡ prepared.Ready m)
+module _ (ed : Edit) (h : Passable ed) (image w w' : List ℕ) (r : Result ℕ Refusal) (m room : ℕ) (bytes clip : List ℕ) (d : Decision) (ready : Prepares image w' r) (is : r ≡ Ok m)
     (same : length w' ≡ length w) (long : length bytes ≡ room) (decided : DecidedAs (planVerdict (plan_of ed image) image (length w') room) (plan_of ed image) image room bytes clip d) where
   ready_words : IsOpen image w' m
   ready_words = was-ready image w' r ready m is
 
-  lays : planVerdict (plan_of ed image) image (length w') room ≡ Passed → Lays (plan_of ed image) image (planImage (plan_of ed image) image)
+  lays : planVerdict (plan_of ed image) image (length w') room ≡ Ok tt → Lays (plan_of ed image) image (planImage (plan_of ed image) image)
   lays v = (arrives image (length w') room ready_words.known.bytes ready_words.known.passed ed h v).2
 
   pub open-accounted : (t : Totals) (a : Accounted) → a ≡ accountOf image (regionsIn w' 1 (m - 1)) d t → AccountedFor (planned (opening image (length w)) (plan_of ed image)) image (length w) room bytes clip t a
@@ -74,10 +71,10 @@ module _ (ed : Edit) (h : Passable ed) (image w w' : List ℕ) (r : Prepared) (m
       let f : AccountedFor (plan_of ed image) image (length w') room bytes clip t a = entered-accounted (plan_of ed image) image (length w') room bytes clip t d a decided (unfold countedVerdict in rw q n) in
       rw (behind-passed (opening image (length w)) (plan_of ed image) (rw same at ready_words.known.passed)) (rw same at f)
 
-pub unopened-accounted : (p : Plan) (image w w' : List ℕ) (r : Prepared) (c : Refusal) (room : ℕ) (bytes clip : List ℕ) (t : Totals) (a : Accounted) → Prepares image w' r → r ≡ prepared.Refused c → length w' ≡ length w → a ≡ accounted (decision.Refused c) t →
+pub unopened-accounted : (p : Plan) (image w w' : List ℕ) (r : Result ℕ Refusal) (c : Refusal) (room : ℕ) (bytes clip : List ℕ) (t : Totals) (a : Accounted) → Prepares image w' r → r ≡ Err c → length w' ≡ length w → a ≡ accounted (decision.Refused c) t →
     AccountedFor (planned (opening image (length w)) p) image (length w) room bytes clip t a
 unopened-accounted p image w w' r c room bytes clip t a q e same =
-    rw (behind-refused (opening image (length w)) p c (rw same at (was-refused image w' r q c e))) (refused-accounted (refused (Refused c)) image (length w) room bytes clip t c a (unfold countedVerdict in refl))
+    rw (behind-refused (opening image (length w)) p c (rw same at (was-refused image w' r q c e))) (refused-accounted (refused (Err c)) image (length w) room bytes clip t c a (unfold countedVerdict in refl))
 
 -- ---- the whole edit
 
@@ -96,14 +93,14 @@ module _ (ed : Edit) (image : List ℕ) (words room : ℕ) (bytes clip : List �
           (carriedAnswer d ≡ numberedAs (first v (countedVerdict (plan_of ed image) t image words room)) (planNumber (plan_of ed image)))
           × (carriedImage d bytes clip image ≡ cond (is_refused (first v (countedVerdict (plan_of ed image) t image words room))) image (planImage (plan_of ed image) image))
           × (t' ≡ cond (is_refused (first v (countedVerdict (plan_of ed image) t image words room))) t (totalsTo t image (planImage (plan_of ed image) image)))
-      go Passed k = (answered _ _ _ _ _ _ _ k.decided, k.decided.after, k.totals)
-      go (Refused c) k =
-          let e : countedVerdict (refused (Refused c)) t image words room ≡ Refused c = unfold countedVerdict in refl in
+      go (Ok _) k = (answered _ _ _ _ _ _ _ k.decided, k.decided.after, k.totals)
+      go (Err c) k =
+          let e : countedVerdict (refused (Err c)) t image words room ≡ Err c = unfold countedVerdict in refl in
           (answered _ _ _ _ _ _ _ k.decided ∙ rw e, k.decided.after ∙ rw e, k.totals ∙ rw e)
 
 pub edited : (ed : Edit) (image words bytes clip x b image' words' bytes' : List ℕ) (n : ℕ) (t t' : Totals) (d : Decision) → AccountedFor (planned (opening image (length words)) (plan_of ed image)) image (length words) (length bytes) b clip t (accounted d t') → x ≡ clip →
     image' ≡ carriedImage d b x image → words' ≡ replicate n 0 → bytes' ≡ replicate (length b) 0 → n ≡ length words → length b ≡ length bytes →
-    (r : Located) → r ≡ carriedAnswer d → Edited numberedAs ed (lent image words bytes t) (lent image' words' bytes' t') r
+    (r : Result ℕ Refusal) → r ≡ carriedAnswer d → Edited numberedAs ed (lent image words bytes t) (lent image' words' bytes' t') r
 edited ed image words bytes clip x b image' words' bytes' n t t' d f c i zw zb kw kb r q =
     let e = edit-accounted ed image (length words) (length bytes) b clip t t' d f in
     record {

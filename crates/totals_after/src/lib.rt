@@ -22,8 +22,8 @@ fn settled(decision: Decision, verdict: Verdict) -> Decision
     ensures { result ≡ unless verdict decision }
 {
     match verdict {
-        Verdict::Passed => decision,
-        Verdict::Refused(cause) => Decision::Refused(cause),
+        Ok(()) => decision,
+        Err(cause) => Decision::Refused(cause),
     }
 }
 

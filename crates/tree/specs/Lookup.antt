@@ -1,4 +1,6 @@
 -- Entries by number and by path (document 01, "Lookup (`at_descendant`)"). Assumes nothing: these are definitions.
+use Rattle.std.specs.Prelude.{Result, Ok, Err}
+use Rattle.refusal.specs.declared.Refusal.{Refusal}
 use Rattle.std.specs.Prelude.{ℕ, zero, suc, ◌-◌, Bool, true, false, cond, ◌&&◌, ◌||◌, List, [], ◌∷◌, ◌++◌, length, get_or, ltb, eqb}
 use Rattle.endian.specs.Bytes.{sameBytes}
 use Rattle.refusal.specs.declared.Refusal.TheVariants.{NoSuchEntry, ExpectedDirectory, NotFound}
@@ -6,8 +8,6 @@ use Rattle.tree.specs.declared.Entry.{Entry}
 use Rattle.tree.specs.declared.Entry.TheVariants.{File, Directory}
 use Rattle.tree.specs.declared.Found.{Found}
 use Rattle.tree.specs.declared.Found.TheVariants as found
-use Rattle.tree.specs.declared.Located.{Located}
-use Rattle.tree.specs.declared.Located.TheVariants.{At, Refused}
 use Rattle.tree.specs.Units.{TextUnit, single, pair, unitBytes, units}
 use Rattle.tree.specs.Table.{Node, file, directory, name_of, none, parent_of}
 
@@ -56,12 +56,12 @@ abbrev pub childNamed : List Node → ℕ → List ℕ → ℕ → Bool
 childNamed nodes d nm k = eqb (parent_of nodes k) d && sameBytes (name_of (get_or nodes k none)) nm
 
 -- among the n entries from k on
-unfoldable pub firstChild : List Node → ℕ → List ℕ → ℕ → ℕ → Located
-firstChild nodes d nm k zero = Refused NotFound
-firstChild nodes d nm k (suc n) = cond (childNamed nodes d nm k) (At k) (firstChild nodes d nm (suc k) n)
+unfoldable pub firstChild : List Node → ℕ → List ℕ → ℕ → ℕ → Result ℕ Refusal
+firstChild nodes d nm k zero = Err NotFound
+firstChild nodes d nm k (suc n) = cond (childNamed nodes d nm k) (Ok k) (firstChild nodes d nm (suc k) n)
 
 -- the first child of directory d with that name: among the entries after d and before its next
-unfoldable pub childOf : List Node → ℕ → List ℕ → Located
+unfoldable pub childOf : List Node → ℕ → List ℕ → Result ℕ Refusal
 childOf nodes d nm = firstChild nodes d nm (suc d) (next_of (get_or nodes d none) - suc d)
 
 -- ---- "before each component the current entry must be a directory (17). Empty and `.` stay. `..` goes back over the last named step,
@@ -78,34 +78,34 @@ goesBack (a ∷ []) = false
 goesBack (a ∷ b ∷ []) = eqb a 0x2E && eqb b 0x2E
 goesBack (a ∷ b ∷ c ∷ d) = false
 
-abbrev pub and_then : Located → (ℕ → Located) → Located
-and_then (At k) f = f k
-and_then (Refused c) f = Refused c
+abbrev pub and_then : Result ℕ Refusal → (ℕ → Result ℕ Refusal) → Result ℕ Refusal
+and_then (Ok k) f = f k
+and_then (Err c) f = Err c
 
 -- the entry before the last named step
-abbrev pub stepBack : List ℕ → (ℕ → List ℕ → Located) → Located
-stepBack [] f = Refused NotFound
+abbrev pub stepBack : List ℕ → (ℕ → List ℕ → Result ℕ Refusal) → Result ℕ Refusal
+stepBack [] f = Err NotFound
 stepBack (k ∷ trail) f = f k trail
 
 -- from entry k along the components; `trail` has the entries that were left by a named step, the last first
-unfoldable pub follow : List Node → List ℕ → ℕ → List (List ℕ) → Located
-follow nodes trail k [] = At k
+unfoldable pub follow : List Node → List ℕ → ℕ → List (List ℕ) → Result ℕ Refusal
+follow nodes trail k [] = Ok k
 follow nodes trail k (c ∷ cs) =
     cond (isDirectory (get_or nodes k none))
     (cond (stays c) (follow nodes trail k cs)
     (cond (goesBack c) (stepBack trail (λ j rest. follow nodes rest j cs))
     (and_then (childOf nodes k c) (λ j. follow nodes (k ∷ trail) j cs))))
-    (Refused ExpectedDirectory)
+    (Err ExpectedDirectory)
 
 -- 15, then along the path 17 and 18
-unfoldable pub lookup : List Node → ℕ → List ℕ → Located
-lookup nodes start path = cond (ltb start (length nodes)) (follow nodes [] start (components path)) (Refused NoSuchEntry)
+unfoldable pub lookup : List Node → ℕ → List ℕ → Result ℕ Refusal
+lookup nodes start path = cond (ltb start (length nodes)) (follow nodes [] start (components path)) (Err NoSuchEntry)
 
 -- ---- the answers with the entry
 
-abbrev pub found_at : List Node → Located → Found
-found_at nodes (At k) = found.At k (entry_of nodes k)
-found_at nodes (Refused c) = found.Refused c
+abbrev pub found_at : List Node → Result ℕ Refusal → Found
+found_at nodes (Ok k) = found.At k (entry_of nodes k)
+found_at nodes (Err c) = found.Refused c
 
 abbrev pub entryFound : List Node → ℕ → Found
-entryFound nodes k = found_at nodes (cond (ltb k (length nodes)) (At k) (Refused NoSuchEntry))
+entryFound nodes k = found_at nodes (cond (ltb k (length nodes)) (Ok k) (Err NoSuchEntry))

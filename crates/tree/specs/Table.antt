@@ -1,11 +1,11 @@
 -- The file table (document 01, "The tree"): what its bytes say, when it is accepted, and how it is written.
 -- The table is in preorder and a directory's "next" says where its entries end, so the tree is the list of its entries.
 -- Assumes nothing: these are definitions.
+use Rattle.std.specs.Prelude.{Ok}
+use Rattle.refusal.specs.Refusal.{Verdict}
 use Rattle.std.specs.Prelude.{ℕ, zero, suc, ◌+◌, ◌-◌, ◌*◌, max, Bool, true, false, cond, not, ◌&&◌, ◌||◌, length, get_or, drop, leb, ltb, eqb}
 use mathlib.Core.List.{List, [], ◌∷◌, ◌++◌, tail}
 use Rattle.endian.specs.Bytes.{be24, be32, be24Bytes, be32Bytes}
-use Rattle.refusal.specs.declared.Verdict.{Verdict}
-use Rattle.refusal.specs.declared.Verdict.TheVariants.{Passed}
 use Rattle.refusal.specs.declared.Refusal.TheVariants.{EntryPastTable, UnrecognizedKind, RootIsNotDirectory, MissingNullTerminator, LimitOrMemory, InvalidNextIndex, InvalidNameOffset, InvalidNameByte, UnsafeName}
 use Rattle.refusal.specs.Refusal.{refuse, first}
 use Rattle.tree.specs.Units.{TextUnit, single, pair, within, units}
@@ -115,11 +115,11 @@ nodesOf tab = directory [] (count tab) ∷ nodesFrom tab (count tab) 1 (count ta
 -- for the root), 10, directory deeper than 64 (root 0; 9)."
 
 unfoldable pub entryVerdict : List ℕ → ℕ → Verdict
-entryVerdict tab k = refuse (ltb (length tab) (12 * k + 12)) EntryPastTable (refuse (ltb 1 (kind tab k)) UnrecognizedKind Passed)
+entryVerdict tab k = refuse (ltb (length tab) (12 * k + 12)) EntryPastTable (refuse (ltb 1 (kind tab k)) UnrecognizedKind (Ok tt))
 
 -- n entries from k on, each in turn
 unfoldable pub entriesVerdict : List ℕ → ℕ → ℕ → Verdict
-entriesVerdict tab k zero = Passed
+entriesVerdict tab k zero = Ok tt
 entriesVerdict tab k (suc n) = first (entryVerdict tab k) (entriesVerdict tab (suc k) n)
 
 -- the last text, if there are texts after c entries, has no zero byte at its end
@@ -144,20 +144,20 @@ unfoldable pub nameVerdict : List ℕ → ℕ → ℕ → List ℕ → Verdict
 nameVerdict tab c k nm =
     refuse (leb (length tab - 12 * c) (nameOffset tab k)) InvalidNameOffset
     (refuse (not (plain nm)) InvalidNameByte
-    (refuse (not (safe nm)) UnsafeName Passed))
+    (refuse (not (safe nm)) UnsafeName (Ok tt)))
 
 -- "next at or before its entry, past the count or past its parent's next", then the depth, which is the number of directories open
 unfoldable pub nextVerdict : ℕ → List ℕ → ℕ → Node → Verdict
-nextVerdict c dirs k (file nm offset size) = Passed
+nextVerdict c dirs k (file nm offset size) = Ok tt
 nextVerdict c dirs k (directory nm next) =
     refuse (leb next k) InvalidNextIndex
     (refuse (ltb c next) InvalidNextIndex
     (refuse (ltb (top dirs) next) InvalidNextIndex
-    (refuse (ltb 64 (length dirs)) LimitOrMemory Passed)))
+    (refuse (ltb 64 (length dirs)) LimitOrMemory (Ok tt))))
 
 -- the walk over entries k and on, which read as xs
 unfoldable pub walk : List ℕ → ℕ → List ℕ → ℕ → List Node → Verdict
-walk tab c dirs k [] = Passed
+walk tab c dirs k [] = Ok tt
 walk tab c dirs k (x ∷ xs) =
     first (nameVerdict tab c k (name_of x))
     (first (nextVerdict c (shut k dirs) k x)
@@ -234,4 +234,4 @@ limits nodes words =
     refuse (ltb 16384 (length nodes)) LimitOrMemory
     (refuse (ltb 1048576 (length (textsOf (tail nodes)))) LimitOrMemory
     (refuse (ltb words (4 * (length nodes + 2))) LimitOrMemory
-    (refuse (not (shallow nodes)) LimitOrMemory Passed)))
+    (refuse (not (shallow nodes)) LimitOrMemory (Ok tt))))

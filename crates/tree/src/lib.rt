@@ -28,10 +28,3 @@ pub enum Found {
     At(u32, Entry),
     Refused(Refusal),
 }
-
-// The number of an entry alone.
-#[derive(Clone, Copy)]
-pub enum Located {
-    At(u32),
-    Refused(Refusal),
-}

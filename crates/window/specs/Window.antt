@@ -2,14 +2,14 @@
 -- distance is added modulo 2^64. Refused 23 if start + position passes 2^64 - 1; current with distance 0 always succeeds. A read gives
 -- the least of the bytes asked for, left in the window and left in the image, and none past either; the rest of the buffer stays."
 -- Numbers are whole numbers, and `a - b` is 0 where b is larger. Assumes nothing: these are definitions.
+use Rattle.std.specs.Prelude.{Result, Ok, Err}
+use Rattle.refusal.specs.declared.Refusal.{Refusal}
 use Rattle.std.specs.Prelude.{ℕ, zero, suc, ◌+◌, ◌-◌, ◌%◌, ◌^◌, min, Bool, true, false, List, length, ℤ, pos, negsuc, nat_lt}
 use Rattle.endian.specs.Bytes.{put, span}
 use Rattle.refusal.specs.declared.Refusal.TheVariants.{InvalidSeek}
 use Rattle.window.specs.declared.Window.{Window}
 use Rattle.window.specs.declared.SeekFrom.{SeekFrom}
 use Rattle.window.specs.declared.SeekFrom.TheVariants.{Start, Current, End}
-use Rattle.window.specs.declared.Sought.{Sought}
-use Rattle.window.specs.declared.Sought.TheVariants.{At, Refused}
 use Rattle.window.specs.declared.BytesRead.{BytesRead}
 use Rattle.window.specs.declared.SoughtAndRead.{SoughtAndRead}
 
@@ -30,18 +30,18 @@ distance (negsuc n) = 2 ^ 64 - suc n
 abbrev pub movedBy : ℕ → ℤ → ℕ
 movedBy p d = (p + distance d) % 2 ^ 64
 
-abbrev pub either : Bool → Sought → Sought → Sought
+abbrev pub either : Bool → Result Window Refusal → Result Window Refusal → Result Window Refusal
 either true a b = a
 either false a b = b
 
 -- a seek to the position p: "Refused 23 if start + position passes 2^64 - 1"
-abbrev pub judged : Window → ℕ → Sought
-judged w p = either (nat_lt (2 ^ 64 - 1) (w.start + p)) (Refused InvalidSeek) (At (moveTo w p))
+abbrev pub judged : Window → ℕ → Result Window Refusal
+judged w p = either (nat_lt (2 ^ 64 - 1) (w.start + p)) (Err InvalidSeek) (Ok (moveTo w p))
 
 -- the answer of a seek, by cases: "current with distance 0 always succeeds"
-abbrev pub seekOf : Window → SeekFrom → Sought
+abbrev pub seekOf : Window → SeekFrom → Result Window Refusal
 seekOf w (Start n) = judged w n
-seekOf w (Current (pos zero)) = At w
+seekOf w (Current (pos zero)) = Ok w
 seekOf w (Current (pos (suc n))) = judged w (movedBy w.position (pos (suc n)))
 seekOf w (Current (negsuc n)) = judged w (movedBy w.position (negsuc n))
 seekOf w (End d) = judged w (movedBy w.len d)
@@ -66,9 +66,9 @@ bufferOf w image buf = put buf 0 (span image (w.start + w.position) (count_of w 
 -- ---- "the same two calls on a window that the caller lends and finds moved"
 
 -- the window after a seek: the one found, or with a refusal the one it was ("Left as it was: window too")
-abbrev pub settled_of : Window → Sought → Window
-settled_of w (At v) = v
-settled_of w (Refused c) = w
+abbrev pub settled_of : Window → Result Window Refusal → Window
+settled_of w (Ok v) = v
+settled_of w (Err c) = w
 
 -- a seek and then a read on one window
 abbrev pub seekReadOf : Window → SeekFrom → ℕ → ℕ → SoughtAndRead

@@ -22,12 +22,6 @@ pub enum SeekFrom {
 }
 
 #[derive(Clone, Copy)]
-pub enum Sought {
-    At(Window),
-    Refused(Refusal),
-}
-
-#[derive(Clone, Copy)]
 pub struct BytesRead {
     pub count: usize,
     pub window: Window,
@@ -46,13 +40,13 @@ fn moved(p: u64, d: i64) -> u64
 }
 
 // The checked sum with the start.
-fn judge(w: Window, p: u64) -> Sought
+fn judge(w: Window, p: u64) -> Result<Window, Refusal>
     ensures { result ≡ judged w p }
 {
     if u64::MAX - w.start < p {
-        return Sought::Refused(Refusal::InvalidSeek);
+        return Err(Refusal::InvalidSeek);
     }
-    Sought::At(Window {
+    Ok(Window {
         start: w.start,
         len: w.len,
         position: p,
@@ -83,14 +77,14 @@ impl Window {
         }
     }
 
-    pub fn seek(self, to: SeekFrom) -> Sought
+    pub fn seek(self, to: SeekFrom) -> Result<Window, Refusal>
         ensures { result ≡ seekOf self to }
     {
         match to {
             SeekFrom::Start(n) => judge(self, n),
             SeekFrom::Current(d) => {
                 if d == 0 {
-                    Sought::At(self)
+                    Ok(self)
                 } else {
                     judge(self, moved(self.position, d))
                 }
@@ -130,17 +124,17 @@ impl Window {
 }
 
 // The window after a seek: the one found, or with a refusal the one it was.
-pub fn settled(w: Window, s: Sought) -> Window
+pub fn settled(w: Window, s: Result<Window, Refusal>) -> Window
     ensures { result ≡ settled_of w s }
 {
     match s {
-        Sought::At(v) => v,
-        Sought::Refused(_) => w,
+        Ok(v) => v,
+        Err(_) => w,
     }
 }
 
 // `seek` on a window that the caller lends.
-pub fn seek_lent(w: &mut Window, to: SeekFrom) -> Sought
+pub fn seek_lent(w: &mut Window, to: SeekFrom) -> Result<Window, Refusal>
     ensures { (result ≡ seekOf w.old to) × (w.new ≡ settled_of w.old (seekOf w.old to)) }
 {
     let old = *w;
@@ -162,11 +156,11 @@ pub fn read_lent(w: &mut Window, image: &[u8], buf: &mut [u8]) -> usize
 
 #[derive(Clone, Copy)]
 pub struct SoughtAndRead {
-    pub sought: Sought,
+    pub sought: Result<Window, Refusal>,
     pub read: BytesRead,
 }
 
-fn sought_and_read(sought: Sought, count: usize, window: Window) -> SoughtAndRead
+fn sought_and_read(sought: Result<Window, Refusal>, count: usize, window: Window) -> SoughtAndRead
     ensures { (result.sought ≡ sought) × (result.read.count ≡ count) × (result.read.window ≡ window) }
 {
     let read = BytesRead { count, window };

@@ -2,8 +2,8 @@
 use Rattle.answers.proofs.Prepared.{ready-size, refused-size}
 use Rattle.answers.proofs.sized.Goals as goal
 
-pub returns-in-Ready : goal.returns-in-Ready
-returns-in-Ready c = search ready-size
+pub returns-in-Ok : goal.returns-in-Ok
+returns-in-Ok c = search ready-size
 
-pub returns-in-Refused : goal.returns-in-Refused
-returns-in-Refused c = search refused-size
+pub returns-in-Err : goal.returns-in-Err
+returns-in-Err c = search refused-size

@@ -1,20 +1,17 @@
 -- What an edit decides on before it writes, and what a decision does to an image. The new table stands in the working bytes by then.
 -- Assumes nothing: these are definitions.
+use Rattle.std.specs.Prelude.{Result, Ok, Err}
+use Rattle.refusal.specs.Refusal.{Verdict}
+use Rattle.refusal.specs.declared.Refusal.{Refusal}
 use Rattle.std.specs.Prelude.{ℕ, ◌+◌, ◌<◌, ◌≤◌, ◌^◌, ◌≡◌, cond, List, [], ◌∷◌, length, replicate}
 use Rattle.endian.specs.Bytes.{put, span}
-use Rattle.refusal.specs.declared.Verdict.{Verdict}
-use Rattle.refusal.specs.declared.Verdict.TheVariants.{Passed, Refused}
 use Rattle.refusal.specs.Refusal.{is_refused}
 use Rattle.header.specs.Verdicts.{fstOffset, fstSize}
 use Rattle.tree.specs.Table.{Node, encode}
-use Rattle.tree.specs.declared.Located.{Located}
-use Rattle.tree.specs.declared.Located.TheVariants as located
 use Rattle.space.specs.declared.DiscRegion.{DiscRegion}
 use Rattle.commit.specs.declared.Writing.{Writing}
 use Rattle.commit.specs.declared.Decision.{Decision}
 use Rattle.commit.specs.declared.Decision.TheVariants as decision
-use Rattle.fst_measure.specs.declared.TableSize.{TableSize}
-use Rattle.fst_measure.specs.declared.TableSize.TheVariants as table
 use Rattle.edits.specs.Change.{Change, withTable, Plan, refused, nothing, change, filled}
 use Rattle.edits.specs.Edits.{noPlace, planVerdict, planImage}
 
@@ -34,9 +31,9 @@ writtenWith w table image =
 
 -- ---- the table's tests after the limits of the tree
 
-abbrev pub sizedAs : Verdict → ℕ → TableSize
-sizedAs Passed size = table.Bytes size
-sizedAs (Refused c) size = table.Refused c
+abbrev pub sizedAs : Verdict → ℕ → Result ℕ Refusal
+sizedAs (Ok _) size = Ok size
+sizedAs (Err c) size = Err c
 
 -- ---- what is written lies in the image; nothing is asked of a place where no byte is written
 
@@ -82,22 +79,22 @@ CanCarry image room clip (decision.Clip n at) = Into (length image) at (length c
 CanCarry image room clip (decision.Write n size w) = Into (length image) w.place.offset (length clip) × Fits (clipped image w.place.offset clip) room size w
 
 abbrev pub carriedVerdict : Decision → Verdict
-carriedVerdict (decision.Refused c) = Refused c
-carriedVerdict decision.Nothing = Passed
-carriedVerdict (decision.Clip n at) = Passed
-carriedVerdict (decision.Write n size w) = Passed
+carriedVerdict (decision.Refused c) = Err c
+carriedVerdict decision.Nothing = Ok tt
+carriedVerdict (decision.Clip n at) = Ok tt
+carriedVerdict (decision.Write n size w) = Ok tt
 
 -- with the number of the entry
-abbrev pub carriedAnswer : Decision → Located
-carriedAnswer (decision.Refused c) = located.Refused c
-carriedAnswer decision.Nothing = located.At 0
-carriedAnswer (decision.Clip n at) = located.At n
-carriedAnswer (decision.Write n size w) = located.At n
+abbrev pub carriedAnswer : Decision → Result ℕ Refusal
+carriedAnswer (decision.Refused c) = Err c
+carriedAnswer decision.Nothing = Ok 0
+carriedAnswer (decision.Clip n at) = Ok n
+carriedAnswer (decision.Write n size w) = Ok n
 
 -- whether an edit that gives a number was accepted
-abbrev pub verdictIn : Located → Verdict
-verdictIn (located.At k) = Passed
-verdictIn (located.Refused c) = Refused c
+abbrev pub verdictIn : Result ℕ Refusal → Verdict
+verdictIn (Ok k) = Ok tt
+verdictIn (Err c) = Err c
 
 -- the clip first, so that a table with the new place or size has the whole clip
 abbrev pub carriedImage : Decision → List ℕ → List ℕ → List ℕ → List ℕ

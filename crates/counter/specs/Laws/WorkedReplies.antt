@@ -1,24 +1,15 @@
 -- One reply of each kind, by computing: every slot holds a number of its own, in the order that host/include/counter.h gives them, so that the
 -- order is said twice. Assumes nothing.
+use Rattle.std.specs.Prelude.{Ok, Err}
 use Rattle.std.specs.Prelude.{ℕ, zero, suc, ◌≡◌, refl, List, [], ◌∷◌}
 use Rattle.refusal.specs.declared.Refusal.TheVariants.{LimitOrMemory, NoSuchEntry, ExpectedFile, NotFound, NotEnoughSpace, InvalidSeek, InvalidDol, TotalsOutOfRange}
-use Rattle.refusal.specs.declared.Verdict.TheVariants as verdict
 use Rattle.tree.specs.declared.Entry.TheVariants.{File, Directory}
 use Rattle.tree.specs.declared.Found.TheVariants as found
-use Rattle.tree.specs.declared.Located.TheVariants as located
-use Rattle.free_space.specs.declared.Allocation.TheVariants as allocation
-use Rattle.free_space.specs.declared.Listing.TheVariants as listing
 use Rattle.dol.specs.declared.DolHeader.{DolHeader}
-use Rattle.answers.specs.declared.Opened.TheVariants as opened
-use Rattle.disc.specs.declared.TotalsAnswer.TheVariants as totaled
 use Rattle.totals.specs.declared.Totals.{Totals}
 use Rattle.totals.specs.Totals.{totalsIn}
 use Rattle.program.specs.declared.Program.TheVariants as program
-use Rattle.answers.specs.declared.SizeAnswer.TheVariants as size
-use Rattle.files.specs.declared.WindowAnswer.TheVariants as windowed
-use Rattle.listing.specs.declared.Listed.TheVariants as listed
 use Rattle.window.specs.declared.Window.{Window}
-use Rattle.window.specs.declared.Sought.TheVariants as sought
 use Rattle.opening.specs.Opening.{zeros}
 use Rattle.counter.specs.Replies.{Reply, reply, Read, openedReply, totalsReply, programReply, foundReply, listingReply, sizeReply, allocationReply, listedReply, locatedReply, verdictNumber, done, numbered, windowIn, windowReply, soughtReply, verdictReply, recordReply, dolWords, dolReply, dolWindowReply}
 
@@ -34,8 +25,8 @@ rising a (suc n) = a ∷ rising (suc a) n
 -- "answer[5]: FST offset, FST size, disc end, entries, used total."; "answer[2]: disc end, used total."; "answer[2]: DOL offset, and the larger of
 -- the file size and 0xE4; both 0 where the DOL offset is 0."
 disc-slots :
-    (openedReply old (opened.Accepted (record { fst_offset = 1; fst_size = 2; disc_end = 3; entries = 4; used = 5 })) ≡ reply 0 (1 ∷ 2 ∷ 3 ∷ 4 ∷ 5 ∷ [])) ×
-    (totalsReply old (totaled.Found (record { disc_end = 1; used = 2 })) ≡ reply 0 (1 ∷ 2 ∷ [])) ×
+    (openedReply old (Ok (record { fst_offset = 1; fst_size = 2; disc_end = 3; entries = 4; used = 5 })) ≡ reply 0 (1 ∷ 2 ∷ 3 ∷ 4 ∷ 5 ∷ [])) ×
+    (totalsReply old (Ok (record { disc_end = 1; used = 2 })) ≡ reply 0 (1 ∷ 2 ∷ [])) ×
     (programReply old (program.At (record { offset = 1; size = 2 })) ≡ reply 0 (1 ∷ 2 ∷ [])) ×
     (programReply old program.None ≡ reply 0 (0 ∷ 0 ∷ []))
 unfolding openedReply totalsReply programReply
@@ -51,12 +42,12 @@ entry-slots = (refl, refl)
 
 -- "answer[1]: how many regions."; the size of a region; "answer[2]: offset, size."; the length of a text; "the new entry's number in the new table"
 number-slots :
-    (listingReply old (listing.Listed 1) ≡ reply 0 (1 ∷ [])) ×
-    (sizeReply old (size.Bytes 1) ≡ reply 0 (1 ∷ [])) ×
-    (allocationReply old (allocation.Found (record { offset = 1; size = 2 })) ≡ reply 0 (1 ∷ 2 ∷ [])) ×
-    (listedReply old (listed.Text 1) ≡ reply 0 (1 ∷ [])) ×
-    (locatedReply old (located.At 1) ≡ reply 0 (1 ∷ [])) ×
-    (numbered old verdict.Passed 1 ≡ reply 0 (1 ∷ []))
+    (listingReply old (Ok 1) ≡ reply 0 (1 ∷ [])) ×
+    (sizeReply old (Ok 1) ≡ reply 0 (1 ∷ [])) ×
+    (allocationReply old (Ok (record { offset = 1; size = 2 })) ≡ reply 0 (1 ∷ 2 ∷ [])) ×
+    (listedReply old (Ok 1) ≡ reply 0 (1 ∷ [])) ×
+    (locatedReply old (Ok 1) ≡ reply 0 (1 ∷ [])) ×
+    (numbered old (Ok tt) 1 ≡ reply 0 (1 ∷ []))
 unfolding listingReply sizeReply allocationReply listedReply locatedReply
 number-slots = (refl, refl, refl, refl, refl, refl)
 
@@ -67,8 +58,8 @@ aWindow = record { start = 1; len = 2; position = 3 }
 
 window-slots :
     (windowIn (1 ∷ 2 ∷ 3 ∷ []) ≡ aWindow) ×
-    (windowReply old (windowed.Opened aWindow) ≡ reply 0 (1 ∷ 2 ∷ 3 ∷ [])) ×
-    (soughtReply old (sought.At aWindow) ≡ reply 0 (1 ∷ 2 ∷ 3 ∷ []))
+    (windowReply old (Ok aWindow) ≡ reply 0 (1 ∷ 2 ∷ 3 ∷ [])) ×
+    (soughtReply old (Ok aWindow) ≡ reply 0 (1 ∷ 2 ∷ 3 ∷ []))
 unfolding windowReply soughtReply
 window-slots = (refl, refl, refl)
 
@@ -77,7 +68,7 @@ window-slots = (refl, refl, refl)
 abbrev aRecord : Totals
 aRecord = record { used = 1; largest = 2; edits = 3 }
 
-record-slots : (totalsIn (1 ∷ 2 ∷ 3 ∷ []) ≡ aRecord) × (recordReply old (record { verdict = verdict.Passed; totals = aRecord }) ≡ reply 0 (1 ∷ 2 ∷ 3 ∷ []))
+record-slots : (totalsIn (1 ∷ 2 ∷ 3 ∷ []) ≡ aRecord) × (recordReply old (record { verdict = Ok tt; totals = aRecord }) ≡ reply 0 (1 ∷ 2 ∷ 3 ∷ []))
 unfolding verdictReply
 record-slots = (refl, refl)
 
@@ -97,33 +88,33 @@ aHeader = record {
 }
 
 dol-slots :
-    (dolReply old (record { verdict = verdict.Passed; header = aHeader; window = aWindow }) ≡ reply 0 (rising 1 57)) ×
-    (dolWindowReply old (record { verdict = verdict.Passed; header = aHeader; window = aWindow }) ≡ reply 0 (1 ∷ 2 ∷ 3 ∷ []))
+    (dolReply old (record { verdict = Ok tt; header = aHeader; window = aWindow }) ≡ reply 0 (rising 1 57)) ×
+    (dolWindowReply old (record { verdict = Ok tt; header = aHeader; window = aWindow }) ≡ reply 0 (1 ∷ 2 ∷ 3 ∷ []))
 unfolding rising dolWords verdictReply
 dol-slots = (refl, refl)
 
 -- "with a number other than 0 they stay as they were"
 refused-slots :
-    (openedReply old (opened.Refused LimitOrMemory) ≡ reply 9 old) ×
-    (totalsReply old (totaled.Refused LimitOrMemory) ≡ reply 9 old) ×
+    (openedReply old (Err LimitOrMemory) ≡ reply 9 old) ×
+    (totalsReply old (Err LimitOrMemory) ≡ reply 9 old) ×
     (programReply old (program.Refused InvalidDol) ≡ reply 24 old) ×
     (foundReply old (found.Refused NotFound) ≡ reply 18 old) ×
-    (listingReply old (listing.Refused LimitOrMemory) ≡ reply 9 old) ×
-    (sizeReply old (size.Refused ExpectedFile) ≡ reply 16 old) ×
-    (allocationReply old (allocation.Refused NotEnoughSpace) ≡ reply 21 old) ×
-    (listedReply old (listed.Refused LimitOrMemory) ≡ reply 9 old) ×
-    (locatedReply old (located.Refused NoSuchEntry) ≡ reply 15 old) ×
-    (numbered old (verdict.Refused TotalsOutOfRange) 1 ≡ reply 25 old) ×
-    (windowReply old (windowed.Refused ExpectedFile) ≡ reply 16 old) ×
-    (soughtReply old (sought.Refused InvalidSeek) ≡ reply 23 old) ×
-    (recordReply old (record { verdict = verdict.Refused LimitOrMemory; totals = aRecord }) ≡ reply 9 old) ×
-    (dolReply old (record { verdict = verdict.Refused InvalidDol; header = aHeader; window = aWindow }) ≡ reply 24 old) ×
-    (dolWindowReply old (record { verdict = verdict.Refused InvalidDol; header = aHeader; window = aWindow }) ≡ reply 24 old)
+    (listingReply old (Err LimitOrMemory) ≡ reply 9 old) ×
+    (sizeReply old (Err ExpectedFile) ≡ reply 16 old) ×
+    (allocationReply old (Err NotEnoughSpace) ≡ reply 21 old) ×
+    (listedReply old (Err LimitOrMemory) ≡ reply 9 old) ×
+    (locatedReply old (Err NoSuchEntry) ≡ reply 15 old) ×
+    (numbered old (Err TotalsOutOfRange) 1 ≡ reply 25 old) ×
+    (windowReply old (Err ExpectedFile) ≡ reply 16 old) ×
+    (soughtReply old (Err InvalidSeek) ≡ reply 23 old) ×
+    (recordReply old (record { verdict = Err LimitOrMemory; totals = aRecord }) ≡ reply 9 old) ×
+    (dolReply old (record { verdict = Err InvalidDol; header = aHeader; window = aWindow }) ≡ reply 24 old) ×
+    (dolWindowReply old (record { verdict = Err InvalidDol; header = aHeader; window = aWindow }) ≡ reply 24 old)
 unfolding openedReply totalsReply programReply foundReply listingReply sizeReply allocationReply listedReply locatedReply windowReply soughtReply verdictReply
 refused-slots = (refl, refl, refl, refl, refl, refl, refl, refl, refl, refl, refl, refl, refl, refl, refl)
 
 -- "Every function returns 0 where it is accepted, and else the number of the first test that failed"
-done-number : (done verdict.Passed 1 ≡ 0) × (done (verdict.Refused NotEnoughSpace) 1 ≡ 21)
+done-number : (done (Ok tt) 1 ≡ 0) × (done (Err NotEnoughSpace) 1 ≡ 21)
 unfolding verdictNumber
 done-number = (refl, refl)
 

@@ -1,4 +1,5 @@
 -- Reading and writing undo each other: a header that was read and is written back changes no byte, and a header that was written is read. Assumes nothing.
+use Rattle.std.specs.Prelude.{Ok}
 use Prim.Native.Nat.{ℕ, zero, suc, ◌+◌, ◌*◌, ◌/◌, ◌%◌, ◌^◌, ◌<◌, ◌≤◌}
 use Rattle.std.specs.Prelude.{◌≡◌, refl, true, length, get_or, drop}
 use Rattle.std.proofs.Math.Path.{sym, ap}
@@ -7,7 +8,6 @@ use mathlib.Core.List.{List, [], ◌∷◌, map}
 use Rattle.std.proofs.Math.Nat.{div-div-eq-div-mul}
 use Rattle.endian.specs.Bytes.{be32, be32Bytes, put, span, AllBytes}
 use Rattle.endian.specs.Laws.Stored.{be32-value, length-put, put-before, put-after, span-put, length-span, getD-span, span-cons, span_ext}
-use Rattle.refusal.specs.declared.Verdict.TheVariants.{Passed}
 use Rattle.header.specs.declared.Field.{Field}
 use Rattle.disc_header.specs.declared.DiscHeader.{DiscHeader}
 use Rattle.header.specs.Fields.{fields, gameCodeField, makerCodeField, discIdField, versionField, audioStreamingField, streamBufferSizeField, unused00aField, wiiMagicField, gcnMagicField, gameNameField, debugMonitorOffsetField, debugMonitorAddrField, unused408Field, dolOffsetField, fstOffsetField, fstSizeField, fstMaxSizeField, userPositionField, userSizeField, discSizeField, unused43cField}
@@ -152,7 +152,7 @@ module _ (image : List ℕ) (whole : 0x440 ≤ length image) (bytes : AllBytes i
   write_read = rw spans (put-spans 0 0x440 fields image fields-tile whole)
 
 -- a header that was read as good is written back as it was: the game name, the word at 0x18 and the unused runs too
-pub write-after-read : (image : List ℕ) → headerVerdict image ≡ Passed → AllBytes image → headerWritten (headerRead image).header image ≡ image
+pub write-after-read : (image : List ℕ) → headerVerdict image ≡ Ok tt → AllBytes image → headerWritten (headerRead image).header image ≡ image
 write-after-read image e bytes =
     let w : 0x440 ≤ length image = (header-passed image e).whole in
     rw (e, le-ltb (length image) 0x440 w) (write_read image w bytes)
@@ -232,5 +232,5 @@ module _ (h : DiscHeader) (s : Sized h) (image : List ℕ) (whole : 0x440 ≤ le
     }
 
     -- a header whose magics are good is read as it was written
-    pub read-after-write : headerRead (headerWritten h image) ≡ record { verdict = Passed; header = h }
+    pub read-after-write : headerRead (headerWritten h image) ≡ record { verdict = Ok tt; header = h }
     read-after-write = rw (le-ltb (length image) 0x440 whole, header-passes (putHeader h image) good, read-write)

@@ -1,14 +1,13 @@
 -- What the definitions of `Dol` say: the words by index, and the largest sum as the least number that no sum passes.
 -- Assumes nothing.
+use Rattle.std.specs.Prelude.{Ok, Err}
+use Rattle.refusal.specs.Refusal.{Verdict}
 use Rattle.std.specs.Prelude.{ℕ, zero, suc, ◌+◌, ◌-◌, ◌*◌, ◌≤◌, ◌<◌, ◌^◌, min, ◌≡◌, refl, List, [], ◌∷◌, length, get_or}
 use Rattle.std.proofs.Common.{ap, ◌∙◌, arith, add-zero}
 use Rattle.dol.specs.declared.DolHeader.{DolHeader}
 use Rattle.endian.specs.Bytes.{be32}
 use Rattle.endian.specs.Laws.Stored.{Same, be32-same}
 use Rattle.refusal.specs.declared.Refusal.{Refusal}
-use Rattle.refusal.specs.declared.Verdict.{Verdict}
-use Rattle.refusal.specs.declared.Verdict.TheVariants as verdict
-use Rattle.dol.specs.declared.DolSize.TheVariants as size
 use Rattle.window.specs.Window.{newWindow, count_of}
 use Rattle.dol.specs.Dol.{wordsAt, dolHeaderOf, largestOf, fileSizeOf, dolVerdictOf, dolSized, dolSizeOf}
 
@@ -54,19 +53,19 @@ module _ (s : List ℕ) (at n : ℕ) where
   by-verdict : (v : Verdict) → dolVerdictOf s at ≡ v → dolSizeOf s at ≡ dolSized v (fileSizeOf (dolHeaderOf s at))
   by-verdict v e = ap (λ (u : Verdict). dolSized u (fileSizeOf (dolHeaderOf s at))) e
 
-  pub size-passed : dolSizeOf s at ≡ size.Bytes n → (dolVerdictOf s at ≡ verdict.Passed) × (n ≡ fileSizeOf (dolHeaderOf s at))
+  pub size-passed : dolSizeOf s at ≡ Ok n → (dolVerdictOf s at ≡ Ok tt) × (n ≡ fileSizeOf (dolHeaderOf s at))
   size-passed e = go (dolVerdictOf s at) refl
     where
-      go : (v : Verdict) → dolVerdictOf s at ≡ v → (dolVerdictOf s at ≡ verdict.Passed) × (n ≡ fileSizeOf (dolHeaderOf s at))
-      go verdict.Passed q = let t = by-verdict verdict.Passed q in let k : n ≡ fileSizeOf (dolHeaderOf s at) = cc in (q, k)
-      go (verdict.Refused c) q = let t = by-verdict (verdict.Refused c) q in let z : ◌≡◌ {A = ℕ} 0 1 = cc in absurd (omega arith)
+      go : (v : Verdict) → dolVerdictOf s at ≡ v → (dolVerdictOf s at ≡ Ok tt) × (n ≡ fileSizeOf (dolHeaderOf s at))
+      go (Ok _) q = let t = by-verdict (Ok tt) q in let k : n ≡ fileSizeOf (dolHeaderOf s at) = cc in (q, k)
+      go (Err c) q = let t = by-verdict (Err c) q in let z : ◌≡◌ {A = ℕ} 0 1 = cc in absurd (omega arith)
 
-pub size-refused : (s : List ℕ) (at : ℕ) (c : Refusal) → dolSizeOf s at ≡ size.Refused c → dolVerdictOf s at ≡ verdict.Refused c
+pub size-refused : (s : List ℕ) (at : ℕ) (c : Refusal) → dolSizeOf s at ≡ Err c → dolVerdictOf s at ≡ Err c
 size-refused s at c e = go (dolVerdictOf s at) refl
   where
-    go : (v : Verdict) → dolVerdictOf s at ≡ v → dolVerdictOf s at ≡ verdict.Refused c
-    go verdict.Passed q = let t = by-verdict s at 0 verdict.Passed q in let z : ◌≡◌ {A = ℕ} 0 1 = cc in absurd (omega arith)
-    go (verdict.Refused d) q = let t = by-verdict s at 0 (verdict.Refused d) q in let k : d ≡ c = cc in q ∙ ap verdict.Refused k
+    go : (v : Verdict) → dolVerdictOf s at ≡ v → dolVerdictOf s at ≡ Err c
+    go (Ok _) q = let t = by-verdict s at 0 (Ok tt) q in let z : ◌≡◌ {A = ℕ} 0 1 = cc in absurd (omega arith)
+    go (Err d) q = let t = by-verdict s at 0 (Err d) q in let k : d ≡ c = cc in q ∙ ap Err k
 
 -- no sum passes the largest, and it passes no number that every sum keeps to
 pub sum-le-largest : (os ss : List ℕ) (i : ℕ) → i < length os → i < length ss → get_or os i 0 + get_or ss i 0 ≤ largestOf os ss

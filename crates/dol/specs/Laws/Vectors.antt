@@ -1,7 +1,7 @@
 -- Headers by computing: sums at 2^32 - 1 and at 2^32, and a header that ends at the image's end and one byte past it. Assumes nothing.
+use Rattle.std.specs.Prelude.{Ok}
 use Rattle.std.specs.Prelude.{◌≡◌, refl, List, [], ◌∷◌, ◌++◌, ℕ, replicate}
 use Rattle.endian.specs.Bytes.{be32}
-use Rattle.refusal.specs.declared.Verdict.TheVariants.{Passed}
 use Rattle.refusal.specs.declared.Refusal.TheVariants.{InvalidDol}
 use Rattle.refusal.specs.Refusal.{number_of}
 use Rattle.dol.specs.Dol.{wordsAt, largestOf, dolAnswerOf}
@@ -24,7 +24,7 @@ unfolding be32 wordsAt largestOf
 too_large = (refl, refl)
 
 -- the header is whole in 0xE4 bytes, and not in 0xE3
-pub whole : (dolAnswerOf (replicate 0xE4 0) 0).verdict ≡ Passed
+pub whole : (dolAnswerOf (replicate 0xE4 0) 0).verdict ≡ Ok tt
 unfolding be32 wordsAt largestOf
 whole = refl
 

@@ -1,7 +1,7 @@
 -- What an accepted edit passed; that opening's refusals and its own come before 25; and that a refused one leaves image and record. Assumes nothing.
+use Rattle.std.specs.Prelude.{Ok, Err}
 use Rattle.std.specs.Prelude.{ℕ, ◌≡◌, List}
 use Rattle.refusal.specs.declared.Refusal.{Refusal}
-use Rattle.refusal.specs.declared.Verdict.TheVariants.{Passed, Refused}
 use Rattle.refusal.specs.Laws.Chains.{first-passed}
 use Rattle.totals.specs.declared.Totals.{Totals}
 use Rattle.totals.specs.Totals.{totalsVerdict}
@@ -10,18 +10,18 @@ use Rattle.edits.specs.Change.{Plan}
 use Rattle.edits.specs.Edits.{Edit, plan_of, planVerdict, planImage, countedVerdict, verdictOf, imageAfter, totalsAfter}
 
 pub record Accepted (p : Plan) (t : Totals) (image : List ℕ) (words bytes : ℕ) : Type 0 where
-  pub opens : opening image words ≡ Passed
-  pub own : planVerdict p image words bytes ≡ Passed
-  pub counted : totalsVerdict t (usedOf image) (usedOf (planImage p image)) ≡ Passed
+  pub opens : opening image words ≡ Ok tt
+  pub own : planVerdict p image words bytes ≡ Ok tt
+  pub counted : totalsVerdict t (usedOf image) (usedOf (planImage p image)) ≡ Ok tt
 
 module _ (ed : Edit) (t : Totals) (image : List ℕ) (words bytes : ℕ) where
   -- LAW: "25 .. tested last": whatever the record holds, what an edit's own tests refuse has their number
-  pub own_first : (c : Refusal) → opening image words ≡ Passed → planVerdict (plan_of ed image) image words bytes ≡ Refused c → verdictOf ed t image words bytes ≡ Refused c
+  pub own_first : (c : Refusal) → opening image words ≡ Ok tt → planVerdict (plan_of ed image) image words bytes ≡ Err c → verdictOf ed t image words bytes ≡ Err c
   unfolding verdictOf countedVerdict
   own_first c o e = rw (o, e)
 
   -- LAW: an accepted edit passed opening, its own tests and 25
-  pub accepted : verdictOf ed t image words bytes ≡ Passed → Accepted (plan_of ed image) t image words bytes
+  pub accepted : verdictOf ed t image words bytes ≡ Ok tt → Accepted (plan_of ed image) t image words bytes
   unfolding verdictOf countedVerdict
   accepted v =
       let a = first-passed (opening image words) _ v in
@@ -29,6 +29,6 @@ module _ (ed : Edit) (t : Totals) (image : List ℕ) (words bytes : ℕ) where
       record { opens = a.0; own = b.0; counted = b.1 }
 
   -- LAW: "A refused edit hands the record back unaltered.", and the image is as it was
-  pub refused-back : (c : Refusal) → verdictOf ed t image words bytes ≡ Refused c → (totalsAfter ed t image words bytes ≡ t) × (imageAfter ed t image words bytes ≡ image)
+  pub refused-back : (c : Refusal) → verdictOf ed t image words bytes ≡ Err c → (totalsAfter ed t image words bytes ≡ t) × (imageAfter ed t image words bytes ≡ image)
   unfolding totalsAfter imageAfter
   refused-back c e = (rw e, rw e)

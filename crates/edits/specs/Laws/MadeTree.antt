@@ -1,9 +1,9 @@
 -- The tree that make-directories makes is one that the tree grew into by inserts. Assumes nothing.
+use Rattle.std.specs.Prelude.{Result, Ok, Err}
+use Rattle.refusal.specs.declared.Refusal.{Refusal}
 use Rattle.std.specs.Prelude.{ℕ, suc, ◌<◌, ◌≤◌, ◌≡◌, refl, Bool, true, false, cond, not, ◌||◌, List, [], ◌∷◌, length, get_or}
 use Rattle.std.proofs.Common.{arith}
 use Rattle.refusal.specs.declared.Refusal.TheVariants.{UnsafeName, ExpectedDirectory}
-use Rattle.tree.specs.declared.Located.{Located}
-use Rattle.tree.specs.declared.Located.TheVariants.{At, Refused}
 use Rattle.tree.specs.Table.{Node, directory, none, plain, safe}
 use Rattle.tree.specs.Inner.WellFormed.{WellFormed}
 use Rattle.tree.specs.Lookup.{isDirectory, stays, goesBack, childOf}
@@ -28,16 +28,16 @@ bad-stays [] M trail k F j e = go (isDirectory (get_or M k none)) e
     go false q = let z : ◌≡◌ {A = ℕ} 0 1 = cc in omega arith
 bad-stays (c ∷ cs) M trail k F j e = go (isDirectory (get_or M k none)) (stays c) (goesBack c) trail (childOf M k c) (safe c) (λ m t i. bad-stays cs m t i F j) e
   where
-    go : (t u v : Bool) (tr : List ℕ) (a : Located) (w : Bool) → ((m : List Node) (t : List ℕ) (i : ℕ) → make m t i true cs ≡ made F j false → ⊥) →
+    go : (t u v : Bool) (tr : List ℕ) (a : Result ℕ Refusal) (w : Bool) → ((m : List Node) (t : List ℕ) (i : ℕ) → make m t i true cs ≡ made F j false → ⊥) →
         cond t (cond u (make M trail k true cs) (cond v (madeBack tr (λ i rest. make M rest i true cs)) (ifFound a (λ i. make M (k ∷ trail) i true cs)
         (cond w (make (insertAt k (emptyDirectory c (newNumber M k)) M) (k ∷ trail) (newNumber M k) true cs) (stopped UnsafeName))))) (stopped ExpectedDirectory) ≡ made F j false → ⊥
     go false u v tr a w ih q = let z : ◌≡◌ {A = ℕ} 0 1 = cc in omega arith
     go true true v tr a w ih q = ih M trail k q
     go true false true [] a w ih q = let z : ◌≡◌ {A = ℕ} 0 1 = cc in omega arith
     go true false true (i ∷ rest) a w ih q = ih M rest i q
-    go true false false tr (At i) w ih q = ih M (k ∷ trail) i q
-    go true false false tr (Refused r) true ih q = ih (insertAt k (emptyDirectory c (newNumber M k)) M) (k ∷ trail) (newNumber M k) q
-    go true false false tr (Refused r) false ih q = let z : ◌≡◌ {A = ℕ} 0 1 = cc in omega arith
+    go true false false tr (Ok i) w ih q = ih M (k ∷ trail) i q
+    go true false false tr (Err r) true ih q = ih (insertAt k (emptyDirectory c (newNumber M k)) M) (k ∷ trail) (newNumber M k) q
+    go true false false tr (Err r) false ih q = let z : ◌≡◌ {A = ℕ} 0 1 = cc in omega arith
 
 abbrev pub AllLt : ℕ → List ℕ → Type 0
 AllLt n [] = Unit {0}
@@ -73,7 +73,7 @@ grows (c ∷ cs) M trail k bad F j w h a e =
         (bigger-trans M (insertAt k (emptyDirectory c n) M) F g f.0, f.1)
     more nm d ok false pl ih q = absurd (bad-stays cs (insertAt k (emptyDirectory c (newNumber M k)) M) (k ∷ trail) (newNumber M k) F j (rw (or-not bad false refl) at q))
 
-    go : (t : Bool) → isDirectory (get_or M k none) ≡ t → (u v : Bool) (tr : List ℕ) → AllLt (length M) tr → (x : Located) → childOf M k c ≡ x → (y : Bool) → safe c ≡ y →
+    go : (t : Bool) → isDirectory (get_or M k none) ≡ t → (u v : Bool) (tr : List ℕ) → AllLt (length M) tr → (x : Result ℕ Refusal) → childOf M k c ≡ x → (y : Bool) → safe c ≡ y →
         ((m : List Node) (t : List ℕ) (i : ℕ) (bd : Bool) → WellFormed m → i < length m → AllLt (length m) t → make m t i bd cs ≡ made F j false → Bigger m F × (j < length F)) →
         cond t (cond u (make M trail k bad cs) (cond v (madeBack tr (λ i rest. make M rest i bad cs)) (ifFound x (λ i. make M (k ∷ trail) i bad cs)
         (cond y (make (insertAt k (emptyDirectory c (newNumber M k)) M) (k ∷ trail) (newNumber M k) (bad || not (plain c)) cs) (stopped UnsafeName))))) (stopped ExpectedDirectory) ≡ made F j false → Bigger M F × (j < length F)
@@ -81,9 +81,9 @@ grows (c ∷ cs) M trail k bad F j w h a e =
     go true d true v tr al x x≡ y y≡ ih q = ih M trail k bad w h a q
     go true d false true [] al x x≡ y y≡ ih q = let z : ◌≡◌ {A = ℕ} 0 1 = cc in absurd (omega arith)
     go true d false true (i ∷ rest) al x x≡ y y≡ ih q = ih M rest i bad w al.0 al.1 q
-    go true d false false tr al (At i) x≡ y y≡ ih q = ih M (k ∷ trail) i bad w (child-inside M k c i w h x≡) (h, a) q
-    go true d false false tr al (Refused r) x≡ true y≡ ih q = let n = directory-is (get_or M k none) d in more n.0 n.1 y≡ (plain c) refl ih q
-    go true d false false tr al (Refused r) x≡ false y≡ ih q = let z : ◌≡◌ {A = ℕ} 0 1 = cc in absurd (omega arith)
+    go true d false false tr al (Ok i) x≡ y y≡ ih q = ih M (k ∷ trail) i bad w (child-inside M k c i w h x≡) (h, a) q
+    go true d false false tr al (Err r) x≡ true y≡ ih q = let n = directory-is (get_or M k none) d in more n.0 n.1 y≡ (plain c) refl ih q
+    go true d false false tr al (Err r) x≡ false y≡ ih q = let z : ◌≡◌ {A = ℕ} 0 1 = cc in absurd (omega arith)
 
 -- so a tree on the way that passes a limit makes the last one pass it, and one that has no room leaves none for the last
 pub make-grows : (nodes : List Node) (trail : List ℕ) (k : ℕ) (bad : Bool) (cs : List (List ℕ)) (F : List Node) (j : ℕ) → WellFormed nodes → k < length nodes → AllLt (length nodes) trail →

@@ -1,11 +1,11 @@
 -- "a publisher who sets the field to 0 sees the old rule" (document 02, Point 7), of the whole edit: answer, image and record are those of an edit
 -- that never looks at the stated maximum. Assumes nothing.
+use Rattle.std.specs.Prelude.{Ok}
+use Rattle.refusal.specs.Refusal.{Verdict}
 use Rattle.std.specs.Prelude.{ℕ, ◌≡◌, cond, List, ltb, length}
 use Rattle.std.proofs.Math.Path.{refl}
 use Rattle.std.proofs.Common.{inl}
 use Rattle.refusal.specs.declared.Refusal.TheVariants.{LimitOrMemory}
-use Rattle.refusal.specs.declared.Verdict.{Verdict}
-use Rattle.refusal.specs.declared.Verdict.TheVariants.{Passed}
 use Rattle.refusal.specs.Refusal.{refuse, first, is_refused}
 use Rattle.header.specs.Verdicts.{fstMaxSize}
 use Rattle.tree.specs.Table.{encode, limits}
@@ -19,7 +19,7 @@ use Rattle.edits.specs.Laws.PlaceTests.{stated-apart}
 -- a plan's own tests with that of 26 left out: the limits' 9, the working bytes' 9, the table's 21
 abbrev planUnstated : Plan → List ℕ → ℕ → ℕ → Verdict
 planUnstated (refused v) image words bytes = v
-planUnstated nothing image words bytes = Passed
+planUnstated nothing image words bytes = Ok tt
 planUnstated (change k c) image words bytes = first (limits c.nodes words) (refuse (ltb bytes (length (encode c.nodes))) LimitOrMemory (roomVerdict image (length (encode c.nodes)) c.place))
 planUnstated (filled k clip p) image words bytes = planUnstated p image words bytes
 

@@ -1,12 +1,12 @@
 -- Where the stated maximum stands among the tests of a new table's place; what these say of it, if they pass; and that free bytes lie behind the
 -- table. Assumes nothing.
+use Rattle.std.specs.Prelude.{Ok, Err}
 use Rattle.std.specs.Prelude.{ℕ, zero, suc, ◌+◌, ◌<◌, ◌≤◌, ◌≡◌, Bool, not, ◌&&◌, ◌⊎◌, List, [], ◌∷◌, ltb, length, get_or}
 use Rattle.std.proofs.Math.Path.{refl}
 use Rattle.std.proofs.Common.{sym, ◌∙◌, inl, inr, arith, ltb-false, lt-ltb, le-ltb}
 use Rattle.std.proofs.Math.Bool.{true, false}
 use Rattle.std.proofs.lemmas.Bool.{false≢true}
 use Rattle.refusal.specs.declared.Refusal.TheVariants.{LimitOrMemory, NotEnoughSpace, TableAboveMaximum}
-use Rattle.refusal.specs.declared.Verdict.TheVariants.{Passed, Refused}
 use Rattle.refusal.specs.Refusal.{refuse}
 use Rattle.refusal.specs.Laws.Chains.{refuse-passed}
 use Rattle.refusal.specs.Laws.Tests.{or-false}
@@ -25,7 +25,7 @@ use Rattle.edits.specs.Edits.{noPlace}
 
 module _ (image : List ℕ) (room size : ℕ) (place : DiscRegion) where
   -- LAW: "tested just before the table's 21": a table above the maximum that the working bytes hold is 26, whatever room there is
-  pub stated-first : size ≤ room → aboveMaximum image size ≡ true → placeVerdict image room size place ≡ Refused TableAboveMaximum
+  pub stated-first : size ≤ room → aboveMaximum image size ≡ true → placeVerdict image room size place ≡ Err TableAboveMaximum
   unfolding placeVerdict
   stated-first held above = rw (le-ltb room size held, above)
 
@@ -47,13 +47,13 @@ pub record PlacePassed (image : List ℕ) (room size : ℕ) (place : DiscRegion)
   pub grows : size ≤ maxRegionSize (fstOffset image) (fstSize image) (freeOf image)
   pub before : 0 < place.size → fstOffset image + size ≤ place.offset
 
-pub place-passed : (image : List ℕ) (room size : ℕ) (place : DiscRegion) → placeVerdict image room size place ≡ Passed → PlacePassed image room size place
+pub place-passed : (image : List ℕ) (room size : ℕ) (place : DiscRegion) → placeVerdict image room size place ≡ Ok tt → PlacePassed image room size place
 unfolding placeVerdict
 place-passed image room size place e =
     let a = refuse-passed (ltb room size) LimitOrMemory _ e in
     let b = refuse-passed (aboveMaximum image size) TableAboveMaximum _ a.1 in
     let c = refuse-passed (ltb (maxRegionSize (fstOffset image) (fstSize image) (freeOf image)) size) NotEnoughSpace _ b.1 in
-    let d = refuse-passed (ltb 0 place.size && ltb place.offset (fstOffset image + size)) NotEnoughSpace Passed c.1 in
+    let d = refuse-passed (ltb 0 place.size && ltb place.offset (fstOffset image + size)) NotEnoughSpace (Ok tt) c.1 in
     record {
       held = ltb-false room size a.0;
       within = λ z. ltb-false (fstMaxSize image) size (rw (lt-ltb 0 (fstMaxSize image) z) at b.0);

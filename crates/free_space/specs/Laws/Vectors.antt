@@ -1,10 +1,9 @@
 -- The small master of document 01: its used total and free regions, P1 to P3, P5; and the cases in which a search or a count goes wrong most easily.
 -- Assumes nothing.
+use Rattle.std.specs.Prelude.{Ok, Err}
 use Rattle.std.specs.Prelude.{ℕ, ◌≡◌, refl, List, [], ◌∷◌}
 use Rattle.space.specs.declared.DiscRegion.{DiscRegion}
 use Rattle.refusal.specs.declared.Refusal.TheVariants.{OverlappingRegions, NotEnoughSpace, InvalidAlignment}
-use Rattle.refusal.specs.declared.Verdict.TheVariants.{Passed, Refused as RefusedVerdict}
-use Rattle.free_space.specs.declared.Allocation.TheVariants.{Found, Refused}
 use Rattle.space.specs.Used.{usesByte, nonempty, usedRegions, totalSize, usedTotal}
 use Rattle.space.specs.Layout.{disjoint, disjointFromAll, pairwise_disjoint, endBy, disjointBelow, regionsVerdict}
 use Rattle.space.specs.Free.{runs, freeRegions}
@@ -25,7 +24,7 @@ files = at 0 0 ∷ at 0x500 0x100 ∷ []
 abbrev master : List DiscRegion
 master = usedRegions 0x45A files
 
-passed : regionsVerdict 0x2000 master ≡ Passed
+passed : regionsVerdict 0x2000 master ≡ Ok tt
 unfolding disjointBelow pairwise_disjoint disjointFromAll disjoint endBy nonempty
 passed = refl
 
@@ -112,28 +111,28 @@ table-grows = rw free
 
 -- ---- allocation
 
-P2 : allocationOf 0x100 0x100 (freeRegions 0x2000 master) ≡ Found (at 0x600 0x1A00)
+P2 : allocationOf 0x100 0x100 (freeRegions 0x2000 master) ≡ Ok (at 0x600 0x1A00)
 unfolding allocationOf powers largest betterOf align_up
 P2 = rw free
 
-P3 : allocationOf 1 0x1A01 (freeRegions 0x2000 master) ≡ Refused NotEnoughSpace
+P3 : allocationOf 1 0x1A01 (freeRegions 0x2000 master) ≡ Err NotEnoughSpace
 unfolding allocationOf powers largest betterOf align_up
 P3 = rw free
 
-last-of-equals : allocationOf 0x100 0x10 (at 0x100 0x20 ∷ at 0x200 0x40 ∷ at 0x300 0x40 ∷ []) ≡ Found (at 0x300 0x40)
+last-of-equals : allocationOf 0x100 0x10 (at 0x100 0x20 ∷ at 0x200 0x40 ∷ at 0x300 0x40 ∷ []) ≡ Ok (at 0x300 0x40)
 unfolding allocationOf powers largest betterOf align_up
 last-of-equals = refl
 
 -- nothing is asked for, and still a free multiple is wanted
-nothing-asked : allocationOf 0x100 0 (at 0x101 0xFF ∷ []) ≡ Refused NotEnoughSpace
+nothing-asked : allocationOf 0x100 0 (at 0x101 0xFF ∷ []) ≡ Err NotEnoughSpace
 unfolding allocationOf powers largest betterOf align_up
 nothing-asked = refl
 
-no_power : allocationOf 0x300 1 (at 0 0x1000 ∷ []) ≡ Refused InvalidAlignment
+no_power : allocationOf 0x300 1 (at 0 0x1000 ∷ []) ≡ Err InvalidAlignment
 unfolding allocationOf powers
 no_power = refl
 
-zero-alignment : allocationOf 0 1 (at 0 0x1000 ∷ []) ≡ Refused InvalidAlignment
+zero-alignment : allocationOf 0 1 (at 0 0x1000 ∷ []) ≡ Err InvalidAlignment
 unfolding allocationOf powers
 zero-alignment = refl
 
@@ -145,15 +144,15 @@ unfolding freeRegions runs usesByte nonempty
 moved = refl
 
 -- not between neighbours of the table's order only: the first and the third share a byte
-third-overlaps : regionsVerdict 0x2000 (usedRegions 0x45A (at 0x500 0x100 ∷ at 0x800 1 ∷ at 0x5FF 1 ∷ [])) ≡ RefusedVerdict OverlappingRegions
+third-overlaps : regionsVerdict 0x2000 (usedRegions 0x45A (at 0x500 0x100 ∷ at 0x800 1 ∷ at 0x5FF 1 ∷ [])) ≡ Err OverlappingRegions
 unfolding disjointBelow pairwise_disjoint disjointFromAll disjoint endBy nonempty
 third-overlaps = refl
 
-past_the_end : regionsVerdict 0x2000 (usedRegions 0x45A (at 0x1FFF 2 ∷ [])) ≡ RefusedVerdict OverlappingRegions
+past_the_end : regionsVerdict 0x2000 (usedRegions 0x45A (at 0x1FFF 2 ∷ [])) ≡ Err OverlappingRegions
 unfolding disjointBelow pairwise_disjoint disjointFromAll disjoint endBy nonempty
 past_the_end = refl
 
 -- an empty file may lie anywhere
-empty-anywhere : regionsVerdict 0x2000 (usedRegions 0x45A (at 3 0 ∷ at 0xFFFFFFFF 0 ∷ [])) ≡ Passed
+empty-anywhere : regionsVerdict 0x2000 (usedRegions 0x45A (at 3 0 ∷ at 0xFFFFFFFF 0 ∷ [])) ≡ Ok tt
 unfolding disjointBelow pairwise_disjoint disjointFromAll disjoint endBy nonempty
 empty-anywhere = refl

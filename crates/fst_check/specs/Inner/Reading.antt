@@ -1,7 +1,7 @@
 -- What the functions that read a table compute on the way to the definitions of the file table. Assumes nothing: these are definitions.
+use Rattle.std.specs.Prelude.{Ok}
+use Rattle.refusal.specs.Refusal.{Verdict}
 use Rattle.std.specs.Prelude.{ℕ, zero, suc, ◌+◌, ◌-◌, ◌*◌, ◌<◌, ◌≤◌, ◌≡◌, not, List, [], ◌∷◌, length, get_or, leb, ltb}
-use Rattle.refusal.specs.declared.Verdict.{Verdict}
-use Rattle.refusal.specs.declared.Verdict.TheVariants.{Passed}
 use Rattle.refusal.specs.declared.Refusal.TheVariants.{MissingNullTerminator, LimitOrMemory, InvalidNextIndex, InvalidNameByte, UnsafeName}
 use Rattle.refusal.specs.Refusal.{refuse, first}
 use Rattle.tree.specs.Table.{plain, safe, nameOffset, sizeOrNext, name_at, nodeAt, nodesFrom, unended, nameVerdict, nextVerdict, walk, check}
@@ -9,7 +9,7 @@ use Rattle.tree.specs.Table.{plain, safe, nameOffset, sizeOrNext, name_at, nodeA
 -- the table is accepted, where some number of working words is lent
 pub record Opens (tab : List ℕ) : Type 0 where
   pub words : ℕ
-  pub passed : check tab words ≡ Passed
+  pub passed : check tab words ≡ Ok tt
 
 -- c entries stand in the table, the root at least, and no more than the limit
 pub record Inside (tab : List ℕ) (c : ℕ) : Type 0 where
@@ -37,4 +37,4 @@ nodeVerdict tab c dirs k = first (nameVerdict tab c k (name_at tab c (nameOffset
 
 -- the tests 12 and 13 of a name
 abbrev pub textVerdict : List ℕ → Verdict
-textVerdict nm = refuse (not (plain nm)) InvalidNameByte (refuse (not (safe nm)) UnsafeName Passed)
+textVerdict nm = refuse (not (plain nm)) InvalidNameByte (refuse (not (safe nm)) UnsafeName (Ok tt))

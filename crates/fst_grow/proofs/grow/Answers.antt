@@ -2,8 +2,8 @@
 use Rattle.fst_grow.proofs.GrowthLaws.{past-cause, past-never, name-fits, grown-size-fits, short-built, may-insert, inserted-built}
 use Rattle.fst_grow.proofs.grow.Goals as goal
 
-pub returns-in-Refused : goal.returns-in-Refused
-returns-in-Refused c = (search past-cause, search past-never)
+pub returns-in-Err : goal.returns-in-Err
+returns-in-Err c = (search past-cause, search past-never)
 
 pub overflow_add-grown-2 : goal.overflow_add-grown-2
 overflow_add-grown-2 c = search name-fits

@@ -1,9 +1,9 @@
 -- A table that is accepted has what the writers ask for. Assumes nothing.
+use Rattle.std.specs.Prelude.{Ok}
 use Rattle.std.specs.Prelude.{ℕ, zero, suc, ◌+◌, ◌-◌, ◌*◌, ◌≤◌, ◌<◌, ◌≡◌, refl, Bool, true, false, cond, not, ◌&&◌, List, [], ◌∷◌, length, get_or, drop, leb, ltb, eqb}
 use Rattle.std.proofs.Common.{sym, ◌∙◌, ⊎_elim, arith, lt-ltb, ltb-false, leb-true, leb-false, eqb-true, le-leb, get_or-drop}
 use Rattle.std.proofs.lemmas.Bool.{eqb-false, lt-leb}
 use Rattle.refusal.specs.Laws.Tests.{lt-or-le}
-use Rattle.refusal.specs.declared.Verdict.TheVariants.{Passed}
 use Rattle.refusal.specs.declared.Refusal.TheVariants.{EntryPastTable, UnrecognizedKind, RootIsNotDirectory, MissingNullTerminator, LimitOrMemory, InvalidNextIndex, InvalidNameOffset}
 use Rattle.refusal.specs.Refusal.{refuse}
 use Rattle.refusal.specs.Laws.Chains.{refuse-passed, first-passed}
@@ -28,13 +28,13 @@ name-ends tab n k h e =
 
 -- ---- the entry tests
 
-entries_at : (tab : List ℕ) (k m : ℕ) → entriesVerdict tab k m ≡ Passed → (i : ℕ) → k ≤ i → i < k + m → (12 * i + 12 ≤ length tab) × (kind tab i ≤ 1)
+entries_at : (tab : List ℕ) (k m : ℕ) → entriesVerdict tab k m ≡ Ok tt → (i : ℕ) → k ≤ i → i < k + m → (12 * i + 12 ≤ length tab) × (kind tab i ≤ 1)
 unfolding entriesVerdict entryVerdict
 entries_at tab k zero e i p q = absurd (omega arith)
 entries_at tab k (suc m) e i p q =
     let f = first-passed (entryVerdict tab k) (entriesVerdict tab (suc k) m) e in
-    let a = refuse-passed (ltb (length tab) (12 * k + 12)) EntryPastTable (refuse (ltb 1 (kind tab k)) UnrecognizedKind Passed) f.0 in
-    let b = refuse-passed (ltb 1 (kind tab k)) UnrecognizedKind Passed a.1 in
+    let a = refuse-passed (ltb (length tab) (12 * k + 12)) EntryPastTable (refuse (ltb 1 (kind tab k)) UnrecognizedKind (Ok tt)) f.0 in
+    let b = refuse-passed (ltb 1 (kind tab k)) UnrecognizedKind (Ok tt) a.1 in
     ⊎_elim (λ (h : k < i). entries_at tab (suc k) m f.1 i (omega arith) (omega arith))
     (λ (h : i ≤ k).
     let s : k ≡ i = omega arith in
@@ -45,10 +45,10 @@ entries_at tab k (suc m) e i p q =
 
 pub record Step (tab : List ℕ) (c : ℕ) (dirs : List ℕ) (k : ℕ) (x : Node) (xs : List Node) : Type 0 where
   pub name : nameOffset tab k < length tab - 12 * c
-  pub next : nextVerdict c (shut k dirs) k x ≡ Passed
-  pub rest : walk tab c (enter (shut k dirs) x) (suc k) xs ≡ Passed
+  pub next : nextVerdict c (shut k dirs) k x ≡ Ok tt
+  pub rest : walk tab c (enter (shut k dirs) x) (suc k) xs ≡ Ok tt
 
-walk_step : (tab : List ℕ) (c : ℕ) (dirs : List ℕ) (k : ℕ) (x : Node) (xs : List Node) → walk tab c dirs k (x ∷ xs) ≡ Passed → Step tab c dirs k x xs
+walk_step : (tab : List ℕ) (c : ℕ) (dirs : List ℕ) (k : ℕ) (x : Node) (xs : List Node) → walk tab c dirs k (x ∷ xs) ≡ Ok tt → Step tab c dirs k x xs
 unfolding walk nameVerdict
 walk_step tab c dirs k x xs e =
     let a = first-passed (nameVerdict tab c k (name_of x)) _ e in
@@ -57,7 +57,7 @@ walk_step tab c dirs k x xs e =
     record { name = leb-false (length tab - 12 * c) (nameOffset tab k) d.0; next = b.0; rest = b.1 }
 
 -- what the tests of "next" say
-next-says : (c : ℕ) (dirs : List ℕ) (k : ℕ) (nm : List ℕ) (next : ℕ) → nextVerdict c dirs k (directory nm next) ≡ Passed → (k < next) × (next ≤ c) × (next ≤ top dirs)
+next-says : (c : ℕ) (dirs : List ℕ) (k : ℕ) (nm : List ℕ) (next : ℕ) → nextVerdict c dirs k (directory nm next) ≡ Ok tt → (k < next) × (next ≤ c) × (next ≤ top dirs)
 unfolding nextVerdict
 next-says c dirs k nm next e =
     let a = refuse-passed (leb next k) InvalidNextIndex _ e in
@@ -86,7 +86,7 @@ shut-past j n dirs h = rw (le-leb n j h)
 abbrev Under : ℕ → ℕ → List ℕ → Type 0
 Under b k dirs = (j : ℕ) → k ≤ j → j < b → top (shut j dirs) ≤ b
 
-under-step : (b c k : ℕ) (dirs : List ℕ) (x : Node) → nextVerdict c (shut k dirs) k x ≡ Passed → Under b k dirs → Under b (suc k) (enter (shut k dirs) x)
+under-step : (b c k : ℕ) (dirs : List ℕ) (x : Node) → nextVerdict c (shut k dirs) k x ≡ Ok tt → Under b k dirs → Under b (suc k) (enter (shut k dirs) x)
 under-step b c k dirs (file nm offset size) e u j p q = rw (shut-shut k j dirs (omega arith)) (u j (omega arith) q)
 under-step b c k dirs (directory nm next) e u j p q =
     ⊎_elim
@@ -101,16 +101,16 @@ unfolding nodeAt
 node-directory tab c k h = rw h
 
 module _ (tab : List ℕ) (c : ℕ) where
-  step-at : (dirs : List ℕ) (k m : ℕ) → walk tab c dirs k (nodesFrom tab c k (suc m)) ≡ Passed → Step tab c dirs k (nodeAt tab c k) (nodesFrom tab c (suc k) m)
+  step-at : (dirs : List ℕ) (k m : ℕ) → walk tab c dirs k (nodesFrom tab c k (suc m)) ≡ Ok tt → Step tab c dirs k (nodeAt tab c k) (nodesFrom tab c (suc k) m)
   unfolding nodesFrom
   step-at dirs k m e = walk_step tab c dirs k (nodeAt tab c k) (nodesFrom tab c (suc k) m) e
 
-  says_at : (dirs : List ℕ) (k m : ℕ) → walk tab c dirs k (nodesFrom tab c k (suc m)) ≡ Passed → kind tab k ≡ 1 → (k < sizeOrNext tab k) × (sizeOrNext tab k ≤ c) × (sizeOrNext tab k ≤ top (shut k dirs))
+  says_at : (dirs : List ℕ) (k m : ℕ) → walk tab c dirs k (nodesFrom tab c k (suc m)) ≡ Ok tt → kind tab k ≡ 1 → (k < sizeOrNext tab k) × (sizeOrNext tab k ≤ c) × (sizeOrNext tab k ≤ top (shut k dirs))
   says_at dirs k m e h =
       next-says c (shut k dirs) k (name_at tab c (nameOffset tab k)) (sizeOrNext tab k) (rw (node-directory tab c k h) at (step-at dirs k m e).next)
 
   -- a directory that starts before b, which is the end of an open one, ends there or before
-  bound : (b m k : ℕ) (dirs : List ℕ) → walk tab c dirs k (nodesFrom tab c k m) ≡ Passed → Under b k dirs → (j : ℕ) → k ≤ j → j < k + m → j < b → kind tab j ≡ 1 → sizeOrNext tab j ≤ b
+  bound : (b m k : ℕ) (dirs : List ℕ) → walk tab c dirs k (nodesFrom tab c k m) ≡ Ok tt → Under b k dirs → (j : ℕ) → k ≤ j → j < k + m → j < b → kind tab j ≡ 1 → sizeOrNext tab j ≤ b
   bound b zero k dirs e u j p q r h = absurd (omega arith)
   bound b (suc m) k dirs e u j p q r h =
       let s = step-at dirs k m e in
@@ -122,7 +122,7 @@ module _ (tab : List ℕ) (c : ℕ) where
       rw i (omega (arith, d.2, u k (omega arith) (omega arith))))
       (lt-or-le k j)
 
-  nests : (m k : ℕ) (dirs : List ℕ) → k + m ≡ c → walk tab c dirs k (nodesFrom tab c k m) ≡ Passed → (i : ℕ) → k ≤ i → i < c → kind tab i ≡ 1 → Nests tab c i
+  nests : (m k : ℕ) (dirs : List ℕ) → k + m ≡ c → walk tab c dirs k (nodesFrom tab c k m) ≡ Ok tt → (i : ℕ) → k ≤ i → i < c → kind tab i ≡ 1 → Nests tab c i
   nests zero k dirs t e i p q h = absurd (omega arith)
   nests (suc m) k dirs t e i p q h =
       let s = step-at dirs k m e in
@@ -133,7 +133,7 @@ module _ (tab : List ℕ) (c : ℕ) where
       let h' : kind tab k ≡ 1 = rw (sym z) at h in
       let d = says_at dirs k m e h' in
       let n : ℕ = sizeOrNext tab k in
-      let w : walk tab c (n ∷ shut k dirs) (suc k) (nodesFrom tab c (suc k) m) ≡ Passed = rw (node-directory tab c k h') at s.rest in
+      let w : walk tab c (n ∷ shut k dirs) (suc k) (nodesFrom tab c (suc k) m) ≡ Ok tt = rw (node-directory tab c k h') at s.rest in
       let r : Nests tab c k =
       record {
         later = d.0;
@@ -143,7 +143,7 @@ module _ (tab : List ℕ) (c : ℕ) where
       rw z at r)
       (lt-or-le k i)
 
-  names : (m k : ℕ) (dirs : List ℕ) → walk tab c dirs k (nodesFrom tab c k m) ≡ Passed → (i : ℕ) → k ≤ i → i < k + m → nameOffset tab i < length tab - 12 * c
+  names : (m k : ℕ) (dirs : List ℕ) → walk tab c dirs k (nodesFrom tab c k m) ≡ Ok tt → (i : ℕ) → k ≤ i → i < k + m → nameOffset tab i < length tab - 12 * c
   names zero k dirs e i p q = absurd (omega arith)
   names (suc m) k dirs e i p q =
       let s = step-at dirs k m e in
@@ -164,12 +164,12 @@ pub record Tests (tab : List ℕ) : Type 0 where
   pub long : 12 ≤ length tab
   pub root : kind tab 0 ≡ 1
   pub few : count tab ≤ 16384
-  pub entries : entriesVerdict tab 1 (count tab - 1) ≡ Passed
+  pub entries : entriesVerdict tab 1 (count tab - 1) ≡ Ok tt
   pub last : unended tab (count tab) ≡ false
   pub reach : 0 < sizeOrNext tab 0
-  pub walked : walk tab (count tab) (count tab ∷ []) 1 (nodesFrom tab (count tab) 1 (count tab - 1)) ≡ Passed
+  pub walked : walk tab (count tab) (count tab ∷ []) 1 (nodesFrom tab (count tab) 1 (count tab - 1)) ≡ Ok tt
 
-tests : (tab : List ℕ) (words : ℕ) → check tab words ≡ Passed → Tests tab
+tests : (tab : List ℕ) (words : ℕ) → check tab words ≡ Ok tt → Tests tab
 unfolding check
 tests tab words e =
     let a = refuse-passed (ltb (length tab) 12) EntryPastTable _ e in
@@ -205,7 +205,7 @@ last-zero : (tab : List ℕ) (c : ℕ) → unended tab c ≡ false → 12 * c < 
 unfolding unended
 last-zero tab c e h = eqb-true (get_or tab (length tab - 1) 0) 0 (ended (ltb (12 * c) (length tab)) (eqb (get_or tab (length tab - 1) 0) 0) (lt-ltb (12 * c) (length tab) h) e)
 
-root-nests : (tab : List ℕ) → sizeOrNext tab 0 ≡ count tab → 0 < count tab → walk tab (count tab) (count tab ∷ []) 1 (nodesFrom tab (count tab) 1 (count tab - 1)) ≡ Passed → Nests tab (count tab) 0
+root-nests : (tab : List ℕ) → sizeOrNext tab 0 ≡ count tab → 0 < count tab → walk tab (count tab) (count tab ∷ []) 1 (nodesFrom tab (count tab) 1 (count tab - 1)) ≡ Ok tt → Nests tab (count tab) 0
 root-nests tab r some w =
     record {
       later = omega arith;
@@ -215,7 +215,7 @@ root-nests tab r some w =
     }
 
 -- acceptance gives all of it
-pub accepted-valid : (tab : List ℕ) (words : ℕ) → check tab words ≡ Passed → Valid tab (count tab)
+pub accepted-valid : (tab : List ℕ) (words : ℕ) → check tab words ≡ Ok tt → Valid tab (count tab)
 accepted-valid tab words e =
     let t = tests tab words e in
     let n : ℕ = count tab in

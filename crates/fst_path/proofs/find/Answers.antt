@@ -8,10 +8,10 @@ use Rattle.fst.proofs.Nodes.{opened}
 use Rattle.fst_path.proofs.PathLaws.{lookup-inside}
 use Rattle.fst_path.proofs.find.Goals as goal
 
-pub returns-in-At : goal.returns-in-At
-returns-in-At c =
+pub returns-in-Ok : goal.returns-in-Ok
+returns-in-Ok c =
     let s = c in
     let T = s.args.table.now in
     let w = (opened T (λ i. omega (arith, c.type_inv.table i)) s.requires.0).well in
-    let l = lookup-inside (nodesOf T) w s.args.start s.args.path.now _ (sym c.in-At.ensures) in
-    rw (← c.in-At.ensures) (c.entry.ensures ∙ rw (lt-ltb _ (length (nodesOf T)) l))
+    let l = lookup-inside (nodesOf T) w s.args.start s.args.path.now _ (sym c.in-Ok.ensures) in
+    rw (← c.in-Ok.ensures) (c.entry.ensures ∙ rw (lt-ltb _ (length (nodesOf T)) l))

@@ -1,9 +1,9 @@
 -- One step of a lookup, where the entries left by n named steps stand in the first n words of a trail, the last one last.
 -- Assumes nothing: these are definitions.
+use Rattle.std.specs.Prelude.{Result, Ok, Err}
+use Rattle.refusal.specs.declared.Refusal.{Refusal}
 use Rattle.std.specs.Prelude.{ℕ, zero, suc, ◌+◌, cond, List, [], length, get_or, drop, ltb}
 use Rattle.refusal.specs.declared.Refusal.TheVariants.{ExpectedDirectory, NotFound}
-use Rattle.tree.specs.declared.Located.{Located}
-use Rattle.tree.specs.declared.Located.TheVariants as located
 use Rattle.tree.specs.Table.{Node, none}
 use Rattle.tree.specs.Lookup.{isDirectory, components, childOf, stays, goesBack}
 use Rattle.fst_path.specs.declared.Step.{Step}
@@ -19,9 +19,9 @@ backOf trail zero = Refused NotFound
 backOf trail (suc n) = To (get_or trail n 0) n
 
 -- one named step more
-abbrev pub stepTo : ℕ → Located → Step
-stepTo n (located.At j) = To j (n + 1)
-stepTo n (located.Refused c) = Refused c
+abbrev pub stepTo : ℕ → Result ℕ Refusal → Step
+stepTo n (Ok j) = To j (n + 1)
+stepTo n (Err c) = Refused c
 
 abbrev pub intoOf : List Node → ℕ → ℕ → List ℕ → Step
 intoOf nodes k n nm = stepTo n (childOf nodes k nm)

@@ -1,4 +1,5 @@
 -- What the tests of a field answer; what a header that passes is, and what passes. Assumes nothing.
+use Rattle.std.specs.Prelude.{Ok, Err}
 use Prim.Native.Nat.{ℕ, zero, suc, ◌+◌, ◌-◌, ◌^◌, ◌<◌, ◌≤◌}
 use Rattle.std.specs.Prelude.{◌≡◌, Bool, true, false, ◌&&◌, ◌||◌, not, eqb, ltb, leb, length}
 use Rattle.std.proofs.Math.Path.{refl}
@@ -7,7 +8,6 @@ use native.Mathlib.Omega.{arith}
 use borrow.Author.Tests.{leb-true, ltb-false, eqb-true, eqb-false, not-false, le-ltb, lt-ltb, eq-eqb, ne_eqb}
 use Rattle.endian.specs.Bytes.{be32}
 use Rattle.refusal.specs.declared.Refusal.TheVariants.{HeaderPastImage, WiiNotSupported, InvalidMagic, InvalidBounds}
-use Rattle.refusal.specs.declared.Verdict.TheVariants.{Passed, Refused}
 use Rattle.refusal.specs.Refusal.{refuse}
 use Rattle.refusal.specs.Laws.Chains.{refuse-passed, first-passed}
 use Rattle.header.specs.declared.Field.{Field}
@@ -41,34 +41,34 @@ judged k h = record {
 -- ---- what the tests of a field answer, case by case
 
 module _ (image : List ℕ) (f : Field) where
-  pub past : length image < f.at + f.len → fieldVerdict image f ≡ Refused HeaderPastImage
+  pub past : length image < f.at + f.len → fieldVerdict image f ≡ Err HeaderPastImage
   unfolding fieldVerdict
   past h = rw (lt-ltb (length image) (f.at + f.len) h)
 
   module _ (fits : f.at + f.len ≤ length image) where
-    pub wii : f.at ≡ 0x18 → word_of f image ≡ wiiMagic → fieldVerdict image f ≡ Refused WiiNotSupported
+    pub wii : f.at ≡ 0x18 → word_of f image ≡ wiiMagic → fieldVerdict image f ≡ Err WiiNotSupported
     unfolding fieldVerdict
     wii o m = rw (le-ltb (length image) (f.at + f.len) fits, eq-eqb f.at 0x18 o, eq-eqb (word_of f image) wiiMagic m)
 
-    pub other_word : f.at ≡ 0x18 → (word_of f image ≡ wiiMagic → ⊥) → fieldVerdict image f ≡ Passed
+    pub other_word : f.at ≡ 0x18 → (word_of f image ≡ wiiMagic → ⊥) → fieldVerdict image f ≡ Ok tt
     unfolding fieldVerdict
     other_word o m =
         let g : f.at ≡ 0x1C → ⊥ = λ e. omega arith in
         rw (le-ltb (length image) (f.at + f.len) fits, eq-eqb f.at 0x18 o, ne_eqb (word_of f image) wiiMagic m, ne_eqb f.at 0x1C g)
 
-    pub gcn : f.at ≡ 0x1C → word_of f image ≡ gcnMagic → fieldVerdict image f ≡ Passed
+    pub gcn : f.at ≡ 0x1C → word_of f image ≡ gcnMagic → fieldVerdict image f ≡ Ok tt
     unfolding fieldVerdict
     gcn o m =
         let g : f.at ≡ 0x18 → ⊥ = λ e. omega arith in
         rw (le-ltb (length image) (f.at + f.len) fits, ne_eqb f.at 0x18 g, eq-eqb f.at 0x1C o, eq-eqb (word_of f image) gcnMagic m)
 
-    pub not-gcn : f.at ≡ 0x1C → (word_of f image ≡ gcnMagic → ⊥) → fieldVerdict image f ≡ Refused InvalidMagic
+    pub not-gcn : f.at ≡ 0x1C → (word_of f image ≡ gcnMagic → ⊥) → fieldVerdict image f ≡ Err InvalidMagic
     unfolding fieldVerdict
     not-gcn o m =
         let g : f.at ≡ 0x18 → ⊥ = λ e. omega arith in
         rw (le-ltb (length image) (f.at + f.len) fits, ne_eqb f.at 0x18 g, eq-eqb f.at 0x1C o, ne_eqb (word_of f image) gcnMagic m)
 
-    pub no-magic : (f.at ≡ 0x18 → ⊥) → (f.at ≡ 0x1C → ⊥) → fieldVerdict image f ≡ Passed
+    pub no-magic : (f.at ≡ 0x18 → ⊥) → (f.at ≡ 0x1C → ⊥) → fieldVerdict image f ≡ Ok tt
     unfolding fieldVerdict
     no-magic a b = rw (le-ltb (length image) (f.at + f.len) fits, ne_eqb f.at 0x18 a, ne_eqb f.at 0x1C b)
 
@@ -80,12 +80,12 @@ pub record GoodHeader (image : List ℕ) : Type 0 where
   pub is-gcn : be32 image 0x1C ≡ gcnMagic
 
 -- a field that passes
-module _ (image : List ℕ) (f : Field) (e : fieldVerdict image f ≡ Passed) where
+module _ (image : List ℕ) (f : Field) (e : fieldVerdict image f ≡ Ok tt) where
   held : f.at + f.len ≤ length image
   unfolding fieldVerdict
   held = ltb-false (length image) (f.at + f.len) (refuse-passed (ltb (length image) (f.at + f.len)) HeaderPastImage _ e).0
 
-  word-passed : (refuse (eqb f.at 0x18 && eqb (word_of f image) wiiMagic) WiiNotSupported (refuse (eqb f.at 0x1C && not (eqb (word_of f image) gcnMagic)) InvalidMagic Passed)) ≡ Passed
+  word-passed : (refuse (eqb f.at 0x18 && eqb (word_of f image) wiiMagic) WiiNotSupported (refuse (eqb f.at 0x1C && not (eqb (word_of f image) gcnMagic)) InvalidMagic (Ok tt))) ≡ Ok tt
   unfolding fieldVerdict
   word-passed = (refuse-passed (ltb (length image) (f.at + f.len)) HeaderPastImage _ e).1
 
@@ -102,18 +102,18 @@ module _ (image : List ℕ) (f : Field) (e : fieldVerdict image f ≡ Passed) wh
       eqb-true (word_of f image) gcnMagic (not-false (eqb (word_of f image) gcnMagic) (rw (eq-eqb f.at 0x1C o) at t))
 
 module _ (image : List ℕ) where
-  each-passed : (fs : List Field) → fieldsVerdict image fs ≡ Passed → (k : ℕ) → k < length fs → fieldVerdict image (nth fs k) ≡ Passed
+  each-passed : (fs : List Field) → fieldsVerdict image fs ≡ Ok tt → (k : ℕ) → k < length fs → fieldVerdict image (nth fs k) ≡ Ok tt
   unfolding fieldsVerdict
   each-passed [] e k h = absurd (omega arith)
   each-passed (f ∷ fs) e zero h = (first-passed (fieldVerdict image f) (fieldsVerdict image fs) e).0
   each-passed (f ∷ fs) e (suc k) h = each-passed fs (first-passed (fieldVerdict image f) (fieldsVerdict image fs) e).1 k (omega arith)
 
-  all_pass : (fs : List Field) → ((k : ℕ) → k < length fs → fieldVerdict image (nth fs k) ≡ Passed) → fieldsVerdict image fs ≡ Passed
+  all_pass : (fs : List Field) → ((k : ℕ) → k < length fs → fieldVerdict image (nth fs k) ≡ Ok tt) → fieldsVerdict image fs ≡ Ok tt
   unfolding fieldsVerdict
   all_pass [] p = refl
   all_pass (f ∷ fs) p = rw (p 0 (omega arith)) (all_pass fs (λ k h. p (suc k) (omega arith)))
 
-  pub header-passed : headerVerdict image ≡ Passed → GoodHeader image
+  pub header-passed : headerVerdict image ≡ Ok tt → GoodHeader image
   unfolding headerVerdict fields
   header-passed e = record {
     whole = held image (field_at 20) (each-passed fields e 20 (omega arith));
@@ -121,18 +121,18 @@ module _ (image : List ℕ) where
     is-gcn = a-gcn image (field_at 8) (each-passed fields e 8 (omega arith)) refl;
   }
 
-  good-field : (f : Field) → Judged f → GoodHeader image → fieldVerdict image f ≡ Passed
+  good-field : (f : Field) → Judged f → GoodHeader image → fieldVerdict image f ≡ Ok tt
   good-field f j g = go (eqb f.at 0x18) refl (eqb f.at 0x1C) refl
     where
       fits : f.at + f.len ≤ length image
       fits = omega (arith, j.inside, g.whole)
 
-      go : (s : Bool) → eqb f.at 0x18 ≡ s → (t : Bool) → eqb f.at 0x1C ≡ t → fieldVerdict image f ≡ Passed
+      go : (s : Bool) → eqb f.at 0x18 ≡ s → (t : Bool) → eqb f.at 0x1C ≡ t → fieldVerdict image f ≡ Ok tt
       go true a t b = let o : f.at ≡ 0x18 = eqb-true f.at 0x18 a in other_word image f fits o (λ m. g.not-wii (rw o at m))
       go false a true b = let o : f.at ≡ 0x1C = eqb-true f.at 0x1C b in gcn image f fits o (rw o g.is-gcn)
       go false a false b = no-magic image f fits (eqb-false f.at 0x18 a) (eqb-false f.at 0x1C b)
 
-  pub header-passes : GoodHeader image → headerVerdict image ≡ Passed
+  pub header-passes : GoodHeader image → headerVerdict image ≡ Ok tt
   unfolding headerVerdict
   header-passes g = all_pass fields (λ k h. good-field (field_at k) (judged k (rw fields-count at h)) g)
 
@@ -144,7 +144,7 @@ module _ (image : List ℕ) where
     pub table : table_end image ≤ discEnd image
     pub image_holds : discEnd image ≤ length image
 
-  pub bounds-passed : boundsVerdict image ≡ Passed → Bounded
+  pub bounds-passed : boundsVerdict image ≡ Ok tt → Bounded
   unfolding boundsVerdict
   bounds-passed e =
       let a = refuse-passed (ltb (fstOffset image) 0x440) InvalidBounds _ e in
@@ -158,7 +158,7 @@ module _ (image : List ℕ) where
         image_holds = ltb-false (length image) (discEnd image) d.0;
       }
 
-  pub bounds-pass : Bounded → boundsVerdict image ≡ Passed
+  pub bounds-pass : Bounded → boundsVerdict image ≡ Ok tt
   unfolding boundsVerdict
   bounds-pass b =
       rw (le-ltb (fstOffset image) 0x440 b.after-header, le-ltb (2 ^ 32 - 1) (discEnd image) b.small, le-ltb (discEnd image) (table_end image) b.table, le-ltb (length image) (discEnd image) b.image_holds)

@@ -1,5 +1,7 @@
 -- The fields one by one come to five tests: the Wii magic is judged as soon as it is there, then the GameCube magic, then the rest of the header is asked for.
 -- Assumes nothing.
+use Rattle.std.specs.Prelude.{Ok}
+use Rattle.refusal.specs.Refusal.{Verdict}
 use Rattle.std.specs.Prelude.{ℕ, ◌+◌, ◌<◌, ◌≤◌, ◌≡◌, Bool, ◌&&◌, not, ltb, take, drop}
 use Rattle.std.proofs.Math.Path.{refl}
 use Rattle.std.proofs.Common.{◌∙◌}
@@ -12,8 +14,6 @@ use borrow.Author.Tests.{ltb-true, eqb-true, lt-ltb, le-ltb, not-true}
 use Rattle.endian.specs.Bytes.{be32}
 use Rattle.refusal.specs.declared.Refusal.{Refusal}
 use Rattle.refusal.specs.declared.Refusal.TheVariants.{HeaderPastImage, WiiNotSupported, InvalidMagic}
-use Rattle.refusal.specs.declared.Verdict.{Verdict}
-use Rattle.refusal.specs.declared.Verdict.TheVariants.{Passed}
 use Rattle.refusal.specs.Refusal.{refuse, first}
 use Rattle.header.specs.declared.Field.{Field}
 use Rattle.header.specs.Fields.{fields, wiiMagicField, gcnMagicField, gameNameField}
@@ -42,7 +42,7 @@ module _ (image : List ℕ) where
   abbrev pub short : ℕ → Verdict → Verdict
   short n later = refuse (ltb (length image) n) HeaderPastImage later
 
-  plain-field : (f : Field) → plain f ≡ true → fieldVerdict image f ≡ short (f.at + f.len) Passed
+  plain-field : (f : Field) → plain f ≡ true → fieldVerdict image f ≡ short (f.at + f.len) (Ok tt)
   unfolding fieldVerdict
   plain-field f p =
       let a : eqb f.at 0x18 ≡ false = not-true (eqb f.at 0x18) (and_left (not (eqb f.at 0x18)) (not (eqb f.at 0x1C)) p) in
@@ -57,7 +57,7 @@ module _ (image : List ℕ) where
       let o : f.at ≡ a = tile-start a b f fs t in
       let r : tile (a + f.len) b fs ≡ true = tile-rest a b f fs t in
       let l : a ≤ a + f.len = omega arith in
-      rw (plain-field f (and_left (plain f) (everyField plain fs) p), o, first-refuse (ltb (length image) (a + f.len)) HeaderPastImage Passed (fieldsVerdict image (fs ++ gs)), merge (length image) a (a + f.len) HeaderPastImage (fieldsVerdict image (fs ++ gs)) l)
+      rw (plain-field f (and_left (plain f) (everyField plain fs) p), o, first-refuse (ltb (length image) (a + f.len)) HeaderPastImage (Ok tt) (fieldsVerdict image (fs ++ gs)), merge (length image) a (a + f.len) HeaderPastImage (fieldsVerdict image (fs ++ gs)) l)
       (run fs gs (a + f.len) b r (and_right (plain f) (everyField plain fs) p))
 
   step : (f : Field) (fs : List Field) → fieldsVerdict image (f ∷ fs) ≡ first (fieldVerdict image f) (fieldsVerdict image fs)
@@ -66,36 +66,36 @@ module _ (image : List ℕ) where
 
   wii-field : (later : Verdict) → first (fieldVerdict image wiiMagicField) later ≡ short 0x1C (refuse (eqb (be32 image 0x18) wiiMagic) WiiNotSupported later)
   unfolding fieldVerdict
-  wii-field later = rw (first-refuse (ltb (length image) 0x1C) HeaderPastImage (refuse (eqb (be32 image 0x18) wiiMagic) WiiNotSupported Passed) later, first-refuse (eqb (be32 image 0x18) wiiMagic) WiiNotSupported Passed later)
+  wii-field later = rw (first-refuse (ltb (length image) 0x1C) HeaderPastImage (refuse (eqb (be32 image 0x18) wiiMagic) WiiNotSupported (Ok tt)) later, first-refuse (eqb (be32 image 0x18) wiiMagic) WiiNotSupported (Ok tt) later)
 
   gcn-field : (later : Verdict) → first (fieldVerdict image gcnMagicField) later ≡ short 0x20 (refuse (not (eqb (be32 image 0x1C) gcnMagic)) InvalidMagic later)
   unfolding fieldVerdict
-  gcn-field later = rw (first-refuse (ltb (length image) 0x20) HeaderPastImage (refuse (not (eqb (be32 image 0x1C) gcnMagic)) InvalidMagic Passed) later, first-refuse (not (eqb (be32 image 0x1C) gcnMagic)) InvalidMagic Passed later)
+  gcn-field later = rw (first-refuse (ltb (length image) 0x20) HeaderPastImage (refuse (not (eqb (be32 image 0x1C) gcnMagic)) InvalidMagic (Ok tt)) later, first-refuse (not (eqb (be32 image 0x1C) gcnMagic)) InvalidMagic (Ok tt) later)
 
   -- the fields before the magics, and those behind them
   front : headerVerdict image ≡ short 0x18 (fieldsVerdict image (drop 7 fields))
   unfolding headerVerdict fields
   front = let z : 0 ≤ length image = omega arith in rw (le-ltb (length image) 0 z) at (run (take 7 fields) (drop 7 fields) 0 0x18 refl refl)
 
-  none : fieldsVerdict image [] ≡ Passed
+  none : fieldsVerdict image [] ≡ Ok tt
   unfolding fieldsVerdict
   none = refl
 
-  back : fieldsVerdict image (drop 9 fields) ≡ short 0x440 Passed
+  back : fieldsVerdict image (drop 9 fields) ≡ short 0x440 (Ok tt)
   unfolding fields
   back =
       step gameNameField (drop 10 fields)
-      ∙ rw (plain-field gameNameField refl, first-refuse (ltb (length image) 0x400) HeaderPastImage Passed (fieldsVerdict image (drop 10 fields))) (rw none at (run (drop 10 fields) [] 0x400 0x440 refl refl))
+      ∙ rw (plain-field gameNameField refl, first-refuse (ltb (length image) 0x400) HeaderPastImage (Ok tt) (fieldsVerdict image (drop 10 fields))) (rw none at (run (drop 10 fields) [] 0x400 0x440 refl refl))
 
   pub header-order : headerVerdict image
       ≡ short 0x1C
       (refuse (eqb (be32 image 0x18) wiiMagic) WiiNotSupported
       (short 0x20
       (refuse (not (eqb (be32 image 0x1C) gcnMagic)) InvalidMagic
-      (short 0x440 Passed))))
+      (short 0x440 (Ok tt)))))
   unfolding fields
   header-order =
-      let g : fieldsVerdict image (drop 8 fields) ≡ short 0x20 (refuse (not (eqb (be32 image 0x1C) gcnMagic)) InvalidMagic (short 0x440 Passed)) =
+      let g : fieldsVerdict image (drop 8 fields) ≡ short 0x20 (refuse (not (eqb (be32 image 0x1C) gcnMagic)) InvalidMagic (short 0x440 (Ok tt))) =
       step gcnMagicField (drop 9 fields) ∙ gcn-field (fieldsVerdict image (drop 9 fields)) ∙ rw back in
       let w : fieldsVerdict image (drop 7 fields) ≡ short 0x1C (refuse (eqb (be32 image 0x18) wiiMagic) WiiNotSupported (fieldsVerdict image (drop 8 fields))) =
       step wiiMagicField (drop 8 fields) ∙ wii-field (fieldsVerdict image (drop 8 fields)) in

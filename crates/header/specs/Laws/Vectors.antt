@@ -1,8 +1,8 @@
 -- The edges of the header's refusals, by computing. Assumes nothing.
+use Rattle.std.specs.Prelude.{Ok, Err}
 use Rattle.std.specs.Prelude.{ℕ, ◌≡◌, refl, List, ◌++◌, replicate, take}
 use Rattle.endian.specs.Bytes.{be32, be32Bytes}
 use Rattle.refusal.specs.declared.Refusal.TheVariants.{HeaderPastImage, WiiNotSupported, InvalidMagic, InvalidBounds}
-use Rattle.refusal.specs.declared.Verdict.TheVariants.{Passed, Refused}
 use Rattle.header.specs.Fields.{fields}
 use Rattle.header.specs.Verdicts.{gcnMagic, wiiMagic, fieldVerdict, fieldsVerdict, headerVerdict, boundsVerdict}
 
@@ -15,27 +15,27 @@ good = zeros 0x1C ++ (be32Bytes gcnMagic ++ zeros 0x420)
 
 -- ---- 1, 2 and 3, field by field
 
-bytes-1B : headerVerdict (zeros 0x1B) ≡ Refused HeaderPastImage
+bytes-1B : headerVerdict (zeros 0x1B) ≡ Err HeaderPastImage
 unfolding fields fieldVerdict fieldsVerdict headerVerdict be32
 bytes-1B = refl
 
-bytes-1C-wii : headerVerdict (zeros 0x18 ++ be32Bytes wiiMagic) ≡ Refused WiiNotSupported
+bytes-1C-wii : headerVerdict (zeros 0x18 ++ be32Bytes wiiMagic) ≡ Err WiiNotSupported
 unfolding fields fieldVerdict fieldsVerdict headerVerdict be32
 bytes-1C-wii = refl
 
-bytes-1F : headerVerdict (take 0x1F good) ≡ Refused HeaderPastImage
+bytes-1F : headerVerdict (take 0x1F good) ≡ Err HeaderPastImage
 unfolding fields fieldVerdict fieldsVerdict headerVerdict be32
 bytes-1F = refl
 
-bytes-20-zero : headerVerdict (zeros 0x20) ≡ Refused InvalidMagic
+bytes-20-zero : headerVerdict (zeros 0x20) ≡ Err InvalidMagic
 unfolding fields fieldVerdict fieldsVerdict headerVerdict be32
 bytes-20-zero = refl
 
-bytes-43F : headerVerdict (take 0x43F good) ≡ Refused HeaderPastImage
+bytes-43F : headerVerdict (take 0x43F good) ≡ Err HeaderPastImage
 unfolding fields fieldVerdict fieldsVerdict headerVerdict be32
 bytes-43F = refl
 
-bytes-440 : headerVerdict good ≡ Passed
+bytes-440 : headerVerdict good ≡ Ok tt
 unfolding fields fieldVerdict fieldsVerdict headerVerdict be32
 bytes-440 = refl
 
@@ -45,24 +45,24 @@ disc : ℕ → ℕ → ℕ → ℕ → List ℕ
 disc offset size user rest = zeros 0x424 ++ (be32Bytes offset ++ (be32Bytes size ++ (zeros 8 ++ (be32Bytes user ++ (be32Bytes rest ++ zeros 5)))))
 
 -- an image longer than the disc end is fine
-shorter-disc : boundsVerdict (disc 0x440 0 0x400 0x40) ≡ Passed
+shorter-disc : boundsVerdict (disc 0x440 0 0x400 0x40) ≡ Ok tt
 unfolding boundsVerdict be32 disc
 shorter-disc = refl
 
-table-in-header : boundsVerdict (disc 0x43F 0 0x440 0) ≡ Refused InvalidBounds
+table-in-header : boundsVerdict (disc 0x43F 0 0x440 0) ≡ Err InvalidBounds
 unfolding boundsVerdict be32 disc
 table-in-header = refl
 
 -- the sum of both sizes is 2^32 + 0x440, which 32 bits would give back as 0x440
-disc-end-wraps : boundsVerdict (disc 0x440 0 0xFFFFFFFF 0x441) ≡ Refused InvalidBounds
+disc-end-wraps : boundsVerdict (disc 0x440 0 0xFFFFFFFF 0x441) ≡ Err InvalidBounds
 unfolding boundsVerdict be32 disc
 disc-end-wraps = refl
 
 -- inside the image, and past the disc end
-table-past-disc : boundsVerdict (disc 0x440 1 0x440 0) ≡ Refused InvalidBounds
+table-past-disc : boundsVerdict (disc 0x440 1 0x440 0) ≡ Err InvalidBounds
 unfolding boundsVerdict be32 disc
 table-past-disc = refl
 
-short-image : boundsVerdict (disc 0x440 0 0x442 0) ≡ Refused InvalidBounds
+short-image : boundsVerdict (disc 0x440 0 0x442 0) ≡ Err InvalidBounds
 unfolding boundsVerdict be32 disc
 short-image = refl

@@ -1,11 +1,11 @@
 -- Images that have the table, the program and the header's fields but the FST maximum in common open alike: to the same tree, with the same used and
 -- free regions. Assumes nothing.
+use Rattle.std.specs.Prelude.{Ok}
 use Rattle.std.specs.Prelude.{ℕ, ◌+◌, ◌<◌, ◌≤◌, ◌≡◌, ◌⊎◌, List, get_or}
 use Rattle.std.proofs.Common.{sym, ◌∙◌, inl, inr, arith}
 use Rattle.std.proofs.Math.ListN.{length}
 use Rattle.endian.specs.Bytes.{be32}
 use Rattle.endian.specs.Laws.Stored.{span_ext}
-use Rattle.refusal.specs.declared.Verdict.TheVariants.{Passed}
 use Rattle.header.specs.Verdicts.{fstOffset, fstSize, userSize, discSize, discEnd, table_end}
 use Rattle.header.specs.Laws.FieldTests.{GoodHeader, bounds-same, header-passes, bounds-pass}
 use Rattle.program.specs.Program.{program_of, programIn}
@@ -67,7 +67,7 @@ module _ (image image' : List ℕ) (a : Alike image image') where
     }
 
     -- LAW: with as many words
-    pub opens-same : (w : ℕ) → opening image w ≡ Passed → opening image' w ≡ Passed
+    pub opens-same : (w : ℕ) → opening image w ≡ Ok tt → opening image' w ≡ Ok tt
     unfolding opening layoutVerdict
     opens-same w e =
         rw (

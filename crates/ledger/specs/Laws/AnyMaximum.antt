@@ -1,16 +1,16 @@
 -- An image opens whatever maximum it states: one that differs in the FST maximum alone opens too, to the same tree with the same free regions. So an
 -- image whose table is larger than its maximum still opens. Assumes nothing.
+use Rattle.std.specs.Prelude.{Ok}
 use Rattle.std.specs.Prelude.{ℕ, ◌+◌, ◌≤◌, ◌≡◌, List, length, get_or}
 use Rattle.std.proofs.Common.{inl, inr, ⊎_elim, arith}
 use Rattle.endian.specs.Bytes.{AllBytes}
 use Rattle.endian.specs.Laws.Stored.{be32-same, Outside}
-use Rattle.refusal.specs.declared.Verdict.TheVariants.{Passed}
 use Rattle.opening.specs.Opening.{nodesIn, freeOf, opening}
 use Rattle.ledger.specs.Laws.Alike.{Alike, tree-same, free-same, opens-same}
 use Rattle.ledger.specs.Laws.Opened.{Opened, opened}
 use Rattle.ledger.specs.Laws.ProgramKept.{program-spared}
 
-module _ (image image' : List ℕ) (w : ℕ) (b : AllBytes image) (e : opening image w ≡ Passed) (len : length image' ≡ length image)
+module _ (image image' : List ℕ) (w : ℕ) (b : AllBytes image) (e : opening image w ≡ Ok tt) (len : length image' ≡ length image)
     (else : (i : ℕ) → Outside 0x42C 4 i → get_or image' i 0 ≡ get_or image i 0) where
   o : Opened image
   o = opened image w e b
@@ -27,5 +27,5 @@ module _ (image image' : List ℕ) (w : ℕ) (b : AllBytes image) (e : opening i
   }
 
   -- THEOREM
-  pub any-maximum : (opening image' w ≡ Passed) × (nodesIn image' ≡ nodesIn image) × (freeOf image' ≡ freeOf image)
+  pub any-maximum : (opening image' w ≡ Ok tt) × (nodesIn image' ≡ nodesIn image) × (freeOf image' ≡ freeOf image)
   any-maximum = (opens-same image image' alike o w e, tree-same image image' alike o, free-same image image' alike o)

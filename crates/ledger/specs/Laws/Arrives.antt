@@ -1,5 +1,7 @@
 -- Of every edit but a fill: if its tests pass, the tree read from the image afterwards is the one that it planned, offsets included, the
 -- program is the same, byte for byte, and the disc has the layout of the plan. Assumes nothing.
+use Rattle.std.specs.Prelude.{Result, Ok, Err}
+use Rattle.refusal.specs.Refusal.{Verdict}
 use Rattle.std.specs.Prelude.{ℕ, suc, ◌^◌, ◌<◌, ◌≤◌, ◌≡◌, true, cond, ◌||◌, get_or, ltb, eqb}
 use Rattle.std.proofs.Math.Path.{refl}
 use Rattle.std.proofs.Common.{ap, arith, leb-false}
@@ -10,8 +12,6 @@ use Rattle.std.proofs.Math.ListN.{length}
 use Rattle.std.proofs.Math.Dec.{leb}
 use Rattle.refusal.specs.declared.Refusal.{Refusal}
 use Rattle.refusal.specs.declared.Refusal.TheVariants.{LimitOrMemory, InvalidNameByte, NoSuchEntry}
-use Rattle.refusal.specs.declared.Verdict.{Verdict}
-use Rattle.refusal.specs.declared.Verdict.TheVariants.{Passed, Refused}
 use Rattle.refusal.specs.Refusal.{refuse, first}
 use Rattle.refusal.specs.Laws.Chains.{refuse-passed, first-passed}
 use Rattle.refusal.specs.Laws.Tests.{or-false}
@@ -22,8 +22,6 @@ use Rattle.tree.specs.Lookup.{isDirectory, components}
 use Rattle.tree.specs.Insert.{insertAt, emptyFile, emptyDirectory}
 use Rattle.space.specs.declared.DiscRegion.{DiscRegion}
 use Rattle.space.specs.Used.{nonempty}
-use Rattle.free_space.specs.declared.Allocation.{Allocation}
-use Rattle.free_space.specs.declared.Allocation.TheVariants as allocation
 use Rattle.free_space.specs.MaxRegionSize.{maxRegionSize}
 use Rattle.free_space.specs.Allocate.{allocationOf}
 use Rattle.opening.specs.Opening.{nodesIn, freeOf}
@@ -46,14 +44,14 @@ use Rattle.ledger.specs.Laws.PlaceEdits.{is-file, free-else, put-else, small_siz
 module _ (image : List ℕ) (words bytes : ℕ) where
   -- a plan that passes its tests leaves its tree in the image, the program as it was, and its layout
   abbrev pub Arrives : Plan → Type 0
-  Arrives p = planVerdict p image words bytes ≡ Passed → (nodesIn (planImage p image) ≡ planTree p (nodesIn image)) × ProgramKept image (planImage p image) × Lays p image (planImage p image)
+  Arrives p = planVerdict p image words bytes ≡ Ok tt → (nodesIn (planImage p image) ≡ planTree p (nodesIn image)) × ProgramKept image (planImage p image) × Lays p image (planImage p image)
 
-  arrives-refused : (c : Refusal) → Arrives (refused (Refused c))
+  arrives-refused : (c : Refusal) → Arrives (refused (Err c))
   arrives-refused c e = (refl, nothing-done image, refl)
 
-  pub arrives-planned : (v : Verdict) (p : Plan) → (v ≡ Passed → Arrives p) → Arrives (planned v p)
-  arrives-planned Passed p f = f refl
-  arrives-planned (Refused c) p f = arrives-refused c
+  pub arrives-planned : (v : Verdict) (p : Plan) → (v ≡ Ok tt → Arrives p) → Arrives (planned v p)
+  arrives-planned (Ok _) p f = f refl
+  arrives-planned (Err c) p f = arrives-refused c
 
   arrives-cond : (a : Bool) (p q : Plan) → (a ≡ true → Arrives p) → (a ≡ false → Arrives q) → Arrives (cond a p q)
   arrives-cond true p q f g = f refl
@@ -93,9 +91,9 @@ module _ (image : List ℕ) (words bytes : ℕ) where
     pub make-directories : (from : ℕ) (path : List ℕ) → Arrives (planMakeDirectories (nodesIn image) from path)
     unfolding planMakeDirectories
     make-directories from path =
-        arrives-planned (refuse (ltb 1024 (length path)) LimitOrMemory (refuse (leb (length (nodesIn image)) from) NoSuchEntry Passed)) _ (λ v.
+        arrives-planned (refuse (ltb 1024 (length path)) LimitOrMemory (refuse (leb (length (nodesIn image)) from) NoSuchEntry (Ok tt))) _ (λ v.
         let v₁ = refuse-passed (ltb 1024 (length path)) LimitOrMemory _ v in
-        let v₂ = refuse-passed (leb (length (nodesIn image)) from) NoSuchEntry Passed v₁.1 in
+        let v₂ = refuse-passed (leb (length (nodesIn image)) from) NoSuchEntry (Ok tt) v₁.1 in
         go (make (nodesIn image) [] from false (components path)) refl (leb-false _ _ v₂.0))
       where
         go : (m : Made) → make (nodesIn image) [] from false (components path) ≡ m → from < length (nodesIn image) → Arrives (planMade m)
@@ -106,7 +104,7 @@ module _ (image : List ℕ) (words bytes : ℕ) where
     -- ---- a file's place is changed
 
     module _ (k : ℕ) (isFile : isDirectory (get_or (nodesIn image) k none) ≡ false) where
-      move-to : (new : DiscRegion) → relocateVerdict (freeOf image) (place_in image k) new ≡ Passed → new.offset < 2 ^ 32 → new.size < 2 ^ 32 → Arrives (change k (relocated (nodesIn image) k (place_in image k) new))
+      move-to : (new : DiscRegion) → relocateVerdict (freeOf image) (place_in image k) new ≡ Ok tt → new.offset < 2 ^ 32 → new.size < 2 ^ 32 → Arrives (change k (relocated (nodesIn image) k (place_in image k) new))
       move-to new v ho hn u =
           let p = put-else w image l K words bytes lent k isFile new v ho hn u in
           let f = free-else w image l K words bytes lent k isFile new v in
@@ -121,9 +119,9 @@ module _ (image : List ℕ) (words bytes : ℕ) where
           let p = resized-placed w image l K words lent k isFile new free refl (small-offset w image l K words bytes lent k isFile n free d) hn (room c image words bytes o u) in
           (placed-tree w image l K words lent k isFile new free c p, placed-program w image l K words lent k isFile new free c p, placed-laid w image l K words lent k isFile new free c p)
 
-      elsewhere : (n : ℕ) → n < 2 ^ 32 → (place_in image k).size < n → (a : Allocation) → Arrives (planElsewhere (nodesIn image) (freeOf image) k (place_in image k) n a)
-      elsewhere n hn d (allocation.Refused c) = arrives-refused c
-      elsewhere n hn d (allocation.Found r) =
+      elsewhere : (n : ℕ) → n < 2 ^ 32 → (place_in image k).size < n → (a : Result DiscRegion Refusal) → Arrives (planElsewhere (nodesIn image) (freeOf image) k (place_in image k) n a)
+      elsewhere n hn d (Err c) = arrives-refused c
+      elsewhere n hn d (Ok r) =
           let new : DiscRegion = record { offset = r.offset; size = n } in
           arrives-planned (relocateVerdict (freeOf image) (place_in image k) new) _ (λ v.
           move-to new v (omega (arith, o.bounds.small, (free-else w image l K words bytes lent k isFile new v r.offset (omega arith, omega arith)).1)) hn)

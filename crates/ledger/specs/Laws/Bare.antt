@@ -1,13 +1,13 @@
 -- Names, kinds and nesting do not depend on places: the tree without places is looked up, inserted in and walked as the tree itself.
 -- Assumes nothing.
+use Rattle.std.specs.Prelude.{Result, Ok, Err}
+use Rattle.refusal.specs.declared.Refusal.{Refusal}
 use Rattle.std.specs.Prelude.{ℕ, zero, suc, ◌-◌, ◌≡◌, refl, Bool, true, false, cond, not, ◌||◌, List, [], ◌∷◌, map, get_or, set}
 use Rattle.std.proofs.Common.{sym, ap}
 use Rattle.std.proofs.Math.ListN.{get_or-map}
 use Rattle.refusal.specs.declared.Refusal.TheVariants.{ExpectedDirectory, UnsafeName}
 use Rattle.tree.specs.Table.{Node, file, directory, none, name_of, safe, plain, encloses, parentBelow, parent_of}
 use Rattle.tree.specs.Lookup.{isDirectory, next_of, stays, goesBack, firstChild, childOf}
-use Rattle.tree.specs.declared.Located.{Located}
-use Rattle.tree.specs.declared.Located.TheVariants as located
 use Rattle.tree.specs.Insert.{earlier, later, splice, insertAt, placed, setPlace, emptyDirectory}
 use Rattle.edits.specs.Edits.{newNumber, Made, stopped, made, madeBack, ifFound, make}
 use Rattle.ledger.specs.Ledger.{bare, filesBefore, madeNodes}
@@ -135,9 +135,9 @@ unfolding bareMade
 back-bare [] f g h = refl
 back-bare (j ∷ rest) f g h = h j rest
 
-found-bare : (l : Located) (f g : ℕ → Made) (x y : Made) → ((j : ℕ) → f j ≡ bareMade (g j)) → x ≡ bareMade y → ifFound l f x ≡ bareMade (ifFound l g y)
-found-bare (located.At k) f g x y h e = h k
-found-bare (located.Refused c) f g x y h e = e
+found-bare : (l : Result ℕ Refusal) (f g : ℕ → Made) (x y : Made) → ((j : ℕ) → f j ≡ bareMade (g j)) → x ≡ bareMade y → ifFound l f x ≡ bareMade (ifFound l g y)
+found-bare (Ok k) f g x y h e = h k
+found-bare (Err c) f g x y h e = e
 
 make-bare : (nodes : List Node) (trail : List ℕ) (k : ℕ) (bad : Bool) (cs : List (List ℕ)) → make (map bare nodes) trail k bad cs ≡ bareMade (make nodes trail k bad cs)
 unfolding make bareMade

@@ -1,10 +1,10 @@
 -- What the reports of any list of calls tell holds of every file of the first image: accepted moves, resizes and fills have numbers of files.
 -- Assumes nothing.
+use Rattle.std.specs.Prelude.{Ok, Err}
+use Rattle.refusal.specs.Refusal.{Verdict}
 use Rattle.std.specs.Prelude.{ℕ, ◌≤◌, ◌≡◌, refl, true, false, cond, not, List, [], ◌∷◌, length, get_or}
 use Rattle.std.proofs.Common.{◌∙◌, arith}
 use Rattle.endian.specs.Bytes.{span, AllBytes}
-use Rattle.refusal.specs.declared.Verdict.{Verdict}
-use Rattle.refusal.specs.declared.Verdict.TheVariants.{Passed, Refused}
 use Rattle.refusal.specs.Refusal.{is_refused, first}
 use Rattle.refusal.specs.Laws.Chains.{first-passed}
 use Rattle.tree.specs.Table.{file, none}
@@ -27,16 +27,16 @@ use Rattle.ledger.specs.Spared.{numberAfter}
 use Rattle.ledger.specs.Inner.Told.{named_in, Given, givenIn, leastOf, last_of, start_of, ofFile, OfFiles}
 use Rattle.ledger.specs.Laws.FilesTold.{FileIs, first-told}
 
-accepted-passed : (v : Verdict) → not (is_refused v) ≡ true → v ≡ Passed
-accepted-passed Passed e = refl
-accepted-passed (Refused c) e = let z : ◌≡◌ {A = ℕ} 0 1 = cc in absurd (omega arith)
+accepted-passed : (v : Verdict) → not (is_refused v) ≡ true → v ≡ Ok tt
+accepted-passed (Ok _) e = refl
+accepted-passed (Err c) e = let z : ◌≡◌ {A = ℕ} 0 1 = cc in absurd (omega arith)
 
 module _ (w : ℕ) (image : List ℕ) (l : Ledger) (K : Kept w image l) (words bytes : ℕ) where
-  kind-is : (k : ℕ) → fileVerdict (nodesIn image) k ≡ Passed → isDirectory (get_or l.nodes k none) ≡ false
+  kind-is : (k : ℕ) → fileVerdict (nodesIn image) k ≡ Ok tt → isDirectory (get_or l.nodes k none) ≡ false
   kind-is k v = rw (← K.shape) (kind-bare (nodesIn image) k ∙ is-file (nodesIn image) k v)
 
   -- "file wanted" is 16
-  of-file : (totals : Totals) (ed : Edit) → verdictOf ed totals image words bytes ≡ Passed → ofFile ed l
+  of-file : (totals : Totals) (ed : Edit) → verdictOf ed totals image words bytes ≡ Ok tt → ofFile ed l
   unfolding planMove planResize planFill
   of-file totals (insertFile p nm) v = tt
   of-file totals (insertDirectory p nm) v = tt
@@ -61,11 +61,11 @@ of-files w (c ∷ calls) image l a K = (
 )
 
 -- LAW: the reports of any list of calls
-pub calls-of-files : (image : List ℕ) (w₀ w : ℕ) (calls : List Call) → AllBytes image → opening image w₀ ≡ Passed → w₀ ≤ w → AllWithin w calls → OfFiles (reportsOf calls image) (firstLedger image)
+pub calls-of-files : (image : List ℕ) (w₀ w : ℕ) (calls : List Call) → AllBytes image → opening image w₀ ≡ Ok tt → w₀ ≤ w → AllWithin w calls → OfFiles (reportsOf calls image) (firstLedger image)
 calls-of-files image w₀ w calls b e h a = of-files w calls image (firstLedger image) a (start image w₀ w h b e)
 
 -- THEOREM: the file with entry number k of the first image, in the ledger after any list of calls
-pub calls-told : (image : List ℕ) (w₀ w : ℕ) (calls : List Call) → AllBytes image → opening image w₀ ≡ Passed → w₀ ≤ w → AllWithin w calls →
+pub calls-told : (image : List ℕ) (w₀ w : ℕ) (calls : List Call) → AllBytes image → opening image w₀ ≡ Ok tt → w₀ ≤ w → AllWithin w calls →
     (k : ℕ) (nm : List ℕ) (offset size : ℕ) → get_or (nodesIn image) k none ≡ file nm offset size →
     let l : Ledger = firstLedger image in
     let f : ℕ = filesBefore k (nodesIn image) in

@@ -1,12 +1,12 @@
 -- "An image whose table is already larger still opens and may be edited down to the maximum" (document 02, Point 7): a rewrite that drops texts which
 -- no entry uses, or writes fewer of them, does it wherever the tree written anew is within the maximum. Assumes nothing.
+use Rattle.std.specs.Prelude.{Ok}
 use Prim.Native.Nat.{ℕ, ◌+◌, ◌^◌, ◌<◌, ◌≤◌}
 use Rattle.std.specs.Prelude.{◌≡◌, refl, List}
 use Rattle.std.proofs.Common.{◌∙◌, inr, arith}
 use borrow.Author.Tests.{le-ltb}
 use Rattle.std.proofs.Math.ListN.{length}
 use Rattle.endian.specs.Bytes.{AllBytes}
-use Rattle.refusal.specs.declared.Verdict.TheVariants.{Passed}
 use Rattle.header.specs.Verdicts.{fstOffset, fstSize, fstMaxSize, discEnd, table_end}
 use Rattle.tree.specs.Table.{encode, limits}
 use Rattle.tree.specs.Laws.Accepted.{length-nodesOf}
@@ -27,11 +27,11 @@ use Rattle.ledger.specs.Laws.Room.{free-places}
 use Rattle.ledger.specs.Laws.TreeAfter.{arrives}
 
 -- the table is above the maximum, the tree written anew is not, and the working bytes hold it
-module _ (image : List ℕ) (words bytes : ℕ) (b : AllBytes image) (e : opening image words ≡ Passed) (above : fstMaxSize image < fstSize image) (down : length (encode (nodesIn image)) ≤ fstMaxSize image) (held : length (encode (nodesIn image)) ≤ bytes) where
+module _ (image : List ℕ) (words bytes : ℕ) (b : AllBytes image) (e : opening image words ≡ Ok tt) (above : fstMaxSize image < fstSize image) (down : length (encode (nodesIn image)) ≤ fstMaxSize image) (held : length (encode (nodesIn image)) ≤ bytes) where
   o : OpenImage image words
   o = opens image words b e
 
-  within : limits (nodesIn image) words ≡ Passed
+  within : limits (nodesIn image) words ≡ Ok tt
   unfolding nodesIn
   within =
       let n = length-nodesOf (table_of image) in
@@ -47,7 +47,7 @@ module _ (image : List ℕ) (words bytes : ℕ) (b : AllBytes image) (e : openin
   grows : length (encode (nodesIn image)) ≤ maxRegionSize (fstOffset image) (fstSize image) (freeOf image)
   grows = rw (free-places image) (omega (arith, (table-largest (discEnd image) (table_end image) (placesIn image) (fstOffset image) (fstSize image) refl).least))
 
-  passes : planVerdict (plan_of rewrite image) image words bytes ≡ Passed
+  passes : planVerdict (plan_of rewrite image) image words bytes ≡ Ok tt
   unfolding tableVerdict
   passes =
       let size : ℕ = length (encode (nodesIn image)) in
@@ -55,11 +55,11 @@ module _ (image : List ℕ) (words bytes : ℕ) (b : AllBytes image) (e : openin
 
   -- THEOREM: with a record that is the image's, and a count that can rise, a rewrite is accepted, leaves the tree as it is and its table within the maximum
   pub edited-down : (n : ℕ) → n + 1 < 2 ^ 32 →
-      (verdictOf rewrite (totalsOf image n) image words bytes ≡ Passed)
+      (verdictOf rewrite (totalsOf image n) image words bytes ≡ Ok tt)
       × (nodesIn (imageAfter rewrite (totalsOf image n) image words bytes) ≡ nodesIn image)
       × (fstSize (imageAfter rewrite (totalsOf image n) image words bytes) ≤ fstMaxSize image)
   unfolding imageAfter
   edited-down n h =
-      let v : verdictOf rewrite (totalsOf image n) image words bytes ≡ Passed = own-record image words bytes b e rewrite tt n h ∙ passes in
+      let v : verdictOf rewrite (totalsOf image n) image words bytes ≡ Ok tt = own-record image words bytes b e rewrite tt n h ∙ passes in
       let a = arrives image words bytes b e rewrite tt passes in
       (v, rw v a.0, rw v (omega (arith, a.2.table)))

@@ -1,11 +1,11 @@
 -- A fill keeps image and ledger, and its tree arrives: it is a resize, and then a clip of the file's size put over the file. Assumes nothing.
+use Rattle.std.specs.Prelude.{Ok}
 use Rattle.std.specs.Prelude.{ℕ, zero, suc, ◌^◌, ◌<◌, ◌≤◌, ◌≡◌, refl, false, List, [], ◌∷◌, length, get_or, set, ltb, leb}
 use Rattle.std.proofs.Common.{sym, ap, ◌∙◌, arith, ltb-false, leb-false, set-set}
 use Rattle.std.proofs.lemmas.List.{length-map}
 use Rattle.std.proofs.Math.ListN.{get_or-map}
 use Rattle.endian.specs.Bytes.{AllBytes}
 use Rattle.refusal.specs.declared.Refusal.TheVariants.{NotEnoughSpace, NoSuchEntry}
-use Rattle.refusal.specs.declared.Verdict.TheVariants.{Passed}
 use Rattle.refusal.specs.Laws.Chains.{refuse-passed, first-passed}
 use Rattle.tree.specs.Table.{Node, file, directory, none}
 use Rattle.tree.specs.Lookup.{isDirectory}
@@ -53,11 +53,11 @@ module _ (w : ℕ) (image : List ℕ) (l : Ledger) (K : Kept w image l) (words b
   abbrev image' : List ℕ
   image' = planImage p image
 
-  module _ (v : clipVerdict (nodesIn image) k n ≡ Passed) (u : planVerdict p image words bytes ≡ Passed) where
-    verdicts : (fileVerdict (nodesIn image) k ≡ Passed) × (n < 2 ^ 32)
+  module _ (v : clipVerdict (nodesIn image) k n ≡ Ok tt) (u : planVerdict p image words bytes ≡ Ok tt) where
+    verdicts : (fileVerdict (nodesIn image) k ≡ Ok tt) × (n < 2 ^ 32)
     verdicts =
         let t = first-passed (fileVerdict (nodesIn image) k) _ v in
-        (t.0, omega (arith, ltb-false 0xFFFFFFFF n (refuse-passed (ltb 0xFFFFFFFF n) NotEnoughSpace Passed t.1).0))
+        (t.0, omega (arith, ltb-false 0xFFFFFFFF n (refuse-passed (ltb 0xFFFFFFFF n) NotEnoughSpace (Ok tt) t.1).0))
 
     K' : Kept w image' (entered (resizeFile k n) l)
     K' = step-resize w image l K words bytes lent k n verdicts.1 u

@@ -1,17 +1,17 @@
 -- After an accepted fill the file's window shows exactly the clip, and the file, opened and read, is the clip. Assumes nothing.
+use Rattle.std.specs.Prelude.{Result, Ok, Err}
+use Rattle.refusal.specs.declared.Refusal.{Refusal}
+use Rattle.window.specs.declared.Window.{Window}
 use Rattle.std.specs.Prelude.{ℕ, zero, suc, ◌+◌, ◌<◌, ◌≤◌, ◌≡◌, List, [], ◌∷◌, length, get_or}
 use Rattle.std.proofs.Common.{ap, ⊎_elim}
 use native.Mathlib.Omega.{arith}
 use borrow.Author.Tests.{lt-ltb}
 use Rattle.endian.specs.Bytes.{put, AllBytes}
-use Rattle.refusal.specs.declared.Verdict.TheVariants.{Passed}
 use Rattle.refusal.specs.Laws.Tests.{lt-or-le}
 use Rattle.tree.specs.Table.{Node, file, none}
 use Rattle.totals.specs.declared.Totals.{Totals}
 use Rattle.window.specs.Window.{newWindow, count_of, bufferOf}
 use Rattle.files.specs.Files.{openFileAnswer, entryAnswer}
-use Rattle.files.specs.declared.WindowAnswer.{WindowAnswer}
-use Rattle.files.specs.declared.WindowAnswer.TheVariants as window
 use Rattle.opening.specs.Opening.{nodesIn, freeOf, opening}
 use Rattle.edits.specs.Change.{filled}
 use Rattle.edits.specs.Edits.{fillFile, clipVerdict, planResize, planFill, planImage, verdictOf, imageAfter}
@@ -31,7 +31,7 @@ file-inside [] k nm o n e = let z : ◌≡◌ {A = ℕ} 0 1 = cc in absurd (omeg
 file-inside (x ∷ xs) zero nm o n e = omega arith
 file-inside (x ∷ xs) (suc k) nm o n e = omega (arith, file-inside xs k nm o n e)
 
-module _ (image : List ℕ) (w k : ℕ) (opens : opening image w ≡ Passed) (nm : List ℕ) (at : ℕ) (clip : List ℕ) (lies : get_or (nodesIn image) k none ≡ file nm at (length clip)) (shown : Shown image at clip) where
+module _ (image : List ℕ) (w k : ℕ) (opens : opening image w ≡ Ok tt) (nm : List ℕ) (at : ℕ) (clip : List ℕ) (lies : get_or (nodesIn image) k none ≡ file nm at (length clip)) (shown : Shown image at clip) where
   shows : ShowsClip image w k clip
   unfolding openFileAnswer entryAnswer
   shows = record {
@@ -60,11 +60,11 @@ fill-reads totals image clip k words bytes w b c lent v =
     rw i (shows _ w k (rw i at (step w image l K words bytes lent totals (fillFile k clip) c).opens) s.0 _ clip s.1 s.2)
 
 -- what opening file k and reading all of it puts in front of a buffer
-abbrev pub readInto : WindowAnswer → List ℕ → List ℕ → List ℕ
-readInto (window.Opened win) image buffer = bufferOf win image buffer
-readInto (window.Refused c) image buffer = buffer
+abbrev pub readInto : Result Window Refusal → List ℕ → List ℕ → List ℕ
+readInto (Ok win) image buffer = bufferOf win image buffer
+readInto (Err c) image buffer = buffer
 
 -- THEOREM: the file is opened and read: the clip, and the rest of the buffer as it was
-pub read_back : (totals : Totals) (image clip : List ℕ) (k words bytes w : ℕ) → AllBytes image → AllBytes clip → words ≤ w → verdictOf (fillFile k clip) totals image words bytes ≡ Passed → (buffer : List ℕ) → length clip ≤ length buffer →
+pub read_back : (totals : Totals) (image clip : List ℕ) (k words bytes w : ℕ) → AllBytes image → AllBytes clip → words ≤ w → verdictOf (fillFile k clip) totals image words bytes ≡ Ok tt → (buffer : List ℕ) → length clip ≤ length buffer →
     readInto (openFileAnswer (imageAfter (fillFile k clip) totals image words bytes) w k) (imageAfter (fillFile k clip) totals image words bytes) buffer ≡ put buffer 0 clip
 read_back totals image clip k words bytes w b c lent v buffer h = let s = fill-reads totals image clip k words bytes w b c lent v in rw s.window (s.bytes buffer h)

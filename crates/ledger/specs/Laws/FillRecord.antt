@@ -1,10 +1,10 @@
 -- A fill's whole answer, 25 too, and the record that comes back are those of a resize to the clip's length; and with a record that is the image's, a
 -- clip of the file's own size is accepted and only the clip is written. Assumes nothing.
+use Rattle.std.specs.Prelude.{Ok, Err}
+use Rattle.refusal.specs.Refusal.{Verdict}
 use Rattle.std.specs.Prelude.{ℕ, ◌+◌, ◌^◌, ◌<◌, ◌≤◌, ◌≡◌, refl, List, length, get_or}
 use Rattle.std.proofs.Common.{◌∙◌, arith}
 use Rattle.endian.specs.Bytes.{put, AllBytes}
-use Rattle.refusal.specs.declared.Verdict.{Verdict}
-use Rattle.refusal.specs.declared.Verdict.TheVariants.{Passed, Refused}
 use Rattle.tree.specs.Table.{none}
 use Rattle.totals.specs.declared.Totals.{Totals}
 use Rattle.opening.specs.Opening.{nodesIn, freeOf, usedOf, regionOf, opening}
@@ -20,7 +20,7 @@ use Rattle.ledger.specs.Laws.PlacesAfter.{passed-plan}
 use Rattle.ledger.specs.Laws.RecordTells.{own-record}
 
 -- where the image opens and the fill's own tests pass, the resize leaves as many bytes used, and the same free
-same-space : (image clip : List ℕ) (k words bytes : ℕ) → AllBytes image → AllBytes clip → opening image words ≡ Passed → planVerdict (plan_of (fillFile k clip) image) image words bytes ≡ Passed →
+same-space : (image clip : List ℕ) (k words bytes : ℕ) → AllBytes image → AllBytes clip → opening image words ≡ Ok tt → planVerdict (plan_of (fillFile k clip) image) image words bytes ≡ Ok tt →
     (usedOf (planImage (plan_of (fillFile k clip) image) image) ≡ usedOf (planImage (plan_of (resizeFile k (length clip)) image) image))
     × (freeOf (planImage (plan_of (fillFile k clip) image) image) ≡ freeOf (planImage (plan_of (resizeFile k (length clip)) image) image))
 unfolding planFill
@@ -43,16 +43,16 @@ fill-as-resize t image clip k words bytes b c short = go (opening image words) r
     go : (o : Verdict) → opening image words ≡ o → (v : Verdict) → planVerdict (plan_of (fillFile k clip) image) image words bytes ≡ v →
         (verdictOf (fillFile k clip) t image words bytes ≡ verdictOf (resizeFile k (length clip)) t image words bytes)
         × (totalsAfter (fillFile k clip) t image words bytes ≡ totalsAfter (resizeFile k (length clip)) t image words bytes)
-    go (Refused x) o v e = (rw o, rw o)
-    go Passed o (Refused x) e = (rw (o, ← tests, e), rw (o, ← tests, e))
-    go Passed o Passed e = let s = same-space image clip k words bytes b c o e in (rw (← tests, s.0), rw (← tests, s.0, s.1))
+    go (Err x) o v e = (rw o, rw o)
+    go (Ok _) o (Err x) e = (rw (o, ← tests, e), rw (o, ← tests, e))
+    go (Ok _) o (Ok _) e = let s = same-space image clip k words bytes b c o e in (rw (← tests, s.0), rw (← tests, s.0, s.1))
 
 -- THEOREM: a clip of the file's own size, with a record that is the image's and a count that can rise, is accepted with any number of working bytes,
 -- and nothing but the clip is written
-pub own-size-filled : (image clip : List ℕ) (k words bytes n : ℕ) → AllBytes image → AllBytes clip → opening image words ≡ Passed → fileVerdict (nodesIn image) k ≡ Passed → length clip ≡ (regionOf (get_or (nodesIn image) k none)).size → length clip ≤ 0xFFFFFFFF → n + 1 < 2 ^ 32 →
-    (verdictOf (fillFile k clip) (totalsOf image n) image words bytes ≡ Passed) × (imageAfter (fillFile k clip) (totalsOf image n) image words bytes ≡ put image (regionOf (get_or (nodesIn image) k none)).offset clip)
+pub own-size-filled : (image clip : List ℕ) (k words bytes n : ℕ) → AllBytes image → AllBytes clip → opening image words ≡ Ok tt → fileVerdict (nodesIn image) k ≡ Ok tt → length clip ≡ (regionOf (get_or (nodesIn image) k none)).size → length clip ≤ 0xFFFFFFFF → n + 1 < 2 ^ 32 →
+    (verdictOf (fillFile k clip) (totalsOf image n) image words bytes ≡ Ok tt) × (imageAfter (fillFile k clip) (totalsOf image n) image words bytes ≡ put image (regionOf (get_or (nodesIn image) k none)).offset clip)
 unfolding imageAfter
 own-size-filled image clip k words bytes n b c o f e h l =
     let s = own-size image words bytes k clip f e h in
-    let v : verdictOf (fillFile k clip) (totalsOf image n) image words bytes ≡ Passed = own-record image words bytes b o (fillFile k clip) c n l ∙ s.0 in
+    let v : verdictOf (fillFile k clip) (totalsOf image n) image words bytes ≡ Ok tt = own-record image words bytes b o (fillFile k clip) c n l ∙ s.0 in
     (v, rw v s.1)

@@ -1,9 +1,9 @@
 -- What holds of the image and the ledger after any list of edits, and that a change which keeps clear of the other files keeps it.
 -- Assumes nothing.
+use Rattle.std.specs.Prelude.{Ok}
 use Rattle.std.specs.Prelude.{ℕ, suc, ◌≤◌, ◌≡◌, true, List, ◌∷◌, map}
 use Rattle.std.proofs.Common.{arith}
 use Rattle.endian.specs.Bytes.{AllBytes}
-use Rattle.refusal.specs.declared.Verdict.TheVariants.{Passed}
 use Rattle.header.specs.Verdicts.{discEnd, table_end}
 use Rattle.tree.specs.Table.{Node}
 use Rattle.tree.specs.Inner.WellFormed.{WellFormed}
@@ -24,7 +24,7 @@ use Rattle.ledger.specs.Laws.ProgramKept.{ProgramKept, program-kept}
 
 pub record Kept (w : ℕ) (image : List ℕ) (l : Ledger) : Type 0 where
   pub bytes : AllBytes image
-  pub opens : opening image w ≡ Passed
+  pub opens : opening image w ≡ Ok tt
   pub shape : map bare (nodesIn image) ≡ l.nodes
   pub trues : Trues image (filesIn image) l.histories
 
@@ -32,7 +32,7 @@ pub record Kept (w : ℕ) (image : List ℕ) (l : Ledger) : Type 0 where
 
 pub record Tabled (w : ℕ) (image : List ℕ) (nodes : List Node) (hs : List History) (image' : List ℕ) : Type 0 where
   pub bytes : AllBytes image'
-  pub opens : opening image' w ≡ Passed
+  pub opens : opening image' w ≡ Ok tt
   pub tree : nodesIn image' ≡ nodes
   pub program : ProgramKept image image'
   -- the old files are still true

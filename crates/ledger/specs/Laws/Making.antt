@@ -1,4 +1,5 @@
 -- The tree that make-directories leaves is well-formed and has the same files. Assumes nothing.
+use Rattle.std.specs.Prelude.{Result, Ok, Err}
 use Prim.Native.Nat.{ℕ, zero, suc, ◌+◌, ◌-◌, ◌<◌, ◌≤◌}
 use Rattle.std.specs.Prelude.{◌≡◌, Bool, true, false, cond, ◌||◌, length, get_or}
 use Rattle.std.proofs.Math.Path.{refl}
@@ -11,8 +12,6 @@ use Rattle.refusal.specs.declared.Refusal.TheVariants.{NotFound, ExpectedDirecto
 use Rattle.tree.specs.Table.{Node, file, directory, none, plain, safe}
 use Rattle.tree.specs.Inner.WellFormed.{WellFormed}
 use Rattle.tree.specs.Lookup.{isDirectory, next_of, stays, goesBack, childNamed, firstChild, childOf}
-use Rattle.tree.specs.declared.Located.{Located}
-use Rattle.tree.specs.declared.Located.TheVariants as located
 use Rattle.tree.specs.Insert.{insertAt, emptyDirectory}
 use Rattle.tree.specs.Laws.WellNested.{next-bounds}
 use Rattle.tree.specs.Laws.InsertLaws.{length-insert, insert-sound}
@@ -34,9 +33,9 @@ module _ {P : Type 0} (m : Made) where
   cond_cases true x y f g e = f refl e
   cond_cases false x y f g e = g refl e
 
-  found-cases : (l : Located) (f : ℕ → Made) (missing : Made) → ((j : ℕ) → l ≡ located.At j → f j ≡ m → P) → (missing ≡ m → P) → ifFound l f missing ≡ m → P
-  found-cases (located.At j) f missing g h e = g j refl e
-  found-cases (located.Refused c) f missing g h e = h e
+  found-cases : (l : Result ℕ Refusal) (f : ℕ → Made) (missing : Made) → ((j : ℕ) → l ≡ Ok j → f j ≡ m → P) → (missing ≡ m → P) → ifFound l f missing ≡ m → P
+  found-cases (Ok j) f missing g h e = g j refl e
+  found-cases (Err c) f missing g h e = h e
 
 -- each is below n
 abbrev AllBelow : ℕ → List ℕ → Type 0
@@ -54,12 +53,12 @@ back-cases nodes k b n (j ∷ rest) f t g e = g j rest t.0 t.1 e
 
 -- ---- a child's number
 
-first_below : (nodes : List Node) (d : ℕ) (nm : List ℕ) (k n j : ℕ) → firstChild nodes d nm k n ≡ located.At j → j < k + n
+first_below : (nodes : List Node) (d : ℕ) (nm : List ℕ) (k n j : ℕ) → firstChild nodes d nm k n ≡ Ok j → j < k + n
 unfolding firstChild
 first_below nodes d nm k zero j e = let z : ◌≡◌ {A = ℕ} 0 1 = cc in absurd (omega arith)
 first_below nodes d nm k (suc n) j e = go (childNamed nodes d nm k) e (first_below nodes d nm (suc k) n j)
   where
-    go : (a : Bool) → cond a (located.At k) (firstChild nodes d nm (suc k) n) ≡ located.At j → (firstChild nodes d nm (suc k) n ≡ located.At j → j < suc k + n) → j < k + suc n
+    go : (a : Bool) → cond a (Ok k) (firstChild nodes d nm (suc k) n) ≡ Ok j → (firstChild nodes d nm (suc k) n ≡ Ok j → j < suc k + n) → j < k + suc n
     go true q h = let z : k ≡ j = cc in omega arith
     go false q h = omega (arith, h q)
 
@@ -67,7 +66,7 @@ module _ (nodes : List Node) (w : WellFormed nodes) (k : ℕ) (l : k < length no
   next-in : (k < newNumber nodes k) × (newNumber nodes k ≤ length nodes)
   next-in = let x = directory-of (get_or nodes k none) d in next-bounds nodes k (newNumber nodes k) x.0 w x.1 l
 
-  child-in : (nm : List ℕ) (j : ℕ) → childOf nodes k nm ≡ located.At j → j < length nodes
+  child-in : (nm : List ℕ) (j : ℕ) → childOf nodes k nm ≡ Ok j → j < length nodes
   unfolding childOf
   child-in nm j e = omega (arith, first_below nodes k nm (suc k) (newNumber nodes k - suc k) j e, next-in.0, next-in.1)
 
@@ -120,9 +119,9 @@ module _ {A : Type 0} (g : List ℕ → ℕ → ℕ → A) where
   same_back nodes [] f s = tt
   same_back nodes (j ∷ rest) f s = s j rest
 
-  same-found : (nodes : List Node) (l : Located) (f : ℕ → Made) (x : Made) → ((j : ℕ) → Same g nodes (f j)) → Same g nodes x → Same g nodes (ifFound l f x)
-  same-found nodes (located.At j) f x s t = s j
-  same-found nodes (located.Refused c) f x s t = t
+  same-found : (nodes : List Node) (l : Result ℕ Refusal) (f : ℕ → Made) (x : Made) → ((j : ℕ) → Same g nodes (f j)) → Same g nodes x → Same g nodes (ifFound l f x)
+  same-found nodes (Ok j) f x s t = s j
+  same-found nodes (Err c) f x s t = t
 
   same_more : (nodes more : List Node) (m : Made) → pick g more ≡ pick g nodes → Same g more m → Same g nodes m
   same_more nodes more (stopped c) e s = tt

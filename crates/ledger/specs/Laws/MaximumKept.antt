@@ -1,10 +1,10 @@
 -- After any list of calls the stated maximum is the first image's, and a table above it is the first image's, byte for byte: an accepted edit that
 -- writes a table passed the test of 26. Assumes nothing.
+use Rattle.std.specs.Prelude.{Ok, Err}
+use Rattle.refusal.specs.Refusal.{Verdict}
 use Rattle.std.specs.Prelude.{ℕ, ◌<◌, ◌≤◌, ◌≡◌, refl, cond, not, List, [], ◌∷◌, length}
 use Rattle.std.proofs.Common.{◌∙◌, ⊎_elim, arith}
 use Rattle.endian.specs.Bytes.{AllBytes}
-use Rattle.refusal.specs.declared.Verdict.{Verdict}
-use Rattle.refusal.specs.declared.Verdict.TheVariants.{Passed, Refused}
 use Rattle.refusal.specs.Refusal.{is_refused}
 use Rattle.refusal.specs.Laws.Chains.{first-passed}
 use Rattle.refusal.specs.Laws.Tests.{lt-or-le}
@@ -46,14 +46,14 @@ trans a b c p q =
 -- ---- one call
 
 -- a change that passed its tests has a table within a nonzero maximum
-table-within : (c : Change) (image : List ℕ) (words bytes : ℕ) → tableVerdict c image words bytes ≡ Passed → 0 < fstMaxSize image → length (encode c.nodes) ≤ fstMaxSize image
+table-within : (c : Change) (image : List ℕ) (words bytes : ℕ) → tableVerdict c image words bytes ≡ Ok tt → 0 < fstMaxSize image → length (encode c.nodes) ≤ fstMaxSize image
 unfolding tableVerdict
 table-within c image words bytes v = (place-passed image bytes (length (encode c.nodes)) c.place (first-passed (limits c.nodes words) _ v).1).within
 
 -- an image that has the layout of a plan whose tests pass
-laid-within : (p : Plan) (image image' : List ℕ) (words bytes : ℕ) → planVerdict p image words bytes ≡ Passed → Lays p image image' → WithinMaximum image image'
-laid-within (refused (Refused c)) image image' words bytes v l = let z : ◌≡◌ {A = ℕ} 0 1 = cc in absurd (omega arith)
-laid-within (refused Passed) image image' words bytes v l = let z : ◌≡◌ {A = ℕ} 0 1 = cc in absurd (omega arith)
+laid-within : (p : Plan) (image image' : List ℕ) (words bytes : ℕ) → planVerdict p image words bytes ≡ Ok tt → Lays p image image' → WithinMaximum image image'
+laid-within (refused (Err c)) image image' words bytes v l = let z : ◌≡◌ {A = ℕ} 0 1 = cc in absurd (omega arith)
+laid-within (refused (Ok _)) image image' words bytes v l = let z : ◌≡◌ {A = ℕ} 0 1 = cc in absurd (omega arith)
 laid-within nothing image image' words bytes v l = kept-within image image' l.0.maximum (λ z h. (l.0.table, l.1))
 laid-within (change k c) image image' words bytes v l = kept-within image image' l.maximum (λ z h. absurd (omega (arith, l.table, table-within c image words bytes v z)))
 laid-within (filled k clip p) image image' words bytes v l = laid-within p image image' words bytes v l
@@ -64,10 +64,10 @@ unfolding imageAfter
 call-within ed totals image words bytes b h = go (verdictOf ed totals image words bytes) refl
   where
     go : (v : Verdict) → verdictOf ed totals image words bytes ≡ v → WithinMaximum image (cond (is_refused v) image (planImage (plan_of ed image) image))
-    go Passed e =
+    go (Ok tt) e =
         let a = accepted ed totals image words bytes e in
         laid-within (plan_of ed image) image (planImage (plan_of ed image) image) words bytes a.own (arrives image words bytes b a.opens ed h a.own).2
-    go (Refused c) e = same image
+    go (Err c) e = same image
 
 -- ---- any list
 

@@ -1,4 +1,6 @@
 -- The edits of a file's place keep image and ledger: move, and resize in place and elsewhere. Assumes nothing.
+use Rattle.std.specs.Prelude.{Result, Ok, Err}
+use Rattle.refusal.specs.declared.Refusal.{Refusal}
 use Rattle.std.specs.Prelude.{ℕ, ◌+◌, ◌-◌, ◌^◌, ◌<◌, ◌≤◌, ◌≡◌, refl, true, false, cond, ◌||◌, List, [], length, get_or, eqb}
 use Rattle.std.proofs.Common.{sym, ◌∙◌, ⊎_elim, true≢false, arith, leb-false, eqb-true}
 use Rattle.std.proofs.Math.Bool.{Bool}
@@ -6,14 +8,11 @@ use Rattle.std.proofs.lemmas.Bool.{eqb-false}
 use Rattle.std.proofs.lemmas.List.{set-get_or}
 use Rattle.std.proofs.Math.Dec.{leb}
 use Rattle.refusal.specs.declared.Refusal.TheVariants.{NoSuchEntry, ExpectedFile}
-use Rattle.refusal.specs.declared.Verdict.TheVariants.{Passed}
 use Rattle.refusal.specs.Refusal.{first}
 use Rattle.refusal.specs.Laws.Chains.{refuse-passed, first-passed}
 use Rattle.tree.specs.Table.{Node, file, directory, none}
 use Rattle.tree.specs.Lookup.{isDirectory}
 use Rattle.space.specs.declared.DiscRegion.{DiscRegion}
-use Rattle.free_space.specs.declared.Allocation.{Allocation}
-use Rattle.free_space.specs.declared.Allocation.TheVariants as allocation
 use Rattle.refusal.specs.Laws.Tests.{lt-or-le, or-false}
 use Rattle.free_space.specs.MaxRegionSize.{maxRegionSize}
 use Rattle.free_space.specs.Allocate.{allocationOf}
@@ -33,9 +32,9 @@ use Rattle.ledger.specs.Laws.Plans.{Good, good-planned, good-refused, good-cond}
 
 -- ---- a file's tests
 
-pub is-file : (nodes : List Node) (k : ℕ) → fileVerdict nodes k ≡ Passed → isDirectory (get_or nodes k none) ≡ false
+pub is-file : (nodes : List Node) (k : ℕ) → fileVerdict nodes k ≡ Ok tt → isDirectory (get_or nodes k none) ≡ false
 is-file nodes k v =
-    (refuse-passed (isDirectory (get_or nodes k none)) ExpectedFile Passed (refuse-passed (leb (length nodes) k) NoSuchEntry _ v).1).0
+    (refuse-passed (isDirectory (get_or nodes k none)) ExpectedFile (Ok tt) (refuse-passed (leb (length nodes) k) NoSuchEntry _ v).1).0
 
 pub file-of : (x : Node) → isDirectory x ≡ false → (nm : List ℕ) × (x ≡ file nm (regionOf x).offset (regionOf x).size)
 file-of (file nm offset size) e = (nm, refl)
@@ -91,11 +90,11 @@ module _ (w : ℕ) (image : List ℕ) (l : Ledger) (K : Kept w image l) (words b
         }
 
     -- elsewhere
-    pub free-else : (new : DiscRegion) → relocateVerdict (freeOf image) (place_in image k) new ≡ Passed → Placeable image (placeNumber image k) new
+    pub free-else : (new : DiscRegion) → relocateVerdict (freeOf image) (place_in image k) new ≡ Ok tt → Placeable image (placeNumber image k) new
     free-else new v i h = let f = elsewhere image o (place_in image k) new v i h in (f.0, f.1, λ j d. f.2 j)
 
-    pub put-else : (new : DiscRegion) (v : relocateVerdict (freeOf image) (place_in image k) new ≡ Passed) → new.offset < 2 ^ 32 → new.size < 2 ^ 32 →
-        tableVerdict (relocated (nodesIn image) k (place_in image k) new) image words bytes ≡ Passed →
+    pub put-else : (new : DiscRegion) (v : relocateVerdict (freeOf image) (place_in image k) new ≡ Ok tt) → new.offset < 2 ^ 32 → new.size < 2 ^ 32 →
+        tableVerdict (relocated (nodesIn image) k (place_in image k) new) image words bytes ≡ Ok tt →
         Placed w image l K words lent k isFile new (free-else new v) (relocated (nodesIn image) k (place_in image k) new)
     put-else new v ho hn u =
         relocated-placed w image l K words lent k isFile new (free-else new v)
@@ -149,10 +148,10 @@ module _ (w : ℕ) (image : List ℕ) (l : Ledger) (K : Kept w image l) (words b
         (room (resized (nodesIn image) k (place_in image k) n) image words bytes o u))
 
     -- where a place is found
-    found : (n : ℕ) → n < 2 ^ 32 → (place_in image k).size < n → (a : Allocation) →
+    found : (n : ℕ) → n < 2 ^ 32 → (place_in image k).size < n → (a : Result DiscRegion Refusal) →
         Good w image words bytes (planElsewhere (nodesIn image) (freeOf image) k (place_in image k) n a) (entered (resizeFile k n) l)
-    found n hn d (allocation.Refused c) = good-refused w image words bytes c (entered (resizeFile k n) l)
-    found n hn d (allocation.Found r) =
+    found n hn d (Err c) = good-refused w image words bytes c (entered (resizeFile k n) l)
+    found n hn d (Ok r) =
         good-planned w image words bytes (relocateVerdict (freeOf image) (place_in image k) (record { offset = r.offset; size = n })) _ _ (λ v u.
         let new : DiscRegion = record { offset = r.offset; size = n } in
         let ho : new.offset < 2 ^ 32 = omega (arith, o.bounds.small, (free-else new v r.offset (omega arith, omega arith)).1) in

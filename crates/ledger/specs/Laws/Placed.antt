@@ -1,11 +1,11 @@
 -- A change that gives one file another place or size, and keeps clear of the others: the image opens, has the changed tree, and every file is
 -- true to its history. Assumes nothing.
+use Rattle.std.specs.Prelude.{Ok}
 use Rattle.std.specs.Prelude.{ℕ, suc, ◌+◌, ◌-◌, ◌^◌, ◌<◌, ◌≤◌, min, ◌≡◌, refl, false, List, length, get_or, set}
 use Rattle.std.proofs.Common.{ap, ◌∙◌}
 use Rattle.std.proofs.Math.Logic.{inl}
 use native.Mathlib.Omega.{arith}
 use Rattle.endian.specs.Bytes.{AllBytes}
-use Rattle.refusal.specs.declared.Verdict.TheVariants.{Passed}
 use Rattle.header.specs.Verdicts.{discEnd, table_end}
 use Rattle.tree.specs.Table.{none, encode}
 use Rattle.tree.specs.Lookup.{isDirectory}
@@ -62,7 +62,7 @@ module _ (w : ℕ) (image : List ℕ) (l : Ledger) (K : Kept w image l) (words :
   pub placed-program : (c : Change) → Placed c → ProgramKept image (written c image)
   placed-program c p = program-kept c image o p.safe (p.others 0 (λ e. omega arith))
 
-  pub placed-opens : (c : Change) → Placed c → opening (written c image) w ≡ Passed
+  pub placed-opens : (c : Change) → Placed c → opening (written c image) w ≡ Ok tt
   placed-opens c p =
       let e : files_of c.nodes ≡ set (filesIn image) (number_in image k) new = rw p.nodes (files-setPlace new.offset new.size k (nodesIn image) isFile) in
       let n : placeNumber image k < length (placesIn image) = omega (arith, files-count k (nodesIn image) isFile) in

@@ -1,5 +1,8 @@
 -- A move puts its file at the offset asked for, a resize gives it the size asked for, a fill that of its clip, and every other entry stays, in
 -- the tree read from the image afterwards; growth that does not fit where the file is goes where allocation finds room, to a multiple of 0x8000. Assumes nothing.
+use Rattle.std.specs.Prelude.{Result, Ok, Err}
+use Rattle.refusal.specs.Refusal.{Verdict}
+use Rattle.refusal.specs.declared.Refusal.{Refusal}
 use Prim.Native.Nat.{ℕ, ◌*◌, ◌^◌, ◌<◌, ◌≤◌}
 use Rattle.std.specs.Prelude.{◌≡◌, Bool, true, false, cond, ◌||◌, get_or, eqb}
 use Rattle.std.proofs.Math.Path.{refl, ap}
@@ -10,8 +13,6 @@ use Rattle.std.proofs.lemmas.List.{set-get_or}
 use Rattle.std.proofs.Math.Dec.{leb}
 use Rattle.endian.specs.Bytes.{AllBytes}
 use Rattle.refusal.specs.declared.Refusal.TheVariants.{NoSuchEntry}
-use Rattle.refusal.specs.declared.Verdict.{Verdict}
-use Rattle.refusal.specs.declared.Verdict.TheVariants.{Passed, Refused}
 use Rattle.refusal.specs.Refusal.{first}
 use Rattle.refusal.specs.Laws.Chains.{refuse-passed, first-passed}
 use Rattle.refusal.specs.Laws.Tests.{or_cases, or-false}
@@ -19,8 +20,6 @@ use Rattle.tree.specs.Table.{Node, file, none}
 use Rattle.tree.specs.Insert.{setPlace}
 use Rattle.tree.specs.Laws.PlaceLaws.{setPlace-at, setPlace-other}
 use Rattle.space.specs.declared.DiscRegion.{DiscRegion}
-use Rattle.free_space.specs.declared.Allocation.{Allocation}
-use Rattle.free_space.specs.declared.Allocation.TheVariants as allocation
 use Rattle.free_space.specs.MaxRegionSize.{maxRegionSize}
 use Rattle.free_space.specs.Allocate.{allocationOf}
 use Rattle.free_space.specs.Laws.AllocateLaws.{found-region}
@@ -45,15 +44,15 @@ pub record ResizedTo (image after : List ℕ) (k : ℕ) (nm : List ℕ) (offset 
   pub shrinks : n ≤ size → at ≡ offset
   pub grows : n ≤ maxRegionSize offset size (freeOf image) → at ≡ offset
   -- "Growth finds a place with alignment 0x8000 where the file can't grow where it is."
-  pub found : size < n → maxRegionSize offset size (freeOf image) < n → (r : DiscRegion) × (allocationOf 0x8000 n (freeOf image) ≡ allocation.Found r) × (at ≡ r.offset)
+  pub found : size < n → maxRegionSize offset size (freeOf image) < n → (r : DiscRegion) × (allocationOf 0x8000 n (freeOf image) ≡ Ok r) × (at ≡ r.offset)
   pub multiple : size < n → maxRegionSize offset size (freeOf image) < n → (j : ℕ) × (at ≡ j * 0x8000)
 
 -- a plan behind tests that passes
-pub passed-plan : (v : Verdict) (p : Plan) (image : List ℕ) (words bytes : ℕ) → planVerdict (planned v p) image words bytes ≡ Passed → (v ≡ Passed) × (planVerdict p image words bytes ≡ Passed) × (planned v p ≡ p)
-passed-plan Passed p image words bytes e = (refl, e, refl)
-passed-plan (Refused c) p image words bytes e = let z : ◌≡◌ {A = ℕ} 0 1 = cc in absurd (omega arith)
+pub passed-plan : (v : Verdict) (p : Plan) (image : List ℕ) (words bytes : ℕ) → planVerdict (planned v p) image words bytes ≡ Ok tt → (v ≡ Ok tt) × (planVerdict p image words bytes ≡ Ok tt) × (planned v p ≡ p)
+passed-plan (Ok _) p image words bytes e = (refl, e, refl)
+passed-plan (Err c) p image words bytes e = let z : ◌≡◌ {A = ℕ} 0 1 = cc in absurd (omega arith)
 
-file-number : (nodes : List Node) (k : ℕ) → fileVerdict nodes k ≡ Passed → k < length nodes
+file-number : (nodes : List Node) (k : ℕ) → fileVerdict nodes k ≡ Ok tt → k < length nodes
 file-number nodes k v = leb-false _ _ (refuse-passed (leb (length nodes) k) NoSuchEntry _ v).0
 
 -- a file put where it is
@@ -72,7 +71,7 @@ module _ (totals : Totals) (image : List ℕ) (words bytes : ℕ) (b : AllBytes 
   }
 
   -- THEOREM: an accepted move of the file to `to`
-  pub moved : (to : ℕ) → to < 2 ^ 32 → verdictOf (moveFile k to) totals image words bytes ≡ Passed → PlacedAt image (imageAfter (moveFile k to) totals image words bytes) k nm to size
+  pub moved : (to : ℕ) → to < 2 ^ 32 → verdictOf (moveFile k to) totals image words bytes ≡ Ok tt → PlacedAt image (imageAfter (moveFile k to) totals image words bytes) k nm to size
   unfolding planMove
   moved to h v =
       let old : DiscRegion = regionOf (get_or (nodesIn image) k none) in
@@ -101,7 +100,7 @@ module _ (totals : Totals) (image : List ℕ) (words bytes : ℕ) (b : AllBytes 
     }
 
     -- it goes where allocation found room
-    away : (r : DiscRegion) → allocationOf 0x8000 n (freeOf image) ≡ allocation.Found r → size < n → maxRegionSize offset size (freeOf image) < n →
+    away : (r : DiscRegion) → allocationOf 0x8000 n (freeOf image) ≡ Ok r → size < n → maxRegionSize offset size (freeOf image) < n →
         nodesIn after ≡ setPlace k r.offset n (nodesIn image) → ResizedTo image after k nm offset size n
     unfolding freeOf
     away r e h l t = record {
@@ -113,23 +112,23 @@ module _ (totals : Totals) (image : List ℕ) (words bytes : ℕ) (b : AllBytes 
       multiple = λ a c. (found-region (discEnd image) (usedIn image) 0x8000 n r e).multiple;
     }
 
-    by_cases : (a : Bool) → eqb n size ≡ a → (t : Bool) → (leb n size || leb n (maxRegionSize offset size (freeOf image))) ≡ t → (al : Allocation) → allocationOf 0x8000 n (freeOf image) ≡ al →
-        planVerdict (cond a nothing (cond t (change k (resized (nodesIn image) k old n)) (planElsewhere (nodesIn image) (freeOf image) k old n al))) image words bytes ≡ Passed →
+    by_cases : (a : Bool) → eqb n size ≡ a → (t : Bool) → (leb n size || leb n (maxRegionSize offset size (freeOf image))) ≡ t → (al : Result DiscRegion Refusal) → allocationOf 0x8000 n (freeOf image) ≡ al →
+        planVerdict (cond a nothing (cond t (change k (resized (nodesIn image) k old n)) (planElsewhere (nodesIn image) (freeOf image) k old n al))) image words bytes ≡ Ok tt →
         nodesIn after ≡ planTree (cond a nothing (cond t (change k (resized (nodesIn image) k old n)) (planElsewhere (nodesIn image) (freeOf image) k old n al))) (nodesIn image) →
         ResizedTo image after k nm offset size n
     by_cases true e t u al q v w =
         let n≡ : n ≡ size = eqb-true n size e in
         there (w ∙ sym (same_place (nodesIn image) k nm offset n (rw n≡ here))) (λ h l. omega arith)
     by_cases false e true u al q v w = there w (λ h l. ⊎_elim (λ c. omega (arith, leb-true n size c)) (λ c. omega (arith, leb-true n _ c)) (or_cases (leb n size) _ u))
-    by_cases false e false u (allocation.Refused c) q v w = let z : ◌≡◌ {A = ℕ} 0 1 = cc in absurd (omega arith)
-    by_cases false e false u (allocation.Found r) q v w =
+    by_cases false e false u (Err c) q v w = let z : ◌≡◌ {A = ℕ} 0 1 = cc in absurd (omega arith)
+    by_cases false e false u (Ok r) q v w =
         let new : DiscRegion = record { offset = r.offset; size = n } in
         let p = passed-plan (relocateVerdict (freeOf image) old new) (change k (relocated (nodesIn image) k old new)) image words bytes v in
         let o = or-false (leb n size) _ u in
         away r q (leb-false n size o.0) (leb-false n _ o.1) (w ∙ ap (λ (x : Plan). planTree x (nodesIn image)) p.2)
 
   -- THEOREM: an accepted resize of the file to n bytes
-  pub sized : (n : ℕ) → n < 2 ^ 32 → verdictOf (resizeFile k n) totals image words bytes ≡ Passed → ResizedTo image (imageAfter (resizeFile k n) totals image words bytes) k nm offset size n
+  pub sized : (n : ℕ) → n < 2 ^ 32 → verdictOf (resizeFile k n) totals image words bytes ≡ Ok tt → ResizedTo image (imageAfter (resizeFile k n) totals image words bytes) k nm offset size n
   unfolding planResize
   sized n h v =
       let after : List ℕ = imageAfter (resizeFile k n) totals image words bytes in
@@ -139,7 +138,7 @@ module _ (totals : Totals) (image : List ℕ) (words bytes : ℕ) (b : AllBytes 
       (rw place_is at p.1) (rw place_is at t)
 
   -- THEOREM: an accepted fill of the file: it lies where a resize to the clip's length would leave it
-  pub filled-to : (clip : List ℕ) → AllBytes clip → verdictOf (fillFile k clip) totals image words bytes ≡ Passed → ResizedTo image (imageAfter (fillFile k clip) totals image words bytes) k nm offset size (length clip)
+  pub filled-to : (clip : List ℕ) → AllBytes clip → verdictOf (fillFile k clip) totals image words bytes ≡ Ok tt → ResizedTo image (imageAfter (fillFile k clip) totals image words bytes) k nm offset size (length clip)
   unfolding planResize planFill
   filled-to clip c v =
       let n : ℕ = length clip in

@@ -1,9 +1,9 @@
 -- After any list of calls the program is that of the first image: its offset, its region and every byte of it. Assumes nothing.
+use Rattle.std.specs.Prelude.{Ok}
 use Rattle.std.specs.Prelude.{ℕ, ◌+◌, ◌-◌, ◌<◌, ◌≤◌, ◌≡◌, cond, not, List, [], ◌∷◌, length}
 use Rattle.std.proofs.Common.{sym, ◌∙◌, ⊎_elim, arith, ext_get_or}
 use Rattle.endian.specs.Bytes.{span}
 use Rattle.endian.specs.Laws.Stored.{length-span, getD-span}
-use Rattle.refusal.specs.declared.Verdict.TheVariants.{Passed}
 use Rattle.refusal.specs.Refusal.{is_refused}
 use Rattle.header.specs.Verdicts.{fstOffset}
 use Rattle.space.specs.declared.DiscRegion.{DiscRegion}
@@ -60,6 +60,6 @@ module _ (first last : List ℕ) (o : Opened first) (p : ProgramKept first last)
         whole = whole;
       }
 
-pub program-reported : (w : ℕ) (first last : List ℕ) → opening last w ≡ Passed → ProgramKept first last → programAnswer last w ≡ program_of first
+pub program-reported : (w : ℕ) (first last : List ℕ) → opening last w ≡ Ok tt → ProgramKept first last → programAnswer last w ≡ program_of first
 unfolding programAnswer
 program-reported w first last e p = rw e p.program

@@ -1,12 +1,12 @@
 -- A record that was made of the first image and handed on through any list of calls says what one made afresh of the last image says, and how many
 -- edits were accepted; and with such a record only the count can be a cause of 25. Assumes nothing.
+use Rattle.std.specs.Prelude.{Ok, Err}
+use Rattle.refusal.specs.Refusal.{Verdict}
 use Rattle.std.specs.Prelude.{ℕ, ◌+◌, ◌-◌, ◌^◌, ◌<◌, ◌≡◌, cond, not, List, [], ◌∷◌}
 use Rattle.std.proofs.Math.Path.{refl}
 use Rattle.std.proofs.Common.{sym, ap, ◌∙◌, arith}
 use borrow.Author.Tests.{le-ltb}
 use Rattle.endian.specs.Bytes.{AllBytes}
-use Rattle.refusal.specs.declared.Verdict.{Verdict}
-use Rattle.refusal.specs.declared.Verdict.TheVariants.{Passed, Refused}
 use Rattle.refusal.specs.Refusal.{first, is_refused}
 use Rattle.totals.specs.declared.Totals.{Totals}
 use Rattle.totals.specs.Totals.{totalsVerdict, totalsMoved}
@@ -23,13 +23,13 @@ use Rattle.ledger.specs.Laws.Steps.{step-accepted}
 use Rattle.ledger.specs.Laws.Sequence.{start, along}
 
 -- a record that was made: the image opened, and the record is the image's
-made_of : (image : List ℕ) (w : ℕ) (t : Totals) → recordAnswer image w ≡ recordMade t → (opening image w ≡ Passed) × (t ≡ totalsOf image 0)
+made_of : (image : List ℕ) (w : ℕ) (t : Totals) → recordAnswer image w ≡ recordMade t → (opening image w ≡ Ok tt) × (t ≡ totalsOf image 0)
 unfolding recordAnswer
 made_of image w t e = go (opening image w) refl
   where
-    go : (v : Verdict) → opening image w ≡ v → (opening image w ≡ Passed) × (t ≡ totalsOf image 0)
-    go Passed q = (q, sym (ap (λ (m : RecordMade). m.totals) (rw q at e)))
-    go (Refused c) q = let y : Refused c ≡ Passed = ap (λ (m : RecordMade). m.verdict) (rw q at e) in let z : ◌≡◌ {A = ℕ} 0 1 = cc in absurd (omega arith)
+    go : (v : Verdict) → opening image w ≡ v → (opening image w ≡ Ok tt) × (t ≡ totalsOf image 0)
+    go (Ok _) q = (q, sym (ap (λ (m : RecordMade). m.totals) (rw q at e)))
+    go (Err c) q = let y : Err c ≡ Ok tt = ap (λ (m : RecordMade). m.verdict) (rw q at e) in let z : ◌≡◌ {A = ℕ} 0 1 = cc in absurd (omega arith)
 
 -- from the totals of one image to those of another
 moved_on : (image new : List ℕ) (n : ℕ) → totalsTo (totalsOf image n) image new ≡ totalsOf new (n + 1)
@@ -46,8 +46,8 @@ call-tells c image n e = go (verdictOf c.edit c.totals image c.words c.bytes)
     go : (v : Verdict) →
         cond (is_refused v) c.totals (totalsTo c.totals image (planImage (plan_of c.edit image) image))
         ≡ totalsOf (cond (is_refused v) image (planImage (plan_of c.edit image) image)) (n + cond (not (is_refused v)) 1 0)
-    go Passed = rw e (moved_on image (planImage (plan_of c.edit image) image) n)
-    go (Refused x) = let z : n + 0 ≡ n = omega arith in rw z e
+    go (Ok _) = rw e (moved_on image (planImage (plan_of c.edit image) image) n)
+    go (Err x) = let z : n + 0 ≡ n = omega arith in rw z e
 
 tells-along : (calls : List Call) (image : List ℕ) (t : Totals) (n : ℕ) → t ≡ totalsOf image n → HandedOn t calls image →
     totalsAfterAll t calls image ≡ totalsOf (imageAfterAll calls image) (n + acceptedIn (reportsOf calls image))
@@ -77,12 +77,12 @@ made-anew image w n t new tells e =
 
 -- ---- 25 and a record that is the image's
 
-module _ (image : List ℕ) (words bytes : ℕ) (b : AllBytes image) (e : opening image words ≡ Passed) (ed : Edit) (h : Passable ed) where
+module _ (image : List ℕ) (words bytes : ℕ) (b : AllBytes image) (e : opening image words ≡ Ok tt) (ed : Edit) (h : Passable ed) where
   abbrev new : List ℕ
   new = planImage (plan_of ed image) image
 
   -- the new image's used bytes have 32 bits
-  used-small : planVerdict (plan_of ed image) image words bytes ≡ Passed → usedOf new < 2 ^ 32
+  used-small : planVerdict (plan_of ed image) image words bytes ≡ Ok tt → usedOf new < 2 ^ 32
   used-small v =
       let k = step-accepted words image (firstLedger image) (start image words words (omega arith) b e) words bytes (omega arith) ed h v in
       omega (arith, disc-filled new words k.bytes k.opens, (opened new words k.opens k.bytes).bounds.small)
@@ -93,6 +93,6 @@ module _ (image : List ℕ) (words bytes : ℕ) (b : AllBytes image) (e : openin
   own-record n l = rw e (go (planVerdict (plan_of ed image) image words bytes) refl)
     where
       go : (v : Verdict) → planVerdict (plan_of ed image) image words bytes ≡ v → first v (totalsVerdict (totalsOf image n) (usedOf image) (usedOf new)) ≡ v
-      go (Refused c) q = refl
-      go Passed q =
+      go (Err c) q = refl
+      go (Ok tt) q =
           rw (le-ltb (usedOf image + usedOf new) (usedOf image) (omega arith), le-ltb 0xFFFFFFFF (usedOf image + usedOf new - usedOf image) (omega (arith, used-small q)), le-ltb 0xFFFFFFFF (n + 1) (omega arith))

@@ -1,8 +1,8 @@
 -- Where a new table and a file's new place lie, if the tests of an edit pass: in no other file, and not in the program. Assumes nothing.
+use Rattle.std.specs.Prelude.{Ok}
 use Rattle.std.specs.Prelude.{ℕ, ◌+◌, ◌-◌, ◌<◌, ◌≤◌, ◌≡◌, refl, true, ◌||◌, List, length, ltb, leb}
 use Rattle.std.proofs.Common.{inl, inr, ⊎_elim, arith, ltb-false, leb-true}
 use Rattle.endian.specs.Laws.Stored.{Outside}
-use Rattle.refusal.specs.declared.Verdict.TheVariants.{Passed}
 use Rattle.refusal.specs.declared.Refusal.TheVariants.{OverlappingMove, NotEnoughSpace}
 use Rattle.refusal.specs.Laws.Chains.{refuse-passed, first-passed}
 use Rattle.header.specs.Verdicts.{fstOffset, fstSize, discEnd, table_end}
@@ -34,13 +34,13 @@ outside r n i h f = ⊎_elim (λ a. inl a) (λ a. ⊎_elim (λ b. absurd (f (a, 
 -- ---- the table
 
 pub record TableRoom (c : Change) (image : List ℕ) (words : ℕ) : Type 0 where
-  pub within : limits c.nodes words ≡ Passed
+  pub within : limits c.nodes words ≡ Ok tt
   pub end : newEnd c image ≤ discEnd image
   pub clear : (k i : ℕ) → Has (region (placesIn image) k) i → newEnd c image ≤ i
   pub place : 0 < c.place.size → newEnd c image ≤ c.place.offset
 
-module _ (c : Change) (image : List ℕ) (words bytes : ℕ) (o : Opened image) (v : tableVerdict c image words bytes ≡ Passed) where
-  within-ok : limits c.nodes words ≡ Passed
+module _ (c : Change) (image : List ℕ) (words bytes : ℕ) (o : Opened image) (v : tableVerdict c image words bytes ≡ Ok tt) where
+  within-ok : limits c.nodes words ≡ Ok tt
   unfolding tableVerdict
   within-ok = (first-passed (limits c.nodes words) _ v).0
 
@@ -72,10 +72,10 @@ Placeable image r new = (i : ℕ) → Has new i → (table_end image ≤ i) × (
 
 module _ (image : List ℕ) (o : Opened image) where
   -- LAW: a place elsewhere that passes its tests has a byte of no file, and none of the program
-  pub elsewhere : (old new : DiscRegion) → relocateVerdict (freeOf image) old new ≡ Passed → (i : ℕ) → Has new i → (table_end image ≤ i) × (i < discEnd image) × ((k : ℕ) → Has (region (placesIn image) k) i → ⊥)
+  pub elsewhere : (old new : DiscRegion) → relocateVerdict (freeOf image) old new ≡ Ok tt → (i : ℕ) → Has new i → (table_end image ≤ i) × (i < discEnd image) × ((k : ℕ) → Has (region (placesIn image) k) i → ⊥)
   elsewhere old new v i h =
       let t = (refuse-passed (overlapsItself old new) OverlappingMove _ v).1 in
-      let l : new.size ≤ maxRegionSize new.offset 0 (freeOf image) = ltb-false _ _ (refuse-passed (ltb (maxRegionSize new.offset 0 (freeOf image)) new.size) NotEnoughSpace Passed t).0 in
+      let l : new.size ≤ maxRegionSize new.offset 0 (freeOf image) = ltb-false _ _ (refuse-passed (ltb (maxRegionSize new.offset 0 (freeOf image)) new.size) NotEnoughSpace (Ok tt) t).0 in
       let l' : new.size ≤ maxRegionSize new.offset 0 (freeRegions (discEnd image) (usedRegions (table_end image) (placesIn image))) = rw (free-places image) at l in
       let p = place-free (discEnd image) (usedRegions (table_end image) (placesIn image)) new.offset new.size (omega arith) l' in
       let e : new.offset + (i - new.offset) ≡ i = omega arith in

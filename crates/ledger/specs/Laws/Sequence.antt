@@ -1,10 +1,10 @@
 -- What holds at the start, along a list of calls, and what it comes to for the image at its end. Assumes nothing.
+use Rattle.std.specs.Prelude.{Ok}
 use Rattle.std.specs.Prelude.{ℕ, suc, ◌+◌, ◌-◌, ◌<◌, ◌≤◌, ◌≡◌, refl, true, false, cond, not, List, [], ◌∷◌, map, length, get_or, take}
 use Rattle.std.proofs.Common.{sym, ap, ◌∙◌, ext_get_or, get_or-take, length-take-le}
 use native.Mathlib.Omega.{arith}
 use Rattle.endian.specs.Bytes.{span, AllBytes}
 use Rattle.endian.specs.Laws.Stored.{getD-span}
-use Rattle.refusal.specs.declared.Verdict.TheVariants.{Passed}
 use Rattle.refusal.specs.Refusal.{is_refused}
 use Rattle.header.specs.Verdicts.{discEnd, table_end}
 use Rattle.tree.specs.Table.{file, none}
@@ -20,7 +20,6 @@ use Rattle.program.specs.Program.{programBehind}
 use Rattle.opening.specs.Opening.{nodesIn, regionOf, behindTable, usedIn, usedOf, freeOf, opening}
 use Rattle.opening.specs.Laws.OpeningLaws.{disc-filled}
 use Rattle.disc.specs.Calls.{totalsAnswer, freeAnswer, freeList, freeRegionsAnswer, freeRegionsList}
-use Rattle.disc.specs.declared.TotalsAnswer.TheVariants.{Found}
 use Rattle.edits.specs.Edits.{imageAfter, verdictOf}
 use Rattle.ledger.specs.Ledger.{History, Ledger, filesBefore, newHistory, historyOf, firstLedger, entered, ledgerAfter}
 use Rattle.ledger.specs.Runs.{Call, imageAfterAll, reportsOf, AllWithin}
@@ -39,7 +38,7 @@ region-fits image o k z =
     let r : DiscRegion = region (filesIn image) k in
     omega (arith, o.bounds.image_holds, (o.places.lie (suc k) (r.offset + r.size - 1) (omega arith, omega arith)).1)
 
-pub start : (image : List ℕ) (w₀ w : ℕ) → w₀ ≤ w → AllBytes image → opening image w₀ ≡ Passed → Kept w image (firstLedger image)
+pub start : (image : List ℕ) (w₀ w : ℕ) → w₀ ≤ w → AllBytes image → opening image w₀ ≡ Ok tt → Kept w image (firstLedger image)
 start image w₀ w h b e =
     record { bytes = b; opens = more-words image w₀ w h b e; shape = refl; trues = starts image (nodesIn image) (region-fits image (opened image w₀ e b)) }
 
@@ -70,7 +69,7 @@ module _ (w : ℕ) (image : List ℕ) (l : Ledger) (k : Kept w image l) where
   unfolding freeOf
   sum = rw (← used-is) (disc-filled image w k.bytes k.opens)
 
-  pub used-reported : totalsAnswer image w ≡ Found (record { disc_end = discEnd image; used = table_end image + (programBehind image).size + totalSize (map regionOf (nodesIn image)) })
+  pub used-reported : totalsAnswer image w ≡ Ok (record { disc_end = discEnd image; used = table_end image + (programBehind image).size + totalSize (map regionOf (nodesIn image)) })
   unfolding totalsAnswer
   used-reported = rw (k.opens, used-is)
 

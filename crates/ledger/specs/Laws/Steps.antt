@@ -1,8 +1,8 @@
 -- A call keeps image and ledger. Assumes nothing.
+use Rattle.std.specs.Prelude.{Ok, Err}
+use Rattle.refusal.specs.Refusal.{Verdict}
 use Rattle.std.specs.Prelude.{ℕ, ◌≤◌, ◌≡◌, cond, not, List}
 use Rattle.std.proofs.Math.Path.{refl}
-use Rattle.refusal.specs.declared.Verdict.{Verdict}
-use Rattle.refusal.specs.declared.Verdict.TheVariants.{Passed, Refused}
 use Rattle.refusal.specs.Refusal.{is_refused}
 use Rattle.totals.specs.declared.Totals.{Totals}
 use Rattle.edits.specs.Edits.{Edit, insertFile, insertDirectory, makeDirectories, moveFile, resizeFile, fillFile, rewrite, plan_of, verdictOf, planImage, imageAfter}
@@ -32,5 +32,5 @@ module _ (w : ℕ) (image : List ℕ) (l : Ledger) (K : Kept w image l) (words b
   step totals ed h = go (verdictOf ed totals image words bytes) refl
     where
       go : (v : Verdict) → verdictOf ed totals image words bytes ≡ v → Kept w (cond (is_refused v) image (planImage (plan_of ed image) image)) (cond (not (is_refused v)) (entered ed l) l)
-      go Passed e = step-accepted ed h (accepted ed totals image words bytes e).own
-      go (Refused c) e = K
+      go (Ok _) e = step-accepted ed h (accepted ed totals image words bytes e).own
+      go (Err c) e = K

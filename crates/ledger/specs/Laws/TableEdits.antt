@@ -1,4 +1,5 @@
 -- The edits that write only the table keep image and ledger: rewrite, insert, make-directories. Assumes nothing.
+use Rattle.std.specs.Prelude.{Ok}
 use Rattle.std.specs.Prelude.{ℕ, suc, ◌<◌, ◌≤◌, ◌≡◌, true, not, length, get_or, ltb, leb}
 use Rattle.std.proofs.Math.Path.{refl}
 use Rattle.std.proofs.Common.{sym, ◌∙◌, arith, leb-false}
@@ -6,7 +7,6 @@ use Rattle.std.proofs.Math.Bool.{false}
 use mathlib.Core.List.{List, [], ◌∷◌, map}
 use Rattle.std.proofs.lemmas.Bool.{not-false}
 use Rattle.refusal.specs.declared.Refusal.TheVariants.{LimitOrMemory, InvalidNameByte, UnsafeName, NoSuchEntry, ExpectedDirectory, AlreadyExists}
-use Rattle.refusal.specs.declared.Verdict.TheVariants.{Passed}
 use Rattle.refusal.specs.Refusal.{refuse}
 use Rattle.refusal.specs.Laws.Chains.{refuse-passed}
 use Rattle.tree.specs.Table.{Node, name_of, none, plain, safe}
@@ -38,14 +38,14 @@ pub record Insertable (nodes : List Node) (p : ℕ) (nm : List ℕ) : Type 0 whe
   pub parent : isDirectory (get_or nodes p none) ≡ true
   pub bytes : plain nm ≡ true
 
-pub insertable : (nodes : List Node) (p : ℕ) (nm : List ℕ) → insertVerdict nodes p nm ≡ Passed → Insertable nodes p nm
+pub insertable : (nodes : List Node) (p : ℕ) (nm : List ℕ) → insertVerdict nodes p nm ≡ Ok tt → Insertable nodes p nm
 unfolding insertVerdict
 insertable nodes p nm v =
     let v₁ = refuse-passed (leb (length nodes) p) NoSuchEntry _ v in
     let v₂ = refuse-passed (not (safe nm)) UnsafeName _ v₁.1 in
     let v₃ = refuse-passed (not (isDirectory (get_or nodes p none))) ExpectedDirectory _ v₂.1 in
     let v₄ = refuse-passed (isFound (childOf nodes p nm)) AlreadyExists _ v₃.1 in
-    let v₅ = refuse-passed (not (plain nm)) InvalidNameByte Passed v₄.1 in
+    let v₅ = refuse-passed (not (plain nm)) InvalidNameByte (Ok tt) v₄.1 in
     record {
       number = leb-false _ _ v₁.0;
       good = not-false (safe nm) v₂.0;
@@ -62,7 +62,7 @@ module _ (w : ℕ) (image : List ℕ) (l : Ledger) (K : Kept w image l) (words b
   o : Opened image
   o = opened-kept w image l K
 
-  on-table : (new : List Node) → WellFormed new → tableVerdict (tableOnly new) image words bytes ≡ Passed →
+  on-table : (new : List Node) → WellFormed new → tableVerdict (tableOnly new) image words bytes ≡ Ok tt →
       usedRegions (newEnd (tableOnly new) image) (programBehind image ∷ files_of new) ≡ usedRegions (newEnd (tableOnly new) image) (placesIn image) → Tabled w image new l.histories (written (tableOnly new) image)
   on-table new wf v same = tabled w image l K words lent new wf (room (tableOnly new) image words bytes o v) same
 
@@ -108,9 +108,9 @@ module _ (w : ℕ) (image : List ℕ) (l : Ledger) (K : Kept w image l) (words b
   pub step-make-directories : (start : ℕ) (path : List ℕ) → Good w image words bytes (planMakeDirectories (nodesIn image) start path) (entered (makeDirectories start path) l)
   unfolding planMakeDirectories
   step-make-directories start path =
-      good-planned w image words bytes (refuse (ltb 1024 (length path)) LimitOrMemory (refuse (leb (length (nodesIn image)) start) NoSuchEntry Passed)) _ _ (λ v.
+      good-planned w image words bytes (refuse (ltb 1024 (length path)) LimitOrMemory (refuse (leb (length (nodesIn image)) start) NoSuchEntry (Ok tt))) _ _ (λ v.
       let v₁ = refuse-passed (ltb 1024 (length path)) LimitOrMemory _ v in
-      let v₂ = refuse-passed (leb (length (nodesIn image)) start) NoSuchEntry Passed v₁.1 in
+      let v₂ = refuse-passed (leb (length (nodesIn image)) start) NoSuchEntry (Ok tt) v₁.1 in
       go (make (nodesIn image) [] start false (components path)) refl (leb-false _ _ v₂.0))
     where
       shape : (m : Made) → make (nodesIn image) [] start false (components path) ≡ m → map bare (madeNodes (nodesIn image) m) ≡ madeNodes l.nodes (make l.nodes [] start false (components path))

@@ -1,11 +1,11 @@
 -- Of every edit: if it is accepted, the tree read from the image afterwards is the one that it planned, offsets included, and the program is the
 -- same, byte for byte. Assumes nothing.
+use Rattle.std.specs.Prelude.{Ok, Err}
+use Rattle.refusal.specs.Refusal.{Verdict}
 use Rattle.std.specs.Prelude.{ℕ, ◌≤◌, ◌≡◌, cond, List}
 use Rattle.std.proofs.Math.Path.{refl}
 use Rattle.std.proofs.Common.{arith}
 use Rattle.endian.specs.Bytes.{AllBytes}
-use Rattle.refusal.specs.declared.Verdict.{Verdict}
-use Rattle.refusal.specs.declared.Verdict.TheVariants.{Passed, Refused}
 use Rattle.refusal.specs.Refusal.{is_refused}
 use Rattle.totals.specs.declared.Totals.{Totals}
 use Rattle.opening.specs.Opening.{nodesIn, opening}
@@ -21,7 +21,7 @@ use Rattle.ledger.specs.Laws.Arrives.{Arrives, on-table, insert-file, insert-dir
 use Rattle.ledger.specs.Laws.FillEdits.{fill}
 use Rattle.ledger.specs.Laws.Sequence.{start}
 
-module _ (image : List ℕ) (words bytes : ℕ) (b : AllBytes image) (e : opening image words ≡ Passed) where
+module _ (image : List ℕ) (words bytes : ℕ) (b : AllBytes image) (e : opening image words ≡ Ok tt) where
   same : words ≤ words
   same = omega arith
 
@@ -39,11 +39,11 @@ module _ (image : List ℕ) (words bytes : ℕ) (b : AllBytes image) (e : openin
   arrives rewrite h = on-table image words bytes words (firstLedger image) K same (nodesIn image) (opened image words e b).well refl 0
 
 module _ (ed : Edit) (totals : Totals) (image : List ℕ) (words bytes : ℕ) (b : AllBytes image) (h : Passable ed) where
-  after : verdictOf ed totals image words bytes ≡ Passed → (nodesIn (planImage (plan_of ed image) image) ≡ planTree (plan_of ed image) (nodesIn image)) × ProgramKept image (planImage (plan_of ed image) image) × Lays (plan_of ed image) image (planImage (plan_of ed image) image)
+  after : verdictOf ed totals image words bytes ≡ Ok tt → (nodesIn (planImage (plan_of ed image) image) ≡ planTree (plan_of ed image) (nodesIn image)) × ProgramKept image (planImage (plan_of ed image) image) × Lays (plan_of ed image) image (planImage (plan_of ed image) image)
   after v = let a = accepted ed totals image words bytes v in arrives image words bytes b a.opens ed h a.own
 
   -- THEOREM: of every edit: if it is accepted, the tree read from the image afterwards is the planned one
-  pub tree-after : verdictOf ed totals image words bytes ≡ Passed → nodesIn (imageAfter ed totals image words bytes) ≡ planTree (plan_of ed image) (nodesIn image)
+  pub tree-after : verdictOf ed totals image words bytes ≡ Ok tt → nodesIn (imageAfter ed totals image words bytes) ≡ planTree (plan_of ed image) (nodesIn image)
   unfolding imageAfter
   tree-after v = rw v (after v).0
 
@@ -53,9 +53,9 @@ module _ (ed : Edit) (totals : Totals) (image : List ℕ) (words bytes : ℕ) (b
   program-after = go (verdictOf ed totals image words bytes) refl
     where
       go : (v : Verdict) → verdictOf ed totals image words bytes ≡ v → ProgramKept image (cond (is_refused v) image (planImage (plan_of ed image) image))
-      go Passed e = (after e).1
-      go (Refused c) e = nothing-done image
+      go (Ok _) e = (after e).1
+      go (Err c) e = nothing-done image
 
 -- THEOREM: a rewrite leaves the tree as it is
-pub rewritten : (totals : Totals) (image : List ℕ) (words bytes : ℕ) → AllBytes image → verdictOf rewrite totals image words bytes ≡ Passed → nodesIn (imageAfter rewrite totals image words bytes) ≡ nodesIn image
+pub rewritten : (totals : Totals) (image : List ℕ) (words bytes : ℕ) → AllBytes image → verdictOf rewrite totals image words bytes ≡ Ok tt → nodesIn (imageAfter rewrite totals image words bytes) ≡ nodesIn image
 rewritten totals image words bytes b v = tree-after rewrite totals image words bytes b tt v

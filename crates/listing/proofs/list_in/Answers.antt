@@ -2,5 +2,5 @@
 use Rattle.listing.proofs.Answers.{list-refused, buffer-refused}
 use Rattle.listing.proofs.list_in.Goals as goal
 
-pub returns-in-Refused : goal.returns-in-Refused
-returns-in-Refused c = (search list-refused, search buffer-refused)
+pub returns-in-Err : goal.returns-in-Err
+returns-in-Err c = (search list-refused, search buffer-refused)

@@ -1,9 +1,8 @@
 -- Make-directories in the table that stands in the working bytes, a component at a time. Assumes nothing: these are definitions.
+use Rattle.std.specs.Prelude.{Ok, Err}
 use Rattle.std.specs.Prelude.{ℕ, ◌<◌, ◌≤◌, ◌≡◌, false, cond, List, [], length, take}
 use Rattle.refusal.specs.declared.Refusal.{Refusal}
 use Rattle.refusal.specs.declared.Refusal.TheVariants.{LimitOrMemory}
-use Rattle.refusal.specs.declared.Verdict.TheVariants.{Passed}
-use Rattle.tree.specs.declared.Located.TheVariants as located
 use Rattle.tree.specs.Table.{Node, count, parent_of, encode, limits}
 use Rattle.tree.specs.Inner.WellFormed.{GoodName}
 use Rattle.tree.specs.Lookup.{childOf, stays, goesBack}
@@ -40,7 +39,7 @@ turn_of nodes k nm =
 
 -- a name that directory k lacks may be given
 pub record MayName (nodes : List Node) (k : ℕ) (nm : List ℕ) : Type 0 where
-  pub good : (c : Refusal) → childOf nodes k nm ≡ located.Refused c → GoodName nm
+  pub good : (c : Refusal) → childOf nodes k nm ≡ Err c → GoodName nm
 
 -- the walk stands on a directory, and where the component is a name it may be given
 pub record CanTurn (nodes : List Node) (k : ℕ) (nm : List ℕ) : Type 0 where
@@ -56,4 +55,4 @@ pub record InBytes (bytes : List ℕ) (size k : ℕ) : Type 0 where
 -- the tree of a walk stands in the bytes, or there is no room for it (9)
 abbrev pub Reaches : Made → ℕ → ℕ → List ℕ → Reached → Type 0
 Reaches m words room bytes (At k size) = (k ≡ madeEntry m) × Stands bytes size words × (treeIn bytes size ≡ madeTree m)
-Reaches m words room bytes (Refused c) = (c ≡ LimitOrMemory) × (limits (madeTree m) words ≡ Passed → room < length (encode (madeTree m)))
+Reaches m words room bytes (Refused c) = (c ≡ LimitOrMemory) × (limits (madeTree m) words ≡ Ok tt → room < length (encode (madeTree m)))

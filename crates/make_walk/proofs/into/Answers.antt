@@ -2,8 +2,8 @@
 use Rattle.make_walk.proofs.Steps.{child-found, child-missing}
 use Rattle.make_walk.proofs.into.Goals as goal
 
-pub returns-in-At : goal.returns-in-At
-returns-in-At c = search child-found
+pub returns-in-Ok : goal.returns-in-Ok
+returns-in-Ok c = search child-found
 
-pub returns-in-Refused : goal.returns-in-Refused
-returns-in-Refused c = search child-missing
+pub returns-in-Err : goal.returns-in-Err
+returns-in-Err c = search child-missing

@@ -1,12 +1,11 @@
 -- Make-directories' tests that need no memory, and its troubles a component at a time: where the walk of `troubleOf` goes from an entry of the tree as it is, with so many new
 -- directories below it. Assumes nothing: these are definitions.
+use Rattle.std.specs.Prelude.{Result, Ok, Err}
+use Rattle.refusal.specs.Refusal.{Verdict}
+use Rattle.refusal.specs.declared.Refusal.{Refusal}
 use Rattle.std.specs.Prelude.{ℕ, ◌+◌, ◌-◌, Bool, false, cond, not, ◌||◌, List, [], length, get_or, ltb, leb, eqb}
 use Rattle.refusal.specs.declared.Refusal.TheVariants.{LimitOrMemory, InvalidNameByte, UnsafeName, NoSuchEntry, ExpectedDirectory, NotFound}
-use Rattle.refusal.specs.declared.Verdict.{Verdict}
-use Rattle.refusal.specs.declared.Verdict.TheVariants as verdict
 use Rattle.refusal.specs.Refusal.{refuse}
-use Rattle.tree.specs.declared.Located.{Located}
-use Rattle.tree.specs.declared.Located.TheVariants as located
 use Rattle.tree.specs.Table.{Node, none, plain, safe, parent_of}
 use Rattle.tree.specs.Lookup.{isDirectory, components, childOf, stays, goesBack}
 use Rattle.edits.specs.Edits.{make}
@@ -21,9 +20,9 @@ newStep k level bad nm = cond (safe nm) (To k (level + 1) (bad || not (plain nm)
 abbrev pub backStep : List Node → ℕ → ℕ → Bool → Step
 backStep nodes start k bad = cond (eqb k start) (Refused NotFound) (To (parent_of nodes k) 0 bad)
 
-abbrev pub childStep : Located → Bool → Step → Step
-childStep (located.At j) bad missing = To j 0 bad
-childStep (located.Refused c) bad missing = missing
+abbrev pub childStep : Result ℕ Refusal → Bool → Step → Step
+childStep (Ok j) bad missing = To j 0 bad
+childStep (Err c) bad missing = missing
 
 -- at entry k itself
 abbrev pub oldStep : List Node → ℕ → ℕ → Bool → List ℕ → Step
@@ -48,8 +47,8 @@ step_of nodes start k level bad nm = cond (eqb level 0) (oldStep nodes start k b
 unfoldable pub lastVerdict : List Node → ℕ → ℕ → Bool → Verdict
 lastVerdict nodes k level bad =
     cond (eqb level 0)
-    (cond (isDirectory (get_or nodes k none)) (refuse bad InvalidNameByte verdict.Passed) (verdict.Refused ExpectedDirectory))
-    (refuse bad InvalidNameByte verdict.Passed)
+    (cond (isDirectory (get_or nodes k none)) (refuse bad InvalidNameByte (Ok tt)) (Err ExpectedDirectory))
+    (refuse bad InvalidNameByte (Ok tt))
 
 -- a path over 1,024 bytes, 15, then the troubles along the path
 unfoldable pub pathVerdict : List Node → ℕ → List ℕ → Verdict

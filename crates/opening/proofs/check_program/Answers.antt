@@ -2,8 +2,8 @@
 use Rattle.opening.proofs.Tests.{refused-24, passed-24, own_is}
 use Rattle.opening.proofs.check_program.Goals as goal
 
-pub returns-in-Refused : goal.returns-in-Refused
-returns-in-Refused c = search refused-24
+pub returns-in-Err : goal.returns-in-Err
+returns-in-Err c = search refused-24
 
 pub check_used-requires : goal.check_used-requires
 check_used-requires c = (search, search passed-24, search own_is)

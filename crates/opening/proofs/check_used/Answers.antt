@@ -37,16 +37,16 @@ check_regions-verdict-requires c =
       regions-full _ _ _ _ _ _ _ (part-table _ _ _ c.fst_offset-from.ensures c.table_end-to.ensures) c.table_end-to.ensures n c.requires.2 c.collect-m.ensures,
     )
 
-pub returns-in-Passed : goal.returns-in-Passed
-returns-in-Passed c =
+pub returns-in-Ok : goal.returns-in-Ok
+returns-in-Ok c =
     let k = readable c.args.image.now (length c.args.words.now) (λ i. omega (arith, c.type_inv.image i)) c.requires.0 in
     let n = count-is _ _ _ _ k c.fst_offset-from.ensures c.read_u32-count.ensures in
     let used = used-words _ _ _ _ _ _ _ (part-table _ _ _ c.fst_offset-from.ensures c.table_end-to.ensures) c.table_end-to.ensures n c.requires.2 c.collect-m.ensures in
-    left_open _ _ _ _ _ _ _ _ c.requires.0 c.requires.1 used c.disc_end-end.ensures c.check_regions-verdict.ensures (c.check_regions-verdict.auto.words ∙ c.collect-m.auto.words) (λ i. omega (arith, c.type_inv.image i)) c.in-Passed.is
+    left_open _ _ _ _ _ _ _ _ c.requires.0 c.requires.1 used c.disc_end-end.ensures c.check_regions-verdict.ensures (c.check_regions-verdict.auto.words ∙ c.collect-m.auto.words) (λ i. omega (arith, c.type_inv.image i)) c.in-Ok.is
 
-pub returns-in-Refused : goal.returns-in-Refused
-returns-in-Refused c =
+pub returns-in-Err : goal.returns-in-Err
+returns-in-Err c =
     let k = readable c.args.image.now (length c.args.words.now) (λ i. omega (arith, c.type_inv.image i)) c.requires.0 in
     let n = count-is _ _ _ _ k c.fst_offset-from.ensures c.read_u32-count.ensures in
     let used = used-words _ _ _ _ _ _ _ (part-table _ _ _ c.fst_offset-from.ensures c.table_end-to.ensures) c.table_end-to.ensures n c.requires.2 c.collect-m.ensures in
-    left-refused _ _ _ _ _ _ _ _ c.requires.0 c.requires.1 used c.disc_end-end.ensures c.check_regions-verdict.ensures (c.check_regions-verdict.auto.words ∙ c.collect-m.auto.words) _ c.in-Refused.is
+    left-refused _ _ _ _ _ _ _ _ c.requires.0 c.requires.1 used c.disc_end-end.ensures c.check_regions-verdict.ensures (c.check_regions-verdict.auto.words ∙ c.collect-m.auto.words) _ c.in-Err.is

@@ -2,5 +2,5 @@
 use Rattle.opening.proofs.Tests.{refused-before}
 use Rattle.opening.proofs.prepare.Goals as goal
 
-pub returns-in-Refused : goal.returns-in-Refused
-returns-in-Refused c = search refused-before
+pub returns-in-Err : goal.returns-in-Err
+returns-in-Err c = search refused-before

@@ -1,8 +1,9 @@
 -- What the calls work on once the image is open: its used regions, in order, in the working words. Assumes nothing: these are definitions.
+use Rattle.std.specs.Prelude.{Result, Ok, Err}
+use Rattle.refusal.specs.Refusal.{Verdict}
+use Rattle.refusal.specs.declared.Refusal.{Refusal}
 use Rattle.std.specs.Prelude.{ℕ, zero, suc, ◌+◌, ◌-◌, ◌≤◌, ◌≡◌, true, List, [], ◌∷◌, ◌++◌, length}
 use Rattle.endian.specs.Bytes.{be32, AllBytes}
-use Rattle.refusal.specs.declared.Verdict.{Verdict}
-use Rattle.refusal.specs.declared.Verdict.TheVariants as verdict
 use Rattle.refusal.specs.Refusal.{first}
 use Rattle.header.specs.Verdicts.{headerVerdict, boundsVerdict, fstOffset, fstSize, discEnd}
 use Rattle.header.specs.Laws.FieldTests.{GoodHeader, Bounded}
@@ -15,8 +16,6 @@ use Rattle.space.specs.Free.{freeRegions}
 use Rattle.space.specs.Inner.Sort.{regionsIn, SameSums}
 use Rattle.space.specs.Inner.Words.{SortedDisjoint}
 use Rattle.program.specs.Program.{program_of, programVerdict}
-use Rattle.opening.specs.declared.Prepared.{Prepared}
-use Rattle.opening.specs.declared.Prepared.TheVariants.{Ready, Refused}
 use Rattle.opening.specs.Opening.{table_of, regionOf, opening, usedIn, freeOf}
 
 -- the tests before 24 and 14
@@ -77,9 +76,9 @@ pub record Readable (image : List ℕ) (words : ℕ) : Type 0 where
 -- what opening tells, where so many working words are lent
 pub record OpenImage (image : List ℕ) (words : ℕ) : Type 0 where
   pub bytes : AllBytes image
-  pub passed : opening image words ≡ verdict.Passed
+  pub passed : opening image words ≡ Ok tt
   pub reads : Readable image words
-  pub program : programVerdict (program_of image) ≡ verdict.Passed
+  pub program : programVerdict (program_of image) ≡ Ok tt
   pub layout : disjointBelow (discEnd image) (usedIn image) ≡ true
 
 -- the image is open, with some number of words
@@ -93,6 +92,6 @@ pub record IsOpen (image w : List ℕ) (m : ℕ) : Type 0 where
   pub used : UsedWords image w m
 
 -- by the cases of the answer: the image is open, or opening refused it
-abbrev pub Prepares : List ℕ → List ℕ → Prepared → Type 0
-Prepares image w (Ready m) = IsOpen image w m
-Prepares image w (Refused c) = opening image (length w) ≡ verdict.Refused c
+abbrev pub Prepares : List ℕ → List ℕ → Result ℕ Refusal → Type 0
+Prepares image w (Ok m) = IsOpen image w m
+Prepares image w (Err c) = opening image (length w) ≡ Err c

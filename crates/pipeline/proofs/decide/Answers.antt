@@ -14,8 +14,8 @@ account-requires c =
     let d : tie.After-decide-open = search in
     may-account _ _ _ _ _ _ _ _ d.decide-open.ensures.decided (search was-ready) (search rules)
 
-pub returns-in-Refused : goal.returns-in-Refused
-returns-in-Refused c = search unopened-accounted
+pub returns-in-Err : goal.returns-in-Err
+returns-in-Err c = search unopened-accounted
 
-pub returns-in-Ready : goal.returns-in-Ready
-returns-in-Ready c = search decides-accounted
+pub returns-in-Ok : goal.returns-in-Ok
+returns-in-Ok c = search decides-accounted

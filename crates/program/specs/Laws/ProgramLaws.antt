@@ -1,12 +1,12 @@
 -- What an accepted program is: its offset, its least length, and where its own region is; and that it is its bytes: the same header in another
 -- image of the same length is the same program. Assumes nothing.
+use Rattle.std.specs.Prelude.{Ok, Err}
+use Rattle.refusal.specs.Refusal.{Verdict}
 use Rattle.std.specs.Prelude.{ℕ, ◌+◌, ◌<◌, ◌≤◌, ◌≡◌, refl, ◌⊎◌, Bool, true, false, cond, List, length, get_or, leb, eqb}
 use Rattle.std.proofs.Math.Path.{ap}
 use Rattle.std.proofs.Common.{inl, inr, arith}
 use borrow.Author.Tests.{leb-true, eqb-true, eqb-false, eq-eqb, ne_eqb}
 use Rattle.endian.specs.Laws.Stored.{Same}
-use Rattle.refusal.specs.declared.Verdict.{Verdict}
-use Rattle.refusal.specs.declared.Verdict.TheVariants as verdict
 use Rattle.refusal.specs.Laws.Tests.{and_left, and_right}
 use Rattle.header.specs.Verdicts.{dolOffset}
 use Rattle.space.specs.declared.DiscRegion.{DiscRegion}
@@ -19,16 +19,16 @@ use Rattle.program.specs.Program.{programFrom, program_of, programVerdict, nowhe
 
 pub data Accepted (image : List ℕ) : Type 0 where
   absent : dolOffset image ≡ 0 → programIn image ≡ nowhere → Accepted image
-  present : (dolOffset image ≡ 0 → ⊥) → dolVerdictOf image (dolOffset image) ≡ verdict.Passed → programIn image ≡ programFrom image (dolOffset image) → Accepted image
+  present : (dolOffset image ≡ 0 → ⊥) → dolVerdictOf image (dolOffset image) ≡ Ok tt → programIn image ≡ programFrom image (dolOffset image) → Accepted image
 
-pub accepted : (image : List ℕ) → programVerdict (program_of image) ≡ verdict.Passed → Accepted image
+pub accepted : (image : List ℕ) → programVerdict (program_of image) ≡ Ok tt → Accepted image
 unfolding program_of programIn
 accepted image p = go (eqb (dolOffset image) 0) refl (dolVerdictOf image (dolOffset image)) refl
   where
     go : (z : Bool) → eqb (dolOffset image) 0 ≡ z → (v : Verdict) → dolVerdictOf image (dolOffset image) ≡ v → Accepted image
     go true e v f = absent (eqb-true (dolOffset image) 0 e) (rw e)
-    go false e verdict.Passed f = present (eqb-false (dolOffset image) 0 e) f (rw (e, f))
-    go false e (verdict.Refused c) f = let q : verdict.Refused c ≡ verdict.Passed = rw (e, f) at p in let z : ◌≡◌ {A = ℕ} 0 1 = cc in absurd (omega arith)
+    go false e (Ok _) f = present (eqb-false (dolOffset image) 0 e) f (rw (e, f))
+    go false e (Err c) f = let q : Err c ≡ Ok tt = rw (e, f) at p in let z : ◌≡◌ {A = ℕ} 0 1 = cc in absurd (omega arith)
 
 -- ---- its own region: none where it lies before the table, and else the whole of it
 
@@ -54,7 +54,7 @@ module _ (image image' : List ℕ) (len : length image' ≡ length image) (at : 
       rw (at, ne_eqb (dolOffset image) 0 z, len, e)
 
   -- LAW: where its bytes are the same, the program is
-  pub program-same : programVerdict (program_of image) ≡ verdict.Passed → ((i : ℕ) → (programIn image).offset ≤ i → i < end_of (programIn image) → get_or image' i 0 ≡ get_or image i 0) → program_of image' ≡ program_of image
+  pub program-same : programVerdict (program_of image) ≡ Ok tt → ((i : ℕ) → (programIn image).offset ≤ i → i < end_of (programIn image) → get_or image' i 0 ≡ get_or image i 0) → program_of image' ≡ program_of image
   program-same p h = go (accepted image p)
     where
       go : Accepted image → program_of image' ≡ program_of image

@@ -1,10 +1,10 @@
 -- Where a program may lie, region by region, and its least length, by computing: the table from 0x440 to 0x45A and a file from 0x600 to 0x700
 -- behind it, or from 0x600 to 0x61A and a program before it; the disc ends at 0x900. Assumes nothing.
+use Rattle.std.specs.Prelude.{Ok, Err}
+use Rattle.refusal.specs.Refusal.{Verdict}
 use Rattle.std.specs.Prelude.{ℕ, ◌≡◌, refl, List, [], ◌∷◌, ◌++◌, replicate}
 use Rattle.endian.specs.Bytes.{be32}
 use Rattle.refusal.specs.declared.Refusal.TheVariants.{OverlappingRegions}
-use Rattle.refusal.specs.declared.Verdict.{Verdict}
-use Rattle.refusal.specs.declared.Verdict.TheVariants.{Passed, Refused}
 use Rattle.refusal.specs.Refusal.{number_of}
 use Rattle.space.specs.declared.DiscRegion.{DiscRegion}
 use Rattle.space.specs.Used.{nonempty, totalSize, usedRegions, usedTotal}
@@ -27,14 +27,14 @@ before o n = regionsVerdict 0x900 (usedRegions 0x61A (ownRegion 0x600 (at o n) �
 
 pub record Places : Type 0 where
   -- "wholly from the table end on": from the table's end on, and one byte of the table
-  pub abuts-table : behind 0x45A 0x100 ≡ Passed
-  pub in_table : behind 0x459 0x100 ≡ Refused OverlappingRegions
+  pub abuts-table : behind 0x45A 0x100 ≡ Ok tt
+  pub in_table : behind 0x459 0x100 ≡ Err OverlappingRegions
   -- up to a file, one byte into it, from its last byte on, right behind it
-  pub abuts-file : (behind 0x500 0x100 ≡ Passed) × (behind 0x500 0x101 ≡ Refused OverlappingRegions) × (behind 0x6FF 0x100 ≡ Refused OverlappingRegions) × (behind 0x700 0x100 ≡ Passed)
+  pub abuts-file : (behind 0x500 0x100 ≡ Ok tt) × (behind 0x500 0x101 ≡ Err OverlappingRegions) × (behind 0x6FF 0x100 ≡ Err OverlappingRegions) × (behind 0x700 0x100 ≡ Ok tt)
   -- up to the disc end, and one byte past it
-  pub abuts-end : (behind 0x800 0x100 ≡ Passed) × (behind 0x801 0x100 ≡ Refused OverlappingRegions)
+  pub abuts-end : (behind 0x800 0x100 ≡ Ok tt) × (behind 0x801 0x100 ≡ Err OverlappingRegions)
   -- "wholly between 0x440 and the FST offset", one byte before, one byte into the table, and across it
-  pub between : (before 0x440 0x1C0 ≡ Passed) × (before 0x43F 0x1C0 ≡ Refused OverlappingRegions) × (before 0x440 0x1C1 ≡ Refused OverlappingRegions) × (before 0x500 0x200 ≡ Refused OverlappingRegions)
+  pub between : (before 0x440 0x1C0 ≡ Ok tt) × (before 0x43F 0x1C0 ≡ Err OverlappingRegions) × (before 0x440 0x1C1 ≡ Err OverlappingRegions) × (before 0x500 0x200 ≡ Err OverlappingRegions)
   -- "Used totals .. gain the program where it lies past the table"
   pub totals : (usedTotal 0x45A (ownRegion 0x440 (at 0x700 0x100) ∷ file ∷ []) ≡ 0x65A) × (usedTotal 0x61A (ownRegion 0x600 (at 0x440 0x1C0) ∷ []) ≡ 0x61A)
   pub fourteen : number_of OverlappingRegions ≡ 14

@@ -1,33 +1,33 @@
 -- What a chain of tests says where it passes, and that no two causes have one number. Assumes nothing.
+use Rattle.std.specs.Prelude.{Ok, Err}
+use Rattle.refusal.specs.Refusal.{Verdict}
 use Rattle.std.specs.Prelude.{ℕ, ◌≡◌, refl, Bool, true, false, List, [], ◌∷◌, get_or}
 use Rattle.std.proofs.Common.{sym, ap, ◌∙◌, arith}
 use Rattle.refusal.specs.declared.Refusal.{Refusal}
 use Rattle.refusal.specs.declared.Refusal.TheVariants.{HeaderPastImage, WiiNotSupported, InvalidMagic, InvalidBounds, EntryPastTable, UnrecognizedKind, RootIsNotDirectory, MissingNullTerminator, LimitOrMemory, InvalidNextIndex, InvalidNameOffset, InvalidNameByte, UnsafeName, OverlappingRegions, NoSuchEntry, ExpectedFile, ExpectedDirectory, NotFound, AlreadyExists, OverlappingMove, NotEnoughSpace, InvalidAlignment, InvalidSeek, InvalidDol, TotalsOutOfRange, TableAboveMaximum}
-use Rattle.refusal.specs.declared.Verdict.{Verdict}
-use Rattle.refusal.specs.declared.Verdict.TheVariants.{Passed, Refused}
 use Rattle.refusal.specs.Refusal.{number_of, refuse, first, is_refused}
 
 -- a chain that passes: its first test fails to hold, and the later tests pass
-pub refuse-passed : (t : Bool) (c : Refusal) (later : Verdict) → refuse t c later ≡ Passed → (t ≡ false) × (later ≡ Passed)
+pub refuse-passed : (t : Bool) (c : Refusal) (later : Verdict) → refuse t c later ≡ Ok tt → (t ≡ false) × (later ≡ Ok tt)
 refuse-passed true c later e = let z : ◌≡◌ {A = ℕ} 0 1 = cc in absurd (omega arith)
 refuse-passed false c later e = (refl, e)
 
-pub first-passed : (a b : Verdict) → first a b ≡ Passed → (a ≡ Passed) × (b ≡ Passed)
-first-passed Passed b e = (refl, e)
-first-passed (Refused c) b e = let z : ◌≡◌ {A = ℕ} 0 1 = cc in absurd (omega arith)
+pub first-passed : (a b : Verdict) → first a b ≡ Ok tt → (a ≡ Ok tt) × (b ≡ Ok tt)
+first-passed (Ok _) b e = (refl, e)
+first-passed (Err c) b e = let z : ◌≡◌ {A = ℕ} 0 1 = cc in absurd (omega arith)
 
 -- a group that refuses is the answer, and one that passes hands over to the next
 pub first-stop : (a b : Verdict) → is_refused a ≡ true → first a b ≡ a
-first-stop Passed b e = let z : ◌≡◌ {A = ℕ} 0 1 = cc in absurd (omega arith)
-first-stop (Refused c) b e = refl
+first-stop (Ok _) b e = let z : ◌≡◌ {A = ℕ} 0 1 = cc in absurd (omega arith)
+first-stop (Err c) b e = refl
 
 pub first-go : (a b : Verdict) → is_refused a ≡ false → first a b ≡ b
-first-go Passed b e = refl
-first-go (Refused c) b e = let z : ◌≡◌ {A = ℕ} 0 1 = cc in absurd (omega arith)
+first-go (Ok _) b e = refl
+first-go (Err c) b e = let z : ◌≡◌ {A = ℕ} 0 1 = cc in absurd (omega arith)
 
-pub not-refused : (a : Verdict) → is_refused a ≡ false → a ≡ Passed
-not-refused Passed e = refl
-not-refused (Refused c) e = let z : ◌≡◌ {A = ℕ} 0 1 = cc in absurd (omega arith)
+pub not-refused : (a : Verdict) → is_refused a ≡ false → a ≡ Ok tt
+not-refused (Ok _) e = refl
+not-refused (Err c) e = let z : ◌≡◌ {A = ℕ} 0 1 = cc in absurd (omega arith)
 
 -- the causes in the order of their numbers, with a first element for number 0, which is none
 abbrev causes : List Refusal

@@ -1,16 +1,15 @@
 -- "Marked P": P1 to P12 of document 01, and the numbers of its listing, about the definitions that the calls' promises cite: by computing.
 -- Assumes nothing.
+use Rattle.std.specs.Prelude.{Ok, Err}
+use Rattle.refusal.specs.Refusal.{Verdict}
 use Rattle.std.specs.Prelude.{ℕ, ◌+◌, ◌-◌, ◌≡◌, refl, List, [], ◌∷◌, negsuc}
 use Rattle.endian.specs.Bytes.{be24, be32, put, sameBytes}
 use Rattle.refusal.specs.declared.Refusal.TheVariants.{LimitOrMemory, ExpectedDirectory, NotFound, OverlappingMove, NotEnoughSpace, InvalidSeek}
-use Rattle.refusal.specs.declared.Verdict.{Verdict}
-use Rattle.refusal.specs.declared.Verdict.TheVariants as verdict
 use Rattle.refusal.specs.Refusal.{number_of}
 use Rattle.header.specs.Fields.{fields}
 use Rattle.header.specs.Verdicts.{fieldVerdict, fieldsVerdict, headerVerdict, boundsVerdict, fstOffset, fstSize, fstMaxSize, discEnd}
 use Rattle.window.specs.declared.Window.{Window}
 use Rattle.window.specs.declared.SeekFrom.TheVariants.{Current}
-use Rattle.window.specs.declared.Sought.TheVariants as sought
 use Rattle.window.specs.Window.{seekOf, newWindow}
 use Rattle.tree.specs.declared.Entry.TheVariants.{File, Directory}
 use Rattle.tree.specs.declared.Found.TheVariants as found
@@ -19,8 +18,6 @@ use Rattle.tree.specs.Table.{file, directory, plain, safe, count, name_at, nodeA
 use Rattle.tree.specs.Lookup.{componentsOf, components, firstChild, childOf, follow, lookup}
 use Rattle.tree.specs.Insert.{setPlace}
 use Rattle.space.specs.declared.DiscRegion.{DiscRegion}
-use Rattle.free_space.specs.declared.Allocation.TheVariants as allocation
-use Rattle.free_space.specs.declared.Listing.TheVariants as listing
 use Rattle.space.specs.Used.{usesByte, nonempty, totalSize}
 use Rattle.space.specs.Layout.{disjoint, disjointFromAll, pairwise_disjoint, endBy, disjointBelow}
 use Rattle.space.specs.Free.{runs, freeRegions}
@@ -29,9 +26,6 @@ use Rattle.free_space.specs.MaxRegionSize.{besideFree, maxSizeFrom}
 use Rattle.space.specs.Align.{align_up}
 use Rattle.free_space.specs.Allocate.{betterOf, largest, powers, allocationOf}
 use Rattle.free_space.specs.Listing.{rows_of}
-use Rattle.disc.specs.declared.TotalsAnswer.TheVariants as totals
-use Rattle.answers.specs.declared.SizeAnswer.TheVariants as size
-use Rattle.files.specs.declared.WindowAnswer.TheVariants as window
 use Rattle.totals.specs.declared.Totals.{Totals}
 use Rattle.totals.specs.Totals.{totalsVerdict}
 use Rattle.program.specs.declared.Program.TheVariants.{None}
@@ -46,7 +40,7 @@ use Rattle.small_master.specs.Image.{master, masterWords, masterBytes}
 
 -- ---- the image opens, and what it reads as
 
-pub opens : opening master masterWords ≡ verdict.Passed
+pub opens : opening master masterWords ≡ Ok tt
 unfolding master put opening layoutVerdict headerVerdict fieldsVerdict fieldVerdict fields boundsVerdict table_of check nodesIn nodesOf nodesFrom nodeAt name_at count entriesVerdict entryVerdict unended walk nameVerdict nextVerdict shut plain safe be24 be32 usedIn behindTable program_of programIn ownRegion nonempty disjointBelow pairwise_disjoint disjointFromAll disjoint endBy units
 opens = refl
 
@@ -100,7 +94,7 @@ pub moved-used : usedOf (movedA 0x600) ≡ 1370
 unfolding master put table_of nodesIn nodesOf nodesFrom nodeAt name_at count be24 be32 textsOf encode entriesBytes parent_of parentBelow written withTable usedOf behindTable program_of programIn ownRegion totalSize
 moved-used = refl
 
-moved-opens : opening (movedA 0x600) masterWords ≡ verdict.Passed
+moved-opens : opening (movedA 0x600) masterWords ≡ Ok tt
 unfolding master put opening layoutVerdict headerVerdict fieldsVerdict fieldVerdict fields boundsVerdict table_of check nodesIn nodesOf nodesFrom nodeAt name_at count entriesVerdict entryVerdict unended walk nameVerdict nextVerdict shut plain safe be24 be32 usedIn behindTable program_of programIn ownRegion nonempty disjointBelow pairwise_disjoint disjointFromAll disjoint endBy textsOf encode entriesBytes parent_of parentBelow written withTable units
 moved-opens = refl
 
@@ -135,7 +129,7 @@ moved_to to = imageAfter (moveFile 1 to) fresh master masterWords masterBytes
 abbrev four : List ℕ
 four = 0 ∷ 0 ∷ 0 ∷ 0 ∷ []
 
-moves : onMaster (moveFile 1 0x600) ≡ verdict.Passed
+moves : onMaster (moveFile 1 0x600) ≡ Ok tt
 unfolding verdictOf countedVerdict totalsVerdict planMove maxSizeFrom besideFree tableVerdict placeVerdict limits shallow shallowFrom shut textsOf encode entriesBytes parent_of parentBelow setPlace
 moves = rw (opens, nodes, free, header.3, header.0, header.1, free, used, moved-used)
 
@@ -151,21 +145,21 @@ moved = rw (moved-is, moved-opens, moved-free)
 
 pub record Marked : Type 0 where
   -- "(P1) largest size of `a` 0x1B00"
-  pub P1 : maxFileSizeAnswer master masterWords 1 ≡ size.Bytes 0x1B00
+  pub P1 : maxFileSizeAnswer master masterWords 1 ≡ Ok 0x1B00
   -- "(P2) allocate 0x100 at 0x100 gives 0x600, 0x1A00"
-  pub P2 : allocateAnswer master masterWords 0x100 0x100 ≡ allocation.Found (at 0x600 0x1A00)
+  pub P2 : allocateAnswer master masterWords 0x100 0x100 ≡ Ok (at 0x600 0x1A00)
   -- "(P3) 0x1A01 at 1 gives 21"
-  pub P3 : (allocateAnswer master masterWords 0x1A01 1 ≡ allocation.Refused NotEnoughSpace) × (number_of NotEnoughSpace ≡ 21)
+  pub P3 : (allocateAnswer master masterWords 0x1A01 1 ≡ Err NotEnoughSpace) × (number_of NotEnoughSpace ≡ 21)
   -- "(P4) `a` to 0x580: 20"
-  pub P4 : (onMaster (moveFile 1 0x580) ≡ verdict.Refused OverlappingMove) × (number_of OverlappingMove ≡ 20)
+  pub P4 : (onMaster (moveFile 1 0x580) ≡ Err OverlappingMove) × (number_of OverlappingMove ≡ 20)
   -- "(P5) to 0x600: free 0x45A, 0x1A6 and 0x700, 0x1900"
-  pub P5 : (onMaster (moveFile 1 0x600) ≡ verdict.Passed) × (freeRegionsList (moved_to 0x600) masterWords four ≡ 0x45A ∷ 0x1A6 ∷ 0x700 ∷ 0x1900 ∷ [])
+  pub P5 : (onMaster (moveFile 1 0x600) ≡ Ok tt) × (freeRegionsList (moved_to 0x600) masterWords four ≡ 0x45A ∷ 0x1A6 ∷ 0x700 ∷ 0x1900 ∷ [])
   -- "(P6) to 0x400: 21"
-  pub P6 : (onMaster (moveFile 1 0x400) ≡ verdict.Refused NotEnoughSpace) × (number_of NotEnoughSpace ≡ 21)
+  pub P6 : (onMaster (moveFile 1 0x400) ≡ Err NotEnoughSpace) × (number_of NotEnoughSpace ≡ 21)
   -- "(P7) resize 0x1B00 accepted"
-  pub P7 : onMaster (resizeFile 1 0x1B00) ≡ verdict.Passed
+  pub P7 : onMaster (resizeFile 1 0x1B00) ≡ Ok tt
   -- "(P8) 0x1B01: 21"
-  pub P8 : (onMaster (resizeFile 1 0x1B01) ≡ verdict.Refused NotEnoughSpace) × (number_of NotEnoughSpace ≡ 21)
+  pub P8 : (onMaster (resizeFile 1 0x1B01) ≡ Err NotEnoughSpace) × (number_of NotEnoughSpace ≡ 21)
   -- "(P9) path `` gives 0"
   pub P9 : lookupAnswer master masterWords 0 [] ≡ found.At 0 (Directory (record { parent = 0; next = 2 }))
   -- "(P10) `a/` 17"
@@ -173,7 +167,7 @@ pub record Marked : Type 0 where
   -- "(P11) `..` 18"
   pub P11 : (lookupAnswer master masterWords 0 up ≡ found.Refused NotFound) × (number_of NotFound ≡ 18)
   -- "(P12) window of `a`, current -1 from 0: 23"; `negsuc 0` is the distance -1
-  pub P12 : (openFileAnswer master masterWords 1 ≡ window.Opened windowOfA) × (seekOf windowOfA (Current (negsuc 0)) ≡ sought.Refused InvalidSeek) × (number_of InvalidSeek ≡ 23)
+  pub P12 : (openFileAnswer master masterWords 1 ≡ Ok windowOfA) × (seekOf windowOfA (Current (negsuc 0)) ≡ Err InvalidSeek) × (number_of InvalidSeek ≡ 23)
 
 pub marked : Marked
 unfolding maxFileSizeAnswer maxRegionSizeAnswer allocateAnswer lookupAnswer entryAnswer openFileAnswer maxSizeFrom besideFree allocationOf powers largest betterOf align_up verdictOf countedVerdict totalsVerdict planMove planResize tableVerdict placeVerdict limits shallow shallowFrom shut textsOf encode entriesBytes parent_of parentBelow lookup follow components childOf firstChild sameBytes setPlace componentsOf units
@@ -195,10 +189,10 @@ marked = record {
 -- ---- the listing: "total 8192 used 1370", "d 0 0 2 /", "f 1 1280 256 /a", "r 1114 166", "r 1536 6656"
 
 pub record Listed : Type 0 where
-  pub totals : totalsAnswer master masterWords ≡ totals.Found (record { disc_end = 8192; used = 1370 })
+  pub totals : totalsAnswer master masterWords ≡ Ok (record { disc_end = 8192; used = 1370 })
   pub root : entryAnswer master masterWords 0 ≡ found.At 0 (Directory (record { parent = 0; next = 2 }))
   pub a : entryAnswer master masterWords 1 ≡ found.At 1 (File (record { offset = 1280; size = 256 }))
-  pub regions : freeRegionsAnswer master masterWords 4 ≡ listing.Listed 2
+  pub regions : freeRegionsAnswer master masterWords 4 ≡ Ok 2
   pub list : freeRegionsList master masterWords four ≡ 1114 ∷ 166 ∷ 1536 ∷ 6656 ∷ []
 
 pub small-listing : Listed
@@ -214,10 +208,10 @@ small-listing = record {
 -- ---- document 02, Point 1: the same free regions in clusters, 166, 0, 0 and 6656, 0, 0
 
 pub record InClusters : Type 0 where
-  pub regions : freeClustersAnswer master masterWords 6 ≡ listing.Listed 2
+  pub regions : freeClustersAnswer master masterWords 6 ≡ Ok 2
   pub list : freeClustersList master masterWords (0 ∷ 0 ∷ 0 ∷ 0 ∷ 0 ∷ 0 ∷ 7 ∷ []) ≡ 166 ∷ 0 ∷ 0 ∷ 6656 ∷ 0 ∷ 0 ∷ 7 ∷ []
   -- a list of five words is short, and stays as it was
-  pub short : freeClustersAnswer master masterWords 5 ≡ listing.Refused LimitOrMemory
+  pub short : freeClustersAnswer master masterWords 5 ≡ Err LimitOrMemory
   pub stays : freeClustersList master masterWords (1 ∷ 2 ∷ 3 ∷ 4 ∷ 5 ∷ []) ≡ 1 ∷ 2 ∷ 3 ∷ 4 ∷ 5 ∷ []
 
 pub small-clusters : InClusters

@@ -1,10 +1,10 @@
 -- Document 01's listing of the small master, its five lines byte for byte: by computing. Assumes nothing.
+use Rattle.std.specs.Prelude.{Ok}
 use Rattle.std.specs.Prelude.{ℕ, ◌≡◌, refl, List, [], ◌∷◌, ◌++◌, length}
 use Rattle.std.proofs.Common.{◌∙◌}
 use Rattle.endian.specs.Bytes.{put}
 use Rattle.tree.specs.Table.{Node, file, directory, parentBelow, parent_of}
 use Rattle.space.specs.declared.DiscRegion.{DiscRegion}
-use Rattle.listing.specs.declared.Listed.TheVariants.{Text}
 use Rattle.listing_text.specs.Lines.{totalsLine, pathWithin, entryLine, entryLines, regionLines}
 use Rattle.text_buffer.specs.Decimal.{digits}
 use Rattle.listing.specs.Listing.{listingText, listingVerdict, listAnswer, reportVerdict, reportText, reportAnswer}
@@ -59,7 +59,7 @@ size = refl
 -- the text, its length, and what the program writes, in a buffer that it just fits
 pub record Listing : Type 0 where
   pub lines : listingText master ≡ listing
-  pub answer : listAnswer master masterWords 70 ≡ Text 70
+  pub answer : listAnswer master masterWords 70 ≡ Ok 70
   pub report : (reportText master masterWords 70 ≡ listing) × (reportAnswer master masterWords 70 ≡ 70)
 
 pub master-listed : Listing

@@ -1,10 +1,10 @@
 -- Worked stated maxima (document 02, Point 7), by computing, on the small master: its table has 0x1A bytes, and 0x28 with an entry `b` more.
 -- Assumes nothing.
+use Rattle.std.specs.Prelude.{Ok, Err}
+use Rattle.refusal.specs.Refusal.{Verdict}
 use Rattle.std.specs.Prelude.{ℕ, ◌-◌, ◌^◌, ◌≡◌, refl, List, [], ◌∷◌, replicate}
 use Rattle.endian.specs.Bytes.{be24, be32, be32Bytes, put, sameBytes}
 use Rattle.refusal.specs.declared.Refusal.TheVariants.{LimitOrMemory, NotEnoughSpace, TableAboveMaximum}
-use Rattle.refusal.specs.declared.Verdict.{Verdict}
-use Rattle.refusal.specs.declared.Verdict.TheVariants.{Passed, Refused}
 use Rattle.refusal.specs.Refusal.{number_of}
 use Rattle.header.specs.Fields.{fields, fstMaxSizeField}
 use Rattle.header.specs.Verdicts.{fieldVerdict, fieldsVerdict, headerVerdict, boundsVerdict, discEnd, fstOffset, fstSize, fstMaxSize}
@@ -29,7 +29,7 @@ unfoldable pub stating : ℕ → List ℕ
 stating m = put master fstMaxSizeField.at (be32Bytes m)
 
 -- whatever it is, the image opens to the same tree with the same free regions
-opens : (m : ℕ) → opening (stating m) masterWords ≡ Passed
+opens : (m : ℕ) → opening (stating m) masterWords ≡ Ok tt
 unfolding stating master put opening layoutVerdict headerVerdict fieldsVerdict fieldVerdict fields boundsVerdict table_of check nodesIn nodesOf nodesFrom nodeAt name_at count entriesVerdict entryVerdict unended walk nameVerdict nextVerdict shut plain safe be24 be32 usedIn behindTable program_of programIn ownRegion nonempty disjointBelow pairwise_disjoint disjointFromAll disjoint endBy units
 opens m = refl
 
@@ -65,7 +65,7 @@ stated = (refl, refl, refl, refl, refl)
 unfoldable pub tight : ℕ → List ℕ
 tight m = put (stating m) 0x450 (be32Bytes 0x45A)
 
-tight-opens : (m : ℕ) → opening (tight m) masterWords ≡ Passed
+tight-opens : (m : ℕ) → opening (tight m) masterWords ≡ Ok tt
 unfolding tight stating master put opening layoutVerdict headerVerdict fieldsVerdict fieldVerdict fields boundsVerdict table_of check nodesIn nodesOf nodesFrom nodeAt name_at count entriesVerdict entryVerdict unended walk nameVerdict nextVerdict shut plain safe be24 be32 usedIn behindTable program_of programIn ownRegion nonempty disjointBelow pairwise_disjoint disjointFromAll disjoint endBy units
 tight-opens m = refl
 
@@ -85,11 +85,11 @@ tight-free = refl
 unfoldable pub slack : ℕ → List ℕ
 slack m = put (stating m) 0x428 (be32Bytes 0x1B)
 
-slack-opens : opening (slack 0x1A) masterWords ≡ Passed
+slack-opens : opening (slack 0x1A) masterWords ≡ Ok tt
 unfolding slack stating master put opening layoutVerdict headerVerdict fieldsVerdict fieldVerdict fields boundsVerdict table_of check nodesIn nodesOf nodesFrom nodeAt name_at count entriesVerdict entryVerdict unended walk nameVerdict nextVerdict shut plain safe be24 be32 usedIn behindTable program_of programIn ownRegion nonempty disjointBelow pairwise_disjoint disjointFromAll disjoint endBy units
 slack-opens = refl
 
-few-opens : opening (stating 0x1A) 19 ≡ Passed
+few-opens : opening (stating 0x1A) 19 ≡ Ok tt
 unfolding stating master put opening layoutVerdict headerVerdict fieldsVerdict fieldVerdict fields boundsVerdict table_of check nodesIn nodesOf nodesFrom nodeAt name_at count entriesVerdict entryVerdict unended walk nameVerdict nextVerdict shut plain safe be24 be32 usedIn behindTable program_of programIn ownRegion nonempty disjointBelow pairwise_disjoint disjointFromAll disjoint endBy units
 few-opens = refl
 
@@ -160,24 +160,24 @@ on m ed = verdictOf ed fresh (stating m) masterWords 0x28
 
 pub record Maximum : Type 0 where
   -- a table of exactly the maximum: a rewrite is accepted, an insert is 26
-  pub exact : (on 0x1A rewrite ≡ Passed) × (on 0x1A insertB ≡ Refused TableAboveMaximum)
+  pub exact : (on 0x1A rewrite ≡ Ok tt) × (on 0x1A insertB ≡ Err TableAboveMaximum)
   -- "An image whose table is already larger still opens": a rewrite is 26, and so are a move and a shrink
-  pub larger : (opening (stating 0x19) masterWords ≡ Passed) × (on 0x19 rewrite ≡ Refused TableAboveMaximum) × (on 0x19 (moveFile 1 0x600) ≡ Refused TableAboveMaximum) × (on 0x19 (resizeFile 1 0xFF) ≡ Refused TableAboveMaximum)
+  pub larger : (opening (stating 0x19) masterWords ≡ Ok tt) × (on 0x19 rewrite ≡ Err TableAboveMaximum) × (on 0x19 (moveFile 1 0x600) ≡ Err TableAboveMaximum) × (on 0x19 (resizeFile 1 0xFF) ≡ Err TableAboveMaximum)
   -- a resize to the present size and a fill of it write no table
-  pub same_size : (on 0x19 (resizeFile 1 0x100) ≡ Passed) × (on 0x19 (fillFile 1 clip) ≡ Passed)
+  pub same_size : (on 0x19 (resizeFile 1 0x100) ≡ Ok tt) × (on 0x19 (fillFile 1 clip) ≡ Ok tt)
   -- 0: as before
-  pub none : (on 0 rewrite ≡ Passed) × (on 0 insertB ≡ Passed)
+  pub none : (on 0 rewrite ≡ Ok tt) × (on 0 insertB ≡ Ok tt)
   -- the table with `b` has 0x28 bytes
-  pub grown : (on 0x28 insertB ≡ Passed) × (on 0x27 insertB ≡ Refused TableAboveMaximum)
+  pub grown : (on 0x28 insertB ≡ Ok tt) × (on 0x27 insertB ≡ Err TableAboveMaximum)
   -- "may be edited down to the maximum": a table of 0x1B bytes, one of which no name uses
-  pub edited-down : verdictOf rewrite fresh (slack 0x1A) masterWords 0x1A ≡ Passed
+  pub edited-down : verdictOf rewrite fresh (slack 0x1A) masterWords 0x1A ≡ Ok tt
   -- 9 comes before 26: one working word too few for three entries, one working byte too few for their table
-  pub limits-first : verdictOf insertB fresh (stating 0x1A) 19 0x28 ≡ Refused LimitOrMemory
-  pub bytes-first : verdictOf insertB fresh (stating 0x1A) masterWords 0x27 ≡ Refused LimitOrMemory
+  pub limits-first : verdictOf insertB fresh (stating 0x1A) 19 0x28 ≡ Err LimitOrMemory
+  pub bytes-first : verdictOf insertB fresh (stating 0x1A) masterWords 0x27 ≡ Err LimitOrMemory
   -- 26 comes before the table's 21: `a` lies right behind the table
-  pub room-last : (verdictOf insertB fresh (tight 0x1A) masterWords 0x28 ≡ Refused TableAboveMaximum) × (verdictOf insertB fresh (tight 0) masterWords 0x28 ≡ Refused NotEnoughSpace)
+  pub room-last : (verdictOf insertB fresh (tight 0x1A) masterWords 0x28 ≡ Err TableAboveMaximum) × (verdictOf insertB fresh (tight 0) masterWords 0x28 ≡ Err NotEnoughSpace)
   -- and before 25: with a record that can count no more edits
-  pub record-last : verdictOf rewrite (record { used = 1370; largest = 6656; edits = 2 ^ 32 - 1 }) (stating 0x19) masterWords 0x28 ≡ Refused TableAboveMaximum
+  pub record-last : verdictOf rewrite (record { used = 1370; largest = 6656; edits = 2 ^ 32 - 1 }) (stating 0x19) masterWords 0x28 ≡ Err TableAboveMaximum
   pub number : number_of TableAboveMaximum ≡ 26
 
 pub maximum : Maximum

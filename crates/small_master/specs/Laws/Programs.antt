@@ -1,10 +1,10 @@
 -- Document 02, Point 2, on small images, by computing: the walk before 24 and 24 before 14, what a program uses, and that neither a file nor the
 -- table takes its bytes. Assumes nothing.
+use Rattle.std.specs.Prelude.{Ok, Err}
+use Rattle.refusal.specs.Refusal.{Verdict}
 use Rattle.std.specs.Prelude.{ℕ, ◌+◌, ◌≡◌, refl, List, [], ◌∷◌, ◌++◌, replicate}
 use Rattle.endian.specs.Bytes.{be24, be32, be32Bytes, put, sameBytes}
 use Rattle.refusal.specs.declared.Refusal.TheVariants.{UnsafeName, OverlappingRegions, NotEnoughSpace, InvalidDol}
-use Rattle.refusal.specs.declared.Verdict.{Verdict}
-use Rattle.refusal.specs.declared.Verdict.TheVariants as verdict
 use Rattle.refusal.specs.Refusal.{number_of}
 use Rattle.header.specs.Fields.{fields, gcnMagicField, dolOffsetField, fstOffsetField, fstSizeField, userSizeField}
 use Rattle.header.specs.Verdicts.{gcnMagic, fieldVerdict, fieldsVerdict, headerVerdict, boundsVerdict, fstOffset, fstSize, fstMaxSize, discEnd}
@@ -56,12 +56,12 @@ one = behind 0x600 0x100 0x23
 -- ---- whole images; every other place stands in program's vectors
 
 pub record Opens : Type 0 where
-  pub at-file : (opens one ≡ verdict.Passed) × (program_of one ≡ At (at 0x600 0x123))
+  pub at-file : (opens one ≡ Ok tt) × (program_of one ≡ At (at 0x600 0x123))
   -- a sum of 2^32 is 24, though the program lies in `a`, and a name `:` comes first
-  pub sum : opens (behind 0x5FF 0xFFFFFFFF 1) ≡ verdict.Refused InvalidDol
-  pub walk : opens (with 0x5FF 0xFFFFFFFF 1 (disc 0x900 0x440 0x500 0x3A)) ≡ verdict.Refused UnsafeName
+  pub sum : opens (behind 0x5FF 0xFFFFFFFF 1) ≡ Err InvalidDol
+  pub walk : opens (with 0x5FF 0xFFFFFFFF 1 (disc 0x900 0x440 0x500 0x3A)) ≡ Err UnsafeName
   -- a header inside the image, and past the disc end by one byte
-  pub past_end : opens (with 0x81D 0 0x10 (disc 0x901 0x440 0x500 0x61)) ≡ verdict.Refused OverlappingRegions
+  pub past_end : opens (with 0x81D 0 0x10 (disc 0x901 0x440 0x500 0x61)) ≡ Err OverlappingRegions
   pub numbers : (number_of InvalidDol ≡ 24) × (number_of UnsafeName ≡ 13) × (number_of OverlappingRegions ≡ 14)
 
 pub opened : Opens
@@ -95,7 +95,7 @@ free = rw (used.0, header.2) runs-of-one
 unfoldable pub two : List ℕ
 two = with 0x45A 0 0 (disc 0x900 0x440 0x600 0x61)
 
-two-opens : (opening two 20 ≡ verdict.Passed) × (program_of two ≡ At (at 0x45A 0xE4))
+two-opens : (opening two 20 ≡ Ok tt) × (program_of two ≡ At (at 0x45A 0xE4))
 unfolding two put opening layoutVerdict headerVerdict fieldsVerdict fieldVerdict fields boundsVerdict table_of check nodesIn nodesOf nodesFrom nodeAt name_at count entriesVerdict entryVerdict unended walk nameVerdict nextVerdict shut plain safe be24 be32 usedIn behindTable program_of programIn ownRegion wordsAt largestOf nonempty disjointBelow pairwise_disjoint disjointFromAll disjoint endBy units
 two-opens = (refl, refl)
 
@@ -126,11 +126,11 @@ two-written = refl
 
 pub record Kept : Type 0 where
   -- `a` to where the program lies; grown into it, with no multiple of 0x8000 below the disc end
-  pub move-onto : verdictOf (moveFile 1 0x700) (totalsOf one 0) one 16 40 ≡ verdict.Refused NotEnoughSpace
-  pub grow-onto : verdictOf (resizeFile 1 0x101) (totalsOf one 0) one 16 40 ≡ verdict.Refused NotEnoughSpace
+  pub move-onto : verdictOf (moveFile 1 0x700) (totalsOf one 0) one 16 40 ≡ Err NotEnoughSpace
+  pub grow-onto : verdictOf (resizeFile 1 0x101) (totalsOf one 0) one 16 40 ≡ Err NotEnoughSpace
   -- a table that a program abuts may be written as it is, and may not grow
-  pub same-table : verdictOf rewrite (totalsOf two 0) two 20 40 ≡ verdict.Passed
-  pub grown-table : verdictOf (insertFile 0 (0x62 ∷ [])) (totalsOf two 0) two 20 40 ≡ verdict.Refused NotEnoughSpace
+  pub same-table : verdictOf rewrite (totalsOf two 0) two 20 40 ≡ Ok tt
+  pub grown-table : verdictOf (insertFile 0 (0x62 ∷ [])) (totalsOf two 0) two 20 40 ≡ Err NotEnoughSpace
   pub twenty-one : number_of NotEnoughSpace ≡ 21
 
 pub kept : Kept

@@ -1,10 +1,10 @@
 -- Worked totals records (document 02, Point 6), by computing, on the small master: a record made, moved by each kind of edit that is accepted, and
 -- 25 at each end of its range. Assumes nothing.
+use Rattle.std.specs.Prelude.{Ok, Err}
+use Rattle.refusal.specs.Refusal.{Verdict}
 use Rattle.std.specs.Prelude.{ℕ, ◌-◌, ◌^◌, ◌≡◌, refl, List, [], ◌∷◌}
 use Rattle.endian.specs.Bytes.{be24, be32, put}
 use Rattle.refusal.specs.declared.Refusal.TheVariants.{OverlappingMove, NotEnoughSpace, TotalsOutOfRange}
-use Rattle.refusal.specs.declared.Verdict.{Verdict}
-use Rattle.refusal.specs.declared.Verdict.TheVariants.{Passed, Refused}
 use Rattle.refusal.specs.Refusal.{number_of}
 use Rattle.tree.specs.Table.{file, directory, count, name_at, nodeAt, nodesFrom, nodesOf, shut, parentBelow, parent_of, entriesBytes, textsOf, encode, shallowFrom, shallow, limits}
 use Rattle.tree.specs.Insert.{setPlace}
@@ -71,19 +71,19 @@ module _ (t : Totals) where
   }
 
   -- accepted: the new record
-  after-rewrite : totalsVerdict t 1370 1370 ≡ Passed → after rewrite t ≡ totalsMoved t 1370 1370 6656
+  after-rewrite : totalsVerdict t 1370 1370 ≡ Ok tt → after rewrite t ≡ totalsMoved t 1370 1370 6656
   unfolding totalsAfter largestSize
   after-rewrite e = rw (counted.rewritten, e, nodes, used, useds.0, frees.0)
 
-  after_same : totalsVerdict t 1370 1370 ≡ Passed → after (resizeFile 1 0x100) t ≡ totalsMoved t 1370 1370 6656
+  after_same : totalsVerdict t 1370 1370 ≡ Ok tt → after (resizeFile 1 0x100) t ≡ totalsMoved t 1370 1370 6656
   unfolding totalsAfter planResize largestSize
   after_same e = rw (counted.same_size, e, nodes, used, free)
 
-  after-resize : totalsVerdict t 1370 1870 ≡ Passed → after (resizeFile 1 756) t ≡ totalsMoved t 1370 1870 6156
+  after-resize : totalsVerdict t 1370 1870 ≡ Ok tt → after (resizeFile 1 756) t ≡ totalsMoved t 1370 1870 6156
   unfolding totalsAfter planResize maxSizeFrom besideFree setPlace largestSize
   after-resize e = rw (counted.resized, e, nodes, free, used, useds.1, frees.1)
 
-  after-move : totalsVerdict t 1370 1370 ≡ Passed → after (moveFile 1 0x600) t ≡ totalsMoved t 1370 1370 6400
+  after-move : totalsVerdict t 1370 1370 ≡ Ok tt → after (moveFile 1 0x600) t ≡ totalsMoved t 1370 1370 6400
   unfolding totalsAfter planMove maxSizeFrom besideFree setPlace largestSize
   after-move e = rw (counted.moved, e, nodes, free, used, moved-used, moved-free)
 
@@ -101,33 +101,33 @@ pub record Records : Type 0 where
   -- "A record made at opening, its count 0"
   pub made : recordAnswer master masterWords ≡ recordMade fresh
   -- `a` grown by 500 bytes, which the free region behind it loses
-  pub grown : (answer (resizeFile 1 756) fresh ≡ Passed) × (after (resizeFile 1 756) fresh ≡ totals 1870 6156 1)
+  pub grown : (answer (resizeFile 1 756) fresh ≡ Ok tt) × (after (resizeFile 1 756) fresh ≡ totals 1870 6156 1)
   -- a resize to the present size writes nothing, and counts
-  pub same_size : (answer (resizeFile 1 0x100) fresh ≡ Passed) × (after (resizeFile 1 0x100) fresh ≡ totals 1370 6656 1) × (image (resizeFile 1 0x100) fresh ≡ master)
+  pub same_size : (answer (resizeFile 1 0x100) fresh ≡ Ok tt) × (after (resizeFile 1 0x100) fresh ≡ totals 1370 6656 1) × (image (resizeFile 1 0x100) fresh ≡ master)
   -- a bare rewrite counts
-  pub rewritten : (answer rewrite fresh ≡ Passed) × (after rewrite fresh ≡ totals 1370 6656 1)
+  pub rewritten : (answer rewrite fresh ≡ Ok tt) × (after rewrite fresh ≡ totals 1370 6656 1)
   -- a move uses no more bytes; of the region behind `a` 6400 are left
-  pub moved : (answer (moveFile 1 0x600) fresh ≡ Passed) × (after (moveFile 1 0x600) fresh ≡ totals 1370 6400 1)
+  pub moved : (answer (moveFile 1 0x600) fresh ≡ Ok tt) × (after (moveFile 1 0x600) fresh ≡ totals 1370 6400 1)
   -- a record that is not the image's: used bytes and count move from what it holds, and "the largest region is the new image's"
   pub other : after (resizeFile 1 756) (totals 5 7 9) ≡ totals 505 6156 10
   pub largest : (n : ℕ) → (after rewrite (totals 1370 n 0) ≡ totals 1370 6656 1) × (after (resizeFile 1 0x100) (totals 1370 n 0) ≡ totals 1370 6656 1)
   -- the last edit that can be counted, and one more: 25, and all is left as it was
-  pub last : (answer rewrite (totals 1370 6656 (most - 1)) ≡ Passed) × (after rewrite (totals 1370 6656 (most - 1)) ≡ totals 1370 6656 most)
-  pub full : (answer rewrite counted-out ≡ Refused TotalsOutOfRange) × (image rewrite counted-out ≡ master) × (after rewrite counted-out ≡ counted-out)
-  pub full-same : answer (resizeFile 1 0x100) counted-out ≡ Refused TotalsOutOfRange
+  pub last : (answer rewrite (totals 1370 6656 (most - 1)) ≡ Ok tt) × (after rewrite (totals 1370 6656 (most - 1)) ≡ totals 1370 6656 most)
+  pub full : (answer rewrite counted-out ≡ Err TotalsOutOfRange) × (image rewrite counted-out ≡ master) × (after rewrite counted-out ≡ counted-out)
+  pub full-same : answer (resizeFile 1 0x100) counted-out ≡ Err TotalsOutOfRange
   -- one byte less: a record that says 1 byte is used, and one that says none
-  pub below : (answer (resizeFile 1 0xFF) (totals 1 6656 0) ≡ Passed) × (answer (resizeFile 1 0xFF) (totals 0 6656 0) ≡ Refused TotalsOutOfRange)
+  pub below : (answer (resizeFile 1 0xFF) (totals 1 6656 0) ≡ Ok tt) × (answer (resizeFile 1 0xFF) (totals 0 6656 0) ≡ Err TotalsOutOfRange)
   -- one byte more, where there is room for one and for none
-  pub above : (answer (resizeFile 1 0x101) (totals (most - 1) 6656 0) ≡ Passed) × (answer (resizeFile 1 0x101) (totals most 6656 0) ≡ Refused TotalsOutOfRange)
+  pub above : (answer (resizeFile 1 0x101) (totals (most - 1) 6656 0) ≡ Ok tt) × (answer (resizeFile 1 0x101) (totals most 6656 0) ≡ Err TotalsOutOfRange)
   -- "tested last": with that record too a move to no free place is 21, and one onto the file itself 20
-  pub before-25 : (answer (moveFile 1 0x400) counted-out ≡ Refused NotEnoughSpace) × (answer (moveFile 1 0x580) counted-out ≡ Refused OverlappingMove) × (after (moveFile 1 0x400) counted-out ≡ counted-out)
+  pub before-25 : (answer (moveFile 1 0x400) counted-out ≡ Err NotEnoughSpace) × (answer (moveFile 1 0x580) counted-out ≡ Err OverlappingMove) × (after (moveFile 1 0x400) counted-out ≡ counted-out)
   pub numbers : (number_of TotalsOutOfRange ≡ 25) × (number_of NotEnoughSpace ≡ 21) × (number_of OverlappingMove ≡ 20)
 
-no_place : answer (moveFile 1 0x400) counted-out ≡ Refused NotEnoughSpace
+no_place : answer (moveFile 1 0x400) counted-out ≡ Err NotEnoughSpace
 unfolding verdictOf countedVerdict planMove maxSizeFrom besideFree
 no_place = rw (opens, nodes, free)
 
-onto-itself : answer (moveFile 1 0x580) counted-out ≡ Refused OverlappingMove
+onto-itself : answer (moveFile 1 0x580) counted-out ≡ Err OverlappingMove
 unfolding verdictOf countedVerdict planMove
 onto-itself = rw (opens, nodes)
 

@@ -1,11 +1,11 @@
 -- Worked examples beside P1 to P12, by computing, of what demand 3 does not show: an old place, a table's lost tail and a shrunk file's lost
 -- end zeroed; 19; growth at a multiple of 0x8000. Assumes nothing.
+use Rattle.std.specs.Prelude.{Ok, Err}
+use Rattle.refusal.specs.Refusal.{Verdict}
 use Rattle.std.specs.Prelude.{ℕ, ◌≡◌, refl, List, [], ◌∷◌, ◌++◌, replicate}
 use Rattle.std.proofs.Common.{ap, ◌∙◌}
 use Rattle.endian.specs.Bytes.{be24, be32, be32Bytes, put, span, sameBytes}
 use Rattle.refusal.specs.declared.Refusal.TheVariants.{AlreadyExists}
-use Rattle.refusal.specs.declared.Verdict.{Verdict}
-use Rattle.refusal.specs.declared.Verdict.TheVariants as verdict
 use Rattle.refusal.specs.Refusal.{number_of}
 use Rattle.header.specs.Fields.{fields, gcnMagicField, fstOffsetField, fstSizeField, userSizeField}
 use Rattle.header.specs.Verdicts.{gcnMagic, fieldVerdict, fieldsVerdict, headerVerdict, boundsVerdict, fstOffset, fstSize, fstMaxSize}
@@ -63,13 +63,13 @@ small = imageTo 0x600
 
 pub record Worked : Type 0 where
   -- "Move copies the smaller of both sizes, writes the table, then zeroes the old place"
-  pub moved : (verdictOn (moveFile 1 0x540) small ≡ verdict.Passed) × (span (after (moveFile 1 0x540) small) 0x540 8 ≡ ofA) × (span (after (moveFile 1 0x540) small) 0x500 8 ≡ replicate 8 0)
+  pub moved : (verdictOn (moveFile 1 0x540) small ≡ Ok tt) × (span (after (moveFile 1 0x540) small) 0x540 8 ≡ ofA) × (span (after (moveFile 1 0x540) small) 0x500 8 ≡ replicate 8 0)
   -- "zeros over a table's lost tail, the new FST size in the header"
-  pub rewritten : (span small 0x440 43 ≡ entries ++ lost) × (verdictOn rewrite small ≡ verdict.Passed) × (span (after rewrite small) 0x440 43 ≡ entries ++ (0 ∷ 0 ∷ 0 ∷ [])) × (fstSize (after rewrite small) ≡ 40)
+  pub rewritten : (span small 0x440 43 ≡ entries ++ lost) × (verdictOn rewrite small ≡ Ok tt) × (span (after rewrite small) 0x440 43 ≡ entries ++ (0 ∷ 0 ∷ 0 ∷ [])) × (fstSize (after rewrite small) ≡ 40)
   -- "a shrink zeroes the lost end after the table"
-  pub shrunk : (verdictOn (resizeFile 1 3) small ≡ verdict.Passed) × (span (after (resizeFile 1 3) small) 0x500 12 ≡ 1 ∷ 2 ∷ 3 ∷ 0 ∷ 0 ∷ 0 ∷ 0 ∷ 0 ∷ ofB)
+  pub shrunk : (verdictOn (resizeFile 1 3) small ≡ Ok tt) × (span (after (resizeFile 1 3) small) 0x500 12 ≡ 1 ∷ 2 ∷ 3 ∷ 0 ∷ 0 ∷ 0 ∷ 0 ∷ 0 ∷ ofB)
   -- a name that a child of the root has: 19, for a file and for a directory
-  pub exists : (verdictOn (insertFile 0 (0x62 ∷ [])) small ≡ verdict.Refused AlreadyExists) × (verdictOn (insertDirectory 0 (0x62 ∷ [])) small ≡ verdict.Refused AlreadyExists) × (number_of AlreadyExists ≡ 19)
+  pub exists : (verdictOn (insertFile 0 (0x62 ∷ [])) small ≡ Err AlreadyExists) × (verdictOn (insertDirectory 0 (0x62 ∷ [])) small ≡ Err AlreadyExists) × (number_of AlreadyExists ≡ 19)
 
 pub worked : Worked
 unfolding small planMove planResize insertVerdict childOf firstChild sameBytes put opening layoutVerdict headerVerdict fieldsVerdict fieldVerdict fields boundsVerdict table_of check nodesIn nodesOf nodesFrom nodeAt name_at count entriesVerdict entryVerdict unended walk nameVerdict nextVerdict shut plain safe be24 be32 usedIn behindTable program_of programIn ownRegion nonempty disjointBelow pairwise_disjoint disjointFromAll disjoint endBy freeOf freeRegions runs usesByte usedOf totalSize totalsVerdict imageAfter verdictOf countedVerdict tableVerdict placeVerdict limits shallow shallowFrom textsOf encode entriesBytes parent_of parentBelow setPlace written withTable maxSizeFrom besideFree units
@@ -88,7 +88,7 @@ large = put (imageTo 0x8040) 0x8000 (replicate 16 0xEE)
 abbrev pub at : ℕ → ℕ → DiscRegion
 at o n = record { offset = o; size = n }
 
-pub large-opens : opening large 20 ≡ verdict.Passed
+pub large-opens : opening large 20 ≡ Ok tt
 unfolding large put opening layoutVerdict headerVerdict fieldsVerdict fieldVerdict fields boundsVerdict table_of check nodesIn nodesOf nodesFrom nodeAt name_at count entriesVerdict entryVerdict unended walk nameVerdict nextVerdict shut plain safe be24 be32 usedIn behindTable program_of programIn ownRegion nonempty disjointBelow pairwise_disjoint disjointFromAll disjoint endBy units
 large-opens = refl
 
@@ -122,7 +122,7 @@ grown-used : usedOf grown ≡ 1144
 unfolding large put table_of nodesIn nodesOf nodesFrom nodeAt name_at count be24 be32 textsOf encode entriesBytes parent_of parentBelow written withTable usedOf behindTable program_of programIn ownRegion totalSize
 grown-used = refl
 
-grows : verdictOn (resizeFile 1 12) large ≡ verdict.Passed
+grows : verdictOn (resizeFile 1 12) large ≡ Ok tt
 unfolding verdictOf countedVerdict totalsVerdict planResize maxSizeFrom besideFree allocationOf powers largest betterOf align_up tableVerdict placeVerdict limits shallow shallowFrom shut textsOf encode entriesBytes parent_of parentBelow setPlace
 grows = rw (large-opens, large-nodes, large-free, large-header.2, large-header.0, large-header.1, large-free, large-used, grown-used)
 
@@ -140,7 +140,7 @@ grown-reads = (refl, refl, refl)
 -- `a` grown by 4 bytes, which do not fit before `b`
 pub record Grown : Type 0 where
   -- "Growth finds a place with alignment 0x8000 where the file can't grow where it is. Grown bytes are what the free space held."
-  pub accepted : verdictOn (resizeFile 1 12) large ≡ verdict.Passed
+  pub accepted : verdictOn (resizeFile 1 12) large ≡ Ok tt
   pub tree : nodesIn (after (resizeFile 1 12) large) ≡ directory [] 3 ∷ file (0x61 ∷ []) 0x8000 12 ∷ file (0x62 ∷ []) 0x508 4 ∷ []
   pub bytes : span (after (resizeFile 1 12) large) 0x8000 12 ≡ ofA ++ (0xEE ∷ 0xEE ∷ 0xEE ∷ 0xEE ∷ [])
   pub old : span (after (resizeFile 1 12) large) 0x500 12 ≡ replicate 8 0 ++ ofB

@@ -2,8 +2,8 @@
 use Rattle.table_only.proofs.TableChanges.{place-refused, place-passed}
 use Rattle.table_only.proofs.place_table.Goals as goal
 
-pub returns-in-Refused : goal.returns-in-Refused
-returns-in-Refused c = search place-refused
+pub returns-in-Err : goal.returns-in-Err
+returns-in-Err c = search place-refused
 
-pub returns-in-Passed : goal.returns-in-Passed
-returns-in-Passed c = search place-passed
+pub returns-in-Ok : goal.returns-in-Ok
+returns-in-Ok c = search place-passed

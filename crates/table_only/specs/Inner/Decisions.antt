@@ -1,16 +1,16 @@
 -- What is decided on where only the table is written. Assumes nothing: these are definitions.
+use Rattle.std.specs.Prelude.{Result, Ok, Err}
+use Rattle.refusal.specs.declared.Refusal.{Refusal}
 use Rattle.std.specs.Prelude.{ℕ}
 use Rattle.commit.specs.declared.Writing.{Writing}
 use Rattle.commit.specs.declared.Decision.{Decision}
 use Rattle.commit.specs.declared.Decision.TheVariants as decision
-use Rattle.fst_measure.specs.declared.TableSize.{TableSize}
-use Rattle.fst_measure.specs.declared.TableSize.TheVariants as table
 use Rattle.edits.specs.Edits.{noPlace}
 
 abbrev pub noWriting : Writing
 noWriting = record { old = noPlace; place = noPlace; kept = 0; lost = 0; lost_size = 0 }
 
 -- the decision to write a table of that size
-abbrev pub tableDecision : ℕ → TableSize → Decision
-tableDecision n (table.Bytes size) = decision.Write n size noWriting
-tableDecision n (table.Refused cause) = decision.Refused cause
+abbrev pub tableDecision : ℕ → Result ℕ Refusal → Decision
+tableDecision n (Ok size) = decision.Write n size noWriting
+tableDecision n (Err cause) = decision.Refused cause

@@ -1,8 +1,8 @@
 -- The largest free region once an edit is made, by one look at the used regions of before: the edited file's old place is passed over, and its
 -- new place cut out. Assumes nothing: these are definitions.
+use Rattle.std.specs.Prelude.{Ok, Err}
+use Rattle.refusal.specs.Refusal.{Verdict}
 use Rattle.std.specs.Prelude.{ℕ, ◌-◌, max, cond, ◌||◌, List, [], ◌∷◌, leb, eqb}
-use Rattle.refusal.specs.declared.Verdict.{Verdict}
-use Rattle.refusal.specs.declared.Verdict.TheVariants as verdict
 use Rattle.space.specs.declared.DiscRegion.{DiscRegion}
 use Rattle.space.specs.Used.{end_of}
 use Rattle.totals.specs.declared.Totals.{Totals}
@@ -33,5 +33,5 @@ moved v t = record { verdict = v; totals = t }
 
 -- by the verdict: the next record, or the one that came in
 abbrev pub movedAs : Verdict → Totals → Totals → Moved
-movedAs verdict.Passed t next = moved verdict.Passed next
-movedAs (verdict.Refused c) t next = moved (verdict.Refused c) t
+movedAs (Ok _) t next = moved (Ok tt) next
+movedAs (Err c) t next = moved (Err c) t

@@ -1,7 +1,7 @@
 -- What is decided on, entered in the totals record. Assumes nothing: these are definitions.
+use Rattle.std.specs.Prelude.{Ok, Err}
+use Rattle.refusal.specs.Refusal.{Verdict}
 use Rattle.std.specs.Prelude.{ℕ, ◌+◌, ◌≤◌, ◌≡◌, cond, List}
-use Rattle.refusal.specs.declared.Verdict.{Verdict}
-use Rattle.refusal.specs.declared.Verdict.TheVariants.{Passed, Refused}
 use Rattle.refusal.specs.Refusal.{is_refused}
 use Rattle.header.specs.Verdicts.{fstOffset, fstSize, discEnd}
 use Rattle.space.specs.declared.DiscRegion.{DiscRegion}
@@ -31,8 +31,8 @@ accounted d t = record { decision = d; totals = t }
 
 -- refused if the record cannot move on
 abbrev pub unless : Verdict → Decision → Decision
-unless Passed d = d
-unless (Refused c) d = decision.Refused c
+unless (Ok _) d = d
+unless (Err c) d = decision.Refused c
 
 abbrev pub settledAs : Decision → Moved → Accounted
 settledAs d m = accounted (unless m.verdict d) m.totals

@@ -1,11 +1,11 @@
 -- What is decided on, entered in the record, gives the totals of the image that the edit leaves. Assumes nothing.
+use Rattle.std.specs.Prelude.{Ok, Err}
+use Rattle.refusal.specs.Refusal.{Verdict}
 use Rattle.std.specs.Prelude.{ℕ, ◌+◌, ◌-◌, ◌≤◌, ◌≡◌, refl, List, length}
 use Rattle.std.proofs.Common.{sym, ap, ◌∙◌, arith}
 use Rattle.endian.specs.Bytes.{span}
 use Rattle.endian.specs.Laws.Stored.{length-span}
 use Rattle.refusal.specs.declared.Refusal.{Refusal}
-use Rattle.refusal.specs.declared.Verdict.{Verdict}
-use Rattle.refusal.specs.declared.Verdict.TheVariants.{Passed, Refused}
 use Rattle.refusal.specs.Refusal.{first}
 use Rattle.header.specs.Verdicts.{fstOffset, fstSize, discEnd, table_end}
 use Rattle.tree.specs.Table.{encode}
@@ -73,8 +73,8 @@ module _ (image w : List ℕ) (m : ℕ) (o : IsOpen image w m) (image' : List �
 
 -- a passes the decision on with the new record, or refuses it with the old one
 pub record Entered (v : Verdict) (d : Decision) (t t' : Totals) (a : Accounted) : Type 0 where
-  pub passed : v ≡ Passed → a ≡ accounted d t'
-  pub refused : (c : Refusal) → v ≡ Refused c → a ≡ accounted (decision.Refused c) t
+  pub passed : v ≡ Ok tt → a ≡ accounted d t'
+  pub refused : (c : Refusal) → v ≡ Err c → a ≡ accounted (decision.Refused c) t
 
 -- the table in the working bytes has the size that was decided on
 table-size : (bytes table : List ℕ) (room size : ℕ) → length bytes ≡ room → size ≤ room → span bytes 0 size ≡ table → length table ≡ size
@@ -85,41 +85,41 @@ module _ (image w : List ℕ) (m room : ℕ) (bytes : List ℕ) (long : length b
   abbrev pub tested : Plan → Verdict
   tested p = first (planVerdict p image (length w) room) (totalsVerdict t (usedOf image) (usedOf image'))
 
-  refused-entered : (p : Plan) (c : Refusal) → Refused c ≡ planVerdict p image (length w) room → Entered (tested p) (decision.Refused c) t (totalsTo t image image') (accounted (decision.Refused c) t)
+  refused-entered : (p : Plan) (c : Refusal) → Err c ≡ planVerdict p image (length w) room → Entered (tested p) (decision.Refused c) t (totalsTo t image image') (accounted (decision.Refused c) t)
   refused-entered p c h =
-      let e : tested p ≡ Refused c = rw (← h) in
+      let e : tested p ≡ Err c = rw (← h) in
       record {
-        passed = λ q. let y : Refused c ≡ Passed = sym e ∙ q in let z : ◌≡◌ {A = ℕ} 0 1 = cc in absurd (omega arith);
-        refused = λ x q. let y : Refused c ≡ Refused x = sym e ∙ q in cc;
+        passed = λ q. let y : Err c ≡ Ok tt = sym e ∙ q in let z : ◌≡◌ {A = ℕ} 0 1 = cc in absurd (omega arith);
+        refused = λ x q. let y : Err c ≡ Err x = sym e ∙ q in cc;
       }
 
-  moved-entered : (p : Plan) (d : Decision) (a : Accounted) → Passed ≡ planVerdict p image (length w) room → a ≡ settledAs d (movedBy t (usedOf image) (usedOf image') (largestSize (freeOf image'))) →
+  moved-entered : (p : Plan) (d : Decision) (a : Accounted) → Ok tt ≡ planVerdict p image (length w) room → a ≡ settledAs d (movedBy t (usedOf image) (usedOf image') (largestSize (freeOf image'))) →
       Entered (tested p) d t (totalsTo t image image') a
   moved-entered p d a h e = record { passed = λ q. e ∙ go q; refused = λ c q. e ∙ stop c q }
     where
       25-is : tested p ≡ totalsVerdict t (usedOf image) (usedOf image')
       25-is = rw (← h)
 
-      go : tested p ≡ Passed → settledAs d (movedBy t (usedOf image) (usedOf image') (largestSize (freeOf image'))) ≡ accounted d (totalsTo t image image')
+      go : tested p ≡ Ok tt → settledAs d (movedBy t (usedOf image) (usedOf image') (largestSize (freeOf image'))) ≡ accounted d (totalsTo t image image')
       go q = rw (sym 25-is ∙ q)
 
-      stop : (c : Refusal) → tested p ≡ Refused c → settledAs d (movedBy t (usedOf image) (usedOf image') (largestSize (freeOf image'))) ≡ accounted (decision.Refused c) t
+      stop : (c : Refusal) → tested p ≡ Err c → settledAs d (movedBy t (usedOf image) (usedOf image') (largestSize (freeOf image'))) ≡ accounted (decision.Refused c) t
       stop c q = rw (sym 25-is ∙ q)
 
   -- nothing is written but a clip
-  none-entered : (p : Plan) (d : Decision) → Passed ≡ planVerdict p image (length w) room → Lays nothing image image' →
+  none-entered : (p : Plan) (d : Decision) → Ok tt ≡ planVerdict p image (length w) room → Lays nothing image image' →
       Entered (tested p) d t (totalsTo t image image') (settledAs d (enteredAs image (regionsIn w 1 (m - 1)) t (fstSize image) noPlace noPlace))
   none-entered p d h l = moved-entered p d _ h (ap (settledAs d) (moves image w m o image' (fstSize image) noPlace noPlace l.0 t))
 
   -- a table is
-  write-entered : (p : Plan) (k : ℕ) (c : Change) (n size : ℕ) (x : Writing) → Passed ≡ planVerdict p image (length w) room → Lays (change k c) image image' → length (encode c.nodes) ≡ size → c.old ≡ x.old → c.place ≡ x.place →
+  write-entered : (p : Plan) (k : ℕ) (c : Change) (n size : ℕ) (x : Writing) → Ok tt ≡ planVerdict p image (length w) room → Lays (change k c) image image' → length (encode c.nodes) ≡ size → c.old ≡ x.old → c.place ≡ x.place →
       Entered (tested p) (decision.Write n size x) t (totalsTo t image image') (accountOf image (regionsIn w 1 (m - 1)) (decision.Write n size x) t)
   write-entered p k c n size x h l l₀ eo ep =
       let s : LaidOut image image' size x.old x.place = rw (l₀, eo, ep) at l in
       moved-entered p (decision.Write n size x) _ h (ap (settledAs (decision.Write n size x)) (moves image w m o image' size x.old x.place s t))
 
   -- LAW: of what a plan comes to, whose layout the new image has
-  pub entered : (p : Plan) (clip : List ℕ) (d : Decision) → DecidedAs (planVerdict p image (length w) room) p image room bytes clip d → (planVerdict p image (length w) room ≡ Passed → Lays p image image') →
+  pub entered : (p : Plan) (clip : List ℕ) (d : Decision) → DecidedAs (planVerdict p image (length w) room) p image room bytes clip d → (planVerdict p image (length w) room ≡ Ok tt → Lays p image image') →
       Entered (tested p) d t (totalsTo t image image') (accountOf image (regionsIn w 1 (m - 1)) d t)
   entered p clip (decision.Refused c) h l = refused-entered p c h.answer
   entered (refused v) clip decision.Nothing h l = absurd h.carries
@@ -148,7 +148,7 @@ module _ (image w : List ℕ) (m room : ℕ) (bytes : List ℕ) (long : length b
 
 -- LAW: a table that is to be written ends on the disc
 module _ (image w : List ℕ) (m room : ℕ) (bytes clip : List ℕ) (o : IsOpen image w m) (long : length bytes ≡ room) where
-  table-ends : (c : Change) (size : ℕ) → tableVerdict c image (length w) room ≡ Passed → size ≤ room → span bytes 0 size ≡ encode c.nodes → fstOffset image + size ≤ discEnd image
+  table-ends : (c : Change) (size : ℕ) → tableVerdict c image (length w) room ≡ Ok tt → size ≤ room → span bytes 0 size ≡ encode c.nodes → fstOffset image + size ≤ discEnd image
   table-ends c size v held e =
       rw (table-size bytes (encode c.nodes) room size long held e) at (room-law.room c image (length w) room (opened image (length w) o.known.passed o.known.bytes) v).end
 

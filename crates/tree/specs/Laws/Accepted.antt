@@ -1,11 +1,11 @@
 -- What acceptance gives: the entries of an accepted table are a well-formed tree within the limits, and every place that its entries
 -- name lies in the table. Assumes nothing.
+use Rattle.std.specs.Prelude.{Ok}
 use Rattle.std.specs.Prelude.{ℕ, zero, suc, ◌+◌, ◌-◌, ◌*◌, ◌^◌, ◌<◌, ◌≤◌, ◌≡◌, refl, Bool, true, false, not, ◌&&◌, List, [], ◌∷◌, length, get_or, leb, ltb, eqb}
 use Rattle.std.proofs.Common.{ap, ◌∙◌, arith, add-zero, ltb-false, leb-false, lt-ltb, eqb-true, le-leb}
 use Rattle.std.proofs.lemmas.Bool.{eqb-false, not-false}
 use Rattle.endian.specs.Bytes.{AllBytes}
 use Rattle.endian.specs.Laws.Stored.{be32-small}
-use Rattle.refusal.specs.declared.Verdict.TheVariants.{Passed}
 use Rattle.refusal.specs.declared.Refusal.TheVariants.{EntryPastTable, UnrecognizedKind, RootIsNotDirectory, MissingNullTerminator, LimitOrMemory, InvalidNextIndex}
 use Rattle.refusal.specs.Laws.Chains.{refuse-passed, first-passed}
 use Rattle.tree.specs.Table.{Node, file, directory, name_of, none, plain, safe, kind, nameOffset, offsetOrParent, sizeOrNext, count, name_at, nodeWith, nodeAt, nodesFrom, nodesOf, entryVerdict, entriesVerdict, unended, top, shut, enter, nameVerdict, nextVerdict, walk, check, shallowEntry, shallowFrom, shallow}
@@ -15,7 +15,7 @@ use Rattle.tree.specs.Laws.Texts.{name-ends}
 
 -- ---- each test
 
-name-passed : (tab : List ℕ) (c k : ℕ) (nm : List ℕ) → nameVerdict tab c k nm ≡ Passed → (nameOffset tab k < length tab - 12 * c) × GoodName nm
+name-passed : (tab : List ℕ) (c k : ℕ) (nm : List ℕ) → nameVerdict tab c k nm ≡ Ok tt → (nameOffset tab k < length tab - 12 * c) × GoodName nm
 unfolding nameVerdict
 name-passed tab c k nm e = go (leb (length tab - 12 * c) (nameOffset tab k)) refl (plain nm) refl (safe nm) refl
   where
@@ -27,7 +27,7 @@ name-passed tab c k nm e = go (leb (length tab - 12 * c) (nameOffset tab k)) ref
     go false a≡ false p≡ false s≡ = let e' = simp (a≡, p≡, s≡) at e in let z : ◌≡◌ {A = ℕ} 0 1 = cc in absurd (omega arith)
 
 next-passed : (c k : ℕ) (dirs : List ℕ) (kd : ℕ) (nm : List ℕ) (a b : ℕ) → a < 2 ^ 32 → b < 2 ^ 32 →
-    nextVerdict c dirs k (nodeWith kd nm a b) ≡ Passed → GoodEntry c dirs k (nodeWith kd nm a b)
+    nextVerdict c dirs k (nodeWith kd nm a b) ≡ Ok tt → GoodEntry c dirs k (nodeWith kd nm a b)
 unfolding nextVerdict
 next-passed c k dirs zero nm a b ha hb e = (ha, hb)
 next-passed c k dirs (suc kd) nm a next ha hb e =
@@ -36,7 +36,7 @@ next-passed c k dirs (suc kd) nm a next ha hb e =
     let e₃ = refuse-passed (ltb (top dirs) next) InvalidNextIndex _ e₂.1 in
     (leb-false _ _ e₁.0, ltb-false _ _ e₂.0, ltb-false _ _ e₃.0)
 
-depth-passed : (c k : ℕ) (dirs : List ℕ) (x : Node) → nextVerdict c dirs k x ≡ Passed → shallowEntry dirs x ≡ true
+depth-passed : (c k : ℕ) (dirs : List ℕ) (x : Node) → nextVerdict c dirs k x ≡ Ok tt → shallowEntry dirs x ≡ true
 unfolding nextVerdict
 depth-passed c k dirs (file nm offset size) e = refl
 depth-passed c k dirs (directory nm next) e =
@@ -46,7 +46,7 @@ depth-passed c k dirs (directory nm next) e =
     let e₄ = refuse-passed (ltb 64 (length dirs)) LimitOrMemory _ e₃.1 in
     le-leb (length dirs) 64 (ltb-false _ _ e₄.0)
 
-entry-passed : (tab : List ℕ) (k : ℕ) → entryVerdict tab k ≡ Passed → (12 * k + 12 ≤ length tab) × (kind tab k ≤ 1)
+entry-passed : (tab : List ℕ) (k : ℕ) → entryVerdict tab k ≡ Ok tt → (12 * k + 12 ≤ length tab) × (kind tab k ≤ 1)
 unfolding entryVerdict
 entry-passed tab k e =
     let e₁ = refuse-passed (ltb (length tab) (12 * k + 12)) EntryPastTable _ e in
@@ -55,7 +55,7 @@ entry-passed tab k e =
 
 -- ---- along the entries
 
-entries-passed : (tab : List ℕ) (k n : ℕ) → entriesVerdict tab k n ≡ Passed → (i : ℕ) → i < n → (12 * (k + i) + 12 ≤ length tab) × (kind tab (k + i) ≤ 1)
+entries-passed : (tab : List ℕ) (k n : ℕ) → entriesVerdict tab k n ≡ Ok tt → (i : ℕ) → i < n → (12 * (k + i) + 12 ≤ length tab) × (kind tab (k + i) ≤ 1)
 unfolding entriesVerdict
 entries-passed tab k zero e i h = absurd (omega arith)
 entries-passed tab k (suc n) e zero h = rw (add-zero k) (entry-passed tab k (first-passed (entryVerdict tab k) _ e).0)
@@ -63,7 +63,7 @@ entries-passed tab k (suc n) e (suc i) h =
     let m : k + suc i ≡ suc k + i = omega arith in
     rw m (entries-passed tab (suc k) n (first-passed (entryVerdict tab k) _ e).1 i (omega arith))
 
-walk-offset : (tab : List ℕ) (c k : ℕ) (dirs : List ℕ) (xs : List Node) → walk tab c dirs k xs ≡ Passed → (i : ℕ) → i < length xs → nameOffset tab (k + i) < length tab - 12 * c
+walk-offset : (tab : List ℕ) (c k : ℕ) (dirs : List ℕ) (xs : List Node) → walk tab c dirs k xs ≡ Ok tt → (i : ℕ) → i < length xs → nameOffset tab (k + i) < length tab - 12 * c
 unfolding walk
 walk-offset tab c k dirs [] e i h = absurd (omega arith)
 walk-offset tab c k dirs (x ∷ xs) e zero h = rw (add-zero k) (name-passed tab c k (name_of x) (first-passed (nameVerdict tab c k (name_of x)) _ e).0).0
@@ -73,7 +73,7 @@ walk-offset tab c k dirs (x ∷ xs) e (suc i) h =
     let m : k + suc i ≡ suc k + i = omega arith in
     rw m (walk-offset tab c (suc k) (enter (shut k dirs) x) xs e₂.1 i (omega arith))
 
-walk-shallow : (tab : List ℕ) (c k : ℕ) (dirs : List ℕ) (xs : List Node) → walk tab c dirs k xs ≡ Passed → shallowFrom dirs k xs ≡ true
+walk-shallow : (tab : List ℕ) (c k : ℕ) (dirs : List ℕ) (xs : List Node) → walk tab c dirs k xs ≡ Ok tt → shallowFrom dirs k xs ≡ true
 unfolding walk shallowFrom
 walk-shallow tab c k dirs [] e = refl
 walk-shallow tab c k dirs (x ∷ xs) e =
@@ -81,7 +81,7 @@ walk-shallow tab c k dirs (x ∷ xs) e =
     let e₂ = first-passed (nextVerdict c (shut k dirs) k x) _ e₁.1 in
     and_both (shallowEntry (shut k dirs) x) _ (depth-passed c k (shut k dirs) x e₂.0) (walk-shallow tab c (suc k) (enter (shut k dirs) x) xs e₂.1)
 
-walk-sound : (tab : List ℕ) → AllBytes tab → (c k n : ℕ) (dirs : List ℕ) → walk tab c dirs k (nodesFrom tab c k n) ≡ Passed → Sound c dirs k (nodesFrom tab c k n)
+walk-sound : (tab : List ℕ) → AllBytes tab → (c k n : ℕ) (dirs : List ℕ) → walk tab c dirs k (nodesFrom tab c k n) ≡ Ok tt → Sound c dirs k (nodesFrom tab c k n)
 unfolding nodesFrom walk nodeAt
 walk-sound tab bytes c k zero dirs e = tt
 walk-sound tab bytes c k (suc n) dirs e =
@@ -140,7 +140,7 @@ not-unended tab c e h =
     let e' : (true && not (eqb (get_or tab (length tab - 1) 0) 0)) ≡ false = rw (lt-ltb (12 * c) (length tab) h) at e in
     eqb-true _ _ (not-false (eqb (get_or tab (length tab - 1) 0) 0) e')
 
-pub accepted : (tab : List ℕ) (words : ℕ) → AllBytes tab → check tab words ≡ Passed → Accepted tab words
+pub accepted : (tab : List ℕ) (words : ℕ) → AllBytes tab → check tab words ≡ Ok tt → Accepted tab words
 unfolding check nodesOf count shallow
 accepted tab words bytes e =
     let c : ℕ = count tab in

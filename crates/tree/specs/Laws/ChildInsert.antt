@@ -1,4 +1,5 @@
 -- An insert and lookup: each child is found under its name as before, and the new entry under its own. Assumes nothing.
+use Rattle.std.specs.Prelude.{Result, Ok, Err}
 use Rattle.std.specs.Prelude.{ℕ, suc, ◌+◌, ◌-◌, ◌<◌, ◌≤◌, min, ◌≡◌, refl, Bool, true, false, List, length, get_or, eqb}
 use Rattle.std.proofs.Common.{sym, ap, ◌∙◌, ⊎_elim, arith, eqb-true, eq-eqb, ne_eqb}
 use Rattle.std.proofs.lemmas.Bool.{eqb-false}
@@ -7,8 +8,6 @@ use Rattle.endian.specs.Laws.Stored.{same_refl}
 use Rattle.refusal.specs.Laws.Tests.{lt-or-le, and-false}
 use Rattle.refusal.specs.declared.Refusal.{Refusal}
 use Rattle.refusal.specs.declared.Refusal.TheVariants.{NotFound}
-use Rattle.tree.specs.declared.Located.{Located}
-use Rattle.tree.specs.declared.Located.TheVariants.{At, Refused}
 use Rattle.tree.specs.Table.{Node, file, directory, name_of, none, parent_of}
 use Rattle.tree.specs.Lookup.{isDirectory, next_of, childNamed, childOf}
 use Rattle.tree.specs.Insert.{earlier, later, insertAt, shifted}
@@ -20,9 +19,9 @@ use Rattle.tree.specs.Laws.InsertedParents.{around, between, parent-inserted-bef
 use Rattle.tree.specs.Laws.Children.{Child, child-is, child-at, child-none, child-missing, child-named}
 
 -- an answer with the new numbers
-abbrev pub moved : ℕ → Located → Located
-moved q (At k) = At (shifted q k)
-moved q (Refused c) = Refused c
+abbrev pub moved : ℕ → Result ℕ Refusal → Result ℕ Refusal
+moved q (Ok k) = Ok (shifted q k)
+moved q (Err c) = Err c
 
 pub shifted-low : (q k : ℕ) → k < q → shifted q k ≡ k
 shifted-low q k h = omega (arith, shifted-min q k)
@@ -131,13 +130,13 @@ module _ (nodes : List Node) (p q : ℕ) (nm : List ℕ) (new : Node) (w : Neste
     pub child-moved : (d ≡ p → ⊥) → childOf N (shifted q d) name ≡ moved q (childOf nodes d name)
     child-moved apart = go (childOf nodes d name) refl
       where
-        go : (a : Located) → childOf nodes d name ≡ a → childOf N (shifted q d) name ≡ moved q a
-        go (At k) e =
+        go : (a : Result ℕ Refusal) → childOf nodes d name ≡ a → childOf N (shifted q d) name ≡ moved q a
+        go (Ok k) e =
             let x : Child nodes d name k = child-is nodes d name k e in
             let k< : k < next_of (get_or nodes d none) = x.before in
             child-at N (shifted q d) name (shifted q k) (shifted_up k x.after) ((range d k d<n x.after).0 k<) (named-shifted d name k (inside-all k k<) ∙ child-named nodes d name k x)
             (λ j a b. none-new k (omega arith) x.first apart j (place q j) a (λ i c s. omega (arith, shifted-min q i, shifted-min q k)))
-        go (Refused c) e =
+        go (Err c) e =
             let m = child-missing nodes d name c e in
             rw m.0 (child-none N (shifted q d) name (λ j a b. none-new (next_of (get_or nodes d none)) (omega arith) m.1 apart j (place q j) a (λ i c s. (range d i d<n c).1 (rw s b))))
 
@@ -158,27 +157,27 @@ module _ (nodes : List Node) (p q : ℕ) (nm : List ℕ) (new : Node) (w : Neste
   old-end : next_of (get_or nodes p none) ≡ q
   old-end = rw dir
 
-  pub child-kept : (name : List ℕ) (k : ℕ) → childOf nodes p name ≡ At k → childOf N p name ≡ At k
+  pub child-kept : (name : List ℕ) (k : ℕ) → childOf nodes p name ≡ Ok k → childOf N p name ≡ Ok k
   child-kept name k e =
       let x : Child nodes p name k = child-is nodes p name k e in
       let l : k < q = omega (arith, x.before, old-end) in
       child-at N p name k x.after (omega (arith, next_here)) (named_here name k l ∙ child-named nodes p name k x) (λ j a b. named_here name j (omega arith) ∙ x.first j a b)
 
-  none_before : (name : List ℕ) (c : Refusal) → childOf nodes p name ≡ Refused c → (j : ℕ) → p < j → j < q → childNamed N p name j ≡ false
+  none_before : (name : List ℕ) (c : Refusal) → childOf nodes p name ≡ Err c → (j : ℕ) → p < j → j < q → childNamed N p name j ≡ false
   none_before name c e j a b = named_here name j b ∙ (child-missing nodes p name c e).1 j a (omega (arith, old-end))
 
   -- the new entry is found under its name, if no child had it
-  pub child-new : (c : Refusal) → childOf nodes p (name_of new) ≡ Refused c → childOf N p (name_of new) ≡ At q
+  pub child-new : (c : Refusal) → childOf nodes p (name_of new) ≡ Err c → childOf N p (name_of new) ≡ Ok q
   child-new c e =
       child-at N p (name_of new) q p< (omega (arith, next_here))
       (rw (parent-inserted-at nodes p q nm new w dir p<n, inserted-at nodes p q nm new w dir p<n, eq-eqb p p refl) (same_refl (name_of new)))
       (none_before (name_of new) c e)
 
-  pub child-other : (name : List ℕ) (c : Refusal) → childOf nodes p name ≡ Refused c → sameBytes (name_of new) name ≡ false → childOf N p name ≡ Refused NotFound
+  pub child-other : (name : List ℕ) (c : Refusal) → childOf nodes p name ≡ Err c → sameBytes (name_of new) name ≡ false → childOf N p name ≡ Err NotFound
   child-other name c e s =
       child-none N p name (λ j a b. ⊎_elim (λ (l : j < q). none_before name c e j a l)
       (λ (l : q ≤ j). let j≡ : j ≡ q = omega (arith, next_here) in rw (j≡, inserted-at nodes p q nm new w dir p<n, s) (and-false (eqb (parent_of N q) p))) (lt-or-le j q))
 
   -- and has no children
-  pub child-empty : (name : List ℕ) → childOf N q name ≡ Refused NotFound
+  pub child-empty : (name : List ℕ) → childOf N q name ≡ Err NotFound
   child-empty name = child-none N q name (λ j a b. absurd (omega (arith, new-most q new fresh, rw (inserted-at nodes p q nm new w dir p<n) at b)))

@@ -1,5 +1,6 @@
 -- A directory's children one after the other: the first with a name, and a loop over them, from a child to the next past all that is in it.
 -- Assumes nothing.
+use Rattle.std.specs.Prelude.{Ok, Err}
 use Rattle.std.specs.Prelude.{ℕ, zero, suc, ◌+◌, ◌-◌, ◌<◌, ◌≤◌, ◌≡◌, refl, Bool, true, false, cond, List, length, get_or, eqb}
 use Rattle.std.proofs.Common.{◌∙◌, ⊎_elim, arith, add-zero, ltb-false, eqb-true, lt-ltb, le-ltb, eq-eqb, ne_eqb}
 use Rattle.endian.specs.Bytes.{sameBytes}
@@ -7,7 +8,6 @@ use Rattle.endian.specs.Laws.Stored.{same-eq, same_refl}
 use Rattle.refusal.specs.Laws.Tests.{lt-or-le, and_left, and_right, and-false}
 use Rattle.refusal.specs.declared.Refusal.{Refusal}
 use Rattle.refusal.specs.declared.Refusal.TheVariants.{NotFound}
-use Rattle.tree.specs.declared.Located.TheVariants.{At, Refused}
 use Rattle.tree.specs.Table.{Node, file, directory, name_of, none, encloses, parent_of}
 use Rattle.tree.specs.Inner.WellFormed.{WellFormed}
 use Rattle.tree.specs.Lookup.{next_of, childNamed, firstChild, childOf}
@@ -32,14 +32,14 @@ pub record Child (nodes : List Node) (d : ℕ) (nm : List ℕ) (k : ℕ) : Type 
 pub named : (nodes : List Node) (d : ℕ) (nm : List ℕ) (k : ℕ) → childNamed nodes d nm k ≡ true → (parent_of nodes k ≡ d) × (name_of (get_or nodes k none) ≡ nm)
 named nodes d nm k e = (eqb-true _ _ (and_left (eqb (parent_of nodes k) d) _ e), same-eq _ _ (and_right (eqb (parent_of nodes k) d) _ e))
 
-found_at : (nodes : List Node) (d : ℕ) (nm : List ℕ) (k n j : ℕ) → firstChild nodes d nm k n ≡ At j →
+found_at : (nodes : List Node) (d : ℕ) (nm : List ℕ) (k n j : ℕ) → firstChild nodes d nm k n ≡ Ok j →
     (k ≤ j) × (j < k + n) × (childNamed nodes d nm j ≡ true) × ((i : ℕ) → k ≤ i → i < j → childNamed nodes d nm i ≡ false)
 unfolding firstChild
 found_at nodes d nm k zero j e = let z : ◌≡◌ {A = ℕ} 0 1 = cc in absurd (omega arith)
 found_at nodes d nm k (suc n) j e = go (childNamed nodes d nm k) refl e (found_at nodes d nm (suc k) n j)
   where
-    go : (t : Bool) → childNamed nodes d nm k ≡ t → cond t (At k) (firstChild nodes d nm (suc k) n) ≡ At j →
-        (firstChild nodes d nm (suc k) n ≡ At j → (suc k ≤ j) × (j < suc k + n) × (childNamed nodes d nm j ≡ true) × ((i : ℕ) → suc k ≤ i → i < j → childNamed nodes d nm i ≡ false)) →
+    go : (t : Bool) → childNamed nodes d nm k ≡ t → cond t (Ok k) (firstChild nodes d nm (suc k) n) ≡ Ok j →
+        (firstChild nodes d nm (suc k) n ≡ Ok j → (suc k ≤ j) × (j < suc k + n) × (childNamed nodes d nm j ≡ true) × ((i : ℕ) → suc k ≤ i → i < j → childNamed nodes d nm i ≡ false)) →
         (k ≤ j) × (j < k + suc n) × (childNamed nodes d nm j ≡ true) × ((i : ℕ) → k ≤ i → i < j → childNamed nodes d nm i ≡ false)
     go true t≡ q ih =
         let j≡ : k ≡ j = cc in
@@ -48,7 +48,7 @@ found_at nodes d nm k (suc n) j e = go (childNamed nodes d nm k) refl e (found_a
         let f = ih q in
         (omega arith, omega arith, f.2, λ i a b. ⊎_elim (λ (h : k < i). f.3 i (omega arith) b) (λ (h : i ≤ k). let i≡ : i ≡ k = omega arith in rw i≡ t≡) (lt-or-le k i))
 
-pub child-is : (nodes : List Node) (d : ℕ) (nm : List ℕ) (k : ℕ) → childOf nodes d nm ≡ At k → Child nodes d nm k
+pub child-is : (nodes : List Node) (d : ℕ) (nm : List ℕ) (k : ℕ) → childOf nodes d nm ≡ Ok k → Child nodes d nm k
 unfolding childOf
 child-is nodes d nm k e =
     let f = found_at nodes d nm (suc d) (next_of (get_or nodes d none) - suc d) k e in
@@ -56,21 +56,21 @@ child-is nodes d nm k e =
     record { after = omega (arith, f.0); before = omega (arith, f.0, f.1); parent = n.0; name = n.1; first = λ j a b. f.3 j (omega arith) b }
 
 -- where there is none, the cause is NotFound, and no entry is one
-missing : (nodes : List Node) (d : ℕ) (nm : List ℕ) (k n : ℕ) (c : Refusal) → firstChild nodes d nm k n ≡ Refused c →
+missing : (nodes : List Node) (d : ℕ) (nm : List ℕ) (k n : ℕ) (c : Refusal) → firstChild nodes d nm k n ≡ Err c →
     (c ≡ NotFound) × ((j : ℕ) → k ≤ j → j < k + n → childNamed nodes d nm j ≡ false)
 unfolding firstChild
 missing nodes d nm k zero c e = (cc, λ j a b. absurd (omega arith))
 missing nodes d nm k (suc n) c e = go (childNamed nodes d nm k) refl e (missing nodes d nm (suc k) n c)
   where
-    go : (t : Bool) → childNamed nodes d nm k ≡ t → cond t (At k) (firstChild nodes d nm (suc k) n) ≡ Refused c →
-        (firstChild nodes d nm (suc k) n ≡ Refused c → (c ≡ NotFound) × ((j : ℕ) → suc k ≤ j → j < suc k + n → childNamed nodes d nm j ≡ false)) →
+    go : (t : Bool) → childNamed nodes d nm k ≡ t → cond t (Ok k) (firstChild nodes d nm (suc k) n) ≡ Err c →
+        (firstChild nodes d nm (suc k) n ≡ Err c → (c ≡ NotFound) × ((j : ℕ) → suc k ≤ j → j < suc k + n → childNamed nodes d nm j ≡ false)) →
         (c ≡ NotFound) × ((j : ℕ) → k ≤ j → j < k + suc n → childNamed nodes d nm j ≡ false)
     go true t≡ q ih = let z : ◌≡◌ {A = ℕ} 0 1 = cc in absurd (omega arith)
     go false t≡ q ih =
         let f = ih q in
         (f.0, λ j a b. ⊎_elim (λ (h : k < j). f.1 j (omega arith) (omega arith)) (λ (h : j ≤ k). let j≡ : j ≡ k = omega arith in rw j≡ t≡) (lt-or-le k j))
 
-pub child-missing : (nodes : List Node) (d : ℕ) (nm : List ℕ) (c : Refusal) → childOf nodes d nm ≡ Refused c →
+pub child-missing : (nodes : List Node) (d : ℕ) (nm : List ℕ) (c : Refusal) → childOf nodes d nm ≡ Err c →
     (c ≡ NotFound) × ((j : ℕ) → d < j → j < next_of (get_or nodes d none) → childNamed nodes d nm j ≡ false)
 unfolding childOf
 child-missing nodes d nm c e =
@@ -88,20 +88,20 @@ afterNode (file nm offset size) k = k + 1
 afterNode (directory nm next) k = next
 
 -- where the search is at k, which is at or before the directory's end m
-pub search-end : (nodes : List Node) (d : ℕ) (nm : List ℕ) (k m : ℕ) → m ≤ k → firstChild nodes d nm k (m - k) ≡ Refused NotFound
+pub search-end : (nodes : List Node) (d : ℕ) (nm : List ℕ) (k m : ℕ) → m ≤ k → firstChild nodes d nm k (m - k) ≡ Err NotFound
 unfolding firstChild
 search-end nodes d nm k m h =
     let e : m - k ≡ 0 = omega arith in
     rw e
 
-search-step : (nodes : List Node) (d : ℕ) (nm : List ℕ) (k m : ℕ) → k < m → firstChild nodes d nm k (m - k) ≡ cond (childNamed nodes d nm k) (At k) (firstChild nodes d nm (suc k) (m - suc k))
+search-step : (nodes : List Node) (d : ℕ) (nm : List ℕ) (k m : ℕ) → k < m → firstChild nodes d nm k (m - k) ≡ cond (childNamed nodes d nm k) (Ok k) (firstChild nodes d nm (suc k) (m - suc k))
 unfolding firstChild
 search-step nodes d nm k m h =
     let e : m - k ≡ suc (m - suc k) = omega arith in
     rw e
 
 pub search-found : (nodes : List Node) (d : ℕ) (nm : List ℕ) (k m : ℕ) → k < m → parent_of nodes k ≡ d → sameBytes (name_of (get_or nodes k none)) nm ≡ true →
-    firstChild nodes d nm k (m - k) ≡ At k
+    firstChild nodes d nm k (m - k) ≡ Ok k
 search-found nodes d nm k m h e s = rw (search-step nodes d nm k m h, eq-eqb (parent_of nodes k) d e, s)
 
 -- entries that are no child with that name are passed over
@@ -114,7 +114,7 @@ search-skip nodes d nm m k (suc i) h f =
 
 -- the converse of `child-is` and `child-missing`
 pub child-at : (nodes : List Node) (d : ℕ) (nm : List ℕ) (k : ℕ) → d < k → k < next_of (get_or nodes d none) → childNamed nodes d nm k ≡ true →
-    ((j : ℕ) → d < j → j < k → childNamed nodes d nm j ≡ false) → childOf nodes d nm ≡ At k
+    ((j : ℕ) → d < j → j < k → childNamed nodes d nm j ≡ false) → childOf nodes d nm ≡ Ok k
 unfolding childOf
 child-at nodes d nm k a b e f =
     let m : ℕ = next_of (get_or nodes d none) in
@@ -122,14 +122,14 @@ child-at nodes d nm k a b e f =
     let s : firstChild nodes d nm (suc d) (m - suc d) ≡ firstChild nodes d nm k (m - k) = rw n at (search-skip nodes d nm m (suc d) (k - suc d) (omega arith) (λ j x y. f j (omega arith) (omega arith))) in
     s ∙ search-step nodes d nm k m b ∙ rw e
 
-pub child-none : (nodes : List Node) (d : ℕ) (nm : List ℕ) → ((j : ℕ) → d < j → j < next_of (get_or nodes d none) → childNamed nodes d nm j ≡ false) → childOf nodes d nm ≡ Refused NotFound
+pub child-none : (nodes : List Node) (d : ℕ) (nm : List ℕ) → ((j : ℕ) → d < j → j < next_of (get_or nodes d none) → childNamed nodes d nm j ≡ false) → childOf nodes d nm ≡ Err NotFound
 unfolding childOf
 child-none nodes d nm f = ⊎_elim (λ (h : d < m). passed h) (λ (h : m ≤ d). search-end nodes d nm (suc d) m (omega arith)) (lt-or-le d m)
   where
     m : ℕ
     m = next_of (get_or nodes d none)
 
-    passed : d < m → firstChild nodes d nm (suc d) (m - suc d) ≡ Refused NotFound
+    passed : d < m → firstChild nodes d nm (suc d) (m - suc d) ≡ Err NotFound
     passed h =
         let n : suc d + (m - suc d) ≡ m = omega arith in
         let s : firstChild nodes d nm (suc d) (m - suc d) ≡ firstChild nodes d nm m (m - m) = rw n at (search-skip nodes d nm m (suc d) (m - suc d) (omega arith) (λ j x y. f j (omega arith) (omega arith))) in

@@ -1,8 +1,8 @@
 -- The depth of an entry, counted from parent to parent, and the limits of a tree with one entry more. Assumes nothing.
+use Rattle.std.specs.Prelude.{Ok}
 use Rattle.std.specs.Prelude.{ℕ, zero, suc, ◌+◌, ◌*◌, ◌<◌, ◌≤◌, ◌≡◌, refl, Bool, true, false, cond, not, ◌&&◌, length, get_or, ltb}
 use Rattle.std.proofs.Common.{ap, ◌∙◌, arith, ltb-true, ltb-false, lt-ltb, le-ltb}
 use mathlib.Core.List.{List, ◌∷◌, tail}
-use Rattle.refusal.specs.declared.Verdict.TheVariants.{Passed}
 use Rattle.refusal.specs.declared.Refusal.TheVariants.{LimitOrMemory}
 use Rattle.refusal.specs.Refusal.{refuse}
 use Rattle.tree.specs.Table.{Node, file, directory, name_of, none, encloses, parentBelow, parent_of, textsOf, shallow, limits}
@@ -79,7 +79,7 @@ pub limits-insert : (nodes : List Node) (p q : ℕ) (nm : List ℕ) (new : Node)
     refuse (ltb 16384 (suc (length nodes))) LimitOrMemory
     (refuse (ltb 1048576 (length (textsOf (tail nodes)) + suc (length (name_of new)))) LimitOrMemory
     (refuse (ltb words (4 * (suc (length nodes) + 2))) LimitOrMemory
-    (refuse (not (depthOk (suc (depth_of nodes p)) new && shallow nodes)) LimitOrMemory Passed)))
+    (refuse (not (depthOk (suc (depth_of nodes p)) new && shallow nodes)) LimitOrMemory (Ok tt))))
 unfolding limits
 limits-insert nodes p q nm new words w here p<n named fresh =
     rw (length-insert nodes p q nm new w here p<n, texts-grow nodes p q nm new w here p<n, insert-shallow nodes p q nm new w here p<n named fresh)

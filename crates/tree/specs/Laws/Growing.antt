@@ -1,8 +1,8 @@
 -- A tree that grows by inserts passes no limit that it passed before: what is too large on the way is too large at the end. Assumes nothing.
+use Rattle.std.specs.Prelude.{Ok, Err}
 use Rattle.std.specs.Prelude.{ℕ, suc, ◌+◌, ◌*◌, ◌<◌, ◌≤◌, ◌≡◌, refl, ◌⊎◌, Bool, true, false, not, length, get_or, ltb}
 use Rattle.std.proofs.Common.{sym, ◌∙◌, inl, inr, arith}
 use mathlib.Core.List.{List, tail}
-use Rattle.refusal.specs.declared.Verdict.TheVariants.{Passed, Refused}
 use Rattle.refusal.specs.declared.Refusal.TheVariants.{LimitOrMemory}
 use Rattle.refusal.specs.Refusal.{refuse}
 use Rattle.tree.specs.Table.{Node, directory, name_of, none, textsOf, encode, shallow, limits}
@@ -38,7 +38,7 @@ bigger-insert nodes p q nm new w dir p<n named fresh = record {
   depth = λ e. and_right (depthOk (suc (depth_of nodes p)) new) (shallow nodes) (sym (insert-shallow nodes p q nm new w dir p<n named fresh) ∙ e);
 }
 
-pub bigger-limits : (M F : List Node) (words : ℕ) → Bigger M F → limits F words ≡ Passed → limits M words ≡ Passed
+pub bigger-limits : (M F : List Node) (words : ℕ) → Bigger M F → limits F words ≡ Ok tt → limits M words ≡ Ok tt
 bigger-limits M F words b e =
     let i : Within F words = within-limits F words e in
     limits-within M words record { few = omega arith; texts = omega arith; room = omega arith; depth = b.depth i.depth }
@@ -47,11 +47,11 @@ pub bigger-encode : (M F : List Node) → Bigger M F → length (encode M) ≤ l
 bigger-encode M F b = omega (arith, length-encode M, length-encode F)
 
 -- the limits have one cause
-pub limits-either : (nodes : List Node) (words : ℕ) → (limits nodes words ≡ Passed) ⊎ (limits nodes words ≡ Refused LimitOrMemory)
+pub limits-either : (nodes : List Node) (words : ℕ) → (limits nodes words ≡ Ok tt) ⊎ (limits nodes words ≡ Err LimitOrMemory)
 unfolding limits
 limits-either nodes words = go (ltb 16384 (length nodes)) (ltb 1048576 (length (textsOf (tail nodes)))) (ltb words (4 * (length nodes + 2))) (not (shallow nodes))
   where
-    go : (a b c d : Bool) → (refuse a LimitOrMemory (refuse b LimitOrMemory (refuse c LimitOrMemory (refuse d LimitOrMemory Passed))) ≡ Passed) ⊎ (refuse a LimitOrMemory (refuse b LimitOrMemory (refuse c LimitOrMemory (refuse d LimitOrMemory Passed))) ≡ Refused LimitOrMemory)
+    go : (a b c d : Bool) → (refuse a LimitOrMemory (refuse b LimitOrMemory (refuse c LimitOrMemory (refuse d LimitOrMemory (Ok tt)))) ≡ Ok tt) ⊎ (refuse a LimitOrMemory (refuse b LimitOrMemory (refuse c LimitOrMemory (refuse d LimitOrMemory (Ok tt)))) ≡ Err LimitOrMemory)
     go true b c d = inr refl
     go false true c d = inr refl
     go false false true d = inr refl

@@ -1,4 +1,6 @@
 -- A safe name is a path of one component, and a path with `/` and a name behind it leads to the child of that name. Assumes nothing.
+use Rattle.std.specs.Prelude.{Result, Ok, Err}
+use Rattle.refusal.specs.declared.Refusal.{Refusal}
 use Rattle.std.specs.Prelude.{ℕ, ◌<◌, refl, Bool, not, ◌&&◌, ◌||◌, length, get_or, ltb, eqb}
 use Rattle.std.proofs.Math.Path.{◌≡◌}
 use Rattle.std.proofs.Math.Bool.{true, false, cond}
@@ -7,8 +9,6 @@ use Rattle.std.proofs.Common.{arith, lt-ltb}
 use Rattle.std.proofs.lemmas.Bool.{not-true}
 use Rattle.refusal.specs.Laws.Tests.{and_left, and_right}
 use Rattle.refusal.specs.declared.Refusal.TheVariants.{NoSuchEntry, ExpectedDirectory}
-use Rattle.tree.specs.declared.Located.{Located}
-use Rattle.tree.specs.declared.Located.TheVariants.{At, Refused}
 use Rattle.tree.specs.Units.{leadByte, trailByte, TextUnit, single, pair, unitBytes, units}
 use Rattle.tree.specs.Laws.UnitLaws.{by_units, units-then}
 use Rattle.tree.specs.Table.{Node, none, every, safeByte, safeUnit, dots, safe}
@@ -91,37 +91,37 @@ unfolding components
 components-then path rest = rw (units-then path rest) (cut-then (units path) (units rest))
 
 -- the walk goes on from where it ended, with the trail that it has there
-follow-then : (nodes : List Node) (cs ds : List (List ℕ)) (trail : List ℕ) (k j : ℕ) → follow nodes trail k cs ≡ At j → (trail' : List ℕ) × (follow nodes trail k (cs ++ ds) ≡ follow nodes trail' j ds)
+follow-then : (nodes : List Node) (cs ds : List (List ℕ)) (trail : List ℕ) (k j : ℕ) → follow nodes trail k cs ≡ Ok j → (trail' : List ℕ) × (follow nodes trail k (cs ++ ds) ≡ follow nodes trail' j ds)
 unfolding follow
 follow-then nodes [] ds trail k j e = let k≡ : k ≡ j = cc in (trail, rw k≡)
 follow-then nodes (c ∷ cs) ds trail k j e = go (isDirectory (get_or nodes k none)) (stays c) (goesBack c) trail (childOf nodes k c) (λ t i. follow-then nodes cs ds t i j) e
   where
-    go : (d s b : Bool) (t : List ℕ) (a : Located) → ((t : List ℕ) (i : ℕ) → follow nodes t i cs ≡ At j → (trail' : List ℕ) × (follow nodes t i (cs ++ ds) ≡ follow nodes trail' j ds)) →
-        cond d (cond s (follow nodes t k cs) (cond b (stepBack t (λ i rest. follow nodes rest i cs)) (and_then a (λ i. follow nodes (k ∷ t) i cs)))) (Refused ExpectedDirectory) ≡ At j →
-        (trail' : List ℕ) × (cond d (cond s (follow nodes t k (cs ++ ds)) (cond b (stepBack t (λ i rest. follow nodes rest i (cs ++ ds))) (and_then a (λ i. follow nodes (k ∷ t) i (cs ++ ds))))) (Refused ExpectedDirectory) ≡ follow nodes trail' j ds)
+    go : (d s b : Bool) (t : List ℕ) (a : Result ℕ Refusal) → ((t : List ℕ) (i : ℕ) → follow nodes t i cs ≡ Ok j → (trail' : List ℕ) × (follow nodes t i (cs ++ ds) ≡ follow nodes trail' j ds)) →
+        cond d (cond s (follow nodes t k cs) (cond b (stepBack t (λ i rest. follow nodes rest i cs)) (and_then a (λ i. follow nodes (k ∷ t) i cs)))) (Err ExpectedDirectory) ≡ Ok j →
+        (trail' : List ℕ) × (cond d (cond s (follow nodes t k (cs ++ ds)) (cond b (stepBack t (λ i rest. follow nodes rest i (cs ++ ds))) (and_then a (λ i. follow nodes (k ∷ t) i (cs ++ ds))))) (Err ExpectedDirectory) ≡ follow nodes trail' j ds)
     go false s b t a ih q = let z : ◌≡◌ {A = ℕ} 0 1 = cc in absurd (omega arith)
     go true true b t a ih q = ih t k q
     go true false true [] a ih q = let z : ◌≡◌ {A = ℕ} 0 1 = cc in absurd (omega arith)
     go true false true (i ∷ rest) a ih q = ih rest i q
-    go true false false t (At i) ih q = ih (k ∷ t) i q
-    go true false false t (Refused r) ih q = let z : ◌≡◌ {A = ℕ} 0 1 = cc in absurd (omega arith)
+    go true false false t (Ok i) ih q = ih (k ∷ t) i q
+    go true false false t (Err r) ih q = let z : ◌≡◌ {A = ℕ} 0 1 = cc in absurd (omega arith)
 
-module _ (nodes : List Node) (d : ℕ) (nm : List ℕ) (k : ℕ) (dir : isDirectory (get_or nodes d none) ≡ true) (ok : safe nm ≡ true) (child : childOf nodes d nm ≡ At k) where
-  named_step : (trail : List ℕ) → follow nodes trail d (nm ∷ []) ≡ At k
+module _ (nodes : List Node) (d : ℕ) (nm : List ℕ) (k : ℕ) (dir : isDirectory (get_or nodes d none) ≡ true) (ok : safe nm ≡ true) (child : childOf nodes d nm ≡ Ok k) where
+  named_step : (trail : List ℕ) → follow nodes trail d (nm ∷ []) ≡ Ok k
   unfolding follow
   named_step trail = let n = safe-name nm ok in rw (dir, n.moves, n.forward, child)
 
   -- LAW: the name alone, from the directory
-  pub lookup-child : d < length nodes → lookup nodes d nm ≡ At k
+  pub lookup-child : d < length nodes → lookup nodes d nm ≡ Ok k
   unfolding lookup
   lookup-child h = rw (lt-ltb d (length nodes) h, (safe-name nm ok).one) (named_step [])
 
   -- LAW: and behind a path that leads to the directory
-  pub lookup-behind : (start : ℕ) (path : List ℕ) → lookup nodes start path ≡ At d → lookup nodes start (path ++ (0x2F ∷ nm)) ≡ At k
+  pub lookup-behind : (start : ℕ) (path : List ℕ) → lookup nodes start path ≡ Ok d → lookup nodes start (path ++ (0x2F ∷ nm)) ≡ Ok k
   unfolding lookup
   lookup-behind start path e = go (ltb start (length nodes)) e
     where
-      go : (t : Bool) → cond t (follow nodes [] start (components path)) (Refused NoSuchEntry) ≡ At d → cond t (follow nodes [] start (components (path ++ (0x2F ∷ nm)))) (Refused NoSuchEntry) ≡ At k
+      go : (t : Bool) → cond t (follow nodes [] start (components path)) (Err NoSuchEntry) ≡ Ok d → cond t (follow nodes [] start (components (path ++ (0x2F ∷ nm)))) (Err NoSuchEntry) ≡ Ok k
       go true q =
           let f = follow-then nodes (components path) (nm ∷ []) [] start d q in
           rw (components-then path nm, (safe-name nm ok).one, f.1) (named_step f.0)

@@ -1,4 +1,5 @@
 -- What is written reads as what was written, and is accepted exactly if the tree is within the limits. Assumes nothing.
+use Rattle.std.specs.Prelude.{Ok}
 use Rattle.std.specs.Prelude.{ℕ, suc, ◌+◌, ◌-◌, ◌*◌, ◌^◌, ◌<◌, ◌≤◌, ◌≡◌, Bool, not, get_or}
 use Rattle.std.proofs.Math.Path.{refl}
 use Rattle.std.proofs.Common.{ap, ◌∙◌, arith, length-append, drop_at}
@@ -9,7 +10,6 @@ use Rattle.std.proofs.Math.ListN.{length}
 use Rattle.std.proofs.Math.Dec.{ltb}
 use Rattle.endian.specs.Bytes.{be32}
 use Rattle.endian.specs.Laws.Stored.{be32-value}
-use Rattle.refusal.specs.declared.Verdict.TheVariants.{Passed}
 use Rattle.refusal.specs.declared.Refusal.TheVariants.{LimitOrMemory}
 use Rattle.refusal.specs.Refusal.{refuse}
 use Rattle.refusal.specs.Laws.Chains.{refuse-passed}
@@ -50,7 +50,7 @@ module _ (xs : List Node) (few : suc (length xs) < 2 ^ 32) where
   pred-count : suc (length xs) - 1 ≡ length xs
   pred-count = omega arith
 
-  tab-entries : entriesVerdict tab 1 (length xs) ≡ Passed
+  tab-entries : entriesVerdict tab 1 (length xs) ≡ Ok tt
   unfolding encode
   tab-entries = entries-accepted (whole xs) tab 1 0 xs (textsOf xs) refl
 
@@ -86,7 +86,7 @@ module _ (xs : List Node) (few : suc (length xs) < 2 ^ 32) where
       where
         go : (t : Bool) → ltb 1048576 (length (textsOf xs)) ≡ t →
             refuse t LimitOrMemory (refuse (ltb words (4 * (suc (length xs) + 2))) LimitOrMemory (walk tab (suc (length xs)) (suc (length xs) ∷ []) 1 (nodesFrom tab (suc (length xs)) 1 (length xs)))) ≡
-            refuse t LimitOrMemory (refuse (ltb words (4 * (suc (length xs) + 2))) LimitOrMemory (refuse (not (shallowFrom (suc (length xs) ∷ []) 1 xs)) LimitOrMemory Passed))
+            refuse t LimitOrMemory (refuse (ltb words (4 * (suc (length xs) + 2))) LimitOrMemory (refuse (not (shallowFrom (suc (length xs) ∷ []) 1 xs)) LimitOrMemory (Ok tt)))
         go true e = refl
         go false e =
             let h : length (textsOf xs) ≤ 1048576 = ltb-false 1048576 (length (textsOf xs)) e in
@@ -109,7 +109,7 @@ pub record Within (nodes : List Node) (words : ℕ) : Type 0 where
   pub room : 4 * (length nodes + 2) ≤ words
   pub depth : shallow nodes ≡ true
 
-pub within-limits : (nodes : List Node) (words : ℕ) → limits nodes words ≡ Passed → Within nodes words
+pub within-limits : (nodes : List Node) (words : ℕ) → limits nodes words ≡ Ok tt → Within nodes words
 unfolding limits
 within-limits nodes words e =
     let e₁ = refuse-passed (ltb 16384 (length nodes)) LimitOrMemory _ e in
@@ -118,14 +118,14 @@ within-limits nodes words e =
     let e₄ = refuse-passed (not (shallow nodes)) LimitOrMemory _ e₃.1 in
     record { few = ltb-false _ _ e₁.0; texts = ltb-false _ _ e₂.0; room = ltb-false _ _ e₃.0; depth = not-false (shallow nodes) e₄.0 }
 
-pub limits-within : (nodes : List Node) (words : ℕ) → Within nodes words → limits nodes words ≡ Passed
+pub limits-within : (nodes : List Node) (words : ℕ) → Within nodes words → limits nodes words ≡ Ok tt
 unfolding limits
 limits-within nodes words w =
     simp (le-ltb 16384 (length nodes) w.few, le-ltb 1048576 (length (textsOf (tail nodes))) w.texts, le-ltb words (4 * (length nodes + 2)) w.room, w.depth)
 
 -- a tree within the limits: its table is accepted, and reads as the tree
-pub written-accepted : (nodes : List Node) (words : ℕ) → WellFormed nodes → limits nodes words ≡ Passed → check (encode nodes) words ≡ Passed
+pub written-accepted : (nodes : List Node) (words : ℕ) → WellFormed nodes → limits nodes words ≡ Ok tt → check (encode nodes) words ≡ Ok tt
 written-accepted nodes words w l = check-limits nodes words w (omega (arith, (within-limits nodes words l).few)) ∙ l
 
-pub written-reads : (nodes : List Node) (words : ℕ) → WellFormed nodes → limits nodes words ≡ Passed → nodesOf (encode nodes) ≡ nodes
+pub written-reads : (nodes : List Node) (words : ℕ) → WellFormed nodes → limits nodes words ≡ Ok tt → nodesOf (encode nodes) ≡ nodes
 written-reads nodes words w l = let i : Within nodes words = within-limits nodes words l in round_trip nodes w (omega arith) (omega arith)

@@ -1,20 +1,20 @@
 -- One turn of a loop that looks for the first refusal, in the terms of a loop that counts k up to n: it stops at a refusal, goes on
 -- where there is none, and ends with none. Assumes nothing.
+use Rattle.std.specs.Prelude.{Ok, Err}
+use Rattle.refusal.specs.Refusal.{Verdict}
 use Prim.Native.Nat.{ℕ, suc, ◌+◌, ◌-◌, ◌<◌, ◌≤◌}
 use Rattle.std.specs.Prelude.{◌≡◌, refl, true, false, List, [], ◌∷◌}
 use Rattle.std.proofs.Common.{◌∙◌, le-leb}
 use native.Mathlib.Omega.{arith}
 use Rattle.std.proofs.Math.Numerals.{add-one}
 use Rattle.std.proofs.lemmas.Bool.{lt-leb}
-use Rattle.refusal.specs.declared.Verdict.{Verdict}
-use Rattle.refusal.specs.declared.Verdict.TheVariants.{Passed, Refused}
 use Rattle.refusal.specs.Refusal.{first, is_refused}
 use Rattle.refusal.specs.Laws.Chains.{first-stop, first-go}
 use Rattle.tree.specs.Table.{Node, name_of, nodeAt, nodesFrom, entryVerdict, entriesVerdict, shut, enter, nameVerdict, nextVerdict, walk}
 
 first-assoc : (a b c : Verdict) → first a (first b c) ≡ first (first a b) c
-first-assoc Passed b c = refl
-first-assoc (Refused r) b c = refl
+first-assoc (Ok _) b c = refl
+first-assoc (Err r) b c = refl
 
 -- ---- "each further entry in turn (5, 6)"
 
@@ -24,7 +24,7 @@ entries-step tab k n h =
     let e : n - k ≡ suc (n - (k + 1)) = omega arith in
     rw (e, add-one k)
 
-pub entries-end : (tab : List ℕ) (k n : ℕ) → n ≤ k → entriesVerdict tab k (n - k) ≡ Passed
+pub entries-end : (tab : List ℕ) (k n : ℕ) → n ≤ k → entriesVerdict tab k (n - k) ≡ Ok tt
 unfolding entriesVerdict
 entries-end tab k n h =
     let e : n - k ≡ 0 = omega arith in
@@ -52,7 +52,7 @@ module _ (tab : List ℕ) (c : ℕ) (dirs : List ℕ) (k n : ℕ) where
       let e : n - k ≡ suc (n - (k + 1)) = omega arith in
       rw (e, add-one k) (first-assoc (nameVerdict tab c k (name_of (nodeAt tab c k))) (nextVerdict c (shut k dirs) k (nodeAt tab c k)) _)
 
-  pub walk_end : n ≤ k → walk tab c dirs k (nodesFrom tab c k (n - k)) ≡ Passed
+  pub walk_end : n ≤ k → walk tab c dirs k (nodesFrom tab c k (n - k)) ≡ Ok tt
   unfolding walk nodesFrom
   walk_end h =
       let e : n - k ≡ 0 = omega arith in

@@ -1,11 +1,10 @@
 -- The small master's table read, written and accepted; a table for each refusal; nesting, shared names, an insert; and paths: by
 -- computing. Assumes nothing.
+use Rattle.std.specs.Prelude.{Ok, Err}
+use Rattle.refusal.specs.Refusal.{Verdict}
 use Rattle.std.specs.Prelude.{ℕ, ◌≡◌, refl, List, [], ◌∷◌, ◌++◌, set, take}
 use Rattle.endian.specs.Bytes.{be24, be32, put, be32Bytes, sameBytes}
-use Rattle.refusal.specs.declared.Verdict.{Verdict}
-use Rattle.refusal.specs.declared.Verdict.TheVariants.{Passed, Refused}
 use Rattle.refusal.specs.declared.Refusal.TheVariants.{EntryPastTable, UnrecognizedKind, RootIsNotDirectory, MissingNullTerminator, LimitOrMemory, InvalidNextIndex, InvalidNameOffset, InvalidNameByte, UnsafeName, NoSuchEntry, ExpectedDirectory, NotFound}
-use Rattle.tree.specs.declared.Located.TheVariants as located
 use Rattle.tree.specs.Units.{units}
 use Rattle.tree.specs.Table.{Node, file, directory, plain, safe, count, name_at, nodeAt, nodesFrom, nodesOf, entryVerdict, entriesVerdict, unended, shut, nameVerdict, nextVerdict, walk, check, parentBelow, parent_of, entriesBytes, textsOf, encode}
 use Rattle.tree.specs.Lookup.{componentsOf, components, firstChild, childOf, follow, lookup}
@@ -28,30 +27,30 @@ master-written : encode tree ≡ master
 unfolding encode entriesBytes textsOf parent_of parentBelow
 master-written = refl
 
-master-accepted : check master 16 ≡ Passed
+master-accepted : check master 16 ≡ Ok tt
 unfolding check nodesFrom nodeAt name_at count entriesVerdict entryVerdict unended walk nameVerdict nextVerdict shut plain safe units be24 be32
 master-accepted = refl
 
 -- ---- each refusal of a table, 5 to 13; a count of 0 is 10, of 2^24 it is 9
 
 refusals :
-    (check (take 11 master) 16 ≡ Refused EntryPastTable) ×
-    (check (take 23 master) 16 ≡ Refused EntryPastTable) ×
-    (check (set master 0 2) 16 ≡ Refused UnrecognizedKind) ×
-    (check (set master 12 2) 16 ≡ Refused UnrecognizedKind) ×
-    (check (set master 0 0) 16 ≡ Refused RootIsNotDirectory) ×
-    (check (take 25 master) 16 ≡ Refused MissingNullTerminator) ×
-    (check master 15 ≡ Refused LimitOrMemory) ×
-    (check (set master 8 1) 16 ≡ Refused LimitOrMemory) ×
-    (check (set master 11 0) 16 ≡ Refused InvalidNextIndex) ×
-    (check (set (set master 12 1) 23 1) 16 ≡ Refused InvalidNextIndex) ×
-    (check (set (set master 12 1) 22 3) 16 ≡ Refused InvalidNextIndex) ×
-    (check (set master 15 2) 16 ≡ Refused InvalidNameOffset) ×
-    (check (set master 24 0x1F) 16 ≡ Refused InvalidNameByte) ×
-    (check (take 24 master ++ (0x2F ∷ 0x7F ∷ 0 ∷ [])) 16 ≡ Refused InvalidNameByte) ×
-    (check (set master 24 0x2E) 16 ≡ Refused UnsafeName) ×
-    (check (set master 24 0x3A) 16 ≡ Refused UnsafeName) ×
-    (check (set master 15 1) 16 ≡ Refused UnsafeName)
+    (check (take 11 master) 16 ≡ Err EntryPastTable) ×
+    (check (take 23 master) 16 ≡ Err EntryPastTable) ×
+    (check (set master 0 2) 16 ≡ Err UnrecognizedKind) ×
+    (check (set master 12 2) 16 ≡ Err UnrecognizedKind) ×
+    (check (set master 0 0) 16 ≡ Err RootIsNotDirectory) ×
+    (check (take 25 master) 16 ≡ Err MissingNullTerminator) ×
+    (check master 15 ≡ Err LimitOrMemory) ×
+    (check (set master 8 1) 16 ≡ Err LimitOrMemory) ×
+    (check (set master 11 0) 16 ≡ Err InvalidNextIndex) ×
+    (check (set (set master 12 1) 23 1) 16 ≡ Err InvalidNextIndex) ×
+    (check (set (set master 12 1) 22 3) 16 ≡ Err InvalidNextIndex) ×
+    (check (set master 15 2) 16 ≡ Err InvalidNameOffset) ×
+    (check (set master 24 0x1F) 16 ≡ Err InvalidNameByte) ×
+    (check (take 24 master ++ (0x2F ∷ 0x7F ∷ 0 ∷ [])) 16 ≡ Err InvalidNameByte) ×
+    (check (set master 24 0x2E) 16 ≡ Err UnsafeName) ×
+    (check (set master 24 0x3A) 16 ≡ Err UnsafeName) ×
+    (check (set master 15 1) 16 ≡ Err UnsafeName)
 unfolding check nodesFrom nodeAt name_at count entriesVerdict entryVerdict unended walk nameVerdict nextVerdict shut plain safe units be24 be32
 refusals = (refl, refl, refl, refl, refl, refl, refl, refl, refl, refl, refl, refl, refl, refl, refl, refl, refl)
 
@@ -64,7 +63,7 @@ shared =
 abbrev nested : List Node
 nested = directory [] 4 ∷ directory (0x64 ∷ []) 3 ∷ file (0x62 ∷ []) 9 8 ∷ file (0x62 ∷ []) 6 5 ∷ []
 
-shared-accepted : (check shared 24 ≡ Passed) × (nodesOf shared ≡ nested)
+shared-accepted : (check shared 24 ≡ Ok tt) × (nodesOf shared ≡ nested)
 unfolding check nodesOf nodesFrom nodeAt name_at count entriesVerdict entryVerdict unended walk nameVerdict nextVerdict shut plain safe units be24 be32
 shared-accepted = (refl, refl)
 
@@ -102,21 +101,21 @@ deep-written : encode deep ≡ deepBytes
 unfolding encode entriesBytes textsOf parent_of parentBelow
 deep-written = refl
 
-deep-accepted : (check deepBytes 36 ≡ Passed) × (nodesOf deepBytes ≡ deep)
+deep-accepted : (check deepBytes 36 ≡ Ok tt) × (nodesOf deepBytes ≡ deep)
 unfolding check nodesOf nodesFrom nodeAt name_at count entriesVerdict entryVerdict unended walk nameVerdict nextVerdict shut plain safe units be24 be32
 deep-accepted = (refl, refl)
 
 -- ---- paths: ``, `d/b`, `d/../b`, `./d\b`, `..`, `b/`, `d/x`, and an entry that is none
 
 looked-up :
-    (lookup nested 0 [] ≡ located.At 0) ×
-    (lookup nested 0 (0x64 ∷ 0x2F ∷ 0x62 ∷ []) ≡ located.At 2) ×
-    (lookup nested 0 (0x64 ∷ 0x2F ∷ 0x2E ∷ 0x2E ∷ 0x2F ∷ 0x62 ∷ []) ≡ located.At 3) ×
-    (lookup nested 0 (0x2E ∷ 0x2F ∷ 0x64 ∷ 0x5C ∷ 0x62 ∷ []) ≡ located.At 2) ×
-    (lookup nested 1 (0x2E ∷ 0x2E ∷ []) ≡ located.Refused NotFound) ×
-    (lookup nested 0 (0x62 ∷ 0x2F ∷ []) ≡ located.Refused ExpectedDirectory) ×
-    (lookup nested 0 (0x64 ∷ 0x2F ∷ 0x78 ∷ []) ≡ located.Refused NotFound) ×
-    (lookup nested 4 [] ≡ located.Refused NoSuchEntry)
+    (lookup nested 0 [] ≡ Ok 0) ×
+    (lookup nested 0 (0x64 ∷ 0x2F ∷ 0x62 ∷ []) ≡ Ok 2) ×
+    (lookup nested 0 (0x64 ∷ 0x2F ∷ 0x2E ∷ 0x2E ∷ 0x2F ∷ 0x62 ∷ []) ≡ Ok 3) ×
+    (lookup nested 0 (0x2E ∷ 0x2F ∷ 0x64 ∷ 0x5C ∷ 0x62 ∷ []) ≡ Ok 2) ×
+    (lookup nested 1 (0x2E ∷ 0x2E ∷ []) ≡ Err NotFound) ×
+    (lookup nested 0 (0x62 ∷ 0x2F ∷ []) ≡ Err ExpectedDirectory) ×
+    (lookup nested 0 (0x64 ∷ 0x2F ∷ 0x78 ∷ []) ≡ Err NotFound) ×
+    (lookup nested 4 [] ≡ Err NoSuchEntry)
 unfolding lookup follow components componentsOf units childOf firstChild parent_of parentBelow sameBytes
 looked-up = (refl, refl, refl, refl, refl, refl, refl, refl)
 
@@ -131,53 +130,53 @@ judged : List ℕ → Verdict
 judged nm = check (named nm) 16
 
 names-accepted :
-    (judged (0x95 ∷ 0x5C ∷ []) ≡ Passed) ×
-    (judged (0xA1 ∷ 0xB1 ∷ 0xDF ∷ []) ≡ Passed) ×
-    (judged (0x81 ∷ 0x81 ∷ 0x81 ∷ 0x5C ∷ []) ≡ Passed)
+    (judged (0x95 ∷ 0x5C ∷ []) ≡ Ok tt) ×
+    (judged (0xA1 ∷ 0xB1 ∷ 0xDF ∷ []) ≡ Ok tt) ×
+    (judged (0x81 ∷ 0x81 ∷ 0x81 ∷ 0x5C ∷ []) ≡ Ok tt)
 unfolding judged named check nodesFrom nodeAt name_at count entriesVerdict entryVerdict unended walk nameVerdict nextVerdict shut plain safe units be24 be32
 names-accepted = (refl, refl, refl)
 
 -- a lead byte at the end, before `:` and before `/`; 0x80, 0xA0, 0xE0, 0xFD and 0xFF; `\` behind a pair and behind 0xDF, and `:`
 names-refused :
-    (judged (0x61 ∷ 0x81 ∷ []) ≡ Refused InvalidNameByte) ×
-    (judged (0x95 ∷ 0x3A ∷ []) ≡ Refused InvalidNameByte) ×
-    (judged (0x95 ∷ 0x2F ∷ []) ≡ Refused InvalidNameByte) ×
-    (judged (0x80 ∷ []) ≡ Refused InvalidNameByte) ×
-    (judged (0xA0 ∷ []) ≡ Refused InvalidNameByte) ×
-    (judged (0xE0 ∷ []) ≡ Refused InvalidNameByte) ×
-    (judged (0xFD ∷ []) ≡ Refused InvalidNameByte) ×
-    (judged (0xFF ∷ []) ≡ Refused InvalidNameByte) ×
-    (judged (0x81 ∷ 0x81 ∷ 0x5C ∷ []) ≡ Refused UnsafeName) ×
-    (judged (0xDF ∷ 0x5C ∷ []) ≡ Refused UnsafeName) ×
-    (judged (0x95 ∷ 0x5C ∷ 0x3A ∷ []) ≡ Refused UnsafeName)
+    (judged (0x61 ∷ 0x81 ∷ []) ≡ Err InvalidNameByte) ×
+    (judged (0x95 ∷ 0x3A ∷ []) ≡ Err InvalidNameByte) ×
+    (judged (0x95 ∷ 0x2F ∷ []) ≡ Err InvalidNameByte) ×
+    (judged (0x80 ∷ []) ≡ Err InvalidNameByte) ×
+    (judged (0xA0 ∷ []) ≡ Err InvalidNameByte) ×
+    (judged (0xE0 ∷ []) ≡ Err InvalidNameByte) ×
+    (judged (0xFD ∷ []) ≡ Err InvalidNameByte) ×
+    (judged (0xFF ∷ []) ≡ Err InvalidNameByte) ×
+    (judged (0x81 ∷ 0x81 ∷ 0x5C ∷ []) ≡ Err UnsafeName) ×
+    (judged (0xDF ∷ 0x5C ∷ []) ≡ Err UnsafeName) ×
+    (judged (0x95 ∷ 0x5C ∷ 0x3A ∷ []) ≡ Err UnsafeName)
 unfolding judged named check nodesFrom nodeAt name_at count entriesVerdict entryVerdict unended walk nameVerdict nextVerdict shut plain safe units be24 be32
 names-refused = (refl, refl, refl, refl, refl, refl, refl, refl, refl, refl, refl)
 
 -- the first and the last lead byte of each range, and the first and the last trail byte
 pairs-accepted :
-    (judged (0x81 ∷ 0x40 ∷ []) ≡ Passed) ×
-    (judged (0x9F ∷ 0x40 ∷ []) ≡ Passed) ×
-    (judged (0xE0 ∷ 0x40 ∷ []) ≡ Passed) ×
-    (judged (0xFC ∷ 0x40 ∷ []) ≡ Passed) ×
-    (judged (0x81 ∷ 0x7E ∷ []) ≡ Passed) ×
-    (judged (0x81 ∷ 0x80 ∷ []) ≡ Passed) ×
-    (judged (0x81 ∷ 0xFC ∷ []) ≡ Passed)
+    (judged (0x81 ∷ 0x40 ∷ []) ≡ Ok tt) ×
+    (judged (0x9F ∷ 0x40 ∷ []) ≡ Ok tt) ×
+    (judged (0xE0 ∷ 0x40 ∷ []) ≡ Ok tt) ×
+    (judged (0xFC ∷ 0x40 ∷ []) ≡ Ok tt) ×
+    (judged (0x81 ∷ 0x7E ∷ []) ≡ Ok tt) ×
+    (judged (0x81 ∷ 0x80 ∷ []) ≡ Ok tt) ×
+    (judged (0x81 ∷ 0xFC ∷ []) ≡ Ok tt)
 unfolding judged named check nodesFrom nodeAt name_at count entriesVerdict entryVerdict unended walk nameVerdict nextVerdict shut plain safe units be24 be32
 pairs-accepted = (refl, refl, refl, refl, refl, refl, refl)
 
 -- the bytes beside the ranges are no lead bytes and no trail bytes; 0xDF, which is a name's byte, is among the paths below
 pairs-refused :
-    (judged (0x80 ∷ 0x40 ∷ []) ≡ Refused InvalidNameByte) ×
-    (judged (0xA0 ∷ 0x40 ∷ []) ≡ Refused InvalidNameByte) ×
-    (judged (0xFD ∷ 0x40 ∷ []) ≡ Refused InvalidNameByte) ×
-    (judged (0x81 ∷ 0x3F ∷ []) ≡ Refused InvalidNameByte) ×
-    (judged (0x81 ∷ 0x7F ∷ []) ≡ Refused InvalidNameByte) ×
-    (judged (0x81 ∷ 0xFD ∷ []) ≡ Refused InvalidNameByte)
+    (judged (0x80 ∷ 0x40 ∷ []) ≡ Err InvalidNameByte) ×
+    (judged (0xA0 ∷ 0x40 ∷ []) ≡ Err InvalidNameByte) ×
+    (judged (0xFD ∷ 0x40 ∷ []) ≡ Err InvalidNameByte) ×
+    (judged (0x81 ∷ 0x3F ∷ []) ≡ Err InvalidNameByte) ×
+    (judged (0x81 ∷ 0x7F ∷ []) ≡ Err InvalidNameByte) ×
+    (judged (0x81 ∷ 0xFD ∷ []) ≡ Err InvalidNameByte)
 unfolding judged named check nodesFrom nodeAt name_at count entriesVerdict entryVerdict unended walk nameVerdict nextVerdict shut plain safe units be24 be32
 pairs-refused = (refl, refl, refl, refl, refl, refl)
 
 -- a name that starts inside a pair of another text has units of its own: the text 0x81 0x5C read from its second byte is `\`
-inside-a-pair : check (set (named (0x81 ∷ 0x5C ∷ [])) 15 1) 16 ≡ Refused UnsafeName
+inside-a-pair : check (set (named (0x81 ∷ 0x5C ∷ [])) 15 1) 16 ≡ Err UnsafeName
 unfolding named check nodesFrom nodeAt name_at count entriesVerdict entryVerdict unended walk nameVerdict nextVerdict shut plain safe units be24 be32
 inside-a-pair = refl
 

@@ -1,4 +1,5 @@
 -- The entries of a written table read one by one, and the walk over them. Assumes nothing.
+use Rattle.std.specs.Prelude.{Ok}
 use Prim.Native.Nat.{ℕ, suc, ◌+◌, ◌-◌, ◌*◌, ◌^◌, ◌<◌, ◌≤◌}
 use Rattle.std.specs.Prelude.{◌≡◌, Bool, true, false, not, ◌&&◌, get_or, leb, ltb, eqb}
 use Rattle.std.proofs.Math.Path.{refl}
@@ -9,7 +10,6 @@ use Rattle.std.proofs.Math.ListN.{length, drop, length-append}
 use Rattle.std.proofs.Math.Seq.{drop-append-add}
 use Rattle.endian.specs.Bytes.{be24, be32}
 use Rattle.endian.specs.Laws.Stored.{be32-drop, be24-drop, be24-value, be32-value}
-use Rattle.refusal.specs.declared.Verdict.TheVariants.{Passed}
 use Rattle.refusal.specs.declared.Refusal.TheVariants.{LimitOrMemory}
 use Rattle.refusal.specs.Refusal.{refuse, first}
 use Rattle.tree.specs.Table.{Node, file, directory, name_of, plain, kind, nameOffset, offsetOrParent, sizeOrNext, name_at, nodeAt, nodesFrom, entryVerdict, entriesVerdict, unended, top, shut, enter, nameVerdict, nextVerdict, walk, nodeBytes, parent_of, entriesBytes, textsOf, encode, shallowEntry, shallowFrom}
@@ -98,7 +98,7 @@ module _ (nodes : List Node) (tab : List ℕ) where
       let n : length tab - 12 * k ≡ length b + length q = length-of-drop (12 * k) tab (b ++ q) e₁ ∙ length-append b q in
       (e₁, drop_past (12 * k) (12 * suc k) tab b q e₁ (omega arith), omega arith)
 
-  pub entries-accepted : (k o : ℕ) (xs : List Node) (r : List ℕ) → drop (12 * k) tab ≡ entriesBytes nodes k o xs ++ r → entriesVerdict tab k (length xs) ≡ Passed
+  pub entries-accepted : (k o : ℕ) (xs : List Node) (r : List ℕ) → drop (12 * k) tab ≡ entriesBytes nodes k o xs ++ r → entriesVerdict tab k (length xs) ≡ Ok tt
   unfolding entriesVerdict entryVerdict
   entries-accepted k o [] r e = refl
   entries-accepted k o (x ∷ xs) r e =
@@ -136,21 +136,21 @@ reads-nodes tab c k (x ∷ xs) r = rw (r.1, reads-nodes tab c (suc k) xs r.2)
 
 -- ---- the walk: only the depth is left to be judged
 
-next-depth : (c k : ℕ) (dirs : List ℕ) (x : Node) → GoodEntry c dirs k x → nextVerdict c dirs k x ≡ refuse (not (shallowEntry dirs x)) LimitOrMemory Passed
+next-depth : (c k : ℕ) (dirs : List ℕ) (x : Node) → GoodEntry c dirs k x → nextVerdict c dirs k x ≡ refuse (not (shallowEntry dirs x)) LimitOrMemory (Ok tt)
 unfolding nextVerdict
 next-depth c k dirs (file nm offset size) g = refl
 next-depth c k dirs (directory nm next) g = simp (lt-leb next k g.0, le-ltb c next g.1, le-ltb (top dirs) next g.2) (go (leb (length dirs) 64) refl)
   where
-    go : (t : Bool) → leb (length dirs) 64 ≡ t → refuse (ltb 64 (length dirs)) LimitOrMemory Passed ≡ refuse (not t) LimitOrMemory Passed
+    go : (t : Bool) → leb (length dirs) 64 ≡ t → refuse (ltb 64 (length dirs)) LimitOrMemory (Ok tt) ≡ refuse (not t) LimitOrMemory (Ok tt)
     go true e = rw (le-ltb 64 (length dirs) (leb-true (length dirs) 64 e))
     go false e = rw (lt-ltb 64 (length dirs) (leb-false (length dirs) 64 e))
 
-both-depths : (a b : Bool) → first (refuse (not a) LimitOrMemory Passed) (refuse (not b) LimitOrMemory Passed) ≡ refuse (not (a && b)) LimitOrMemory Passed
+both-depths : (a b : Bool) → first (refuse (not a) LimitOrMemory (Ok tt)) (refuse (not b) LimitOrMemory (Ok tt)) ≡ refuse (not (a && b)) LimitOrMemory (Ok tt)
 both-depths true b = refl
 both-depths false b = refl
 
 pub reads-walk : (tab : List ℕ) (c k : ℕ) (dirs : List ℕ) (xs : List Node) → Reads tab c k xs → Sound c dirs k xs →
-    walk tab c dirs k xs ≡ refuse (not (shallowFrom dirs k xs)) LimitOrMemory Passed
+    walk tab c dirs k xs ≡ refuse (not (shallowFrom dirs k xs)) LimitOrMemory (Ok tt)
 unfolding walk nameVerdict shallowFrom
 reads-walk tab c k dirs [] r g = refl
 reads-walk tab c k dirs (x ∷ xs) r g =

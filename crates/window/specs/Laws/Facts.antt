@@ -1,12 +1,12 @@
 -- What the definitions of `Window` say, in plain numbers: a distance added, what a seek is judged by, and how far a read goes.
 -- Assumes nothing.
+use Rattle.std.specs.Prelude.{Ok, Err}
 use Rattle.std.specs.Prelude.{◌≡◌, ℕ, suc, ◌+◌, ◌-◌, ◌^◌, ◌<◌, ◌≤◌, List, length, pos, negsuc, slice_index}
 use Rattle.std.proofs.Common.{◌∙◌, arith, zero-add, length-take, length-drop, lt-ltb, le-ltb}
 use Rattle.endian.specs.Bytes.{span}
 use Rattle.endian.specs.Laws.Stored.{length-put, put_in, put-after, getD-span}
 use Rattle.refusal.specs.declared.Refusal.TheVariants.{InvalidSeek}
 use Rattle.window.specs.declared.Window.{Window}
-use Rattle.window.specs.declared.Sought.TheVariants.{At, Refused}
 use Rattle.window.specs.Window.{movedBy, moveTo, judged, count_of, bufferOf}
 
 -- a distance added modulo 2^64: forward and back, without and with a wrap; `negsuc n` is -(n + 1)
@@ -25,14 +25,14 @@ module _ (p : ℕ) (small : p < 2 ^ 64) where
 
 -- a seek is judged by the sum of start and the new position
 module _ (w : Window) (p : ℕ) where
-  pub judged-in : w.start + p < 2 ^ 64 → judged w p ≡ At (moveTo w p)
+  pub judged-in : w.start + p < 2 ^ 64 → judged w p ≡ Ok (moveTo w p)
   judged-in h = let k : w.start + p ≤ 2 ^ 64 - 1 = omega arith in rw (le-ltb (2 ^ 64 - 1) (w.start + p))
 
-  pub judged-out : 2 ^ 64 ≤ w.start + p → judged w p ≡ Refused InvalidSeek
+  pub judged-out : 2 ^ 64 ≤ w.start + p → judged w p ≡ Err InvalidSeek
   judged-out h = let k : 2 ^ 64 - 1 < w.start + p = omega arith in rw (lt-ltb (2 ^ 64 - 1) (w.start + p))
 
   -- a window that starts at 0 refuses no position
-  pub from-0 : w.start ≡ 0 → p < 2 ^ 64 → judged w p ≡ At (moveTo w p)
+  pub from-0 : w.start ≡ 0 → p < 2 ^ 64 → judged w p ≡ Ok (moveTo w p)
   from-0 e h = judged-in (omega arith)
 
 -- a read gives no more than was asked for, none past the window and none past the image, and stops only at one of the three

@@ -1,61 +1,61 @@
 -- Document 01's P12 and the boundaries 0, 2^63 and 2^64 - 1, by computing. The window is that of the file `a` of the small master, 0x100
 -- bytes at 0x500, or one that starts at 0. `negsuc n` is the distance -(n + 1). Assumes nothing.
+use Rattle.std.specs.Prelude.{Ok, Err}
 use Rattle.std.specs.Prelude.{◌≡◌, ℕ, ◌+◌, ◌-◌, ◌^◌, [], ◌∷◌, pos, negsuc, refl}
 use Rattle.endian.specs.Bytes.{put}
 use Rattle.refusal.specs.declared.Refusal.TheVariants.{InvalidSeek}
 use Rattle.refusal.specs.Refusal.{number_of}
 use Rattle.window.specs.declared.Window.{Window}
 use Rattle.window.specs.declared.SeekFrom.TheVariants.{Start, Current, End}
-use Rattle.window.specs.declared.Sought.TheVariants.{At, Refused}
 use Rattle.window.specs.Window.{seekOf, read_of, bufferOf}
 
 abbrev pub windowOfA : ℕ → Window
 windowOfA p = record { start = 0x500; len = 0x100; position = p }
 
 -- P12: "window of `a`, current -1 from 0: 23"
-pub p12 : (seekOf (windowOfA 0) (Current (negsuc 0)) ≡ Refused InvalidSeek) × (number_of InvalidSeek ≡ 23)
+pub p12 : (seekOf (windowOfA 0) (Current (negsuc 0)) ≡ Err InvalidSeek) × (number_of InvalidSeek ≡ 23)
 p12 = (refl, refl)
 
 -- one byte further on it succeeds
-pub back-to-the-start : seekOf (windowOfA 1) (Current (negsuc 0)) ≡ At (windowOfA 0)
+pub back-to-the-start : seekOf (windowOfA 1) (Current (negsuc 0)) ≡ Ok (windowOfA 0)
 back-to-the-start = refl
 
-pub last_byte : seekOf (windowOfA 7) (End (negsuc 0)) ≡ At (windowOfA 0xFF)
+pub last_byte : seekOf (windowOfA 7) (End (negsuc 0)) ≡ Ok (windowOfA 0xFF)
 last_byte = refl
 
 -- past the end is a position too
-pub past_the_end : seekOf (windowOfA 7) (End (pos 5)) ≡ At (windowOfA 0x105)
+pub past_the_end : seekOf (windowOfA 7) (End (pos 5)) ≡ Ok (windowOfA 0x105)
 past_the_end = refl
 
 -- from start: 0, 2^63, the last position, and the first that is refused
-pub start-0 : seekOf (windowOfA 7) (Start 0) ≡ At (windowOfA 0)
+pub start-0 : seekOf (windowOfA 7) (Start 0) ≡ Ok (windowOfA 0)
 start-0 = refl
 
-pub start-2^63 : seekOf (windowOfA 7) (Start (2 ^ 63)) ≡ At (windowOfA (2 ^ 63))
+pub start-2^63 : seekOf (windowOfA 7) (Start (2 ^ 63)) ≡ Ok (windowOfA (2 ^ 63))
 start-2^63 = refl
 
-pub farthest : seekOf (windowOfA 0) (Start (2 ^ 64 - 0x501)) ≡ At (windowOfA (2 ^ 64 - 0x501))
+pub farthest : seekOf (windowOfA 0) (Start (2 ^ 64 - 0x501)) ≡ Ok (windowOfA (2 ^ 64 - 0x501))
 farthest = refl
 
-pub too_far : seekOf (windowOfA 0) (Start (2 ^ 64 - 0x500)) ≡ Refused InvalidSeek
+pub too_far : seekOf (windowOfA 0) (Start (2 ^ 64 - 0x500)) ≡ Err InvalidSeek
 too_far = refl
 
 -- a window that starts at 0 goes up to 2^64 - 1
-pub last-position : seekOf (record { start = 0; len = 8; position = 0 }) (Start (2 ^ 64 - 1)) ≡ At (record { start = 0; len = 8; position = 2 ^ 64 - 1 })
+pub last-position : seekOf (record { start = 0; len = 8; position = 0 }) (Start (2 ^ 64 - 1)) ≡ Ok (record { start = 0; len = 8; position = 2 ^ 64 - 1 })
 last-position = refl
 
-pub around : seekOf (record { start = 0; len = 8; position = 2 ^ 64 - 1 }) (Current (pos 1)) ≡ At (record { start = 0; len = 8; position = 0 })
+pub around : seekOf (record { start = 0; len = 8; position = 2 ^ 64 - 1 }) (Current (pos 1)) ≡ Ok (record { start = 0; len = 8; position = 0 })
 around = refl
 
 -- the least distance of 64 bits, -2^63, and the largest
-pub least-distance : seekOf (windowOfA 0) (End (negsuc (2 ^ 63 - 1))) ≡ At (windowOfA (2 ^ 63 + 0x100))
+pub least-distance : seekOf (windowOfA 0) (End (negsuc (2 ^ 63 - 1))) ≡ Ok (windowOfA (2 ^ 63 + 0x100))
 least-distance = refl
 
-pub largest-distance : seekOf (windowOfA 1) (Current (pos (2 ^ 63 - 1))) ≡ At (windowOfA (2 ^ 63))
+pub largest-distance : seekOf (windowOfA 1) (Current (pos (2 ^ 63 - 1))) ≡ Ok (windowOfA (2 ^ 63))
 largest-distance = refl
 
 -- current with distance 0 succeeds even where start + position passes 2^64 - 1, and such a window reads nothing
-pub stays : seekOf (windowOfA (2 ^ 64 - 1)) (Current (pos 0)) ≡ At (windowOfA (2 ^ 64 - 1))
+pub stays : seekOf (windowOfA (2 ^ 64 - 1)) (Current (pos 0)) ≡ Ok (windowOfA (2 ^ 64 - 1))
 stays = refl
 
 pub reads_nothing : read_of (record { start = 0x500; len = 2 ^ 64 - 1; position = 2 ^ 64 - 2 }) 0x2000 8 ≡ record { count = 0; window = record { start = 0x500; len = 2 ^ 64 - 1; position = 2 ^ 64 - 2 } }

@@ -1,18 +1,17 @@
 -- Each theorem about lists of calls, applied to the worked list: its hypotheses hold there, and what it says is read off in numbers. Nothing of the
 -- last image is computed for that but what a theorem's words are held against. Assumes nothing.
+use Rattle.std.specs.Prelude.{Ok}
 use Rattle.std.specs.Prelude.{ℕ, zero, suc, ◌≤◌, ◌≡◌, refl, Bool, true, ◌&&◌, List, [], ◌∷◌, ◌++◌, map, ltb, length, get_or, replicate}
 use Rattle.std.proofs.Common.{sym, ap, ◌∙◌, arith, ltb-true}
 use Rattle.std.proofs.lemmas.Bool.{false≢true}
 use Rattle.endian.specs.Bytes.{be24, be32, be32Bytes, put, span, AllBytes}
 use Rattle.endian.specs.Laws.Stored.{length-put, put-outside}
-use Rattle.refusal.specs.declared.Verdict.TheVariants.{Passed}
 use Rattle.refusal.specs.Laws.Tests.{and_left, and_right}
 use Rattle.header.specs.Verdicts.{dolOffset, fstSize, fstMaxSize}
 use Rattle.tree.specs.Table.{file, directory, none, count, name_at, nodeAt, nodesFrom, nodesOf, parentBelow, parent_of, entriesBytes, textsOf, encode}
 use Rattle.tree.specs.Insert.{shifted, bump, splice, insertAt, setPlace}
 use Rattle.space.specs.Used.{inside, nonempty, totalSize}
 use Rattle.space.specs.Free.{largestSize}
-use Rattle.free_space.specs.declared.Listing.TheVariants.{Listed}
 use Rattle.free_space.specs.Listing.{rows_of}
 use Rattle.window.specs.Window.{newWindow, count_of}
 use Rattle.totals.specs.declared.Totals.{Totals}
@@ -20,9 +19,7 @@ use Rattle.program.specs.declared.Program.TheVariants.{At}
 use Rattle.program.specs.Program.{programIn, ownRegion}
 use Rattle.opening.specs.Opening.{table_of, nodesIn, usedIn, freeOf, usedOf, opening}
 use Rattle.disc.specs.Calls.{totalsAnswer, programAnswer, freeRegionsAnswer, freeRegionsList, totalsOf, recordMade, recordAnswer}
-use Rattle.disc.specs.declared.TotalsAnswer.TheVariants.{Found}
 use Rattle.files.specs.Files.{openFileAnswer}
-use Rattle.files.specs.declared.WindowAnswer.TheVariants as window
 use Rattle.edits.specs.Change.{nothing}
 use Rattle.edits.specs.Edits.{Edit, noPlace, rewrite, resizeFile, planResize, plan_of, imageAfter}
 use Rattle.edits.specs.Laws.Accepted.{accepted}
@@ -84,13 +81,13 @@ claim : Demand3 masterWords first last ledger
 claim = rw (worked.image, worked.told, worked.entered) at (demand-3 first masterWords masterWords list bytes at_first.opens (omega arith) within)
 
 pub record Demanded : Type 0 where
-  pub opens : opening last masterWords ≡ Passed
+  pub opens : opening last masterWords ≡ Ok tt
   pub tree : map bare (nodesIn last) ≡ directory [] 3 ∷ file (0x61 ∷ []) 0 0x100 ∷ file (0x62 ∷ []) 0 5 ∷ []
   -- byte 0x500 is `a`'s, the third used region's, and no other's
   pub apart : (j : ℕ) → inside (get_or (usedIn last) j noPlace) 0x500 ≡ true → j ≡ 2
   pub sum : totalSize (freeOf last) ≡ 6543
-  pub used : totalsAnswer last masterWords ≡ Found (record { disc_end = 8192; used = 1649 })
-  pub free : freeRegionsAnswer last masterWords 8 ≡ Listed 4
+  pub used : totalsAnswer last masterWords ≡ Ok (record { disc_end = 8192; used = 1649 })
+  pub free : freeRegionsAnswer last masterWords 8 ≡ Ok 4
   pub listed : freeRegionsList last masterWords (replicate 9 7) ≡ 1128 ∷ 152 ∷ 1536 ∷ 256 ∷ 2052 ∷ 252 ∷ 2309 ∷ 5883 ∷ 7 ∷ []
   pub program-stays : (dolOffset last ≡ 0x700) × (programIn last ≡ program) × (span last 0x700 0x104 ≡ programBytes) × (0x804 ≤ length last)
   pub program-told : programAnswer last masterWords ≡ At program
@@ -208,7 +205,7 @@ same-table = let l = over-kept.larger (rw over-sizes.0 (omega arith)) (rw (over-
 
 -- "may be edited down to the maximum": the small master with a zero byte more behind its texts, 0x1B bytes in all
 
-down-opens : opening (slack 0x1A) masterWords ≡ Passed
+down-opens : opening (slack 0x1A) masterWords ≡ Ok tt
 down-opens = (accepted rewrite small.fresh (slack 0x1A) masterWords 0x1A (stated.maximum).edited-down).opens
 
 down-bytes : AllBytes (slack 0x1A)
@@ -237,7 +234,7 @@ first-length = refl
 abbrev pub restated : List ℕ
 restated = put first 0x42C (be32Bytes 5)
 
-pub any : (opening restated masterWords ≡ Passed) × (nodesIn restated ≡ nodesIn first) × (freeOf restated ≡ freeOf first)
+pub any : (opening restated masterWords ≡ Ok tt) × (nodesIn restated ≡ nodesIn first) × (freeOf restated ≡ freeOf first)
 any = any-maximum first restated masterWords bytes at_first.opens (length-put first 0x42C (be32Bytes 5) (rw first-length (omega arith))) (λ i h. put-outside first 0x42C (be32Bytes 5) (rw first-length (omega arith)) i h)
 
 -- ---- the clip
@@ -247,7 +244,7 @@ shows = rw filled-b.written at (fill-reads (totals 1644 6140 2) (with_b 0x900 0 
 
 pub record Clip : Type 0 where
   -- the window of entry 2 has three bytes, of which a read of four gives three
-  pub window : openFileAnswer (with_b 0x900 3 clip) masterWords 2 ≡ window.Opened (newWindow shows.offset 3)
+  pub window : openFileAnswer (with_b 0x900 3 clip) masterWords 2 ≡ Ok (newWindow shows.offset 3)
   pub count : count_of (newWindow shows.offset 3) (length (with_b 0x900 3 clip)) 4 ≡ 3
   -- the file opened and read into four bytes: the clip, and the fourth stays
   pub read : readInto (openFileAnswer (with_b 0x900 3 clip) masterWords 2) (with_b 0x900 3 clip) (9 ∷ 9 ∷ 9 ∷ 9 ∷ []) ≡ 0x11 ∷ 0x12 ∷ 0x13 ∷ 9 ∷ []

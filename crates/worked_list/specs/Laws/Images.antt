@@ -1,7 +1,7 @@
 -- The images that the worked list goes through, written out from the layout, and what each of them reads as, by computing. Assumes nothing.
+use Rattle.std.specs.Prelude.{Ok}
 use Rattle.std.specs.Prelude.{ℕ, ◌+◌, ◌≡◌, refl, List, [], ◌∷◌, ◌++◌, map, replicate}
 use Rattle.endian.specs.Bytes.{be24, be32, be32Bytes, put}
-use Rattle.refusal.specs.declared.Verdict.TheVariants.{Passed}
 use Rattle.header.specs.Fields.{fields, dolOffsetField, fstSizeField}
 use Rattle.header.specs.Verdicts.{fieldVerdict, fieldsVerdict, headerVerdict, boundsVerdict, fstOffset, fstSize, fstMaxSize, discEnd}
 use Rattle.dol.specs.Dol.{wordsAt, largestOf}
@@ -63,7 +63,7 @@ abbrev pub program : DiscRegion
 program = at 0x700 0x104
 
 pub record Reads (image : List ℕ) (nodes : List Node) (free : List DiscRegion) (size used : ℕ) : Type 0 where
-  pub opens : opening image masterWords ≡ Passed
+  pub opens : opening image masterWords ≡ Ok tt
   pub tree : nodesIn image ≡ nodes
   pub runs : program_of image ≡ At program
   pub header : (fstOffset image ≡ 0x440) × (fstSize image ≡ size) × (fstMaxSize image ≡ 0x28) × (discEnd image ≡ 0x2000)

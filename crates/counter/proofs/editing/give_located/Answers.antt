@@ -3,10 +3,10 @@ use Rattle.counter.specs.Replies.{locatedReply}
 use borrow.Author.Rules.{rules}
 use Rattle.counter.proofs.editing.give_located.Goals as goal
 
-pub returns-in-At : goal.returns-in-At
+pub returns-in-Ok : goal.returns-in-Ok
 unfolding locatedReply
-returns-in-At c = let o : tie.After-located = search in rw o.located.given.1
+returns-in-Ok c = let o : tie.After-located = search in rw o.located.given.1
 
-pub returns-in-Refused : goal.returns-in-Refused
+pub returns-in-Err : goal.returns-in-Err
 unfolding locatedReply
-returns-in-Refused c = let o : tie.After-located2 = search in rw (o.located2.given.1, c.number.ensures)
+returns-in-Err c = let o : tie.After-located2 = search in rw (o.located2.given.1, c.number.ensures)

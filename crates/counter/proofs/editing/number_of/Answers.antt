@@ -3,10 +3,10 @@ use Rattle.counter.specs.Replies.{verdictNumber}
 use borrow.Author.Rules.{rules}
 use Rattle.counter.proofs.editing.number_of.Goals as goal
 
-pub returns-in-Passed : goal.returns-in-Passed
+pub returns-in-Ok : goal.returns-in-Ok
 unfolding verdictNumber
-returns-in-Passed c = rw c.enum_told.given.1
+returns-in-Ok c = rw c.enum_told.given.1
 
-pub returns-in-Refused : goal.returns-in-Refused
+pub returns-in-Err : goal.returns-in-Err
 unfolding verdictNumber
-returns-in-Refused c = let v : tie.After-verdict = search in rw v.verdict.given.1 c.number.ensures
+returns-in-Err c = let v : tie.After-verdict = search in rw v.verdict.given.1 c.number.ensures

@@ -3,8 +3,8 @@ use Rattle.counter.proofs.ReadAnswers.{record-made, record-refused}
 use borrow.Author.Rules.{rules}
 use Rattle.counter.proofs.reading.counter_make_record.Goals as goal
 
-pub returns-in-Passed : goal.returns-in-Passed
-returns-in-Passed c = search record-made
+pub returns-in-Ok : goal.returns-in-Ok
+returns-in-Ok c = search record-made
 
-pub returns-in-Refused : goal.returns-in-Refused
-returns-in-Refused c = search record-refused
+pub returns-in-Err : goal.returns-in-Err
+returns-in-Err c = search record-refused

@@ -2,8 +2,8 @@ use Rattle.counter.proofs.ReadAnswers.{totals-found, totals-refused}
 use borrow.Author.Rules.{rules}
 use Rattle.counter.proofs.reading.counter_totals.Goals as goal
 
-pub returns-in-Found : goal.returns-in-Found
-returns-in-Found c = search totals-found
+pub returns-in-Ok : goal.returns-in-Ok
+returns-in-Ok c = search totals-found
 
-pub returns-in-Refused : goal.returns-in-Refused
-returns-in-Refused c = search totals-refused
+pub returns-in-Err : goal.returns-in-Err
+returns-in-Err c = search totals-refused

@@ -3,8 +3,8 @@ use Rattle.counter.proofs.ReadAnswers.{allocation-found, allocation-refused}
 use borrow.Author.Rules.{rules}
 use Rattle.counter.proofs.regions.counter_allocate.Goals as goal
 
-pub returns-in-Found : goal.returns-in-Found
-returns-in-Found c = search allocation-found
+pub returns-in-Ok : goal.returns-in-Ok
+returns-in-Ok c = search allocation-found
 
-pub returns-in-Refused : goal.returns-in-Refused
-returns-in-Refused c = search allocation-refused
+pub returns-in-Err : goal.returns-in-Err
+returns-in-Err c = search allocation-refused

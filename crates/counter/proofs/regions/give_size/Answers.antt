@@ -3,10 +3,10 @@ use Rattle.counter.specs.Replies.{sizeReply}
 use borrow.Author.Rules.{rules}
 use Rattle.counter.proofs.regions.give_size.Goals as goal
 
-pub returns-in-Bytes : goal.returns-in-Bytes
+pub returns-in-Ok : goal.returns-in-Ok
 unfolding sizeReply
-returns-in-Bytes c = let o : tie.After-size = search in rw o.size.given.1
+returns-in-Ok c = let o : tie.After-size = search in rw o.size.given.1
 
-pub returns-in-Refused : goal.returns-in-Refused
+pub returns-in-Err : goal.returns-in-Err
 unfolding sizeReply
-returns-in-Refused c = let o : tie.After-size2 = search in rw (o.size2.given.1, c.number.ensures)
+returns-in-Err c = let o : tie.After-size2 = search in rw (o.size2.given.1, c.number.ensures)

@@ -3,8 +3,8 @@ use Rattle.counter.proofs.ReadAnswers.{text-made, text-refused}
 use borrow.Author.Rules.{rules}
 use Rattle.counter.proofs.text.counter_list.Goals as goal
 
-pub returns-in-Text : goal.returns-in-Text
-returns-in-Text c = (search text-made, search)
+pub returns-in-Ok : goal.returns-in-Ok
+returns-in-Ok c = (search text-made, search)
 
-pub returns-in-Refused : goal.returns-in-Refused
-returns-in-Refused c = (search text-refused, search)
+pub returns-in-Err : goal.returns-in-Err
+returns-in-Err c = (search text-refused, search)

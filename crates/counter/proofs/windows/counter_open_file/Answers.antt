@@ -3,8 +3,8 @@ use Rattle.counter.proofs.ReadAnswers.{window-opened, window-refused}
 use borrow.Author.Rules.{rules}
 use Rattle.counter.proofs.windows.counter_open_file.Goals as goal
 
-pub returns-in-Opened : goal.returns-in-Opened
-returns-in-Opened c = search window-opened
+pub returns-in-Ok : goal.returns-in-Ok
+returns-in-Ok c = search window-opened
 
-pub returns-in-Refused : goal.returns-in-Refused
-returns-in-Refused c = search window-refused
+pub returns-in-Err : goal.returns-in-Err
+returns-in-Err c = search window-refused

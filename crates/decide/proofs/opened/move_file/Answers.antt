@@ -2,8 +2,8 @@
 use Rattle.decide.proofs.Outcomes.{no-file-to-move, file-moved}
 use Rattle.decide.proofs.opened.move_file.Goals as goal
 
-pub returns-in-Refused : goal.returns-in-Refused
-returns-in-Refused c = search no-file-to-move
+pub returns-in-Err : goal.returns-in-Err
+returns-in-Err c = search no-file-to-move
 
-pub returns-in-Place : goal.returns-in-Place
-returns-in-Place c = search file-moved
+pub returns-in-Ok : goal.returns-in-Ok
+returns-in-Ok c = search file-moved

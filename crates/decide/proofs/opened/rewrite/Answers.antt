@@ -6,5 +6,5 @@ use Rattle.decide.proofs.opened.rewrite.Goals as goal
 pub write_table-requires : goal.write_table-requires
 write_table-requires c = (search still-opens, search table-held, search table-small)
 
-pub returns-in-Bytes : goal.returns-in-Bytes
-returns-in-Bytes c = search rewrite-decided
+pub returns-in-Ok : goal.returns-in-Ok
+returns-in-Ok c = search rewrite-decided

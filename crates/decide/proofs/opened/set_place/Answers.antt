@@ -9,8 +9,8 @@ write_table-requires c = (search still-opens, search table-held, search table-sm
 pub set_place-requires : goal.set_place-requires
 set_place-requires c = search place-held
 
-pub returns-in-Refused : goal.returns-in-Refused
-returns-in-Refused c = search place-refused
+pub returns-in-Err : goal.returns-in-Err
+returns-in-Err c = search place-refused
 
-pub returns-in-Bytes : goal.returns-in-Bytes
-returns-in-Bytes c = search place-decided
+pub returns-in-Ok : goal.returns-in-Ok
+returns-in-Ok c = search place-decided

@@ -2,8 +2,8 @@
 use Rattle.disc.proofs.Answers.{ready-allocation, refused-allocation}
 use Rattle.disc.proofs.regions.allocated.Goals as goal
 
-pub returns-in-Ready : goal.returns-in-Ready
-returns-in-Ready c = search ready-allocation
+pub returns-in-Ok : goal.returns-in-Ok
+returns-in-Ok c = search ready-allocation
 
-pub returns-in-Refused : goal.returns-in-Refused
-returns-in-Refused c = search refused-allocation
+pub returns-in-Err : goal.returns-in-Err
+returns-in-Err c = search refused-allocation

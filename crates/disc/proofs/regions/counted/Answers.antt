@@ -2,8 +2,8 @@
 use Rattle.disc.proofs.Answers.{ready-listing, ready-list, refused-listing, refused-list}
 use Rattle.disc.proofs.regions.counted.Goals as goal
 
-pub returns-in-Ready : goal.returns-in-Ready
-returns-in-Ready c = search (ready-listing, ready-list)
+pub returns-in-Ok : goal.returns-in-Ok
+returns-in-Ok c = search (ready-listing, ready-list)
 
-pub returns-in-Refused : goal.returns-in-Refused
-returns-in-Refused c = search (refused-listing, refused-list)
+pub returns-in-Err : goal.returns-in-Err
+returns-in-Err c = search (refused-listing, refused-list)

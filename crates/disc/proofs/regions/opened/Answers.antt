@@ -2,8 +2,8 @@
 use Rattle.disc.proofs.Answers.{ready-disc, refused-disc}
 use Rattle.disc.proofs.regions.opened.Goals as goal
 
-pub returns-in-Ready : goal.returns-in-Ready
-returns-in-Ready c = search ready-disc
+pub returns-in-Ok : goal.returns-in-Ok
+returns-in-Ok c = search ready-disc
 
-pub returns-in-Refused : goal.returns-in-Refused
-returns-in-Refused c = search refused-disc
+pub returns-in-Err : goal.returns-in-Err
+returns-in-Err c = search refused-disc

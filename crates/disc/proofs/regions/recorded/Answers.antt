@@ -2,8 +2,8 @@
 use Rattle.disc.proofs.Answers.{ready-record, refused-record}
 use Rattle.disc.proofs.regions.recorded.Goals as goal
 
-pub returns-in-Ready : goal.returns-in-Ready
-returns-in-Ready c = search ready-record
+pub returns-in-Ok : goal.returns-in-Ok
+returns-in-Ok c = search ready-record
 
-pub returns-in-Refused : goal.returns-in-Refused
-returns-in-Refused c = search refused-record
+pub returns-in-Err : goal.returns-in-Err
+returns-in-Err c = search refused-record

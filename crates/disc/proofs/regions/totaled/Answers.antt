@@ -2,8 +2,8 @@
 use Rattle.disc.proofs.Answers.{ready-totals, refused-totals}
 use Rattle.disc.proofs.regions.totaled.Goals as goal
 
-pub returns-in-Ready : goal.returns-in-Ready
-returns-in-Ready c = search ready-totals
+pub returns-in-Ok : goal.returns-in-Ok
+returns-in-Ok c = search ready-totals
 
-pub returns-in-Refused : goal.returns-in-Refused
-returns-in-Refused c = search refused-totals
+pub returns-in-Err : goal.returns-in-Err
+returns-in-Err c = search refused-totals

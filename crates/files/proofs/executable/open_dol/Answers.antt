@@ -4,8 +4,8 @@ use Rattle.opening.proofs.Words.{zeroed-kept}
 use borrow.Author.Rules.{rules}
 use Rattle.files.proofs.executable.open_dol.Goals as goal
 
-pub returns-in-Ready : goal.returns-in-Ready
-returns-in-Ready c = (search ready-dol, search zeroed-kept)
+pub returns-in-Ok : goal.returns-in-Ok
+returns-in-Ok c = (search ready-dol, search zeroed-kept)
 
-pub returns-in-Refused : goal.returns-in-Refused
-returns-in-Refused c = (search refused-dol, search zeroed-kept)
+pub returns-in-Err : goal.returns-in-Err
+returns-in-Err c = (search refused-dol, search zeroed-kept)

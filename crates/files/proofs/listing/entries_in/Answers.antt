@@ -11,8 +11,8 @@ table-table-requires c = search ready-opens
 pub list_entries-verdict-requires : goal.list_entries-verdict-requires
 list_entries-verdict-requires c = (search rules, search ready-table-below)
 
-pub returns-in-Refused-verdict : goal.returns-in-Refused-verdict
-returns-in-Refused-verdict c = (search short-entries, search ready-rows)
+pub returns-in-Err-verdict : goal.returns-in-Err-verdict
+returns-in-Err-verdict c = (search short-entries, search ready-rows)
 
 pub disc_of-requires : goal.disc_of-requires
 disc_of-requires c = search was-ready
@@ -20,5 +20,5 @@ disc_of-requires c = search was-ready
 pub returns-in_default : goal.returns-in_default
 returns-in_default c = (search ready-entries, search ready-rows)
 
-pub returns-in-Refused : goal.returns-in-Refused
-returns-in-Refused c = (search refused-entries, search refused-rows)
+pub returns-in-Err : goal.returns-in-Err
+returns-in-Err c = (search refused-entries, search refused-rows)

@@ -7,8 +7,8 @@ use Rattle.files.proofs.lookups.entry_in.Goals as goal
 pub table-requires : goal.table-requires
 table-requires c = search ready-opens
 
-pub returns-in-Ready : goal.returns-in-Ready
-returns-in-Ready c = search ready-entry
+pub returns-in-Ok : goal.returns-in-Ok
+returns-in-Ok c = search ready-entry
 
-pub returns-in-Refused : goal.returns-in-Refused
-returns-in-Refused c = search refused-entry
+pub returns-in-Err : goal.returns-in-Err
+returns-in-Err c = search refused-entry

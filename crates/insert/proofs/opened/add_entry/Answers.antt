@@ -6,8 +6,8 @@ use Rattle.insert.proofs.opened.add_entry.Goals as goal
 pub place_table-requires : goal.place_table-requires
 place_table-requires c = (search, search grown-stands)
 
-pub returns-in-Refused : goal.returns-in-Refused
-returns-in-Refused c = search ungrown-decided
+pub returns-in-Err : goal.returns-in-Err
+returns-in-Err c = search ungrown-decided
 
-pub returns-in-Bytes : goal.returns-in-Bytes
-returns-in-Bytes c = search grown-decided
+pub returns-in-Ok : goal.returns-in-Ok
+returns-in-Ok c = search grown-decided

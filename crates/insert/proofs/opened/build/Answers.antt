@@ -5,8 +5,8 @@ use Rattle.insert.proofs.opened.build.Goals as goal
 pub add_entry-requires : goal.add_entry-requires
 add_entry-requires c = (search, search started-stands, search started-directory, search)
 
-pub returns-in-Refused : goal.returns-in-Refused
-returns-in-Refused c = search unstarted-decided
+pub returns-in-Err : goal.returns-in-Err
+returns-in-Err c = search unstarted-decided
 
-pub returns-in-Bytes : goal.returns-in-Bytes
-returns-in-Bytes c = search started-decided
+pub returns-in-Ok : goal.returns-in-Ok
+returns-in-Ok c = search started-decided

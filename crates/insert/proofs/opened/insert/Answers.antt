@@ -5,8 +5,8 @@ use Rattle.insert.proofs.opened.insert.Goals as goal
 pub build-built-requires : goal.build-built-requires
 build-built-requires c = (search, search into-directory, search under-name)
 
-pub returns-in-Refused : goal.returns-in-Refused
-returns-in-Refused c = search insert-refused
+pub returns-in-Err : goal.returns-in-Err
+returns-in-Err c = search insert-refused
 
-pub returns-in-At : goal.returns-in-At
-returns-in-At c = search insert-numbered
+pub returns-in-Ok : goal.returns-in-Ok
+returns-in-Ok c = search insert-numbered

@@ -16,8 +16,8 @@ next-requires c = (search, search parent-inside)
 pub overflow_cast-result : goal.overflow_cast-result
 overflow_cast-result c = search (number_fits, well_formed c.args.table.now c.type_inv.table)
 
-pub returns-in-Refused : goal.returns-in-Refused
-returns-in-Refused c = search no_number
+pub returns-in-Err : goal.returns-in-Err
+returns-in-Err c = search no_number
 
-pub returns-in-Passed : goal.returns-in-Passed
-returns-in-Passed c = search next-is-number
+pub returns-in-Ok : goal.returns-in-Ok
+returns-in-Ok c = search next-is-number

@@ -9,8 +9,8 @@ child-found-requires c = search in_bytes
 pub into_new-requires : goal.into_new-requires
 into_new-requires c = (search, search, search new-name)
 
-pub returns-in-At : goal.returns-in-At
-returns-in-At c = search child-there
+pub returns-in-Ok : goal.returns-in-Ok
+returns-in-Ok c = search child-there
 
-pub returns-in-Refused : goal.returns-in-Refused
-returns-in-Refused c = search child-made
+pub returns-in-Err : goal.returns-in-Err
+returns-in-Err c = search child-made

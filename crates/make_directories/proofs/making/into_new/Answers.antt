@@ -5,8 +5,8 @@ use Rattle.make_directories.proofs.making.into_new.Goals as goal
 pub new_number-number-requires : goal.new_number-number-requires
 new_number-number-requires c = search in_bytes
 
-pub returns-in-Bytes : goal.returns-in-Bytes
-returns-in-Bytes c = search new-reached
+pub returns-in-Ok : goal.returns-in-Ok
+returns-in-Ok c = search new-reached
 
-pub returns-in-Refused : goal.returns-in-Refused
-returns-in-Refused c = search new-refused
+pub returns-in-Err : goal.returns-in-Err
+returns-in-Err c = search new-refused
