@@ -126,10 +126,8 @@ fn check_field(image: &[u8], f: Field) -> Verdict
 pub fn check(image: &[u8]) -> Verdict
     ensures { result ≡ headerVerdict image.now }
 {
-    let mut k: usize = 0;
-    while k < 21 {
+    for k in 0..21 {
         check_field(image, field_at(k))?;
-        k += 1;
     }
     Ok(())
 }

@@ -8,6 +8,3 @@ use Rattle.header.proofs.check.Given as goal
 
 abbrev pub invariant-loop-k : goal.invariant-loop-k
 invariant-loop-k l = (l.k ≤ 21) × (headerVerdict l.image ≡ fieldsVerdict l.image (drop l.k fields))
-
-abbrev pub decreases-loop-k : goal.decreases-loop-k
-decreases-loop-k l = 21 - l.k
