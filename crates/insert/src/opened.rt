@@ -62,6 +62,7 @@ fn new_number(table: &[u8], parent: u32, name: &[u8]) -> Located
     }
 }
 
+#[tactic(auto, unfolding(opening::specs::Opening::nodesIn))]
 fn number_in(image: &[u8], parent: u32, name: &[u8]) -> Located
     requires { OpensImage image.now }
     ensures { result ≡ numberedAs (insertVerdict (nodesIn image.now) parent name.now) (newNumber (nodesIn image.now) parent) }
