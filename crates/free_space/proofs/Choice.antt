@@ -77,9 +77,6 @@ pub record Searched (w : List ℕ) (m e align wish : ℕ) (best : DiscRegion) (i
   pub bound : i ≤ m + 1
   pub left : largest align wish best (drop i (gaps 0 e (regionsIn w 0 m))) ≡ largest align wish noRegion (gaps 0 e (regionsIn w 0 m))
 
-pub search-start : (w : List ℕ) (m e align wish : ℕ) → Searched w m e align wish noRegion 0
-search-start w m e align wish = record { bound = omega arith; left = refl }
-
 pub search-turn : (w : List ℕ) (m e align wish : ℕ) (best r b : DiscRegion) (i : ℕ) → Searched w m e align wish best i → i ≤ m →
     r ≡ get_or (gaps 0 e (regionsIn w 0 m)) i noRegion → b ≡ betterOf align wish best r → Searched w m e align wish b (i + 1)
 search-turn w m e align wish best r b i s h p q = record { bound = omega arith; left = rw (q, p) (step ∙ s.left) }

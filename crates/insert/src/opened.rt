@@ -60,6 +60,7 @@ fn new_number(table: &[u8], parent: u32, name: &[u8]) -> Result<u32, Refusal>
     }
 }
 
+#[tactic(auto, unfolding(opening::specs::Opening::nodesIn))]
 fn number_in(image: &[u8], parent: u32, name: &[u8]) -> Result<u32, Refusal>
     requires { OpensImage image.now }
     ensures { result ≡ numberedAs (insertVerdict (nodesIn image.now) parent name.now) (newNumber (nodesIn image.now) parent) }

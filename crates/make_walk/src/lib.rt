@@ -89,6 +89,7 @@ fn step_below(k: usize, level: usize, bad: bool, name: &[u8]) -> Step
     into_new(k, level, bad, name)
 }
 
+#[tactic(auto, unfolding(crate::specs::Inner::Walk::step_of))]
 fn take_step(table: &[u8], start: usize, k: usize, level: usize, bad: bool, name: &[u8]) -> Step
     requires { Opens table.now × (k < table_of.count table.now) × (level < 2 ^ 63) }
     ensures { result ≡ step_of (nodesOf table.now) start k level bad name.now }
@@ -110,6 +111,7 @@ fn told(bad: bool) -> Verdict
 }
 
 // The path is at its end: on a file 17, then 12.
+#[tactic(auto, unfolding(crate::specs::Inner::Walk::lastVerdict))]
 fn last_verdict(table: &[u8], k: usize, level: usize, bad: bool) -> Verdict
     requires { Opens table.now × (k < table_of.count table.now) }
     ensures { result ≡ lastVerdict (nodesOf table.now) k level bad }

@@ -7,7 +7,7 @@ use borrow.Author.Tests.{leb-false, le-leb, lt-leb, eq-eqb, ne_eqb}
 use lib.Dec.{leb, eqb}
 use Rattle.space.specs.declared.DiscRegion.{DiscRegion}
 use Rattle.space.specs.Used.{end_of}
-use Rattle.totals.specs.Inner.Scan.{longestBeside, goneOf}
+use Rattle.totals.specs.Inner.Scan.{longestBeside}
 
 module _ (a b : ℕ) (r : DiscRegion) where
   pub beside-empty : r.size ≡ 0 → b - a ≡ longestBeside a b r
@@ -45,9 +45,3 @@ module _ (a b : ℕ) (r : DiscRegion) where
       go false true p v q = omega arith
       go false false p true q = omega arith
       go false false p false q = omega (arith, leb-false (end_of r) a p, leb-false b r.offset q)
-
-pub gone-none : (old : DiscRegion) → old.size ≡ 0 → 0 ≡ goneOf old
-gone-none old z = rw (eq-eqb old.size 0 z)
-
-pub gone-some : (old : DiscRegion) → (old.size ≡ 0 → ⊥) → old.offset ≡ goneOf old
-gone-some old z = rw (ne_eqb old.size 0 z)

@@ -1,6 +1,6 @@
 -- The look along the words: the best so far, carried on over the regions that are left, is the best of all. Assumes nothing.
 use Prim.Native.Nat.{ℕ, suc, ◌+◌, ◌-◌, ◌*◌, ◌<◌, ◌≤◌, max}
-use mathlib.Core.Path.{◌≡◌, refl, ◌∙◌}
+use mathlib.Core.Path.{◌≡◌, ◌∙◌}
 use mathlib.Core.List.{List}
 use native.Mathlib.Omega.{arith}
 use borrow.Author.Tests.{eq-eqb, ne_eqb}
@@ -23,9 +23,6 @@ unfolding endBefore regionAt
 scan-fits w m e k s h = let g = gap_at w m e (suc k) s (omega arith) in omega (arith, g.lo, g.hi)
 
 module _ (w : List ℕ) (m e t gone : ℕ) (new : DiscRegion) where
-  pub scan-start : 0 < m → Scanned w m e t gone new t 0 1
-  scan-start h = record { low = omega arith; high = omega arith; rest = refl }
-
   module _ (at best k : ℕ) (s : Scanned w m e t gone new at best k) where
     pub scan-past : k < m → get_or w (2 * k) 0 ≡ gone → Scanned w m e t gone new at best (k + 1)
     unfolding longestFrom regionAt

@@ -1,14 +1,9 @@
 -- `free_space::count_free_regions` meets its contract: the count, and the nonempty gaps that are left, are the free regions.
-use Prim.Native.Nat.{◌+◌, ◌-◌}
-use native.Mathlib.Omega.{arith}
-use Rattle.free_space.proofs.Listed.{Counted, count-start, count-end, count-skip, count-go}
+use Rattle.free_space.proofs.Listed.{count-start, count-end, count-skip, count-go}
 use Rattle.free_space.proofs.count_free_regions.Goals as goal
 
 pub loop-i-init : goal.loop-i-init
 loop-i-init c = count-start _ _ _ c.requires
-
-pub gap_at-gap-requires : goal.gap_at-gap-requires
-gap_at-gap-requires c = (c.requires, omega arith)
 
 pub loop-i-preserved-then-gap-eq0 : goal.loop-i-preserved-then-gap-eq0
 loop-i-preserved-then-gap-eq0 c = count-skip _ _ _ _ _ c.loop-i.invariant _ c.loop-i-test.true c.gap_at-gap.ensures.value c.if-gap-eq0.true

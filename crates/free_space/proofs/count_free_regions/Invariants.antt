@@ -1,7 +1,6 @@
 -- `free_space::count_free_regions` meets its contract: the count, and the nonempty gaps that are left, are the free regions.
 use Prim.Native.Nat.{◌+◌, ◌-◌}
-use native.Mathlib.Omega.{arith}
-use Rattle.free_space.proofs.Listed.{Counted, count-start, count-end, count-skip, count-go}
+use Rattle.free_space.proofs.Listed.{Counted}
 use Rattle.free_space.proofs.count_free_regions.Given as goal
 
 abbrev pub invariant-loop-i : goal.invariant-loop-i

@@ -1,14 +1,6 @@
 -- `free_space::find_largest` meets its contract: the best so far, carried on over the gaps that are left, is the best of all.
-use Prim.Native.Nat.{◌+◌, ◌-◌}
-use native.Mathlib.Omega.{arith}
-use Rattle.free_space.proofs.Choice.{Searched, search-start, search-turn, search-end}
+use Rattle.free_space.proofs.Choice.{search-turn, search-end}
 use Rattle.free_space.proofs.find_largest.Goals as goal
-
-pub loop-i-init : goal.loop-i-init
-loop-i-init c = search-start _ _ _ _ _
-
-pub gap_at-gap-requires : goal.gap_at-gap-requires
-gap_at-gap-requires c = (c.requires.0, omega arith)
 
 pub loop-i-preserved : goal.loop-i-preserved
 loop-i-preserved c = search-turn _ _ _ _ _ _ _ _ _ c.loop-i.invariant c.loop-i-test.true c.gap_at-gap.ensures.value c.better-best.ensures

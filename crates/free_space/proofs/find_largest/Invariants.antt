@@ -1,7 +1,6 @@
 -- `free_space::find_largest` meets its contract: the best so far, carried on over the gaps that are left, is the best of all.
 use Prim.Native.Nat.{◌+◌, ◌-◌}
-use native.Mathlib.Omega.{arith}
-use Rattle.free_space.proofs.Choice.{Searched, search-start, search-turn, search-end}
+use Rattle.free_space.proofs.Choice.{Searched}
 use Rattle.free_space.proofs.find_largest.Given as goal
 
 abbrev pub invariant-loop-i : goal.invariant-loop-i

@@ -1,15 +1,9 @@
 -- `free_space::list_free_regions` meets its contract: the regions listed, and the nonempty gaps that are left, are the free regions.
-use Prim.Native.Nat.{◌+◌, ◌-◌}
-use native.Mathlib.Omega.{arith}
-use Rattle.free_space.specs.Listing.{regionRow}
-use Rattle.free_space.proofs.Listed.{Written, write-start, write-end, write_skip, write-room, write-go}
+use Rattle.free_space.proofs.Listed.{write-start, write-end, write_skip, write-room, write-go}
 use Rattle.free_space.proofs.list_free_regions.Goals as goal
 
 pub loop-i-init : goal.loop-i-init
 loop-i-init c = search write-start
-
-pub gap_at-gap-requires : goal.gap_at-gap-requires
-gap_at-gap-requires c = (search, omega arith)
 
 pub loop-i-preserved-then-gap-eq0 : goal.loop-i-preserved-then-gap-eq0
 loop-i-preserved-then-gap-eq0 c = search write_skip
@@ -19,9 +13,6 @@ put_region-requires c = search write-room
 
 pub loop-i-preserved : goal.loop-i-preserved
 loop-i-preserved c = search write-go
-
-pub shape_of-list : goal.shape_of-list
-shape_of-list c = search
 
 pub returns : goal.returns
 returns c = search write-end

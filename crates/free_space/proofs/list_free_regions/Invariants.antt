@@ -1,8 +1,7 @@
 -- `free_space::list_free_regions` meets its contract: the regions listed, and the nonempty gaps that are left, are the free regions.
 use Prim.Native.Nat.{◌+◌, ◌-◌}
-use native.Mathlib.Omega.{arith}
 use Rattle.free_space.specs.Listing.{regionRow}
-use Rattle.free_space.proofs.Listed.{Written, write-start, write-end, write_skip, write-room, write-go}
+use Rattle.free_space.proofs.Listed.{Written}
 use Rattle.free_space.proofs.list_free_regions.Given as goal
 
 abbrev pub invariant-loop-i : goal.invariant-loop-i

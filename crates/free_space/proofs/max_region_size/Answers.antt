@@ -1,24 +1,13 @@
 -- `free_space::max_region_size` meets its contract: the search over the gaps that are left gives what the search over all free regions gives.
-use Prim.Native.Nat.{◌+◌, ◌-◌}
 use mathlib.Core.Path.{◌∙◌}
-use native.Mathlib.Omega.{arith}
-use Rattle.free_space.proofs.Choice.{Grown, grown-start, grown-end, grown-skip, grown-go, grown-stop}
+use Rattle.free_space.proofs.Choice.{grown-start, grown-end, grown-skip, grown-go, grown-stop}
 use Rattle.free_space.proofs.max_region_size.Goals as goal
 
 pub loop-i-init : goal.loop-i-init
 loop-i-init c = grown-start _ _ _ _ _ c.requires
 
-pub gap_at-gap-requires : goal.gap_at-gap-requires
-gap_at-gap-requires c = (c.requires, omega arith)
-
 pub loop-i-preserved-then-gap-eq0 : goal.loop-i-preserved-then-gap-eq0
 loop-i-preserved-then-gap-eq0 c = grown-skip _ _ _ _ _ _ _ c.loop-i.invariant _ c.loop-i-test.true c.gap_at-gap.ensures.value c.if-gap-eq0.true
-
-pub wide-requires : goal.wide-requires
-wide-requires c = tt
-
-pub wide-requires-then-gap-offset : goal.wide-requires-then-gap-offset
-wide-requires-then-gap-offset c = tt
 
 pub loop-i-preserved : goal.loop-i-preserved
 loop-i-preserved c =

@@ -1,8 +1,6 @@
 -- `free_space::max_region_size` meets its contract: the search over the gaps that are left gives what the search over all free regions gives.
 use Prim.Native.Nat.{◌+◌, ◌-◌}
-use mathlib.Core.Path.{◌∙◌}
-use native.Mathlib.Omega.{arith}
-use Rattle.free_space.proofs.Choice.{Grown, grown-start, grown-end, grown-skip, grown-go, grown-stop}
+use Rattle.free_space.proofs.Choice.{Grown}
 use Rattle.free_space.proofs.max_region_size.Given as goal
 
 abbrev pub invariant-loop-i : goal.invariant-loop-i

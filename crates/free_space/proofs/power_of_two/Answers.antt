@@ -1,11 +1,6 @@
 -- `free_space::power_of_two` meets its contract: p is 2 to the k, and no lower power was hit.
-use Prim.Native.Nat.{◌-◌}
-use native.Mathlib.Omega.{arith}
-use Rattle.free_space.proofs.Powers.{Doubled, double-start, double-hit, double-go, double-end}
+use Rattle.free_space.proofs.Powers.{double-hit, double-go, double-end}
 use Rattle.free_space.proofs.power_of_two.Goals as goal
-
-pub loop-k-init : goal.loop-k-init
-loop-k-init c = double-start _
 
 pub returns-then-p-x : goal.returns-then-p-x
 returns-then-p-x c = double-hit _ _ _ c.loop-k.invariant c.loop-k-test.true c.if-p-x.true

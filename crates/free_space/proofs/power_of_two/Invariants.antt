@@ -1,7 +1,6 @@
 -- `free_space::power_of_two` meets its contract: p is 2 to the k, and no lower power was hit.
 use Prim.Native.Nat.{◌-◌}
-use native.Mathlib.Omega.{arith}
-use Rattle.free_space.proofs.Powers.{Doubled, double-start, double-hit, double-go, double-end}
+use Rattle.free_space.proofs.Powers.{Doubled}
 use Rattle.free_space.proofs.power_of_two.Given as goal
 
 abbrev pub invariant-loop-k : goal.invariant-loop-k

@@ -1,14 +1,9 @@
 -- `free_space::used_size` meets its contract: what is left of the disc end is the used regions and the gaps not yet taken off.
-use Prim.Native.Nat.{◌+◌, ◌-◌}
-use native.Mathlib.Omega.{arith}
-use Rattle.free_space.proofs.Listed.{Summed, sum-start, sum-end, sum-enough, sum-go}
+use Rattle.free_space.proofs.Listed.{sum-start, sum-end, sum-enough, sum-go}
 use Rattle.free_space.proofs.used_size.Goals as goal
 
 pub loop-i-init : goal.loop-i-init
 loop-i-init c = sum-start _ _ _ c.requires
-
-pub gap_at-gap-requires : goal.gap_at-gap-requires
-gap_at-gap-requires c = (c.requires, omega arith)
 
 pub overflow_sub-used : goal.overflow_sub-used
 overflow_sub-used c = sum-enough _ _ _ _ _ c.loop-i.invariant _ c.loop-i-test.true c.gap_at-gap.ensures.value

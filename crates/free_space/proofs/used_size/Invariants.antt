@@ -1,7 +1,6 @@
 -- `free_space::used_size` meets its contract: what is left of the disc end is the used regions and the gaps not yet taken off.
 use Prim.Native.Nat.{◌+◌, ◌-◌}
-use native.Mathlib.Omega.{arith}
-use Rattle.free_space.proofs.Listed.{Summed, sum-start, sum-end, sum-enough, sum-go}
+use Rattle.free_space.proofs.Listed.{Summed}
 use Rattle.free_space.proofs.used_size.Given as goal
 
 abbrev pub invariant-loop-i : goal.invariant-loop-i

@@ -3,16 +3,11 @@ use Rattle.pipeline.proofs.EditCases.{decides-accounted}
 use Rattle.opening.specs.Laws.OpeningLaws.{was-ready}
 use Rattle.totals_after.specs.Laws.AccountLaws.{may-account}
 use Rattle.totals_after.proofs.Edited.{unopened-accounted}
-use borrow.Author.Rules.{rules}
+use native.Mathlib.Omega.{arith}
 use Rattle.pipeline.proofs.decide.Goals as goal
 
-pub decide_open-decision-requires : goal.decide_open-decision-requires
-decide_open-decision-requires c = search was-ready
-
 pub account-requires : goal.account-requires
-account-requires c =
-    let d : tie.After-decide-open = search in
-    may-account _ _ _ _ _ _ _ _ d.decide-open.ensures.decided (search was-ready) (search rules)
+account-requires c = may-account _ _ _ _ _ _ _ _ c.decide_open-decision.ensures.decided (search was-ready) (omega arith)
 
 pub returns-in-Err : goal.returns-in-Err
 returns-in-Err c = search unopened-accounted

@@ -1,12 +1,7 @@
 -- `totals::largest_free` meets its contract: the best so far, carried on over the regions that are left, is the best of all.
-use Prim.Native.Nat.{◌-◌}
 use native.Mathlib.Omega.{arith}
-use borrow.Author.Rules.{rules}
-use Rattle.totals.proofs.Scanned.{Scanned, scan-fits, scan-start, scan-past, scan-kept, scan-end}
+use Rattle.totals.proofs.Scanned.{scan-fits, scan-past, scan-kept, scan-end}
 use Rattle.totals.proofs.largest_free.Goals as goal
-
-pub loop-k-init : goal.loop-k-init
-loop-k-init c = scan-start _ _ _ _ _ _ (omega arith)
 
 pub loop-k-preserved-then-offset-gone : goal.loop-k-preserved-then-offset-gone
 loop-k-preserved-then-offset-gone c = scan-past _ _ _ _ _ _ _ _ _ c.loop-k.invariant c.loop-k-test.true c.if-offset-gone.true

@@ -1,8 +1,6 @@
 -- `totals::largest_free` meets its contract: the best so far, carried on over the regions that are left, is the best of all.
 use Prim.Native.Nat.{◌-◌}
-use native.Mathlib.Omega.{arith}
-use borrow.Author.Rules.{rules}
-use Rattle.totals.proofs.Scanned.{Scanned, scan-fits, scan-start, scan-past, scan-kept, scan-end}
+use Rattle.totals.proofs.Scanned.{Scanned}
 use Rattle.totals.proofs.largest_free.Given as goal
 
 abbrev pub invariant-loop-k : goal.invariant-loop-k

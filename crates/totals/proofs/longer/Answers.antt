@@ -1,7 +1,6 @@
 -- `totals::longer` meets its contract: no run of a gap is longer than the gap.
 use native.Mathlib.Omega.{arith}
 use Rattle.totals.proofs.Beside.{beside-short}
-use borrow.Author.Rules.{rules}
 use Rattle.totals.proofs.longer.Goals as goal
 
 pub returns-then-wide : goal.returns-then-wide

@@ -1,7 +1,6 @@
 -- `totals::longest_beside` meets its contract: one law for each case.
 use native.Mathlib.Omega.{arith}
 use Rattle.totals.proofs.Beside.{beside-empty, beside-before, beside-after, beside-cut}
-use borrow.Author.Rules.{rules}
 use Rattle.totals.proofs.longest_beside.Goals as goal
 
 pub returns-then-region-eq0 : goal.returns-then-region-eq0

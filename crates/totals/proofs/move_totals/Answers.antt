@@ -3,7 +3,6 @@ use mathlib.Core.Path.{refl}
 use native.Mathlib.Omega.{arith}
 use Rattle.totals.specs.Totals.{totalsMoved}
 use Rattle.totals.proofs.Moving.{moved-short, moved-over, moved-last, moved_to}
-use borrow.Author.Rules.{rules}
 use Rattle.totals.proofs.move_totals.Goals as goal
 
 pub returns-then-sum-before : goal.returns-then-sum-before

@@ -1,15 +1,22 @@
 -- `insert::opened::check_insert` meets its contract: 15, 13, then the rest.
-use Rattle.insert.proofs.Tests.{count_held, no-parent, unsafe-name, child-judged}
+use Rattle.std.proofs.Common.{arith}
+use Rattle.std.proofs.lemmas.Grind.{common_steps}
+use Rattle.tree.specs.Laws.Accepted.{length-nodesOf}
+use Rattle.edits.specs.Edits.{insertVerdict}
+use Rattle.insert.proofs.Tests.{count_held}
 use Rattle.insert.proofs.opened.check_insert.Goals as goal
 
 pub count-requires : goal.count-requires
 count-requires c = search count_held
 
 pub returns-then-count-p : goal.returns-then-count-p
-returns-then-count-p c = search no-parent
+unfolding insertVerdict
+returns-then-count-p c = grind (arith, common_steps, length-nodesOf)
 
 pub returns-then-not-is_safe : goal.returns-then-not-is_safe
-returns-then-not-is_safe c = search unsafe-name
+unfolding insertVerdict
+returns-then-not-is_safe c = grind (arith, common_steps, length-nodesOf)
 
 pub returns : goal.returns
-returns c = search child-judged
+unfolding insertVerdict
+returns c = grind (arith, common_steps, length-nodesOf)

@@ -1,12 +1,6 @@
 -- `insert::opened::insert` meets its contract: refused by its own tests, or the tree that was built with the number that was found.
-use Rattle.insert.proofs.InsertionLaws.{into-directory, under-name, insert-refused, insert-numbered}
+use Rattle.insert.proofs.InsertionLaws.{into-directory, under-name}
 use Rattle.insert.proofs.opened.insert.Goals as goal
 
 pub build-built-requires : goal.build-built-requires
 build-built-requires c = (search, search into-directory, search under-name)
-
-pub returns-in-Err : goal.returns-in-Err
-returns-in-Err c = search insert-refused
-
-pub returns-in-Ok : goal.returns-in-Ok
-returns-in-Ok c = search insert-numbered

@@ -1,7 +1,7 @@
 -- `insert::opened::new_number` meets its contract: the number is the directory's next.
 use Rattle.std.proofs.Common.{List, ℕ, arith, get_or, Fits, w8}
 use Rattle.tree.specs.Inner.WellFormed.{WellFormed}
-use Rattle.insert.proofs.Tests.{parent-inside, number_fits, no_number, next-is-number}
+use Rattle.insert.proofs.Tests.{parent-inside, number_fits}
 use Rattle.fst.proofs.Nodes.{opened}
 use Rattle.fst_check.specs.Inner.Reading.{Opens}
 use Rattle.tree.specs.Table.{nodesOf}
@@ -15,9 +15,3 @@ next-requires c = (search, search parent-inside)
 
 pub overflow_cast-result : goal.overflow_cast-result
 overflow_cast-result c = search (number_fits, well_formed c.args.table.now c.type_inv.table)
-
-pub returns-in-Err : goal.returns-in-Err
-returns-in-Err c = search no_number
-
-pub returns-in-Ok : goal.returns-in-Ok
-returns-in-Ok c = search next-is-number
