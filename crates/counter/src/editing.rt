@@ -11,6 +11,7 @@ use refusal::Verdict;
 use totals::Record;
 use tree::Located;
 
+#[tactic(auto, unfolding(crate::specs::Replies::verdictNumber))]
 fn number_of(verdict: Verdict) -> u32
     ensures { result ≡ verdictNumber verdict }
 {
@@ -105,6 +106,7 @@ pub extern "C" fn counter_rewrite(
 
 // ---- the edits that add entries, each with the number of the entry that it gives
 
+#[tactic(auto, unfolding(crate::specs::Replies::locatedReply))]
 fn give_located(answer: &mut [u32; 1], located: Located) -> u32
     ensures { reply result answer.new ≡ locatedReply answer.old located }
 {

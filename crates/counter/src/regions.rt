@@ -10,6 +10,7 @@ use answers::SizeAnswer;
 use free_space::{Allocation, Listing};
 
 // How many regions there are; their number fits a slot, since each has a byte below the disc end.
+#[tactic(auto, unfolding(crate::specs::Replies::listingReply))]
 fn give_listing(answer: &mut [u32; 1], listing: Listing) -> u32
     requires { (n : ℕ) → listing ≡ Listed n → n < 2 ^ 32 }
     ensures { reply result answer.new ≡ listingReply answer.old listing }
@@ -49,6 +50,7 @@ pub extern "C" fn counter_free_clusters(
     give_listing(answer, listing)
 }
 
+#[tactic(auto, unfolding(crate::specs::Replies::sizeReply))]
 fn give_size(answer: &mut [u32; 1], size: SizeAnswer) -> u32
     ensures { reply result answer.new ≡ sizeReply answer.old size }
 {
@@ -88,6 +90,7 @@ pub extern "C" fn counter_max_file_size(
     give_size(answer, most)
 }
 
+#[tactic(auto, unfolding(crate::specs::Replies::allocationReply))]
 #[unsafe(no_mangle)]
 pub extern "C" fn counter_allocate(
     image: &[u8],

@@ -5,6 +5,7 @@ ghost use Rattle.counter.specs.Replies.{Read, reply, accepts, listedReply};
 
 use listing::Listed;
 
+#[tactic(auto, unfolding(crate::specs::Replies::listedReply))]
 #[unsafe(no_mangle)]
 pub extern "C" fn counter_list(
     image: &[u8],
