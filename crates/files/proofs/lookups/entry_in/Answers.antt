@@ -1,11 +1,6 @@
 -- `files::lookups::entry_in` meets its contract, by the two cases of a prepared image.
 use Rattle.files.proofs.Prepared.{ready-entry, refused-entry}
-use Rattle.answers.proofs.Prepared.{ready-opens}
-use borrow.Author.Rules.{rules}
 use Rattle.files.proofs.lookups.entry_in.Goals as goal
-
-pub table-requires : goal.table-requires
-table-requires c = search ready-opens
 
 pub returns-in-Ready : goal.returns-in-Ready
 returns-in-Ready c = search ready-entry
