@@ -2,5 +2,3 @@
 pub mod Counts
 pub mod HeaderBytes
 pub mod Puts
-pub mod EditAnswers
-pub mod ReadAnswers

@@ -10,6 +10,7 @@ use pipeline::Edit;
 use refusal::{Refusal, Verdict};
 use totals::Record;
 
+#[tactic(auto, unfolding(crate::specs::Replies::verdictNumber))]
 fn number_of(verdict: Verdict) -> u32
     ensures { result ≡ verdictNumber verdict }
 {
@@ -104,6 +105,7 @@ pub extern "C" fn counter_rewrite(
 
 // ---- the edits that add entries, each with the number of the entry that it gives
 
+#[tactic(auto, unfolding(crate::specs::Replies::locatedReply))]
 fn give_located(answer: &mut [u32; 1], located: Result<u32, Refusal>) -> u32
     ensures { reply result answer.new ≡ locatedReply answer.old located }
 {

@@ -65,6 +65,7 @@ fn give_dol_header(slots: &mut [u32; 57], h: DolHeader)
     slots[56] = h.entry_point;
 }
 
+#[tactic(auto, unfolding(crate::specs::Replies::verdictReply))]
 #[unsafe(no_mangle)]
 pub extern "C" fn counter_open_dol(
     image: &[u8],

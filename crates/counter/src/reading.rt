@@ -12,6 +12,7 @@ use tree::{Entry, Found};
 
 // ---- answers that several calls give
 
+#[tactic(auto, unfolding(crate::specs::Replies::openedReply))]
 fn give_opened(answer: &mut [u32; 5], opened: Result<Disc, Refusal>) -> u32
     ensures { reply result answer.new ≡ openedReply answer.old opened }
 {
@@ -24,6 +25,7 @@ fn give_opened(answer: &mut [u32; 5], opened: Result<Disc, Refusal>) -> u32
     }
 }
 
+#[tactic(auto, unfolding(crate::specs::Replies::foundReply))]
 fn give_found(answer: &mut [u32; 4], found: Found) -> u32
     ensures { reply result answer.new ≡ foundReply answer.old found }
 {
@@ -49,6 +51,7 @@ pub extern "C" fn counter_open(image: &[u8], words: &mut [u32], answer: &mut [u3
     give_opened(answer, opened)
 }
 
+#[tactic(auto, unfolding(crate::specs::Replies::totalsReply))]
 #[unsafe(no_mangle)]
 pub extern "C" fn counter_totals(image: &[u8], words: &mut [u32], answer: &mut [u32; 2]) -> u32
     ensures { Read (totalsReply answer.old (totalsAnswer image.now (length words.old))) (reply result answer.new) words.old words.new }
@@ -64,6 +67,7 @@ pub extern "C" fn counter_totals(image: &[u8], words: &mut [u32], answer: &mut [
 }
 
 // A totals record of the image, its count 0: used bytes, the largest free region's size, accepted edits.
+#[tactic(auto, unfolding(crate::specs::Replies::verdictReply))]
 #[unsafe(no_mangle)]
 pub extern "C" fn counter_make_record(image: &[u8], words: &mut [u32], record: &mut Record) -> u32
     ensures { Read (recordReply «record».old (recordAnswer image.now (length words.old))) (reply result «record».new) words.old words.new }
@@ -81,6 +85,7 @@ pub extern "C" fn counter_make_record(image: &[u8], words: &mut [u32], record: &
 }
 
 // Where the program lies; 0 and 0 where there is none.
+#[tactic(auto, unfolding(crate::specs::Replies::programReply))]
 #[unsafe(no_mangle)]
 pub extern "C" fn counter_program(image: &[u8], words: &mut [u32], answer: &mut [u32; 2]) -> u32
     ensures { Read (programReply answer.old (programAnswer image.now (length words.old))) (reply result answer.new) words.old words.new }

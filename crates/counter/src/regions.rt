@@ -8,6 +8,7 @@ ghost use Rattle.counter.specs.Replies.{Read, reply, listingReply, sizeReply, al
 use refusal::Refusal;
 
 // How many regions there are; their number fits a slot, since each has a byte below the disc end.
+#[tactic(auto, unfolding(crate::specs::Replies::listingReply))]
 fn give_listing(answer: &mut [u32; 1], listing: Result<usize, Refusal>) -> u32
     requires { (n : ℕ) → listing ≡ Ok n → n < 2 ^ 32 }
     ensures { reply result answer.new ≡ listingReply answer.old listing }
@@ -47,6 +48,7 @@ pub extern "C" fn counter_free_clusters(
     give_listing(answer, listing)
 }
 
+#[tactic(auto, unfolding(crate::specs::Replies::sizeReply))]
 fn give_size(answer: &mut [u32; 1], size: Result<u32, Refusal>) -> u32
     ensures { reply result answer.new ≡ sizeReply answer.old size }
 {
@@ -86,6 +88,7 @@ pub extern "C" fn counter_max_file_size(
     give_size(answer, most)
 }
 
+#[tactic(auto, unfolding(crate::specs::Replies::allocationReply))]
 #[unsafe(no_mangle)]
 pub extern "C" fn counter_allocate(
     image: &[u8],

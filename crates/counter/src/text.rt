@@ -3,6 +3,7 @@ ghost use Rattle.std.specs.Prelude.{◌≡◌, [], ◌∷◌, length};
 ghost use Rattle.listing.specs.Listing.{listAnswer, listBuffer, reportAnswer, reportBuffer};
 ghost use Rattle.counter.specs.Replies.{Read, reply, accepts, listedReply};
 
+#[tactic(auto, unfolding(crate::specs::Replies::listedReply))]
 #[unsafe(no_mangle)]
 pub extern "C" fn counter_list(
     image: &[u8],

@@ -17,6 +17,7 @@ fn window_in(slots: &[u64; 3]) -> Window
     }
 }
 
+#[tactic(auto, unfolding(crate::specs::Replies::windowReply))]
 #[unsafe(no_mangle)]
 pub extern "C" fn counter_open_file(
     image: &[u8],
@@ -36,6 +37,7 @@ pub extern "C" fn counter_open_file(
     }
 }
 
+#[tactic(auto, unfolding(crate::specs::Replies::soughtReply))]
 fn seek(window: &mut [u64; 3], to: SeekFrom) -> u32
     ensures { reply result window.new ≡ soughtReply window.old (seekOf (windowIn window.old) to) }
 {

@@ -1,5 +1,6 @@
 -- The answers about a file, from the answer of its entry. Assumes nothing.
-use Rattle.std.specs.Prelude.{Result, Ok, Err}
+use Rattle.std.specs.Prelude.{Result, Err}
+use Rattle.window.specs.declared.Window.{Window}
 use Prim.Native.Nat.{ℕ}
 use mathlib.Core.Path.{◌≡◌, ap, ◌∙◌}
 use mathlib.Core.List.{List}
@@ -11,21 +12,10 @@ use Rattle.tree.specs.declared.FileEntry.{FileEntry}
 use Rattle.tree.specs.declared.DirectoryEntry.{DirectoryEntry}
 use Rattle.tree.specs.declared.Found.{Found}
 use Rattle.tree.specs.declared.Found.TheVariants as found
-use Rattle.window.specs.declared.Window.{Window}
-use Rattle.window.specs.Window.{newWindow}
 use Rattle.answers.specs.Answers.{maxRegionSizeAnswer}
 use Rattle.files.specs.Files.{entryAnswer, windowAnswer, openFileAnswer, maxFileSizeAnswer}
 
 -- ---- its window
-
-pub window-of-file : (f : Found) (k : ℕ) (e : Entry) (x : FileEntry) (w : Window) → f ≡ found.At k e → e ≡ File x → w ≡ newWindow x.offset x.size → Ok w ≡ windowAnswer f
-window-of-file f k e x w p q r = rw (p, q) (ap Ok r)
-
-pub window-of-directory : (f : Found) (k : ℕ) (e : Entry) (d : DirectoryEntry) → f ≡ found.At k e → e ≡ Directory d → Err ExpectedFile ≡ windowAnswer f
-window-of-directory f k e d p q = rw (p, q)
-
-pub window-of-none : (f : Found) (c : Refusal) → f ≡ found.Refused c → Err c ≡ windowAnswer f
-window-of-none f c p = rw p
 
 pub window-of-entry : (image : List ℕ) (n k : ℕ) (f : Found) (a : Result Window Refusal) → f ≡ entryAnswer image n k → a ≡ windowAnswer f → a ≡ openFileAnswer image n k
 unfolding openFileAnswer

@@ -22,7 +22,7 @@ use Rattle.answers.specs.Answers.{discOf}
 use Rattle.opening.specs.Laws.OpeningLaws.{was-refused}
 use Rattle.answers.proofs.Prepared.{ready-opened}
 use Rattle.files.specs.declared.DolFile.{DolFile}
-use Rattle.files.specs.Files.{entryAnswer, lookupAnswer, entriesAnswer, entriesList, maxFileSizeAnswer, dolVerdict, dolAs, openDolAnswer}
+use Rattle.files.specs.Files.{entryAnswer, lookupAnswer, entriesAnswer, entriesList, dolVerdict, dolAs, openDolAnswer}
 
 module _ (image w : List ℕ) (p : Result ℕ Refusal) (h : Prepares image w p) where
   -- an entry
@@ -79,21 +79,3 @@ module _ (image w : List ℕ) (p : Result ℕ Refusal) (h : Prepares image w p) 
   pub refused-dol : (n : ℕ) (c : Refusal) (a : DolFile) → length w ≡ n → p ≡ Err c → a ≡ dolAs (Err c) [] → a ≡ openDolAnswer image n
   unfolding openDolAnswer dolVerdict
   refused-dol n c a k r e = rw (← k, was-refused image w p h c r) e
-
--- ---- after `prepare`, which keeps the number of the words
-
-module _ (image : List ℕ) (n n' : ℕ) (kept : n' ≡ n) where
-  pub entry_kept : (k : ℕ) (a : Found) → a ≡ entryAnswer image n' k → a ≡ entryAnswer image n k
-  entry_kept k a h = rw kept at h
-
-  pub lookup-kept : (start : ℕ) (path : List ℕ) (a : Found) → a ≡ lookupAnswer image n' start path → a ≡ lookupAnswer image n start path
-  lookup-kept start path a h = rw kept at h
-
-  pub file-size-kept : (k : ℕ) (a : Result ℕ Refusal) → a ≡ maxFileSizeAnswer image n' k → a ≡ maxFileSizeAnswer image n k
-  file-size-kept k a h = rw kept at h
-
-  pub entries-kept : (room : ℕ) (a : Result Disc Refusal) → a ≡ entriesAnswer image n' room → a ≡ entriesAnswer image n room
-  entries-kept room a h = rw kept at h
-
-  pub rows-kept : (list list' : List ℕ) → list' ≡ entriesList image n' list → list' ≡ entriesList image n list
-  rows-kept list list' h = rw kept at h

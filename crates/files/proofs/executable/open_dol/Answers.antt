@@ -1,7 +1,6 @@
 -- `files::executable::open_dol` meets its contract, by the two cases of a prepared image.
 use Rattle.files.proofs.Prepared.{ready-dol, refused-dol}
 use Rattle.opening.proofs.Words.{zeroed-kept}
-use borrow.Author.Rules.{rules}
 use Rattle.files.proofs.executable.open_dol.Goals as goal
 
 pub returns-in-Ok : goal.returns-in-Ok

@@ -1,11 +1,6 @@
 -- `files::lookups::entry_in` meets its contract, by the two cases of a prepared image.
 use Rattle.files.proofs.Prepared.{ready-entry, refused-entry}
-use Rattle.answers.proofs.Prepared.{ready-opens}
-use borrow.Author.Rules.{rules}
 use Rattle.files.proofs.lookups.entry_in.Goals as goal
-
-pub table-requires : goal.table-requires
-table-requires c = search ready-opens
 
 pub returns-in-Ok : goal.returns-in-Ok
 returns-in-Ok c = search ready-entry

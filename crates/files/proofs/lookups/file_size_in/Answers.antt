@@ -1,10 +1,6 @@
 -- `files::lookups::file_size_in` meets its contract, by the cases of the entry's answer.
 use Rattle.files.proofs.OfEntry.{size-of-file, size-of-directory, size-of-none}
-use borrow.Author.Rules.{rules}
 use Rattle.files.proofs.lookups.file_size_in.Goals as goal
-
-pub sized-requires : goal.sized-requires
-sized-requires c = search
 
 pub returns-in-File : goal.returns-in-File
 returns-in-File c = search size-of-file

@@ -1,18 +1,9 @@
 -- `files::lookups::lookup_in` meets its contract, by the two cases of a prepared image and the length of the path.
 use Rattle.files.proofs.Prepared.{ready-long, ready-lookup, refused-lookup}
-use Rattle.answers.proofs.Prepared.{ready-opens}
-use native.Mathlib.Omega.{arith}
-use borrow.Author.Rules.{rules}
 use Rattle.files.proofs.lookups.lookup_in.Goals as goal
 
 pub returns-then-path-gt1024 : goal.returns-then-path-gt1024
 returns-then-path-gt1024 c = search ready-long
-
-pub table-requires : goal.table-requires
-table-requires c = search ready-opens
-
-pub find-requires : goal.find-requires
-find-requires c = (search rules, omega arith)
 
 pub returns-else-path-gt1024 : goal.returns-else-path-gt1024
 returns-else-path-gt1024 c = search ready-lookup

@@ -1,6 +1,5 @@
 -- `files::lookups::open_file` meets its contract: the window of the entry's answer.
 use Rattle.files.proofs.OfEntry.{window-of-entry}
-use borrow.Author.Rules.{rules}
 use Rattle.files.proofs.lookups.open_file.Goals as goal
 
 pub returns : goal.returns

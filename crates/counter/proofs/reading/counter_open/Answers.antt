@@ -1,6 +1,0 @@
-use borrow.Author.Rules.{rules}
-use Rattle.counter.proofs.ReadAnswers.{opened-by}
-use Rattle.counter.proofs.reading.counter_open.Goals as goal
-
-pub returns : goal.returns
-returns c = search opened-by
