@@ -127,20 +127,16 @@ impl Window {
 pub fn settled(w: Window, s: Result<Window, Refusal>) -> Window
     ensures { result ≡ settled_of w s }
 {
-    match s {
-        Ok(v) => v,
-        Err(_) => w,
-    }
+    s.unwrap_or(w)
 }
 
 // `seek` on a window that the caller lends.
 pub fn seek_lent(w: &mut Window, to: SeekFrom) -> Result<Window, Refusal>
     ensures { (result ≡ seekOf w.old to) × (w.new ≡ settled_of w.old (seekOf w.old to)) }
 {
-    let old = *w;
-    let s = Window::seek(old, to);
-    *w = settled(old, s);
-    s
+    let sought = Window::seek(*w, to);
+    *w = settled(*w, sought);
+    sought
 }
 
 // `read` on a window that the caller lends.
