@@ -42,10 +42,8 @@ fn read_words(s: &[u8], at: usize, out: &mut [u32])
     requires { at + 4 * length out.old ≤ length s.now }
     ensures { out.new ≡ wordsAt s.now at (length out.old) }
 {
-    let mut i = 0;
-    while i < out.len() {
+    for i in 0..out.len() {
         out[i] = endian::read_u32(s, at + 4 * i);
-        i += 1;
     }
 }
 
@@ -75,10 +73,8 @@ fn largest(offsets: &[u32], sizes: &[u32]) -> u64
     ensures { result ≡ largestOf offsets.now sizes.now }
 {
     let mut top = 0;
-    let mut i = 0;
-    while i < offsets.len() {
+    for i in 0..offsets.len() {
         top = larger(top, wide(offsets[i]) + wide(sizes[i]));
-        i += 1;
     }
     top
 }
@@ -161,12 +157,10 @@ fn largest_at(s: &[u8], at: usize, n: usize) -> u64
     ensures { result ≡ largestOf (wordsAt s.now at n) (wordsAt s.now (at + 0x90) n) }
 {
     let mut top = 0;
-    let mut i = 0;
-    while i < n {
+    for i in 0..n {
         let offset = endian::read_u32(s, at + 4 * i);
         let size = endian::read_u32(s, at + 4 * i + 0x90);
         top = larger(top, wide(offset) + wide(size));
-        i += 1;
     }
     top
 }
@@ -193,16 +187,12 @@ pub fn size(image: &[u8], at: usize) -> Result<u32, Refusal>
 pub fn read(image: &[u8], at: usize) -> DolAnswer
     ensures { result ≡ dolAnswerOf image.now at }
 {
-    let size = size(image, at);
-    match size {
-        Ok(n) => {
-            let header = header_at(image, at);
-            DolAnswer {
-                verdict: Ok(()),
-                header,
-                size: n,
-            }
-        }
+    match size(image, at) {
+        Ok(size) => DolAnswer {
+            verdict: Ok(()),
+            header: header_at(image, at),
+            size,
+        },
         Err(_) => refused(),
     }
 }
