@@ -28,8 +28,7 @@ pub fn read(image: &[u8]) -> Program
     if at == 0 {
         return Program::None;
     }
-    let size = dol::size(image, at as usize);
-    match size {
+    match dol::size(image, at as usize) {
         Ok(n) => Program::At(DiscRegion {
             offset: at,
             size: larger(n, 0xE4),

@@ -5,8 +5,8 @@ use Rattle.program.proofs.read.Goals as goal
 pub returns-then-at-eq0 : goal.returns-then-at-eq0
 returns-then-at-eq0 c = search no_program
 
-pub returns-in-Bytes : goal.returns-in-Bytes
-returns-in-Bytes c = search a_program
+pub returns-in-Ok : goal.returns-in-Ok
+returns-in-Ok c = search a_program
 
-pub returns-in-Refused : goal.returns-in-Refused
-returns-in-Refused c = search no_header
+pub returns-in-Err : goal.returns-in-Err
+returns-in-Err c = search no_header
