@@ -16,15 +16,13 @@ fn regions_disjoint(words: &[u32], count: usize, disc_end: u32) -> bool
     ensures value_2 { result ≡ inSequence 0 disc_end (regionsIn words.now 0 count) }
 {
     let mut at: u64 = 0;
-    let mut k = 0;
-    while k < count {
+    for k in 0..count {
         let offset = wide(words[2 * k]);
         let size = wide(words[2 * k + 1]);
         if offset < at {
             return false;
         }
         at = offset + size;
-        k += 1;
     }
     at <= disc_end as u64
 }
