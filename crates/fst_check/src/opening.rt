@@ -36,10 +36,8 @@ fn entries_verdict(table: &[u8], count: usize) -> Verdict
     requires { (1 ≤ count) × (count ≤ 16384) }
     ensures { result ≡ entriesVerdict table.now 1 (count - 1) }
 {
-    let mut k = 1;
-    while k < count {
+    for k in 1..count {
         entry_verdict(table, k)?;
-        k += 1;
     }
     Ok(())
 }
@@ -194,13 +192,11 @@ fn walk(table: &[u8], count: usize) -> Verdict
     let mut clean = fst_text::survey(table, 12 * count, &mut marks, first);
     let mut nexts: [u32; 65] = [count as u32; 65];
     let mut depth = 1;
-    let mut k = 1;
-    while k < count {
+    for k in 1..count {
         depth = shut(&nexts, depth, k);
         clean = starts_clean(table, count, &mut marks, first, k, clean);
         node_verdict(table, count, &marks, &nexts, depth, k, clean)?;
         depth = enter(table, count, &mut nexts, depth, k);
-        k += 1;
     }
     Ok(())
 }

@@ -1,12 +1,11 @@
 -- `fst_check::opening::check` meets its contract: each return by the tests that led there. Entries that pass stand in the table.
 use native.Mathlib.Omega.{arith}
-use mathlib.Core.Path.{◌≡◌, sym, ◌∙◌}
-use mathlib.Core.Bool.{true, false}
+use mathlib.Core.Path.{◌≡◌, sym}
 use Prim.Native.Nat.{◌-◌}
 use borrow.Author.Tests.{lt-ltb, le-ltb, eq-eqb, ne_eqb}
 use lib.ListN.{length}
-use Rattle.refusal.specs.Refusal.{is_refused}
-use Rattle.refusal.specs.Laws.Chains.{first-stop, first-go, not-refused}
+use Rattle.std.specs.Prelude.{Ok, Err}
+use Rattle.std.proofs.lemmas.Result.{err_from_is_err_and}
 use Rattle.tree.specs.Table.{kind, count, entriesVerdict, check}
 use Rattle.fst_check.specs.Inner.Reading.{textsVerdict}
 use Rattle.fst_check.proofs.Walking.{entries-inside, count-some}
@@ -31,30 +30,25 @@ returns-then-count-gt16384 c =
     let T = c.args.table.now in
     rw (le-ltb (length T) 12 c.if-table-lt12.false, le-ltb 1 (kind T 0) c.if-table-gt1.false, ne_eqb (kind T 0) 0 c.if-table-eq0.false, lt-ltb 16384 (count T) (omega arith))
 
-pub entries_verdict-entries-requires : goal.entries_verdict-entries-requires
-entries_verdict-entries-requires c = omega (arith, count-some c.args.table.now)
+pub entries_verdict-requires : goal.entries_verdict-requires
+entries_verdict-requires c = omega (arith, count-some c.args.table.now)
 
-pub returns-then-is_refused : goal.returns-then-is_refused
+pub returns-in_err-entries_verdict : goal.returns-in_err-entries_verdict
 unfolding check
-returns-then-is_refused c =
+returns-in_err-entries_verdict c =
     let T = c.args.table.now in
-    let v = c.entries_verdict-entries in
-    let r : is_refused v.result ≡ true = sym c.is_refused.ensures ∙ c.if-is_refused.true in
-    let e : v.result ≡ entriesVerdict T 1 (count T - 1) = rw c.count-count.ensures at v.ensures in
-    rw (le-ltb (length T) 12 c.if-table-lt12.false, le-ltb 1 (kind T 0) c.if-table-gt1.false, ne_eqb (kind T 0) 0 c.if-table-eq0.false, le-ltb 16384 (count T) (omega arith), ← e) (sym (first-stop v.result _ r))
+    let p = err_from_is_err_and c.from_residual.result c.from_residual.ensures.1 in
+    let e : Err c.in_err-entries_verdict.field-0.0 ≡ entriesVerdict T 1 (count T - 1) = rw c.count-count.ensures at c.in_err-entries_verdict.ensures in
+    rw (p.1, p.2) (rw (le-ltb (length T) 12 c.if-table-lt12.false, le-ltb 1 (kind T 0) c.if-table-gt1.false, ne_eqb (kind T 0) 0 c.if-table-eq0.false, le-ltb 16384 (count T) (omega arith), ← e))
 
 pub texts_verdict-requires : goal.texts_verdict-requires
 texts_verdict-requires c =
-    let v = c.entries_verdict-entries in
-    let r : is_refused v.result ≡ false = sym c.is_refused.ensures ∙ c.if-is_refused.false in
-    entries-inside c.args.table.now c.count-count.result (omega arith) (omega (arith, count-some c.args.table.now)) (omega arith) (sym v.ensures ∙ not-refused v.result r)
+    entries-inside c.args.table.now c.count-count.result (omega arith) (omega (arith, count-some c.args.table.now)) (omega arith) (sym c.in_ok-entries_verdict.ensures)
 
 pub returns : goal.returns
 unfolding check textsVerdict
 returns c =
     let T = c.args.table.now in
-    let v = c.entries_verdict-entries in
-    let r : is_refused v.result ≡ false = sym c.is_refused.ensures ∙ c.if-is_refused.false in
-    let e : v.result ≡ entriesVerdict T 1 (count T - 1) = rw c.count-count.ensures at v.ensures in
+    let e : Ok tt ≡ entriesVerdict T 1 (count T - 1) = rw c.count-count.ensures at c.in_ok-entries_verdict.ensures in
     let t : c.texts_verdict.result ≡ textsVerdict T (count T) c.args.words = rw c.count-count.ensures at c.texts_verdict.ensures in
-    rw (le-ltb (length T) 12 c.if-table-lt12.false, le-ltb 1 (kind T 0) c.if-table-gt1.false, ne_eqb (kind T 0) 0 c.if-table-eq0.false, le-ltb 16384 (count T) (omega arith), ← e) (t ∙ sym (first-go v.result (textsVerdict T (count T) c.args.words) r))
+    rw (le-ltb (length T) 12 c.if-table-lt12.false, le-ltb 1 (kind T 0) c.if-table-gt1.false, ne_eqb (kind T 0) 0 c.if-table-eq0.false, le-ltb 16384 (count T) (omega arith), ← e) t

@@ -1,9 +1,8 @@
 -- `fst_check::opening::walk` meets its contract. The invariant of its loop: what is left of the walk has the answer of the whole.
 use native.Mathlib.Omega.{arith}
 use Prim.Native.Nat.{◌*◌}
-use mathlib.Core.Path.{◌≡◌, sym, ◌∙◌}
-use mathlib.Core.Bool.{true, false}
-use Rattle.refusal.specs.Refusal.{is_refused}
+use mathlib.Core.Path.{refl, sym, ◌∙◌}
+use Rattle.std.proofs.lemmas.Result.{err_from_is_err_and}
 use Rattle.fst_check.proofs.Walking.{walked_start, walked_stop, walked-turn, walked_end}
 use Rattle.fst_text.proofs.BlockLaws.{marked-none}
 use Rattle.fst_check.proofs.opening.walk.Goals as goal
@@ -19,20 +18,17 @@ loop-k-init c =
     let s = c.survey-clean in
     (walked_start a.table.now a.count, s.ensures.1, λ e. c.clean_end-first.ensures.1 ∙ (sym s.ensures.0 ∙ e))
 
-pub returns-then-is_refused : goal.returns-then-is_refused
-returns-then-is_refused c =
-    let v = c.node_verdict-verdict in
-    let r : is_refused v.result ≡ true = sym c.is_refused.ensures ∙ c.if-is_refused.true in
-    walked_stop c.loop-k.invariant.0 _ c.shut-depth.ensures.0 _ v.ensures c.loop-k-test.true r
+pub returns-in_err-node_verdict : goal.returns-in_err-node_verdict
+returns-in_err-node_verdict c =
+    let p = err_from_is_err_and c.from_residual.result c.from_residual.ensures.1 in
+    rw (p.1, p.2) (walked_stop c.loop-k.invariant.0 _ c.shut-depth.ensures.0 _ c.in_err-node_verdict.ensures c.loop-k-test.true refl)
 
 pub loop-k-preserved : goal.loop-k-preserved
 loop-k-preserved c =
-    let v = c.node_verdict-verdict in
     let e = c.enter-depth.ensures in
     let l = c.loop-k in
     let s = c.starts_clean-clean in
-    let r : is_refused v.result ≡ false = sym c.is_refused.ensures ∙ c.if-is_refused.false in
-    (walked-turn l.invariant.0 _ c.shut-depth.ensures.0 _ v.ensures c.loop-k-test.true r _ _ e.0 e.1 e.2, s.ensures.1, λ q. l.invariant.2 (s.ensures.0 q).0)
+    (walked-turn l.invariant.0 _ c.shut-depth.ensures.0 _ c.in_ok-node_verdict.ensures c.loop-k-test.true refl _ _ e.0 e.1 e.2, s.ensures.1, λ q. l.invariant.2 (s.ensures.0 q).0)
 
 pub returns : goal.returns
 returns c = walked_end _ _ _ _ _ c.loop-k.invariant.0 c.loop-k-test.false

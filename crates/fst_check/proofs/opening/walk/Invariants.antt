@@ -1,5 +1,5 @@
 -- `fst_check::opening::walk` meets its contract. The invariant of its loop: what is left of the walk has the answer of the whole.
-use Prim.Native.Nat.{◌-◌, ◌*◌}
+use Prim.Native.Nat.{◌*◌}
 use mathlib.Core.Path.{◌≡◌}
 use mathlib.Core.Bool.{true}
 use Rattle.fst_check.proofs.Walking.{Walked}
@@ -9,6 +9,3 @@ use Rattle.fst_check.proofs.opening.walk.Given as goal
 
 abbrev pub invariant-loop-k : goal.invariant-loop-k
 invariant-loop-k l = Walked l.table l.count l.nexts l.depth l.k × Marked l.table (12 * l.count) l.marks × (l.clean ≡ true → cleanFrom l.table (12 * l.count) ≡ true)
-
-abbrev pub decreases-loop-k : goal.decreases-loop-k
-decreases-loop-k l = l.count - l.k
