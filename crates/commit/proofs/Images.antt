@@ -167,10 +167,10 @@ pub table-past : (nodes : List Node) (place : DiscRegion) (image : List ℕ) (wo
 table-past nodes place image words room e =
     sym (ap (λ (v : Verdict). sizedAs v (length (encode nodes))) (table-tests nodes place image words room ∙ ap (λ (v : Verdict). first v (placeVerdict image room (length (encode nodes)) place)) e))
 
-pub table-sized : (nodes : List Node) (place : DiscRegion) (image : List ℕ) (words room size : ℕ) (v : Verdict) (r : Result ℕ Refusal) → limits nodes words ≡ Ok tt → size ≡ length (encode nodes) → v ≡ placeVerdict image room size place → r ≡ sizedAs v size →
-    r ≡ sizedAs (tableVerdict (placing nodes place) image words room) (length (encode nodes))
-table-sized nodes place image words room size v r a b p q =
-    q ∙ ap (λ (x : Verdict). sizedAs x size) p ∙ ap (λ (n : ℕ). sizedAs (placeVerdict image room n place) n) b
+pub table-sized : (nodes : List Node) (place : DiscRegion) (image : List ℕ) (words room size : ℕ) (v : Verdict) → limits nodes words ≡ Ok tt → size ≡ length (encode nodes) → v ≡ placeVerdict image room size place →
+    sizedAs v size ≡ sizedAs (tableVerdict (placing nodes place) image words room) (length (encode nodes))
+table-sized nodes place image words room size v a b p =
+    ap (λ (x : Verdict). sizedAs x size) p ∙ ap (λ (n : ℕ). sizedAs (placeVerdict image room n place) n) b
     ∙ sym (ap (λ (x : Verdict). sizedAs x (length (encode nodes))) (table-tests nodes place image words room ∙ ap (λ (x : Verdict). first x (placeVerdict image room (length (encode nodes)) place)) a))
 
 -- a table that passed its tests

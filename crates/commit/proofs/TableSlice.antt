@@ -1,6 +1,6 @@
 -- The table of an open image as it is read: it is valid, it is measured, and it is written anew.
 -- Assumes nothing.
-use Rattle.std.specs.Prelude.{Result, Ok, Err}
+use Rattle.std.specs.Prelude.{Ok, Err}
 use Rattle.refusal.specs.Refusal.{Verdict}
 use Rattle.refusal.specs.declared.Refusal.{Refusal}
 use Prim.Native.Nat.{ℕ, ◌≤◌}
@@ -46,8 +46,14 @@ module _ (image tab : List ℕ) (is : tab ≡ table_of image) where
         Err LimitOrMemory ≡ sizedAs (tableVerdict (placing (nodesIn image) place) image words room) (length (encode (nodesIn image)))
     tree-past room place e = table-past (nodesIn image) place image words room (limits-past e)
 
-    pub tree-sized : (room n : ℕ) (place : DiscRegion) (v : Verdict) (t : Result ℕ Refusal) → r ≡ Size n → v ≡ placeVerdict image room n place → t ≡ sizedAs v n →
-        t ≡ sizedAs (tableVerdict (placing (nodesIn image) place) image words room) (length (encode (nodesIn image)))
-    tree-sized room n place v t e p q =
-        let m = limits-passed n e in
-        table-sized (nodesIn image) place image words room n v t m.0 m.1 p q
+    tree-sized : (room n : ℕ) (place : DiscRegion) (v : Verdict) → r ≡ Size n → v ≡ placeVerdict image room n place →
+        sizedAs v n ≡ sizedAs (tableVerdict (placing (nodesIn image) place) image words room) (length (encode (nodesIn image)))
+    tree-sized room n place v e p = let m = limits-passed n e in table-sized (nodesIn image) place image words room n v m.0 m.1 p
+
+    pub tree-refused : (room n : ℕ) (place : DiscRegion) (cause : Refusal) → r ≡ Size n → Err cause ≡ placeVerdict image room n place →
+        Err cause ≡ sizedAs (tableVerdict (placing (nodesIn image) place) image words room) (length (encode (nodesIn image)))
+    tree-refused room n place cause e p = tree-sized room n place (Err cause) e p
+
+    pub tree-passed : (room n : ℕ) (place : DiscRegion) → r ≡ Size n → Ok tt ≡ placeVerdict image room n place →
+        Ok n ≡ sizedAs (tableVerdict (placing (nodesIn image) place) image words room) (length (encode (nodesIn image)))
+    tree-passed room n place e p = tree-sized room n place (Ok tt) e p

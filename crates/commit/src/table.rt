@@ -63,15 +63,6 @@ pub fn check_place(
     Ok(())
 }
 
-fn sized(verdict: Verdict, size: usize) -> Result<usize, Refusal>
-    ensures { result ≡ sizedAs verdict size }
-{
-    match verdict {
-        Ok(()) => Ok(size),
-        Err(cause) => Err(cause),
-    }
-}
-
 // The tests that an edit ends with, for the tree as it is. A tree that differs in a file's place only has the same size and the same answer.
 pub fn check_table(
     image: &[u8],
@@ -86,7 +77,10 @@ pub fn check_table(
     let measured = fst_measure::measure(opening::table(image));
     match measured {
         Measured::PastLimit => Err(Refusal::LimitOrMemory),
-        Measured::Size(size) => sized(check_place(image, words, m, room, size, place), size),
+        Measured::Size(size) => {
+            check_place(image, words, m, room, size, place)?;
+            Ok(size)
+        }
     }
 }
 

@@ -130,8 +130,6 @@ pub fn finish(
 pub fn verdict_of(located: Result<u32, Refusal>) -> Verdict
     ensures { result ≡ verdictIn located }
 {
-    match located {
-        Ok(_) => Ok(()),
-        Err(cause) => Err(cause),
-    }
+    located?;
+    Ok(())
 }
