@@ -5,7 +5,6 @@
 #![tactic(auto)]
 
 use std::io::{self, Write};
-
 use window::{SeekFrom, Sought, Window};
 
 // What a seek gave: the position, or the refusal's number.
