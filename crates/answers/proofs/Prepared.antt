@@ -1,17 +1,15 @@
--- What a prepared image gives the calls on it: what they ask of its words, and their answers behind its verdict. Assumes nothing.
+-- What a prepared image gives the calls on it: the regions that its words leave free, and their answers behind its verdict. Assumes nothing.
 use Rattle.std.specs.Prelude.{Result, Ok, Err}
-use Prim.Native.Nat.{ℕ, ◌+◌, ◌^◌, ◌<◌}
+use Prim.Native.Nat.{ℕ}
 use lib.ListN.{length}
-use Rattle.header.specs.Verdicts.{fstOffset}
 use mathlib.Core.Path.{◌≡◌, ap, ◌∙◌}
 use mathlib.Core.List.{List}
 use Rattle.refusal.specs.declared.Refusal.{Refusal}
-use Rattle.opening.proofs.Tests.{table_below}
-use Rattle.opening.proofs.Words.{DiscRegion, freeRegions, regionsIn, SortedDisjoint}
+use Rattle.opening.proofs.Words.{DiscRegion, freeRegions, regionsIn}
 use Rattle.free_space.specs.MaxRegionSize.{maxRegionSize}
-use Rattle.opening.specs.Opening.{opening, table_of, freeOf}
-use Rattle.opening.specs.Inner.Prepared.{OpensImage, Prepares}
-use Rattle.opening.specs.Laws.OpeningLaws.{still-opens, was-ready, was-refused}
+use Rattle.opening.specs.Opening.{opening, freeOf}
+use Rattle.opening.specs.Inner.Prepared.{Prepares}
+use Rattle.opening.specs.Laws.OpeningLaws.{was-ready, was-refused}
 use Rattle.answers.specs.declared.Disc.{Disc}
 use Rattle.answers.specs.Answers.{behind, discOf, maxRegionSizeAnswer}
 use Rattle.answers.specs.Laws.AnswerLaws.{behind-passed, behind-refused}
@@ -20,17 +18,7 @@ module _ (image w : List ℕ) (p : Result ℕ Refusal) (h : Prepares image w p) 
   pub ready-opened : (m : ℕ) → p ≡ Ok m → opening image (length w) ≡ Ok tt
   ready-opened m r = (was-ready image w p h m r).known.passed
 
-  -- its table
-  pub ready-opens : (m : ℕ) → p ≡ Ok m → OpensImage image
-  ready-opens m r = still-opens image w m (was-ready image w p h m r)
-
-  pub ready-table-below : (m from : ℕ) (tab : List ℕ) → p ≡ Ok m → from ≡ fstOffset image → tab ≡ table_of image → from + length tab < 2 ^ 32
-  ready-table-below m from tab r e f = table_below image w m from tab (was-ready image w p h m r) e f
-
-  -- its words
-  pub ready-sorted : (m : ℕ) (d : Disc) → p ≡ Ok m → d ≡ discOf image → SortedDisjoint w m d.disc_end
-  ready-sorted m d r e = rw e (was-ready image w p h m r).used.sorted
-
+  -- its free regions
   pub ready-free : (m : ℕ) (d : Disc) → p ≡ Ok m → d ≡ discOf image → freeRegions d.disc_end (regionsIn w 0 m) ≡ freeOf image
   ready-free m d r e = rw e (was-ready image w p h m r).used.free
 

@@ -7,7 +7,6 @@ use mathlib.Core.Path.{◌≡◌, refl, sym, ◌∙◌}
 use mathlib.Core.Bool.{false}
 use mathlib.Core.List.{List, []}
 use native.Mathlib.Omega.{arith}
-use borrow.Author.Tests.{le-leb, lt-leb}
 use lib.Dec.{leb}
 use lib.ListN.{length}
 use mir.Syntax.{w32}
@@ -15,21 +14,20 @@ use mir.Val.{Fits}
 use Rattle.refusal.specs.declared.Refusal.{Refusal}
 use Rattle.refusal.specs.declared.Refusal.TheVariants.{NoSuchEntry}
 use Rattle.refusal.specs.Refusal.{refuse}
-use Rattle.tree.specs.Table.{Node, count, nodesOf}
+use Rattle.tree.specs.Table.{Node, nodesOf}
 use Rattle.tree.specs.Inner.WellFormed.{WellFormed}
 use Rattle.tree.specs.Lookup.{components}
-use Rattle.tree.specs.Laws.Accepted.{length-nodesOf}
 use Rattle.fst_check.specs.Inner.Reading.{Opens}
 use Rattle.fst.proofs.Nodes.{opens-inside}
 use Rattle.opening.specs.Opening.{table_of, nodesIn}
 use Rattle.opening.specs.Inner.Prepared.{OpenImage, IsOpen}
 use Rattle.commit.specs.Inner.Decision.{Decided}
-use Rattle.edits.specs.Change.{Plan, change}
+use Rattle.edits.specs.Change.{change}
 use Rattle.edits.specs.Edits.{make, tableOnly, planMakeDirectories}
 use Rattle.edits.specs.Inner.Troubles.{madeVerdict, troubleOf}
 use Rattle.commit.specs.declared.Decision.{Decision}
 use Rattle.commit.specs.declared.Decision.TheVariants as decision
-use Rattle.fst_grow.specs.Inner.Growth.{treeIn, Stands, Built}
+use Rattle.fst_grow.specs.Inner.Growth.{treeIn, Built}
 use Rattle.table_only.specs.Inner.Decisions.{tableDecision}
 use Rattle.table_only.proofs.BuiltTable.{well-open}
 use Rattle.make_walk.specs.Inner.Walk.{pathVerdict}
@@ -42,13 +40,6 @@ use Rattle.make_directories.proofs.Plans.{path-short, path-refused, starts-insid
 
 pub count_held : (tab : List ℕ) → Opens tab → 12 ≤ length tab
 count_held tab o = let i = opens-inside tab o in omega arith
-
-module _ (tab : List ℕ) (start n : ℕ) (v : Verdict) (counted : n ≡ count tab) where
-  pub no_start : n ≤ start → Err NoSuchEntry ≡ refuse (leb (length (nodesOf tab)) start) NoSuchEntry v
-  no_start h = rw (le-leb (length (nodesOf tab)) start (omega (arith, length-nodesOf tab)))
-
-  pub start-there : (r : Verdict) → start < n → r ≡ v → r ≡ refuse (leb (length (nodesOf tab)) start) NoSuchEntry v
-  start-there r h e = rw (lt-leb (length (nodesOf tab)) start (omega (arith, length-nodesOf tab))) e
 
 pub path-judged : (image tab : List ℕ) (words start : ℕ) (path : List ℕ) (r : Verdict) → tab ≡ table_of image → OpenImage image words → length path ≤ 1024 →
     r ≡ refuse (leb (length (nodesOf tab)) start) NoSuchEntry (troubleOf (nodesOf tab) start start 0 false (components path)) → r ≡ pathVerdict (nodesIn image) start path
@@ -68,10 +59,6 @@ pub unstarted : (image w s t after : List ℕ) (m start : ℕ) (path : List ℕ)
     Built (nodesIn image) (length w) s t r → r ≡ Err c → Decided (planMakeDirectories (nodesIn image) start path) image (length w) (length s) after (decision.Refused c)
 unstarted image w s t after m start path v r c judged passed o b e =
     start-refused (nodesIn image) start path (sym judged ∙ passed) (well-open image (length w) o.known) image (length w) (length s) s t after r c refl b e
-
--- as many bytes as before
-pub same-room : (p : Plan) (image : List ℕ) (words : ℕ) (s t after : List ℕ) (g : Decision) → length t ≡ length s → Decided p image words (length t) after g → Decided p image words (length s) after g
-same-room p image words s t after g e h = rw e at h
 
 -- ---- the walk made the directories, or there was no room
 
@@ -93,9 +80,3 @@ module _ (image s : List ℕ) (size start : ℕ) (path : List ℕ) (same : treeI
       pub walk-placed : (x : Result ℕ Refusal) (g : Decision) → length after ≡ room → Decided (change 0 (tableOnly (treeIn after n))) image words (length after) after (tableDecision 0 x) → g ≡ tableDecision k x →
           Decided (planMakeDirectories (nodesIn image) start path) image words room after g
       walk-placed x g l d q = rw q (made-placed (nodesIn image) start path passed w image words room (treeIn s size) same after r h k n (length after) x e l d)
-
-pub reached-stands : (nodes : List Node) (start : ℕ) (path : List ℕ) (words room : ℕ) (after : List ℕ) (r : Reached) (k n : ℕ) → Reaches (make nodes [] start false (components path)) words room after r → r ≡ reached.At k n →
-    Stands after n words
-reached-stands nodes start path words room after r k n h e =
-    let q : Reaches (make nodes [] start false (components path)) words room after (reached.At k n) = rw e at h in
-    q.1

@@ -6,7 +6,7 @@ use mathlib.Core.Path.{◌≡◌, refl, sym, ap, ◌∙◌}
 use mathlib.Core.Bool.{Bool, true, false}
 use mathlib.Core.List.{List, []}
 use native.Mathlib.Omega.{arith}
-use borrow.Author.Tests.{lt-ltb, le-ltb, leb-false}
+use borrow.Author.Tests.{le-ltb, leb-false}
 use lib.Dec.{ltb, leb}
 use lib.ListN.{length}
 use Rattle.refusal.specs.declared.Refusal.{Refusal}
@@ -44,10 +44,6 @@ module _ (nodes : List Node) (start : ℕ) (path : List ℕ) where
   plan = planMakeDirectories nodes start path
 
   -- ---- the tests that need no memory
-
-  pub path-long : 1024 < length path → Err LimitOrMemory ≡ pathVerdict nodes start path
-  unfolding pathVerdict
-  path-long h = rw (lt-ltb 1024 (length path) h)
 
   pub path-short : WellFormed nodes → length path ≤ 1024 →
       refuse (leb (length nodes) start) NoSuchEntry (troubleOf nodes start start 0 false (components path)) ≡ pathVerdict nodes start path

@@ -1,66 +1,22 @@
--- Each step of the walk that makes directories, by what the code found.
--- Assumes nothing.
-use Rattle.std.specs.Prelude.{Result, Ok, Err}
+-- The loop of the walk that makes directories, by what a step of it answered. Assumes nothing.
+use Rattle.std.specs.Prelude.{Ok}
 use Prim.Native.Nat.{ℕ, ◌+◌, ◌<◌, ◌≤◌}
-use mathlib.Core.Path.{◌≡◌, refl, sym, ◌∙◌}
-use mathlib.Core.Bool.{Bool, true, false}
+use mathlib.Core.Path.{◌≡◌, refl}
+use mathlib.Core.Bool.{false}
 use mathlib.Core.List.{List, [], ◌∷◌}
-use lib.ListN.{length, take, drop}
-use lib.Seq.{length-take-le}
+use lib.ListN.{length, drop}
 use Rattle.refusal.specs.declared.Refusal.{Refusal}
 use Rattle.refusal.specs.declared.Refusal.TheVariants.{LimitOrMemory}
-use Rattle.tree.specs.Table.{Node, parent_of, encode, limits}
-use Rattle.tree.specs.Inner.WellFormed.{GoodName}
-use Rattle.tree.specs.Lookup.{components, childOf, stays, goesBack}
+use Rattle.tree.specs.Table.{Node, encode, limits}
+use Rattle.tree.specs.Lookup.{components}
 use Rattle.fst_path.specs.Inner.Steps.{componentsAfter}
 use Rattle.edits.specs.Edits.{make}
 use Rattle.edits.specs.Inner.Troubles.{madeVerdict}
 use Rattle.fst_grow.specs.Inner.Growth.{treeIn, Stands}
 use Rattle.make_directories.specs.declared.making.Reached.{Reached}
 use Rattle.make_directories.specs.declared.making.Reached.TheVariants.{At, Refused}
-use Rattle.make_directories.specs.Inner.Making.{madeTree, madeEntry, newIn, intoOf, turn_of, MayName, CanTurn, InBytes, Reaches}
+use Rattle.make_directories.specs.Inner.Making.{madeTree, madeEntry, turn_of, Reaches}
 use Rattle.make_directories.proofs.Turns.{Making, making-start, making-refused, making-end, making-turn}
-
--- the part of the bytes that is read
-pub part_count : (s : List ℕ) (size k : ℕ) → InBytes s size k → size ≡ length (take size s)
-part_count s size k i = sym (length-take-le size s i.held)
-
--- ---- to a child, or into a new one
-
-module _ (nodes : List Node) (k : ℕ) (nm : List ℕ) (x : Result ℕ Refusal) (child : x ≡ childOf nodes k nm) where
-  pub new-name : (c : Refusal) → MayName nodes k nm → x ≡ Err c → GoodName nm
-  new-name c m e = m.good c (sym child ∙ e)
-
-  pub child-made : (c : Refusal) (words room : ℕ) (t : List ℕ) (r : Reached) → x ≡ Err c → Reaches (newIn nodes k nm) words room t r → Reaches (intoOf nodes k nm) words room t r
-  child-made c words room t r e h = rw (← child, e) h
-
-pub child-there : (s : List ℕ) (size words room k : ℕ) (nm : List ℕ) (x : Result ℕ Refusal) (j : ℕ) → Stands s size words → x ≡ childOf (treeIn s size) k nm → x ≡ Ok j →
-    Reaches (intoOf (treeIn s size) k nm) words room s (At j size)
-child-there s size words room k nm x j st child e = rw (← child, e) (refl, st, refl)
-
--- ---- one component
-
-module _ (s : List ℕ) (size words room k : ℕ) (nm : List ℕ) (u : Bool) (stay : u ≡ stays nm) where
-  pub turn-stays : Stands s size words → u ≡ true → Reaches (turn_of (treeIn s size) k nm) words room s (At k size)
-  unfolding turn_of
-  turn-stays st e = let q : stays nm ≡ true = sym stay ∙ e in rw q (refl, st, refl)
-
-  module _ (moves : u ≡ false) (v : Bool) (back : v ≡ goesBack nm) where
-    goes : stays nm ≡ false
-    goes = sym stay ∙ moves
-
-    pub turn-back : (r : ℕ) → Stands s size words → v ≡ true → r ≡ parent_of (treeIn s size) k → Reaches (turn_of (treeIn s size) k nm) words room s (At r size)
-    unfolding turn_of
-    turn-back r st e p = let b : goesBack nm ≡ true = sym back ∙ e in rw (goes, b) (p, st, refl)
-
-    pub turn-into : (t : List ℕ) (r : Reached) → v ≡ false → Reaches (intoOf (treeIn s size) k nm) words room t r → Reaches (turn_of (treeIn s size) k nm) words room t r
-    unfolding turn_of
-    turn-into t r e h = let b : goesBack nm ≡ false = sym back ∙ e in rw (goes, b) h
-
-pub turn-may-name : (nodes : List Node) (k : ℕ) (nm : List ℕ) (u v : Bool) → CanTurn nodes k nm → u ≡ stays nm → u ≡ false → v ≡ goesBack nm → v ≡ false → MayName nodes k nm
-turn-may-name nodes k nm u v c s e b f = c.named (sym s ∙ e) (sym b ∙ f)
-
--- ---- the loop along the path
 
 pub making-from : (start : ℕ) (path : List ℕ) (words : ℕ) (bytes : List ℕ) (size : ℕ) → Stands bytes size words → start < length (treeIn bytes size) → madeVerdict (make (treeIn bytes size) [] start false (components path)) ≡ Ok tt →
     Making (madeTree (make (treeIn bytes size) [] start false (components path))) (madeEntry (make (treeIn bytes size) [] start false (components path))) path words (length bytes) bytes size start 0

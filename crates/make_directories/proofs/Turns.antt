@@ -215,6 +215,3 @@ module _ (s t : List ℕ) (size words k : ℕ) (nm : List ℕ) (st : Stands s si
   new-reached number n e f =
       let q = grown s size words st true k nm dir good t r b n f in
       (e, q.0, q.1)
-
-  pub new-refused : (c : Refusal) → r ≡ Err c → Reaches (newIn (treeIn s size) k nm) words (length s) t (Refused c)
-  new-refused c f = rw f at b

@@ -18,6 +18,7 @@ pub enum Reached {
 }
 
 // The first child of directory k with that name.
+#[tactic(auto, unfolding(fst_grow::specs::Inner::Growth::treeIn))]
 fn child(bytes: &[u8], size: usize, k: usize, name: &[u8]) -> Result<u32, Refusal>
     requires { InBytes bytes.now size k }
     ensures { result ≡ childOf (treeIn bytes.now size) k name.now }
@@ -26,6 +27,7 @@ fn child(bytes: &[u8], size: usize, k: usize, name: &[u8]) -> Result<u32, Refusa
 }
 
 // The number that a new last child of directory k gets.
+#[tactic(auto, unfolding(fst_grow::specs::Inner::Growth::treeIn))]
 fn new_number(bytes: &[u8], size: usize, k: usize) -> usize
     requires { InBytes bytes.now size k }
     ensures { result ≡ newNumber (treeIn bytes.now size) k }
@@ -59,6 +61,7 @@ fn into(bytes: &mut [u8], size: usize, words: usize, k: usize, name: &[u8]) -> R
 }
 
 // One component: empty and `.` stay, `..` goes back, any other is a child's name.
+#[tactic(auto, unfolding(crate::specs::Inner::Making::turn_of))]
 fn take_step(bytes: &mut [u8], size: usize, words: usize, k: usize, name: &[u8]) -> Reached
     requires { Stands bytes.old size words × CanTurn (treeIn bytes.old size) k name.now }
     ensures { Reaches (turn_of (treeIn bytes.old size) k name.now) words (length bytes.old) bytes.new result }

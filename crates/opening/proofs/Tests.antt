@@ -60,9 +60,6 @@ module _ (image : List ℕ) (words : ℕ) (v : Verdict) (e : v ≡ verdictBefore
 pub table-inside : (image : List ℕ) (to : ℕ) → Bounded image → to ≡ table_end image → to ≤ length image
 table-inside image to b e = omega (arith, b.table, b.image_holds)
 
-pub table_below : (image w : List ℕ) (m from : ℕ) (tab : List ℕ) → IsOpen image w m → from ≡ fstOffset image → tab ≡ table_of image → from + length tab < 2 ^ 32
-table_below image w m from tab o e f = let k = o.known.reads in rw f (omega (arith, k.size, k.bounds.table, k.bounds.small))
-
 pub end_fits : (image : List ℕ) (e : ℕ) → Bounded image → e ≡ discEnd image → e < 2 ^ 32
 end_fits image e b p = omega (arith, b.small)
 

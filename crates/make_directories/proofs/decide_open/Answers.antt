@@ -1,5 +1,5 @@
 -- `make_directories::decide_open` meets its contract: refused by the tests that need no memory, or what the table comes to.
-use Rattle.make_directories.proofs.Outcomes.{path-stops, path-passes, unstarted, same-room}
+use Rattle.make_directories.proofs.Outcomes.{path-stops, path-passes, unstarted}
 use Rattle.table_only.proofs.BuiltTable.{started-stands, started-tree}
 use Rattle.make_directories.proofs.decide_open.Goals as goal
 
@@ -11,6 +11,3 @@ make_in-requires c = (search, search started-stands, search started-tree, search
 
 pub returns-in-Refused-found : goal.returns-in-Refused-found
 returns-in-Refused-found c = search unstarted
-
-pub returns-in-Bytes : goal.returns-in-Bytes
-returns-in-Bytes c = search same-room

@@ -1,4 +1,4 @@
--- `insert::opened::insert` meets its contract: refused by its own tests, or the tree that was built with the number that was found.
+-- `insert::opened::insert` meets its contract: where a number was found the parent is a directory, and the name may be given.
 use Rattle.insert.proofs.InsertionLaws.{into-directory, under-name}
 use Rattle.insert.proofs.opened.insert.Goals as goal
 

@@ -1,4 +1,4 @@
--- `insert::opened::new_number` meets its contract: the number is the directory's next.
+-- `insert::opened::new_number` meets its contract: once the tests are passed the parent is an entry, and the number of its next fits.
 use Rattle.std.proofs.Common.{List, ℕ, arith, get_or, Fits, w8}
 use Rattle.tree.specs.Inner.WellFormed.{WellFormed}
 use Rattle.insert.proofs.Tests.{parent-inside, number_fits}
