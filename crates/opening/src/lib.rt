@@ -31,10 +31,8 @@ fn collect_entries(table: &[u8], words: &mut [u32], m: usize, from: usize, to: u
     ensures { CollectedTo table.now from m words.old words.new to result }
 {
     let mut n = m;
-    let mut k = from;
-    while k < to {
+    for k in from..to {
         n = add_entry(table, words, n, k);
-        k += 1;
     }
     n
 }
@@ -44,16 +42,14 @@ fn next_file(table: &[u8], k: usize, end: usize) -> usize
     requires { (k ≤ end) × (12 * end ≤ length table.now) }
     ensures { (k ≤ result) × (result ≤ end) }
 {
-    let mut i = k;
-    while i < end {
+    for i in k..end {
         if endian::read_u8(table, 12 * i) == 0 {
             if endian::read_u32(table, 12 * i + 8) != 0 {
                 return i;
             }
         }
-        i += 1;
     }
-    i
+    end
 }
 
 // The entry before which the program has its turn: where the files are in order, the first that lies behind it. Any turn is right; with this
@@ -119,11 +115,8 @@ fn check_used(image: &[u8], words: &mut [u32], program: DiscRegion) -> Result<us
     let end = header::disc_end(image) as u32;
     let count = endian::read_u32(image, from + 8) as usize;
     let m = collect(&image[from..to], words, count, to as u32, program);
-    let verdict = space_check::check_regions(words, count + 2, m, end);
-    match verdict {
-        Ok(()) => Ok(m),
-        Err(cause) => Err(cause),
-    }
+    space_check::check_regions(words, count + 2, m, end)?;
+    Ok(m)
 }
 
 // Test 24, and then 14.
@@ -132,10 +125,7 @@ fn check_program(image: &[u8], words: &mut [u32]) -> Result<usize, Refusal>
     ensures { Prepares image.now words.new result }
 {
     let program = program::read(image);
-    let verdict = program::verdict(program);
-    if let Err(cause) = verdict {
-        return Err(cause);
-    }
+    program::verdict(program)?;
     let own = program::own_region(program, header::fst_offset(image));
     check_used(image, words, own)
 }
@@ -144,10 +134,7 @@ fn check_program(image: &[u8], words: &mut [u32]) -> Result<usize, Refusal>
 pub fn prepare(image: &[u8], words: &mut [u32]) -> Result<usize, Refusal>
     ensures { Prepares image.now words.new result }
 {
-    let verdict = check_table(image, words.len());
-    if let Err(cause) = verdict {
-        return Err(cause);
-    }
+    check_table(image, words.len())?;
     check_program(image, words)
 }
 

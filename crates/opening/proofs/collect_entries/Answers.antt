@@ -5,7 +5,7 @@ use Rattle.opening.proofs.UsedRegions.{collected-start, collected-turn}
 use Rattle.opening.proofs.collect_entries.Goals as goal
 
 pub loop-k-init : goal.loop-k-init
-loop-k-init c = (omega arith, omega arith, omega arith, search rules, search collected-start)
+loop-k-init c = (omega arith, search rules, search collected-start)
 
 pub loop-k-preserved : goal.loop-k-preserved
-loop-k-preserved c = (omega arith, omega arith, omega arith, search rules, search collected-turn)
+loop-k-preserved c = (omega arith, search rules, search collected-turn)

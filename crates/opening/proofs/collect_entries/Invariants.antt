@@ -6,7 +6,4 @@ use Rattle.opening.specs.Inner.Prepared.{CollectedTo}
 use Rattle.opening.proofs.collect_entries.Given as goal
 
 abbrev pub invariant-loop-k : goal.invariant-loop-k
-invariant-loop-k l = (l.from ≤ l.k) × (l.k ≤ l.to) × (l.n ≤ l.m + (l.k - l.from)) × (length l.words ≡ length l.initial.words) × CollectedTo l.table l.from l.m l.initial.words l.words l.k l.n
-
-abbrev pub decreases-loop-k : goal.decreases-loop-k
-decreases-loop-k l = l.to - l.k
+invariant-loop-k l = (l.n ≤ l.m + (l.k - l.from)) × (length l.words ≡ length l.initial.words) × CollectedTo l.table l.from l.m l.initial.words l.words l.k l.n
