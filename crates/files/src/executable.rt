@@ -12,7 +12,7 @@ use window::Window;
 
 // No header, and an empty window.
 fn refused(cause: Refusal) -> DolFile
-    ensures { result ≡ dolAs (Verdict.Refused cause) [] }
+    ensures { result ≡ dolAs (Err cause) [] }
 {
     DolFile {
         verdict: Err(cause),
