@@ -57,15 +57,13 @@ pub fn measure(table: &[u8]) -> Measured
 {
     let count = endian::read_u32(table, 8) as usize;
     let mut size = 12;
-    let mut k = 1;
-    while k < count {
+    for k in 1..count {
         let name = name_size(table, count, k);
         // The texts so far are what is measured but for k records.
         if TEXTS_LIMIT - (size - 12 * k) <= name {
             return Measured::PastLimit;
         }
         size += 12 + name + 1;
-        k += 1;
     }
     Measured::Size(size)
 }

@@ -1,4 +1,4 @@
--- `fst_measure::measure` meets its contract. The invariant: the entries before k are measured. The measure: the entries that are left.
+-- `fst_measure::measure` meets its contract. The invariant: the entries before k are measured.
 use native.Mathlib.Omega.{arith}
 use mathlib.Core.Path.{◌≡◌, ◌∙◌}
 use Rattle.tree.specs.Table.{count}
