@@ -8,12 +8,10 @@ ghost use Rattle.fst.specs.Inner.Zeros.{hasZero};
 pub fn has_zero(name: &[u8]) -> bool
     ensures { result ≡ hasZero name.now }
 {
-    let mut i = 0;
-    while i < name.len() {
+    for i in 0..name.len() {
         if name[i] == 0 {
             return true;
         }
-        i += 1;
     }
     false
 }

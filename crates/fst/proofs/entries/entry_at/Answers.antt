@@ -32,10 +32,8 @@ overflow_cast-result c = let i = opens-inside c.args.table.now c.requires.0 in o
 
 pub returns-then-table-k-eq0 : goal.returns-then-table-k-eq0
 returns-then-table-k-eq0 c =
-    let s = c in
-    rw (file-is (opened s.args.table.now (λ i. omega (arith, c.type_inv.table i)) s.requires.0) s.args.k s.requires.1 c.if-table-k-eq0.true) (cc)
+    rw (file-is (opened c.args.table.now (λ i. omega (arith, c.type_inv.table i)) c.requires.0) c.args.k c.requires.1 c.if-table-k-eq0.true) (cc)
 
 pub returns-else-table-k-eq0 : goal.returns-else-table-k-eq0
 returns-else-table-k-eq0 c =
-    let s = c in
-    rw (directory-is (opened s.args.table.now (λ i. omega (arith, c.type_inv.table i)) s.requires.0) s.args.k s.requires.1 c.if-table-k-eq0.false) (cc)
+    rw (directory-is (opened c.args.table.now (λ i. omega (arith, c.type_inv.table i)) c.requires.0) c.args.k c.requires.1 c.if-table-k-eq0.false) (cc)

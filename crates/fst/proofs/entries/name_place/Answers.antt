@@ -24,6 +24,5 @@ overflow_add-result c = let i = opens-inside c.args.table.now c.requires.0 in om
 
 pub returns : goal.returns
 returns c =
-    let s = c in
-    let i = opens-inside s.args.table.now s.requires.0 in
-    (omega (arith, place_is s.args.table.now s.args.k (λ e. omega (arith, s.requires.1)), c.count.ensures, c.read_u24.ensures.0), omega (arith, c.count.ensures, c.read_u24.ensures.1))
+    let i = opens-inside c.args.table.now c.requires.0 in
+    (omega (arith, place_is c.args.table.now c.args.k (λ e. omega (arith, c.requires.1)), c.count.ensures, c.read_u24.ensures.0), omega (arith, c.count.ensures, c.read_u24.ensures.1))

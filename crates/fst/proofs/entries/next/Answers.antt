@@ -13,8 +13,7 @@ bounds-table-k c = let i = opens-inside c.args.table.now c.requires.0 in omega a
 
 pub returns-then-table-k-eq0 : goal.returns-then-table-k-eq0
 returns-then-table-k-eq0 c =
-    let s = c in
-    sym (ap next_of (file-is (opened s.args.table.now (λ i. omega (arith, c.type_inv.table i)) s.requires.0) s.args.k s.requires.1 c.if-table-k-eq0.true))
+    sym (ap next_of (file-is (opened c.args.table.now (λ i. omega (arith, c.type_inv.table i)) c.requires.0) c.args.k c.requires.1 c.if-table-k-eq0.true))
 
 pub overflow_mul-k-2 : goal.overflow_mul-k-2
 overflow_mul-k-2 c = let i = opens-inside c.args.table.now c.requires.0 in omega arith
@@ -24,5 +23,4 @@ read_u32-requires c = let i = opens-inside c.args.table.now c.requires.0 in omeg
 
 pub returns : goal.returns
 returns c =
-    let s = c in
-    c.read_u32.ensures ∙ sym (ap next_of (directory-is (opened s.args.table.now (λ i. omega (arith, c.type_inv.table i)) s.requires.0) s.args.k s.requires.1 c.if-table-k-eq0.false))
+    c.read_u32.ensures ∙ sym (ap next_of (directory-is (opened c.args.table.now (λ i. omega (arith, c.type_inv.table i)) c.requires.0) c.args.k c.requires.1 c.if-table-k-eq0.false))

@@ -15,6 +15,5 @@ returns-then-byte_at-ne0 c =
 
 pub returns : goal.returns
 returns c =
-    let s = c in
     c.same.ensures
-    ∙ sym (text-exact s.args.table.now s.args.name.now s.args.at s.requires.1 (omega (arith, c.if-table-at.false)) (sym c.byte_at.ensures ∙ c.if-byte_at-ne0.false))
+    ∙ sym (text-exact c.args.table.now c.args.name.now c.args.at c.requires.1 (omega (arith, c.if-table-at.false)) (sym c.byte_at.ensures ∙ c.if-byte_at-ne0.false))
