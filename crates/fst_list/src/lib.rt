@@ -29,12 +29,10 @@ fn length_before(table: &[u8], at: usize, stop: usize, end: usize) -> usize
     requires { (at + length (textAt table.now at) < length table.now) × (at ≤ stop) × (end ≡ stop + length (textAt table.now stop)) }
     ensures { result ≡ length (textAt table.now at) }
 {
-    let mut i = at;
-    while i < stop {
+    for i in at..stop {
         if table[i] == 0 {
             return i - at;
         }
-        i += 1;
     }
     end - at
 }
@@ -143,11 +141,9 @@ pub fn list_entries(table: &[u8], base: u32, list: &mut [u32]) -> Verdict
         return Err(Refusal::LimitOrMemory);
     }
     let mut ends = [0u32; 320];
-    let mut k = 0;
-    while k < count {
+    for k in 0..count {
         let size = name_length(table, &mut ends, k);
         add_entry(table, base, list, k, size as u32);
-        k += 1;
     }
     Ok(())
 }

@@ -10,23 +10,19 @@ use Rattle.fst_list.proofs.add_entry.Goals as goal
 
 pub overflow_cast-parent : goal.overflow_cast-parent
 overflow_cast-parent c =
-    let s = c in
-    let i = opens-inside s.args.table.now s.requires.opens.0 in omega (arith, s.requires.opens.1, c.parent_in-parent.ensures.1)
+    let i = opens-inside c.args.table.now c.requires.opens.0 in omega (arith, c.requires.opens.1, c.parent_in-parent.ensures.1)
 
 pub read_u32-last-requires : goal.read_u32-last-requires
 read_u32-last-requires c =
-    let s = c in
-    let i = opens-inside s.args.table.now s.requires.opens.0 in omega (arith, s.requires.opens.1)
+    let i = opens-inside c.args.table.now c.requires.opens.0 in omega (arith, c.requires.opens.1)
 
 pub bounds-table-k : goal.bounds-table-k
 bounds-table-k c =
-    let s = c in
-    let i = opens-inside s.args.table.now s.requires.opens.0 in omega (arith, s.requires.opens.1)
+    let i = opens-inside c.args.table.now c.requires.opens.0 in omega (arith, c.requires.opens.1)
 
 pub read_u32-offset-requires : goal.read_u32-offset-requires
 read_u32-offset-requires c =
-    let s = c in
-    let i = opens-inside s.args.table.now s.requires.opens.0 in omega (arith, s.requires.opens.1)
+    let i = opens-inside c.args.table.now c.requires.opens.0 in omega (arith, c.requires.opens.1)
 
 pub returns-then-table-k-eq0 : goal.returns-then-table-k-eq0
 returns-then-table-k-eq0 c =

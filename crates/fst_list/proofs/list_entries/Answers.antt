@@ -29,37 +29,33 @@ returns-then-list-count c =
 
 pub loop-k-init : goal.loop-k-init
 loop-k-init c =
-    let s = c in
-    (listing_start s.args.base s.args.table.now s.args.list.now, ends-start s.args.table.now)
+    (listing_start c.args.base c.args.table.now c.args.list.now, ends-start c.args.table.now)
 
 pub add_entry-requires : goal.add_entry-requires
 add_entry-requires c =
-    let s = c in
-    let T = s.args.table.now in
-    let L = s.args.list.now in
+    let T = c.args.table.now in
+    let L = c.args.list.now in
     let z = c.name_length-size.ensures.value in
     let r : 6 * tab.count T ≤ length L = omega (arith, c.count-count.ensures, c.if-list-count.false) in
     record {
-      opens = (s.requires.0, omega (arith, c.count-count.ensures, c.loop-k-test.true), omega (arith, c.loop-k.invariant.0.long), s.requires.1);
-      parents_in = (listing-parents s.args.base T L c.loop-k.list c.loop-k.k r c.loop-k.invariant.0, z.0);
+      opens = (c.requires.0, omega (arith, c.count-count.ensures, c.loop-k-test.true), omega (arith, c.loop-k.invariant.0.long), c.requires.1);
+      parents_in = (listing-parents c.args.base T L c.loop-k.list c.loop-k.k r c.loop-k.invariant.0, z.0);
     }
 
 pub loop-k-preserved : goal.loop-k-preserved
 loop-k-preserved c =
-    let s = c in
-    let T = s.args.table.now in
-    let L = s.args.list.now in
+    let T = c.args.table.now in
+    let L = c.args.list.now in
     let r : 6 * tab.count T ≤ length L = omega (arith, c.count-count.ensures, c.if-list-count.false) in
-    (listing-turn s.args.base T L c.loop-k.list c.loop-k.k r c.loop-k.invariant.0 (omega (arith, c.count-count.ensures, c.loop-k-test.true)) _ c.add_entry.ensures, c.name_length-size.ensures.ends_in)
+    (listing-turn c.args.base T L c.loop-k.list c.loop-k.k r c.loop-k.invariant.0 (omega (arith, c.count-count.ensures, c.loop-k-test.true)) _ c.add_entry.ensures, c.name_length-size.ensures.ends_in)
 
 pub returns : goal.returns
 unfolding listVerdict
 returns c =
-    let s = c in
-    let T = s.args.table.now in
-    let L = s.args.list.now in
+    let T = c.args.table.now in
+    let L = c.args.list.now in
     let r : 6 * tab.count T ≤ length L = omega (arith, c.count-count.ensures, c.if-list-count.false) in
     record {
       value = rw (le-ltb (length L) (6 * tab.count T) r);
-      list_after = listing-end s.args.base T L c.loop-k.list c.loop-k.k r c.loop-k.invariant.0 (omega (arith, c.count-count.ensures, c.loop-k-test.false));
+      list_after = listing-end c.args.base T L c.loop-k.list c.loop-k.k r c.loop-k.invariant.0 (omega (arith, c.count-count.ensures, c.loop-k-test.false));
     }

@@ -1,11 +1,7 @@
 -- `fst_list::list_entries` meets its contract. The invariant of its loop: the rows of the entries below k stand in the list, and the ends that are kept are right.
-use Prim.Native.Nat.{◌-◌}
 use Rattle.fst_list.specs.Inner.Ends.{EndsIn}
 use Rattle.fst_list.proofs.RowLaws.{Listing}
 use Rattle.fst_list.proofs.list_entries.Given as goal
 
 abbrev pub invariant-loop-k : goal.invariant-loop-k
 invariant-loop-k l = Listing l.base l.table l.initial.list l.list l.k × EndsIn l.table l.ends
-
-abbrev pub decreases-loop-k : goal.decreases-loop-k
-decreases-loop-k l = l.count - l.k

@@ -14,16 +14,14 @@ returns-then-k-eq0 c = record { value = search (root-name, rules); ends_in = c.r
 
 pub text_length-requires : goal.text_length-requires
 text_length-requires c =
-    let s = c in
-    let T = s.args.table.now in
-    let a = opened T (λ i. omega (arith, c.type_inv.table i)) s.requires.0 in
-    (rw c.name_place.ensures.0 (name-ended a s.args.k (omega (arith, c.if-k-eq0.false)) s.requires.1), s.requires.2, s.requires.3)
+    let T = c.args.table.now in
+    let a = opened T (λ i. omega (arith, c.type_inv.table i)) c.requires.0 in
+    (rw c.name_place.ensures.0 (name-ended a c.args.k (omega (arith, c.if-k-eq0.false)) c.requires.1), c.requires.2, c.requires.3)
 
 pub returns : goal.returns
 returns c =
-    let s = c in
-    let T = s.args.table.now in
-    let a = opened T (λ i. omega (arith, c.type_inv.table i)) s.requires.0 in
-    let n : name_of (get_or (nodesOf T) s.args.k none) ≡ textAt T (namePlace T s.args.k) = name-there T s.args.k (omega arith) s.requires.1 in
-    let e : c.text_length.result ≡ length (name_of (get_or (nodesOf T) s.args.k none)) = rw n (rw c.name_place.ensures.0 at c.text_length.ensures.value) in
-    record { value = (e, omega (arith, name-short a s.args.k (omega arith) s.requires.1)); ends_in = c.text_length.ensures.ends_in }
+    let T = c.args.table.now in
+    let a = opened T (λ i. omega (arith, c.type_inv.table i)) c.requires.0 in
+    let n : name_of (get_or (nodesOf T) c.args.k none) ≡ textAt T (namePlace T c.args.k) = name-there T c.args.k (omega arith) c.requires.1 in
+    let e : c.text_length.result ≡ length (name_of (get_or (nodesOf T) c.args.k none)) = rw n (rw c.name_place.ensures.0 at c.text_length.ensures.value) in
+    record { value = (e, omega (arith, name-short a c.args.k (omega arith) c.requires.1)); ends_in = c.text_length.ensures.ends_in }

@@ -9,9 +9,8 @@ use Rattle.fst_list.proofs.parent_in.Goals as goal
 
 pub returns-then-k-eq0 : goal.returns-then-k-eq0
 returns-then-k-eq0 c =
-    let s = c in
-    let N = nodesOf s.args.table.now in
-    (sym (parent-whole N s.args.k ∙ parent-none N s.args.k s.args.k c.if-k-eq0.true), omega arith)
+    let N = nodesOf c.args.table.now in
+    (sym (parent-whole N c.args.k ∙ parent-none N c.args.k c.args.k c.if-k-eq0.true), omega arith)
 
 pub loop-p-init : goal.loop-p-init
 loop-p-init c = (omega arith, climb-start (nodesOf c.args.table.now) c.args.k _ (omega arith) refl)
@@ -26,9 +25,8 @@ loop-p-smaller c =
 
 pub loop-p-preserved : goal.loop-p-preserved
 loop-p-preserved c =
-    let s = c in
-    let e = s.requires.parents_in.at c.loop-p.p (omega arith) in
-    (omega (arith, parent-before (nodesOf s.args.table.now) c.loop-p.p (omega arith)), rw e (c.loop-p.invariant.1 ∙ climb-turn (nodesOf s.args.table.now) s.args.k c.loop-p.p (omega arith) (omega arith) (omega arith)))
+    let e = c.requires.parents_in.at c.loop-p.p (omega arith) in
+    (omega (arith, parent-before (nodesOf c.args.table.now) c.loop-p.p (omega arith)), rw e (c.loop-p.invariant.1 ∙ climb-turn (nodesOf c.args.table.now) c.args.k c.loop-p.p (omega arith) (omega arith) (omega arith)))
 
 pub returns : goal.returns
 returns c = (sym (c.loop-p.invariant.1 ∙ climb-end (nodesOf c.args.table.now) c.args.k c.loop-p.p (omega arith)), omega arith)

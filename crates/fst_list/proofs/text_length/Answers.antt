@@ -8,9 +8,8 @@ use Rattle.fst_list.proofs.text_length.Goals as goal
 
 pub returns-then-size-gt4096 : goal.returns-then-size-gt4096
 returns-then-size-gt4096 c =
-    let s = c in
     let e = c.text_length-size.ensures in
     record {
       value = e;
-      ends_in = ends-turn _ _ s.args.at (s.args.at / 4096 + 1) _ s.requires.2 (omega arith) (omega arith) (omega arith) (ap (λ (n : ℕ). s.args.at + n) e) (omega (arith, e, s.requires.0, s.requires.1));
+      ends_in = ends-turn _ _ c.args.at (c.args.at / 4096 + 1) _ c.requires.2 (omega arith) (omega arith) (omega arith) (ap (λ (n : ℕ). c.args.at + n) e) (omega (arith, e, c.requires.0, c.requires.1));
     }
