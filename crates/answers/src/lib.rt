@@ -46,11 +46,7 @@ pub fn sized(
     requires { Prepares image.now words.now prepared }
     ensures { result ≡ maxRegionSizeAnswer image.now (length words.now) offset size }
 {
-    match prepared {
-        Ok(count) => {
-            let disc = disc_of(image, words, count);
-            Ok(free_space::max_region_size(words, count, disc.disc_end, offset, size))
-        }
-        Err(cause) => Err(cause),
-    }
+    let count = prepared?;
+    let disc = disc_of(image, words, count);
+    Ok(free_space::max_region_size(words, count, disc.disc_end, offset, size))
 }
