@@ -58,13 +58,16 @@ impl DiscHeader {
     pub fn read_from(image: &[u8]) -> HeaderRead
         ensures { result ≡ headerRead image.now }
     {
-        let verdict = header::check(image);
-        if verdict.is_refused() {
-            let header = blank_header(0);
-            return HeaderRead { verdict, header };
+        match header::check(image) {
+            Ok(()) => HeaderRead {
+                verdict: Ok(()),
+                header: read_fields(image),
+            },
+            Err(cause) => HeaderRead {
+                verdict: Err(cause),
+                header: blank_header(0),
+            },
         }
-        let header = read_fields(image);
-        HeaderRead { verdict, header }
     }
 }
 
