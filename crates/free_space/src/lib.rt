@@ -57,14 +57,9 @@ pub fn count_free_regions(words: &[u32], count: usize, disc_end: u32) -> usize
     ensures { result ≡ length (freeRegions disc_end (regionsIn words.now 0 count)) }
 {
     let mut found = 0;
-    let mut i = 0;
-    while i <= count {
-        let gap = gap_at(words, count, disc_end, i);
-        if gap.size == 0 {
-            i += 1;
-        } else {
+    for i in 0..count + 1 {
+        if gap_at(words, count, disc_end, i).size != 0 {
             found += 1;
-            i += 1;
         }
     }
     found
@@ -85,15 +80,11 @@ fn list_free_regions(words: &[u32], count: usize, disc_end: u32, list: &mut [u32
     ensures { list.new ≡ put list.old 0 (rows_of regionRow (freeRegions disc_end (regionsIn words.now 0 count))) }
 {
     let mut at = 0;
-    let mut i = 0;
-    while i <= count {
+    for i in 0..count + 1 {
         let gap = gap_at(words, count, disc_end, i);
-        if gap.size == 0 {
-            i += 1;
-        } else {
+        if gap.size != 0 {
             put_region(list, at, gap);
             at += 2;
-            i += 1;
         }
     }
 }
@@ -123,11 +114,8 @@ pub fn used_size(words: &[u32], count: usize, disc_end: u32) -> u32
     ensures { result ≡ totalSize (regionsIn words.now 0 count) }
 {
     let mut used = disc_end;
-    let mut i = 0;
-    while i <= count {
-        let gap = gap_at(words, count, disc_end, i);
-        used -= gap.size;
-        i += 1;
+    for i in 0..count + 1 {
+        used -= gap_at(words, count, disc_end, i).size;
     }
     used
 }
@@ -166,17 +154,15 @@ pub fn max_region_size(words: &[u32], count: usize, disc_end: u32, offset: u32, 
     ensures { result ≡ maxRegionSize offset size (freeRegions disc_end (regionsIn words.now 0 count)) }
 {
     let mut prev_end: u64 = 0;
-    let mut i = 0;
-    while i <= count {
+    for i in 0..count + 1 {
         let gap = gap_at(words, count, disc_end, i);
         if gap.size == 0 {
-            i += 1;
-        } else if gap.offset < offset {
-            prev_end = endian::wide(gap.offset) + endian::wide(gap.size);
-            i += 1;
-        } else {
+            continue;
+        }
+        if offset <= gap.offset {
             return beside_free(prev_end, gap, offset, size);
         }
+        prev_end = endian::wide(gap.offset) + endian::wide(gap.size);
     }
     inside_free(prev_end, offset, size, size)
 }
@@ -221,11 +207,9 @@ fn find_largest(words: &[u32], count: usize, disc_end: u32, size: u32, align: u3
     ensures { result ≡ largest align size noRegion (freeRegions disc_end (regionsIn words.now 0 count)) }
 {
     let mut best = DiscRegion { offset: 0, size: 0 };
-    let mut i = 0;
-    while i <= count {
+    for i in 0..count + 1 {
         let gap = gap_at(words, count, disc_end, i);
         best = better(best, gap, size, align);
-        i += 1;
     }
     best
 }
@@ -233,14 +217,10 @@ fn find_largest(words: &[u32], count: usize, disc_end: u32, size: u32, align: u3
 fn power_of_two(x: u32) -> bool
     ensures { result ≡ isPowerOfTwo x }
 {
-    let mut p: u64 = 1;
-    let mut k: usize = 0;
-    while k < 32 {
-        if p == x as u64 {
+    for k in 0..32u32 {
+        if x == 1 << k {
             return true;
         }
-        p = p + p;
-        k += 1;
     }
     false
 }
