@@ -60,15 +60,11 @@ fn list_free_clusters(words: &[u32], count: usize, disc_end: u32, list: &mut [u3
     ensures { list.new ≡ put list.old 0 (rows_of clusterRow (freeRegions disc_end (regionsIn words.now 0 count))) }
 {
     let mut at = 0;
-    let mut i = 0;
-    while i <= count {
+    for i in 0..count + 1 {
         let gap = free_space::gap_at(words, count, disc_end, i);
-        if gap.size == 0 {
-            i += 1;
-        } else {
+        if gap.size != 0 {
             put_clusters(list, at, gap);
             at += 3;
-            i += 1;
         }
     }
 }
