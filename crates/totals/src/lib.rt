@@ -89,16 +89,13 @@ pub fn largest_free(
     let gone = gone_of(old);
     let mut at = table_end;
     let mut best = 0;
-    let mut k = 1;
-    while k < count {
+    for k in 1..count {
         let offset = words[2 * k];
         if offset == gone {
-            k += 1;
-        } else {
-            best = longer(best, at, offset, new);
-            at = offset + words[2 * k + 1];
-            k += 1;
+            continue;
         }
+        best = longer(best, at, offset, new);
+        at = offset + words[2 * k + 1];
     }
     longer(best, at, disc_end, new)
 }

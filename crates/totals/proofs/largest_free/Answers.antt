@@ -6,8 +6,8 @@ use Rattle.totals.proofs.largest_free.Goals as goal
 pub loop-k-preserved-then-offset-gone : goal.loop-k-preserved-then-offset-gone
 loop-k-preserved-then-offset-gone c = scan-past _ _ _ _ _ _ _ _ _ c.loop-k.invariant c.loop-k-test.true c.if-offset-gone.true
 
-pub overflow_add-at-else-offset-gone : goal.overflow_add-at-else-offset-gone
-overflow_add-at-else-offset-gone c = omega (arith, scan-fits _ _ _ _ c.requires.0 c.loop-k-test.true)
+pub overflow_add-at-in-loop-k : goal.overflow_add-at-in-loop-k
+overflow_add-at-in-loop-k c = omega (arith, scan-fits _ _ _ _ c.requires.0 c.loop-k-test.true)
 
 pub loop-k-preserved : goal.loop-k-preserved
 loop-k-preserved c =
