@@ -17,10 +17,8 @@ fn opened(image: &[u8], words: &[u32], prepared: Result<usize, Refusal>) -> Resu
     requires { Prepares image.now words.now prepared }
     ensures { result ≡ opened_of image.now (length words.now) }
 {
-    match prepared {
-        Ok(count) => Ok(answers::disc_of(image, words, count)),
-        Err(cause) => Err(cause),
-    }
+    let count = prepared?;
+    Ok(answers::disc_of(image, words, count))
 }
 
 fn totaled(
@@ -31,16 +29,12 @@ fn totaled(
     requires { Prepares image.now words.now prepared }
     ensures { result ≡ totalsAnswer image.now (length words.now) }
 {
-    match prepared {
-        Ok(count) => {
-            let disc = answers::disc_of(image, words, count);
-            Ok(DiscTotals {
-                disc_end: disc.disc_end,
-                used: disc.used,
-            })
-        }
-        Err(cause) => Err(cause),
-    }
+    let count = prepared?;
+    let disc = answers::disc_of(image, words, count);
+    Ok(DiscTotals {
+        disc_end: disc.disc_end,
+        used: disc.used,
+    })
 }
 
 // The record of an image that opened.
@@ -92,13 +86,9 @@ fn listed(
     requires { Prepares image.now words.now prepared }
     ensures { (result ≡ freeRegionsAnswer image.now (length words.now) (length list.old)) × (list.new ≡ freeRegionsList image.now (length words.now) list.old) }
 {
-    match prepared {
-        Ok(count) => {
-            let disc = answers::disc_of(image, words, count);
-            free_space::free_regions(words, count, disc.disc_end, list)
-        }
-        Err(cause) => Err(cause),
-    }
+    let count = prepared?;
+    let disc = answers::disc_of(image, words, count);
+    free_space::free_regions(words, count, disc.disc_end, list)
 }
 
 fn counted(
@@ -110,13 +100,9 @@ fn counted(
     requires { Prepares image.now words.now prepared }
     ensures { (result ≡ freeClustersAnswer image.now (length words.now) (length list.old)) × (list.new ≡ freeClustersList image.now (length words.now) list.old) }
 {
-    match prepared {
-        Ok(count) => {
-            let disc = answers::disc_of(image, words, count);
-            free_clusters::free_clusters(words, count, disc.disc_end, list)
-        }
-        Err(cause) => Err(cause),
-    }
+    let count = prepared?;
+    let disc = answers::disc_of(image, words, count);
+    free_clusters::free_clusters(words, count, disc.disc_end, list)
 }
 
 fn allocated(
@@ -129,13 +115,9 @@ fn allocated(
     requires { Prepares image.now words.now prepared }
     ensures { result ≡ allocateAnswer image.now (length words.now) size align }
 {
-    match prepared {
-        Ok(count) => {
-            let disc = answers::disc_of(image, words, count);
-            free_space::allocate(words, count, disc.disc_end, size, align)
-        }
-        Err(cause) => Err(cause),
-    }
+    let count = prepared?;
+    let disc = answers::disc_of(image, words, count);
+    free_space::allocate(words, count, disc.disc_end, size, align)
 }
 
 // ---- the calls

@@ -1,9 +1,12 @@
 -- `disc::regions::listed` meets its contract, by the two cases of a prepared image.
+use Rattle.std.proofs.lemmas.Result.{err_from_is_err_and}
 use Rattle.disc.proofs.Answers.{ready-listing, ready-list, refused-listing, refused-list}
 use Rattle.disc.proofs.regions.listed.Goals as goal
 
-pub returns-in-Ok : goal.returns-in-Ok
-returns-in-Ok c = search (ready-listing, ready-list)
+pub returns-in_err-count : goal.returns-in_err-count
+returns-in_err-count c =
+    let p = err_from_is_err_and c.from_residual.result c.from_residual.ensures.1 in
+    rw (p.1, p.2) (search (refused-listing, refused-list, c.in_err-count.was))
 
-pub returns-in-Err : goal.returns-in-Err
-returns-in-Err c = search (refused-listing, refused-list)
+pub returns : goal.returns
+returns c = search (ready-listing, ready-list, c.in_ok-count.was)
