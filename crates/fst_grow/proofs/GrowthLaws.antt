@@ -1,6 +1,5 @@
 -- A table that stands in the working bytes with one entry more: its limits, its size, and that it then stands there. Assumes nothing.
 use Rattle.std.specs.Prelude.{Result, Ok, Err}
-use Rattle.refusal.specs.Refusal.{Verdict}
 use Prim.Native.Nat.{ℕ, suc, ◌+◌, ◌-◌, ◌*◌, ◌<◌, ◌≤◌, ◌^◌}
 use mathlib.Core.Path.{◌≡◌, refl, sym, ap, ◌∙◌}
 use mathlib.Core.Logic.{⊎_elim}
@@ -107,14 +106,11 @@ module _ (M : List Node) (d : Bool) (p : ℕ) (nm : List ℕ) (w : WellFormed M)
 
 -- ---- the table with one entry more, written over the old one
 
-limits-cause : (nodes : List Node) (words : ℕ) (c : Refusal) → limits nodes words ≡ Err c → c ≡ LimitOrMemory
-limits-cause nodes words c e = ⊎_elim (λ q. let z : ◌≡◌ {A = ℕ} 0 1 = cc in absurd (omega arith)) (λ q. cc) (limits-either nodes words)
+pub past-cause : (F : List Node) (words : ℕ) (c : Refusal) → Err c ≡ limits F words → c ≡ LimitOrMemory
+past-cause F words c e = ⊎_elim (λ q. let z : ◌≡◌ {A = ℕ} 0 1 = cc in absurd (omega arith)) (λ q. cc) (limits-either F words)
 
-pub past-cause : (F : List Node) (words : ℕ) (v : Verdict) (c : Refusal) → v ≡ limits F words → v ≡ Err c → c ≡ LimitOrMemory
-past-cause F words v c e f = limits-cause F words c (sym e ∙ f)
-
-pub past-never : (F : List Node) (words : ℕ) (s : List ℕ) (v : Verdict) (c : Refusal) → v ≡ limits F words → v ≡ Err c → limits F words ≡ Ok tt → length s < length (encode F)
-past-never F words s v c e f g = let z : ◌≡◌ {A = ℕ} 0 1 = cc in absurd (omega arith)
+pub past-never : (F : List Node) (words : ℕ) (s : List ℕ) (c : Refusal) → Err c ≡ limits F words → limits F words ≡ Ok tt → length s < length (encode F)
+past-never F words s c e f = let z : ◌≡◌ {A = ℕ} 0 1 = cc in absurd (omega arith)
 
 module _ (s : List ℕ) (size words : ℕ) (st : Stands s size words) (d : Bool) (p : ℕ) (nm : List ℕ) (dir : IsDirectory (treeIn s size) p) (good : GoodName nm) where
   abbrev T : List Node
@@ -135,9 +131,9 @@ module _ (s : List ℕ) (size words : ℕ) (st : Stands s size words) (d : Bool)
   pub short-built : (t : List ℕ) → length s < size + 12 + length nm + 1 → Built G words s t (Err LimitOrMemory)
   short-built t h = (refl, λ e. omega (arith, grown-size))
 
-  module _ (v : Verdict) (judged : v ≡ limits G words) (passed : v ≡ Ok tt) where
+  module _ (passed : Ok tt ≡ limits G words) where
     small : size + 12 + length nm + 1 ≤ 2 ^ 24
-    small = let w = within-limits G words (sym judged ∙ passed) in omega (arith, grown-size, length-encode G, w.few, w.texts)
+    small = let w = within-limits G words (sym passed) in omega (arith, grown-size, length-encode G, w.few, w.texts)
 
     pub name-fits : Fits w64 (size + 12 + length nm)
     name-fits = record { fits = omega (arith, small) }
@@ -158,7 +154,7 @@ module _ (s : List ℕ) (size words : ℕ) (st : Stands s size words) (d : Bool)
           let x = directory-is (get_or T p none) dir.kind in
           let i : put (put s 0 (encode T)) 0 (insertPatch (take (length (encode T)) (put s 0 (encode T))) (sizeOrNext (put s 0 (encode T)) 0) p (newNode d nm (sizeOrNext (put s 0 (encode T)) p))) ≡ put s 0 (encode G) =
           insert-written s T p (next_of (get_or T p none)) x.0 d nm well x.1 dir.inside (inside s size words st).few (omega (arith, size_is s size words st)) (omega (arith, size_is s size words st, small)) in
-          (sym judged ∙ passed, sym grown-size, room, g ∙ (rw (front s size words st, ← (size_is s size words st)) at i))
+          (sym passed, sym grown-size, room, g ∙ (rw (front s size words st, ← (size_is s size words st)) at i))
 
   -- what grew stands there
   module _ (t : List ℕ) (r : Result ℕ Refusal) (built : Built G words s t r) (n : ℕ) (e : r ≡ Ok n) where

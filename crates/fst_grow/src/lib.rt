@@ -85,10 +85,7 @@ pub fn grow(
     requires { Stands bytes.old size words × IsDirectory (treeIn bytes.old size) p × GoodName name.now }
     ensures { Built (added (treeIn bytes.old size) is_directory p name.now) words bytes.old bytes.new result }
 {
-    let verdict = check_limits(bytes, size, words, p, is_directory, name);
-    if let Err(cause) = verdict {
-        return Err(cause);
-    }
+    check_limits(bytes, size, words, p, is_directory, name)?;
     let grown = size + 12 + name.len() + 1;
     if bytes.len() < grown {
         return Err(Refusal::LimitOrMemory);
