@@ -18,7 +18,7 @@ pub extern "C" fn counter_header(image: &[u8], fields: &mut [u8; 0x440]) -> u32
     match verdict {
         Ok(()) => {
             let header = read.header;
-            header.write_to(fields);
+            let _ = header.write_to(fields);
             0
         }
         Err(cause) => cause.number(),
