@@ -17,18 +17,11 @@ fn entries_in(
     requires { Prepares image.now words.now prepared }
     ensures { (result ≡ entriesAnswer image.now (length words.now) (length list.old)) × (list.new ≡ entriesList image.now (length words.now) list.old) }
 {
-    match prepared {
-        Ok(count) => {
-            let base = header::fst_offset(image);
-            let table = opening::table(image);
-            let verdict = fst_list::list_entries(table, base, list);
-            if let Err(cause) = verdict {
-                return Err(cause);
-            }
-            Ok(answers::disc_of(image, words, count))
-        }
-        Err(cause) => Err(cause),
-    }
+    let count = prepared?;
+    let base = header::fst_offset(image);
+    let table = opening::table(image);
+    fst_list::list_entries(table, base, list)?;
+    Ok(answers::disc_of(image, words, count))
 }
 
 // Each entry into `list`: kind, the directory it is nested in, offset, size or next, the place of its name in the image, the name's

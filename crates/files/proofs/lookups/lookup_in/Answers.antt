@@ -8,5 +8,5 @@ returns-then-path-gt1024 c = search ready-long
 pub returns-else-path-gt1024 : goal.returns-else-path-gt1024
 returns-else-path-gt1024 c = search ready-lookup
 
-pub returns-in-Refused : goal.returns-in-Refused
-returns-in-Refused c = search refused-lookup
+pub returns-in-Err : goal.returns-in-Err
+returns-in-Err c = search refused-lookup
