@@ -36,10 +36,8 @@ fn list_in(
     requires { Prepares image.now words.now prepared }
     ensures { (result ≡ listAnswer image.now (length words.now) (length text.old)) × (text.new ≡ listBuffer image.now (length words.now) text.old) }
 {
-    match prepared {
-        Ok(count) => list_opened(image, words, count, text),
-        Err(cause) => Err(cause),
-    }
+    let count = prepared?;
+    list_opened(image, words, count, text)
 }
 
 // The listing of an image, in front of `text`: its length; or why there is none, with the buffer as it was.
