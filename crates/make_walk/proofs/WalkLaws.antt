@@ -1,6 +1,5 @@
 -- The walk that finds the troubles of a path, a component at a time: each step leaves what the whole has. Assumes nothing.
 use Rattle.std.specs.Prelude.{Result, Ok, Err}
-use Rattle.refusal.specs.Refusal.{Verdict}
 use Prim.Native.Nat.{ℕ, zero, suc, ◌+◌, ◌-◌, ◌<◌, ◌≤◌}
 use mathlib.Core.Path.{◌≡◌, refl, sym, ◌∙◌}
 use mathlib.Core.Bool.{Bool, true, false, cond, not, ◌||◌}
@@ -10,6 +9,7 @@ use native.Mathlib.Numerals.{add-one}
 use borrow.Author.Tests.{lt-ltb, le-ltb, ne_eqb}
 use lib.ListN.{length, get_or, drop}
 use lib.Dec.{eqb}
+use Rattle.refusal.specs.Refusal.{Verdict}
 use Rattle.refusal.specs.declared.Refusal.{Refusal}
 use Rattle.refusal.specs.declared.Refusal.TheVariants.{UnsafeName, ExpectedDirectory, NotFound}
 use Rattle.tree.specs.Table.{Node, none, count, nodesOf, plain, safe, parent_of}
@@ -20,25 +20,31 @@ use Rattle.tree.specs.Laws.LookupLaws.{child-inside}
 use Rattle.fst_path.specs.Inner.Steps.{componentsAfter}
 use Rattle.fst.proofs.Nodes.{parent-at-most}
 use Rattle.edits.specs.Inner.Troubles.{ifChild, troubleOf}
-use Rattle.make_walk.specs.declared.Step.{Step}
-use Rattle.make_walk.specs.declared.Step.TheVariants.{To, Refused}
-use Rattle.make_walk.specs.Inner.Walk.{newStep, childStep, oldStep, belowStep, step_of, lastVerdict}
+use Rattle.make_walk.specs.declared.Place.{Place}
+use Rattle.make_walk.specs.Inner.Walk.{to, newStep, childStep, oldStep, belowStep, step_of, lastVerdict}
 
--- what is left of the walk after a step
-abbrev pub onward : List Node → ℕ → List (List ℕ) → Step → Verdict
-onward nodes start cs (To k level bad) = troubleOf nodes start k level bad cs
-onward nodes start cs (Refused c) = Err c
+-- what is left of the walk from a place
+abbrev pub left_at : List Node → ℕ → Place → List (List ℕ) → Verdict
+left_at nodes start p cs = troubleOf nodes start p.entry p.level p.bad cs
+
+-- and after a step
+abbrev pub onward : List Node → ℕ → List (List ℕ) → Result Place Refusal → Verdict
+onward nodes start cs (Ok p) = left_at nodes start p cs
+onward nodes start cs (Err c) = Err c
 
 module _ (nodes : List Node) (start k : ℕ) (bad : Bool) where
-  pub trouble-step : (level : ℕ) (nm : List ℕ) (cs : List (List ℕ)) → troubleOf nodes start k level bad (nm ∷ cs) ≡ onward nodes start cs (step_of nodes start k level bad nm)
+  abbrev at : ℕ → Place
+  at level = record { entry = k; level = level; bad = bad }
+
+  pub trouble-step : (level : ℕ) (nm : List ℕ) (cs : List (List ℕ)) → troubleOf nodes start k level bad (nm ∷ cs) ≡ onward nodes start cs (step_of nodes start (at level) nm)
   unfolding troubleOf step_of
   trouble-step zero nm cs = go (isDirectory (get_or nodes k none)) (stays nm) (goesBack nm) (eqb k start) (childOf nodes k nm) (safe nm)
     where
       go : (t u v w : Bool) (a : Result ℕ Refusal) (s : Bool) →
           cond t (cond u (troubleOf nodes start k zero bad cs) (cond v (cond w (Err NotFound) (troubleOf nodes start (parent_of nodes k) zero bad cs))
           (ifChild a (λ j. troubleOf nodes start j zero bad cs) (cond s (troubleOf nodes start k 1 (bad || not (plain nm)) cs) (Err UnsafeName))))) (Err ExpectedDirectory) ≡
-          onward nodes start cs (cond t (cond u (To k 0 bad) (cond v (cond w (Refused NotFound) (To (parent_of nodes k) 0 bad))
-          (childStep a bad (cond s (To k 1 (bad || not (plain nm))) (Refused UnsafeName))))) (Refused ExpectedDirectory))
+          onward nodes start cs (cond t (cond u (to k 0 bad) (cond v (cond w (Err NotFound) (to (parent_of nodes k) 0 bad))
+          (childStep a bad (cond s (to k 1 (bad || not (plain nm))) (Err UnsafeName))))) (Err ExpectedDirectory))
       go false u v w a s = refl
       go true true v w a s = refl
       go true false true true a s = refl
@@ -53,121 +59,95 @@ module _ (nodes : List Node) (start k : ℕ) (bad : Bool) where
       go : (u v s : Bool) →
           cond u (troubleOf nodes start k (suc level) bad cs) (cond v (troubleOf nodes start k level bad cs)
           (cond s (troubleOf nodes start k (suc (suc level)) (bad || not (plain nm)) cs) (Err UnsafeName))) ≡
-          onward nodes start cs (cond u (To k (suc level) bad) (cond v (To k level bad) (cond s (To k (suc (suc level)) (bad || not (plain nm))) (Refused UnsafeName))))
+          onward nodes start cs (cond u (to k (suc level) bad) (cond v (to k level bad) (cond s (to k (suc (suc level)) (bad || not (plain nm))) (Err UnsafeName))))
       go true v s = refl
       go false true s = refl
       go false false true = refl
       go false false false = refl
 
-  pub trouble-last : (level : ℕ) → troubleOf nodes start k level bad [] ≡ lastVerdict nodes k level bad
+  pub trouble-last : (level : ℕ) → troubleOf nodes start k level bad [] ≡ lastVerdict nodes (at level)
   unfolding troubleOf lastVerdict
   trouble-last zero = refl
   trouble-last (suc level) = rw (ne_eqb (suc level) 0 (λ z. omega arith))
 
-  module _ (w : WellFormed nodes) (inside : k < length nodes) (level : ℕ) (nm : List ℕ) (j n : ℕ) (b : Bool) where
-    new-inside : (at : ℕ) → newStep k at bad nm ≡ To j n b → (j < length nodes) × (n ≤ at + 1)
-    new-inside at e = go (safe nm) e
-      where
-        go : (s : Bool) → cond s (To k (at + 1) (bad || not (plain nm))) (Refused UnsafeName) ≡ To j n b → (j < length nodes) × (n ≤ at + 1)
-        go true q =
-            let p : k ≡ j = cc in
-            let r : at + 1 ≡ n = cc in
-            (omega arith, omega arith)
-        go false q = let z : ◌≡◌ {A = ℕ} 0 1 = cc in absurd (omega arith)
+-- a place in the tree, with so many new levels at most
+abbrev Within : List Node → ℕ → Place → Type 0
+Within nodes n q = (q.entry < length nodes) × (q.level ≤ n)
 
-    old-inside : oldStep nodes start k bad nm ≡ To j n b → (j < length nodes) × (n ≤ 1)
-    old-inside e = go (isDirectory (get_or nodes k none)) (stays nm) (goesBack nm) (eqb k start) (childOf nodes k nm) refl e
-      where
-        go : (t u v x : Bool) (a : Result ℕ Refusal) → childOf nodes k nm ≡ a → cond t (cond u (To k 0 bad) (cond v (cond x (Refused NotFound) (To (parent_of nodes k) 0 bad))
-            (childStep a bad (newStep k 0 bad nm)))) (Refused ExpectedDirectory) ≡ To j n b → (j < length nodes) × (n ≤ 1)
-        go false u v x a f q = let z : ◌≡◌ {A = ℕ} 0 1 = cc in absurd (omega arith)
-        go true true v x a f q =
-            let p : k ≡ j = cc in
-            let r : 0 ≡ n = cc in
-            (omega arith, omega arith)
-        go true false true true a f q = let z : ◌≡◌ {A = ℕ} 0 1 = cc in absurd (omega arith)
-        go true false true false a f q =
-            let p : parent_of nodes k ≡ j = cc in
-            let r : 0 ≡ n = cc in
-            (omega (arith, parent-at-most nodes k), omega arith)
-        go true false false x (Ok i) f q =
-            let p : i ≡ j = cc in
-            let r : 0 ≡ n = cc in
-            (omega (arith, child-inside nodes k nm i w inside f), omega arith)
-        go true false false x (Err c) f q = new-inside 0 q
+module _ (nodes : List Node) (start : ℕ) (p : Place) (w : WellFormed nodes) (inside : p.entry < length nodes) (nm : List ℕ) (q : Place) where
+  landed : (k n m : ℕ) (b : Bool) → to k n b ≡ Ok q → k < length nodes → n ≤ m → Within nodes m q
+  landed k n m b e h l =
+      let x : record { entry = k; level = n; bad = b } ≡ q = cc in
+      rw (← x) (h, l)
 
-    below-inside : belowStep k level bad nm ≡ To j n b → (j < length nodes) × (n ≤ level + 1)
-    below-inside e = go (stays nm) (goesBack nm) e
-      where
-        go : (u v : Bool) → cond u (To k level bad) (cond v (To k (level - 1) bad) (newStep k level bad nm)) ≡ To j n b → (j < length nodes) × (n ≤ level + 1)
-        go true v q =
-            let p : k ≡ j = cc in
-            let r : level ≡ n = cc in
-            (omega arith, omega arith)
-        go false true q =
-            let p : k ≡ j = cc in
-            let r : level - 1 ≡ n = cc in
-            (omega arith, omega arith)
-        go false false q = new-inside level q
+  unsafe : (m : ℕ) (c : Refusal) → Err c ≡ Ok q → Within nodes m q
+  unsafe m c e = let z : ◌≡◌ {A = ℕ} 0 1 = cc in absurd (omega arith)
 
-    -- a step stays in the tree, and is one level more at most
-    pub step-inside : step_of nodes start k level bad nm ≡ To j n b → (j < length nodes) × (n ≤ level + 1)
-    unfolding step_of
-    step-inside e = go (eqb level 0) e
-      where
-        go : (t : Bool) → cond t (oldStep nodes start k bad nm) (belowStep k level bad nm) ≡ To j n b → (j < length nodes) × (n ≤ level + 1)
-        go true q = let o = old-inside q in (o.0, omega arith)
-        go false q = below-inside q
+  new-inside : newStep p nm ≡ Ok q → Within nodes (p.level + 1) q
+  new-inside = go (safe nm)
+    where
+      go : (s : Bool) → cond s (to p.entry (p.level + 1) (p.bad || not (plain nm))) (Err UnsafeName) ≡ Ok q → Within nodes (p.level + 1) q
+      go true e = landed _ _ _ _ e inside (omega arith)
+      go false e = unsafe _ _ e
+
+  old-inside : oldStep nodes start p nm ≡ Ok q → Within nodes (p.level + 1) q
+  old-inside = go (isDirectory (get_or nodes p.entry none)) (stays nm) (goesBack nm) (eqb p.entry start) (childOf nodes p.entry nm) refl
+    where
+      go : (t u v x : Bool) (a : Result ℕ Refusal) → childOf nodes p.entry nm ≡ a → cond t (cond u (Ok p) (cond v (cond x (Err NotFound) (to (parent_of nodes p.entry) 0 p.bad))
+          (childStep a p.bad (newStep p nm)))) (Err ExpectedDirectory) ≡ Ok q → Within nodes (p.level + 1) q
+      go false u v x a f e = unsafe _ _ e
+      go true true v x a f e = landed p.entry p.level _ p.bad e inside (omega arith)
+      go true false true true a f e = unsafe _ _ e
+      go true false true false a f e = landed _ _ _ _ e (omega (arith, parent-at-most nodes p.entry)) (omega arith)
+      go true false false x (Ok i) f e = landed _ _ _ _ e (child-inside nodes p.entry nm i w inside f) (omega arith)
+      go true false false x (Err c) f e = new-inside e
+
+  below-inside : belowStep p nm ≡ Ok q → Within nodes (p.level + 1) q
+  below-inside = go (stays nm) (goesBack nm)
+    where
+      go : (u v : Bool) → cond u (Ok p) (cond v (to p.entry (p.level - 1) p.bad) (newStep p nm)) ≡ Ok q → Within nodes (p.level + 1) q
+      go true v e = landed p.entry p.level _ p.bad e inside (omega arith)
+      go false true e = landed _ _ _ _ e inside (omega arith)
+      go false false e = new-inside e
+
+  -- a step stays in the tree, and is one level more at most
+  pub step-inside : step_of nodes start p nm ≡ Ok q → Within nodes (p.level + 1) q
+  unfolding step_of
+  step-inside = go (eqb p.level 0)
+    where
+      go : (t : Bool) → cond t (oldStep nodes start p nm) (belowStep p nm) ≡ Ok q → Within nodes (p.level + 1) q
+      go true e = old-inside e
+      go false e = below-inside e
 
 -- ---- the loop along the path, which stands before the component that starts at `at`
 
-pub record Walking (nodes : List Node) (start : ℕ) (path : List ℕ) (k level : ℕ) (bad : Bool) (at : ℕ) : Type 0 where
-  pub inside : k < length nodes
-  pub levels : level ≤ at
+pub record Walking (tab : List ℕ) (start : ℕ) (path : List ℕ) (p : Place) (at : ℕ) : Type 0 where
+  pub inside : p.entry < count tab
+  pub levels : p.level ≤ at
   pub at_most : at ≤ length path
-  pub left : troubleOf nodes start start 0 false (components path) ≡ troubleOf nodes start k level bad (components (drop at path))
+  pub left : troubleOf (nodesOf tab) start start 0 false (components path) ≡ left_at (nodesOf tab) start p (components (drop at path))
 
-pub walk_start : (nodes : List Node) (start : ℕ) (path : List ℕ) → start < length nodes → Walking nodes start path start 0 false 0
-walk_start nodes start path h = record { inside = h; levels = omega arith; at_most = omega arith; left = refl }
-
-module _ {nodes : List Node} {start : ℕ} {path : List ℕ} {k level : ℕ} {bad : Bool} {at : ℕ} (w : WellFormed nodes) (f : Walking nodes start path k level bad at) (e : ℕ) (nm : List ℕ)
+module _ (tab : List ℕ) (start : ℕ) (path : List ℕ) (p : Place) (at e : ℕ) (nm : List ℕ) (f : Walking tab start path p at)
     (cut : components (drop at path) ≡ nm ∷ componentsAfter path e) where
-  stepped : (s : Step) → step_of nodes start k level bad nm ≡ s → troubleOf nodes start start 0 false (components path) ≡ onward nodes start (componentsAfter path e) s
-  stepped s q = f.left ∙ rw (cut, ← q) (trouble-step nodes start k bad level nm (componentsAfter path e))
+  stepped : (s : Result Place Refusal) → s ≡ step_of (nodesOf tab) start p nm →
+      troubleOf (nodesOf tab) start start 0 false (components path) ≡ onward (nodesOf tab) start (componentsAfter path e) s
+  stepped s took = f.left ∙ rw (cut, took) (trouble-step (nodesOf tab) start p.entry p.bad p.level nm (componentsAfter path e))
 
-  pub walk-lands : (j n : ℕ) (b : Bool) → step_of nodes start k level bad nm ≡ To j n b → j < length nodes
-  walk-lands j n b q = (step-inside nodes start k bad w f.inside level nm j n b q).0
+  pub walk-stops : (c : Refusal) → Err c ≡ step_of (nodesOf tab) start p nm → Err c ≡ troubleOf (nodesOf tab) start start 0 false (components path)
+  walk-stops c took = sym (stepped (Err c) took)
 
-  pub walk_refused : (c : Refusal) → step_of nodes start k level bad nm ≡ Refused c → troubleOf nodes start start 0 false (components path) ≡ Err c
-  walk_refused c q = stepped (Refused c) q
+  module _ (q : Place) (took : Ok q ≡ step_of (nodesOf tab) start p nm) (w : WellFormed (nodesOf tab)) where
+    lands : (q.entry < count tab) × (q.level ≤ p.level + 1)
+    lands =
+        let i = step-inside (nodesOf tab) start p w (omega (arith, f.inside, length-nodesOf tab)) nm q (sym took) in
+        (omega (arith, i.0, length-nodesOf tab), i.1)
 
-  pub walk_end : (j n : ℕ) (b : Bool) → step_of nodes start k level bad nm ≡ To j n b → length path ≤ e → troubleOf nodes start start 0 false (components path) ≡ lastVerdict nodes j n b
-  walk_end j n b q h = stepped (To j n b) q ∙ rw (le-ltb e (length path) h) (trouble-last nodes start j b n)
+    pub walk-lands-inside : q.entry < count tab
+    walk-lands-inside = lands.0
 
-  pub walk_turn : (j n : ℕ) (b : Bool) → step_of nodes start k level bad nm ≡ To j n b → at ≤ e → e < length path → Walking nodes start path j n b (e + 1)
-  walk_turn j n b q h l =
-      let i = step-inside nodes start k bad w f.inside level nm j n b q in
-      record { inside = i.0; levels = omega (arith, f.levels); at_most = omega arith; left = stepped (To j n b) q ∙ rw (lt-ltb e (length path) l) }
+    pub walk_ends : (r : Verdict) → length path ≤ e → r ≡ lastVerdict (nodesOf tab) q → r ≡ troubleOf (nodesOf tab) start start 0 false (components path)
+    walk_ends r h l = l ∙ sym (stepped (Ok q) took ∙ rw (le-ltb e (length path) h) (trouble-last (nodesOf tab) start q.entry q.bad q.level))
 
--- ---- the walk through the tree of a table, by what the code found
-
-pub walk_from : (tab : List ℕ) (start : ℕ) (path : List ℕ) → start < count tab → Walking (nodesOf tab) start path start 0 false 0
-walk_from tab start path h = walk_start (nodesOf tab) start path (rw (length-nodesOf tab) h)
-
-pub walks-inside : (tab : List ℕ) (start : ℕ) (path : List ℕ) (k level : ℕ) (bad : Bool) (at : ℕ) → Walking (nodesOf tab) start path k level bad at → k < count tab
-walks-inside tab start path k level bad at f = omega (arith, f.inside, length-nodesOf tab)
-
-module _ (tab : List ℕ) (start : ℕ) (path : List ℕ) (k level : ℕ) (bad : Bool) (at e : ℕ) (nm : List ℕ) (s : Step) (f : Walking (nodesOf tab) start path k level bad at)
-    (cut : components (drop at path) ≡ nm ∷ componentsAfter path e) (took : s ≡ step_of (nodesOf tab) start k level bad nm) (w : WellFormed (nodesOf tab)) where
-  pub walk-stops : (c : Refusal) → s ≡ Refused c → Err c ≡ troubleOf (nodesOf tab) start start 0 false (components path)
-  walk-stops c q = sym (walk_refused w f e nm cut c (sym took ∙ q))
-
-  module _ (j n : ℕ) (b : Bool) (went : s ≡ To j n b) where
-    pub walk-lands-inside : j < count tab
-    walk-lands-inside = omega (arith, walk-lands w f e nm cut j n b (sym took ∙ went), length-nodesOf tab)
-
-    pub walk_ends : (r : Verdict) → length path ≤ e → r ≡ lastVerdict (nodesOf tab) j n b → r ≡ troubleOf (nodesOf tab) start start 0 false (components path)
-    walk_ends r h q = q ∙ sym (walk_end w f e nm cut j n b (sym took ∙ went) h)
-
-    pub walk-goes-on : at ≤ e → e < length path → Walking (nodesOf tab) start path j n b (e + 1)
-    walk-goes-on h l = walk_turn w f e nm cut j n b (sym took ∙ went) h l
+    pub walk-goes-on : at ≤ e → e < length path → Walking tab start path q (e + 1)
+    walk-goes-on h l =
+        record { inside = lands.0; levels = omega (arith, f.levels, lands.1); at_most = omega arith; left = stepped (Ok q) took ∙ rw (lt-ltb e (length path) l) }

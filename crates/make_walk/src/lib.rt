@@ -14,90 +14,104 @@ ghost use Rattle.make_walk.specs.Inner.Walk.{newStep, backStep, childStep, oldSt
 
 use refusal::{Refusal, Verdict};
 
-// Where a component leads: an entry of the tree as it is, the number of new directories below it, and whether a new name has a unit that
-// no name may have.
+// Where the walk stands: an entry of the tree as it is, the number of new directories below it, and whether a new name has a unit that no
+// name may have.
 #[derive(Clone, Copy)]
-pub enum Step {
-    To(usize, usize, bool),
-    Refused(Refusal),
+pub struct Place {
+    pub entry: usize,
+    pub level: usize,
+    pub bad: bool,
 }
 
 // Into a directory that is not there yet.
-fn into_new(k: usize, level: usize, bad: bool, name: &[u8]) -> Step
-    requires { level < 2 ^ 63 }
-    ensures { result ≡ newStep k level bad name.now }
+fn into_new(here: Place, name: &[u8]) -> Result<Place, Refusal>
+    requires { here.level < 2 ^ 63 }
+    ensures { result ≡ newStep here name.now }
 {
     if !fst_text::is_safe(name) {
-        return Step::Refused(Refusal::UnsafeName);
+        return Err(Refusal::UnsafeName);
     }
-    if bad {
-        return Step::To(k, level + 1, true);
-    }
-    Step::To(k, level + 1, !fst_text::is_plain(name))
+    Ok(Place {
+        entry: here.entry,
+        level: here.level + 1,
+        bad: here.bad || !fst_text::is_plain(name),
+    })
 }
 
 // Back over the last named step, never above the start.
-fn back(table: &[u8], start: usize, k: usize, bad: bool) -> Step
-    requires { Opens table.now × (k < table_of.count table.now) }
-    ensures { result ≡ backStep (nodesOf table.now) start k bad }
+fn back(table: &[u8], start: usize, here: Place) -> Result<Place, Refusal>
+    requires { Opens table.now × (here.entry < table_of.count table.now) }
+    ensures { result ≡ backStep (nodesOf table.now) start here }
 {
-    if k == start {
-        return Step::Refused(Refusal::NotFound);
+    if here.entry == start {
+        return Err(Refusal::NotFound);
     }
-    Step::To(fst::parent(table, k), 0, bad)
+    Ok(Place {
+        entry: fst::parent(table, here.entry),
+        level: 0,
+        bad: here.bad,
+    })
 }
 
 // To the first child with that name, whatever its kind, or into a new one.
-fn into(table: &[u8], k: usize, bad: bool, name: &[u8]) -> Step
-    requires { Opens table.now × (k < table_of.count table.now) }
-    ensures { result ≡ childStep (childOf (nodesOf table.now) k name.now) bad (newStep k 0 bad name.now) }
+fn into(table: &[u8], here: Place, name: &[u8]) -> Result<Place, Refusal>
+    requires { Opens table.now × (here.entry < table_of.count table.now) × (here.level < 2 ^ 63) }
+    ensures { result ≡ childStep (childOf (nodesOf table.now) here.entry name.now) here.bad (newStep here name.now) }
 {
-    match fst::child(table, k, name) {
-        Ok(j) => Step::To(j as usize, 0, bad),
-        Err(_) => into_new(k, 0, bad, name),
+    match fst::child(table, here.entry, name) {
+        Ok(j) => Ok(Place {
+            entry: j as usize,
+            level: 0,
+            bad: here.bad,
+        }),
+        Err(_) => into_new(here, name),
     }
 }
 
 // At an entry of the tree as it is: from a file 17.
-fn step_in_tree(table: &[u8], start: usize, k: usize, bad: bool, name: &[u8]) -> Step
-    requires { Opens table.now × (k < table_of.count table.now) }
-    ensures { result ≡ oldStep (nodesOf table.now) start k bad name.now }
+fn step_in_tree(table: &[u8], start: usize, here: Place, name: &[u8]) -> Result<Place, Refusal>
+    requires { Opens table.now × (here.entry < table_of.count table.now) × (here.level < 2 ^ 63) }
+    ensures { result ≡ oldStep (nodesOf table.now) start here name.now }
 {
-    if !fst::is_directory(table, k) {
-        return Step::Refused(Refusal::ExpectedDirectory);
+    if !fst::is_directory(table, here.entry) {
+        return Err(Refusal::ExpectedDirectory);
     }
     if fst_path::stays(name) {
-        return Step::To(k, 0, bad);
+        return Ok(here);
     }
     if fst_path::goes_back(name) {
-        return back(table, start, k, bad);
+        return back(table, start, here);
     }
-    into(table, k, bad, name)
+    into(table, here, name)
 }
 
 // Among the new levels: each name there is a new directory's, or leads to one made for that name.
-fn step_below(k: usize, level: usize, bad: bool, name: &[u8]) -> Step
-    requires { (0 < level) × (level < 2 ^ 63) }
-    ensures { result ≡ belowStep k level bad name.now }
+fn step_below(here: Place, name: &[u8]) -> Result<Place, Refusal>
+    requires { (0 < here.level) × (here.level < 2 ^ 63) }
+    ensures { result ≡ belowStep here name.now }
 {
     if fst_path::stays(name) {
-        return Step::To(k, level, bad);
+        return Ok(here);
     }
     if fst_path::goes_back(name) {
-        return Step::To(k, level - 1, bad);
+        return Ok(Place {
+            entry: here.entry,
+            level: here.level - 1,
+            bad: here.bad,
+        });
     }
-    into_new(k, level, bad, name)
+    into_new(here, name)
 }
 
 #[tactic(auto, unfolding(crate::specs::Inner::Walk::step_of))]
-fn take_step(table: &[u8], start: usize, k: usize, level: usize, bad: bool, name: &[u8]) -> Step
-    requires { Opens table.now × (k < table_of.count table.now) × (level < 2 ^ 63) }
-    ensures { result ≡ step_of (nodesOf table.now) start k level bad name.now }
+fn take_step(table: &[u8], start: usize, here: Place, name: &[u8]) -> Result<Place, Refusal>
+    requires { Opens table.now × (here.entry < table_of.count table.now) × (here.level < 2 ^ 63) }
+    ensures { result ≡ step_of (nodesOf table.now) start here name.now }
 {
-    if level == 0 {
-        return step_in_tree(table, start, k, bad, name);
+    if here.level == 0 {
+        return step_in_tree(table, start, here, name);
     }
-    step_below(k, level, bad, name)
+    step_below(here, name)
 }
 
 // A name byte is the last trouble to be told.
@@ -112,17 +126,17 @@ fn told(bad: bool) -> Verdict
 
 // The path is at its end: on a file 17, then 12.
 #[tactic(auto, unfolding(crate::specs::Inner::Walk::lastVerdict))]
-fn last_verdict(table: &[u8], k: usize, level: usize, bad: bool) -> Verdict
-    requires { Opens table.now × (k < table_of.count table.now) }
-    ensures { result ≡ lastVerdict (nodesOf table.now) k level bad }
+fn last_verdict(table: &[u8], here: Place) -> Verdict
+    requires { Opens table.now × (here.entry < table_of.count table.now) }
+    ensures { result ≡ lastVerdict (nodesOf table.now) here }
 {
-    if level != 0 {
-        return told(bad);
+    if here.level != 0 {
+        return told(here.bad);
     }
-    if !fst::is_directory(table, k) {
+    if !fst::is_directory(table, here.entry) {
         return Err(Refusal::ExpectedDirectory);
     }
-    told(bad)
+    told(here.bad)
 }
 
 // The first trouble along the path from the entry `start`.
@@ -130,24 +144,17 @@ pub fn trouble(table: &[u8], start: usize, path: &[u8]) -> Verdict
     requires { Opens table.now × (start < table_of.count table.now) × (length path.now < 2 ^ 63) }
     ensures { result ≡ troubleOf (nodesOf table.now) start start 0 false (components path.now) }
 {
-    let mut k = start;
-    let mut level = 0;
-    let mut bad = false;
+    let mut here = Place {
+        entry: start,
+        level: 0,
+        bad: false,
+    };
     let mut at = 0;
     loop {
         let end = fst_path::component_end(path, at);
-        match take_step(table, start, k, level, bad, &path[at..end]) {
-            Step::To(j, n, b) => {
-                k = j;
-                level = n;
-                bad = b;
-            }
-            Step::Refused(cause) => {
-                return Err(cause);
-            }
-        }
+        here = take_step(table, start, here, &path[at..end])?;
         if path.len() <= end {
-            return last_verdict(table, k, level, bad);
+            return last_verdict(table, here);
         }
         at = end + 1;
     }
