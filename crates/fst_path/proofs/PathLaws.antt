@@ -22,9 +22,8 @@ use Rattle.tree.specs.Laws.OpenDirectories.{open_at, stack_is}
 use Rattle.tree.specs.Inner.Depths.{depth_of}
 use Rattle.tree.specs.Laws.Depth.{depth-root, depth-parent}
 use Rattle.fst_path.specs.declared.Step.{Step}
-use Rattle.fst_path.specs.declared.Step.TheVariants.{To, Refused}
 use Rattle.fst_check.specs.Inner.Reading.{open_in}
-use Rattle.fst_path.specs.Inner.Steps.{componentsAfter, backOf, stepTo, intoOf, step_of}
+use Rattle.fst_path.specs.Inner.Steps.{componentsAfter, stepAt, backOf, stepTo, intoOf, step_of}
 use Rattle.fst_check.proofs.Walking.{open-enter}
 use Rattle.fst.proofs.ChildLaws.{child-found}
 
@@ -59,9 +58,9 @@ pub record Trail (nodes : List Node) (words : List ℕ) (k n : ℕ) : Type 0 whe
   pub behind : (i : ℕ) → i < n → (get_or words i 0 < length nodes) × (i ≤ depth_of nodes (get_or words i 0))
 
 -- what is left of a lookup after a step
-abbrev pub onward : List Node → List ℕ → List (List ℕ) → Step → Result ℕ Refusal
-onward nodes words cs (To j n) = follow nodes (open_in words n) j cs
-onward nodes words cs (Refused c) = Err c
+abbrev pub onward : List Node → List ℕ → List (List ℕ) → Result Step Refusal → Result ℕ Refusal
+onward nodes words cs (Ok s) = follow nodes (open_in words s.steps) s.to cs
+onward nodes words cs (Err c) = Err c
 
 open_kept : (words : List ℕ) (n v : ℕ) → n < length words → open_in (set words n v) n ≡ open_in words n
 unfolding open_in
@@ -92,7 +91,7 @@ module _ (nodes : List Node) (w : WellFormed nodes) (s : shallow nodes ≡ true)
     where
       go : (d u v : Bool) → (d ≡ true → n < 65) →
           cond d (cond u (follow nodes (open_in words n) k cs) (cond v (stepBack (open_in words n) (λ j rest. follow nodes rest j cs)) (and_then (childOf nodes k nm) (λ j. follow nodes (k ∷ open_in words n) j cs))))
-          (Err ExpectedDirectory) ≡ onward nodes (set words n k) cs (cond d (cond u (To k n) (cond v (backOf words n) (intoOf nodes k n nm))) (Refused ExpectedDirectory))
+          (Err ExpectedDirectory) ≡ onward nodes (set words n k) cs (cond d (cond u (Ok (stepAt k n)) (cond v (backOf words n) (intoOf nodes k n nm))) (Err ExpectedDirectory))
       go false u v h = refl
       go true true v h = rw (open_kept words n k (omega (arith, h refl)))
       go true false true h = back_step n cs refl (h refl)
@@ -107,32 +106,29 @@ module _ (nodes : List Node) (w : WellFormed nodes) (s : shallow nodes ≡ true)
       (λ (l : n ≤ i). let e : i ≡ n = omega arith in rw (e, get_or-set_same words n k 0 (omega arith)) (t.inside, t.deep)) (lt-or-le i n)
 
   -- a step is from a directory, so there is room, and the trail goes on
-  pub step-trail : (nm : List ℕ) (j m : ℕ) → step_of nodes words k n nm ≡ To j m → (n < 65) × Trail nodes (set words n k) j m
-  step-trail nm j m e = go (isDirectory (get_or nodes k none)) (stays nm) (goesBack nm) room e
+  pub step-trail : (nm : List ℕ) (x : Step) → step_of nodes words k n nm ≡ Ok x → (n < 65) × Trail nodes (set words n k) x.to x.steps
+  step-trail nm x e = go (isDirectory (get_or nodes k none)) (stays nm) (goesBack nm) room e
     where
-      back : (i : ℕ) → n ≡ i → n < 65 → backOf words i ≡ To j m → (n < 65) × Trail nodes (set words n k) j m
+      back : (i : ℕ) → n ≡ i → n < 65 → backOf words i ≡ Ok x → (n < 65) × Trail nodes (set words n k) x.to x.steps
       back zero q r e = let z : ◌≡◌ {A = ℕ} 0 1 = cc in absurd (omega arith)
       back (suc i) q r e =
-          let p : get_or words i 0 ≡ j = cc in
-          let o : i ≡ m = cc in
+          let p : stepAt (get_or words i 0) i ≡ x = cc in
           let b = t.behind i (omega arith) in
-          (r, rw (← p, ← o) (record { inside = b.0; few = omega arith; deep = b.1; behind = behind-same i (omega arith) }))
+          (r, rw (← p) (record { inside = b.0; few = omega arith; deep = b.1; behind = behind-same i (omega arith) }))
 
-      into : (a : Result ℕ Refusal) → childOf nodes k nm ≡ a → n < 65 → stepTo n a ≡ To j m → (n < 65) × Trail nodes (set words n k) j m
+      into : (a : Result ℕ Refusal) → childOf nodes k nm ≡ a → n < 65 → stepTo n a ≡ Ok x → (n < 65) × Trail nodes (set words n k) x.to x.steps
       into (Ok i) c r e =
-          let p : i ≡ j = cc in
-          let o : n + 1 ≡ m = cc in
+          let p : stepAt i (n + 1) ≡ x = cc in
           let f = child-found nodes k nm i w t.inside c in
           let d : depth_of nodes i ≡ suc (depth_of nodes k) = rw f.0 at (depth-parent nodes i w (omega (arith, (child-is nodes k nm i c).after)) f.1) in
-          (r, rw (← p, ← o) (record { inside = f.1; few = omega arith; deep = omega (arith, t.deep); behind = behind_more r }))
+          (r, rw (← p) (record { inside = f.1; few = omega arith; deep = omega (arith, t.deep); behind = behind_more r }))
       into (Err c') c r e = let z : ◌≡◌ {A = ℕ} 0 1 = cc in absurd (omega arith)
 
-      go : (d u v : Bool) → (d ≡ true → n < 65) → cond d (cond u (To k n) (cond v (backOf words n) (intoOf nodes k n nm))) (Refused ExpectedDirectory) ≡ To j m → (n < 65) × Trail nodes (set words n k) j m
+      go : (d u v : Bool) → (d ≡ true → n < 65) → cond d (cond u (Ok (stepAt k n)) (cond v (backOf words n) (intoOf nodes k n nm))) (Err ExpectedDirectory) ≡ Ok x → (n < 65) × Trail nodes (set words n k) x.to x.steps
       go false u v r e = let z : ◌≡◌ {A = ℕ} 0 1 = cc in absurd (omega arith)
       go true true v r e =
-          let p : k ≡ j = cc in
-          let o : n ≡ m = cc in
-          (r refl, rw (← p, ← o) (record { inside = t.inside; few = t.few; deep = t.deep; behind = behind-same n (omega arith) }))
+          let p : stepAt k n ≡ x = cc in
+          (r refl, rw (← p) (record { inside = t.inside; few = t.few; deep = t.deep; behind = behind-same n (omega arith) }))
       go true false true r e = back n refl (r refl) e
       go true false false r e = into (childOf nodes k nm) refl (r refl) e
 
@@ -156,27 +152,27 @@ follow-start nodes start path words long h =
 
 module _ {nodes : List Node} {start : ℕ} {path words : List ℕ} {k n at : ℕ} (w : WellFormed nodes) (shallows : shallow nodes ≡ true) (f : Following nodes start path words k n at) (e : ℕ) (nm : List ℕ)
     (cut : components (drop at path) ≡ nm ∷ componentsAfter path e) where
-  stepped : (s : Step) → step_of nodes words k n nm ≡ s → follow nodes [] start (components path) ≡ onward nodes (set words n k) (componentsAfter path e) s
+  stepped : (s : Result Step Refusal) → step_of nodes words k n nm ≡ s → follow nodes [] start (components path) ≡ onward nodes (set words n k) (componentsAfter path e) s
   stepped s q = f.left ∙ rw (cut, ← q) (follow-step nodes w shallows words f.long k n f.trail nm (componentsAfter path e))
 
   -- where a step leads, with room for the entry that it leaves
-  pub step-lands : (j m : ℕ) → step_of nodes words k n nm ≡ To j m → (n < 65) × Trail nodes (set words n k) j m
-  step-lands j m q = step-trail nodes w shallows words f.long k n f.trail nm j m q
+  pub step-lands : (x : Step) → step_of nodes words k n nm ≡ Ok x → (n < 65) × Trail nodes (set words n k) x.to x.steps
+  step-lands x q = step-trail nodes w shallows words f.long k n f.trail nm x q
 
-  pub follow-refused : (c : Refusal) → step_of nodes words k n nm ≡ Refused c → follow nodes [] start (components path) ≡ Err c
-  follow-refused c q = stepped (Refused c) q
+  pub follow-refused : (c : Refusal) → step_of nodes words k n nm ≡ Err c → follow nodes [] start (components path) ≡ Err c
+  follow-refused c q = stepped (Err c) q
 
-  pub follow-end : (j m : ℕ) → step_of nodes words k n nm ≡ To j m → length path ≤ e → follow nodes [] start (components path) ≡ Ok j
+  pub follow-end : (x : Step) → step_of nodes words k n nm ≡ Ok x → length path ≤ e → follow nodes [] start (components path) ≡ Ok x.to
   unfolding follow
-  follow-end j m q h = stepped (To j m) q ∙ rw (le-ltb e (length path) h)
+  follow-end x q h = stepped (Ok x) q ∙ rw (le-ltb e (length path) h)
 
-  pub follow-turn : (j m : ℕ) → step_of nodes words k n nm ≡ To j m → e < length path → Following nodes start path (set words n k) j m (e + 1)
-  follow-turn j m q l =
+  pub follow-turn : (x : Step) → step_of nodes words k n nm ≡ Ok x → e < length path → Following nodes start path (set words n k) x.to x.steps (e + 1)
+  follow-turn x q l =
       record {
         long = rw (length-set words n k) f.long;
-        trail = (step-lands j m q).1;
+        trail = (step-lands x q).1;
         at_most = omega arith;
-        left = stepped (To j m) q ∙ rw (lt-ltb e (length path) l);
+        left = stepped (Ok x) q ∙ rw (lt-ltb e (length path) l);
       }
 
 -- ---- a lookup ends at an entry of the tree

@@ -15,9 +15,9 @@ use tree::Found;
 
 // Where a component of a path leads: an entry, and how many named steps it is from the start.
 #[derive(Clone, Copy)]
-pub enum Step {
-    To(usize, usize),
-    Refused(Refusal),
+pub struct Step {
+    pub to: usize,
+    pub steps: usize,
 }
 
 fn is_separator(b: u8) -> bool
@@ -74,37 +74,47 @@ pub fn goes_back(name: &[u8]) -> bool
 }
 
 // Back over the last named step: to the entry that it left.
-fn back(trail: &[usize; 65], steps: usize) -> Step
+fn back(trail: &[usize; 65], steps: usize) -> Result<Step, Refusal>
     requires { steps ≤ 65 }
     ensures { result ≡ backOf trail.now steps }
 {
     if steps == 0 {
-        return Step::Refused(Refusal::NotFound);
+        return Err(Refusal::NotFound);
     }
-    Step::To(trail[steps - 1], steps - 1)
+    Ok(Step {
+        to: trail[steps - 1],
+        steps: steps - 1,
+    })
 }
 
 // To the first child with that name.
-fn into(table: &[u8], k: usize, steps: usize, name: &[u8]) -> Step
+fn into(table: &[u8], k: usize, steps: usize, name: &[u8]) -> Result<Step, Refusal>
     requires { Opens table.now × (k < table_of.count table.now) × (steps ≤ 65) }
     ensures { result ≡ intoOf (nodesOf table.now) k steps name.now }
 {
-    match fst::child(table, k, name) {
-        Ok(j) => Step::To(j as usize, steps + 1),
-        Err(cause) => Step::Refused(cause),
-    }
+    let j = fst::child(table, k, name)?;
+    Ok(Step {
+        to: j as usize,
+        steps: steps + 1,
+    })
 }
 
 // One component: from a file 17; empty and `.` stay, `..` goes back, any other is a child's name.
-fn take_step(table: &[u8], trail: &[usize; 65], k: usize, steps: usize, name: &[u8]) -> Step
+fn take_step(
+    table: &[u8],
+    trail: &[usize; 65],
+    k: usize,
+    steps: usize,
+    name: &[u8],
+) -> Result<Step, Refusal>
     requires { Opens table.now × (k < table_of.count table.now) × (steps ≤ 65) }
     ensures { result ≡ step_of (nodesOf table.now) trail.now k steps name.now }
 {
     if !fst::is_directory(table, k) {
-        return Step::Refused(Refusal::ExpectedDirectory);
+        return Err(Refusal::ExpectedDirectory);
     }
     if stays(name) {
-        return Step::To(k, steps);
+        return Ok(Step { to: k, steps });
     }
     if goes_back(name) {
         return back(trail, steps);
@@ -123,16 +133,10 @@ fn follow(table: &[u8], start: usize, path: &[u8]) -> Result<u32, Refusal>
     let mut at = 0;
     loop {
         let end = component_end(path, at);
-        match take_step(table, &trail, k, steps, &path[at..end]) {
-            Step::To(j, n) => {
-                trail[steps] = k;
-                k = j;
-                steps = n;
-            }
-            Step::Refused(cause) => {
-                return Err(cause);
-            }
-        }
+        let step = take_step(table, &trail, k, steps, &path[at..end])?;
+        trail[steps] = k;
+        k = step.to;
+        steps = step.steps;
         if path.len() <= end {
             return Ok(k as u32);
         }

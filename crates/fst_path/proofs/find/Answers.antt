@@ -10,8 +10,7 @@ use Rattle.fst_path.proofs.find.Goals as goal
 
 pub returns-in-Ok : goal.returns-in-Ok
 returns-in-Ok c =
-    let s = c in
-    let T = s.args.table.now in
-    let w = (opened T (λ i. omega (arith, c.type_inv.table i)) s.requires.0).well in
-    let l = lookup-inside (nodesOf T) w s.args.start s.args.path.now _ (sym c.in-Ok.ensures) in
+    let T = c.args.table.now in
+    let w = (opened T (λ i. omega (arith, c.type_inv.table i)) c.requires.0).well in
+    let l = lookup-inside (nodesOf T) w c.args.start c.args.path.now _ (sym c.in-Ok.ensures) in
     rw (← c.in-Ok.ensures) (c.entry.ensures ∙ rw (lt-ltb _ (length (nodesOf T)) l))

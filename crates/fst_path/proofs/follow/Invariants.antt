@@ -5,8 +5,8 @@ use Rattle.tree.specs.Table.{nodesOf}
 use Rattle.fst_path.proofs.PathLaws.{Following}
 use Rattle.fst_path.proofs.follow.Given as goal
 
-abbrev pub invariant-loop-j : goal.invariant-loop-j
-invariant-loop-j l = Following (nodesOf l.table) l.start l.path l.trail l.k l.steps l.at
+abbrev pub invariant-loop-step : goal.invariant-loop-step
+invariant-loop-step l = Following (nodesOf l.table) l.start l.path l.trail l.k l.steps l.at
 
-abbrev pub decreases-loop-j : goal.decreases-loop-j
-decreases-loop-j l = length l.path - l.at
+abbrev pub decreases-loop-step : goal.decreases-loop-step
+decreases-loop-step l = length l.path - l.at
