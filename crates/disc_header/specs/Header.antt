@@ -1,13 +1,13 @@
 -- The header as it is read, made and written, from document 01, "The header". Assumes nothing: these are definitions.
-use Rattle.std.specs.Prelude.{Ok, Err}
+use Rattle.std.specs.Prelude.{Result, Ok, Err}
 use Rattle.refusal.specs.Refusal.{Verdict}
 use Rattle.std.specs.Prelude.{ℕ, List, [], ◌∷◌, ltb, length, get_or, replicate}
 use Rattle.endian.specs.Bytes.{be32Bytes, put, span}
+use Rattle.refusal.specs.declared.Refusal.{Refusal}
 use Rattle.refusal.specs.declared.Refusal.TheVariants.{HeaderPastImage}
 use Rattle.refusal.specs.Refusal.{refuse}
 use Rattle.header.specs.declared.Field.{Field}
 use Rattle.disc_header.specs.declared.DiscHeader.{DiscHeader}
-use Rattle.disc_header.specs.declared.HeaderRead.{HeaderRead}
 use Rattle.header.specs.Fields.{fields, gameCodeField, makerCodeField, discIdField, versionField, audioStreamingField, streamBufferSizeField, unused00aField, wiiMagicField, gcnMagicField, gameNameField, debugMonitorOffsetField, debugMonitorAddrField, unused408Field, dolOffsetField, fstOffsetField, fstSizeField, fstMaxSizeField, userPositionField, userSizeField, discSizeField, unused43cField}
 use Rattle.header.specs.Verdicts.{word_of, headerVerdict}
 
@@ -70,12 +70,12 @@ blank magic = record {
   unused_43c = 0;
 }
 
--- a refusal carries no header: every field is 0
-abbrev pub headerAnswer : Verdict → DiscHeader → HeaderRead
-headerAnswer (Ok _) h = record { verdict = Ok tt; header = h }
-headerAnswer (Err c) h = record { verdict = Err c; header = blank 0 }
+-- a header that passed is read, and a refusal goes on
+abbrev pub headerAnswer : Verdict → DiscHeader → Result DiscHeader Refusal
+headerAnswer (Ok _) h = Ok h
+headerAnswer (Err c) h = Err c
 
-abbrev pub headerRead : List ℕ → HeaderRead
+abbrev pub headerRead : List ℕ → Result DiscHeader Refusal
 headerRead image = headerAnswer (headerVerdict image) (headerOf image)
 
 -- ---- written

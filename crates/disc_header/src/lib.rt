@@ -35,13 +35,6 @@ pub struct DiscHeader {
     pub unused_43c: u32,
 }
 
-// What reading gives: a header, or why there is none, and then every field is 0. (An enum cannot hold an array.)
-#[derive(Clone, Copy)]
-pub struct HeaderRead {
-    pub verdict: Verdict,
-    pub header: DiscHeader,
-}
-
 impl DiscHeader {
     pub const GCN_MAGIC: u32 = header::GCN_MAGIC;
 
@@ -55,19 +48,11 @@ impl DiscHeader {
     }
 
     // The game name, the word at 0x18 and the unused runs are kept as they are.
-    pub fn read_from(image: &[u8]) -> HeaderRead
+    pub fn read_from(image: &[u8]) -> Result<DiscHeader, Refusal>
         ensures { result ≡ headerRead image.now }
     {
-        match header::check(image) {
-            Ok(()) => HeaderRead {
-                verdict: Ok(()),
-                header: read_fields(image),
-            },
-            Err(cause) => HeaderRead {
-                verdict: Err(cause),
-                header: blank_header(0),
-            },
-        }
+        header::check(image)?;
+        Ok(read_fields(image))
     }
 }
 

@@ -1,5 +1,5 @@
 -- Reading and writing undo each other: a header that was read and is written back changes no byte, and a header that was written is read. Assumes nothing.
-use Rattle.std.specs.Prelude.{Ok}
+use Rattle.std.specs.Prelude.{Ok, Err}
 use Prim.Native.Nat.{ℕ, zero, suc, ◌+◌, ◌*◌, ◌/◌, ◌%◌, ◌^◌, ◌<◌, ◌≤◌}
 use Rattle.std.specs.Prelude.{◌≡◌, refl, true, length, get_or, drop}
 use Rattle.std.proofs.Math.Path.{sym, ap}
@@ -8,13 +8,14 @@ use mathlib.Core.List.{List, [], ◌∷◌, map}
 use Rattle.std.proofs.Math.Nat.{div-div-eq-div-mul}
 use Rattle.endian.specs.Bytes.{be32, be32Bytes, put, span, AllBytes}
 use Rattle.endian.specs.Laws.Stored.{be32-value, length-put, put-before, put-after, span-put, length-span, getD-span, span-cons, span_ext}
+use Rattle.refusal.specs.Refusal.{Verdict}
 use Rattle.header.specs.declared.Field.{Field}
 use Rattle.disc_header.specs.declared.DiscHeader.{DiscHeader}
 use Rattle.header.specs.Fields.{fields, gameCodeField, makerCodeField, discIdField, versionField, audioStreamingField, streamBufferSizeField, unused00aField, wiiMagicField, gcnMagicField, gameNameField, debugMonitorOffsetField, debugMonitorAddrField, unused408Field, dolOffsetField, fstOffsetField, fstSizeField, fstMaxSizeField, userPositionField, userSizeField, discSizeField, unused43cField}
 use Rattle.header.specs.Inner.Judged.{nth}
 use Rattle.header.specs.Laws.Tiling.{tile}
 use Rattle.header.specs.Verdicts.{gcnMagic, wiiMagic, word_of, headerVerdict}
-use Rattle.disc_header.specs.Header.{bytes_of, byte_of, headerOf, headerRead, fieldBytes, putFields, putHeader, headerWritten}
+use Rattle.disc_header.specs.Header.{bytes_of, byte_of, headerOf, headerAnswer, headerRead, fieldBytes, putFields, putHeader, headerWritten}
 use Rattle.header.specs.Laws.FieldTests.{GoodHeader, header-passed, header-passes}
 use Rattle.header.specs.Laws.Tiling.{fields-tile, tile-start, tile-rest, tile-le}
 
@@ -152,10 +153,15 @@ module _ (image : List ℕ) (whole : 0x440 ≤ length image) (bytes : AllBytes i
   write_read = rw spans (put-spans 0 0x440 fields image fields-tile whole)
 
 -- a header that was read as good is written back as it was: the game name, the word at 0x18 and the unused runs too
-pub write-after-read : (image : List ℕ) → headerVerdict image ≡ Ok tt → AllBytes image → headerWritten (headerRead image).header image ≡ image
-write-after-read image e bytes =
-    let w : 0x440 ≤ length image = (header-passed image e).whole in
-    rw (e, le-ltb (length image) 0x440 w) (write_read image w bytes)
+pub write-after-read : (image : List ℕ) (h : DiscHeader) → headerRead image ≡ Ok h → AllBytes image → headerWritten h image ≡ image
+write-after-read image h e bytes = go (headerVerdict image) refl e
+  where
+    go : (v : Verdict) → headerVerdict image ≡ v → headerAnswer v (headerOf image) ≡ Ok h → headerWritten h image ≡ image
+    go (Ok _) q r =
+        let w : 0x440 ≤ length image = (header-passed image q).whole in
+        let f : headerOf image ≡ h = cc in
+        rw (← f, le-ltb (length image) 0x440 w) (write_read image w bytes)
+    go (Err c) q r = let z : ◌≡◌ {A = ℕ} 0 1 = cc in absurd (omega arith)
 
 -- ---- written and read
 
@@ -232,5 +238,5 @@ module _ (h : DiscHeader) (s : Sized h) (image : List ℕ) (whole : 0x440 ≤ le
     }
 
     -- a header whose magics are good is read as it was written
-    pub read-after-write : headerRead (headerWritten h image) ≡ record { verdict = Ok tt; header = h }
+    pub read-after-write : headerRead (headerWritten h image) ≡ Ok h
     read-after-write = rw (le-ltb (length image) 0x440 whole, header-passes (putHeader h image) good, read-write)
