@@ -23,15 +23,13 @@ pub fn put_byte(text: &mut [u8], at: usize, b: u8) -> usize
 pub fn put_text(text: &mut [u8], at: usize, source: &[u8], from: usize) -> usize
     ensures { Wrote text.old text.new at (textAt source.now from) result }
 {
-    let mut i = from;
     let mut end = at;
-    while i < source.len() {
+    for i in from..source.len() {
         let b = source[i];
         if b == 0 {
             return end;
         }
         end = put_byte(text, end, b);
-        i += 1;
     }
     end
 }
