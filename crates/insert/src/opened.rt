@@ -24,7 +24,7 @@ fn check_child(table: &[u8], p: usize, name: &[u8]) -> Verdict
     if !fst::is_directory(table, p) {
         return Err(Refusal::ExpectedDirectory);
     }
-    if let Ok(_) = fst::child(table, p, name) {
+    if fst::child(table, p, name).is_ok() {
         return Err(Refusal::AlreadyExists);
     }
     if !fst_text::is_plain(name) {
@@ -53,11 +53,8 @@ fn new_number(table: &[u8], parent: u32, name: &[u8]) -> Result<u32, Refusal>
     requires { reading.Opens table.now }
     ensures { result ≡ numberedAs (insertVerdict (nodesOf table.now) parent name.now) (newNumber (nodesOf table.now) parent) }
 {
-    let verdict = check_insert(table, parent, name);
-    match verdict {
-        Err(cause) => Err(cause),
-        Ok(()) => Ok(fst::next(table, parent as usize) as u32),
-    }
+    check_insert(table, parent, name)?;
+    Ok(fst::next(table, parent as usize) as u32)
 }
 
 #[tactic(auto, unfolding(opening::specs::Opening::nodesIn))]
@@ -82,11 +79,8 @@ fn add_entry(
     requires { IsOpen image.now words.now m × Stands bytes.old size (length words.now) × IsDirectory (treeIn bytes.old size) p × GoodName name.now }
     ensures { Decided (change 0 (tableOnly (added (treeIn bytes.old size) is_directory p name.now))) image.now (length words.now) (length bytes.old) bytes.new (tableDecision 0 result) }
 {
-    let grown = fst_grow::grow(bytes, size, words.len(), p, is_directory, name);
-    match grown {
-        Err(cause) => Err(cause),
-        Ok(n) => table_only::place_table(image, words, m, bytes, n),
-    }
+    let n = fst_grow::grow(bytes, size, words.len(), p, is_directory, name)?;
+    table_only::place_table(image, words, m, bytes, n)
 }
 
 // The tree with the new entry: its table, its size and place judged.
@@ -102,11 +96,8 @@ fn build(
     requires { IsOpen image.now words.now m × IsDirectory (nodesIn image.now) p × GoodName name.now }
     ensures { Decided (change 0 (tableOnly (added (nodesIn image.now) is_directory p name.now))) image.now (length words.now) (length bytes.old) bytes.new (tableDecision 0 result) }
 {
-    let started = table_only::start_table(image, words, m, bytes);
-    match started {
-        Err(cause) => Err(cause),
-        Ok(size) => { add_entry(image, words, m, bytes, size, p, is_directory, name) }
-    }
+    let size = table_only::start_table(image, words, m, bytes)?;
+    add_entry(image, words, m, bytes, size, p, is_directory, name)
 }
 
 pub fn insert(
@@ -121,8 +112,7 @@ pub fn insert(
     requires { IsOpen image.now words.now m }
     ensures { Decided (plan_of (insertion is_directory parent name.now) image.now) image.now (length words.now) (length bytes.old) bytes.new result }
 {
-    let found = number_in(image, parent, name);
-    match found {
+    match number_in(image, parent, name) {
         Err(cause) => Decision::Refused(cause),
         Ok(number) => {
             let built = build(image, words, m, bytes, parent as usize, is_directory, name);

@@ -11,7 +11,7 @@ well_formed : (tab : List ℕ) → ((i : ℕ) → Fits w8 (get_or tab i 0)) → 
 well_formed tab bytes o = (opened tab (λ i. omega (arith, bytes i)) o).well
 
 pub next-requires : goal.next-requires
-next-requires c = (search, search parent-inside)
+next-requires c = (search, search (parent-inside, c.in_ok-check_insert.ensures))
 
 pub overflow_cast-result : goal.overflow_cast-result
-overflow_cast-result c = search (number_fits, well_formed c.args.table.now c.type_inv.table)
+overflow_cast-result c = search (number_fits, c.in_ok-check_insert.ensures, well_formed c.args.table.now c.type_inv.table)
