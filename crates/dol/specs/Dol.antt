@@ -58,12 +58,12 @@ newHeader = record {
   entry_point = 0;
 }
 
--- the answer by its verdict: the header and its file size, or with a refusal zeros
-abbrev pub dolAnswered : Verdict → DolHeader → DolAnswer
-dolAnswered (Ok _) h = record { verdict = Ok tt; header = h; size = fileSizeOf h }
-dolAnswered (Err c) h = record { verdict = Err c; header = newHeader; size = 0 }
+-- the answer by its verdict: the header and its file size
+abbrev pub dolAnswered : Verdict → DolHeader → Result DolAnswer Refusal
+dolAnswered (Ok _) h = Ok (record { header = h; size = fileSizeOf h })
+dolAnswered (Err c) h = Err c
 
-abbrev pub dolAnswerOf : List ℕ → ℕ → DolAnswer
+abbrev pub dolAnswerOf : List ℕ → ℕ → Result DolAnswer Refusal
 dolAnswerOf s at = dolAnswered (dolVerdictOf s at) (dolHeaderOf s at)
 
 -- the file size alone, by the same verdict

@@ -1,14 +1,13 @@
 // The header of a DOL executable, read from an image at an offset: 7 text and 11 data offsets, then addresses, then sizes in that order,
-// BSS address, BSS size, entry point; 0xE4 bytes. An enum cannot hold arrays, so the answer is a struct with a verdict.
+// BSS address, BSS size, entry point; 0xE4 bytes.
 #![tactic(auto)]
 
 ghost use Rattle.std.specs.Prelude.{◌≡◌, ◌+◌, ◌*◌, ◌≤◌, ◌<◌, max, length};
 ghost use Rattle.window.specs.Window.{newWindow};
 ghost use Rattle.dol.specs.Dol.{wordsAt, largestOf, newHeader, dolHeaderOf, fileSizeOf, dolAnswerOf, dolSizeOf};
-ghost use Rattle.dol.specs.Inner.Refused.{refusedAnswer};
 
 use endian::wide;
-use refusal::{Refusal, Verdict};
+use refusal::Refusal;
 use window::Window;
 
 #[derive(Clone, Copy)]
@@ -24,9 +23,9 @@ pub struct DolHeader {
     pub entry_point: u32,
 }
 
+// What reading gives: the header, and the file size that it says.
 #[derive(Clone, Copy)]
 pub struct DolAnswer {
-    pub verdict: Verdict,
     pub header: DolHeader,
     pub size: u32,
 }
@@ -140,17 +139,6 @@ impl DolHeader {
     }
 }
 
-fn refused() -> DolAnswer
-    ensures { result ≡ refusedAnswer }
-{
-    let header = DolHeader::new();
-    DolAnswer {
-        verdict: Err(Refusal::InvalidDol),
-        header,
-        size: 0,
-    }
-}
-
 // The largest offset + size of n sections, where they stand: the sizes lie 0x90 bytes behind the offsets.
 fn largest_at(s: &[u8], at: usize, n: usize) -> u64
     requires { at + 0x90 + 4 * n ≤ length s.now }
@@ -184,17 +172,12 @@ pub fn size(image: &[u8], at: usize) -> Result<u32, Refusal>
     Ok(most as u32)
 }
 
-pub fn read(image: &[u8], at: usize) -> DolAnswer
+pub fn read(image: &[u8], at: usize) -> Result<DolAnswer, Refusal>
     ensures { result ≡ dolAnswerOf image.now at }
 {
-    match size(image, at) {
-        Ok(size) => DolAnswer {
-            verdict: Ok(()),
-            header: header_at(image, at),
-            size,
-        },
-        Err(_) => refused(),
-    }
+    let size = size(image, at)?;
+    let header = header_at(image, at);
+    Ok(DolAnswer { header, size })
 }
 
 impl DolAnswer {
