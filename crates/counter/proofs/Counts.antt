@@ -1,7 +1,4 @@
 -- There are fewer than 2^32 free regions: each has a byte of its own below the disc end. Assumes nothing.
-use Rattle.std.specs.Prelude.{Result, Ok, Err}
-use Rattle.refusal.specs.Refusal.{Verdict}
-use Rattle.refusal.specs.declared.Refusal.{Refusal}
 use Prim.Native.Nat.{ℕ, zero, suc, ◌^◌, ◌<◌, ◌≤◌}
 use mathlib.Core.Path.{◌≡◌, refl, sym, ◌∙◌}
 use mathlib.Core.Bool.{Bool, true, false, cond}
@@ -9,6 +6,9 @@ use mathlib.Core.List.{List, [], ◌∷◌}
 use native.Mathlib.Omega.{arith}
 use lib.Dec.{eqb, ltb}
 use lib.ListN.{length}
+use Rattle.std.specs.Prelude.{Result, Ok, Err}
+use Rattle.refusal.specs.Refusal.{Verdict}
+use Rattle.refusal.specs.declared.Refusal.{Refusal}
 use Rattle.refusal.specs.declared.Refusal.TheVariants.{LimitOrMemory}
 use Rattle.refusal.specs.Laws.Chains.{first-passed}
 use Rattle.header.specs.Verdicts.{headerVerdict, boundsVerdict, discEnd}
@@ -50,14 +50,14 @@ module _ (row : DiscRegion → List ℕ) (image : List ℕ) (words room n : ℕ)
       omega (arith, b.small)
 
   counted : (t : Bool) (m : ℕ) → cond t (Err LimitOrMemory) (Ok m) ≡ Ok n → m ≡ n
-  counted true m e = let z : ◌≡◌ {A = ℕ} 0 1 = cc in absurd (omega arith)
+  counted true m e = cc
   counted false m e = cc
 
   go : (v : Verdict) → opening image words ≡ v → behind v Err (listingOf row (freeOf image) room) ≡ Ok n → n < 2 ^ 32
   go (Ok tt) o e =
       let m = counted (ltb room (length (rows_of row (freeOf image)))) (length (freeOf image)) e in
       omega (arith, m, small-end o, free-count image)
-  go (Err c) o e = let z : ◌≡◌ {A = ℕ} 0 1 = cc in absurd (omega arith)
+  go (Err c) o e = cc
 
   pub listed_small : (a : Result ℕ Refusal) → a ≡ freeAnswer row image words room → a ≡ Ok n → n < 2 ^ 32
   unfolding freeAnswer

@@ -1,6 +1,4 @@
 -- A header that was read as good and written back into 0x440 bytes gives the image's first bytes. Assumes nothing.
-use Rattle.std.specs.Prelude.{Ok, Err}
-use Rattle.refusal.specs.Refusal.{Verdict}
 use Prim.Native.Nat.{ℕ, ◌+◌, ◌-◌, ◌≤◌, ◌<◌}
 use mathlib.Core.Path.{◌≡◌, refl, sym, ap, ◌∙◌}
 use mathlib.Core.List.{List}
@@ -10,17 +8,19 @@ use lib.ListN.{length, get_or, take}
 use lib.Seq.{ext_get_or, get_or-take, length-take-le}
 use Rattle.endian.specs.Bytes.{AllBytes}
 use Rattle.endian.specs.Laws.Stored.{length-span, getD-span}
+use Rattle.std.specs.Prelude.{Ok, Err}
+use Rattle.refusal.specs.Refusal.{Verdict}
 use Rattle.refusal.specs.declared.Refusal.{Refusal}
 use Rattle.header.specs.declared.Field.{Field}
 use Rattle.disc_header.specs.declared.HeaderRead.{HeaderRead}
 use Rattle.header.specs.Fields.{fields, gameCodeField, makerCodeField, unused00aField, gameNameField, unused408Field}
 use Rattle.header.specs.Inner.Judged.{field_at, nth}
-use Rattle.disc_header.specs.Header.{bytes_of, headerOf, headerAnswer, headerRead, fieldBytes, putHeader, headerWritten}
+use Rattle.disc_header.specs.Header.{bytes_of, headerOf, headerAnswer, headerRead, fieldBytes, putHeader, writeVerdict, headerWritten}
 use Rattle.header.specs.Verdicts.{headerVerdict}
 use Rattle.header.specs.Laws.FieldTests.{header-passed}
 use Rattle.header.specs.Laws.Tiling.{fields-tile, fields-count, one_field}
 use Rattle.disc_header.specs.Laws.RoundTrip.{Fills, length-putFields, putFields-in, write_read}
-use Rattle.counter.specs.Replies.{accepts, refuses, verdictReply}
+use Rattle.counter.specs.Replies.{reply, accepts, refuses, numberTold, verdictReply}
 
 module _ (image slots : List ℕ) (good : headerVerdict image ≡ Ok tt) (bytes : AllBytes image) (room : length slots ≡ 0x440) where
   whole : 0x440 ≤ length image
@@ -59,22 +59,20 @@ module _ (image slots : List ℕ) (good : headerVerdict image ≡ Ok tt) (bytes 
       let t : length (take 0x440 image) ≡ 0x440 = length-take-le 0x440 image whole in
       ext_get_or 0 _ _ (l ∙ sym t) (λ i h. byte i (omega arith) ∙ sym (get_or-take 0x440 image i 0 (omega arith)))
 
-  back : headerWritten (headerOf image) slots ≡ take 0x440 image
-  back = rw (le-ltb (length slots) 0x440 (omega arith)) taken
+  back : reply (numberTold (writeVerdict slots)) (headerWritten (headerOf image) slots) ≡ accepts (take 0x440 image)
+  back = rw (le-ltb (length slots) 0x440 (omega arith), taken) refl
 
 module _ (image slots : List ℕ) (read : HeaderRead) (e : read ≡ headerRead image) where
-  pub header-written : read.verdict ≡ Ok tt → AllBytes image → length slots ≡ 0x440 → accepts (headerWritten read.header slots) ≡ verdictReply slots (headerVerdict image) (take 0x440 image)
-  unfolding verdictReply
+  pub header-written : read.verdict ≡ Ok tt → AllBytes image → length slots ≡ 0x440 → reply (numberTold (writeVerdict slots)) (headerWritten read.header slots) ≡ verdictReply slots (headerVerdict image) (take 0x440 image)
   header-written p bytes room = go (headerVerdict image) refl e
     where
-      go : (v : Verdict) → headerVerdict image ≡ v → read ≡ headerAnswer v (headerOf image) → accepts (headerWritten read.header slots) ≡ verdictReply slots v (take 0x440 image)
+      go : (v : Verdict) → headerVerdict image ≡ v → read ≡ headerAnswer v (headerOf image) → reply (numberTold (writeVerdict slots)) (headerWritten read.header slots) ≡ verdictReply slots v (take 0x440 image)
       go (Ok _) g h = rw (h, back image slots g bytes room)
-      go (Err c) g h = let z : ◌≡◌ {A = ℕ} 0 1 = cc in absurd (omega arith)
+      go (Err c) g h = cc
 
   pub header_refused : (c : Refusal) → read.verdict ≡ Err c → refuses slots c ≡ verdictReply slots (headerVerdict image) (take 0x440 image)
-  unfolding verdictReply
   header_refused c p = go (headerVerdict image) e
     where
       go : (v : Verdict) → read ≡ headerAnswer v (headerOf image) → refuses slots c ≡ verdictReply slots v (take 0x440 image)
-      go (Ok _) h = let z : ◌≡◌ {A = ℕ} 0 1 = cc in absurd (omega arith)
+      go (Ok _) h = cc
       go (Err d) h = let k : c ≡ d = cc in rw k

@@ -1,13 +1,12 @@
--- Words put one part behind another are put at once, and the turn of a loop that copies words. Assumes nothing.
-use Prim.Native.Nat.{ℕ, ◌+◌, ◌≤◌, ◌<◌}
+-- Words put one part behind another are put at once. Assumes nothing.
+use Prim.Native.Nat.{ℕ, ◌+◌, ◌≤◌}
 use mathlib.Core.Path.{◌≡◌, refl, sym, ap, ◌∙◌}
 use mathlib.Core.List.{List, [], ◌∷◌, ◌++◌, append_assoc, append-nil}
 use native.Mathlib.Omega.{arith}
-use native.Mathlib.Numerals.{add-one}
-use lib.ListN.{length, get_or, set, take, drop, length-append, drop_of_length-le}
-use lib.Seq.{length-take-le, take_at, take-suc}
+use lib.ListN.{length, set, take, drop, length-append, drop_of_length-le}
+use lib.Seq.{length-take-le, take_at}
 use Rattle.endian.specs.Bytes.{put}
-use Rattle.endian.specs.Laws.Stored.{length-put, put-sets, put-snoc, drop-put}
+use Rattle.endian.specs.Laws.Stored.{length-put, put-sets, drop-put}
 
 take_put : (s : List ℕ) (at : ℕ) (a : List ℕ) → at + length a ≤ length s → take (at + length a) (put s at a) ≡ take at s ++ a
 unfolding put
@@ -52,10 +51,3 @@ four-parts s a b c x y z la lb lc h =
     ∙ put_all s (((a ++ b) ++ c) ++ d) (omega arith)
     ∙ append_assoc (a ++ b) c d
     ∙ append_assoc a b (c ++ d))
-
--- one word more is copied
-pub word-turn : (source s₀ s : List ℕ) (to i : ℕ) → s ≡ put s₀ to (take i source) → i < length source → to + length source ≤ length s₀ →
-    set s (to + i) (get_or source i 0) ≡ put s₀ to (take (i + 1) source)
-word-turn source s₀ s to i e h k =
-    let l : length (take i source) ≡ i = length-take-le i source (omega arith) in
-    rw (e, add-one i, take-suc source i 0 h) (rw l at (put-snoc s₀ to (take i source) (get_or source i 0) (rw l (omega arith))))

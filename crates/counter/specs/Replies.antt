@@ -1,21 +1,19 @@
 -- What the calls give back in C: for each answer of the crates below its number (document 01: "Causes and their numbers"; 0 where the call
 -- is accepted), and the slots that the caller lends, as many as the answer has words. With a refusal they are "left as it was".
 -- Assumes nothing: these are definitions.
-use Rattle.std.specs.Prelude.{Result, Ok, Err}
-use Rattle.refusal.specs.Refusal.{Verdict}
+use Rattle.std.specs.Prelude.{Result, Ok, Err, ℕ, ◌≡◌, List, [], ◌∷◌, ◌++◌, get_or}
+use Rattle.refusal.specs.declared.Refusal.{Refusal}
+use Rattle.refusal.specs.Refusal.{Verdict, number_of}
 use Rattle.answers.specs.declared.Disc.{Disc}
 use Rattle.space.specs.declared.DiscRegion.{DiscRegion}
 use Rattle.disc.specs.declared.DiscTotals.{DiscTotals}
-use Rattle.std.specs.Prelude.{ℕ, ◌≡◌, List, [], ◌∷◌, ◌++◌, get_or}
-use Rattle.refusal.specs.declared.Refusal.{Refusal}
-use Rattle.refusal.specs.Refusal.{number_of}
+use Rattle.disc.specs.declared.RecordMade.{RecordMade}
 use Rattle.tree.specs.declared.Entry.{Entry}
 use Rattle.tree.specs.declared.Entry.TheVariants.{File, Directory}
 use Rattle.tree.specs.declared.Found.{Found}
 use Rattle.tree.specs.declared.Found.TheVariants as found
 use Rattle.dol.specs.declared.DolHeader.{DolHeader}
 use Rattle.files.specs.declared.DolFile.{DolFile}
-use Rattle.disc.specs.declared.RecordMade.{RecordMade}
 use Rattle.totals.specs.declared.Totals.{Totals}
 use Rattle.program.specs.declared.Program.{Program}
 use Rattle.program.specs.declared.Program.TheVariants as program
@@ -43,92 +41,53 @@ pub record Read (wanted given : Reply) (before after : List ℕ) : Type 0 where
   pub answered : given ≡ wanted
   pub words : after ≡ zeros before
 
--- ---- the answers, case by case, over the slots as they were
+-- ---- a value or a refusal
 
-unfoldable pub openedReply : List ℕ → Result Disc Refusal → Reply
-openedReply before (Ok d) = accepts (d.fst_offset ∷ d.fst_size ∷ d.disc_end ∷ d.entries ∷ d.used ∷ [])
-openedReply before (Err c) = refuses before c
+abbrev pub numberTold : {A : Type 0} → Result A Refusal → ℕ
+numberTold (Ok _) = 0
+numberTold (Err c) = number_of c
 
-unfoldable pub totalsReply : List ℕ → Result DiscTotals Refusal → Reply
-totalsReply before (Ok t) = accepts (t.disc_end ∷ t.used ∷ [])
-totalsReply before (Err c) = refuses before c
+-- the value in these words, or the slots as they were
+abbrev pub slotsTold : {A S : Type 0} → (A → S) → S → Result A Refusal → S
+slotsTold words before (Ok a) = words a
+slotsTold words before (Err c) = before
 
-abbrev pub totalsWords : Totals → List ℕ
-totalsWords t = t.used ∷ t.largest ∷ t.edits ∷ []
+abbrev pub replied : {A : Type 0} → (A → List ℕ) → List ℕ → Result A Refusal → Reply
+replied words before a = reply (numberTold a) (slotsTold words before a)
 
--- a program has at least 0xE4 bytes, so size 0 is none
-unfoldable pub programReply : List ℕ → Program → Reply
-programReply before (program.At r) = accepts (r.offset ∷ r.size ∷ [])
-programReply before program.None = accepts (0 ∷ 0 ∷ [])
-programReply before (program.Refused c) = refuses before c
+-- the same where the words stand beside the verdict
+abbrev pub verdictReply : List ℕ → Verdict → List ℕ → Reply
+verdictReply before v ws = replied (λ _. ws) before v
 
--- kind 0 with offset and size, kind 1 with parent and next
-abbrev pub entryWords : ℕ → Entry → List ℕ
-entryWords k (File f) = k ∷ 0 ∷ f.offset ∷ f.size ∷ []
-entryWords k (Directory d) = k ∷ 1 ∷ d.parent ∷ d.next ∷ []
+-- ---- the words of each value, in the order of its slots
 
-unfoldable pub foundReply : List ℕ → Found → Reply
-foundReply before (found.At k e) = accepts (entryWords k e)
-foundReply before (found.Refused c) = refuses before c
+abbrev pub discWords : Disc → List ℕ
+discWords d = d.fst_offset ∷ d.fst_size ∷ d.disc_end ∷ d.entries ∷ d.used ∷ []
 
-unfoldable pub listingReply : List ℕ → Result ℕ Refusal → Reply
-listingReply before (Ok n) = accepts (n ∷ [])
-listingReply before (Err c) = refuses before c
+abbrev pub discTotalsWords : DiscTotals → List ℕ
+discTotalsWords t = t.disc_end ∷ t.used ∷ []
 
-unfoldable pub sizeReply : List ℕ → Result ℕ Refusal → Reply
-sizeReply before (Ok n) = accepts (n ∷ [])
-sizeReply before (Err c) = refuses before c
+abbrev pub regionWords : DiscRegion → List ℕ
+regionWords r = r.offset ∷ r.size ∷ []
 
-unfoldable pub allocationReply : List ℕ → Result DiscRegion Refusal → Reply
-allocationReply before (Ok r) = accepts (r.offset ∷ r.size ∷ [])
-allocationReply before (Err c) = refuses before c
+-- how many regions, a size, the length of a text, an entry's number
+abbrev pub one : ℕ → List ℕ
+one n = n ∷ []
 
--- the length of the text
-unfoldable pub listedReply : List ℕ → Result ℕ Refusal → Reply
-listedReply before (Ok n) = accepts (n ∷ [])
-listedReply before (Err c) = refuses before c
-
-unfoldable pub locatedReply : List ℕ → Result ℕ Refusal → Reply
-locatedReply before (Ok k) = accepts (k ∷ [])
-locatedReply before (Err c) = refuses before c
-
--- ---- the edits, for `Edited`: one that gives only that it is done, and one that gives an entry's number
-
-unfoldable pub verdictNumber : Verdict → ℕ
-verdictNumber (Ok _) = 0
-verdictNumber (Err c) = number_of c
-
-abbrev pub done : Verdict → ℕ → ℕ
-done v k = verdictNumber v
-
-abbrev pub numbered : List ℕ → Verdict → ℕ → Reply
-numbered before v k = locatedReply before (numberedAs v k)
-
--- ---- windows: start, length, position
-
+-- a window's start, length and position
 abbrev pub windowIn : List ℕ → Window
 windowIn slots = record { start = get_or slots 0 0; len = get_or slots 1 0; position = get_or slots 2 0 }
 
 abbrev pub windowWords : Window → List ℕ
 windowWords w = w.start ∷ w.len ∷ w.position ∷ []
 
-unfoldable pub windowReply : List ℕ → Result Window Refusal → Reply
-windowReply before (Ok w) = accepts (windowWords w)
-windowReply before (Err c) = refuses before c
+abbrev pub totalsWords : Totals → List ℕ
+totalsWords t = t.used ∷ t.largest ∷ t.edits ∷ []
 
-unfoldable pub soughtReply : List ℕ → Result Window Refusal → Reply
-soughtReply before (Ok w) = accepts (windowWords w)
-soughtReply before (Err c) = refuses before c
-
--- ---- headers
-
--- slots after a verdict: with these words, or as they were
-unfoldable pub verdictReply : List ℕ → Verdict → List ℕ → Reply
-verdictReply before (Ok _) ws = accepts ws
-verdictReply before (Err c) ws = refuses before c
-
-abbrev pub recordReply : List ℕ → RecordMade → Reply
-recordReply before a = verdictReply before a.verdict (totalsWords a.totals)
+-- kind 0 with offset and size, kind 1 with parent and next
+abbrev pub entryWords : ℕ → Entry → List ℕ
+entryWords k (File f) = k ∷ 0 ∷ f.offset ∷ f.size ∷ []
+entryWords k (Directory d) = k ∷ 1 ∷ d.parent ∷ d.next ∷ []
 
 -- "7 text and 11 data offsets, then addresses, then sizes in that order, BSS address, BSS size, entry point"
 unfoldable pub dolWords : DolHeader → List ℕ
@@ -136,9 +95,32 @@ dolWords h =
     (h.text_offsets ++ h.data_offsets)
     ++ ((h.text_addresses ++ h.data_addresses) ++ ((h.text_sizes ++ h.data_sizes) ++ (h.bss_address ∷ h.bss_size ∷ h.entry_point ∷ [])))
 
+-- ---- answers of other forms, over the slots as they were
+
+-- a program has at least 0xE4 bytes, so size 0 is none
+unfoldable pub programReply : List ℕ → Program → Reply
+programReply before (program.At r) = accepts (regionWords r)
+programReply before program.None = accepts (0 ∷ 0 ∷ [])
+programReply before (program.Refused c) = refuses before c
+
+unfoldable pub foundReply : List ℕ → Found → Reply
+foundReply before (found.At k e) = accepts (entryWords k e)
+foundReply before (found.Refused c) = refuses before c
+
+abbrev pub recordReply : List ℕ → RecordMade → Reply
+recordReply before a = verdictReply before a.verdict (totalsWords a.totals)
+
 -- the header's slots, and the window's
 abbrev pub dolReply : List ℕ → DolFile → Reply
 dolReply before f = verdictReply before f.verdict (dolWords f.header)
 
 abbrev pub dolWindowReply : List ℕ → DolFile → Reply
 dolWindowReply before f = verdictReply before f.verdict (windowWords f.window)
+
+-- ---- the edits, for `Edited`: one that gives only that it is done, and one that gives an entry's number
+
+abbrev pub done : Verdict → ℕ → ℕ
+done v k = numberTold v
+
+abbrev pub numbered : List ℕ → Verdict → ℕ → Reply
+numbered before v k = replied one before (numberedAs v k)

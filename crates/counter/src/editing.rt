@@ -4,21 +4,11 @@ ghost use Rattle.edits.specs.Edits as edits;
 ghost use Rattle.edits.specs.Promise.{Edited, lent};
 ghost use Rattle.totals.specs.Totals.{totalsIn};
 ghost use Rattle.pipeline.specs.Inner.Decides.{editOf};
-ghost use Rattle.counter.specs.Replies.{reply, verdictNumber, locatedReply, done, numbered};
+ghost use Rattle.counter.specs.Replies.{reply, done, numbered};
 
+use crate::answer::{give, number_of};
 use pipeline::Edit;
-use refusal::{Refusal, Verdict};
 use totals::Record;
-
-#[tactic(auto, unfolding(crate::specs::Replies::verdictNumber))]
-fn number_of(verdict: Verdict) -> u32
-    ensures { result ≡ verdictNumber verdict }
-{
-    match verdict {
-        Ok(()) => 0,
-        Err(cause) => cause.number(),
-    }
-}
 
 // An edit that gives only that it is done.
 fn give_done(
@@ -31,8 +21,7 @@ fn give_done(
 ) -> u32
     ensures { Edited done (editOf edit text.now) (lent image.old words.old bytes.old (totalsIn «record».old)) (lent image.new words.new bytes.new (totalsIn «record».new)) result }
 {
-    let verdict = pipeline::done(image, words, bytes, record, edit, text);
-    number_of(verdict)
+    number_of(pipeline::done(image, words, bytes, record, edit, text))
 }
 
 #[unsafe(no_mangle)]
@@ -105,19 +94,6 @@ pub extern "C" fn counter_rewrite(
 
 // ---- the edits that add entries, each with the number of the entry that it gives
 
-#[tactic(auto, unfolding(crate::specs::Replies::locatedReply))]
-fn give_located(answer: &mut [u32; 1], located: Result<u32, Refusal>) -> u32
-    ensures { reply result answer.new ≡ locatedReply answer.old located }
-{
-    match located {
-        Ok(number) => {
-            *answer = [number];
-            0
-        }
-        Err(cause) => cause.number(),
-    }
-}
-
 fn give_entry(
     image: &mut [u8],
     words: &mut [u32],
@@ -129,8 +105,10 @@ fn give_entry(
 ) -> u32
     ensures { Edited (numbered answer.old) (editOf edit text.now) (lent image.old words.old bytes.old (totalsIn «record».old)) (lent image.new words.new bytes.new (totalsIn «record».new)) (reply result answer.new) }
 {
-    let located = pipeline::run(image, words, bytes, record, edit, text);
-    give_located(answer, located)
+    give(
+        answer,
+        pipeline::run(image, words, bytes, record, edit, text),
+    )
 }
 
 #[unsafe(no_mangle)]

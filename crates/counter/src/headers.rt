@@ -5,6 +5,7 @@ ghost use Rattle.header.specs.Verdicts.{headerVerdict};
 ghost use Rattle.files.specs.Files.{openDolAnswer};
 ghost use Rattle.counter.specs.Replies.{Read, reply, verdictReply, dolWords, dolReply, dolWindowReply};
 
+use crate::answer::number_of;
 use disc_header::DiscHeader;
 use dol::DolHeader;
 
@@ -18,8 +19,7 @@ pub extern "C" fn counter_header(image: &[u8], fields: &mut [u8; 0x440]) -> u32
     match verdict {
         Ok(()) => {
             let header = read.header;
-            let _ = header.write_to(fields);
-            0
+            number_of(header.write_to(fields))
         }
         Err(cause) => cause.number(),
     }
@@ -32,11 +32,7 @@ fn put_words(slots: &mut [u32], at: usize, source: &[u32])
     requires { at + length source.now ≤ length slots.old }
     ensures { slots.new ≡ put slots.old at source.now }
 {
-    let mut i = 0;
-    while i < source.len() {
-        slots[at + i] = source[i];
-        i += 1;
-    }
+    slots[at..at + source.len()].copy_from_slice(source);
 }
 
 // A word for each text section, then one for each data section.
@@ -65,7 +61,6 @@ fn give_dol_header(slots: &mut [u32; 57], h: DolHeader)
     slots[56] = h.entry_point;
 }
 
-#[tactic(auto, unfolding(crate::specs::Replies::verdictReply))]
 #[unsafe(no_mangle)]
 pub extern "C" fn counter_open_dol(
     image: &[u8],

@@ -2,6 +2,7 @@
 // 0 where it is accepted, and else document 01's number of the refusal; an answer goes into the slots.
 #![tactic(auto)]
 
+mod answer;
 mod editing;
 mod headers;
 mod reading;

@@ -2,28 +2,14 @@
 ghost use Rattle.std.specs.Prelude.{◌≡◌, length};
 ghost use Rattle.disc.specs.Calls.{opened_of, totalsAnswer, recordAnswer, programAnswer};
 ghost use Rattle.files.specs.Files.{entryAnswer, lookupAnswer, entriesAnswer, entriesList};
-ghost use Rattle.counter.specs.Replies.{Read, reply, openedReply, foundReply, totalsReply, recordReply, programReply};
+ghost use Rattle.counter.specs.Replies.{Read, reply, replied, discWords, discTotalsWords, foundReply, recordReply, programReply};
 
-use answers::Disc;
+use crate::answer::give;
 use program::Program;
-use refusal::Refusal;
 use totals::Record;
 use tree::{Entry, Found};
 
-// ---- answers that several calls give
-
-#[tactic(auto, unfolding(crate::specs::Replies::openedReply))]
-fn give_opened(answer: &mut [u32; 5], opened: Result<Disc, Refusal>) -> u32
-    ensures { reply result answer.new ≡ openedReply answer.old opened }
-{
-    match opened {
-        Ok(d) => {
-            *answer = [d.fst_offset, d.fst_size, d.disc_end, d.entries, d.used];
-            0
-        }
-        Err(cause) => cause.number(),
-    }
-}
+// ---- an answer that two calls give
 
 #[tactic(auto, unfolding(crate::specs::Replies::foundReply))]
 fn give_found(answer: &mut [u32; 4], found: Found) -> u32
@@ -45,29 +31,19 @@ fn give_found(answer: &mut [u32; 4], found: Found) -> u32
 
 #[unsafe(no_mangle)]
 pub extern "C" fn counter_open(image: &[u8], words: &mut [u32], answer: &mut [u32; 5]) -> u32
-    ensures { Read (openedReply answer.old (opened_of image.now (length words.old))) (reply result answer.new) words.old words.new }
+    ensures { Read (replied discWords answer.old (opened_of image.now (length words.old))) (reply result answer.new) words.old words.new }
 {
-    let opened = disc::open(image, words);
-    give_opened(answer, opened)
+    give(answer, disc::open(image, words))
 }
 
-#[tactic(auto, unfolding(crate::specs::Replies::totalsReply))]
 #[unsafe(no_mangle)]
 pub extern "C" fn counter_totals(image: &[u8], words: &mut [u32], answer: &mut [u32; 2]) -> u32
-    ensures { Read (totalsReply answer.old (totalsAnswer image.now (length words.old))) (reply result answer.new) words.old words.new }
+    ensures { Read (replied discTotalsWords answer.old (totalsAnswer image.now (length words.old))) (reply result answer.new) words.old words.new }
 {
-    let totals = disc::totals(image, words);
-    match totals {
-        Ok(t) => {
-            *answer = [t.disc_end, t.used];
-            0
-        }
-        Err(cause) => cause.number(),
-    }
+    give(answer, disc::totals(image, words))
 }
 
 // A totals record of the image, its count 0: used bytes, the largest free region's size, accepted edits.
-#[tactic(auto, unfolding(crate::specs::Replies::verdictReply))]
 #[unsafe(no_mangle)]
 pub extern "C" fn counter_make_record(image: &[u8], words: &mut [u32], record: &mut Record) -> u32
     ensures { Read (recordReply «record».old (recordAnswer image.now (length words.old))) (reply result «record».new) words.old words.new }
@@ -113,8 +89,7 @@ pub extern "C" fn counter_entry(
 ) -> u32
     ensures { Read (foundReply answer.old (entryAnswer image.now (length words.old) number)) (reply result answer.new) words.old words.new }
 {
-    let found = files::entry(image, words, number);
-    give_found(answer, found)
+    give_found(answer, files::entry(image, words, number))
 }
 
 #[unsafe(no_mangle)]
@@ -127,8 +102,7 @@ pub extern "C" fn counter_lookup(
 ) -> u32
     ensures { Read (foundReply answer.old (lookupAnswer image.now (length words.old) start path.now)) (reply result answer.new) words.old words.new }
 {
-    let found = files::lookup(image, words, start, path);
-    give_found(answer, found)
+    give_found(answer, files::lookup(image, words, start, path))
 }
 
 #[unsafe(no_mangle)]
@@ -138,8 +112,7 @@ pub extern "C" fn counter_entries(
     list: &mut [u32],
     answer: &mut [u32; 5],
 ) -> u32
-    ensures { Read (openedReply answer.old (entriesAnswer image.now (length words.old) (length list.old))) (reply result answer.new) words.old words.new × (list.new ≡ entriesList image.now (length words.old) list.old) }
+    ensures { Read (replied discWords answer.old (entriesAnswer image.now (length words.old) (length list.old))) (reply result answer.new) words.old words.new × (list.new ≡ entriesList image.now (length words.old) list.old) }
 {
-    let opened = files::entries(image, words, list);
-    give_opened(answer, opened)
+    give(answer, files::entries(image, words, list))
 }

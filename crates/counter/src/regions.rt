@@ -3,15 +3,15 @@ ghost use Rattle.std.specs.Prelude.{◌≡◌, ℕ, ◌^◌, ◌<◌, length};
 ghost use Rattle.disc.specs.Calls.{freeRegionsAnswer, freeRegionsList, freeClustersAnswer, freeClustersList, allocateAnswer};
 ghost use Rattle.answers.specs.Answers.{maxRegionSizeAnswer};
 ghost use Rattle.files.specs.Files.{maxFileSizeAnswer};
-ghost use Rattle.counter.specs.Replies.{Read, reply, listingReply, sizeReply, allocationReply};
+ghost use Rattle.counter.specs.Replies.{Read, reply, replied, one, regionWords};
 
+use crate::answer::give;
 use refusal::Refusal;
 
 // How many regions there are; their number fits a slot, since each has a byte below the disc end.
-#[tactic(auto, unfolding(crate::specs::Replies::listingReply))]
 fn give_listing(answer: &mut [u32; 1], listing: Result<usize, Refusal>) -> u32
     requires { (n : ℕ) → listing ≡ Ok n → n < 2 ^ 32 }
-    ensures { reply result answer.new ≡ listingReply answer.old listing }
+    ensures { reply result answer.new ≡ replied one answer.old listing }
 {
     match listing {
         Ok(n) => {
@@ -29,10 +29,9 @@ pub extern "C" fn counter_free_regions(
     list: &mut [u32],
     answer: &mut [u32; 1],
 ) -> u32
-    ensures { Read (listingReply answer.old (freeRegionsAnswer image.now (length words.old) (length list.old))) (reply result answer.new) words.old words.new × (list.new ≡ freeRegionsList image.now (length words.old) list.old) }
+    ensures { Read (replied one answer.old (freeRegionsAnswer image.now (length words.old) (length list.old))) (reply result answer.new) words.old words.new × (list.new ≡ freeRegionsList image.now (length words.old) list.old) }
 {
-    let listing = disc::free_regions(image, words, list);
-    give_listing(answer, listing)
+    give_listing(answer, disc::free_regions(image, words, list))
 }
 
 #[unsafe(no_mangle)]
@@ -42,23 +41,9 @@ pub extern "C" fn counter_free_clusters(
     list: &mut [u32],
     answer: &mut [u32; 1],
 ) -> u32
-    ensures { Read (listingReply answer.old (freeClustersAnswer image.now (length words.old) (length list.old))) (reply result answer.new) words.old words.new × (list.new ≡ freeClustersList image.now (length words.old) list.old) }
+    ensures { Read (replied one answer.old (freeClustersAnswer image.now (length words.old) (length list.old))) (reply result answer.new) words.old words.new × (list.new ≡ freeClustersList image.now (length words.old) list.old) }
 {
-    let listing = disc::free_clusters(image, words, list);
-    give_listing(answer, listing)
-}
-
-#[tactic(auto, unfolding(crate::specs::Replies::sizeReply))]
-fn give_size(answer: &mut [u32; 1], size: Result<u32, Refusal>) -> u32
-    ensures { reply result answer.new ≡ sizeReply answer.old size }
-{
-    match size {
-        Ok(n) => {
-            *answer = [n];
-            0
-        }
-        Err(cause) => cause.number(),
-    }
+    give_listing(answer, disc::free_clusters(image, words, list))
 }
 
 #[unsafe(no_mangle)]
@@ -69,10 +54,9 @@ pub extern "C" fn counter_max_region_size(
     size: u32,
     answer: &mut [u32; 1],
 ) -> u32
-    ensures { Read (sizeReply answer.old (maxRegionSizeAnswer image.now (length words.old) offset size)) (reply result answer.new) words.old words.new }
+    ensures { Read (replied one answer.old (maxRegionSizeAnswer image.now (length words.old) offset size)) (reply result answer.new) words.old words.new }
 {
-    let most = disc::max_region_size(image, words, offset, size);
-    give_size(answer, most)
+    give(answer, disc::max_region_size(image, words, offset, size))
 }
 
 #[unsafe(no_mangle)]
@@ -82,13 +66,11 @@ pub extern "C" fn counter_max_file_size(
     number: u32,
     answer: &mut [u32; 1],
 ) -> u32
-    ensures { Read (sizeReply answer.old (maxFileSizeAnswer image.now (length words.old) number)) (reply result answer.new) words.old words.new }
+    ensures { Read (replied one answer.old (maxFileSizeAnswer image.now (length words.old) number)) (reply result answer.new) words.old words.new }
 {
-    let most = files::max_file_size(image, words, number);
-    give_size(answer, most)
+    give(answer, files::max_file_size(image, words, number))
 }
 
-#[tactic(auto, unfolding(crate::specs::Replies::allocationReply))]
 #[unsafe(no_mangle)]
 pub extern "C" fn counter_allocate(
     image: &[u8],
@@ -97,14 +79,7 @@ pub extern "C" fn counter_allocate(
     align: u32,
     answer: &mut [u32; 2],
 ) -> u32
-    ensures { Read (allocationReply answer.old (allocateAnswer image.now (length words.old) size align)) (reply result answer.new) words.old words.new }
+    ensures { Read (replied regionWords answer.old (allocateAnswer image.now (length words.old) size align)) (reply result answer.new) words.old words.new }
 {
-    let allocation = disc::allocate(image, words, size, align);
-    match allocation {
-        Ok(region) => {
-            *answer = [region.offset, region.size];
-            0
-        }
-        Err(cause) => cause.number(),
-    }
+    give(answer, disc::allocate(image, words, size, align))
 }

@@ -1,9 +1,10 @@
 // The listing of an image as text.
 ghost use Rattle.std.specs.Prelude.{◌≡◌, [], ◌∷◌, length};
 ghost use Rattle.listing.specs.Listing.{listAnswer, listBuffer, reportAnswer, reportBuffer};
-ghost use Rattle.counter.specs.Replies.{Read, reply, accepts, listedReply};
+ghost use Rattle.counter.specs.Replies.{Read, reply, accepts, replied, one};
 
-#[tactic(auto, unfolding(crate::specs::Replies::listedReply))]
+use crate::answer::give;
+
 #[unsafe(no_mangle)]
 pub extern "C" fn counter_list(
     image: &[u8],
@@ -11,16 +12,9 @@ pub extern "C" fn counter_list(
     text: &mut [u8],
     answer: &mut [u64; 1],
 ) -> u32
-    ensures { Read (listedReply answer.old (listAnswer image.now (length words.old) (length text.old))) (reply result answer.new) words.old words.new × (text.new ≡ listBuffer image.now (length words.old) text.old) }
+    ensures { Read (replied one answer.old (listAnswer image.now (length words.old) (length text.old))) (reply result answer.new) words.old words.new × (text.new ≡ listBuffer image.now (length words.old) text.old) }
 {
-    let listed = listing::list(image, words, text);
-    match listed {
-        Ok(n) => {
-            *answer = [n as u64];
-            0
-        }
-        Err(cause) => cause.number(),
-    }
+    give(answer, listing::list(image, words, text))
 }
 
 // What the listing program writes; never refused.

@@ -3,8 +3,9 @@ ghost use Rattle.std.specs.Prelude.{◌≡◌, [], ◌∷◌, length};
 ghost use Rattle.window.specs.Window.{seekOf, count_of, movedOn, bufferOf};
 ghost use Rattle.window.specs.declared.SeekFrom.TheVariants.{Start, Current, End};
 ghost use Rattle.files.specs.Files.{openFileAnswer};
-ghost use Rattle.counter.specs.Replies.{Read, reply, windowIn, windowWords, windowReply, soughtReply};
+ghost use Rattle.counter.specs.Replies.{Read, reply, replied, windowIn, windowWords};
 
+use crate::answer::give;
 use window::{SeekFrom, Window};
 
 fn window_in(slots: &[u64; 3]) -> Window
@@ -17,7 +18,6 @@ fn window_in(slots: &[u64; 3]) -> Window
     }
 }
 
-#[tactic(auto, unfolding(crate::specs::Replies::windowReply))]
 #[unsafe(no_mangle)]
 pub extern "C" fn counter_open_file(
     image: &[u8],
@@ -25,50 +25,35 @@ pub extern "C" fn counter_open_file(
     number: u32,
     window: &mut [u64; 3],
 ) -> u32
-    ensures { Read (windowReply window.old (openFileAnswer image.now (length words.old) number)) (reply result window.new) words.old words.new }
+    ensures { Read (replied windowWords window.old (openFileAnswer image.now (length words.old) number)) (reply result window.new) words.old words.new }
 {
-    let opened = files::open_file(image, words, number);
-    match opened {
-        Ok(w) => {
-            *window = [w.start, w.len, w.position];
-            0
-        }
-        Err(cause) => cause.number(),
-    }
+    give(window, files::open_file(image, words, number))
 }
 
-#[tactic(auto, unfolding(crate::specs::Replies::soughtReply))]
 fn seek(window: &mut [u64; 3], to: SeekFrom) -> u32
-    ensures { reply result window.new ≡ soughtReply window.old (seekOf (windowIn window.old) to) }
+    ensures { reply result window.new ≡ replied windowWords window.old (seekOf (windowIn window.old) to) }
 {
     let before = window_in(window);
-    let sought = before.seek(to);
-    match sought {
-        Ok(w) => {
-            *window = [w.start, w.len, w.position];
-            0
-        }
-        Err(cause) => cause.number(),
-    }
+    give(window, before.seek(to))
 }
 
 #[unsafe(no_mangle)]
 pub extern "C" fn counter_seek_start(window: &mut [u64; 3], position: u64) -> u32
-    ensures { reply result window.new ≡ soughtReply window.old (seekOf (windowIn window.old) (Start position)) }
+    ensures { reply result window.new ≡ replied windowWords window.old (seekOf (windowIn window.old) (Start position)) }
 {
     seek(window, SeekFrom::Start(position))
 }
 
 #[unsafe(no_mangle)]
 pub extern "C" fn counter_seek_current(window: &mut [u64; 3], distance: i64) -> u32
-    ensures { reply result window.new ≡ soughtReply window.old (seekOf (windowIn window.old) (Current distance)) }
+    ensures { reply result window.new ≡ replied windowWords window.old (seekOf (windowIn window.old) (Current distance)) }
 {
     seek(window, SeekFrom::Current(distance))
 }
 
 #[unsafe(no_mangle)]
 pub extern "C" fn counter_seek_end(window: &mut [u64; 3], distance: i64) -> u32
-    ensures { reply result window.new ≡ soughtReply window.old (seekOf (windowIn window.old) (End distance)) }
+    ensures { reply result window.new ≡ replied windowWords window.old (seekOf (windowIn window.old) (End distance)) }
 {
     seek(window, SeekFrom::End(distance))
 }

@@ -1,7 +1,6 @@
 -- One reply of each kind, by computing: every slot holds a number of its own, in the order that host/include/counter.h gives them, so that the
 -- order is said twice. Assumes nothing.
-use Rattle.std.specs.Prelude.{Ok, Err}
-use Rattle.std.specs.Prelude.{ℕ, zero, suc, ◌≡◌, refl, List, [], ◌∷◌}
+use Rattle.std.specs.Prelude.{Ok, Err, ℕ, zero, suc, ◌≡◌, refl, List, [], ◌∷◌}
 use Rattle.refusal.specs.declared.Refusal.TheVariants.{LimitOrMemory, NoSuchEntry, ExpectedFile, NotFound, NotEnoughSpace, InvalidSeek, InvalidDol, TotalsOutOfRange}
 use Rattle.tree.specs.declared.Entry.TheVariants.{File, Directory}
 use Rattle.tree.specs.declared.Found.TheVariants as found
@@ -11,7 +10,7 @@ use Rattle.totals.specs.Totals.{totalsIn}
 use Rattle.program.specs.declared.Program.TheVariants as program
 use Rattle.window.specs.declared.Window.{Window}
 use Rattle.opening.specs.Opening.{zeros}
-use Rattle.counter.specs.Replies.{Reply, reply, Read, openedReply, totalsReply, programReply, foundReply, listingReply, sizeReply, allocationReply, listedReply, locatedReply, verdictNumber, done, numbered, windowIn, windowReply, soughtReply, verdictReply, recordReply, dolWords, dolReply, dolWindowReply}
+use Rattle.counter.specs.Replies.{Reply, reply, Read, replied, discWords, discTotalsWords, regionWords, one, windowIn, windowWords, dolWords, programReply, foundReply, recordReply, dolReply, dolWindowReply, done, numbered}
 
 -- slots as they were before the call
 abbrev old : List ℕ
@@ -25,11 +24,11 @@ rising a (suc n) = a ∷ rising (suc a) n
 -- "answer[5]: FST offset, FST size, disc end, entries, used total."; "answer[2]: disc end, used total."; "answer[2]: DOL offset, and the larger of
 -- the file size and 0xE4; both 0 where the DOL offset is 0."
 disc-slots :
-    (openedReply old (Ok (record { fst_offset = 1; fst_size = 2; disc_end = 3; entries = 4; used = 5 })) ≡ reply 0 (1 ∷ 2 ∷ 3 ∷ 4 ∷ 5 ∷ [])) ×
-    (totalsReply old (Ok (record { disc_end = 1; used = 2 })) ≡ reply 0 (1 ∷ 2 ∷ [])) ×
+    (replied discWords old (Ok (record { fst_offset = 1; fst_size = 2; disc_end = 3; entries = 4; used = 5 })) ≡ reply 0 (1 ∷ 2 ∷ 3 ∷ 4 ∷ 5 ∷ [])) ×
+    (replied discTotalsWords old (Ok (record { disc_end = 1; used = 2 })) ≡ reply 0 (1 ∷ 2 ∷ [])) ×
     (programReply old (program.At (record { offset = 1; size = 2 })) ≡ reply 0 (1 ∷ 2 ∷ [])) ×
     (programReply old program.None ≡ reply 0 (0 ∷ 0 ∷ []))
-unfolding openedReply totalsReply programReply
+unfolding programReply
 disc-slots = (refl, refl, refl, refl)
 
 -- "answer[4]: number; kind, 0 a file and 1 a directory; a file's offset, or the directory that a directory is nested in (the root: 0); a file's size,
@@ -42,14 +41,10 @@ entry-slots = (refl, refl)
 
 -- "answer[1]: how many regions."; the size of a region; "answer[2]: offset, size."; the length of a text; "the new entry's number in the new table"
 number-slots :
-    (listingReply old (Ok 1) ≡ reply 0 (1 ∷ [])) ×
-    (sizeReply old (Ok 1) ≡ reply 0 (1 ∷ [])) ×
-    (allocationReply old (Ok (record { offset = 1; size = 2 })) ≡ reply 0 (1 ∷ 2 ∷ [])) ×
-    (listedReply old (Ok 1) ≡ reply 0 (1 ∷ [])) ×
-    (locatedReply old (Ok 1) ≡ reply 0 (1 ∷ [])) ×
+    (replied one old (Ok 1) ≡ reply 0 (1 ∷ [])) ×
+    (replied regionWords old (Ok (record { offset = 1; size = 2 })) ≡ reply 0 (1 ∷ 2 ∷ [])) ×
     (numbered old (Ok tt) 1 ≡ reply 0 (1 ∷ []))
-unfolding listingReply sizeReply allocationReply listedReply locatedReply
-number-slots = (refl, refl, refl, refl, refl, refl)
+number-slots = (refl, refl, refl)
 
 -- windows: "three slots of 64 bits, start, length and position"
 
@@ -58,10 +53,8 @@ aWindow = record { start = 1; len = 2; position = 3 }
 
 window-slots :
     (windowIn (1 ∷ 2 ∷ 3 ∷ []) ≡ aWindow) ×
-    (windowReply old (Ok aWindow) ≡ reply 0 (1 ∷ 2 ∷ 3 ∷ [])) ×
-    (soughtReply old (Ok aWindow) ≡ reply 0 (1 ∷ 2 ∷ 3 ∷ []))
-unfolding windowReply soughtReply
-window-slots = (refl, refl, refl)
+    (replied windowWords old (Ok aWindow) ≡ reply 0 (1 ∷ 2 ∷ 3 ∷ []))
+window-slots = (refl, refl)
 
 -- the record: "three slots, used bytes, the size of the largest free region (0 if there is none), and how many edits were accepted"
 
@@ -69,7 +62,6 @@ abbrev aRecord : Totals
 aRecord = record { used = 1; largest = 2; edits = 3 }
 
 record-slots : (totalsIn (1 ∷ 2 ∷ 3 ∷ []) ≡ aRecord) × (recordReply old (record { verdict = Ok tt; totals = aRecord }) ≡ reply 0 (1 ∷ 2 ∷ 3 ∷ []))
-unfolding verdictReply
 record-slots = (refl, refl)
 
 -- "header[57]: 7 text and 11 data offsets, 7 and 11 addresses, 7 and 11 sizes, BSS address, BSS size, entry point. window[3]: .."
@@ -90,32 +82,30 @@ aHeader = record {
 dol-slots :
     (dolReply old (record { verdict = Ok tt; header = aHeader; window = aWindow }) ≡ reply 0 (rising 1 57)) ×
     (dolWindowReply old (record { verdict = Ok tt; header = aHeader; window = aWindow }) ≡ reply 0 (1 ∷ 2 ∷ 3 ∷ []))
-unfolding rising dolWords verdictReply
+unfolding rising dolWords
 dol-slots = (refl, refl)
 
 -- "with a number other than 0 they stay as they were"
 refused-slots :
-    (openedReply old (Err LimitOrMemory) ≡ reply 9 old) ×
-    (totalsReply old (Err LimitOrMemory) ≡ reply 9 old) ×
+    (replied discWords old (Err LimitOrMemory) ≡ reply 9 old) ×
+    (replied discTotalsWords old (Err LimitOrMemory) ≡ reply 9 old) ×
     (programReply old (program.Refused InvalidDol) ≡ reply 24 old) ×
     (foundReply old (found.Refused NotFound) ≡ reply 18 old) ×
-    (listingReply old (Err LimitOrMemory) ≡ reply 9 old) ×
-    (sizeReply old (Err ExpectedFile) ≡ reply 16 old) ×
-    (allocationReply old (Err NotEnoughSpace) ≡ reply 21 old) ×
-    (listedReply old (Err LimitOrMemory) ≡ reply 9 old) ×
-    (locatedReply old (Err NoSuchEntry) ≡ reply 15 old) ×
+    (replied one old (Err LimitOrMemory) ≡ reply 9 old) ×
+    (replied one old (Err ExpectedFile) ≡ reply 16 old) ×
+    (replied regionWords old (Err NotEnoughSpace) ≡ reply 21 old) ×
+    (replied one old (Err NoSuchEntry) ≡ reply 15 old) ×
     (numbered old (Err TotalsOutOfRange) 1 ≡ reply 25 old) ×
-    (windowReply old (Err ExpectedFile) ≡ reply 16 old) ×
-    (soughtReply old (Err InvalidSeek) ≡ reply 23 old) ×
+    (replied windowWords old (Err ExpectedFile) ≡ reply 16 old) ×
+    (replied windowWords old (Err InvalidSeek) ≡ reply 23 old) ×
     (recordReply old (record { verdict = Err LimitOrMemory; totals = aRecord }) ≡ reply 9 old) ×
     (dolReply old (record { verdict = Err InvalidDol; header = aHeader; window = aWindow }) ≡ reply 24 old) ×
     (dolWindowReply old (record { verdict = Err InvalidDol; header = aHeader; window = aWindow }) ≡ reply 24 old)
-unfolding openedReply totalsReply programReply foundReply listingReply sizeReply allocationReply listedReply locatedReply windowReply soughtReply verdictReply
-refused-slots = (refl, refl, refl, refl, refl, refl, refl, refl, refl, refl, refl, refl, refl, refl, refl)
+unfolding programReply foundReply
+refused-slots = (refl, refl, refl, refl, refl, refl, refl, refl, refl, refl, refl, refl, refl, refl)
 
 -- "Every function returns 0 where it is accepted, and else the number of the first test that failed"
 done-number : (done (Ok tt) 1 ≡ 0) × (done (Err NotEnoughSpace) 1 ≡ 21)
-unfolding verdictNumber
 done-number = (refl, refl)
 
 -- LAW: a call that reads gives back what is wanted, and zero working words
