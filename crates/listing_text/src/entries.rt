@@ -80,10 +80,8 @@ fn put_parent(
     ensures { Wrote text.old text.new at (0x20 ∷ pathOf (nodesOf table.now) (parent_of (nodesOf table.now) k)) result }
 {
     let mut end = text_buffer::put_text(text, at, b" /", 0);
-    let mut i = 1;
-    while i < depth {
+    for i in 1..depth {
         end = put_name(table, dirs[i], text, end);
-        i += 1;
     }
     end
 }
@@ -123,12 +121,10 @@ pub fn put_entries(table: &[u8], text: &mut [u8], at: usize) -> usize
     let mut dirs: [usize; 65] = [0; 65];
     let mut depth = 1;
     let mut end = put_root(table, text, at);
-    let mut k = 1;
-    while k < count {
+    for k in 1..count {
         depth = shut(table, &dirs, depth, k);
         end = put_entry(table, &dirs, depth, k, text, end);
         depth = enter(table, &mut dirs, depth, k);
-        k += 1;
     }
     end
 }

@@ -21,14 +21,10 @@ pub fn put_regions(words: &[u32], count: usize, disc_end: u32, text: &mut [u8], 
     ensures { Wrote text.old text.new at (regionLines (freeRegions disc_end (regionsIn words.now 0 count))) result }
 {
     let mut end = at;
-    let mut i = 0;
-    while i <= count {
+    for i in 0..=count {
         let gap = free_space::gap_at(words, count, disc_end, i);
-        if gap.size == 0 {
-            i += 1;
-        } else {
+        if gap.size != 0 {
             end = put_region(text, end, gap);
-            i += 1;
         }
     }
     end

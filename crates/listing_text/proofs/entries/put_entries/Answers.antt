@@ -9,10 +9,10 @@ pub count-count-requires : goal.count-count-requires
 count-count-requires c = opens-long _ c.requires
 
 pub loop-k-init : goal.loop-k-init
-loop-k-init c = let r : Read c.args.table.now = read _ (λ i. omega (arith, c.type_inv.table i)) c.requires in (omega arith, omega (arith, opens-some _ c.requires), chain-start _ r, climbs-start _, walk_start _ _ _)
+loop-k-init c = let r : Read c.args.table.now = read _ (λ i. omega (arith, c.type_inv.table i)) c.requires in (chain-start _ r, climbs-start _, walk_start _ _ _)
 
 pub loop-k-preserved : goal.loop-k-preserved
-loop-k-preserved c = (omega arith, omega arith, c.enter-depth.ensures.chain, c.enter-depth.ensures.k_value, search walk_turn)
+loop-k-preserved c = (c.enter-depth.ensures.chain, c.enter-depth.ensures.k_value, search walk_turn)
 
 pub returns : goal.returns
-returns c = search walk_end
+returns c = walk_end c.loop-k.invariant.2 _ _ c.count-count.ensures (omega (arith, opens-some _ c.requires)) c.loop-k-test.false c.put_root-end.ensures
