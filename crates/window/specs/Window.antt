@@ -2,9 +2,8 @@
 -- distance is added modulo 2^64. Refused 23 if start + position passes 2^64 - 1; current with distance 0 always succeeds. A read gives
 -- the least of the bytes asked for, left in the window and left in the image, and none past either; the rest of the buffer stays."
 -- Numbers are whole numbers, and `a - b` is 0 where b is larger. Assumes nothing: these are definitions.
-use Rattle.std.specs.Prelude.{Result, Ok, Err}
 use Rattle.refusal.specs.declared.Refusal.{Refusal}
-use Rattle.std.specs.Prelude.{ℕ, zero, suc, ◌+◌, ◌-◌, ◌%◌, ◌^◌, min, Bool, true, false, List, length, ℤ, pos, negsuc, nat_lt}
+use Rattle.std.specs.Prelude.{ℕ, zero, suc, ◌+◌, ◌-◌, ◌%◌, ◌^◌, min, Bool, true, false, List, length, ℤ, pos, negsuc, nat_lt, Result, Ok, Err}
 use Rattle.endian.specs.Bytes.{put, span}
 use Rattle.refusal.specs.declared.Refusal.TheVariants.{InvalidSeek}
 use Rattle.window.specs.declared.Window.{Window}

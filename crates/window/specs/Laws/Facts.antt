@@ -1,7 +1,6 @@
 -- What the definitions of `Window` say, in plain numbers: a distance added, what a seek is judged by, and how far a read goes.
 -- Assumes nothing.
-use Rattle.std.specs.Prelude.{Ok, Err}
-use Rattle.std.specs.Prelude.{◌≡◌, ℕ, suc, ◌+◌, ◌-◌, ◌^◌, ◌<◌, ◌≤◌, List, length, pos, negsuc, slice_index}
+use Rattle.std.specs.Prelude.{◌≡◌, ℕ, suc, ◌+◌, ◌-◌, ◌^◌, ◌<◌, ◌≤◌, List, length, pos, negsuc, slice_index, Ok, Err}
 use Rattle.std.proofs.Common.{◌∙◌, arith, zero-add, length-take, length-drop, lt-ltb, le-ltb}
 use Rattle.endian.specs.Bytes.{span}
 use Rattle.endian.specs.Laws.Stored.{length-put, put_in, put-after, getD-span}

@@ -1,7 +1,6 @@
 -- Document 01's P12 and the boundaries 0, 2^63 and 2^64 - 1, by computing. The window is that of the file `a` of the small master, 0x100
 -- bytes at 0x500, or one that starts at 0. `negsuc n` is the distance -(n + 1). Assumes nothing.
-use Rattle.std.specs.Prelude.{Ok, Err}
-use Rattle.std.specs.Prelude.{◌≡◌, ℕ, ◌+◌, ◌-◌, ◌^◌, [], ◌∷◌, pos, negsuc, refl}
+use Rattle.std.specs.Prelude.{◌≡◌, ℕ, ◌+◌, ◌-◌, ◌^◌, [], ◌∷◌, pos, negsuc, refl, Ok, Err}
 use Rattle.endian.specs.Bytes.{put}
 use Rattle.refusal.specs.declared.Refusal.TheVariants.{InvalidSeek}
 use Rattle.refusal.specs.Refusal.{number_of}
