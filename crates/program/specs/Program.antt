@@ -2,9 +2,8 @@
 -- 0xE4. It must lie wholly between 0x440 and the FST offset, as part of the used bytes 0 up to the table end, or wholly from the table end on,
 -- as a used region of its own; otherwise, or where it overlaps a file or passes the disc end, 14. At opening 24 now comes just before 14."
 -- Assumes nothing: these are definitions.
-use Rattle.std.specs.Prelude.{Ok, Err}
 use Rattle.refusal.specs.Refusal.{Verdict}
-use Rattle.std.specs.Prelude.{ℕ, ◌+◌, max, Bool, cond, ◌&&◌, List, leb, eqb}
+use Rattle.std.specs.Prelude.{ℕ, ◌+◌, max, Bool, cond, ◌&&◌, List, leb, eqb, Ok, Err}
 use Rattle.header.specs.Verdicts.{dolOffset, fstOffset}
 use Rattle.space.specs.declared.DiscRegion.{DiscRegion}
 use Rattle.dol.specs.Dol.{dolHeaderOf, fileSizeOf, dolVerdictOf}
