@@ -8,10 +8,9 @@ use native.Mathlib.Omega.{arith}
 use borrow.Author.Tests.{le-leb, lt-leb}
 use lib.ListN.{get_or}
 use lib.Dec.{leb}
-use Rattle.space.specs.Inner.Words.{AllNonempty}
+use Rattle.space.specs.Inner.Words.{AllNonempty, inSequence}
 use Rattle.space.specs.Layout.{disjointBelow}
 use Rattle.space.specs.Inner.Sort.{regionAt, regionsIn, InOrder}
-use Rattle.space.specs.Inner.Words.{inSequence}
 use Rattle.space.proofs.Pairs.{regions-none, regions-more}
 use Rattle.space.proofs.Order.{sequence-disjoint, small-regions}
 
