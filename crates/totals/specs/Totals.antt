@@ -1,10 +1,8 @@
 -- The totals record (document 02, Point 6): "Keep these three in a record that goes into an edit and comes back". Whatever the record holds
 -- joins here. Assumes nothing: these are definitions.
-use Rattle.std.specs.Prelude.{Ok}
-use Rattle.refusal.specs.Refusal.{Verdict}
-use Rattle.std.specs.Prelude.{ℕ, ◌+◌, ◌-◌, ◌^◌, List, ltb, get_or}
+use Rattle.refusal.specs.Refusal.{Verdict, refuse}
+use Rattle.std.specs.Prelude.{ℕ, ◌+◌, ◌-◌, ◌^◌, List, ltb, get_or, Ok}
 use Rattle.refusal.specs.declared.Refusal.TheVariants.{TotalsOutOfRange}
-use Rattle.refusal.specs.Refusal.{refuse}
 use Rattle.totals.specs.declared.Totals.{Totals}
 
 -- a totals record in its slots: used bytes, the largest free region's size, accepted edits

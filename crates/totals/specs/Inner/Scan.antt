@@ -1,8 +1,7 @@
 -- The largest free region once an edit is made, by one look at the used regions of before: the edited file's old place is passed over, and its
 -- new place cut out. Assumes nothing: these are definitions.
-use Rattle.std.specs.Prelude.{Ok, Err}
 use Rattle.refusal.specs.Refusal.{Verdict}
-use Rattle.std.specs.Prelude.{ℕ, ◌-◌, max, cond, ◌||◌, List, [], ◌∷◌, leb, eqb}
+use Rattle.std.specs.Prelude.{ℕ, ◌-◌, max, cond, ◌||◌, List, [], ◌∷◌, leb, eqb, Ok, Err}
 use Rattle.space.specs.declared.DiscRegion.{DiscRegion}
 use Rattle.space.specs.Used.{end_of}
 use Rattle.totals.specs.declared.Totals.{Totals}
