@@ -1,6 +1,6 @@
 -- When a decision is what a plan comes to: behind tests that passed or refused, and for a change that is written.
 -- Assumes nothing.
-use Rattle.std.specs.Prelude.{Ok, Err}
+use Rattle.std.specs.Prelude.{Result, Ok, Err}
 use Rattle.refusal.specs.Refusal.{Verdict}
 use Prim.Native.Nat.{ℕ}
 use mathlib.Core.Path.{◌≡◌, refl, sym, ap, ◌∙◌}
@@ -42,7 +42,7 @@ written_same image nodes w = refl
 
 module _ (image : List ℕ) (words room : ℕ) (bytes : List ℕ) where
   -- with any clip: none is written
-  refused-with : (clip : List ℕ) (p : Plan) (c : Refusal) → planVerdict p image words room ≡ Err c → DecidedAs (planVerdict p image words room) p image room bytes clip (decision.Refused c)
+  refused-with : (clip : List ℕ) (p : Plan) (c : Refusal) → planVerdict p image words room ≡ Err c → DecidedAs (planVerdict p image words room) p image room bytes clip (Err c)
   refused-with clip p c e = record {
     fits = tt;
     carries = tt;
@@ -50,21 +50,21 @@ module _ (image : List ℕ) (words room : ℕ) (bytes : List ℕ) where
     after = sym (ap (λ (v : Verdict). cond (is_refused v) image (planImage p image)) e);
   }
 
-  pub refused-decided : (p : Plan) (c : Refusal) → planVerdict p image words room ≡ Err c → Decided p image words room bytes (decision.Refused c)
+  pub refused-decided : (p : Plan) (c : Refusal) → planVerdict p image words room ≡ Err c → Decided p image words room bytes (Err c)
   refused-decided p c e = refused-with [] p c e
 
-  pub behind-passed : (v : Verdict) (p : Plan) (d : Decision) → v ≡ Ok tt → Decided p image words room bytes d → Decided (planned v p) image words room bytes d
+  pub behind-passed : (v : Verdict) (p : Plan) (d : Result Decision Refusal) → v ≡ Ok tt → Decided p image words room bytes d → Decided (planned v p) image words room bytes d
   behind-passed v p d e h = rw (behind.behind-passed v p e) h
 
-  pub behind-refused-with : (clip : List ℕ) (v : Verdict) (p : Plan) (c : Refusal) → v ≡ Err c → DecidedAs (planVerdict (planned v p) image words room) (planned v p) image room bytes clip (decision.Refused c)
+  pub behind-refused-with : (clip : List ℕ) (v : Verdict) (p : Plan) (c : Refusal) → v ≡ Err c → DecidedAs (planVerdict (planned v p) image words room) (planned v p) image room bytes clip (Err c)
   behind-refused-with clip v p c e = rw (behind.behind-refused v p c e) (refused-with clip (refused (Err c)) c refl)
 
-  pub behind-refused : (v : Verdict) (p : Plan) (c : Refusal) → v ≡ Err c → Decided (planned v p) image words room bytes (decision.Refused c)
+  pub behind-refused : (v : Verdict) (p : Plan) (c : Refusal) → v ≡ Err c → Decided (planned v p) image words room bytes (Err c)
   behind-refused v p c e = behind-refused-with [] v p c e
 
   -- a change whose tests passed, with its table in the working bytes
   pub write-decided : (k : ℕ) (nodes : List Node) (size : ℕ) (w : Writing) → Fits image room size w → tableVerdict (changeWith nodes w) image words room ≡ Ok tt → span bytes 0 size ≡ encode nodes →
-      Decided (change k (changeWith nodes w)) image words room bytes (decision.Write k size w)
+      Decided (change k (changeWith nodes w)) image words room bytes (Ok (decision.Write k size w))
   write-decided k nodes size w f e s = record {
     fits = (λ z. omega arith, f);
     carries = record { number = refl; table = s; change = refl };
@@ -85,23 +85,23 @@ same_tests image words room k o n nodes w = rw (limits-setPlace o n k nodes word
 
 -- ---- the answer with the entry's number
 
-pub answered : (v : Verdict) (p : Plan) (image : List ℕ) (room : ℕ) (bytes clip : List ℕ) (d : Decision) → DecidedAs v p image room bytes clip d → carriedAnswer d ≡ numberedAs v (planNumber p)
-answered v p image room bytes clip (decision.Refused c) h = rw (← h.answer)
-answered v nothing image room bytes clip decision.Nothing h = rw (← h.answer)
-answered v (refused u) image room bytes clip decision.Nothing h = absurd h.carries
-answered v (change k c) image room bytes clip decision.Nothing h = absurd h.carries
-answered v (filled k x p) image room bytes clip decision.Nothing h = absurd h.carries
-answered v nothing image room bytes clip (decision.Clip n at) h = absurd h.carries
-answered v (refused u) image room bytes clip (decision.Clip n at) h = absurd h.carries
-answered v (change k c) image room bytes clip (decision.Clip n at) h = absurd h.carries
-answered v (filled k x nothing) image room bytes clip (decision.Clip n at) h = rw (← h.answer) (ap Ok h.carries)
-answered v (filled k x (refused u)) image room bytes clip (decision.Clip n at) h = absurd h.carries
-answered v (filled k x (change j c)) image room bytes clip (decision.Clip n at) h = absurd h.carries
-answered v (filled k x (filled j y p)) image room bytes clip (decision.Clip n at) h = absurd h.carries
-answered v (change k c) image room bytes clip (decision.Write n size w) h = rw (← h.answer) (ap Ok h.carries.number)
-answered v (refused u) image room bytes clip (decision.Write n size w) h = absurd h.carries
-answered v nothing image room bytes clip (decision.Write n size w) h = absurd h.carries
-answered v (filled k x (change j c)) image room bytes clip (decision.Write n size w) h = rw (← h.answer) (ap Ok h.carries.number)
-answered v (filled k x nothing) image room bytes clip (decision.Write n size w) h = absurd h.carries
-answered v (filled k x (refused u)) image room bytes clip (decision.Write n size w) h = absurd h.carries
-answered v (filled k x (filled j y p)) image room bytes clip (decision.Write n size w) h = absurd h.carries
+pub answered : (v : Verdict) (p : Plan) (image : List ℕ) (room : ℕ) (bytes clip : List ℕ) (d : Result Decision Refusal) → DecidedAs v p image room bytes clip d → carriedAnswer d ≡ numberedAs v (planNumber p)
+answered v p image room bytes clip (Err c) h = rw (← h.answer)
+answered v nothing image room bytes clip (Ok decision.Nothing) h = rw (← h.answer)
+answered v (refused u) image room bytes clip (Ok decision.Nothing) h = absurd h.carries
+answered v (change k c) image room bytes clip (Ok decision.Nothing) h = absurd h.carries
+answered v (filled k x p) image room bytes clip (Ok decision.Nothing) h = absurd h.carries
+answered v nothing image room bytes clip (Ok (decision.Clip n at)) h = absurd h.carries
+answered v (refused u) image room bytes clip (Ok (decision.Clip n at)) h = absurd h.carries
+answered v (change k c) image room bytes clip (Ok (decision.Clip n at)) h = absurd h.carries
+answered v (filled k x nothing) image room bytes clip (Ok (decision.Clip n at)) h = rw (← h.answer) (ap Ok h.carries)
+answered v (filled k x (refused u)) image room bytes clip (Ok (decision.Clip n at)) h = absurd h.carries
+answered v (filled k x (change j c)) image room bytes clip (Ok (decision.Clip n at)) h = absurd h.carries
+answered v (filled k x (filled j y p)) image room bytes clip (Ok (decision.Clip n at)) h = absurd h.carries
+answered v (change k c) image room bytes clip (Ok (decision.Write n size w)) h = rw (← h.answer) (ap Ok h.carries.number)
+answered v (refused u) image room bytes clip (Ok (decision.Write n size w)) h = absurd h.carries
+answered v nothing image room bytes clip (Ok (decision.Write n size w)) h = absurd h.carries
+answered v (filled k x (change j c)) image room bytes clip (Ok (decision.Write n size w)) h = rw (← h.answer) (ap Ok h.carries.number)
+answered v (filled k x nothing) image room bytes clip (Ok (decision.Write n size w)) h = absurd h.carries
+answered v (filled k x (refused u)) image room bytes clip (Ok (decision.Write n size w)) h = absurd h.carries
+answered v (filled k x (filled j y p)) image room bytes clip (Ok (decision.Write n size w)) h = absurd h.carries

@@ -4,7 +4,6 @@
 mod table;
 mod written;
 
-use refusal::Refusal;
 use space::DiscRegion;
 pub use table::{check_place, check_table, write_table};
 pub use written::{finish, verdict_of};
@@ -20,11 +19,10 @@ pub struct Writing {
     pub lost_size: usize,
 }
 
-// What an edit decides on before it writes: refused, nothing to write, nothing but the clip at that offset for that entry, or a change of
-// that entry, whose table of that size stands in the working bytes. The clip that fills a file stands beside it.
+// What an edit that is not refused decides on before it writes: nothing to write, nothing but the clip at that offset for that entry, or a
+// change of that entry, whose table of that size stands in the working bytes. The clip that fills a file stands beside it.
 #[derive(Clone, Copy)]
 pub enum Decision {
-    Refused(Refusal),
     Nothing,
     Clip(u32, u32),
     Write(u32, usize, Writing),

@@ -79,13 +79,12 @@ fn carry_out(
     image: &mut [u8],
     bytes: &[u8],
     clip: &[u8],
-    decision: Decision,
+    decided: Result<Decision, Refusal>,
 ) -> Result<u32, Refusal>
-    requires { CanCarry image.old (length bytes.now) clip.now decision }
-    ensures { (result ≡ carriedAnswer decision) × (image.new ≡ carriedImage decision bytes.now clip.now image.old) }
+    requires { CanCarry image.old (length bytes.now) clip.now decided }
+    ensures { (result ≡ carriedAnswer decided) × (image.new ≡ carriedImage decided bytes.now clip.now image.old) }
 {
-    match decision {
-        Decision::Refused(cause) => Err(cause),
+    match decided? {
         Decision::Nothing => Ok(0),
         Decision::Clip(number, at) => {
             put_clip(image, at as usize, clip);
@@ -108,19 +107,19 @@ fn zero_bytes(bytes: &mut [u8])
     endian::fill(bytes, 0, n, 0);
 }
 
-// Carries a decision out, with the clip that fills the file if there is one, and zeroes the working memory.
+// Carries a decision out, with the clip that fills the file if there is one, or hands the refusal back, and zeroes the working memory.
 pub fn finish(
     image: &mut [u8],
     words: &mut [u32],
     bytes: &mut [u8],
     clip: &[u8],
-    decision: Decision,
+    decided: Result<Decision, Refusal>,
 ) -> Result<u32, Refusal>
-    requires { CanCarry image.old (length bytes.old) clip.now decision }
-    ensures value { (result ≡ carriedAnswer decision) × (image.new ≡ carriedImage decision bytes.old clip.now image.old) }
+    requires { CanCarry image.old (length bytes.old) clip.now decided }
+    ensures value { (result ≡ carriedAnswer decided) × (image.new ≡ carriedImage decided bytes.old clip.now image.old) }
     ensures words_after { (words.new ≡ replicate (length words.old) 0) × (bytes.new ≡ replicate (length bytes.old) 0) }
 {
-    let located = carry_out(image, bytes, clip, decision);
+    let located = carry_out(image, bytes, clip, decided);
     space::zero_words(words);
     zero_bytes(bytes);
     located

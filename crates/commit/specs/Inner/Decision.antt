@@ -1,4 +1,4 @@
--- What an edit decides on before it writes, and what a decision does to an image. The new table stands in the working bytes by then.
+-- What an edit decides on before it writes, or why it is refused, and what that does to an image. The new table stands in the working bytes by then.
 -- Assumes nothing: these are definitions.
 use Rattle.std.specs.Prelude.{Result, Ok, Err}
 use Rattle.refusal.specs.Refusal.{Verdict}
@@ -70,26 +70,24 @@ abbrev pub clipped : List ℕ → ℕ → List ℕ → List ℕ
 clipped image at [] = image
 clipped image at (b ∷ clip) = put image at (b ∷ clip)
 
--- ---- a decision carried out
+-- ---- a decision carried out, or a refusal handed back
 
-abbrev pub CanCarry : List ℕ → ℕ → List ℕ → Decision → Type 0
-CanCarry image room clip (decision.Refused c) = Unit {0}
-CanCarry image room clip decision.Nothing = Unit {0}
-CanCarry image room clip (decision.Clip n at) = Into (length image) at (length clip)
-CanCarry image room clip (decision.Write n size w) = Into (length image) w.place.offset (length clip) × Fits (clipped image w.place.offset clip) room size w
+abbrev pub CanCarry : List ℕ → ℕ → List ℕ → Result Decision Refusal → Type 0
+CanCarry image room clip (Err c) = Unit {0}
+CanCarry image room clip (Ok decision.Nothing) = Unit {0}
+CanCarry image room clip (Ok (decision.Clip n at)) = Into (length image) at (length clip)
+CanCarry image room clip (Ok (decision.Write n size w)) = Into (length image) w.place.offset (length clip) × Fits (clipped image w.place.offset clip) room size w
 
-abbrev pub carriedVerdict : Decision → Verdict
-carriedVerdict (decision.Refused c) = Err c
-carriedVerdict decision.Nothing = Ok tt
-carriedVerdict (decision.Clip n at) = Ok tt
-carriedVerdict (decision.Write n size w) = Ok tt
+abbrev pub carriedVerdict : Result Decision Refusal → Verdict
+carriedVerdict (Err c) = Err c
+carriedVerdict (Ok d) = Ok tt
 
 -- with the number of the entry
-abbrev pub carriedAnswer : Decision → Result ℕ Refusal
-carriedAnswer (decision.Refused c) = Err c
-carriedAnswer decision.Nothing = Ok 0
-carriedAnswer (decision.Clip n at) = Ok n
-carriedAnswer (decision.Write n size w) = Ok n
+abbrev pub carriedAnswer : Result Decision Refusal → Result ℕ Refusal
+carriedAnswer (Err c) = Err c
+carriedAnswer (Ok decision.Nothing) = Ok 0
+carriedAnswer (Ok (decision.Clip n at)) = Ok n
+carriedAnswer (Ok (decision.Write n size w)) = Ok n
 
 -- whether an edit that gives a number was accepted
 abbrev pub verdictIn : Result ℕ Refusal → Verdict
@@ -97,11 +95,11 @@ verdictIn (Ok k) = Ok tt
 verdictIn (Err c) = Err c
 
 -- the clip first, so that a table with the new place or size has the whole clip
-abbrev pub carriedImage : Decision → List ℕ → List ℕ → List ℕ → List ℕ
-carriedImage (decision.Refused c) bytes clip image = image
-carriedImage decision.Nothing bytes clip image = image
-carriedImage (decision.Clip n at) bytes clip image = clipped image at clip
-carriedImage (decision.Write n size w) bytes clip image = writtenWith w (span bytes 0 size) (clipped image w.place.offset clip)
+abbrev pub carriedImage : Result Decision Refusal → List ℕ → List ℕ → List ℕ → List ℕ
+carriedImage (Err c) bytes clip image = image
+carriedImage (Ok decision.Nothing) bytes clip image = image
+carriedImage (Ok (decision.Clip n at)) bytes clip image = clipped image at clip
+carriedImage (Ok (decision.Write n size w)) bytes clip image = writtenWith w (span bytes 0 size) (clipped image w.place.offset clip)
 
 pub record Carried (n size : ℕ) (w : Writing) (bytes : List ℕ) (k : ℕ) (c : Change) : Type 0 where
   pub number : n ≡ k
@@ -116,34 +114,34 @@ pub record Uncopied (n size : ℕ) (w : Writing) (bytes : List ℕ) (k : ℕ) (c
   pub place : c.place ≡ w.place
 
 -- what is written is the plan's change, of the plan's entry, and the table in the working bytes that of its tree
-abbrev pub Carries : Decision → List ℕ → Plan → Type 0
-Carries (decision.Refused c) bytes p = Unit {0}
-Carries decision.Nothing bytes nothing = Unit {0}
-Carries decision.Nothing bytes (refused v) = ⊥
-Carries decision.Nothing bytes (change k c) = ⊥
-Carries decision.Nothing bytes (filled k clip p) = ⊥
-Carries (decision.Clip n at) bytes (filled k clip nothing) = n ≡ k
-Carries (decision.Clip n at) bytes (filled k clip (refused v)) = ⊥
-Carries (decision.Clip n at) bytes (filled k clip (change j c)) = ⊥
-Carries (decision.Clip n at) bytes (filled k clip (filled j more p)) = ⊥
-Carries (decision.Clip n at) bytes nothing = ⊥
-Carries (decision.Clip n at) bytes (refused v) = ⊥
-Carries (decision.Clip n at) bytes (change k c) = ⊥
-Carries (decision.Write n size w) bytes (change k c) = Carried n size w bytes k c
-Carries (decision.Write n size w) bytes (refused v) = ⊥
-Carries (decision.Write n size w) bytes nothing = ⊥
-Carries (decision.Write n size w) bytes (filled k clip (change j c)) = Uncopied n size w bytes k c
-Carries (decision.Write n size w) bytes (filled k clip nothing) = ⊥
-Carries (decision.Write n size w) bytes (filled k clip (refused v)) = ⊥
-Carries (decision.Write n size w) bytes (filled k clip (filled j more p)) = ⊥
+abbrev pub Carries : Result Decision Refusal → List ℕ → Plan → Type 0
+Carries (Err c) bytes p = Unit {0}
+Carries (Ok decision.Nothing) bytes nothing = Unit {0}
+Carries (Ok decision.Nothing) bytes (refused v) = ⊥
+Carries (Ok decision.Nothing) bytes (change k c) = ⊥
+Carries (Ok decision.Nothing) bytes (filled k clip p) = ⊥
+Carries (Ok (decision.Clip n at)) bytes (filled k clip nothing) = n ≡ k
+Carries (Ok (decision.Clip n at)) bytes (filled k clip (refused v)) = ⊥
+Carries (Ok (decision.Clip n at)) bytes (filled k clip (change j c)) = ⊥
+Carries (Ok (decision.Clip n at)) bytes (filled k clip (filled j more p)) = ⊥
+Carries (Ok (decision.Clip n at)) bytes nothing = ⊥
+Carries (Ok (decision.Clip n at)) bytes (refused v) = ⊥
+Carries (Ok (decision.Clip n at)) bytes (change k c) = ⊥
+Carries (Ok (decision.Write n size w)) bytes (change k c) = Carried n size w bytes k c
+Carries (Ok (decision.Write n size w)) bytes (refused v) = ⊥
+Carries (Ok (decision.Write n size w)) bytes nothing = ⊥
+Carries (Ok (decision.Write n size w)) bytes (filled k clip (change j c)) = Uncopied n size w bytes k c
+Carries (Ok (decision.Write n size w)) bytes (filled k clip nothing) = ⊥
+Carries (Ok (decision.Write n size w)) bytes (filled k clip (refused v)) = ⊥
+Carries (Ok (decision.Write n size w)) bytes (filled k clip (filled j more p)) = ⊥
 
 -- d, with these working bytes and this clip, is what the plan comes to where its tests say v
-pub record DecidedAs (v : Verdict) (p : Plan) (image : List ℕ) (room : ℕ) (bytes clip : List ℕ) (d : Decision) : Type 0 where
+pub record DecidedAs (v : Verdict) (p : Plan) (image : List ℕ) (room : ℕ) (bytes clip : List ℕ) (d : Result Decision Refusal) : Type 0 where
   pub fits : CanCarry image room clip d
   pub carries : Carries d bytes p
   pub answer : carriedVerdict d ≡ v
   pub after : carriedImage d bytes clip image ≡ cond (is_refused v) image (planImage p image)
 
 -- by all tests but 25, with no clip
-abbrev pub Decided : Plan → List ℕ → ℕ → ℕ → List ℕ → Decision → Type 0
+abbrev pub Decided : Plan → List ℕ → ℕ → ℕ → List ℕ → Result Decision Refusal → Type 0
 Decided p image words room bytes d = DecidedAs (planVerdict p image words room) p image room bytes [] d
