@@ -125,7 +125,7 @@ module _ (image : List ℕ) (words : ℕ) (known : OpenImage image words) (k : �
 -- ---- the decisions
 
 module _ (image : List ℕ) (words room : ℕ) (bytes : List ℕ) (free : List DiscRegion) (nodes : List Node) (k : ℕ) where
-  pub move-decided : (to : ℕ) (old : DiscRegion) (d : Decision) → fileVerdict nodes k ≡ Ok tt → regionOf (get_or nodes k none) ≡ old →
+  pub move-decided : (to : ℕ) (old : DiscRegion) (d : Result Decision Refusal) → fileVerdict nodes k ≡ Ok tt → regionOf (get_or nodes k none) ≡ old →
       Decided (planned (relocateVerdict free old (record { offset = to; size = old.size })) (change k (relocated nodes k old (record { offset = to; size = old.size })))) image words room bytes d →
       Decided (planMove free nodes k to) image words room bytes d
   unfolding planMove
@@ -135,14 +135,14 @@ module _ (image : List ℕ) (words room : ℕ) (bytes : List ℕ) (free : List D
       rw (planned-first (fileVerdict nodes k) (relocateVerdict free r (record { offset = to; size = r.size })) (change k (relocated nodes k r (record { offset = to; size = r.size }))))
       (behind-passed image words room bytes (fileVerdict nodes k) (planned (relocateVerdict free r (record { offset = to; size = r.size })) (change k (relocated nodes k r (record { offset = to; size = r.size })))) d p h')
 
-  pub move-refused : (to : ℕ) (c : Refusal) → fileVerdict nodes k ≡ Err c → Decided (planMove free nodes k to) image words room bytes (decision.Refused c)
+  pub move-refused : (to : ℕ) (c : Refusal) → fileVerdict nodes k ≡ Err c → Decided (planMove free nodes k to) image words room bytes (Err c)
   unfolding planMove
   move-refused to c e =
       let r : DiscRegion = regionOf (get_or nodes k none) in
       behind-refused image words room bytes (first (fileVerdict nodes k) (relocateVerdict free r (record { offset = to; size = r.size }))) (change k (relocated nodes k r (record { offset = to; size = r.size }))) c
       (ap (λ (v : Verdict). first v (relocateVerdict free r (record { offset = to; size = r.size }))) e)
 
-  pub resize-decided : (n : ℕ) (old : DiscRegion) (d : Decision) → fileVerdict nodes k ≡ Ok tt → regionOf (get_or nodes k none) ≡ old →
+  pub resize-decided : (n : ℕ) (old : DiscRegion) (d : Result Decision Refusal) → fileVerdict nodes k ≡ Ok tt → regionOf (get_or nodes k none) ≡ old →
       Decided (planSized free nodes k old n) image words room bytes d → Decided (planResize free nodes k n) image words room bytes d
   unfolding planResize
   resize-decided n old d p e h =
@@ -150,10 +150,10 @@ module _ (image : List ℕ) (words room : ℕ) (bytes : List ℕ) (free : List D
       let h' : Decided (planSized free nodes k r n) image words room bytes d = rw (← e) at h in
       behind-passed image words room bytes (fileVerdict nodes k) (planSized free nodes k r n) d p h'
 
-  pub resize-refused : (n : ℕ) (c : Refusal) → fileVerdict nodes k ≡ Err c → Decided (planResize free nodes k n) image words room bytes (decision.Refused c)
+  pub resize-refused : (n : ℕ) (c : Refusal) → fileVerdict nodes k ≡ Err c → Decided (planResize free nodes k n) image words room bytes (Err c)
   unfolding planResize
   resize-refused n c e = behind-refused image words room bytes (fileVerdict nodes k) (planSized free nodes k (regionOf (get_or nodes k none)) n) c e
 
   module _ (old : DiscRegion) (n : ℕ) where
-    pub size-kept : n ≡ old.size → Decided (planSized free nodes k old n) image words room bytes decision.Nothing
+    pub size-kept : n ≡ old.size → Decided (planSized free nodes k old n) image words room bytes (Ok decision.Nothing)
     size-kept e = rw (eq-eqb n old.size e) (record { fits = tt; carries = tt; answer = refl; after = refl })

@@ -52,7 +52,7 @@ module _ (image w : List ℕ) (room : ℕ) (to : DiscRegion) (r : Result ℕ Ref
 module _ (image w bytes : List ℕ) (r : Result ℕ Refusal) where
   pub rewrite-decided : (size : ℕ) (after : List ℕ) → r ≡ sizedAs (tableVerdict (placing (nodesIn image) noPlace) image (length w) (length bytes)) (length (encode (nodesIn image))) → r ≡ Ok size →
       OpenImage image (length w) → after ≡ put bytes 0 (encode (nodesIn image)) →
-      Decided (change 0 (tableOnly (nodesIn image))) image (length w) (length bytes) after (decision.Write 0 size (record { old = noPlace; place = noPlace; kept = 0; lost = 0; lost_size = 0 }))
+      Decided (change 0 (tableOnly (nodesIn image))) image (length w) (length bytes) after (Ok (decision.Write 0 size (record { old = noPlace; place = noPlace; kept = 0; lost = 0; lost_size = 0 })))
   rewrite-decided size after q e known h =
       let n = new-table (nodesIn image) noPlace image (length w) (length bytes) size r known q e in
       write-decided image (length w) (length bytes) after 0 (nodesIn image) size (record { old = noPlace; place = noPlace; kept = 0; lost = 0; lost_size = 0 })
@@ -61,14 +61,14 @@ module _ (image w bytes : List ℕ) (r : Result ℕ Refusal) where
 
   module _ (k : ℕ) (x : Writing) (judged : r ≡ sizedAs (tableVerdict (placing (nodesIn image) x.place) image (length w) (length bytes)) (length (encode (nodesIn image)))) where
     pub place-refused : (c : Refusal) (after : List ℕ) → r ≡ Err c →
-        Decided (change k (changeWith (setPlace k x.place.offset x.place.size (nodesIn image)) x)) image (length w) (length bytes) after (decision.Refused c)
+        Decided (change k (changeWith (setPlace k x.place.offset x.place.size (nodesIn image)) x)) image (length w) (length bytes) after (Err c)
     place-refused c after e =
         refused-decided image (length w) (length bytes) after (change k (changeWith (setPlace k x.place.offset x.place.size (nodesIn image)) x)) c
         (same_tests image (length w) (length bytes) k x.place.offset x.place.size (nodesIn image) x ∙ past image w (length bytes) x.place r judged c e)
 
     pub place-decided : (size : ℕ) (l after : List ℕ) → r ≡ Ok size → OpenImage image (length w) → IsFile (nodesIn image) k → InImage (length image) x → l ≡ put bytes 0 (encode (nodesIn image)) →
         after ≡ put l (12 * k + 4) (be32Bytes x.place.offset ++ be32Bytes x.place.size) →
-        Decided (change k (changeWith (setPlace k x.place.offset x.place.size (nodesIn image)) x)) image (length w) (length bytes) after (decision.Write k size x)
+        Decided (change k (changeWith (setPlace k x.place.offset x.place.size (nodesIn image)) x)) image (length w) (length bytes) after (Ok (decision.Write k size x))
     place-decided size l after e known f inside h g =
         let n = new-table (nodesIn image) x.place image (length w) (length bytes) size r known judged e in
         let q = length-encode-setPlace x.place.offset x.place.size k (nodesIn image) in
@@ -99,7 +99,7 @@ module _ (image w : List ℕ) (k n least : ℕ) (old : DiscRegion) (smaller : le
       InImage (length image) (record { old = old; place = record { offset = old.offset; size = n }; kept = 0; lost = old.offset + n; lost_size = old.size - least })
   resized-in-image m o here = resize-inside image (length w) o.known k old here n (old.size - least) lost-is
 
-  pub kept-in-place : (room : ℕ) (bytes : List ℕ) (d : Decision) →
+  pub kept-in-place : (room : ℕ) (bytes : List ℕ) (d : Result Decision Refusal) →
       Decided (change k (changeWith (setPlace k old.offset n (nodesIn image)) (record { old = old; place = record { offset = old.offset; size = n }; kept = 0; lost = old.offset + n; lost_size = old.size - least }))) image (length w) room bytes d →
       Decided (change k (resized (nodesIn image) k old n)) image (length w) room bytes d
   kept-in-place room bytes d h = rw lost-is at h
@@ -114,17 +114,17 @@ module _ (image : List ℕ) (k : ℕ) (r : Result DiscRegion Refusal) (read : r 
   found-place old e = (file-found (nodesIn image) k r old read e).place
 
   module _ (w : List ℕ) (room : ℕ) (bytes : List ℕ) where
-    pub no-file-to-move : (to : ℕ) (c : Refusal) → r ≡ Err c → Decided (planMove (freeOf image) (nodesIn image) k to) image (length w) room bytes (decision.Refused c)
+    pub no-file-to-move : (to : ℕ) (c : Refusal) → r ≡ Err c → Decided (planMove (freeOf image) (nodesIn image) k to) image (length w) room bytes (Err c)
     no-file-to-move to c e = move-refused image (length w) room bytes (freeOf image) (nodesIn image) k to c (file-refused (nodesIn image) k r c read e)
 
-    pub file-moved : (to : ℕ) (old : DiscRegion) (d : Decision) → r ≡ Ok old →
+    pub file-moved : (to : ℕ) (old : DiscRegion) (d : Result Decision Refusal) → r ≡ Ok old →
         Decided (planned (relocateVerdict (freeOf image) old (record { offset = to; size = old.size })) (change k (relocated (nodesIn image) k old (record { offset = to; size = old.size })))) image (length w) room bytes d →
         Decided (planMove (freeOf image) (nodesIn image) k to) image (length w) room bytes d
     file-moved to old d e h = let f = file-found (nodesIn image) k r old read e in move-decided image (length w) room bytes (freeOf image) (nodesIn image) k to old d f.passed f.place h
 
-    pub no-file-to-resize : (n : ℕ) (c : Refusal) → r ≡ Err c → Decided (planResize (freeOf image) (nodesIn image) k n) image (length w) room bytes (decision.Refused c)
+    pub no-file-to-resize : (n : ℕ) (c : Refusal) → r ≡ Err c → Decided (planResize (freeOf image) (nodesIn image) k n) image (length w) room bytes (Err c)
     no-file-to-resize n c e = resize-refused image (length w) room bytes (freeOf image) (nodesIn image) k n c (file-refused (nodesIn image) k r c read e)
 
-    pub file-resized : (n : ℕ) (old : DiscRegion) (d : Decision) → r ≡ Ok old → Decided (planSized (freeOf image) (nodesIn image) k old n) image (length w) room bytes d →
+    pub file-resized : (n : ℕ) (old : DiscRegion) (d : Result Decision Refusal) → r ≡ Ok old → Decided (planSized (freeOf image) (nodesIn image) k old n) image (length w) room bytes d →
         Decided (planResize (freeOf image) (nodesIn image) k n) image (length w) room bytes d
     file-resized n old d e h = let f = file-found (nodesIn image) k r old read e in resize-decided image (length w) room bytes (freeOf image) (nodesIn image) k n old d f.passed f.place h

@@ -21,26 +21,21 @@ use space::DiscRegion;
 use tree::{Entry, Found};
 
 // The tree as it is, with no place but the table's to write.
-pub fn rewrite(image: &[u8], words: &[u32], m: usize, bytes: &mut [u8]) -> Decision
+pub fn rewrite(image: &[u8], words: &[u32], m: usize, bytes: &mut [u8]) -> Result<Decision, Refusal>
     requires { IsOpen image.now words.now m }
     ensures { Decided (change 0 (tableOnly (nodesIn image.now))) image.now (length words.now) (length bytes.old) bytes.new result }
 {
     let place = DiscRegion { offset: 0, size: 0 };
-    let found = commit::check_table(image, words, m, bytes.len(), place);
-    match found {
-        Err(cause) => Decision::Refused(cause),
-        Ok(size) => {
-            commit::write_table(image, bytes);
-            let w = Writing {
-                old: place,
-                place,
-                kept: 0,
-                lost: 0,
-                lost_size: 0,
-            };
-            Decision::Write(0, size, w)
-        }
-    }
+    let size = commit::check_table(image, words, m, bytes.len(), place)?;
+    commit::write_table(image, bytes);
+    let w = Writing {
+        old: place,
+        place,
+        kept: 0,
+        lost: 0,
+        lost_size: 0,
+    };
+    Ok(Decision::Write(0, size, w))
 }
 
 // The tree with another place for a file.
@@ -51,20 +46,15 @@ fn set_place(
     bytes: &mut [u8],
     number: u32,
     w: Writing,
-) -> Decision
+) -> Result<Decision, Refusal>
     requires { IsOpen image.now words.now m × IsFile (nodesIn image.now) number × InImage (length image.now) w }
     ensures { Decided (change number (changeWith (setPlace number w.place.offset w.place.size (nodesIn image.now)) w)) image.now (length words.now) (length bytes.old) bytes.new result }
 {
     let place = w.place;
-    let found = commit::check_table(image, words, m, bytes.len(), place);
-    match found {
-        Err(cause) => Decision::Refused(cause),
-        Ok(size) => {
-            commit::write_table(image, bytes);
-            fst_patch::set_place(bytes, number as usize, place.offset, place.size);
-            Decision::Write(number, size, w)
-        }
-    }
+    let size = commit::check_table(image, words, m, bytes.len(), place)?;
+    commit::write_table(image, bytes);
+    fst_patch::set_place(bytes, number as usize, place.offset, place.size);
+    Ok(Decision::Write(number, size, w))
 }
 
 fn file_of(entry: Entry) -> Result<DiscRegion, Refusal>
@@ -143,15 +133,12 @@ fn relocate(
     number: u32,
     old: DiscRegion,
     new: DiscRegion,
-) -> Decision
+) -> Result<Decision, Refusal>
     requires { IsOpen image.now words.now m × IsFile (nodesIn image.now) number × (regionOf (get_or (nodesIn image.now) number none) ≡ old) }
     ensures { Decided (planned (relocateVerdict (freeOf image.now) old new) (change number (relocated (nodesIn image.now) number old new))) image.now (length words.now) (length bytes.old) bytes.new result }
 {
     let disc_end = opening::disc_end(image);
-    let verdict = check_relocate(words, m, disc_end, old, new);
-    if let Err(cause) = verdict {
-        return Decision::Refused(cause);
-    }
+    check_relocate(words, m, disc_end, old, new)?;
     let w = Writing {
         old,
         place: new,
@@ -169,21 +156,16 @@ pub fn move_file(
     bytes: &mut [u8],
     number: u32,
     new_offset: u32,
-) -> Decision
+) -> Result<Decision, Refusal>
     requires { IsOpen image.now words.now m }
     ensures { Decided (planMove (freeOf image.now) (nodesIn image.now) number new_offset) image.now (length words.now) (length bytes.old) bytes.new result }
 {
-    let found = file_at(image, number);
-    match found {
-        Err(cause) => Decision::Refused(cause),
-        Ok(old) => {
-            let new = DiscRegion {
-                offset: new_offset,
-                size: old.size,
-            };
-            relocate(image, words, m, bytes, number, old, new)
-        }
-    }
+    let old = file_at(image, number)?;
+    let new = DiscRegion {
+        offset: new_offset,
+        size: old.size,
+    };
+    relocate(image, words, m, bytes, number, old, new)
 }
 
 // Whether a file keeps its place: it gets smaller, or can grow there.
@@ -206,7 +188,7 @@ fn resize_in_place(
     number: u32,
     old: DiscRegion,
     new_size: u32,
-) -> Decision
+) -> Result<Decision, Refusal>
     requires { IsOpen image.now words.now m × IsFile (nodesIn image.now) number × (regionOf (get_or (nodesIn image.now) number none) ≡ old) }
     ensures { Decided (change number (resized (nodesIn image.now) number old new_size)) image.now (length words.now) (length bytes.old) bytes.new result }
 {
@@ -234,22 +216,17 @@ fn grow_elsewhere(
     number: u32,
     old: DiscRegion,
     new_size: u32,
-) -> Decision
+) -> Result<Decision, Refusal>
     requires { IsOpen image.now words.now m × IsFile (nodesIn image.now) number × (regionOf (get_or (nodesIn image.now) number none) ≡ old) }
     ensures { Decided (planElsewhere (nodesIn image.now) (freeOf image.now) number old new_size (allocationOf 0x8000 new_size (freeOf image.now))) image.now (length words.now) (length bytes.old) bytes.new result }
 {
     let disc_end = opening::disc_end(image);
-    let found = free_space::allocate(words, m, disc_end, new_size, 0x8000);
-    match found {
-        Err(cause) => Decision::Refused(cause),
-        Ok(region) => {
-            let new = DiscRegion {
-                offset: region.offset,
-                size: new_size,
-            };
-            relocate(image, words, m, bytes, number, old, new)
-        }
-    }
+    let region = free_space::allocate(words, m, disc_end, new_size, 0x8000)?;
+    let new = DiscRegion {
+        offset: region.offset,
+        size: new_size,
+    };
+    relocate(image, words, m, bytes, number, old, new)
 }
 
 // The file that lies at `old` gets another size.
@@ -261,12 +238,12 @@ pub fn resize(
     number: u32,
     old: DiscRegion,
     new_size: u32,
-) -> Decision
+) -> Result<Decision, Refusal>
     requires { IsOpen image.now words.now m × IsFile (nodesIn image.now) number × (regionOf (get_or (nodesIn image.now) number none) ≡ old) }
     ensures { Decided (planSized (freeOf image.now) (nodesIn image.now) number old new_size) image.now (length words.now) (length bytes.old) bytes.new result }
 {
     if new_size == old.size {
-        return Decision::Nothing;
+        return Ok(Decision::Nothing);
     }
     let disc_end = opening::disc_end(image);
     if stays(words, m, disc_end, old, new_size) {
@@ -282,13 +259,10 @@ pub fn resize_file(
     bytes: &mut [u8],
     number: u32,
     new_size: u32,
-) -> Decision
+) -> Result<Decision, Refusal>
     requires { IsOpen image.now words.now m }
     ensures { Decided (planResize (freeOf image.now) (nodesIn image.now) number new_size) image.now (length words.now) (length bytes.old) bytes.new result }
 {
-    let found = file_at(image, number);
-    match found {
-        Err(cause) => Decision::Refused(cause),
-        Ok(old) => resize(image, words, m, bytes, number, old, new_size),
-    }
+    let old = file_at(image, number)?;
+    resize(image, words, m, bytes, number, old, new_size)
 }

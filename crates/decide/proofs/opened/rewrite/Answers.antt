@@ -4,7 +4,7 @@ use Rattle.opening.specs.Laws.OpeningLaws.{still-opens}
 use Rattle.decide.proofs.opened.rewrite.Goals as goal
 
 pub write_table-requires : goal.write_table-requires
-write_table-requires c = (search still-opens, search table-held, search table-small)
+write_table-requires c = (search still-opens, search (table-held, c.in_ok-size.was), search (table-small, c.in_ok-size.was))
 
-pub returns-in-Ok : goal.returns-in-Ok
-returns-in-Ok c = search rewrite-decided
+pub returns : goal.returns
+returns c = search (rewrite-decided, c.in_ok-size.was)
