@@ -30,7 +30,7 @@ use Rattle.fill.specs.Inner.Filling.{uncopied, withClip, Clear}
 use Rattle.fill.proofs.Clips.{clipped-put, clip-first, offset-kept, size-kept}
 use Rattle.fill.proofs.Places.{clip-stays, never-clip, clip-clear}
 
--- ---- a resize's decision, and the clip
+-- ---- what a resize comes to, and the clip
 
 -- the rest, behind the clip
 rest-fits : (image t clip : List ℕ) (room : ℕ) (w : Writing) → Clear image (length t) w (length clip) → Fits image room (length t) w → Fits (put image w.place.offset clip) room (length t) (uncopied w)
@@ -46,9 +46,11 @@ module _ (image : List ℕ) (words room : ℕ) (bytes clip : List ℕ) (known : 
   abbrev sized : Plan
   sized = planSized (freeOf image) (nodesIn image) k old (length clip)
 
+  filled-refused : (c : Refusal) → Decided sized image words room bytes (Err c) → DecidedAs (planVerdict sized image words room) (filled k clip sized) image room bytes clip (Err c)
+  filled-refused c h = record { fits = tt; carries = tt; answer = h.answer; after = rw (← h.answer) }
+
   -- the clip goes where the file lies then
-  filled-decided : (d : Decision) → Decided sized image words room bytes d → DecidedAs (planVerdict sized image words room) (filled k clip sized) image room bytes clip (withClip d k old.offset)
-  filled-decided (decision.Refused c) h = record { fits = tt; carries = tt; answer = h.answer; after = rw (← h.answer) }
+  filled-decided : (d : Decision) → Decided sized image words room bytes (Ok d) → DecidedAs (planVerdict sized image words room) (filled k clip sized) image room bytes clip (Ok (withClip d k old.offset))
   filled-decided decision.Nothing h =
       let s = clip-stays image words known k f old here (length clip) bytes h.carries in
       record {
@@ -67,7 +69,7 @@ module _ (image : List ℕ) (words room : ℕ) (bytes clip : List ℕ) (known : 
       let c : Clear image (length t) w (length clip) = rw l s.0 in
       let g : Fits image room (length t) w = rw l h.fits.1 in
       let r : Fits (put image w.place.offset clip) room size (uncopied w) = rw l at (rest-fits image t clip room w c g) in
-      let i : carriedImage (decision.Write n size w) bytes [] image ≡ planImage sized image = rw (← h.answer) at h.after in
+      let i : carriedImage (Ok (decision.Write n size w)) bytes [] image ≡ planImage sized image = rw (← h.answer) at h.after in
       record {
         fits = (s.0.into, rw (clipped-put image w.place.offset clip) r);
         carries = s.2;
@@ -84,23 +86,32 @@ module _ (image w bytes bytes' clip : List ℕ) (k : ℕ) (r : Result DiscRegion
   abbrev plan : Plan
   plan = planFill (freeOf image) (nodesIn image) k clip
 
-  abbrev Fills : Decision → Type 0
+  abbrev Fills : Result Decision Refusal → Type 0
   Fills d = DecidedAs (planVerdict plan image (length w) (length bytes)) plan image (length bytes) bytes' clip d
 
-  fill-refused : (c : Refusal) → clipVerdict (nodesIn image) k (length clip) ≡ Err c → Fills (decision.Refused c)
+  fill-refused : (c : Refusal) → clipVerdict (nodesIn image) k (length clip) ≡ Err c → Fills (Err c)
   unfolding planFill
   fill-refused c e = behind-refused-with image (length w) (length bytes) bytes' clip (clipVerdict (nodesIn image) k (length clip)) _ c e
 
-  pub no-file-to-fill : (c : Refusal) → r ≡ Err c → Fills (decision.Refused c)
+  pub no-file-to-fill : (c : Refusal) → r ≡ Err c → Fills (Err c)
   no-file-to-fill c e = fill-refused c (rw (file-refused (nodesIn image) k r c read e))
 
   module _ (old : DiscRegion) (found : r ≡ Ok old) where
-    pub clip-too-long : ltb (2 ^ 32 - 1) (length clip) ≡ true → Fills (decision.Refused NotEnoughSpace)
+    pub clip-too-long : ltb (2 ^ 32 - 1) (length clip) ≡ true → Fills (Err NotEnoughSpace)
     clip-too-long h = let f = file-found (nodesIn image) k r old read found in fill-refused NotEnoughSpace (rw (f.passed, h))
 
+    plan-is : length clip ≤ 0xFFFFFFFF → plan ≡ filled k clip (planSized (freeOf image) (nodesIn image) k old (length clip))
+    unfolding planFill planResize
+    plan-is short = let f = file-found (nodesIn image) k r old read found in rw (f.passed, le-ltb 0xFFFFFFFF (length clip) short, f.place)
+
+    pub not-resized : (m n : ℕ) (c : Refusal) → IsOpen image w m → length bytes' ≡ length bytes → length clip ≤ 0xFFFFFFFF → n ≡ length clip →
+        Decided (planSized (freeOf image) (nodesIn image) k old n) image (length w) (length bytes) bytes' (Err c) → Fills (Err c)
+    not-resized m n c o long short e decided =
+        let f = file-found (nodesIn image) k r old read found in
+        rw (plan-is short) (filled-refused image (length w) (length bytes) bytes' clip o.known k f.is old f.place long c (rw e at decided))
+
     pub filled-by : (m n : ℕ) (d g : Decision) → IsOpen image w m → length bytes' ≡ length bytes → length clip ≤ 0xFFFFFFFF → n ≡ length clip →
-        Decided (planSized (freeOf image) (nodesIn image) k old n) image (length w) (length bytes) bytes' d → g ≡ withClip d k old.offset → Fills g
+        Decided (planSized (freeOf image) (nodesIn image) k old n) image (length w) (length bytes) bytes' (Ok d) → g ≡ withClip d k old.offset → Fills (Ok g)
     filled-by m n d g o long short e decided u =
         let f = file-found (nodesIn image) k r old read found in
-        let q : plan ≡ filled k clip (planSized (freeOf image) (nodesIn image) k old (length clip)) = unfold planFill planResize in rw (f.passed, le-ltb 0xFFFFFFFF (length clip) short, f.place) in
-        rw (u, q) (filled-decided image (length w) (length bytes) bytes' clip o.known k f.is old f.place long d (rw e at decided))
+        rw (u, plan-is short) (filled-decided image (length w) (length bytes) bytes' clip o.known k f.is old f.place long d (rw e at decided))

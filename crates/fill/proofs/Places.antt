@@ -150,20 +150,20 @@ module _ (image : List ℕ) (words : ℕ) (known : OpenImage image words) (k : �
   p = planSized (freeOf image) (nodesIn image) k old n
 
   -- where nothing is to be resized, the clip has the file's size
-  pub clip-stays : (bytes : List ℕ) → Carries decision.Nothing bytes p → (0 < n → old.offset + n ≤ length image) × (p ≡ nothing)
+  pub clip-stays : (bytes : List ℕ) → Carries (Ok decision.Nothing) bytes p → (0 < n → old.offset + n ≤ length image) × (p ≡ nothing)
   clip-stays bytes =
-      sized (λ (x : Plan). Carries decision.Nothing bytes x → (0 < n → old.offset + n ≤ length image) × (x ≡ nothing)) (λ e h. (λ z. omega (arith, (old-lies (omega arith)).1), refl)) (λ c h. absurd h) (λ c l g h. absurd h)
+      sized (λ (x : Plan). Carries (Ok decision.Nothing) bytes x → (0 < n → old.offset + n ≤ length image) × (x ≡ nothing)) (λ e h. (λ z. omega (arith, (old-lies (omega arith)).1), refl)) (λ c h. absurd h) (λ c l g h. absurd h)
 
-  pub never-clip : (bytes : List ℕ) (number at : ℕ) → Carries (decision.Clip number at) bytes p → ⊥
-  never-clip bytes number at = sized (λ (x : Plan). Carries (decision.Clip number at) bytes x → ⊥) (λ e h. h) (λ c h. h) (λ c l g h. h)
+  pub never-clip : (bytes : List ℕ) (number at : ℕ) → Carries (Ok (decision.Clip number at)) bytes p → ⊥
+  never-clip bytes number at = sized (λ (x : Plan). Carries (Ok (decision.Clip number at)) bytes x → ⊥) (λ e h. h) (λ c h. h) (λ c l g h. h)
 
   -- and a change that passes its tests can be written behind the clip
-  pub clip-clear : (room number size : ℕ) (bytes clip : List ℕ) (w : Writing) → size ≤ length bytes → Carries (decision.Write number size w) bytes p → planVerdict p image words room ≡ Ok tt →
-      Clear image size w n × ((regionOf (get_or (planTree p (nodesIn image)) k none)).offset ≡ w.place.offset) × Carries (decision.Write k size (uncopied w)) bytes (filled k clip p)
+  pub clip-clear : (room number size : ℕ) (bytes clip : List ℕ) (w : Writing) → size ≤ length bytes → Carries (Ok (decision.Write number size w)) bytes p → planVerdict p image words room ≡ Ok tt →
+      Clear image size w n × ((regionOf (get_or (planTree p (nodesIn image)) k none)).offset ≡ w.place.offset) × Carries (Ok (decision.Write k size (uncopied w))) bytes (filled k clip p)
   clip-clear room number size bytes clip w held =
       sized
       (λ (x : Plan).
-      Carries (decision.Write number size w) bytes x → planVerdict x image words room ≡ Ok tt → Clear image size w n × ((regionOf (get_or (planTree x (nodesIn image)) k none)).offset ≡ w.place.offset) × Carries (decision.Write k size (uncopied w)) bytes (filled k clip x))
+      Carries (Ok (decision.Write number size w)) bytes x → planVerdict x image words room ≡ Ok tt → Clear image size w n × ((regionOf (get_or (planTree x (nodesIn image)) k none)).offset ≡ w.place.offset) × Carries (Ok (decision.Write k size (uncopied w))) bytes (filled k clip x))
       (λ e h. absurd h) (λ c h. absurd h)
       (λ c l g h v. (
         clear image c n words room size bytes w l v h.table held h.change,

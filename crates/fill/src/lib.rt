@@ -17,7 +17,6 @@ fn with_clip(decision: Decision, number: u32, at: u32) -> Decision
     ensures { result ≡ withClip decision number at }
 {
     match decision {
-        Decision::Refused(cause) => Decision::Refused(cause),
         Decision::Nothing => Decision::Clip(number, at),
         Decision::Clip(_, _) => Decision::Clip(number, at),
         Decision::Write(_, size, w) => {
@@ -43,20 +42,15 @@ pub fn fill(
     bytes: &mut [u8],
     number: u32,
     clip: &[u8],
-) -> Decision
+) -> Result<Decision, Refusal>
     requires { IsOpen image.now words.now m }
     ensures { DecidedAs (planVerdict (planFill (freeOf image.now) (nodesIn image.now) number clip.now) image.now (length words.now) (length bytes.old)) (planFill (freeOf image.now) (nodesIn image.now) number clip.now) image.now (length bytes.old) bytes.new clip.now result }
 {
-    let found = decide::file_at(image, number);
-    match found {
-        Err(cause) => Decision::Refused(cause),
-        Ok(old) => {
-            if 0xFFFFFFFF < clip.len() {
-                return Decision::Refused(Refusal::NotEnoughSpace);
-            }
-            let new_size = clip.len() as u32;
-            let decision = decide::resize(image, words, m, bytes, number, old, new_size);
-            with_clip(decision, number, old.offset)
-        }
+    let old = decide::file_at(image, number)?;
+    if 0xFFFFFFFF < clip.len() {
+        return Err(Refusal::NotEnoughSpace);
     }
+    let new_size = clip.len() as u32;
+    let decision = decide::resize(image, words, m, bytes, number, old, new_size)?;
+    Ok(with_clip(decision, number, old.offset))
 }

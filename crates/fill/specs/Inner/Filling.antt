@@ -12,7 +12,6 @@ uncopied w = record { old = w.old; place = w.place; kept = 0; lost = w.lost; los
 
 -- a resize's decision with the clip; where nothing is to be resized the file, entry k, lies at `at`
 abbrev pub withClip : Decision → ℕ → ℕ → Decision
-withClip (decision.Refused c) k at = decision.Refused c
 withClip decision.Nothing k at = decision.Clip k at
 withClip (decision.Clip n x) k at = decision.Clip k at
 withClip (decision.Write n size w) k at = decision.Write k size (uncopied w)
