@@ -74,7 +74,7 @@ module _ (image w s t : List ℕ) (m : ℕ) (r : Result ℕ Refusal) (opened : I
     pub started-directory : (p : ℕ) → IsDirectory (nodesIn image) p → IsDirectory (treeIn t n) p
     started-directory p d = rw stands.1 d
 
-    pub started-decided : (is : Bool) (p : ℕ) (nm after : List ℕ) (d : Decision) → length t ≡ length s → Decided (change 0 (tableOnly (added (treeIn t n) is p nm))) image (length w) (length t) after d →
+    pub started-decided : (is : Bool) (p : ℕ) (nm after : List ℕ) (d : Result Decision Refusal) → length t ≡ length s → Decided (change 0 (tableOnly (added (treeIn t n) is p nm))) image (length w) (length t) after d →
         Decided (change 0 (tableOnly (added (nodesIn image) is p nm))) image (length w) (length s) after d
     started-decided is p nm after d l h =
         same-decided (added (treeIn t n) is p nm) (added (nodesIn image) is p nm) (length w) (length t) (length s) image after d (ap (λ (x : List Node). added x is p nm) stands.1) l h
@@ -88,7 +88,7 @@ module _ (image w s t : List ℕ) (m : ℕ) (r : Result ℕ Refusal) (opened : I
 
 module _ (s : List ℕ) (size words : ℕ) (is : Bool) (p : ℕ) (nm : List ℕ) (st : Stands s size words) (dir : IsDirectory (treeIn s size) p) (good : GoodName nm) (t : List ℕ) (r : Result ℕ Refusal)
     (built : Built (added (treeIn s size) is p nm) words s t r) (image after : List ℕ) where
-  pub grown-decided : (n : ℕ) (d : Decision) → r ≡ Ok n → length t ≡ length s → Decided (change 0 (tableOnly (treeIn t n))) image words (length t) after d →
+  pub grown-decided : (n : ℕ) (d : Result Decision Refusal) → r ≡ Ok n → length t ≡ length s → Decided (change 0 (tableOnly (treeIn t n))) image words (length t) after d →
       Decided (change 0 (tableOnly (added (treeIn s size) is p nm))) image words (length s) after d
   grown-decided n d e l h = same-decided (treeIn t n) (added (treeIn s size) is p nm) words (length t) (length s) image after d (grown s size words st is p nm dir good t r built n e).1 l h
 

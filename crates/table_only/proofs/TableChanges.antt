@@ -68,7 +68,7 @@ module _ (s : List ℕ) (size words : ℕ) (st : Stands s size words) (image : L
 
 -- ---- the tree by another name, and the number that the edit gives
 
-pub same-decided : (T F : List Node) (words n m : ℕ) (image s : List ℕ) (d : Decision) → T ≡ F → n ≡ m → Decided (change 0 (tableOnly T)) image words n s d → Decided (change 0 (tableOnly F)) image words m s d
+pub same-decided : (T F : List Node) (words n m : ℕ) (image s : List ℕ) (d : Result Decision Refusal) → T ≡ F → n ≡ m → Decided (change 0 (tableOnly T)) image words n s d → Decided (change 0 (tableOnly F)) image words m s d
 same-decided T F words n m image s d e l h = rw (e, l) at h
 
 module _ (image : List ℕ) (words room : ℕ) (bytes : List ℕ) where

@@ -50,11 +50,8 @@ pub fn place_table(
     ensures { Decided (change 0 (tableOnly (treeIn bytes.now size))) image.now (length words.now) (length bytes.now) bytes.now (tableDecision 0 result) }
 {
     let place = DiscRegion { offset: 0, size: 0 };
-    let verdict = commit::check_place(image, words, m, bytes.len(), size, place);
-    match verdict {
-        Err(cause) => Err(cause),
-        Ok(()) => Ok(size),
-    }
+    commit::check_place(image, words, m, bytes.len(), size, place)?;
+    Ok(size)
 }
 
 // What is written besides the table: nothing.
@@ -72,11 +69,9 @@ fn nothing() -> Writing
 }
 
 // A grown table as a decision, with the number of the entry that the edit gives.
-pub fn numbered(built: Result<usize, Refusal>, number: u32) -> Decision
+pub fn numbered(built: Result<usize, Refusal>, number: u32) -> Result<Decision, Refusal>
     ensures { result ≡ tableDecision number built }
 {
-    match built {
-        Ok(size) => Decision::Write(number, size, nothing()),
-        Err(cause) => Decision::Refused(cause),
-    }
+    let size = built?;
+    Ok(Decision::Write(number, size, nothing()))
 }

@@ -10,7 +10,7 @@ use Rattle.edits.specs.Edits.{noPlace}
 abbrev pub noWriting : Writing
 noWriting = record { old = noPlace; place = noPlace; kept = 0; lost = 0; lost_size = 0 }
 
--- the decision to write a table of that size
-abbrev pub tableDecision : ℕ → Result ℕ Refusal → Decision
-tableDecision n (Ok size) = decision.Write n size noWriting
-tableDecision n (Err cause) = decision.Refused cause
+-- the decision to write a table of that size, or the refusal
+abbrev pub tableDecision : ℕ → Result ℕ Refusal → Result Decision Refusal
+tableDecision n (Ok size) = Ok (decision.Write n size noWriting)
+tableDecision n (Err cause) = Err cause
