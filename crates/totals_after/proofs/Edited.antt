@@ -23,7 +23,6 @@ use Rattle.ledger.specs.Runs.{Passable}
 use Rattle.ledger.specs.Laws.Layout.{Lays}
 use Rattle.ledger.specs.Laws.TreeAfter.{arrives}
 use Rattle.commit.specs.declared.Decision.{Decision}
-use Rattle.commit.specs.declared.Decision.TheVariants as decision
 use Rattle.commit.specs.Inner.Decision.{CanCarry, carriedAnswer, carriedImage, DecidedAs}
 use Rattle.commit.proofs.Decisions.{answered}
 use Rattle.totals_after.specs.Inner.Accounting.{Accounted, accounted, accountOf, AccountedFor}
@@ -33,13 +32,13 @@ use Rattle.totals_after.specs.Laws.AccountLaws as laws
 
 module _ (p : Plan) (image : List ℕ) (words room : ℕ) (bytes clip : List ℕ) (t : Totals) where
   -- refused by the plan's tests, or by 25
-  pub refused-accounted : (c : Refusal) (a : Accounted) → countedVerdict p t image words room ≡ Err c → a ≡ accounted (decision.Refused c) t → AccountedFor p image words room bytes clip t a
+  pub refused-accounted : (c : Refusal) (a : Accounted) → countedVerdict p t image words room ≡ Err c → a ≡ accounted (Err c) t → AccountedFor p image words room bytes clip t a
   refused-accounted c a e q = rw q (record {
     decided = record { fits = tt; carries = tt; answer = sym e; after = rw e };
     totals = rw e;
   })
 
-  passed-accounted : (d : Decision) (a : Accounted) → countedVerdict p t image words room ≡ Ok tt → DecidedAs (planVerdict p image words room) p image room bytes clip d → a ≡ accounted d (totalsTo t image (planImage p image)) → AccountedFor p image words room bytes clip t a
+  passed-accounted : (d : Result Decision Refusal) (a : Accounted) → countedVerdict p t image words room ≡ Ok tt → DecidedAs (planVerdict p image words room) p image room bytes clip d → a ≡ accounted d (totalsTo t image (planImage p image)) → AccountedFor p image words room bytes clip t a
   unfolding countedVerdict
   passed-accounted d a e h q =
       let o : planVerdict p image words room ≡ Ok tt = (first-passed (planVerdict p image words room) _ e).0 in
@@ -47,7 +46,7 @@ module _ (p : Plan) (image : List ℕ) (words room : ℕ) (bytes clip : List ℕ
       rw q (record { decided = rw e k; totals = rw e })
 
   -- as the law of AccountLaws has it
-  pub entered-accounted : (d : Decision) (a : Accounted) → DecidedAs (planVerdict p image words room) p image room bytes clip d →
+  pub entered-accounted : (d : Result Decision Refusal) (a : Accounted) → DecidedAs (planVerdict p image words room) p image room bytes clip d →
       laws.Entered (countedVerdict p t image words room) d t (totalsTo t image (planImage p image)) a → AccountedFor p image words room bytes clip t a
   entered-accounted d a h n = go (countedVerdict p t image words room) refl
     where
@@ -57,7 +56,7 @@ module _ (p : Plan) (image : List ℕ) (words room : ℕ) (bytes clip : List ℕ
 
 -- ---- an edit: opening, then its plan
 
-module _ (ed : Edit) (h : Passable ed) (image w w' : List ℕ) (r : Result ℕ Refusal) (m room : ℕ) (bytes clip : List ℕ) (d : Decision) (ready : Prepares image w' r) (is : r ≡ Ok m)
+module _ (ed : Edit) (h : Passable ed) (image w w' : List ℕ) (r : Result ℕ Refusal) (m room : ℕ) (bytes clip : List ℕ) (d : Result Decision Refusal) (ready : Prepares image w' r) (is : r ≡ Ok m)
     (same : length w' ≡ length w) (long : length bytes ≡ room) (decided : DecidedAs (planVerdict (plan_of ed image) image (length w') room) (plan_of ed image) image room bytes clip d) where
   ready_words : IsOpen image w' m
   ready_words = was-ready image w' r ready m is
@@ -71,7 +70,7 @@ module _ (ed : Edit) (h : Passable ed) (image w w' : List ℕ) (r : Result ℕ R
       let f : AccountedFor (plan_of ed image) image (length w') room bytes clip t a = entered-accounted (plan_of ed image) image (length w') room bytes clip t d a decided (unfold countedVerdict in rw q n) in
       rw (behind-passed (opening image (length w)) (plan_of ed image) (rw same at ready_words.known.passed)) (rw same at f)
 
-pub unopened-accounted : (p : Plan) (image w w' : List ℕ) (r : Result ℕ Refusal) (c : Refusal) (room : ℕ) (bytes clip : List ℕ) (t : Totals) (a : Accounted) → Prepares image w' r → r ≡ Err c → length w' ≡ length w → a ≡ accounted (decision.Refused c) t →
+pub unopened-accounted : (p : Plan) (image w w' : List ℕ) (r : Result ℕ Refusal) (c : Refusal) (room : ℕ) (bytes clip : List ℕ) (t : Totals) (a : Accounted) → Prepares image w' r → r ≡ Err c → length w' ≡ length w → a ≡ accounted (Err c) t →
     AccountedFor (planned (opening image (length w)) p) image (length w) room bytes clip t a
 unopened-accounted p image w w' r c room bytes clip t a q e same =
     rw (behind-refused (opening image (length w)) p c (rw same at (was-refused image w' r q c e))) (refused-accounted (refused (Err c)) image (length w) room bytes clip t c a (unfold countedVerdict in refl))
@@ -79,10 +78,10 @@ unopened-accounted p image w w' r c room bytes clip t a q e same =
 -- ---- the whole edit
 
 -- with as many working bytes as when it was decided on
-pub still-carries : (p : Plan) (image : List ℕ) (words room : ℕ) (bytes clip x : List ℕ) (t t' : Totals) (d : Decision) → AccountedFor p image words room bytes clip t (accounted d t') → length bytes ≡ room → x ≡ clip → CanCarry image (length bytes) x d
+pub still-carries : (p : Plan) (image : List ℕ) (words room : ℕ) (bytes clip x : List ℕ) (t t' : Totals) (d : Result Decision Refusal) → AccountedFor p image words room bytes clip t (accounted d t') → length bytes ≡ room → x ≡ clip → CanCarry image (length bytes) x d
 still-carries p image words room bytes clip x t t' d f l e = rw (l, e) f.decided.fits
 
-module _ (ed : Edit) (image : List ℕ) (words room : ℕ) (bytes clip : List ℕ) (t t' : Totals) (d : Decision) where
+module _ (ed : Edit) (image : List ℕ) (words room : ℕ) (bytes clip : List ℕ) (t t' : Totals) (d : Result Decision Refusal) where
   -- opening and the plan are the whole edit
   edit-accounted : AccountedFor (planned (opening image words) (plan_of ed image)) image words room bytes clip t (accounted d t') →
       (carriedAnswer d ≡ numberedAs (verdictOf ed t image words room) (planNumber (plan_of ed image))) × (carriedImage d bytes clip image ≡ imageAfter ed t image words room) × (t' ≡ totalsAfter ed t image words room)
@@ -98,7 +97,7 @@ module _ (ed : Edit) (image : List ℕ) (words room : ℕ) (bytes clip : List �
           let e : countedVerdict (refused (Err c)) t image words room ≡ Err c = unfold countedVerdict in refl in
           (answered _ _ _ _ _ _ _ k.decided ∙ rw e, k.decided.after ∙ rw e, k.totals ∙ rw e)
 
-pub edited : (ed : Edit) (image words bytes clip x b image' words' bytes' : List ℕ) (n : ℕ) (t t' : Totals) (d : Decision) → AccountedFor (planned (opening image (length words)) (plan_of ed image)) image (length words) (length bytes) b clip t (accounted d t') → x ≡ clip →
+pub edited : (ed : Edit) (image words bytes clip x b image' words' bytes' : List ℕ) (n : ℕ) (t t' : Totals) (d : Result Decision Refusal) → AccountedFor (planned (opening image (length words)) (plan_of ed image)) image (length words) (length bytes) b clip t (accounted d t') → x ≡ clip →
     image' ≡ carriedImage d b x image → words' ≡ replicate n 0 → bytes' ≡ replicate (length b) 0 → n ≡ length words → length b ≡ length bytes →
     (r : Result ℕ Refusal) → r ≡ carriedAnswer d → Edited numberedAs ed (lent image words bytes t) (lent image' words' bytes' t') r
 edited ed image words bytes clip x b image' words' bytes' n t t' d f c i zw zb kw kb r q =

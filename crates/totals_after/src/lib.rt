@@ -8,24 +8,14 @@ ghost use Rattle.opening.specs.Inner.Prepared.{IsOpen};
 ghost use Rattle.totals.specs.Totals.{totalsIn};
 ghost use Rattle.totals.specs.Inner.Scan.{moved};
 ghost use Rattle.edits.specs.Edits.{noPlace};
-ghost use Rattle.totals_after.specs.Inner.Accounting.{OnDisc, unless, accounted, enteredAs, accountOf};
+ghost use Rattle.totals_after.specs.Inner.Accounting.{OnDisc, accounted, enteredAs, accountOf};
 
 use commit::Decision;
 use endian::wide;
 use header::Field;
-use refusal::Verdict;
+use refusal::{Refusal, Verdict};
 use space::DiscRegion;
 use totals::Record;
-
-// Refused where the record cannot move on.
-fn settled(decision: Decision, verdict: Verdict) -> Decision
-    ensures { result ≡ unless verdict decision }
-{
-    match verdict {
-        Ok(()) => decision,
-        Err(cause) => Decision::Refused(cause),
-    }
-}
 
 // The record after an edit: used bytes move by what the table and the edited file gain and lose, and the largest free region comes from the
 // used regions in the words. The header of an open image is whole, so its words are read at once. The new table has `size` bytes, and the file
@@ -66,27 +56,17 @@ pub fn account(
     image: &[u8],
     words: &[u32],
     m: usize,
-    decision: Decision,
+    decided: Result<Decision, Refusal>,
     record: &mut Record,
-) -> Decision
-    requires { IsOpen image.now words.now m × OnDisc image.now decision }
-    ensures { accounted result (totalsIn «record».new) ≡ accountOf image.now (regionsIn words.now 1 (m - 1)) decision (totalsIn «record».old) }
+) -> Result<Decision, Refusal>
+    requires { IsOpen image.now words.now m × OnDisc image.now decided }
+    ensures { accounted result (totalsIn «record».new) ≡ accountOf image.now (regionsIn words.now 1 (m - 1)) decided (totalsIn «record».old) }
 {
+    let decision = decided?;
     match decision {
-        Decision::Refused(_) => decision,
-        Decision::Nothing => {
-            let verdict = enter_none(image, words, m, record);
-            settled(decision, verdict)
-        }
-        Decision::Clip(_, _) => {
-            let verdict = enter_none(image, words, m, record);
-            settled(decision, verdict)
-        }
-        Decision::Write(_, size, w) => {
-            let old = w.old;
-            let new = w.place;
-            let verdict = enter(image, words, m, record, size as u32, old, new);
-            settled(decision, verdict)
-        }
+        Decision::Nothing => enter_none(image, words, m, record)?,
+        Decision::Clip(_, _) => enter_none(image, words, m, record)?,
+        Decision::Write(_, size, w) => enter(image, words, m, record, size as u32, w.old, w.place)?,
     }
+    Ok(decision)
 }

@@ -1,5 +1,6 @@
--- What is decided on, entered in the totals record. Assumes nothing: these are definitions.
-use Rattle.std.specs.Prelude.{Ok, Err}
+-- What is decided on, or why it is refused, entered in the totals record. Assumes nothing: these are definitions.
+use Rattle.std.specs.Prelude.{Result, Ok, Err}
+use Rattle.refusal.specs.declared.Refusal.{Refusal}
 use Rattle.refusal.specs.Refusal.{Verdict}
 use Rattle.std.specs.Prelude.{ℕ, ◌+◌, ◌≤◌, ◌≡◌, cond, List}
 use Rattle.refusal.specs.Refusal.{is_refused}
@@ -14,25 +15,25 @@ use Rattle.commit.specs.declared.Decision.{Decision}
 use Rattle.commit.specs.declared.Decision.TheVariants as decision
 use Rattle.commit.specs.Inner.Decision.{DecidedAs}
 
--- a table that is to be written ends on the disc
-abbrev pub OnDisc : List ℕ → Decision → Type 0
-OnDisc image (decision.Refused c) = Unit {0}
-OnDisc image decision.Nothing = Unit {0}
-OnDisc image (decision.Clip n at) = Unit {0}
-OnDisc image (decision.Write n size w) = fstOffset image + size ≤ discEnd image
+-- a table that is to be written ends on the disc; nothing is asked of an edit that is refused
+abbrev pub OnDisc : List ℕ → Result Decision Refusal → Type 0
+OnDisc image (Err c) = Unit {0}
+OnDisc image (Ok decision.Nothing) = Unit {0}
+OnDisc image (Ok (decision.Clip n at)) = Unit {0}
+OnDisc image (Ok (decision.Write n size w)) = fstOffset image + size ≤ discEnd image
 
 -- what is decided on once the record is tested too, and the record then
 pub record Accounted : Type 0 where
-  pub decision : Decision
+  pub decision : Result Decision Refusal
   pub totals : Totals
 
-abbrev pub accounted : Decision → Totals → Accounted
+abbrev pub accounted : Result Decision Refusal → Totals → Accounted
 accounted d t = record { decision = d; totals = t }
 
 -- refused if the record cannot move on
-abbrev pub unless : Verdict → Decision → Decision
-unless (Ok _) d = d
-unless (Err c) d = decision.Refused c
+abbrev pub unless : Verdict → Decision → Result Decision Refusal
+unless (Ok _) d = Ok d
+unless (Err c) d = Err c
 
 abbrev pub settledAs : Decision → Moved → Accounted
 settledAs d m = accounted (unless m.verdict d) m.totals
@@ -46,11 +47,11 @@ abbrev pub enteredAs : List ℕ → List DiscRegion → Totals → ℕ → DiscR
 enteredAs image xs t size old new =
     movedBy t (fstSize image + old.size) (size + new.size) (longestFrom (discEnd image) (goneOf old) new (fstOffset image + size) 0 xs)
 
-abbrev pub accountOf : List ℕ → List DiscRegion → Decision → Totals → Accounted
-accountOf image xs (decision.Refused c) t = accounted (decision.Refused c) t
-accountOf image xs decision.Nothing t = settledAs decision.Nothing (enteredAs image xs t (fstSize image) noPlace noPlace)
-accountOf image xs (decision.Clip n at) t = settledAs (decision.Clip n at) (enteredAs image xs t (fstSize image) noPlace noPlace)
-accountOf image xs (decision.Write n size w) t = settledAs (decision.Write n size w) (enteredAs image xs t size w.old w.place)
+abbrev pub accountOf : List ℕ → List DiscRegion → Result Decision Refusal → Totals → Accounted
+accountOf image xs (Err c) t = accounted (Err c) t
+accountOf image xs (Ok decision.Nothing) t = settledAs decision.Nothing (enteredAs image xs t (fstSize image) noPlace noPlace)
+accountOf image xs (Ok (decision.Clip n at)) t = settledAs (decision.Clip n at) (enteredAs image xs t (fstSize image) noPlace noPlace)
+accountOf image xs (Ok (decision.Write n size w)) t = settledAs (decision.Write n size w) (enteredAs image xs t size w.old w.place)
 
 -- the record afterwards
 abbrev pub countedTotals : Plan → Totals → List ℕ → ℕ → ℕ → Totals

@@ -1,5 +1,5 @@
 -- What is decided on, entered in the record, gives the totals of the image that the edit leaves. Assumes nothing.
-use Rattle.std.specs.Prelude.{Ok, Err}
+use Rattle.std.specs.Prelude.{Result, Ok, Err}
 use Rattle.refusal.specs.Refusal.{Verdict}
 use Rattle.std.specs.Prelude.{ℕ, ◌+◌, ◌-◌, ◌≤◌, ◌≡◌, refl, List, length}
 use Rattle.std.proofs.Common.{sym, ap, ◌∙◌, arith}
@@ -72,9 +72,9 @@ module _ (image w : List ℕ) (m : ℕ) (o : IsOpen image w m) (image' : List �
 -- ---- what is decided on
 
 -- a passes the decision on with the new record, or refuses it with the old one
-pub record Entered (v : Verdict) (d : Decision) (t t' : Totals) (a : Accounted) : Type 0 where
+pub record Entered (v : Verdict) (d : Result Decision Refusal) (t t' : Totals) (a : Accounted) : Type 0 where
   pub passed : v ≡ Ok tt → a ≡ accounted d t'
-  pub refused : (c : Refusal) → v ≡ Err c → a ≡ accounted (decision.Refused c) t
+  pub refused : (c : Refusal) → v ≡ Err c → a ≡ accounted (Err c) t
 
 -- the table in the working bytes has the size that was decided on
 table-size : (bytes table : List ℕ) (room size : ℕ) → length bytes ≡ room → size ≤ room → span bytes 0 size ≡ table → length table ≡ size
@@ -85,7 +85,7 @@ module _ (image w : List ℕ) (m room : ℕ) (bytes : List ℕ) (long : length b
   abbrev pub tested : Plan → Verdict
   tested p = first (planVerdict p image (length w) room) (totalsVerdict t (usedOf image) (usedOf image'))
 
-  refused-entered : (p : Plan) (c : Refusal) → Err c ≡ planVerdict p image (length w) room → Entered (tested p) (decision.Refused c) t (totalsTo t image image') (accounted (decision.Refused c) t)
+  refused-entered : (p : Plan) (c : Refusal) → Err c ≡ planVerdict p image (length w) room → Entered (tested p) (Err c) t (totalsTo t image image') (accounted (Err c) t)
   refused-entered p c h =
       let e : tested p ≡ Err c = rw (← h) in
       record {
@@ -94,57 +94,57 @@ module _ (image w : List ℕ) (m room : ℕ) (bytes : List ℕ) (long : length b
       }
 
   moved-entered : (p : Plan) (d : Decision) (a : Accounted) → Ok tt ≡ planVerdict p image (length w) room → a ≡ settledAs d (movedBy t (usedOf image) (usedOf image') (largestSize (freeOf image'))) →
-      Entered (tested p) d t (totalsTo t image image') a
+      Entered (tested p) (Ok d) t (totalsTo t image image') a
   moved-entered p d a h e = record { passed = λ q. e ∙ go q; refused = λ c q. e ∙ stop c q }
     where
       25-is : tested p ≡ totalsVerdict t (usedOf image) (usedOf image')
       25-is = rw (← h)
 
-      go : tested p ≡ Ok tt → settledAs d (movedBy t (usedOf image) (usedOf image') (largestSize (freeOf image'))) ≡ accounted d (totalsTo t image image')
+      go : tested p ≡ Ok tt → settledAs d (movedBy t (usedOf image) (usedOf image') (largestSize (freeOf image'))) ≡ accounted (Ok d) (totalsTo t image image')
       go q = rw (sym 25-is ∙ q)
 
-      stop : (c : Refusal) → tested p ≡ Err c → settledAs d (movedBy t (usedOf image) (usedOf image') (largestSize (freeOf image'))) ≡ accounted (decision.Refused c) t
+      stop : (c : Refusal) → tested p ≡ Err c → settledAs d (movedBy t (usedOf image) (usedOf image') (largestSize (freeOf image'))) ≡ accounted (Err c) t
       stop c q = rw (sym 25-is ∙ q)
 
   -- nothing is written but a clip
   none-entered : (p : Plan) (d : Decision) → Ok tt ≡ planVerdict p image (length w) room → Lays nothing image image' →
-      Entered (tested p) d t (totalsTo t image image') (settledAs d (enteredAs image (regionsIn w 1 (m - 1)) t (fstSize image) noPlace noPlace))
+      Entered (tested p) (Ok d) t (totalsTo t image image') (settledAs d (enteredAs image (regionsIn w 1 (m - 1)) t (fstSize image) noPlace noPlace))
   none-entered p d h l = moved-entered p d _ h (ap (settledAs d) (moves image w m o image' (fstSize image) noPlace noPlace l.0 t))
 
   -- a table is
   write-entered : (p : Plan) (k : ℕ) (c : Change) (n size : ℕ) (x : Writing) → Ok tt ≡ planVerdict p image (length w) room → Lays (change k c) image image' → length (encode c.nodes) ≡ size → c.old ≡ x.old → c.place ≡ x.place →
-      Entered (tested p) (decision.Write n size x) t (totalsTo t image image') (accountOf image (regionsIn w 1 (m - 1)) (decision.Write n size x) t)
+      Entered (tested p) (Ok (decision.Write n size x)) t (totalsTo t image image') (accountOf image (regionsIn w 1 (m - 1)) (Ok (decision.Write n size x)) t)
   write-entered p k c n size x h l l₀ eo ep =
       let s : LaidOut image image' size x.old x.place = rw (l₀, eo, ep) at l in
       moved-entered p (decision.Write n size x) _ h (ap (settledAs (decision.Write n size x)) (moves image w m o image' size x.old x.place s t))
 
   -- LAW: of what a plan comes to, whose layout the new image has
-  pub entered : (p : Plan) (clip : List ℕ) (d : Decision) → DecidedAs (planVerdict p image (length w) room) p image room bytes clip d → (planVerdict p image (length w) room ≡ Ok tt → Lays p image image') →
+  pub entered : (p : Plan) (clip : List ℕ) (d : Result Decision Refusal) → DecidedAs (planVerdict p image (length w) room) p image room bytes clip d → (planVerdict p image (length w) room ≡ Ok tt → Lays p image image') →
       Entered (tested p) d t (totalsTo t image image') (accountOf image (regionsIn w 1 (m - 1)) d t)
-  entered p clip (decision.Refused c) h l = refused-entered p c h.answer
-  entered (refused v) clip decision.Nothing h l = absurd h.carries
-  entered nothing clip decision.Nothing h l = none-entered nothing decision.Nothing refl (l refl)
-  entered (change k c) clip decision.Nothing h l = absurd h.carries
-  entered (filled k y p) clip decision.Nothing h l = absurd h.carries
-  entered (refused v) clip (decision.Clip n at) h l = absurd h.carries
-  entered nothing clip (decision.Clip n at) h l = absurd h.carries
-  entered (change k c) clip (decision.Clip n at) h l = absurd h.carries
-  entered (filled k y nothing) clip (decision.Clip n at) h l = none-entered (filled k y nothing) (decision.Clip n at) refl (l refl)
-  entered (filled k y (refused v)) clip (decision.Clip n at) h l = absurd h.carries
-  entered (filled k y (change j c)) clip (decision.Clip n at) h l = absurd h.carries
-  entered (filled k y (filled j z p)) clip (decision.Clip n at) h l = absurd h.carries
-  entered (refused v) clip (decision.Write n size x) h l = absurd h.carries
-  entered nothing clip (decision.Write n size x) h l = absurd h.carries
-  entered (change k c) clip (decision.Write n size x) h l =
+  entered p clip (Err c) h l = refused-entered p c h.answer
+  entered (refused v) clip (Ok decision.Nothing) h l = absurd h.carries
+  entered nothing clip (Ok decision.Nothing) h l = none-entered nothing decision.Nothing refl (l refl)
+  entered (change k c) clip (Ok decision.Nothing) h l = absurd h.carries
+  entered (filled k y p) clip (Ok decision.Nothing) h l = absurd h.carries
+  entered (refused v) clip (Ok (decision.Clip n at)) h l = absurd h.carries
+  entered nothing clip (Ok (decision.Clip n at)) h l = absurd h.carries
+  entered (change k c) clip (Ok (decision.Clip n at)) h l = absurd h.carries
+  entered (filled k y nothing) clip (Ok (decision.Clip n at)) h l = none-entered (filled k y nothing) (decision.Clip n at) refl (l refl)
+  entered (filled k y (refused v)) clip (Ok (decision.Clip n at)) h l = absurd h.carries
+  entered (filled k y (change j c)) clip (Ok (decision.Clip n at)) h l = absurd h.carries
+  entered (filled k y (filled j z p)) clip (Ok (decision.Clip n at)) h l = absurd h.carries
+  entered (refused v) clip (Ok (decision.Write n size x)) h l = absurd h.carries
+  entered nothing clip (Ok (decision.Write n size x)) h l = absurd h.carries
+  entered (change k c) clip (Ok (decision.Write n size x)) h l =
       let f = h.carries in
       write-entered (change k c) k c n size x h.answer (l (sym h.answer)) (table-size bytes (encode c.nodes) room size long h.fits.1.table.held f.table) (ap (λ (y : Change). y.old) f.change)
       (ap (λ (y : Change). y.place) f.change)
-  entered (filled k y (change j c)) clip (decision.Write n size x) h l =
+  entered (filled k y (change j c)) clip (Ok (decision.Write n size x)) h l =
       let f = h.carries in
       write-entered (filled k y (change j c)) j c n size x h.answer (l (sym h.answer)) (table-size bytes (encode c.nodes) room size long h.fits.1.table.held f.table) f.old f.place
-  entered (filled k y nothing) clip (decision.Write n size x) h l = absurd h.carries
-  entered (filled k y (refused v)) clip (decision.Write n size x) h l = absurd h.carries
-  entered (filled k y (filled j z p)) clip (decision.Write n size x) h l = absurd h.carries
+  entered (filled k y nothing) clip (Ok (decision.Write n size x)) h l = absurd h.carries
+  entered (filled k y (refused v)) clip (Ok (decision.Write n size x)) h l = absurd h.carries
+  entered (filled k y (filled j z p)) clip (Ok (decision.Write n size x)) h l = absurd h.carries
 
 -- LAW: a table that is to be written ends on the disc
 module _ (image w : List ℕ) (m room : ℕ) (bytes clip : List ℕ) (o : IsOpen image w m) (long : length bytes ≡ room) where
@@ -152,18 +152,18 @@ module _ (image w : List ℕ) (m room : ℕ) (bytes clip : List ℕ) (o : IsOpen
   table-ends c size v held e =
       rw (table-size bytes (encode c.nodes) room size long held e) at (room-law.room c image (length w) room (opened image (length w) o.known.passed o.known.bytes) v).end
 
-  on-disc : (p : Plan) (d : Decision) → DecidedAs (planVerdict p image (length w) room) p image room bytes clip d → OnDisc image d
-  on-disc p (decision.Refused c) h = tt
-  on-disc p decision.Nothing h = tt
-  on-disc p (decision.Clip n at) h = tt
-  on-disc (refused v) (decision.Write n size x) h = absurd h.carries
-  on-disc nothing (decision.Write n size x) h = absurd h.carries
-  on-disc (change k c) (decision.Write n size x) h = table-ends c size (sym h.answer) h.fits.1.table.held h.carries.table
-  on-disc (filled k y (change j c)) (decision.Write n size x) h = table-ends c size (sym h.answer) h.fits.1.table.held h.carries.table
-  on-disc (filled k y nothing) (decision.Write n size x) h = absurd h.carries
-  on-disc (filled k y (refused v)) (decision.Write n size x) h = absurd h.carries
-  on-disc (filled k y (filled j z p)) (decision.Write n size x) h = absurd h.carries
+  on-disc : (p : Plan) (d : Result Decision Refusal) → DecidedAs (planVerdict p image (length w) room) p image room bytes clip d → OnDisc image d
+  on-disc p (Err c) h = tt
+  on-disc p (Ok decision.Nothing) h = tt
+  on-disc p (Ok (decision.Clip n at)) h = tt
+  on-disc (refused v) (Ok (decision.Write n size x)) h = absurd h.carries
+  on-disc nothing (Ok (decision.Write n size x)) h = absurd h.carries
+  on-disc (change k c) (Ok (decision.Write n size x)) h = table-ends c size (sym h.answer) h.fits.1.table.held h.carries.table
+  on-disc (filled k y (change j c)) (Ok (decision.Write n size x)) h = table-ends c size (sym h.answer) h.fits.1.table.held h.carries.table
+  on-disc (filled k y nothing) (Ok (decision.Write n size x)) h = absurd h.carries
+  on-disc (filled k y (refused v)) (Ok (decision.Write n size x)) h = absurd h.carries
+  on-disc (filled k y (filled j z p)) (Ok (decision.Write n size x)) h = absurd h.carries
 
-pub may-account : (p : Plan) (image w : List ℕ) (m room : ℕ) (bytes clip : List ℕ) (d : Decision) → DecidedAs (planVerdict p image (length w) room) p image room bytes clip d → IsOpen image w m → length bytes ≡ room →
+pub may-account : (p : Plan) (image w : List ℕ) (m room : ℕ) (bytes clip : List ℕ) (d : Result Decision Refusal) → DecidedAs (planVerdict p image (length w) room) p image room bytes clip d → IsOpen image w m → length bytes ≡ room →
     IsOpen image w m × OnDisc image d
 may-account p image w m room bytes clip d h o long = (o, on-disc image w m room bytes clip o long p d h)
