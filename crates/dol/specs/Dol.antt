@@ -1,13 +1,11 @@
 -- The DOL header, as document 01 has it: "DOL header, 0xE4 bytes: 7 text and 11 data offsets, then addresses, then sizes in that order,
 -- BSS address, BSS size, entry point. File size: largest offset + size of the 18." Refused 24: "DOL header past the image, or a sum above
 -- 2^32 - 1". Fields are big-endian, of 4 bytes. Assumes nothing: these are definitions.
-use Rattle.std.specs.Prelude.{Result, Ok, Err}
-use Rattle.refusal.specs.Refusal.{Verdict}
+use Rattle.refusal.specs.Refusal.{Verdict, refuse}
 use Rattle.refusal.specs.declared.Refusal.{Refusal}
-use Rattle.std.specs.Prelude.{ℕ, zero, suc, ◌+◌, ◌-◌, ◌^◌, max, List, [], ◌∷◌, ltb, length, replicate}
+use Rattle.std.specs.Prelude.{ℕ, zero, suc, ◌+◌, ◌-◌, ◌^◌, max, List, [], ◌∷◌, ltb, length, replicate, Result, Ok, Err}
 use Rattle.endian.specs.Bytes.{be32}
 use Rattle.refusal.specs.declared.Refusal.TheVariants.{InvalidDol}
-use Rattle.refusal.specs.Refusal.{refuse}
 use Rattle.dol.specs.declared.DolHeader.{DolHeader}
 use Rattle.dol.specs.declared.DolAnswer.{DolAnswer}
 
