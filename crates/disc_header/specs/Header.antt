@@ -1,11 +1,9 @@
 -- The header as it is read, made and written, from document 01, "The header". Assumes nothing: these are definitions.
-use Rattle.std.specs.Prelude.{Result, Ok, Err}
-use Rattle.refusal.specs.Refusal.{Verdict}
-use Rattle.std.specs.Prelude.{ℕ, List, [], ◌∷◌, ltb, length, get_or, replicate}
+use Rattle.refusal.specs.Refusal.{Verdict, refuse}
+use Rattle.std.specs.Prelude.{ℕ, List, [], ◌∷◌, ltb, length, get_or, replicate, Result, Ok, Err}
 use Rattle.endian.specs.Bytes.{be32Bytes, put, span}
 use Rattle.refusal.specs.declared.Refusal.{Refusal}
 use Rattle.refusal.specs.declared.Refusal.TheVariants.{HeaderPastImage}
-use Rattle.refusal.specs.Refusal.{refuse}
 use Rattle.header.specs.declared.Field.{Field}
 use Rattle.disc_header.specs.declared.DiscHeader.{DiscHeader}
 use Rattle.header.specs.Fields.{fields, gameCodeField, makerCodeField, discIdField, versionField, audioStreamingField, streamBufferSizeField, unused00aField, wiiMagicField, gcnMagicField, gameNameField, debugMonitorOffsetField, debugMonitorAddrField, unused408Field, dolOffsetField, fstOffsetField, fstSizeField, fstMaxSizeField, userPositionField, userSizeField, discSizeField, unused43cField}

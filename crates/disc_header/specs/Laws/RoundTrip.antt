@@ -1,7 +1,6 @@
 -- Reading and writing undo each other: a header that was read and is written back changes no byte, and a header that was written is read. Assumes nothing.
-use Rattle.std.specs.Prelude.{Ok, Err}
 use Prim.Native.Nat.{ℕ, zero, suc, ◌+◌, ◌*◌, ◌/◌, ◌%◌, ◌^◌, ◌<◌, ◌≤◌}
-use Rattle.std.specs.Prelude.{◌≡◌, refl, true, length, get_or, drop}
+use Rattle.std.specs.Prelude.{◌≡◌, refl, true, length, get_or, drop, Ok, Err}
 use Rattle.std.proofs.Math.Path.{sym, ap}
 use Rattle.std.proofs.Common.{◌∙◌, arith, add-zero, take-append-drop, drop-drop, le-ltb}
 use mathlib.Core.List.{List, [], ◌∷◌, map}
@@ -13,11 +12,10 @@ use Rattle.header.specs.declared.Field.{Field}
 use Rattle.disc_header.specs.declared.DiscHeader.{DiscHeader}
 use Rattle.header.specs.Fields.{fields, gameCodeField, makerCodeField, discIdField, versionField, audioStreamingField, streamBufferSizeField, unused00aField, wiiMagicField, gcnMagicField, gameNameField, debugMonitorOffsetField, debugMonitorAddrField, unused408Field, dolOffsetField, fstOffsetField, fstSizeField, fstMaxSizeField, userPositionField, userSizeField, discSizeField, unused43cField}
 use Rattle.header.specs.Inner.Judged.{nth}
-use Rattle.header.specs.Laws.Tiling.{tile}
 use Rattle.header.specs.Verdicts.{gcnMagic, wiiMagic, word_of, headerVerdict}
 use Rattle.disc_header.specs.Header.{bytes_of, byte_of, headerOf, headerAnswer, headerRead, fieldBytes, putFields, putHeader, headerWritten}
 use Rattle.header.specs.Laws.FieldTests.{GoodHeader, header-passed, header-passes}
-use Rattle.header.specs.Laws.Tiling.{fields-tile, tile-start, tile-rest, tile-le}
+use Rattle.header.specs.Laws.Tiling.{fields-tile, tile-start, tile-rest, tile-le, tile}
 
 -- ---- fields that tile, and bytes that fill them
 
