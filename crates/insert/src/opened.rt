@@ -108,15 +108,11 @@ pub fn insert(
     parent: u32,
     is_directory: bool,
     name: &[u8],
-) -> Decision
+) -> Result<Decision, Refusal>
     requires { IsOpen image.now words.now m }
     ensures { Decided (plan_of (insertion is_directory parent name.now) image.now) image.now (length words.now) (length bytes.old) bytes.new result }
 {
-    match number_in(image, parent, name) {
-        Err(cause) => Decision::Refused(cause),
-        Ok(number) => {
-            let built = build(image, words, m, bytes, parent as usize, is_directory, name);
-            table_only::numbered(built, number)
-        }
-    }
+    let number = number_in(image, parent, name)?;
+    let built = build(image, words, m, bytes, parent as usize, is_directory, name);
+    table_only::numbered(built, number)
 }

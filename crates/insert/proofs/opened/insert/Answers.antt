@@ -3,4 +3,4 @@ use Rattle.insert.proofs.InsertionLaws.{into-directory, under-name}
 use Rattle.insert.proofs.opened.insert.Goals as goal
 
 pub build-built-requires : goal.build-built-requires
-build-built-requires c = (search, search into-directory, search under-name)
+build-built-requires c = (search, search (into-directory, c.in_ok-number.was), search (under-name, c.in_ok-number.was))
