@@ -5,7 +5,7 @@ ghost use Rattle.header.specs.Verdicts.{headerVerdict};
 ghost use Rattle.files.specs.Files.{openDolAnswer};
 ghost use Rattle.counter.specs.Replies.{Read, reply, verdictReply, dolWords, dolReply, dolWindowReply};
 
-use crate::answer::number_of;
+use crate::answer::{Value, number_of};
 use disc_header::DiscHeader;
 use dol::DolHeader;
 
@@ -15,12 +15,8 @@ pub extern "C" fn counter_header(image: &[u8], fields: &mut [u8; 0x440]) -> u32
     ensures { reply result fields.new ≡ verdictReply fields.old (headerVerdict image.now) (take 0x440 image.now) }
 {
     let read = DiscHeader::read_from(image);
-    let verdict = read.verdict;
-    match verdict {
-        Ok(()) => {
-            let header = read.header;
-            number_of(header.write_to(fields))
-        }
+    match read.verdict {
+        Ok(()) => number_of(read.header.write_to(fields)),
         Err(cause) => cause.number(),
     }
 }
@@ -47,15 +43,9 @@ fn put_sections(slots: &mut [u32], at: usize, texts: &[u32; 7], datas: &[u32; 11
 fn give_dol_header(slots: &mut [u32; 57], h: DolHeader)
     ensures { slots.new ≡ dolWords h }
 {
-    let text_offsets = h.text_offsets;
-    let data_offsets = h.data_offsets;
-    put_sections(slots, 0, &text_offsets, &data_offsets);
-    let text_addresses = h.text_addresses;
-    let data_addresses = h.data_addresses;
-    put_sections(slots, 18, &text_addresses, &data_addresses);
-    let text_sizes = h.text_sizes;
-    let data_sizes = h.data_sizes;
-    put_sections(slots, 36, &text_sizes, &data_sizes);
+    put_sections(slots, 0, &h.text_offsets, &h.data_offsets);
+    put_sections(slots, 18, &h.text_addresses, &h.data_addresses);
+    put_sections(slots, 36, &h.text_sizes, &h.data_sizes);
     slots[54] = h.bss_address;
     slots[55] = h.bss_size;
     slots[56] = h.entry_point;
@@ -71,13 +61,10 @@ pub extern "C" fn counter_open_dol(
     ensures { Read (dolReply header.old (openDolAnswer image.now (length words.old))) (reply result header.new) words.old words.new × (reply result window.new ≡ dolWindowReply window.old (openDolAnswer image.now (length words.old))) }
 {
     let file = files::open_dol(image, words);
-    let verdict = file.verdict;
-    match verdict {
+    match file.verdict {
         Ok(()) => {
-            let h = file.header;
-            give_dol_header(header, h);
-            let w = file.window;
-            *window = [w.start, w.len, w.position];
+            give_dol_header(header, file.header);
+            *window = file.window.slots();
             0
         }
         Err(cause) => cause.number(),

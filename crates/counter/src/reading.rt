@@ -49,10 +49,9 @@ pub extern "C" fn counter_make_record(image: &[u8], words: &mut [u32], record: &
     ensures { Read (recordReply «record».old (recordAnswer image.now (length words.old))) (reply result «record».new) words.old words.new }
 {
     let made = disc::make_record(image, words);
-    let verdict = made.verdict;
-    let t = made.totals;
-    match verdict {
+    match made.verdict {
         Ok(()) => {
+            let t = made.totals;
             *record = [t.used, t.largest, t.edits];
             0
         }

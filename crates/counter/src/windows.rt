@@ -5,7 +5,7 @@ ghost use Rattle.window.specs.declared.SeekFrom.TheVariants.{Start, Current, End
 ghost use Rattle.files.specs.Files.{openFileAnswer};
 ghost use Rattle.counter.specs.Replies.{Read, reply, replied, windowIn, windowWords};
 
-use crate::answer::give;
+use crate::answer::{Value, give};
 use window::{SeekFrom, Window};
 
 fn window_in(slots: &[u64; 3]) -> Window
@@ -71,10 +71,8 @@ pub extern "C" fn counter_read(
         × (window.new ≡ windowWords (movedOn (windowIn window.old) (count_of (windowIn window.old) (length image.now) (length buf.old))))
         × (buf.new ≡ bufferOf (windowIn window.old) image.now buf.old) }
 {
-    let w = window_in(window);
-    let read = w.read(image, buf);
-    let moved = read.window;
-    *window = [moved.start, moved.len, moved.position];
+    let read = window_in(window).read(image, buf);
+    *window = read.window.slots();
     *answer = [read.count as u64];
     0
 }
