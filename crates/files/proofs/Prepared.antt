@@ -3,7 +3,7 @@ use Rattle.std.specs.Prelude.{Result, Ok, Err}
 use Rattle.refusal.specs.Refusal.{Verdict}
 use Prim.Native.Nat.{ℕ, ◌<◌, ◌≤◌}
 use mathlib.Core.Path.{◌≡◌, sym, ap, ◌∙◌}
-use mathlib.Core.List.{List, []}
+use mathlib.Core.List.{List}
 use lib.ListN.{length}
 use borrow.Author.Tests.{lt-ltb, le-ltb}
 use Rattle.refusal.specs.declared.Refusal.{Refusal}
@@ -72,10 +72,10 @@ module _ (image w : List ℕ) (p : Result ℕ Refusal) (h : Prepares image w p) 
   refused-rows list c r = rw (was-refused image w p h c r)
 
   -- the executable, once the words are zeroed
-  pub ready-dol : (m n : ℕ) (a : DolFile) → length w ≡ n → p ≡ Ok m → a ≡ dolAs (dolVerdictOf image (dolOffset image)) image → a ≡ openDolAnswer image n
+  pub ready-dol : (m n : ℕ) (a : Result DolFile Refusal) → length w ≡ n → p ≡ Ok m → a ≡ dolAs (dolVerdictOf image (dolOffset image)) image → a ≡ openDolAnswer image n
   unfolding openDolAnswer dolVerdict
   ready-dol m n a k r e = rw (← k, ready-opened image w p h m r) e
 
-  pub refused-dol : (n : ℕ) (c : Refusal) (a : DolFile) → length w ≡ n → p ≡ Err c → a ≡ dolAs (Err c) [] → a ≡ openDolAnswer image n
+  pub refused-dol : (n : ℕ) (c : Refusal) → length w ≡ n → p ≡ Err c → Err c ≡ openDolAnswer image n
   unfolding openDolAnswer dolVerdict
-  refused-dol n c a k r e = rw (← k, was-refused image w p h c r) e
+  refused-dol n c k r = rw (← k, was-refused image w p h c r)

@@ -10,7 +10,7 @@ use Rattle.refusal.specs.declared.Refusal.TheVariants.{LimitOrMemory, ExpectedFi
 use Rattle.refusal.specs.Refusal.{refuse, first}
 use Rattle.header.specs.Verdicts.{dolOffset, fstOffset}
 use Rattle.window.specs.Window.{newWindow}
-use Rattle.dol.specs.Dol.{dolHeaderOf, fileSizeOf, dolVerdictOf, newHeader}
+use Rattle.dol.specs.Dol.{dolHeaderOf, fileSizeOf, dolVerdictOf}
 use Rattle.tree.specs.Lookup.{lookup, found_at, entryFound}
 use Rattle.tree.specs.declared.Entry.TheVariants.{File, Directory}
 use Rattle.tree.specs.declared.Found.{Found}
@@ -59,14 +59,13 @@ maxFileSizeAnswer image words k = fileSizeAnswer image words (entryAnswer image 
 unfoldable pub dolVerdict : List ℕ → ℕ → Verdict
 dolVerdict image words = first (opening image words) (dolVerdictOf image (dolOffset image))
 
--- the header and the window; with a refusal zeros
-abbrev pub dolAs : Verdict → List ℕ → DolFile
-dolAs (Ok _) image = record {
-  verdict = Ok tt;
+-- the header and the window
+abbrev pub dolAs : Verdict → List ℕ → Result DolFile Refusal
+dolAs (Ok _) image = Ok (record {
   header = dolHeaderOf image (dolOffset image);
   window = newWindow (dolOffset image) (fileSizeOf (dolHeaderOf image (dolOffset image)));
-}
-dolAs (Err c) image = record { verdict = Err c; header = newHeader; window = newWindow 0 0 }
+})
+dolAs (Err c) image = Err c
 
-unfoldable pub openDolAnswer : List ℕ → ℕ → DolFile
+unfoldable pub openDolAnswer : List ℕ → ℕ → Result DolFile Refusal
 openDolAnswer image words = dolAs (dolVerdict image words) image

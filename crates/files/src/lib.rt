@@ -9,13 +9,11 @@ use dol::DolHeader;
 pub use executable::open_dol;
 pub use listing::entries;
 pub use lookups::{entry, lookup, max_file_size, open_file};
-use refusal::Verdict;
 use window::Window;
 
 // The executable: its header, and the window that shows it.
 #[derive(Clone, Copy)]
 pub struct DolFile {
-    pub verdict: Verdict,
     pub header: DolHeader,
     pub window: Window,
 }
