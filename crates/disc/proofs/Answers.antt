@@ -23,7 +23,7 @@ use Rattle.totals.specs.declared.Totals.{Totals}
 use Rattle.program.specs.declared.Program.{Program}
 use Rattle.program.specs.declared.Program.TheVariants as program
 use Rattle.program.specs.Program.{program_of}
-use Rattle.disc.specs.Calls.{opened_of, totalsAnswer, totalsOf, recordMade, noRecord, recordAnswer, programAnswer, freeAnswer, freeList, allocateAnswer}
+use Rattle.disc.specs.Calls.{opened_of, totalsAnswer, totalsOf, recordAnswer, programAnswer, freeAnswer, freeList, allocateAnswer}
 
 module _ (image w : List ℕ) (p : Result ℕ Refusal) (h : Prepares image w p) where
   -- opening
@@ -46,13 +46,13 @@ module _ (image w : List ℕ) (p : Result ℕ Refusal) (h : Prepares image w p) 
   refused-totals c r = refused-behind image w p h Err _ c r
 
   -- the totals record
-  pub ready-record : (m : ℕ) (t : Totals) → p ≡ Ok m → t ≡ totalsOf image 0 → recordMade t ≡ recordAnswer image (length w)
+  pub ready-record : (m : ℕ) (t : Totals) → p ≡ Ok m → t ≡ totalsOf image 0 → Ok t ≡ recordAnswer image (length w)
   unfolding recordAnswer
-  ready-record m t r e = ap recordMade e ∙ behind-passed (opening image (length w)) noRecord (recordMade (totalsOf image 0)) (ready-opened image w p h m r)
+  ready-record m t r e = ap Ok e ∙ behind-passed (opening image (length w)) Err (Ok (totalsOf image 0)) (ready-opened image w p h m r)
 
-  pub refused-record : (c : Refusal) → p ≡ Err c → noRecord c ≡ recordAnswer image (length w)
+  pub refused-record : (c : Refusal) → p ≡ Err c → Err c ≡ recordAnswer image (length w)
   unfolding recordAnswer
-  refused-record c r = refused-behind image w p h noRecord _ c r
+  refused-record c r = refused-behind image w p h Err _ c r
 
   -- the program, once the words are zeroed
   pub ready-program : (m n : ℕ) (a : Program) → length w ≡ n → p ≡ Ok m → a ≡ program_of image → a ≡ programAnswer image n

@@ -14,7 +14,6 @@ use Rattle.totals.specs.declared.Totals.{Totals}
 use Rattle.program.specs.declared.Program.{Program}
 use Rattle.program.specs.declared.Program.TheVariants as program
 use Rattle.program.specs.Program.{program_of}
-use Rattle.disc.specs.declared.RecordMade.{RecordMade}
 use Rattle.opening.specs.Opening.{opening, freeOf, usedOf}
 use Rattle.answers.specs.Answers.{behind, discOf}
 
@@ -33,16 +32,9 @@ totalsAnswer image words =
 abbrev pub totalsOf : List ℕ → ℕ → Totals
 totalsOf image n = record { used = usedOf image; largest = largestSize (freeOf image); edits = n }
 
--- whether one is made, and its numbers; with a refusal zeros
-abbrev pub recordMade : Totals → RecordMade
-recordMade t = record { verdict = Ok tt; totals = t }
-
-abbrev pub noRecord : Refusal → RecordMade
-noRecord c = record { verdict = Err c; totals = record { used = 0; largest = 0; edits = 0 } }
-
 -- "A record made at opening, its count 0"
-unfoldable pub recordAnswer : List ℕ → ℕ → RecordMade
-recordAnswer image words = behind (opening image words) noRecord (recordMade (totalsOf image 0))
+unfoldable pub recordAnswer : List ℕ → ℕ → Result Totals Refusal
+recordAnswer image words = behind (opening image words) Err (Ok (totalsOf image 0))
 
 -- document 02, Point 2: "a nonzero DOL offset means a program from there"; wherever it lies
 unfoldable pub programAnswer : List ℕ → ℕ → Program

@@ -3,21 +3,12 @@
 
 mod regions;
 
-use refusal::Verdict;
 pub use regions::{
     allocate, free_clusters, free_regions, make_record, max_region_size, open, program, totals,
 };
-use totals::Totals;
 
 #[derive(Clone, Copy)]
 pub struct DiscTotals {
     pub disc_end: u32,
     pub used: u32,
-}
-
-// Whether a totals record is made, and the record; with a refusal zeros.
-#[derive(Clone, Copy)]
-pub struct RecordMade {
-    pub verdict: Verdict,
-    pub totals: Totals,
 }

@@ -5,7 +5,7 @@ ghost use Rattle.answers.specs.Answers.{maxRegionSizeAnswer};
 ghost use Rattle.disc.specs.Calls.{opened_of, totalsAnswer, totalsOf, recordAnswer, programAnswer, freeRegionsAnswer, freeRegionsList, freeClustersAnswer, freeClustersList, allocateAnswer};
 ghost use Rattle.opening.specs.Inner.Prepared.{IsOpen, Prepares};
 
-use crate::{DiscTotals, RecordMade};
+use crate::DiscTotals;
 use answers::Disc;
 use program::Program;
 use refusal::Refusal;
@@ -54,27 +54,16 @@ fn record_of(image: &[u8], words: &[u32], count: usize) -> Totals
     }
 }
 
-fn recorded(image: &[u8], words: &[u32], prepared: Result<usize, Refusal>) -> RecordMade
+fn recorded(
+    image: &[u8],
+    words: &[u32],
+    prepared: Result<usize, Refusal>,
+) -> Result<Totals, Refusal>
     requires { Prepares image.now words.now prepared }
     ensures { result ≡ recordAnswer image.now (length words.now) }
 {
-    match prepared {
-        Ok(count) => {
-            let totals = record_of(image, words, count);
-            RecordMade {
-                verdict: Ok(()),
-                totals,
-            }
-        }
-        Err(cause) => RecordMade {
-            verdict: Err(cause),
-            totals: Totals {
-                used: 0,
-                largest: 0,
-                edits: 0,
-            },
-        },
-    }
+    let count = prepared?;
+    Ok(record_of(image, words, count))
 }
 
 fn listed(
@@ -142,7 +131,7 @@ pub fn totals(image: &[u8], words: &mut [u32]) -> Result<DiscTotals, Refusal>
 }
 
 // A totals record of the image, its count 0.
-pub fn make_record(image: &[u8], words: &mut [u32]) -> RecordMade
+pub fn make_record(image: &[u8], words: &mut [u32]) -> Result<Totals, Refusal>
     ensures { (result ≡ recordAnswer image.now (length words.old)) × (words.new ≡ zeros words.old) }
 {
     let prepared = opening::prepare(image, words);
