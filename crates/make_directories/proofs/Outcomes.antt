@@ -26,13 +26,11 @@ use Rattle.edits.specs.Change.{change}
 use Rattle.edits.specs.Edits.{make, tableOnly, planMakeDirectories}
 use Rattle.edits.specs.Inner.Troubles.{madeVerdict, troubleOf}
 use Rattle.commit.specs.declared.Decision.{Decision}
-use Rattle.commit.specs.declared.Decision.TheVariants as decision
 use Rattle.fst_grow.specs.Inner.Growth.{treeIn, Built}
 use Rattle.table_only.specs.Inner.Decisions.{tableDecision}
 use Rattle.table_only.proofs.BuiltTable.{well-open}
 use Rattle.make_walk.specs.Inner.Walk.{pathVerdict}
 use Rattle.make_directories.specs.declared.making.Reached.{Reached}
-use Rattle.make_directories.specs.declared.making.Reached.TheVariants as reached
 use Rattle.make_directories.specs.Inner.Making.{Reaches}
 use Rattle.make_directories.proofs.Plans.{path-short, path-refused, starts-inside, makes-all, start-refused, made-refused, made-small, made-placed}
 
@@ -46,19 +44,15 @@ pub path-judged : (image tab : List ℕ) (words start : ℕ) (path : List ℕ) (
 unfolding nodesIn
 path-judged image tab words start path r is known h q = rw is at q ∙ path-short (nodesIn image) start path (well-open image words known) h
 
-module _ (nodes : List Node) (start : ℕ) (path : List ℕ) (v : Verdict) (judged : v ≡ pathVerdict nodes start path) where
-  pub path-stops : (image : List ℕ) (words room : ℕ) (bytes : List ℕ) (c : Refusal) → v ≡ Err c → Decided (planMakeDirectories nodes start path) image words room bytes (decision.Refused c)
-  path-stops image words room bytes c e = path-refused nodes start path image words room bytes c (sym judged ∙ e)
-
-  pub path-passes : v ≡ Ok tt → pathVerdict nodes start path ≡ Ok tt
-  path-passes e = sym judged ∙ e
+pub path-stops : (nodes : List Node) (start : ℕ) (path image : List ℕ) (words room : ℕ) (bytes : List ℕ) (c : Refusal) → Err c ≡ pathVerdict nodes start path → Decided (planMakeDirectories nodes start path) image words room bytes (Err c)
+path-stops nodes start path image words room bytes c judged = path-refused nodes start path image words room bytes c (sym judged)
 
 -- ---- the tree of the image could not be written anew
 
-pub unstarted : (image w s t after : List ℕ) (m start : ℕ) (path : List ℕ) (v : Verdict) (r : Result ℕ Refusal) (c : Refusal) → v ≡ pathVerdict (nodesIn image) start path → v ≡ Ok tt → IsOpen image w m →
-    Built (nodesIn image) (length w) s t r → r ≡ Err c → Decided (planMakeDirectories (nodesIn image) start path) image (length w) (length s) after (decision.Refused c)
-unstarted image w s t after m start path v r c judged passed o b e =
-    start-refused (nodesIn image) start path (sym judged ∙ passed) (well-open image (length w) o.known) image (length w) (length s) s t after r c refl b e
+pub unstarted : (image w s t after : List ℕ) (m start : ℕ) (path : List ℕ) (r : Result ℕ Refusal) (c : Refusal) → Ok tt ≡ pathVerdict (nodesIn image) start path → IsOpen image w m →
+    Built (nodesIn image) (length w) s t r → r ≡ Err c → Decided (planMakeDirectories (nodesIn image) start path) image (length w) (length s) after (Err c)
+unstarted image w s t after m start path r c judged o b e =
+    start-refused (nodesIn image) start path (sym judged) (well-open image (length w) o.known) image (length w) (length s) s t after r c refl b e
 
 -- ---- the walk made the directories, or there was no room
 
@@ -69,14 +63,14 @@ module _ (image s : List ℕ) (size start : ℕ) (path : List ℕ) (same : treeI
   pub makes-in-tree : madeVerdict (make (treeIn s size) [] start false (components path)) ≡ Ok tt
   makes-in-tree = rw same (makes-all (nodesIn image) start path passed)
 
-  module _ (words room : ℕ) (after : List ℕ) (r : Reached) (w : WellFormed (nodesIn image)) (h : Reaches (make (treeIn s size) [] start false (components path)) words room after r) where
-    pub walk_refused : (bytes : List ℕ) (c : Refusal) → r ≡ reached.Refused c → Decided (planMakeDirectories (nodesIn image) start path) image words room bytes (decision.Refused c)
+  module _ (words room : ℕ) (after : List ℕ) (r : Result Reached Refusal) (w : WellFormed (nodesIn image)) (h : Reaches (make (treeIn s size) [] start false (components path)) words room after r) where
+    pub walk_refused : (bytes : List ℕ) (c : Refusal) → r ≡ Err c → Decided (planMakeDirectories (nodesIn image) start path) image words room bytes (Err c)
     walk_refused bytes c e = made-refused (nodesIn image) start path passed w image words room (treeIn s size) same after r h bytes c e
 
-    module _ (k n : ℕ) (e : r ≡ reached.At k n) where
-      pub reached-fits : Fits w32 k
-      reached-fits = record { fits = made-small (nodesIn image) start path passed w image words room (treeIn s size) same after r h k n e }
+    module _ (q : Reached) (e : r ≡ Ok q) where
+      pub reached-fits : Fits w32 q.entry
+      reached-fits = record { fits = made-small (nodesIn image) start path passed w image words room (treeIn s size) same after r h q e }
 
-      pub walk-placed : (x : Result ℕ Refusal) (g : Decision) → length after ≡ room → Decided (change 0 (tableOnly (treeIn after n))) image words (length after) after (tableDecision 0 x) → g ≡ tableDecision k x →
+      pub walk-placed : (x : Result ℕ Refusal) (g : Result Decision Refusal) → length after ≡ room → Decided (change 0 (tableOnly (treeIn after q.size))) image words (length after) after (tableDecision 0 x) → g ≡ tableDecision q.entry x →
           Decided (planMakeDirectories (nodesIn image) start path) image words room after g
-      walk-placed x g l d q = rw q (made-placed (nodesIn image) start path passed w image words room (treeIn s size) same after r h k n (length after) x e l d)
+      walk-placed x g l d is = rw is (made-placed (nodesIn image) start path passed w image words room (treeIn s size) same after r h q (length after) x e l d)

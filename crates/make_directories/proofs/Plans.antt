@@ -25,13 +25,11 @@ use Rattle.edits.specs.Inner.Troubles.{madeVerdict, troubleOf}
 use Rattle.edits.specs.Laws.Troubles.{make-trouble}
 use Rattle.edits.specs.Laws.MadeTree.{make-grows}
 use Rattle.commit.specs.Inner.Decision.{Decided}
-use Rattle.commit.specs.declared.Decision.TheVariants as decision
 use Rattle.fst_grow.specs.Inner.Growth.{treeIn, Built}
 use Rattle.table_only.specs.Inner.Decisions.{tableDecision}
 use Rattle.commit.proofs.Decisions.{refused-decided}
 use Rattle.table_only.proofs.TableChanges.{unbuilt, change-numbered, same-decided}
 use Rattle.make_directories.specs.declared.making.Reached.{Reached}
-use Rattle.make_directories.specs.declared.making.Reached.TheVariants as reached
 use Rattle.make_walk.specs.Inner.Walk.{pathVerdict}
 use Rattle.make_directories.specs.Inner.Making.{madeTree, madeEntry, Reaches}
 use Rattle.make_directories.proofs.Turns.{all_made}
@@ -54,7 +52,7 @@ module _ (nodes : List Node) (start : ℕ) (path : List ℕ) where
       go true e = refl
       go false e = sym (make-trouble nodes start (components path) (well-nested nodes w) (leb-false (length nodes) start e))
 
-  pub path-refused : (image : List ℕ) (words room : ℕ) (bytes : List ℕ) (c : Refusal) → pathVerdict nodes start path ≡ Err c → Decided plan image words room bytes (decision.Refused c)
+  pub path-refused : (image : List ℕ) (words room : ℕ) (bytes : List ℕ) (c : Refusal) → pathVerdict nodes start path ≡ Err c → Decided plan image words room bytes (Err c)
   unfolding pathVerdict planMakeDirectories
   path-refused image words room bytes c e = refused-decided image words room bytes plan c (go (ltb 1024 (length path)) (leb (length nodes) start) whole e)
     where
@@ -94,28 +92,28 @@ module _ (nodes : List Node) (start : ℕ) (path : List ℕ) where
 
     module _ (w : WellFormed nodes) (image : List ℕ) (words room : ℕ) where
       -- there was no room for a tree on the way
-      no_room : (M : List Node) (c : Refusal) (bytes : List ℕ) → Bigger M (madeTree whole) → Reaches (made M 0 false) words room bytes (reached.Refused c) → Decided plan image words room bytes (decision.Refused c)
+      no_room : (M : List Node) (c : Refusal) (bytes : List ℕ) → Bigger M (madeTree whole) → Reaches (made M 0 false) words room bytes (Err c) → Decided plan image words room bytes (Err c)
       no_room M c bytes g h =
           rw plan-is (refused-decided image words room bytes (change (madeEntry whole) (tableOnly (madeTree whole))) c (unbuilt M (madeTree whole) words room (madeEntry whole) image g h.1 ∙ ap Err (sym h.0)))
 
-      pub start-refused : (s t bytes : List ℕ) (r : Result ℕ Refusal) (c : Refusal) → length s ≡ room → Built nodes words s t r → r ≡ Err c → Decided plan image words room bytes (decision.Refused c)
+      pub start-refused : (s t bytes : List ℕ) (r : Result ℕ Refusal) (c : Refusal) → length s ≡ room → Built nodes words s t r → r ≡ Err c → Decided plan image words room bytes (Err c)
       start-refused s t bytes r c l b e = no_room nodes c bytes (grows w).0 (rw (e, l) at b)
 
-      module _ (T : List Node) (same : T ≡ nodes) (after : List ℕ) (r : Reached) (h : Reaches (make T [] start false (components path)) words room after r) where
-        pub made-refused : (bytes : List ℕ) (c : Refusal) → r ≡ reached.Refused c → Decided plan image words room bytes (decision.Refused c)
+      module _ (T : List Node) (same : T ≡ nodes) (after : List ℕ) (r : Result Reached Refusal) (h : Reaches (make T [] start false (components path)) words room after r) where
+        pub made-refused : (bytes : List ℕ) (c : Refusal) → r ≡ Err c → Decided plan image words room bytes (Err c)
         made-refused bytes c e = no_room (madeTree whole) c bytes (bigger-same (madeTree whole) (grows w).0.well) (rw (same, e) at h)
 
-        pub made_at : (k n : ℕ) → r ≡ reached.At k n → Reaches whole words room after (reached.At k n)
-        made_at k n e = rw (same, e) at h
+        pub made_at : (q : Reached) → r ≡ Ok q → Reaches whole words room after (Ok q)
+        made_at q e = rw (same, e) at h
 
-        pub made-small : (k n : ℕ) → r ≡ reached.At k n → k < 2 ^ 32
-        made-small k n e =
-            let a = made_at k n e in
-            let i = within-limits (treeIn after n) words a.1.within in
+        pub made-small : (q : Reached) → r ≡ Ok q → q.entry < 2 ^ 32
+        made-small q e =
+            let a = made_at q e in
+            let i = within-limits (treeIn after q.size) words a.1.within in
             omega (arith, a.0, (grows w).1, i.few, ap length a.2)
 
-        pub made-placed : (k n room' : ℕ) (x : Result ℕ Refusal) → r ≡ reached.At k n → room' ≡ room → Decided (change 0 (tableOnly (treeIn after n))) image words room' after (tableDecision 0 x) →
-            Decided plan image words room after (tableDecision k x)
-        made-placed k n room' x e l d =
-            let a = made_at k n e in
-            rw plan-is (change-numbered image words room after (madeEntry whole) k (tableOnly (madeTree whole)) x a.0 (same-decided (treeIn after n) (madeTree whole) words room' room image after (tableDecision 0 x) a.2 l d))
+        pub made-placed : (q : Reached) (room' : ℕ) (x : Result ℕ Refusal) → r ≡ Ok q → room' ≡ room → Decided (change 0 (tableOnly (treeIn after q.size))) image words room' after (tableDecision 0 x) →
+            Decided plan image words room after (tableDecision q.entry x)
+        made-placed q room' x e l d =
+            let a = made_at q e in
+            rw plan-is (change-numbered image words room after (madeEntry whole) q.entry (tableOnly (madeTree whole)) x a.0 (same-decided (treeIn after q.size) (madeTree whole) words room' room image after (tableDecision 0 x) a.2 l d))

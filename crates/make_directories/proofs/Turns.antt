@@ -29,7 +29,7 @@ use Rattle.edits.specs.Inner.Troubles.{madeVerdict}
 use Rattle.edits.specs.Laws.MadeTree.{bad-stays, AllLt, make-grows}
 use Rattle.fst_grow.specs.Inner.Growth.{treeIn, Stands, IsDirectory, added, Built}
 use Rattle.fst_grow.proofs.GrowthLaws.{grown}
-use Rattle.make_directories.specs.declared.making.Reached.TheVariants.{At, Refused}
+use Rattle.make_directories.specs.declared.making.Reached.{Reached}
 use Rattle.make_directories.specs.Inner.Making.{madeTree, madeEntry, newIn, turn_of, CanTurn, InBytes, Reaches}
 
 -- ---- a table that stands in the bytes is an accepted one
@@ -143,13 +143,13 @@ module _ (M : List Node) (k n : ℕ) (nm : List ℕ) (cs : List (List ℕ)) (F :
 
 -- ---- the loop along the path, which stands before the component that starts at `at`; F is the tree at its end, and j the entry
 
-pub record Making (F : List Node) (j : ℕ) (path : List ℕ) (words room : ℕ) (bytes : List ℕ) (size k at : ℕ) : Type 0 where
-  pub stands : Stands bytes size words
+pub record Making (F : List Node) (j : ℕ) (path : List ℕ) (words room : ℕ) (bytes : List ℕ) (p : Reached) (at : ℕ) : Type 0 where
+  pub stands : Stands bytes p.size words
   pub long : length bytes ≡ room
-  pub inside : k < length (treeIn bytes size)
+  pub inside : p.entry < length (treeIn bytes p.size)
   pub at_most : at ≤ length path
   pub steps : ℕ
-  pub left : make (treeIn bytes size) (ups (treeIn bytes size) k steps) k false (components (drop at path)) ≡ made F j false
+  pub left : make (treeIn bytes p.size) (ups (treeIn bytes p.size) p.entry steps) p.entry false (components (drop at path)) ≡ made F j false
 
 -- the walk met no trouble
 pub all_made : (m : Made) → madeVerdict m ≡ Ok tt → m ≡ made (madeTree m) (madeEntry m) false
@@ -158,14 +158,17 @@ all_made (made nodes k true) e = let z : ◌≡◌ {A = ℕ} 0 1 = cc in absurd 
 all_made (made nodes k false) e = refl
 
 pub making-start : (start : ℕ) (path : List ℕ) (words : ℕ) (bytes : List ℕ) (size : ℕ) → Stands bytes size words → start < length (treeIn bytes size) →
-    (m : Made) → make (treeIn bytes size) [] start false (components path) ≡ m → madeVerdict m ≡ Ok tt → Making (madeTree m) (madeEntry m) path words (length bytes) bytes size start 0
+    (m : Made) → make (treeIn bytes size) [] start false (components path) ≡ m → madeVerdict m ≡ Ok tt → Making (madeTree m) (madeEntry m) path words (length bytes) bytes (record { entry = start; size = size }) 0
 unfolding ups
 making-start start path words bytes size s h m f e = record { stands = s; long = refl; inside = h; at_most = omega arith; steps = 0; left = f ∙ all_made m e }
 
-module _ {F : List Node} {j : ℕ} {path : List ℕ} {words room : ℕ} {bytes : List ℕ} {size k at : ℕ} (v : Making F j path words room bytes size k at) (e : ℕ) (nm : List ℕ)
+module _ {F : List Node} {j : ℕ} {path : List ℕ} {words room : ℕ} {bytes : List ℕ} {p : Reached} {at : ℕ} (v : Making F j path words room bytes p at) (e : ℕ) (nm : List ℕ)
     (cut : components (drop at path) ≡ nm ∷ componentsAfter path e) where
   abbrev M : List Node
-  M = treeIn bytes size
+  M = treeIn bytes p.size
+
+  abbrev k : ℕ
+  k = p.entry
 
   onwards : make M (ups M k v.steps) k false (nm ∷ componentsAfter path e) ≡ made F j false
   onwards = rw cut at v.left
@@ -176,26 +179,26 @@ module _ {F : List Node} {j : ℕ} {path : List ℕ} {words room : ℕ} {bytes :
   next : Onward (turn_of M k nm) (componentsAfter path e) F j
   next = onward-turn M k v.steps nm (componentsAfter path e) F j v.stands.well v.inside onwards
 
-  pub making-refused : (c : Refusal) → Reaches (turn_of M k nm) words (length bytes) bytes (Refused c) → (c ≡ LimitOrMemory) × (limits F words ≡ Ok tt → room < length (encode F))
+  pub making-refused : (c : Refusal) → Reaches (turn_of M k nm) words (length bytes) bytes (Err c) → (c ≡ LimitOrMemory) × (limits F words ≡ Ok tt → room < length (encode F))
   making-refused c r =
       let o = next in
       let T = madeTree (turn_of M k nm) in
       let b : Bigger T F = (make-grows T _ _ false (componentsAfter path e) F j o.well o.inside (ups-inside T _ o.steps o.inside) o.left).0 in
       (r.0, λ l. omega (arith, r.1 (bigger-limits T F words b l), bigger-encode T F b, v.long))
 
-  module _ (bytes' : List ℕ) (i size' : ℕ) (r : Reaches (turn_of M k nm) words (length bytes) bytes' (At i size')) where
-    pub making-end : length path ≤ e → (i ≡ j) × Stands bytes' size' words × (treeIn bytes' size' ≡ F)
+  module _ (bytes' : List ℕ) (q : Reached) (r : Reaches (turn_of M k nm) words (length bytes) bytes' (Ok q)) where
+    pub making-end : length path ≤ e → (q.entry ≡ j) × Stands bytes' q.size words × (treeIn bytes' q.size ≡ F)
     unfolding make
     making-end h =
         let o = next in
         let T = madeTree (turn_of M k nm) in
-        let q : make T (ups T (madeEntry (turn_of M k nm)) o.steps) (madeEntry (turn_of M k nm)) false [] ≡ made F j false = rw (le-ltb e (length path) h) at o.left in
-        let d = must (isDirectory (get_or T (madeEntry (turn_of M k nm)) none)) (made T (madeEntry (turn_of M k nm)) false) ExpectedDirectory F j q in
+        let l : make T (ups T (madeEntry (turn_of M k nm)) o.steps) (madeEntry (turn_of M k nm)) false [] ≡ made F j false = rw (le-ltb e (length path) h) at o.left in
+        let d = must (isDirectory (get_or T (madeEntry (turn_of M k nm)) none)) (made T (madeEntry (turn_of M k nm)) false) ExpectedDirectory F j l in
         let a : T ≡ F = ap madeTree d.1 in
         let b : madeEntry (turn_of M k nm) ≡ j = ap madeEntry d.1 in
         (r.0 ∙ b, r.1, r.2 ∙ a)
 
-    pub making-turn : at ≤ e → e < length path → length bytes' ≡ length bytes → Making F j path words room bytes' size' i (e + 1)
+    pub making-turn : at ≤ e → e < length path → length bytes' ≡ length bytes → Making F j path words room bytes' q (e + 1)
     making-turn h l same =
         let o = next in
         record {
@@ -211,7 +214,7 @@ module _ {F : List Node} {j : ℕ} {path : List ℕ} {words room : ℕ} {bytes :
 
 module _ (s t : List ℕ) (size words k : ℕ) (nm : List ℕ) (st : Stands s size words) (dir : IsDirectory (treeIn s size) k) (good : GoodName nm) (r : Result ℕ Refusal)
     (b : Built (added (treeIn s size) true k nm) words s t r) where
-  pub new-reached : (number n : ℕ) → number ≡ newNumber (treeIn s size) k → r ≡ Ok n → Reaches (newIn (treeIn s size) k nm) words (length s) t (At number n)
+  pub new-reached : (number n : ℕ) → number ≡ newNumber (treeIn s size) k → r ≡ Ok n → Reaches (newIn (treeIn s size) k nm) words (length s) t (Ok (record { entry = number; size = n }))
   new-reached number n e f =
-      let q = grown s size words st true k nm dir good t r b n f in
-      (e, q.0, q.1)
+      let g = grown s size words st true k nm dir good t r b n f in
+      (e, g.0, g.1)

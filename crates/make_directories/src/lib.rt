@@ -19,7 +19,6 @@ ghost use Rattle.commit.specs.Inner.Decision.{Decided};
 ghost use Rattle.make_walk.specs.Inner.Walk.{pathVerdict};
 
 use commit::Decision;
-use making::Reached;
 use refusal::{Refusal, Verdict};
 
 // 15, then the troubles along the path.
@@ -54,18 +53,13 @@ fn make_in(
     size: usize,
     start: u32,
     path: &[u8],
-) -> Decision
+) -> Result<Decision, Refusal>
     requires { IsOpen image.now words.now m × Stands bytes.old size (length words.now) × (treeIn bytes.old size ≡ nodesIn image.now) × (pathVerdict (nodesIn image.now) start path.now ≡ (Ok tt)) }
     ensures { Decided (planMakeDirectories (nodesIn image.now) start path.now) image.now (length words.now) (length bytes.old) bytes.new result }
 {
-    let reached = making::make_along(bytes, size, words.len(), start as usize, path);
-    match reached {
-        Reached::Refused(cause) => Decision::Refused(cause),
-        Reached::At(k, n) => {
-            let placed = table_only::place_table(image, words, m, bytes, n);
-            table_only::numbered(placed, k as u32)
-        }
-    }
+    let reached = making::make_along(bytes, size, words.len(), start as usize, path)?;
+    let placed = table_only::place_table(image, words, m, bytes, reached.size);
+    table_only::numbered(placed, reached.entry as u32)
 }
 
 // What is decided on for an open image.
@@ -76,17 +70,11 @@ pub fn decide_open(
     bytes: &mut [u8],
     start: u32,
     path: &[u8],
-) -> Decision
+) -> Result<Decision, Refusal>
     requires { IsOpen image.now words.now m }
     ensures { Decided (planMakeDirectories (nodesIn image.now) start path.now) image.now (length words.now) (length bytes.old) bytes.new result }
 {
-    let verdict = check_path(image, start, path);
-    if let Err(cause) = verdict {
-        return Decision::Refused(cause);
-    }
-    let found = table_only::start_table(image, words, m, bytes);
-    match found {
-        Err(cause) => Decision::Refused(cause),
-        Ok(size) => make_in(image, words, m, bytes, size, start, path),
-    }
+    check_path(image, start, path)?;
+    let size = table_only::start_table(image, words, m, bytes)?;
+    make_in(image, words, m, bytes, size, start, path)
 }

@@ -10,11 +10,11 @@ ghost use Rattle.make_directories.specs.Inner.Making.{InBytes, newIn, intoOf, tu
 
 use refusal::Refusal;
 
-// Where a component leads: an entry, and the size of the table then.
+// Where the walk stands: an entry, and the size of the table then.
 #[derive(Clone, Copy)]
-pub enum Reached {
-    At(usize, usize),
-    Refused(Refusal),
+pub struct Reached {
+    pub entry: usize,
+    pub size: usize,
 }
 
 // The first child of directory k with that name.
@@ -36,66 +36,65 @@ fn new_number(bytes: &[u8], size: usize, k: usize) -> usize
 }
 
 // Into a directory that is made for that name.
-fn into_new(bytes: &mut [u8], size: usize, words: usize, k: usize, name: &[u8]) -> Reached
-    requires { Stands bytes.old size words × IsDirectory (treeIn bytes.old size) k × GoodName name.now }
-    ensures { Reaches (newIn (treeIn bytes.old size) k name.now) words (length bytes.old) bytes.new result }
+fn into_new(bytes: &mut [u8], words: usize, here: Reached, name: &[u8]) -> Result<Reached, Refusal>
+    requires { Stands bytes.old here.size words × IsDirectory (treeIn bytes.old here.size) here.entry × GoodName name.now }
+    ensures { Reaches (newIn (treeIn bytes.old here.size) here.entry name.now) words (length bytes.old) bytes.new result }
 {
-    let number = new_number(bytes, size, k);
-    let grown = fst_grow::grow(bytes, size, words, k, true, name);
-    match grown {
-        Ok(n) => Reached::At(number, n),
-        Err(cause) => Reached::Refused(cause),
-    }
+    let entry = new_number(bytes, here.size, here.entry);
+    let size = fst_grow::grow(bytes, here.size, words, here.entry, true, name)?;
+    Ok(Reached { entry, size })
 }
 
 // To the child with that name, or into a new one.
-fn into(bytes: &mut [u8], size: usize, words: usize, k: usize, name: &[u8]) -> Reached
-    requires { Stands bytes.old size words × IsDirectory (treeIn bytes.old size) k × MayName (treeIn bytes.old size) k name.now }
-    ensures { Reaches (intoOf (treeIn bytes.old size) k name.now) words (length bytes.old) bytes.new result }
+fn into(bytes: &mut [u8], words: usize, here: Reached, name: &[u8]) -> Result<Reached, Refusal>
+    requires { Stands bytes.old here.size words × IsDirectory (treeIn bytes.old here.size) here.entry × MayName (treeIn bytes.old here.size) here.entry name.now }
+    ensures { Reaches (intoOf (treeIn bytes.old here.size) here.entry name.now) words (length bytes.old) bytes.new result }
 {
-    let found = child(bytes, size, k, name);
-    match found {
-        Ok(j) => Reached::At(j as usize, size),
-        Err(_) => into_new(bytes, size, words, k, name),
+    match child(bytes, here.size, here.entry, name) {
+        Ok(j) => Ok(Reached {
+            entry: j as usize,
+            size: here.size,
+        }),
+        Err(_) => into_new(bytes, words, here, name),
     }
 }
 
 // One component: empty and `.` stay, `..` goes back, any other is a child's name.
 #[tactic(auto, unfolding(crate::specs::Inner::Making::turn_of))]
-fn take_step(bytes: &mut [u8], size: usize, words: usize, k: usize, name: &[u8]) -> Reached
-    requires { Stands bytes.old size words × CanTurn (treeIn bytes.old size) k name.now }
-    ensures { Reaches (turn_of (treeIn bytes.old size) k name.now) words (length bytes.old) bytes.new result }
+fn take_step(bytes: &mut [u8], words: usize, here: Reached, name: &[u8]) -> Result<Reached, Refusal>
+    requires { Stands bytes.old here.size words × CanTurn (treeIn bytes.old here.size) here.entry name.now }
+    ensures { Reaches (turn_of (treeIn bytes.old here.size) here.entry name.now) words (length bytes.old) bytes.new result }
 {
     if fst_path::stays(name) {
-        return Reached::At(k, size);
+        return Ok(here);
     }
     if fst_path::goes_back(name) {
-        return Reached::At(fst_grow::parent(bytes, size, words, k), size);
+        return Ok(Reached {
+            entry: fst_grow::parent(bytes, here.size, words, here.entry),
+            size: here.size,
+        });
     }
-    into(bytes, size, words, k, name)
+    into(bytes, words, here, name)
 }
 
 // Along the components of a path from the entry `start`; 9 once there is no room for a directory, since there is none for the whole then.
-pub fn make_along(bytes: &mut [u8], size: usize, words: usize, start: usize, path: &[u8]) -> Reached
+pub fn make_along(
+    bytes: &mut [u8],
+    size: usize,
+    words: usize,
+    start: usize,
+    path: &[u8],
+) -> Result<Reached, Refusal>
     requires { Stands bytes.old size words × (start < length (treeIn bytes.old size)) × (madeVerdict (make (treeIn bytes.old size) [] start false (components path.now)) ≡ (Ok tt)) }
     ensures { Reaches (make (treeIn bytes.old size) [] start false (components path.now)) words (length bytes.old) bytes.new result }
 {
-    let mut k = start;
-    let mut n = size;
+    let mut here = Reached { entry: start, size };
     let mut at = 0;
     loop {
         let end = fst_path::component_end(path, at);
-        match take_step(bytes, n, words, k, &path[at..end]) {
-            Reached::At(j, m) => {
-                k = j;
-                n = m;
-            }
-            Reached::Refused(cause) => {
-                return Reached::Refused(cause);
-            }
-        }
+        here = take_step(bytes, words, here, &path[at..end])?;
         if path.len() <= end {
-            return Reached::At(k, n);
+            return Ok(here);
         }
         at = end + 1;
     }

@@ -1,6 +1,5 @@
 -- Make-directories in the table that stands in the working bytes, a component at a time. Assumes nothing: these are definitions.
-use Rattle.std.specs.Prelude.{Ok, Err}
-use Rattle.std.specs.Prelude.{ℕ, ◌<◌, ◌≤◌, ◌≡◌, false, cond, List, [], length, take}
+use Rattle.std.specs.Prelude.{Result, Ok, Err, ℕ, ◌<◌, ◌≤◌, ◌≡◌, false, cond, List, [], length, take}
 use Rattle.refusal.specs.declared.Refusal.{Refusal}
 use Rattle.refusal.specs.declared.Refusal.TheVariants.{LimitOrMemory}
 use Rattle.tree.specs.Table.{Node, count, parent_of, encode, limits}
@@ -11,7 +10,6 @@ use Rattle.fst_check.specs.Inner.Reading.{Opens}
 use Rattle.edits.specs.Edits.{newNumber, Made, stopped, made, ifFound}
 use Rattle.fst_grow.specs.Inner.Growth.{treeIn, Stands, IsDirectory}
 use Rattle.make_directories.specs.declared.making.Reached.{Reached}
-use Rattle.make_directories.specs.declared.making.Reached.TheVariants.{At, Refused}
 
 -- the tree that a walk made, and the entry where it ended
 abbrev pub madeTree : Made → List Node
@@ -53,6 +51,6 @@ pub record InBytes (bytes : List ℕ) (size k : ℕ) : Type 0 where
   pub inside : k < count (take size bytes)
 
 -- the tree of a walk stands in the bytes, or there is no room for it (9)
-abbrev pub Reaches : Made → ℕ → ℕ → List ℕ → Reached → Type 0
-Reaches m words room bytes (At k size) = (k ≡ madeEntry m) × Stands bytes size words × (treeIn bytes size ≡ madeTree m)
-Reaches m words room bytes (Refused c) = (c ≡ LimitOrMemory) × (limits (madeTree m) words ≡ Ok tt → room < length (encode (madeTree m)))
+abbrev pub Reaches : Made → ℕ → ℕ → List ℕ → Result Reached Refusal → Type 0
+Reaches m words room bytes (Ok p) = (p.entry ≡ madeEntry m) × Stands bytes p.size words × (treeIn bytes p.size ≡ madeTree m)
+Reaches m words room bytes (Err c) = (c ≡ LimitOrMemory) × (limits (madeTree m) words ≡ Ok tt → room < length (encode (madeTree m)))

@@ -2,5 +2,5 @@
 use Rattle.make_directories.proofs.Turns.{in_bytes}
 use Rattle.make_directories.proofs.making.into.Goals as goal
 
-pub child-found-requires : goal.child-found-requires
-child-found-requires c = search in_bytes
+pub child-requires : goal.child-requires
+child-requires c = search in_bytes

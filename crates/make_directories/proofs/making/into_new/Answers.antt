@@ -2,8 +2,8 @@
 use Rattle.make_directories.proofs.Turns.{in_bytes, new-reached}
 use Rattle.make_directories.proofs.making.into_new.Goals as goal
 
-pub new_number-number-requires : goal.new_number-number-requires
-new_number-number-requires c = search in_bytes
+pub new_number-entry-requires : goal.new_number-entry-requires
+new_number-entry-requires c = search in_bytes
 
-pub returns-in-Ok : goal.returns-in-Ok
-returns-in-Ok c = search new-reached
+pub returns : goal.returns
+returns c = search (new-reached, c.in_ok-size.was)

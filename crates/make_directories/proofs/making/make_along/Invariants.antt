@@ -10,8 +10,8 @@ use Rattle.make_directories.specs.Inner.Making.{madeTree, madeEntry}
 use Rattle.make_directories.proofs.Turns.{Making}
 use Rattle.make_directories.proofs.making.make_along.Given as goal
 
-abbrev pub invariant-loop-j : goal.invariant-loop-j
-invariant-loop-j l = Making (madeTree (make (treeIn l.initial.bytes l.size) [] l.start false (components l.path))) (madeEntry (make (treeIn l.initial.bytes l.size) [] l.start false (components l.path))) l.path l.words (length l.initial.bytes) l.bytes l.n l.k l.at
+abbrev pub invariant-loop-here : goal.invariant-loop-here
+invariant-loop-here l = Making (madeTree (make (treeIn l.initial.bytes l.size) [] l.start false (components l.path))) (madeEntry (make (treeIn l.initial.bytes l.size) [] l.start false (components l.path))) l.path l.words (length l.initial.bytes) l.bytes l.here l.at
 
-abbrev pub decreases-loop-j : goal.decreases-loop-j
-decreases-loop-j l = length l.path - l.at
+abbrev pub decreases-loop-here : goal.decreases-loop-here
+decreases-loop-here l = length l.path - l.at
