@@ -13,7 +13,7 @@ use Rattle.free_space.specs.Listing.{regionRow, listingOf, listAfter}
 use Rattle.program.specs.Program.{program_of, programIn, programBehind}
 use Rattle.totals.specs.declared.Totals.{Totals}
 use Rattle.opening.specs.Opening.{table_of, nodesIn, regionOf, usedIn, freeOf, opening}
-use Rattle.disc.specs.Calls.{totalsAnswer, programAnswer, freeRegionsAnswer, freeRegionsList, totalsOf, recordMade, recordAnswer}
+use Rattle.disc.specs.Calls.{totalsAnswer, programAnswer, freeRegionsAnswer, freeRegionsList, totalsOf, recordAnswer}
 use Rattle.window.specs.Window.{newWindow, count_of, bufferOf}
 use Rattle.files.specs.Files.{openFileAnswer}
 use Rattle.edits.specs.Edits.{fillFile, noPlace, verdictOf, imageAfter}
@@ -102,12 +102,12 @@ FillReads =
 -- the record t, of an image, after n accepted edits: what a record made of the image with w words says, and n
 pub record Tells (image : List ℕ) (w n : ℕ) (t : Totals) : Type 0 where
   pub totals : t ≡ totalsOf image n
-  pub afresh : recordAnswer image w ≡ recordMade (totalsOf image 0)
+  pub afresh : recordAnswer image w ≡ Ok (totalsOf image 0)
 
 -- THEOREM: a record that was made of the first image, and any list of calls through which it is handed on
 abbrev pub RecordTells : Type 0
 RecordTells =
-    (image : List ℕ) (w₀ w : ℕ) (t : Totals) (calls : List Call) → AllBytes image → recordAnswer image w₀ ≡ recordMade t → w₀ ≤ w → AllWithin w calls → HandedOn t calls image →
+    (image : List ℕ) (w₀ w : ℕ) (t : Totals) (calls : List Call) → AllBytes image → recordAnswer image w₀ ≡ Ok t → w₀ ≤ w → AllWithin w calls → HandedOn t calls image →
     Tells (imageAfterAll calls image) w (acceptedIn (reportsOf calls image)) (totalsAfterAll t calls image)
 
 -- ---- "If it is nonzero, no edit may write a larger table." (document 02, Point 7)

@@ -4,7 +4,7 @@ use Rattle.std.specs.Prelude.{Ok, Err}
 use Rattle.refusal.specs.Refusal.{Verdict}
 use Rattle.std.specs.Prelude.{ℕ, ◌+◌, ◌-◌, ◌^◌, ◌<◌, ◌≡◌, cond, not, List, [], ◌∷◌}
 use Rattle.std.proofs.Math.Path.{refl}
-use Rattle.std.proofs.Common.{sym, ap, ◌∙◌, arith}
+use Rattle.std.proofs.Common.{ap, ◌∙◌, arith}
 use borrow.Author.Tests.{le-ltb}
 use Rattle.endian.specs.Bytes.{AllBytes}
 use Rattle.refusal.specs.Refusal.{first, is_refused}
@@ -12,8 +12,7 @@ use Rattle.totals.specs.declared.Totals.{Totals}
 use Rattle.totals.specs.Totals.{totalsVerdict, totalsMoved}
 use Rattle.opening.specs.Opening.{opening, usedOf}
 use Rattle.opening.specs.Laws.OpeningLaws.{disc-filled}
-use Rattle.disc.specs.declared.RecordMade.{RecordMade}
-use Rattle.disc.specs.Calls.{totalsOf, recordMade, recordAnswer}
+use Rattle.disc.specs.Calls.{totalsOf, recordAnswer}
 use Rattle.edits.specs.Edits.{Edit, plan_of, planVerdict, planImage, countedVerdict, totalsTo, verdictOf, imageAfter, totalsAfter}
 use Rattle.ledger.specs.Ledger.{firstLedger}
 use Rattle.ledger.specs.Runs.{Call, imageAfterAll, reportsOf, totalsAfterAll, HandedOn, acceptedIn, Passable}
@@ -23,13 +22,13 @@ use Rattle.ledger.specs.Laws.Steps.{step-accepted}
 use Rattle.ledger.specs.Laws.Sequence.{start, along}
 
 -- a record that was made: the image opened, and the record is the image's
-made_of : (image : List ℕ) (w : ℕ) (t : Totals) → recordAnswer image w ≡ recordMade t → (opening image w ≡ Ok tt) × (t ≡ totalsOf image 0)
+made_of : (image : List ℕ) (w : ℕ) (t : Totals) → recordAnswer image w ≡ Ok t → (opening image w ≡ Ok tt) × (t ≡ totalsOf image 0)
 unfolding recordAnswer
 made_of image w t e = go (opening image w) refl
   where
     go : (v : Verdict) → opening image w ≡ v → (opening image w ≡ Ok tt) × (t ≡ totalsOf image 0)
-    go (Ok _) q = (q, sym (ap (λ (m : RecordMade). m.totals) (rw q at e)))
-    go (Err c) q = let y : Err c ≡ Ok tt = ap (λ (m : RecordMade). m.verdict) (rw q at e) in let z : ◌≡◌ {A = ℕ} 0 1 = cc in absurd (omega arith)
+    go (Ok _) q = let y = rw q at e in let k : t ≡ totalsOf image 0 = cc in (q, k)
+    go (Err c) q = let y = rw q at e in let z : ◌≡◌ {A = ℕ} 0 1 = cc in absurd (omega arith)
 
 -- from the totals of one image to those of another
 moved_on : (image new : List ℕ) (n : ℕ) → totalsTo (totalsOf image n) image new ≡ totalsOf new (n + 1)
@@ -70,9 +69,9 @@ record-tells image w₀ w t calls b e h a on =
     record { totals = tells-along calls image t 0 m.1 on ∙ ap (λ (n : ℕ). totalsOf (imageAfterAll calls image) n) z; afresh = rw k.opens }
 
 -- THEOREM: a record made anew of the last image has the used bytes and the largest region of the one that was handed on, which has counted n edits
-pub made-anew : (image : List ℕ) (w n : ℕ) (t new : Totals) → Tells image w n t → recordAnswer image w ≡ recordMade new → (new.used ≡ t.used) × (new.largest ≡ t.largest) × (new.edits ≡ 0) × (t.edits ≡ n)
+pub made-anew : (image : List ℕ) (w n : ℕ) (t new : Totals) → Tells image w n t → recordAnswer image w ≡ Ok new → (new.used ≡ t.used) × (new.largest ≡ t.largest) × (new.edits ≡ 0) × (t.edits ≡ n)
 made-anew image w n t new tells e =
-    let q : totalsOf image 0 ≡ new = ap (λ (m : RecordMade). m.totals) (sym tells.afresh ∙ e) in
+    let q : totalsOf image 0 ≡ new = cc tells.afresh in
     rw (← q, tells.totals) (refl, refl, refl, refl)
 
 -- ---- 25 and a record that is the image's
