@@ -34,7 +34,7 @@ pub fn decide_open(
     bytes: &mut [u8],
     edit: Edit,
     text: &[u8],
-) -> Decision
+) -> Result<Decision, Refusal>
     requires { IsOpen image.now words.now m }
     ensures { Decides (editOf edit text.now) image.now (length words.now) (length bytes.old) bytes.new (clipOf edit text.now) result }
 {
@@ -59,17 +59,12 @@ fn decide(
     record: &mut Record,
     edit: Edit,
     text: &[u8],
-) -> Decision
+) -> Result<Decision, Refusal>
     ensures { AccountedFor (planned (opening image.now (length words.old)) (plan_of (editOf edit text.now) image.now)) image.now (length words.old) (length bytes.old) bytes.new (clipOf edit text.now) (totalsIn «record».old) (accounted result (totalsIn «record».new)) }
 {
-    let prepared = opening::prepare(image, words);
-    match prepared {
-        Err(cause) => Decision::Refused(cause),
-        Ok(m) => {
-            let decision = decide_open(image, words, m, bytes, edit, text);
-            totals_after::account(image, words, m, decision, record)
-        }
-    }
+    let m = opening::prepare(image, words)?;
+    let decided = decide_open(image, words, m, bytes, edit, text);
+    totals_after::account(image, words, m, decided, record)
 }
 
 // The clip that fills the file; none for the other edits.
@@ -98,9 +93,8 @@ pub fn run(
 ) -> Result<u32, Refusal>
     ensures { Edited numberedAs (editOf edit text.now) (lent image.old words.old bytes.old (totalsIn «record».old)) (lent image.new words.new bytes.new (totalsIn «record».new)) result }
 {
-    let decision = decide(image, words, bytes, record, edit, text);
-    let clip = clip_of(edit, text);
-    commit::finish(image, words, bytes, clip, decision)
+    let decided = decide(image, words, bytes, record, edit, text);
+    commit::finish(image, words, bytes, clip_of(edit, text), decided)
 }
 
 // The whole edit, of one that gives only that it is done.
@@ -114,6 +108,5 @@ pub fn done(
 ) -> Verdict
     ensures { Edited onlyVerdict (editOf edit text.now) (lent image.old words.old bytes.old (totalsIn «record».old)) (lent image.new words.new bytes.new (totalsIn «record».new)) result }
 {
-    let located = run(image, words, bytes, record, edit, text);
-    commit::verdict_of(located)
+    commit::verdict_of(run(image, words, bytes, record, edit, text))
 }

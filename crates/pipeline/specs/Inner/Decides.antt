@@ -1,5 +1,6 @@
 -- The edit that a call asks for, and what it decides on. Assumes nothing: these are definitions.
-use Rattle.std.specs.Prelude.{ℕ, List, []}
+use Rattle.std.specs.Prelude.{Result, ℕ, List, []}
+use Rattle.refusal.specs.declared.Refusal.{Refusal}
 use Rattle.edits.specs.Edits as edits
 use Rattle.edits.specs.Edits.{plan_of, planVerdict}
 use Rattle.ledger.specs.Runs.{Passable}
@@ -29,6 +30,6 @@ clipOf (edit.InsertDirectory p) text = []
 clipOf (edit.MakeDirectories start) text = []
 
 -- d is what the edit decides on, and its numbers are numbers that a call can hand on
-pub record Decides (ed : edits.Edit) (image : List ℕ) (words room : ℕ) (bytes clip : List ℕ) (d : Decision) : Type 0 where
+pub record Decides (ed : edits.Edit) (image : List ℕ) (words room : ℕ) (bytes clip : List ℕ) (d : Result Decision Refusal) : Type 0 where
   pub decided : DecidedAs (planVerdict (plan_of ed image) image words room) (plan_of ed image) image room bytes clip d
   pub passable : Passable ed
