@@ -15,7 +15,7 @@ use Rattle.totals.specs.declared.Totals.{Totals}
 use Rattle.totals.specs.Totals.{totalsVerdict, totalsMoved}
 use Rattle.program.specs.Program.{program_of, programIn, ownRegion}
 use Rattle.opening.specs.Opening.{table_of, nodesIn, behindTable, usedIn, freeOf, usedOf}
-use Rattle.disc.specs.Calls.{recordMade, recordAnswer}
+use Rattle.disc.specs.Calls.{recordAnswer}
 use Rattle.edits.specs.Change.{withTable, written, tableVerdict, placeVerdict}
 use Rattle.edits.specs.Edits.{Edit, moveFile, resizeFile, rewrite, tableOnly, planMove, planResize, countedVerdict, verdictOf, imageAfter, totalsAfter}
 use Rattle.small_master.specs.Image.{master, masterWords, masterBytes}
@@ -99,7 +99,7 @@ counted-out = totals 1370 6656 most
 
 pub record Records : Type 0 where
   -- "A record made at opening, its count 0"
-  pub made : recordAnswer master masterWords ≡ recordMade fresh
+  pub made : recordAnswer master masterWords ≡ Ok fresh
   -- `a` grown by 500 bytes, which the free region behind it loses
   pub grown : (answer (resizeFile 1 756) fresh ≡ Ok tt) × (after (resizeFile 1 756) fresh ≡ totals 1870 6156 1)
   -- a resize to the present size writes nothing, and counts
