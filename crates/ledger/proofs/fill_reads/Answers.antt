@@ -1,0 +1,6 @@
+-- `ledger::fill_reads` meets its contract: the theorem is proved in specs/Laws/FillReads.
+use Rattle.ledger.specs.Laws.FillReads.{fill-reads}
+use Rattle.ledger.proofs.fill_reads.Goals as goal
+
+pub returns : goal.returns
+returns c = fill-reads

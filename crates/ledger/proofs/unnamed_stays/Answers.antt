@@ -1,0 +1,6 @@
+-- `ledger::unnamed_stays` meets its contract: the theorem is proved in specs/Laws/Demand3.
+use Rattle.ledger.specs.Laws.Demand3.{unnamed-stays}
+use Rattle.ledger.proofs.unnamed_stays.Goals as goal
+
+pub returns : goal.returns
+returns c = unnamed-stays
