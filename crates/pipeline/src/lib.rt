@@ -72,13 +72,8 @@ fn clip_of<'a>(edit: Edit, text: &'a [u8]) -> &'a [u8]
     ensures { result.now ≡ clipOf edit text.now }
 {
     match edit {
-        Edit::Rewrite => &text[0..0],
-        Edit::MoveFile(_, _) => &text[0..0],
-        Edit::ResizeFile(_, _) => &text[0..0],
         Edit::FillFile(_) => text,
-        Edit::InsertFile(_) => &text[0..0],
-        Edit::InsertDirectory(_) => &text[0..0],
-        Edit::MakeDirectories(_) => &text[0..0],
+        _ => &text[..0],
     }
 }
 
