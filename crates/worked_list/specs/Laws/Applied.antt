@@ -18,7 +18,7 @@ use Rattle.totals.specs.declared.Totals.{Totals}
 use Rattle.program.specs.declared.Program.TheVariants.{At}
 use Rattle.program.specs.Program.{programIn, ownRegion}
 use Rattle.opening.specs.Opening.{table_of, nodesIn, usedIn, freeOf, usedOf, opening}
-use Rattle.disc.specs.Calls.{totalsAnswer, programAnswer, freeRegionsAnswer, freeRegionsList, totalsOf, recordMade, recordAnswer}
+use Rattle.disc.specs.Calls.{totalsAnswer, programAnswer, freeRegionsAnswer, freeRegionsList, totalsOf, recordAnswer}
 use Rattle.files.specs.Files.{openFileAnswer}
 use Rattle.edits.specs.Change.{nothing}
 use Rattle.edits.specs.Edits.{Edit, noPlace, rewrite, resizeFile, planResize, plan_of, imageAfter}
@@ -148,7 +148,7 @@ tells = rw (worked.image, worked.told, worked.handed-back) at (record-tells firs
 pub record Told : Type 0 where
   pub used : usedOf last ≡ 1649
   pub largest : largestSize (freeOf last) ≡ 5883
-  pub afresh : recordAnswer last masterWords ≡ recordMade (totals 1649 5883 0)
+  pub afresh : recordAnswer last masterWords ≡ Ok (totals 1649 5883 0)
 
 pub told : Told
 told =

@@ -1,11 +1,11 @@
 -- A list of calls on the small master, worked: the image, the reports, the ledger and the record after it. Assumes nothing.
-use Rattle.std.specs.Prelude.{◌≡◌, refl, true, false, List, [], ◌∷◌, ◌++◌, replicate}
+use Rattle.std.specs.Prelude.{◌≡◌, refl, true, false, List, [], ◌∷◌, ◌++◌, replicate, Ok}
 use Rattle.endian.specs.Bytes.{put, span}
 use Rattle.tree.specs.Table.{file, directory}
 use Rattle.tree.specs.Insert.{bump, splice, insertAt, setPlace}
 use Rattle.space.specs.Free.{largestSize}
 use Rattle.totals.specs.declared.Totals.{Totals}
-use Rattle.disc.specs.Calls.{recordMade, recordAnswer}
+use Rattle.disc.specs.Calls.{recordAnswer}
 use Rattle.edits.specs.Edits.{Edit, insertFile, moveFile, resizeFile, fillFile, rewrite}
 use Rattle.ledger.specs.Ledger.{filesBefore, put_in, firstHistories, Ledger, firstLedger, Report, ledgerAfter}
 use Rattle.ledger.specs.Runs.{Call, imageAfterAll, reportsOf, totalsAfterAll, HandedOn}
@@ -50,7 +50,7 @@ ledger = record {
 -- ---- worked
 
 pub record Worked : Type 0 where
-  pub made : recordAnswer first masterWords ≡ recordMade fresh
+  pub made : recordAnswer first masterWords ≡ Ok fresh
   pub image : imageAfterAll list first ≡ last
   pub told : reportsOf list first ≡ reports
   pub entered : ledgerAfter reports (firstLedger first) ≡ ledger
