@@ -1,5 +1,4 @@
 // The edits. The totals record is lent in three slots: used bytes, the largest free region's size, accepted edits.
-ghost use Rattle.std.specs.Prelude.{◌≡◌};
 ghost use Rattle.edits.specs.Edits as edits;
 ghost use Rattle.edits.specs.Promise.{Edited, lent};
 ghost use Rattle.totals.specs.Totals.{totalsIn};

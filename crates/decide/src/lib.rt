@@ -4,4 +4,3 @@
 mod opened;
 
 pub use opened::{file_at, move_file, resize, resize_file, rewrite};
-use space::DiscRegion;

@@ -2,7 +2,7 @@
 #![tactic(auto)]
 
 ghost use Rattle.std.specs.Prelude.{◌≡◌};
-ghost use Rattle.refusal.specs.Refusal.{number_of, is_refused};
+ghost use Rattle.refusal.specs.Refusal.{number_of};
 
 #[derive(Clone, Copy)]
 pub enum Refusal {

@@ -1,5 +1,5 @@
 -- `header::check` meets its contract: the fields that are left give the answer of all, as long as none refuses.
-use Prim.Native.Nat.{◌≤◌, ◌-◌}
+use Prim.Native.Nat.{◌≤◌}
 use mathlib.Core.Path.{◌≡◌}
 use lib.ListN.{drop}
 use Rattle.header.specs.Fields.{fields}
