@@ -1,11 +1,9 @@
 -- What an edit decides on before it writes, or why it is refused, and what that does to an image. The new table stands in the working bytes by then.
 -- Assumes nothing: these are definitions.
-use Rattle.std.specs.Prelude.{Result, Ok, Err}
-use Rattle.refusal.specs.Refusal.{Verdict}
+use Rattle.std.specs.Prelude.{Result, Ok, Err, ℕ, ◌+◌, ◌<◌, ◌≤◌, ◌^◌, ◌≡◌, cond, List, [], ◌∷◌, length, replicate}
+use Rattle.refusal.specs.Refusal.{Verdict, is_refused}
 use Rattle.refusal.specs.declared.Refusal.{Refusal}
-use Rattle.std.specs.Prelude.{ℕ, ◌+◌, ◌<◌, ◌≤◌, ◌^◌, ◌≡◌, cond, List, [], ◌∷◌, length, replicate}
 use Rattle.endian.specs.Bytes.{put, span}
-use Rattle.refusal.specs.Refusal.{is_refused}
 use Rattle.header.specs.Verdicts.{fstOffset, fstSize}
 use Rattle.tree.specs.Table.{Node, encode}
 use Rattle.space.specs.declared.DiscRegion.{DiscRegion}
