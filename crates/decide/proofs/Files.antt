@@ -1,6 +1,6 @@
 -- A file of an open image: found by its number, given another place, and what that place asks. Assumes nothing.
 use Rattle.std.specs.Prelude.{Result, Ok, Err}
-use Rattle.refusal.specs.Refusal.{Verdict}
+use Rattle.refusal.specs.Refusal.{Verdict, refuse, first}
 use Prim.Native.Nat.{ℕ, ◌+◌, ◌-◌, ◌*◌, ◌≤◌, ◌<◌, min}
 use mathlib.Core.Path.{◌≡◌, refl, sym, ap, ◌∙◌}
 use mathlib.Core.Bool.{Bool, true, false, cond}
@@ -12,7 +12,6 @@ use lib.ListN.{length, get_or}
 use Rattle.endian.specs.Bytes.{put, be32Bytes}
 use Rattle.refusal.specs.declared.Refusal.{Refusal}
 use Rattle.refusal.specs.declared.Refusal.TheVariants.{NoSuchEntry, ExpectedFile}
-use Rattle.refusal.specs.Refusal.{refuse, first}
 use Rattle.refusal.specs.Laws.Chains.{refuse-passed}
 use Rattle.tree.specs.Table.{Node, file, directory, none, parent_of, encode}
 use Rattle.tree.specs.Lookup.{isDirectory, entryWith, entry_of, entryFound, found_at}
