@@ -1,7 +1,7 @@
 -- A change of the table alone as a plan: refused where there was no room for the table, judged where it stands in the bytes, and with the
 -- number that the edit gives. Assumes nothing.
 use Rattle.std.specs.Prelude.{Result, Ok, Err}
-use Rattle.refusal.specs.Refusal.{Verdict}
+use Rattle.refusal.specs.Refusal.{Verdict, first}
 use Prim.Native.Nat.{ℕ, ◌<◌}
 use mathlib.Core.Path.{◌≡◌, sym, ap, ◌∙◌}
 use mathlib.Core.Logic.{⊎_elim}
@@ -11,7 +11,6 @@ use borrow.Author.Tests.{lt-ltb}
 use lib.ListN.{length}
 use Rattle.refusal.specs.declared.Refusal.{Refusal}
 use Rattle.refusal.specs.declared.Refusal.TheVariants.{LimitOrMemory}
-use Rattle.refusal.specs.Refusal.{first}
 use Rattle.tree.specs.Table.{Node, encode, limits}
 use Rattle.tree.specs.Laws.Growing.{Bigger, bigger-limits, bigger-encode, limits-either}
 use Rattle.fst_grow.specs.Inner.Growth.{treeIn, Stands, Built}
