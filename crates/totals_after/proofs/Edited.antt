@@ -1,14 +1,13 @@
 -- What is decided on, entered in the record, is what the plan comes to by all its tests; and with the working memory zeroed it is the edit.
 -- Assumes nothing.
 use Rattle.std.specs.Prelude.{Result, Ok, Err}
-use Rattle.refusal.specs.Refusal.{Verdict}
+use Rattle.refusal.specs.Refusal.{Verdict, first, is_refused}
 use Prim.Native.Nat.{ℕ, ◌-◌}
 use mathlib.Core.Path.{◌≡◌, refl, sym, ap, ◌∙◌}
 use mathlib.Core.Bool.{cond}
 use mathlib.Core.List.{List}
 use lib.ListN.{length, replicate}
 use Rattle.refusal.specs.declared.Refusal.{Refusal}
-use Rattle.refusal.specs.Refusal.{first, is_refused}
 use Rattle.refusal.specs.Laws.Chains.{first-passed}
 use Rattle.space.specs.Inner.Sort.{regionsIn}
 use Rattle.totals.specs.declared.Totals.{Totals}

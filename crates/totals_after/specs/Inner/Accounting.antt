@@ -1,9 +1,7 @@
 -- What is decided on, or why it is refused, entered in the totals record. Assumes nothing: these are definitions.
-use Rattle.std.specs.Prelude.{Result, Ok, Err}
+use Rattle.std.specs.Prelude.{Result, Ok, Err, ℕ, ◌+◌, ◌≤◌, ◌≡◌, cond, List}
 use Rattle.refusal.specs.declared.Refusal.{Refusal}
-use Rattle.refusal.specs.Refusal.{Verdict}
-use Rattle.std.specs.Prelude.{ℕ, ◌+◌, ◌≤◌, ◌≡◌, cond, List}
-use Rattle.refusal.specs.Refusal.{is_refused}
+use Rattle.refusal.specs.Refusal.{Verdict, is_refused}
 use Rattle.header.specs.Verdicts.{fstOffset, fstSize, discEnd}
 use Rattle.space.specs.declared.DiscRegion.{DiscRegion}
 use Rattle.totals.specs.declared.Totals.{Totals}

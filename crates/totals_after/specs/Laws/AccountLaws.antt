@@ -1,12 +1,10 @@
 -- What is decided on, entered in the record, gives the totals of the image that the edit leaves. Assumes nothing.
-use Rattle.std.specs.Prelude.{Result, Ok, Err}
-use Rattle.refusal.specs.Refusal.{Verdict}
-use Rattle.std.specs.Prelude.{ℕ, ◌+◌, ◌-◌, ◌≤◌, ◌≡◌, refl, List, length}
+use Rattle.std.specs.Prelude.{Result, Ok, Err, ℕ, ◌+◌, ◌-◌, ◌≤◌, ◌≡◌, refl, List, length}
+use Rattle.refusal.specs.Refusal.{Verdict, first}
 use Rattle.std.proofs.Common.{sym, ap, ◌∙◌, arith}
 use Rattle.endian.specs.Bytes.{span}
 use Rattle.endian.specs.Laws.Stored.{length-span}
 use Rattle.refusal.specs.declared.Refusal.{Refusal}
-use Rattle.refusal.specs.Refusal.{first}
 use Rattle.header.specs.Verdicts.{fstOffset, fstSize, discEnd, table_end}
 use Rattle.tree.specs.Table.{encode}
 use Rattle.space.specs.declared.DiscRegion.{DiscRegion}
