@@ -12,7 +12,7 @@ use Rattle.std.specs.Prelude.{Ok, Err}
 use Rattle.refusal.specs.Refusal.{Verdict}
 use Rattle.refusal.specs.declared.Refusal.{Refusal}
 use Rattle.header.specs.declared.Field.{Field}
-use Rattle.disc_header.specs.declared.HeaderRead.{HeaderRead}
+use Rattle.disc_header.specs.declared.DiscHeader.{DiscHeader}
 use Rattle.header.specs.Fields.{fields, gameCodeField, makerCodeField, unused00aField, gameNameField, unused408Field}
 use Rattle.header.specs.Inner.Judged.{field_at, nth}
 use Rattle.disc_header.specs.Header.{bytes_of, headerOf, headerAnswer, headerRead, fieldBytes, putHeader, writeVerdict, headerWritten}
@@ -62,17 +62,17 @@ module _ (image slots : List ℕ) (good : headerVerdict image ≡ Ok tt) (bytes 
   back : reply (numberTold (writeVerdict slots)) (headerWritten (headerOf image) slots) ≡ accepts (take 0x440 image)
   back = rw (le-ltb (length slots) 0x440 (omega arith), taken) refl
 
-module _ (image slots : List ℕ) (read : HeaderRead) (e : read ≡ headerRead image) where
-  pub header-written : read.verdict ≡ Ok tt → AllBytes image → length slots ≡ 0x440 → reply (numberTold (writeVerdict slots)) (headerWritten read.header slots) ≡ verdictReply slots (headerVerdict image) (take 0x440 image)
-  header-written p bytes room = go (headerVerdict image) refl e
+module _ (image slots : List ℕ) where
+  pub header-written : (h : DiscHeader) → Ok h ≡ headerRead image → AllBytes image → length slots ≡ 0x440 → reply (numberTold (writeVerdict slots)) (headerWritten h slots) ≡ verdictReply slots (headerVerdict image) (take 0x440 image)
+  header-written h e bytes room = go (headerVerdict image) refl e
     where
-      go : (v : Verdict) → headerVerdict image ≡ v → read ≡ headerAnswer v (headerOf image) → reply (numberTold (writeVerdict slots)) (headerWritten read.header slots) ≡ verdictReply slots v (take 0x440 image)
-      go (Ok _) g h = rw (h, back image slots g bytes room)
-      go (Err c) g h = cc
+      go : (v : Verdict) → headerVerdict image ≡ v → Ok h ≡ headerAnswer v (headerOf image) → reply (numberTold (writeVerdict slots)) (headerWritten h slots) ≡ verdictReply slots v (take 0x440 image)
+      go (Ok _) g r = let k : h ≡ headerOf image = cc in rw (k, back image slots g bytes room)
+      go (Err c) g r = cc
 
-  pub header_refused : (c : Refusal) → read.verdict ≡ Err c → refuses slots c ≡ verdictReply slots (headerVerdict image) (take 0x440 image)
-  header_refused c p = go (headerVerdict image) e
+  pub header_refused : (c : Refusal) → Err c ≡ headerRead image → refuses slots c ≡ verdictReply slots (headerVerdict image) (take 0x440 image)
+  header_refused c e = go (headerVerdict image) e
     where
-      go : (v : Verdict) → read ≡ headerAnswer v (headerOf image) → refuses slots c ≡ verdictReply slots v (take 0x440 image)
-      go (Ok _) h = cc
-      go (Err d) h = let k : c ≡ d = cc in rw k
+      go : (v : Verdict) → Err c ≡ headerAnswer v (headerOf image) → refuses slots c ≡ verdictReply slots v (take 0x440 image)
+      go (Ok _) r = cc
+      go (Err d) r = let k : c ≡ d = cc in rw k

@@ -7,7 +7,6 @@ use Rattle.refusal.specs.Refusal.{Verdict, number_of}
 use Rattle.answers.specs.declared.Disc.{Disc}
 use Rattle.space.specs.declared.DiscRegion.{DiscRegion}
 use Rattle.disc.specs.declared.DiscTotals.{DiscTotals}
-use Rattle.disc.specs.declared.RecordMade.{RecordMade}
 use Rattle.tree.specs.declared.Entry.{Entry}
 use Rattle.tree.specs.declared.Entry.TheVariants.{File, Directory}
 use Rattle.tree.specs.declared.Found.{Found}
@@ -107,15 +106,12 @@ unfoldable pub foundReply : List ℕ → Found → Reply
 foundReply before (found.At k e) = accepts (entryWords k e)
 foundReply before (found.Refused c) = refuses before c
 
-abbrev pub recordReply : List ℕ → RecordMade → Reply
-recordReply before a = verdictReply before a.verdict (totalsWords a.totals)
+-- the executable: the header's slots, and the window's
+abbrev pub dolReply : List ℕ → Result DolFile Refusal → Reply
+dolReply before a = replied (λ (f : DolFile). dolWords f.header) before a
 
--- the header's slots, and the window's
-abbrev pub dolReply : List ℕ → DolFile → Reply
-dolReply before f = verdictReply before f.verdict (dolWords f.header)
-
-abbrev pub dolWindowReply : List ℕ → DolFile → Reply
-dolWindowReply before f = verdictReply before f.verdict (windowWords f.window)
+abbrev pub dolWindowReply : List ℕ → Result DolFile Refusal → Reply
+dolWindowReply before a = replied (λ (f : DolFile). windowWords f.window) before a
 
 -- ---- the edits, for `Edited`: one that gives only that it is done, and one that gives an entry's number
 

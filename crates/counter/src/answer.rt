@@ -1,11 +1,12 @@
 // A value or a refusal in C: 0 and the value's words in the slots, or the refusal's number and the slots as they were.
 ghost use Rattle.std.specs.Prelude.{◌≡◌};
-ghost use Rattle.counter.specs.Replies.{numberTold, slotsTold, discWords, discTotalsWords, regionWords, one, windowWords};
+ghost use Rattle.counter.specs.Replies.{numberTold, slotsTold, discWords, discTotalsWords, regionWords, one, windowWords, totalsWords};
 
 use answers::Disc;
 use disc::DiscTotals;
 use refusal::{Refusal, Verdict};
 use space::DiscRegion;
+use totals::{Record, Totals};
 use window::Window;
 
 // A value with words for the slots that the caller lends.
@@ -108,5 +109,16 @@ impl Value for Window {
 
     fn slots(self) -> [u64; 3] {
         [self.start, self.len, self.position]
+    }
+}
+
+// A totals record.
+impl Value for Totals {
+    type Slots = Record;
+
+    ghost words = { totalsWords };
+
+    fn slots(self) -> Record {
+        [self.used, self.largest, self.edits]
     }
 }

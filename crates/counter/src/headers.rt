@@ -14,9 +14,8 @@ use dol::DolHeader;
 pub extern "C" fn counter_header(image: &[u8], fields: &mut [u8; 0x440]) -> u32
     ensures { reply result fields.new ≡ verdictReply fields.old (headerVerdict image.now) (take 0x440 image.now) }
 {
-    let read = DiscHeader::read_from(image);
-    match read.verdict {
-        Ok(()) => number_of(read.header.write_to(fields)),
+    match DiscHeader::read_from(image) {
+        Ok(header) => number_of(header.write_to(fields)),
         Err(cause) => cause.number(),
     }
 }
@@ -60,9 +59,8 @@ pub extern "C" fn counter_open_dol(
 ) -> u32
     ensures { Read (dolReply header.old (openDolAnswer image.now (length words.old))) (reply result header.new) words.old words.new × (reply result window.new ≡ dolWindowReply window.old (openDolAnswer image.now (length words.old))) }
 {
-    let file = files::open_dol(image, words);
-    match file.verdict {
-        Ok(()) => {
+    match files::open_dol(image, words) {
+        Ok(file) => {
             give_dol_header(header, file.header);
             *window = file.window.slots();
             0

@@ -2,7 +2,7 @@
 ghost use Rattle.std.specs.Prelude.{◌≡◌, length};
 ghost use Rattle.disc.specs.Calls.{opened_of, totalsAnswer, recordAnswer, programAnswer};
 ghost use Rattle.files.specs.Files.{entryAnswer, lookupAnswer, entriesAnswer, entriesList};
-ghost use Rattle.counter.specs.Replies.{Read, reply, replied, discWords, discTotalsWords, foundReply, recordReply, programReply};
+ghost use Rattle.counter.specs.Replies.{Read, reply, replied, discWords, discTotalsWords, totalsWords, foundReply, programReply};
 
 use crate::answer::give;
 use program::Program;
@@ -46,17 +46,9 @@ pub extern "C" fn counter_totals(image: &[u8], words: &mut [u32], answer: &mut [
 // A totals record of the image, its count 0: used bytes, the largest free region's size, accepted edits.
 #[unsafe(no_mangle)]
 pub extern "C" fn counter_make_record(image: &[u8], words: &mut [u32], record: &mut Record) -> u32
-    ensures { Read (recordReply «record».old (recordAnswer image.now (length words.old))) (reply result «record».new) words.old words.new }
+    ensures { Read (replied totalsWords «record».old (recordAnswer image.now (length words.old))) (reply result «record».new) words.old words.new }
 {
-    let made = disc::make_record(image, words);
-    match made.verdict {
-        Ok(()) => {
-            let t = made.totals;
-            *record = [t.used, t.largest, t.edits];
-            0
-        }
-        Err(cause) => cause.number(),
-    }
+    give(record, disc::make_record(image, words))
 }
 
 // Where the program lies; 0 and 0 where there is none.

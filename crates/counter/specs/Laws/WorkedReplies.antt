@@ -10,7 +10,7 @@ use Rattle.totals.specs.Totals.{totalsIn}
 use Rattle.program.specs.declared.Program.TheVariants as program
 use Rattle.window.specs.declared.Window.{Window}
 use Rattle.opening.specs.Opening.{zeros}
-use Rattle.counter.specs.Replies.{Reply, reply, Read, replied, discWords, discTotalsWords, regionWords, one, windowIn, windowWords, dolWords, programReply, foundReply, recordReply, dolReply, dolWindowReply, done, numbered}
+use Rattle.counter.specs.Replies.{Reply, reply, Read, replied, discWords, discTotalsWords, regionWords, one, windowIn, windowWords, totalsWords, dolWords, programReply, foundReply, dolReply, dolWindowReply, done, numbered}
 
 -- slots as they were before the call
 abbrev old : List ℕ
@@ -61,7 +61,7 @@ window-slots = (refl, refl)
 abbrev aRecord : Totals
 aRecord = record { used = 1; largest = 2; edits = 3 }
 
-record-slots : (totalsIn (1 ∷ 2 ∷ 3 ∷ []) ≡ aRecord) × (recordReply old (record { verdict = Ok tt; totals = aRecord }) ≡ reply 0 (1 ∷ 2 ∷ 3 ∷ []))
+record-slots : (totalsIn (1 ∷ 2 ∷ 3 ∷ []) ≡ aRecord) × (replied totalsWords old (Ok aRecord) ≡ reply 0 (1 ∷ 2 ∷ 3 ∷ []))
 record-slots = (refl, refl)
 
 -- "header[57]: 7 text and 11 data offsets, 7 and 11 addresses, 7 and 11 sizes, BSS address, BSS size, entry point. window[3]: .."
@@ -80,8 +80,8 @@ aHeader = record {
 }
 
 dol-slots :
-    (dolReply old (record { verdict = Ok tt; header = aHeader; window = aWindow }) ≡ reply 0 (rising 1 57)) ×
-    (dolWindowReply old (record { verdict = Ok tt; header = aHeader; window = aWindow }) ≡ reply 0 (1 ∷ 2 ∷ 3 ∷ []))
+    (dolReply old (Ok (record { header = aHeader; window = aWindow })) ≡ reply 0 (rising 1 57)) ×
+    (dolWindowReply old (Ok (record { header = aHeader; window = aWindow })) ≡ reply 0 (1 ∷ 2 ∷ 3 ∷ []))
 unfolding rising dolWords
 dol-slots = (refl, refl)
 
@@ -98,9 +98,9 @@ refused-slots :
     (numbered old (Err TotalsOutOfRange) 1 ≡ reply 25 old) ×
     (replied windowWords old (Err ExpectedFile) ≡ reply 16 old) ×
     (replied windowWords old (Err InvalidSeek) ≡ reply 23 old) ×
-    (recordReply old (record { verdict = Err LimitOrMemory; totals = aRecord }) ≡ reply 9 old) ×
-    (dolReply old (record { verdict = Err InvalidDol; header = aHeader; window = aWindow }) ≡ reply 24 old) ×
-    (dolWindowReply old (record { verdict = Err InvalidDol; header = aHeader; window = aWindow }) ≡ reply 24 old)
+    (replied totalsWords old (Err LimitOrMemory) ≡ reply 9 old) ×
+    (dolReply old (Err InvalidDol) ≡ reply 24 old) ×
+    (dolWindowReply old (Err InvalidDol) ≡ reply 24 old)
 unfolding programReply foundReply
 refused-slots = (refl, refl, refl, refl, refl, refl, refl, refl, refl, refl, refl, refl, refl, refl)
 
