@@ -3,4 +3,3 @@ pub mod Runs
 pub mod Spared
 pub mod Theorem
 pub mod Inner
-pub mod Laws

@@ -19,8 +19,8 @@ use Rattle.edits.specs.Edits.{Edit, planned, plan_of, planVerdict, planImage, pl
 use Rattle.edits.specs.Promise.{lent, Edited}
 use Rattle.edits.specs.Laws.Behind.{behind-passed, behind-refused}
 use Rattle.ledger.specs.Runs.{Passable}
-use Rattle.ledger.specs.Laws.Layout.{Lays}
-use Rattle.ledger.specs.Laws.TreeAfter.{arrives}
+use Rattle.ledger.proofs.Laws.Layout.{Lays}
+use Rattle.ledger.proofs.Laws.TreeAfter.{arrives}
 use Rattle.commit.specs.declared.Decision.{Decision}
 use Rattle.commit.specs.Inner.Decision.{CanCarry, carriedAnswer, carriedImage, DecidedAs}
 use Rattle.commit.proofs.Decisions.{answered}

@@ -1,5 +1,5 @@
--- `ledger::any_list` meets its contract: the theorem is proved in specs/Laws/Demand3.
-use Rattle.ledger.specs.Laws.Demand3.{demand-3}
+-- `ledger::any_list` meets its contract: the theorem is proved in proofs/Laws/Demand3.
+use Rattle.ledger.proofs.Laws.Demand3.{demand-3}
 use Rattle.ledger.proofs.any_list.Goals as goal
 
 pub returns : goal.returns

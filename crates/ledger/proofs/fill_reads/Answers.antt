@@ -1,5 +1,5 @@
--- `ledger::fill_reads` meets its contract: the theorem is proved in specs/Laws/FillReads.
-use Rattle.ledger.specs.Laws.FillReads.{fill-reads}
+-- `ledger::fill_reads` meets its contract: the theorem is proved in proofs/Laws/FillReads.
+use Rattle.ledger.proofs.Laws.FillReads.{fill-reads}
 use Rattle.ledger.proofs.fill_reads.Goals as goal
 
 pub returns : goal.returns

@@ -1,5 +1,5 @@
--- `ledger::record_tells` meets its contract: the theorem is proved in specs/Laws/RecordTells.
-use Rattle.ledger.specs.Laws.RecordTells.{record-tells}
+-- `ledger::record_tells` meets its contract: the theorem is proved in proofs/Laws/RecordTells.
+use Rattle.ledger.proofs.Laws.RecordTells.{record-tells}
 use Rattle.ledger.proofs.record_tells.Goals as goal
 
 pub returns : goal.returns

@@ -5,7 +5,7 @@ use Rattle.tree.specs.Table.{none}
 use Rattle.tree.specs.Lookup.{isDirectory}
 use Rattle.edits.specs.Edits.{Edit, insertFile, insertDirectory, makeDirectories, moveFile, resizeFile, fillFile, rewrite, noPlace}
 use Rattle.ledger.specs.Ledger.{History, Ledger, filesBefore, newHistory, Report}
-use Rattle.ledger.specs.Laws.Files.{files_of, names_of}
+use Rattle.ledger.specs.Inner.Files.{files_of, names_of}
 use Rattle.ledger.specs.Spared.{names, ledgerNext, numberNext}
 
 -- an accepted move, resize or fill of the list named file f

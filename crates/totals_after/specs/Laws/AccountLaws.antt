@@ -23,10 +23,10 @@ use Rattle.opening.specs.Laws.OpeningLaws.{used-regions}
 use Rattle.opening.specs.Inner.Prepared.{IsOpen}
 use Rattle.edits.specs.Change.{Change, tableVerdict, Plan, refused, nothing, change, filled}
 use Rattle.edits.specs.Edits.{noPlace, planVerdict, totalsTo}
-use Rattle.ledger.specs.Laws.Files.{placesIn, used-files}
-use Rattle.ledger.specs.Laws.Opened.{opened}
-use Rattle.ledger.specs.Laws.Room as room-law
-use Rattle.ledger.specs.Laws.Layout.{LaidOut, Lays}
+use Rattle.ledger.proofs.Laws.Files.{placesIn, used-files}
+use Rattle.ledger.proofs.Laws.Opened.{opened}
+use Rattle.ledger.proofs.Laws.Room as room-law
+use Rattle.ledger.proofs.Laws.Layout.{LaidOut, Lays}
 use Rattle.commit.specs.declared.Writing.{Writing}
 use Rattle.commit.specs.declared.Decision.{Decision}
 use Rattle.commit.specs.declared.Decision.TheVariants as decision

@@ -27,12 +27,12 @@ use Rattle.ledger.specs.Ledger.{bare, filesBefore, put_in, firstLedger}
 use Rattle.ledger.specs.Runs.{Call, imageAfterAll, acceptedIn, AllWithin}
 use Rattle.ledger.specs.Spared.{numberAfter, Spared}
 use Rattle.ledger.specs.Theorem.{Demand3, StillThere, ShowsClip, Tells, WithinMaximum}
-use Rattle.ledger.specs.Laws.AnyMaximum.{any-maximum}
-use Rattle.ledger.specs.Laws.Demand3.{demand-3, unnamed-stays}
-use Rattle.ledger.specs.Laws.EditedDown.{edited-down}
-use Rattle.ledger.specs.Laws.FillReads.{readInto, fill-reads, read_back}
-use Rattle.ledger.specs.Laws.MaximumKept.{maximum-kept}
-use Rattle.ledger.specs.Laws.RecordTells.{record-tells}
+use Rattle.ledger.proofs.Laws.AnyMaximum.{any-maximum}
+use Rattle.ledger.proofs.Laws.Demand3.{demand-3, unnamed-stays}
+use Rattle.ledger.proofs.Laws.EditedDown.{edited-down}
+use Rattle.ledger.proofs.Laws.FillReads.{readInto, fill-reads, read_back}
+use Rattle.ledger.proofs.Laws.MaximumKept.{maximum-kept}
+use Rattle.ledger.proofs.Laws.RecordTells.{record-tells}
 use Rattle.small_master.specs.Image.{master, masterWords}
 use Rattle.small_master.specs.Laws.Marked as small
 use Rattle.small_master.specs.Laws.Maximum.{stating, slack}

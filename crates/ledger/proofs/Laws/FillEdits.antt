@@ -1,0 +1,116 @@
+-- A fill keeps image and ledger, and its tree arrives: it is a resize, and then a clip of the file's size put over the file. Assumes nothing.
+use Rattle.std.specs.Prelude.{Ok}
+use Rattle.std.specs.Prelude.{ℕ, zero, suc, ◌^◌, ◌<◌, ◌≤◌, ◌≡◌, refl, false, List, [], ◌∷◌, length, get_or, set, ltb, leb}
+use Rattle.std.proofs.Common.{sym, ap, ◌∙◌, arith, ltb-false, leb-false, set-set}
+use Rattle.std.proofs.lemmas.List.{length-map}
+use Rattle.std.proofs.Math.ListN.{get_or-map}
+use Rattle.endian.specs.Bytes.{AllBytes}
+use Rattle.refusal.specs.declared.Refusal.TheVariants.{NotEnoughSpace, NoSuchEntry}
+use Rattle.refusal.specs.Laws.Chains.{refuse-passed, first-passed}
+use Rattle.tree.specs.Table.{Node, file, directory, none}
+use Rattle.tree.specs.Lookup.{isDirectory}
+use Rattle.tree.specs.Insert.{placed, setPlace}
+use Rattle.tree.specs.Laws.PlaceLaws.{setPlace-at}
+use Rattle.opening.specs.Opening.{nodesIn, freeOf, usedOf, regionOf}
+use Rattle.edits.specs.Change.{Plan, filled}
+use Rattle.edits.specs.Edits.{resizeFile, fillFile, fileVerdict, clipVerdict, planResize, planFill, planVerdict, planTree, planImage}
+use Rattle.ledger.specs.Ledger.{Ledger, bare, filesBefore, historyOf, refilled, lowered, entered}
+use Rattle.ledger.proofs.Laws.Bare.{before-bare}
+use Rattle.ledger.proofs.Laws.Kept.{Kept}
+use Rattle.ledger.proofs.Laws.Placed.{number_in, place_in}
+use Rattle.ledger.proofs.Laws.PlaceEdits.{is-file, file-of, step-resize}
+use Rattle.ledger.proofs.Laws.Plans.{Good, good-planned}
+use Rattle.ledger.proofs.Laws.ProgramKept.{ProgramKept, kept_trans}
+use Rattle.ledger.proofs.Laws.Arrives.{Arrives, arrives-planned, resize}
+use Rattle.ledger.proofs.Laws.Layout.{Lays}
+use Rattle.ledger.proofs.Laws.Clipped.{withClip, Shown, clip-shown, tree-clipped, program-clipped, layout-clipped, used-clipped, free-clipped, clipped-kept}
+
+-- an entry that is set is not one of those before it
+before-set : (k : ℕ) (xs : List Node) (y : Node) → filesBefore k (set xs k y) ≡ filesBefore k xs
+unfolding filesBefore
+before-set zero xs y = refl
+before-set (suc k) [] y = refl
+before-set (suc k) (file nm o n ∷ xs) y = ap suc (before-set k xs y)
+before-set (suc k) (directory nm n ∷ xs) y = before-set k xs y
+
+before-setPlace : (k o n : ℕ) (nodes : List Node) → filesBefore k (setPlace k o n nodes) ≡ filesBefore k nodes
+unfolding setPlace
+before-setPlace k o n nodes = before-set k nodes _
+
+-- an entry that without its place is a file of n bytes
+bare-file : (x y : Node) (n : ℕ) → isDirectory y ≡ false → bare x ≡ placed 0 n (bare y) → (isDirectory x ≡ false) × ((regionOf x).size ≡ n)
+bare-file (file a o m) (file b p q) n d e = (refl, cc)
+bare-file (directory a m) (file b p q) n d e = let z : ◌≡◌ {A = ℕ} 0 1 = cc in absurd (omega arith)
+bare-file x (directory b q) n d e = let z : ◌≡◌ {A = ℕ} 0 1 = cc in absurd (omega arith)
+
+module _ (w : ℕ) (image : List ℕ) (l : Ledger) (K : Kept w image l) (words bytes : ℕ) (lent : words ≤ w) (k : ℕ) (clip : List ℕ) (b : AllBytes clip) where
+  abbrev n : ℕ
+  n = length clip
+
+  abbrev p : Plan
+  p = planResize (freeOf image) (nodesIn image) k n
+
+  abbrev image' : List ℕ
+  image' = planImage p image
+
+  module _ (v : clipVerdict (nodesIn image) k n ≡ Ok tt) (u : planVerdict p image words bytes ≡ Ok tt) where
+    verdicts : (fileVerdict (nodesIn image) k ≡ Ok tt) × (n < 2 ^ 32)
+    verdicts =
+        let t = first-passed (fileVerdict (nodesIn image) k) _ v in
+        (t.0, omega (arith, ltb-false 0xFFFFFFFF n (refuse-passed (ltb 0xFFFFFFFF n) NotEnoughSpace (Ok tt) t.1).0))
+
+    K' : Kept w image' (entered (resizeFile k n) l)
+    K' = step-resize w image l K words bytes lent k n verdicts.1 u
+
+    arrived : (nodesIn image' ≡ planTree p (nodesIn image)) × ProgramKept image image' × Lays p image image'
+    arrived = resize image words bytes w l K lent k n verdicts.1 u
+
+    -- the file there has the clip's length
+    there : (isDirectory (get_or (nodesIn image') k none) ≡ false) × ((place_in image' k).size ≡ n)
+    there =
+        let i : k < length l.nodes = rw (← K.shape) (rw (length-map (nodesIn image) bare) (leb-false (length (nodesIn image)) k (refuse-passed (leb (length (nodesIn image)) k) NoSuchEntry _ verdicts.0).0)) in
+        let a : bare (get_or (nodesIn image') k none) ≡ get_or (setPlace k 0 n l.nodes) k none = sym (get_or-map bare (nodesIn image') k none) ∙ ap (λ (xs : List Node). get_or xs k none) K'.shape in
+        let c : get_or l.nodes k none ≡ bare (get_or (nodesIn image) k none) = ap (λ (xs : List Node). get_or xs k none) (sym K.shape) ∙ get_or-map bare (nodesIn image) k none in
+        bare-file (get_or (nodesIn image') k none) (get_or (nodesIn image) k none) n (is-file (nodesIn image) k verdicts.0) (a ∙ setPlace-at 0 n k l.nodes i ∙ ap (placed 0 n) c)
+
+    number_is : number_in image' k ≡ filesBefore k l.nodes
+    number_is = sym (before-bare k (nodesIn image')) ∙ ap (filesBefore k) K'.shape ∙ before-setPlace k 0 n l.nodes
+
+    fill-kept : Kept w (withClip image' k clip) (entered (fillFile k clip) l)
+    fill-kept =
+        rw (number_is, set-set l.histories (filesBefore k l.nodes) (lowered n (historyOf l k)) (refilled clip (historyOf l k))) at
+        (clipped-kept w image' (entered (resizeFile k n) l) K' k there.0 clip b (sym there.1) (historyOf l k))
+
+    -- with the resize's tree
+    fill-arrived : (nodesIn (withClip image' k clip) ≡ nodesIn image') × ProgramKept image (withClip image' k clip) × Lays p image (withClip image' k clip)
+    fill-arrived = (
+      tree-clipped w image' (entered (resizeFile k n) l) K' k there.0 clip b (sym there.1),
+      kept_trans image image' (withClip image' k clip) arrived.1 (program-clipped w image' (entered (resizeFile k n) l) K' k there.0 clip b (sym there.1)),
+      layout-clipped w image' (entered (resizeFile k n) l) K' k there.0 clip b (sym there.1) image p arrived.2,
+    )
+
+    -- LAW: the file as it is then
+    pub fill_shows : (nm : List ℕ) × (get_or (nodesIn (withClip image' k clip)) k none ≡ file nm (place_in image' k).offset n) × Shown (withClip image' k clip) (place_in image' k).offset clip
+    fill_shows =
+        let x = file-of (get_or (nodesIn image') k none) there.0 in
+        let e : get_or (nodesIn (withClip image' k clip)) k none ≡ get_or (nodesIn image') k none = ap (λ (xs : List Node). get_or xs k none) fill-arrived.0 in
+        (x.0, e ∙ (rw there.1 at x.1), clip-shown w image' (entered (resizeFile k n) l) K' k there.0 clip b (sym there.1))
+
+    pub fill_is : planImage (planFill (freeOf image) (nodesIn image) k clip) image ≡ withClip image' k clip
+    unfolding planFill
+    fill_is = rw (v, ← arrived.0)
+
+    -- LAW: what is used and what is free are the resize's
+    pub fill-used : usedOf (planImage (planFill (freeOf image) (nodesIn image) k clip) image) ≡ usedOf image'
+    fill-used = rw fill_is (used-clipped w image' (entered (resizeFile k n) l) K' k there.0 clip b (sym there.1))
+
+    pub fill-free : freeOf (planImage (planFill (freeOf image) (nodesIn image) k clip) image) ≡ freeOf image'
+    fill-free = rw fill_is (free-clipped w image' (entered (resizeFile k n) l) K' k there.0 clip b (sym there.1))
+
+  pub step-fill : Good w image words bytes (planFill (freeOf image) (nodesIn image) k clip) (entered (fillFile k clip) l)
+  unfolding planFill
+  step-fill = good-planned w image words bytes (clipVerdict (nodesIn image) k n) (filled k clip p) _ (λ v u. rw (← (arrived v u).0) (fill-kept v u))
+
+  pub fill : Arrives image words bytes (planFill (freeOf image) (nodesIn image) k clip)
+  unfolding planFill
+  fill = arrives-planned image words bytes (clipVerdict (nodesIn image) k n) (filled k clip p) (λ v u. rw (← (arrived v u).0) (fill-arrived v u))

@@ -1,0 +1,124 @@
+-- An inserted file's history after any list, by what the reports after the insert tell of it alone: "a file begins with place 0, size 0,
+-- no bytes, m 0, unnamed", and m stays 0. Assumes nothing.
+use Rattle.std.specs.Prelude.{ℕ, zero, suc, ◌≤◌, ◌≡◌, refl, Bool, true, false, cond, List, [], ◌∷◌, ◌++◌, length}
+use Rattle.std.proofs.Common.{sym, ap, ◌∙◌, arith, length-set}
+use Rattle.tree.specs.Table.{Node, file, directory}
+use Rattle.tree.specs.Lookup.{components}
+use Rattle.space.specs.declared.DiscRegion.{DiscRegion}
+use Rattle.opening.specs.Opening.{nodesIn}
+use Rattle.edits.specs.Edits.{Edit, insertFile, insertDirectory, makeDirectories, moveFile, resizeFile, fillFile, rewrite, newNumber, noPlace}
+use Rattle.ledger.specs.Ledger.{Ledger, filesBefore, newHistory, firstHistories, firstLedger, put_in, entered, Report, ledgerAfter}
+use Rattle.ledger.specs.Inner.Files.{pick, place_of, files_of, ownName, names_of}
+use Rattle.ledger.proofs.Laws.Files.{insert-directory, insert-file, names-setPlace, names-bare}
+use Rattle.ledger.proofs.Laws.Making.{made-same}
+use Rattle.ledger.specs.Spared.{ledgerNext, numberAfter}
+use Rattle.ledger.proofs.Laws.SparedLaws.{Holds}
+use Rattle.ledger.specs.Inner.Told.{named_in, givenIn, leastOf, last_of, start_of, historyAt, name_at, size_at, OfFiles}
+use Rattle.ledger.proofs.Laws.ToldLaws.{Exists}
+use Rattle.ledger.proofs.Laws.FilesTold.{FileIs, told}
+
+-- ---- a ledger has a history for each file
+
+abbrev pub Matched : Ledger → Type 0
+Matched l = length l.histories ≡ length (names_of l.nodes)
+
+length-put-in : {A : Type 0} (j : ℕ) (x : A) (xs : List A) → length (put_in j x xs) ≡ suc (length xs)
+unfolding put_in
+length-put-in zero x xs = refl
+length-put-in (suc j) x [] = refl
+length-put-in (suc j) x (y ∷ xs) = ap suc (length-put-in j x xs)
+
+matched-entered : (ed : Edit) (l : Ledger) → Matched l → Matched (entered ed l)
+matched-entered (insertFile p nm) l m =
+    let j : ℕ = filesBefore (newNumber l.nodes p) l.nodes in
+    rw (insert-file ownName p nm 0 0 l.nodes, length-put-in j newHistory l.histories, length-put-in j nm (names_of l.nodes), m)
+matched-entered (insertDirectory p nm) l m = rw (insert-directory ownName p nm (suc (newNumber l.nodes p)) l.nodes) m
+matched-entered (makeDirectories start path) l m = rw (made-same ownName l.nodes start (components path)) m
+matched-entered (moveFile k to) l m = length-set l.histories (filesBefore k l.nodes) _ ∙ m
+matched-entered (resizeFile k n) l m = rw (names-setPlace 0 n k l.nodes) (length-set l.histories (filesBefore k l.nodes) _ ∙ m)
+matched-entered (fillFile k clip) l m = rw (names-setPlace 0 (length clip) k l.nodes) (length-set l.histories (filesBefore k l.nodes) _ ∙ m)
+matched-entered rewrite l m = m
+
+matched-next : (a : Bool) (ed : Edit) (l : Ledger) → Matched l → Matched (cond a (entered ed l) l)
+matched-next true ed l m = matched-entered ed l m
+matched-next false ed l m = m
+
+matched-after : (reports : List Report) (l : Ledger) → Matched l → Matched (ledgerAfter reports l)
+unfolding ledgerAfter
+matched-after [] l m = m
+matched-after (r ∷ reports) l m = matched-after reports (ledgerNext r l) (matched-next r.accepted r.edit l m)
+
+first-length : (image : List ℕ) (xs : List Node) → length (firstHistories image xs) ≡ length (names_of xs)
+unfolding firstHistories pick
+first-length image [] = refl
+first-length image (file nm offset size ∷ xs) = ap suc (first-length image xs)
+first-length image (directory nm next ∷ xs) = first-length image xs
+
+pub matched-first : (image : List ℕ) → Matched (firstLedger image)
+matched-first image = first-length image (nodesIn image) ∙ ap length (sym (names-bare (nodesIn image)))
+
+-- ---- the new file
+
+put-in-at : {A : Type 0} (d : A) (j : ℕ) (x : A) (xs : List A) → j ≤ length xs → Holds d (put_in j x xs) j x
+unfolding put_in
+put-in-at d zero x xs h = (omega arith, refl)
+put-in-at d (suc j) x [] h = absurd (omega arith)
+put-in-at d (suc j) x (y ∷ xs) h = let t = put-in-at d j x xs (omega arith) in (omega (arith, t.0), t.1)
+
+before-most : (k : ℕ) (xs : List Node) → filesBefore k xs ≤ length (names_of xs)
+unfolding filesBefore pick
+before-most zero xs = omega arith
+before-most (suc k) [] = omega arith
+before-most (suc k) (file nm offset size ∷ xs) = omega (arith, before-most k xs)
+before-most (suc k) (directory nm next ∷ xs) = before-most k xs
+
+as_many : (xs : List Node) → length (files_of xs) ≡ length (names_of xs)
+unfolding pick
+as_many [] = refl
+as_many (file nm offset size ∷ xs) = ap suc (as_many xs)
+as_many (directory nm next ∷ xs) = as_many xs
+
+-- the number among the files that a file put in below p gets
+abbrev pub newFile : Ledger → ℕ → ℕ
+newFile l p = filesBefore (newNumber l.nodes p) l.nodes
+
+record New (l : Ledger) (f : ℕ) (nm : List ℕ) : Type 0 where
+  exists : Exists l f
+  history : historyAt l f ≡ newHistory
+  name : name_at l f ≡ nm
+  size : size_at l f ≡ 0
+
+new-file : (l : Ledger) (p : ℕ) (nm : List ℕ) → Matched l → New (entered (insertFile p nm) l) (newFile l p) nm
+new-file l p nm m =
+    let j : ℕ = newFile l p in
+    let b : j ≤ length (names_of l.nodes) = before-most (newNumber l.nodes p) l.nodes in
+    let h = put-in-at newHistory j newHistory l.histories (omega arith) in
+    let n : Holds [] (names_of (entered (insertFile p nm) l).nodes) j nm = rw (insert-file ownName p nm 0 0 l.nodes) (put-in-at [] j nm (names_of l.nodes) b) in
+    let s : Holds noPlace (files_of (entered (insertFile p nm) l).nodes) j noPlace = rw (insert-file place_of p nm 0 0 l.nodes) (put-in-at noPlace j noPlace (files_of l.nodes) (omega (arith, as_many l.nodes))) in
+    record { exists = (h.0, n.0, s.0); history = h.1; name = n.1; size = ap (λ (r : DiscRegion). r.size) s.1 }
+
+-- ---- the list
+
+ledger-then : (xs ys : List Report) (l : Ledger) → ledgerAfter (xs ++ ys) l ≡ ledgerAfter ys (ledgerAfter xs l)
+unfolding ledgerAfter
+ledger-then [] ys l = refl
+ledger-then (r ∷ xs) ys l = ledger-then xs ys (ledgerNext r l)
+
+-- an accepted insert of a file
+abbrev pub inserting : ℕ → List ℕ → Report
+inserting p nm = record { edit = insertFile p nm; accepted = true }
+
+-- THEOREM: `before` and `after` are the reports before and after the insert
+pub inserted-told : (before after : List Report) (l : Ledger) (p : ℕ) (nm : List ℕ) → Matched l →
+    let l₀ : Ledger = ledgerAfter before l in
+    let l₁ : Ledger = ledgerNext (inserting p nm) l₀ in
+    let f : ℕ = newFile l₀ p in
+    OfFiles after l₁ →
+    FileIs (ledgerAfter (before ++ (inserting p nm ∷ after)) l) (numberAfter after l₁ f) nm (last_of 0 (givenIn after l₁ f)) (record { place = 0; bytes = start_of [] (givenIn after l₁ f); m = leastOf 0 (givenIn after l₁ f); named = named_in after l₁ f })
+unfolding ledgerAfter
+inserted-told before after l p nm m o =
+    let l₁ : Ledger = ledgerNext (inserting p nm) (ledgerAfter before l) in
+    let f : ℕ = newFile (ledgerAfter before l) p in
+    let n = new-file (ledgerAfter before l) p nm (matched-after before l m) in
+    let t = told after l₁ f o n.exists in
+    rw (ledger-then before (inserting p nm ∷ after) l) (rw (n.history, n.name, n.size) at t)

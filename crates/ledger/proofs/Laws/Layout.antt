@@ -1,0 +1,159 @@
+-- What an edit does to the layout of the disc: the table ends elsewhere, and one place stands in the stead of another. Assumes nothing.
+use Rattle.std.specs.Prelude.{ℕ, zero, suc, ◌+◌, ◌<◌, ◌≤◌, ◌≡◌, refl, Bool, true, false, not, ◌&&◌, ◌||◌, List, [], ◌∷◌, length, set, eqb}
+use Rattle.std.proofs.Common.{sym, ap, ◌∙◌, ⊎_elim, arith, eqb-true, eq-eqb, get_or-set_same, get_or-set_other}
+use Rattle.std.proofs.lemmas.Bool.{eqb-false}
+use Rattle.refusal.specs.Refusal.{is_refused}
+use Rattle.refusal.specs.Laws.Tests.{and_left, and_right, and_both, or_cases, or_left, or_right, is_false, never_both, same_test}
+use Rattle.header.specs.Verdicts.{fstOffset, fstSize, fstMaxSize, discEnd}
+use Rattle.tree.specs.Table.{encode}
+use Rattle.space.specs.declared.DiscRegion.{DiscRegion}
+use Rattle.space.specs.Used.{inside, usesByte, nonempty, totalSize}
+use Rattle.space.specs.Inner.Sort.{holds}
+use Rattle.space.specs.Laws.UsedLaws.{inside-in, inside-high, used-nonempty}
+use Rattle.space.specs.Laws.LayoutLaws.{inside-from, inside-to}
+use Rattle.space.specs.Laws.TotalLaws.{total-nonempty}
+use Rattle.totals.specs.Laws.LargestLaws.{Exchanged}
+use Rattle.program.specs.Program.{program_of, programBehind}
+use Rattle.opening.specs.Opening.{table_of}
+use Rattle.edits.specs.Change.{Plan, refused, nothing, change, filled}
+use Rattle.edits.specs.Edits.{noPlace}
+use Rattle.ledger.proofs.Laws.Files.{filesIn, placesIn}
+use Rattle.ledger.proofs.Laws.Apart.{Has, region, Apart, some-used, used-some}
+use Rattle.ledger.proofs.Laws.Alike.{Alike, start-same, size_same, end_same, table_same, tree-same}
+use Rattle.ledger.proofs.Laws.Opened.{Opened}
+use Rattle.ledger.proofs.Laws.ProgramKept.{same_place}
+
+-- the table then has that size, its stated maximum is as it was, and of what lies behind it `new` stands in the place of `old`
+pub record LaidOut (image image' : List ℕ) (size : ℕ) (old new : DiscRegion) : Type 0 where
+  pub end : discEnd image' ≡ discEnd image
+  pub start : fstOffset image' ≡ fstOffset image
+  pub table : fstSize image' ≡ size
+  pub maximum : fstMaxSize image' ≡ fstMaxSize image
+  pub fits : fstOffset image + size ≤ discEnd image
+  pub clear : (i : ℕ) → usesByte (placesIn image) i ≡ true → fstOffset image + size ≤ i
+  pub held : 0 < old.size → holds old (placesIn image) ≡ true
+  pub places : Exchanged (placesIn image) (placesIn image') old new
+
+-- the image afterwards has the layout of the plan: one that is refused has none, and one that writes no table leaves it byte for byte
+abbrev pub Lays : Plan → List ℕ → List ℕ → Type 0
+Lays (refused v) image image' = is_refused v ≡ true
+Lays nothing image image' = LaidOut image image' (fstSize image) noPlace noPlace × (table_of image' ≡ table_of image)
+Lays (change k c) image image' = LaidOut image image' (length (encode c.nodes)) c.old c.place
+Lays (filled k clip p) image image' = Lays p image image'
+
+-- ---- no place is changed
+
+exchanged-none : (fs fs' : List DiscRegion) → nonempty fs' ≡ nonempty fs → Exchanged fs fs' noPlace noPlace
+exchanged-none fs fs' e = record {
+  total = let z : totalSize fs' ≡ totalSize fs = sym (total-nonempty fs') ∙ ap totalSize e ∙ total-nonempty fs in omega arith;
+  bytes = λ i. sym (used-nonempty fs' i) ∙ ap (λ (xs : List DiscRegion). usesByte xs i) e ∙ used-nonempty fs i ∙ none i (usesByte fs i);
+}
+  where
+    none : (i : ℕ) (u : Bool) → u ≡ (inside noPlace i || (u && not (inside noPlace i)))
+    none i true = rw (inside-high noPlace i (omega arith))
+    none i false = rw (inside-high noPlace i (omega arith))
+
+-- ---- one place is changed
+
+total-set : (fs : List DiscRegion) (r : ℕ) (y : DiscRegion) → r < length fs → totalSize (set fs r y) + (region fs r).size ≡ totalSize fs + y.size
+unfolding totalSize
+total-set [] r y h = absurd (omega arith)
+total-set (x ∷ fs) zero y h = omega arith
+total-set (x ∷ fs) (suc r) y h = omega (arith, total-set fs r y (omega arith))
+
+pub holds_at : (fs : List DiscRegion) (r : ℕ) → r < length fs → holds (region fs r) fs ≡ true
+unfolding holds
+holds_at [] r h = absurd (omega arith)
+holds_at (x ∷ fs) zero h = rw (eq-eqb x.offset x.offset refl, eq-eqb x.size x.size refl)
+holds_at (x ∷ fs) (suc r) h = or_right (eqb x.offset (region fs r).offset && eqb x.size (region fs r).size) (holds (region fs r) fs) (holds_at fs r (omega arith))
+
+module _ (t e : ℕ) (fs : List DiscRegion) (a : Apart t e fs) (r : ℕ) (y : DiscRegion) (inb : r < length fs) where
+  -- a byte of the changed list
+  to-old : (i : ℕ) → usesByte (set fs r y) i ≡ true → (inside y i || (usesByte fs i && not (inside (region fs r) i))) ≡ true
+  to-old i u = let s = used-some (set fs r y) i u in go s.0 s.1 (eqb s.0 r) refl
+    where
+      go : (k : ℕ) → Has (region (set fs r y) k) i → (b : Bool) → eqb k r ≡ b → (inside y i || (usesByte fs i && not (inside (region fs r) i))) ≡ true
+      go k h true q =
+          let z : k ≡ r = eqb-true k r q in
+          let g : Has y i = rw (get_or-set_same fs r y noPlace inb) at (rw z at h) in
+          or_left (inside y i) _ (inside-in y i g.0 g.1)
+      go k h false q =
+          let d : k ≡ r → ⊥ = eqb-false k r q in
+          let g : Has (region fs k) i = rw (get_or-set_other fs r k y noPlace d) at h in
+          let o : inside (region fs r) i ≡ false = is_false (inside (region fs r) i) (λ v. d (a.apart k r i g (inside-from (region fs r) i v, inside-to (region fs r) i v))) in
+          or_right (inside y i) _ (and_both (usesByte fs i) (not (inside (region fs r) i)) (some-used fs k i g) (rw o))
+
+  to-new : (i : ℕ) → (inside y i || (usesByte fs i && not (inside (region fs r) i))) ≡ true → usesByte (set fs r y) i ≡ true
+  to-new i u =
+      ⊎_elim (λ v. some-used (set fs r y) r i (rw (get_or-set_same fs r y noPlace inb) (inside-from y i v, inside-to y i v)))
+      (λ v. let s = used-some fs i (and_left (usesByte fs i) _ v) in go s.0 s.1 (and_right (usesByte fs i) _ v) (eqb s.0 r) refl) (or_cases (inside y i) _ u)
+    where
+      go : (k : ℕ) → Has (region fs k) i → not (inside (region fs r) i) ≡ true → (b : Bool) → eqb k r ≡ b → usesByte (set fs r y) i ≡ true
+      go k h n true q =
+          let z : k ≡ r = eqb-true k r q in
+          let g : Has (region fs r) i = rw z at h in
+          let v : not (inside (region fs r) i) ≡ false = rw (inside-in (region fs r) i g.0 g.1) in
+          absurd (never_both (not (inside (region fs r) i)) n v)
+      go k h n false q = some-used (set fs r y) k i (rw (get_or-set_other fs r k y noPlace (eqb-false k r q)) h)
+
+  pub exchanged-set : Exchanged fs (set fs r y) (region fs r) y
+  exchanged-set = record { total = total-set fs r y inb; bytes = λ i. same_test (usesByte (set fs r y) i) _ (to-old i) (to-new i) }
+
+-- ---- of images
+
+module _ (image image' : List ℕ) (end : discEnd image' ≡ discEnd image) (start : fstOffset image' ≡ fstOffset image) (program : program_of image' ≡ program_of image) where
+  -- what lies behind the table
+  pub places-are : (fs : List DiscRegion) → filesIn image' ≡ fs → placesIn image' ≡ programBehind image ∷ fs
+  places-are fs e = rw (start, same_place image image' program, e)
+
+  module _ (size : ℕ) (table : fstSize image' ≡ size) (maximum : fstMaxSize image' ≡ fstMaxSize image) (fits : fstOffset image + size ≤ discEnd image) (clear : (k i : ℕ) → Has (region (placesIn image) k) i → fstOffset image + size ≤ i) where
+    clear_of : (i : ℕ) → usesByte (placesIn image) i ≡ true → fstOffset image + size ≤ i
+    clear_of i u = let s = used-some (placesIn image) i u in clear s.0 i s.1
+
+    -- LAW: the files' bytes are the same
+    pub laid_same : nonempty (filesIn image') ≡ nonempty (filesIn image) → LaidOut image image' size noPlace noPlace
+    laid_same e = record {
+      end = end;
+      start = start;
+      table = table;
+      maximum = maximum;
+      fits = fits;
+      clear = clear_of;
+      held = λ h. absurd (omega arith);
+      places = rw (places-are (filesIn image') refl) (exchanged-none (placesIn image) (programBehind image ∷ filesIn image') (unfold nonempty in rw e));
+    }
+
+    -- LAW: the r-th place is another
+    pub laid-place : Opened image → (r : ℕ) (new : DiscRegion) → r < length (filesIn image) → filesIn image' ≡ set (filesIn image) r new → LaidOut image image' size (region (filesIn image) r) new
+    laid-place o r new h e = record {
+      end = end;
+      start = start;
+      table = table;
+      maximum = maximum;
+      fits = fits;
+      clear = clear_of;
+      held = λ z. holds_at (placesIn image) (suc r) (omega arith);
+      places = rw (places-are (set (filesIn image) r new) e) (exchanged-set _ _ (placesIn image) o.places (suc r) new (omega arith));
+    }
+
+-- ---- another image that opens alike
+
+module _ (image image' image'' : List ℕ) (o : Opened image') (a : Alike image' image'') (m : fstMaxSize image'' ≡ fstMaxSize image') where
+  laid-out-on : (size : ℕ) (old new : DiscRegion) → LaidOut image image' size old new → LaidOut image image'' size old new
+  laid-out-on size old new l = record {
+    end = end_same image' image'' a ∙ l.end;
+    start = start-same image' image'' a ∙ l.start;
+    table = size_same image' image'' a ∙ l.table;
+    maximum = m ∙ l.maximum;
+    fits = l.fits;
+    clear = l.clear;
+    held = l.held;
+    places = rw (places-are image' image'' (end_same image' image'' a) (start-same image' image'' a) a.program (filesIn image') (rw (tree-same image' image'' a o))) l.places;
+  }
+
+  -- LAW: what does not touch header, table and program leaves the layout as it is
+  pub laid_on : (p : Plan) → Lays p image image' → Lays p image image''
+  laid_on (refused v) l = l
+  laid_on nothing l = (laid-out-on (fstSize image) noPlace noPlace l.0, table_same image' image'' a o ∙ l.1)
+  laid_on (change k c) l = laid-out-on (length (encode c.nodes)) c.old c.place l
+  laid_on (filled k clip p) l = laid_on p l

@@ -1,0 +1,114 @@
+-- The numbers that insert and make-directories answer, in the tree read from the image afterwards: an insert's is that of the new entry,
+-- found under its name; make-directories' is what its path leads to. Assumes nothing.
+use Rattle.std.specs.Prelude.{Result, Ok}
+use Rattle.refusal.specs.declared.Refusal.{Refusal}
+use Rattle.std.specs.Prelude.{ℕ, ◌<◌, ◌≡◌, true, length, get_or, ltb, leb}
+use Rattle.std.proofs.Math.Path.{refl, ap}
+use Rattle.std.proofs.Common.{◌∙◌, arith, leb-false}
+use Rattle.std.proofs.Math.Bool.{false}
+use mathlib.Core.List.{List, [], ◌∷◌, ◌++◌}
+use Rattle.endian.specs.Bytes.{AllBytes}
+use Rattle.refusal.specs.declared.Refusal.TheVariants.{LimitOrMemory, NoSuchEntry}
+use Rattle.refusal.specs.Refusal.{refuse}
+use Rattle.refusal.specs.Laws.Chains.{refuse-passed}
+use Rattle.tree.specs.Table.{Node, name_of, none}
+use Rattle.tree.specs.Lookup.{isDirectory, components, lookup}
+use Rattle.tree.specs.Insert.{insertAt, emptyFile, emptyDirectory}
+use Rattle.tree.specs.Laws.InsertedList.{Nested, Fresh, well-nested}
+use Rattle.totals.specs.declared.Totals.{Totals}
+use Rattle.opening.specs.Opening.{nodesIn, opening}
+use Rattle.edits.specs.Change.{Plan, change}
+use Rattle.edits.specs.Edits.{insertFile, insertDirectory, makeDirectories, tableOnly, newNumber, insertVerdict, Made, stopped, made, make, planMade, planMakeDirectories, planVerdict, planTree, verdictOf, imageAfter, planNumber, plan_of, numberedAs, Edit}
+use Rattle.edits.specs.Laws.Accepted.{accepted}
+use Rattle.ledger.specs.Ledger.{madeNodes}
+use Rattle.ledger.proofs.Laws.Opened.{opened}
+use Rattle.ledger.proofs.Laws.TreeAfter.{tree-after}
+use Rattle.ledger.proofs.Laws.PlacesAfter.{passed-plan}
+use Rattle.edits.specs.Laws.MakeNumber.{made_found}
+use Rattle.edits.specs.Laws.InsertNumber.{new-entry, new-found, new-from-root}
+
+-- what the edits that give an entry's number answer
+abbrev answer_of : Edit → Totals → List ℕ → ℕ → ℕ → Result ℕ Refusal
+answer_of ed totals image words bytes = numberedAs (verdictOf ed totals image words bytes) (planNumber (plan_of ed image))
+
+-- what an insert of `new` below p, which answered so, leaves in the image
+pub record Inserted (image after : List ℕ) (answer : Result ℕ Refusal) (p : ℕ) (new : Node) : Type 0 where
+  pub number : ℕ
+  pub answered : answer ≡ Ok number
+  -- the new entry was put in as the last child, and nothing else is changed
+  pub tree : nodesIn after ≡ insertAt p new (nodesIn image)
+  -- the entry with that number is the new one
+  pub entry : get_or (nodesIn after) number none ≡ new
+  -- its name, from the parent, leads to it
+  pub found : lookup (nodesIn after) p (name_of new) ≡ Ok number
+  -- and so does every path that led to the parent from the root, with the name behind it
+  pub behind : (path : List ℕ) → lookup (nodesIn image) 0 path ≡ Ok p → lookup (nodesIn after) 0 (path ++ (0x2F ∷ name_of new)) ≡ Ok number
+
+-- what a make-directories along the path, which answered so, leaves
+pub record MadeFrom (image after : List ℕ) (answer : Result ℕ Refusal) (start : ℕ) (path : List ℕ) : Type 0 where
+  pub number : ℕ
+  pub answered : answer ≡ Ok number
+  -- the tree is the one that the walk made
+  pub tree : nodesIn after ≡ madeNodes (nodesIn image) (make (nodesIn image) [] start false (components path))
+  -- "walks its path by Lookup's rules": the path leads to that number, and a directory is there
+  pub found : lookup (nodesIn after) start path ≡ Ok number
+  pub kind : isDirectory (get_or (nodesIn after) number none) ≡ true
+
+module _ (totals : Totals) (image : List ℕ) (words bytes : ℕ) (b : AllBytes image) where
+  nested : opening image words ≡ Ok tt → Nested (nodesIn image)
+  nested e = well-nested (nodesIn image) (opened image words e b).well
+
+  inserted : (after : List ℕ) (answer : Result ℕ Refusal) (p : ℕ) (new : Node) → opening image words ≡ Ok tt → insertVerdict (nodesIn image) p (name_of new) ≡ Ok tt → Fresh (newNumber (nodesIn image) p) new →
+      answer ≡ Ok (newNumber (nodesIn image) p) → nodesIn after ≡ insertAt p new (nodesIn image) → Inserted image after answer p new
+  inserted after answer p new e v fresh a t =
+      let nodes : List Node = nodesIn image in
+      let n : Nested nodes = nested e in
+      record {
+        number = newNumber nodes p;
+        answered = a;
+        tree = t;
+        entry = rw t (new-entry nodes n p new v fresh);
+        found = rw t (new-found nodes n p new v fresh);
+        behind = λ path l. rw t (new-from-root nodes n p new v fresh path l);
+      }
+
+  -- THEOREM: an accepted insert of a file
+  pub inserted-file : (p : ℕ) (nm : List ℕ) → verdictOf (insertFile p nm) totals image words bytes ≡ Ok tt →
+      Inserted image (imageAfter (insertFile p nm) totals image words bytes) (answer_of (insertFile p nm) totals image words bytes) p (emptyFile nm)
+  inserted-file p nm v =
+      let o = accepted (insertFile p nm) totals image words bytes v in
+      let t = passed-plan (insertVerdict (nodesIn image) p nm) (change (newNumber (nodesIn image) p) (tableOnly (insertAt p (emptyFile nm) (nodesIn image)))) image words bytes o.own in
+      inserted (imageAfter (insertFile p nm) totals image words bytes) _ p (emptyFile nm) o.opens t.0 (omega arith, omega arith) (rw (v, t.2))
+      (tree-after (insertFile p nm) totals image words bytes b tt v ∙ ap (λ (x : Plan). planTree x (nodesIn image)) t.2)
+
+  -- THEOREM: and of a directory
+  pub inserted-directory : (p : ℕ) (nm : List ℕ) → verdictOf (insertDirectory p nm) totals image words bytes ≡ Ok tt →
+      Inserted image (imageAfter (insertDirectory p nm) totals image words bytes) (answer_of (insertDirectory p nm) totals image words bytes) p (emptyDirectory nm (newNumber (nodesIn image) p))
+  inserted-directory p nm v =
+      let q : ℕ = newNumber (nodesIn image) p in
+      let o = accepted (insertDirectory p nm) totals image words bytes v in
+      let t = passed-plan (insertVerdict (nodesIn image) p nm) (change q (tableOnly (insertAt p (emptyDirectory nm q) (nodesIn image)))) image words bytes o.own in
+      inserted (imageAfter (insertDirectory p nm) totals image words bytes) _ p (emptyDirectory nm q) o.opens t.0 refl (rw (v, t.2))
+      (tree-after (insertDirectory p nm) totals image words bytes b tt v ∙ ap (λ (x : Plan). planTree x (nodesIn image)) t.2)
+
+  made_as : (start : ℕ) (path : List ℕ) (m : Made) → opening image words ≡ Ok tt → make (nodesIn image) [] start false (components path) ≡ m → start < length (nodesIn image) →
+      planVerdict (planMade m) image words bytes ≡ Ok tt → (after : List ℕ) → nodesIn after ≡ planTree (planMade m) (nodesIn image) → (answer : Result ℕ Refusal) → answer ≡ Ok (planNumber (planMade m)) →
+      MadeFrom image after answer start path
+  made_as start path (stopped c) e q h v after t answer a = let z : ◌≡◌ {A = ℕ} 0 1 = cc in absurd (omega arith)
+  made_as start path (made new k true) e q h v after t answer a = let z : ◌≡◌ {A = ℕ} 0 1 = cc in absurd (omega arith)
+  made_as start path (made new k false) e q h v after t answer a =
+      let f = made_found (nodesIn image) start path new k false (nested e) h q in
+      record { number = k; answered = a; tree = t ∙ rw q; found = rw t f.0; kind = rw t f.1 }
+
+  -- THEOREM: an accepted make-directories
+  pub made-directories : (start : ℕ) (path : List ℕ) → verdictOf (makeDirectories start path) totals image words bytes ≡ Ok tt →
+      MadeFrom image (imageAfter (makeDirectories start path) totals image words bytes) (answer_of (makeDirectories start path) totals image words bytes) start path
+  unfolding planMakeDirectories
+  made-directories start path v =
+      let nodes : List Node = nodesIn image in
+      let o = accepted (makeDirectories start path) totals image words bytes v in
+      let t = passed-plan (refuse (ltb 1024 (length path)) LimitOrMemory (refuse (leb (length nodes) start) NoSuchEntry (Ok tt))) (planMade (make nodes [] start false (components path))) image words bytes o.own in
+      let v₁ = refuse-passed (ltb 1024 (length path)) LimitOrMemory _ t.0 in
+      let v₂ = refuse-passed (leb (length nodes) start) NoSuchEntry (Ok tt) v₁.1 in
+      made_as start path (make nodes [] start false (components path)) o.opens refl (leb-false _ _ v₂.0) t.1 (imageAfter (makeDirectories start path) totals image words bytes)
+      (tree-after (makeDirectories start path) totals image words bytes b tt v ∙ ap (λ (x : Plan). planTree x nodes) t.2) _ (rw (v, t.2))

@@ -1,0 +1,99 @@
+-- What an image that opens is, what opens, and that more words open it too, and those that its entries ask for. Assumes nothing.
+use Rattle.std.specs.Prelude.{Ok}
+use Rattle.std.specs.Prelude.{ℕ, ◌+◌, ◌-◌, ◌*◌, ◌≤◌, ◌≡◌, ◌⊎◌, true, List, ◌∷◌, length, ltb, eqb}
+use Rattle.std.proofs.Common.{inl, inr, ⊎_elim, arith, ltb-false, le-ltb}
+use Rattle.endian.specs.Bytes.{AllBytes}
+use Rattle.refusal.specs.declared.Refusal.TheVariants.{EntryPastTable, UnrecognizedKind, RootIsNotDirectory, MissingNullTerminator, LimitOrMemory}
+use Rattle.refusal.specs.Laws.Chains.{refuse-passed, first-passed}
+use Rattle.header.specs.Verdicts.{discEnd, table_end}
+use Rattle.header.specs.Laws.FieldTests.{GoodHeader, Bounded, header-passes, bounds-pass}
+use Rattle.tree.specs.Table.{Node, kind, count, entriesVerdict, unended, check, limits}
+use Rattle.tree.specs.Inner.WellFormed.{WellFormed}
+use Rattle.tree.specs.Laws.RoundTrip.{within-limits, limits-within, written-accepted, written-reads}
+use Rattle.space.specs.Used.{usedRegions}
+use Rattle.space.specs.Layout.{disjointBelow}
+use Rattle.program.specs.Program.{program_of, programVerdict, programIn, programBehind}
+use Rattle.opening.specs.Opening.{table_of, nodesIn, behindTable, usedIn, layoutVerdict, opening}
+use Rattle.opening.specs.Laws.OpeningLaws.{opens, table-accepted}
+use Rattle.edits.specs.Change.{Change, written}
+use Rattle.ledger.proofs.Laws.Written.{newEnd, Safe, header-written, bounds-written, table-written, fst-offset-written, fst-size-written, disc-end-written}
+use Rattle.ledger.specs.Inner.Files.{files_of}
+use Rattle.ledger.proofs.Laws.Files.{placesIn, used-files}
+use Rattle.ledger.proofs.Laws.Apart.{Apart, apart_from}
+
+pub record Opened (image : List ℕ) : Type 0 where
+  pub header : GoodHeader image
+  pub bounds : Bounded image
+  pub well : WellFormed (nodesIn image)
+  pub program : programVerdict (program_of image) ≡ Ok tt
+  pub regions : disjointBelow (discEnd image) (usedIn image) ≡ true
+  pub places : Apart (table_end image) (discEnd image) (placesIn image)
+
+-- LAW: what opening accepts
+pub opened : (image : List ℕ) (w : ℕ) → opening image w ≡ Ok tt → AllBytes image → Opened image
+unfolding usedIn behindTable nodesIn
+opened image w e b =
+    let o = opens image w b e in
+    record {
+      header = o.reads.header;
+      bounds = o.reads.bounds;
+      well = o.reads.table.well;
+      program = o.program;
+      regions = o.layout;
+      places = apart_from (table_end image) (discEnd image) (placesIn image) (omega (arith, o.reads.bounds.after-header)) (rw (used-files (table_end image) (programBehind image) (nodesIn image)) at o.layout);
+    }
+
+-- LAW: and what it must accept
+pub opening-passes : (image : List ℕ) (w : ℕ) → GoodHeader image → Bounded image → check (table_of image) w ≡ Ok tt → programVerdict (program_of image) ≡ Ok tt → disjointBelow (discEnd image) (usedIn image) ≡ true → opening image w ≡ Ok tt
+unfolding opening layoutVerdict
+opening-passes image w g b c p d = rw (header-passes image g, bounds-pass image b, c, p, d)
+
+-- ---- other words
+
+other-check : (tab : List ℕ) (w w' : ℕ) → (w ≤ w') ⊎ (4 * (count tab + 2) ≤ w') → check tab w ≡ Ok tt → check tab w' ≡ Ok tt
+unfolding check
+other-check tab w w' h e =
+    let c : ℕ = count tab in
+    let e₁ = refuse-passed (ltb (length tab) 12) EntryPastTable _ e in
+    let e₂ = refuse-passed (ltb 1 (kind tab 0)) UnrecognizedKind _ e₁.1 in
+    let e₃ = refuse-passed (eqb (kind tab 0) 0) RootIsNotDirectory _ e₂.1 in
+    let e₄ = refuse-passed (ltb 16384 c) LimitOrMemory _ e₃.1 in
+    let e₅ = first-passed (entriesVerdict tab 1 (c - 1)) _ e₄.1 in
+    let e₆ = refuse-passed (unended tab c) MissingNullTerminator _ e₅.1 in
+    let e₇ = refuse-passed (ltb 1048576 (length tab - 12 * c)) LimitOrMemory _ e₆.1 in
+    let e₈ = refuse-passed (ltb w (4 * (c + 2))) LimitOrMemory _ e₇.1 in
+    let r : 4 * (c + 2) ≤ w = ltb-false _ _ e₈.0 in
+    rw (e₁.0, e₂.0, e₃.0, e₄.0, e₅.0, e₆.0, e₇.0, le-ltb w' (4 * (c + 2)) (⊎_elim (λ z. omega arith) (λ z. z) h)) e₈.1
+
+other-words : (image : List ℕ) (w w' : ℕ) → (w ≤ w') ⊎ (4 * (count (table_of image) + 2) ≤ w') → AllBytes image → opening image w ≡ Ok tt → opening image w' ≡ Ok tt
+other-words image w w' h b e =
+    let o = opened image w e b in
+    opening-passes image w' o.header o.bounds (other-check (table_of image) w w' h (table-accepted image w e)) o.program o.regions
+
+pub more-words : (image : List ℕ) (w w' : ℕ) → w ≤ w' → AllBytes image → opening image w ≡ Ok tt → opening image w' ≡ Ok tt
+more-words image w w' h = other-words image w w' (inl h)
+
+-- LAW: "4 × (entries + 2)" words are enough for every image that opens, with a program behind the table too
+pub enough-words : (image : List ℕ) (w : ℕ) → AllBytes image → opening image w ≡ Ok tt → opening image (4 * (count (table_of image) + 2)) ≡ Ok tt
+enough-words image w = other-words image w (4 * (count (table_of image) + 2)) (inr (omega arith))
+
+more-limits : (nodes : List Node) (w w' : ℕ) → w ≤ w' → limits nodes w ≡ Ok tt → limits nodes w' ≡ Ok tt
+more-limits nodes w w' h e =
+    let i = within-limits nodes w e in
+    limits-within nodes w' (record { few = i.few; texts = i.texts; room = omega (arith, i.room); depth = i.depth })
+
+-- ---- a change written
+
+module _ (c : Change) (image : List ℕ) (s : Safe c image) (words w : ℕ) (h : words ≤ w) (l : limits c.nodes words ≡ Ok tt) where
+  -- LAW: the image afterwards has the tree that was written
+  pub nodes-written : nodesIn (written c image) ≡ c.nodes
+  unfolding nodesIn
+  nodes-written = rw (table-written c image s) (written-reads c.nodes words s.well l)
+
+  -- LAW: and opens, if its program is the same and the files lie apart
+  pub opens-written : programVerdict (program_of image) ≡ Ok tt → program_of (written c image) ≡ program_of image →
+      disjointBelow (discEnd image) (usedRegions (newEnd c image) (programBehind image ∷ files_of c.nodes)) ≡ true → opening (written c image) w ≡ Ok tt
+  unfolding usedIn behindTable programIn
+  opens-written p q d =
+      opening-passes (written c image) w (header-written c image s) (bounds-written c image s) (rw (table-written c image s) (written-accepted c.nodes w s.well (more-limits c.nodes words w h l))) (rw q p)
+      (rw (nodes-written, fst-offset-written c image s, fst-size-written c image s, disc-end-written c image s, q, used-files (newEnd c image) (programBehind image) c.nodes) d)

@@ -1,0 +1,180 @@
+-- The edits of a file's place keep image and ledger: move, and resize in place and elsewhere. Assumes nothing.
+use Rattle.std.specs.Prelude.{Result, Ok, Err}
+use Rattle.refusal.specs.declared.Refusal.{Refusal}
+use Rattle.std.specs.Prelude.{ℕ, ◌+◌, ◌-◌, ◌^◌, ◌<◌, ◌≤◌, ◌≡◌, refl, true, false, cond, ◌||◌, List, [], length, get_or, eqb}
+use Rattle.std.proofs.Common.{sym, ◌∙◌, ⊎_elim, true≢false, arith, leb-false, eqb-true}
+use Rattle.std.proofs.Math.Bool.{Bool}
+use Rattle.std.proofs.lemmas.Bool.{eqb-false}
+use Rattle.std.proofs.lemmas.List.{set-get_or}
+use Rattle.std.proofs.Math.Dec.{leb}
+use Rattle.refusal.specs.declared.Refusal.TheVariants.{NoSuchEntry, ExpectedFile}
+use Rattle.refusal.specs.Refusal.{first}
+use Rattle.refusal.specs.Laws.Chains.{refuse-passed, first-passed}
+use Rattle.tree.specs.Table.{Node, file, directory, none}
+use Rattle.tree.specs.Lookup.{isDirectory}
+use Rattle.space.specs.declared.DiscRegion.{DiscRegion}
+use Rattle.refusal.specs.Laws.Tests.{lt-or-le, or-false}
+use Rattle.free_space.specs.MaxRegionSize.{maxRegionSize}
+use Rattle.free_space.specs.Allocate.{allocationOf}
+use Rattle.opening.specs.Opening.{nodesIn, freeOf, regionOf}
+use Rattle.edits.specs.Change.{Change, written, tableVerdict, Plan, nothing, change}
+use Rattle.edits.specs.Edits.{moveFile, resizeFile, noPlace, fileVerdict, relocated, relocateVerdict, planMove, resized, planElsewhere, planResize}
+use Rattle.ledger.specs.Ledger.{History, Ledger, filesBefore, newHistory, marked, lowered, entered}
+use Rattle.ledger.proofs.Laws.Files.{filesIn, files-at, files-count}
+use Rattle.ledger.proofs.Laws.Apart.{region}
+use Rattle.ledger.proofs.Laws.Histories.{True, trues-at, true-lowered, trues-set}
+use Rattle.ledger.proofs.Laws.Bare.{before-bare, setPlace-bare, move-bare}
+use Rattle.ledger.proofs.Laws.Opened.{Opened}
+use Rattle.ledger.proofs.Laws.Room.{room, Placeable, elsewhere, in_place}
+use Rattle.ledger.proofs.Laws.Kept.{Kept, opened-kept}
+use Rattle.ledger.proofs.Laws.Placed.{place_in, number_in, placeNumber, Placed, placed-opens, placed-tree, placed-trues, placed-true, placed-bytes, relocated-placed, resized-placed}
+use Rattle.ledger.proofs.Laws.Plans.{Good, good-planned, good-refused, good-cond}
+
+-- ---- a file's tests
+
+pub is-file : (nodes : List Node) (k : ℕ) → fileVerdict nodes k ≡ Ok tt → isDirectory (get_or nodes k none) ≡ false
+is-file nodes k v =
+    (refuse-passed (isDirectory (get_or nodes k none)) ExpectedFile (Ok tt) (refuse-passed (leb (length nodes) k) NoSuchEntry _ v).1).0
+
+pub file-of : (x : Node) → isDirectory x ≡ false → (nm : List ℕ) × (x ≡ file nm (regionOf x).offset (regionOf x).size)
+file-of (file nm offset size) e = (nm, refl)
+file-of (directory nm next) e = ([], absurd (true≢false e))
+
+-- ---- a history that is marked, where the size stays
+
+true-marked : (image : List ℕ) (y : DiscRegion) (h : History) → h.m ≤ y.size → True image y (lowered y.size h) → True image y (marked h)
+true-marked image y h l t = record {
+  least = l;
+  known = omega (arith, t.known);
+  same = λ i d. t.same i (omega arith);
+  unnamed = λ z. absurd (true≢false z);
+}
+
+module _ (w : ℕ) (image : List ℕ) (l : Ledger) (K : Kept w image l) (words bytes : ℕ) (lent : words ≤ w) where
+  o : Opened image
+  o = opened-kept w image l K
+
+  number_is : (k : ℕ) → filesBefore k l.nodes ≡ number_in image k
+  number_is k = rw (← K.shape) (before-bare k (nodesIn image))
+
+  module _ (k : ℕ) (isFile : isDirectory (get_or (nodesIn image) k none) ≡ false) where
+    -- its history so far
+    old-true : True image (place_in image k) (get_or l.histories (number_in image k) newHistory)
+    old-true = rw (files-at k (nodesIn image) isFile) at (trues-at image (filesIn image) l.histories (number_in image k) K.trues (files-count k (nodesIn image) isFile))
+
+    -- resized in some way
+    resized-kept : (c : Change) (new : DiscRegion) (free : Placeable image (placeNumber image k) new) →
+        Placed w image l K words lent k isFile new free c → Kept w (written c image) (entered (resizeFile k new.size) l)
+    resized-kept c new free p = record {
+      bytes = placed-bytes w image l K words lent k isFile new free c p;
+      opens = placed-opens w image l K words lent k isFile new free c p;
+      shape = rw (placed-tree w image l K words lent k isFile new free c p) (setPlace-bare new.offset new.size k (nodesIn image) ∙ rw K.shape);
+      trues = rw (number_is k) (placed-trues w image l K words lent k isFile new free c p
+          (lowered new.size (get_or l.histories (number_in image k) newHistory)) (placed-true w image l K words lent k isFile new free c p));
+    }
+
+    -- moved to a place of the same size
+    moved-kept : (c : Change) (to : ℕ) (free : Placeable image (placeNumber image k) (record { offset = to; size = (place_in image k).size })) →
+        Placed w image l K words lent k isFile (record { offset = to; size = (place_in image k).size }) free c →
+        Kept w (written c image) (entered (moveFile k to) l)
+    moved-kept c to free p =
+        let new : DiscRegion = record { offset = to; size = (place_in image k).size } in
+        let h : History = get_or l.histories (number_in image k) newHistory in
+        let x = file-of (get_or (nodesIn image) k none) isFile in
+        record {
+          bytes = placed-bytes w image l K words lent k isFile new free c p;
+          opens = placed-opens w image l K words lent k isFile new free c p;
+          shape = rw (placed-tree w image l K words lent k isFile new free c p) (move-bare to k (nodesIn image) x.0 _ _ x.1 ∙ K.shape);
+          trues = rw (number_is k) (placed-trues w image l K words lent k isFile new free c p (marked h)
+              (true-marked (written c image) new h old-true.least (placed-true w image l K words lent k isFile new free c p)));
+        }
+
+    -- elsewhere
+    pub free-else : (new : DiscRegion) → relocateVerdict (freeOf image) (place_in image k) new ≡ Ok tt → Placeable image (placeNumber image k) new
+    free-else new v i h = let f = elsewhere image o (place_in image k) new v i h in (f.0, f.1, λ j d. f.2 j)
+
+    pub put-else : (new : DiscRegion) (v : relocateVerdict (freeOf image) (place_in image k) new ≡ Ok tt) → new.offset < 2 ^ 32 → new.size < 2 ^ 32 →
+        tableVerdict (relocated (nodesIn image) k (place_in image k) new) image words bytes ≡ Ok tt →
+        Placed w image l K words lent k isFile new (free-else new v) (relocated (nodesIn image) k (place_in image k) new)
+    put-else new v ho hn u =
+        relocated-placed w image l K words lent k isFile new (free-else new v)
+        (λ i h g. (elsewhere image o (place_in image k) new v i h).2 (placeNumber image k) (rw (files-at k (nodesIn image) isFile) g)) ho hn
+        (room (relocated (nodesIn image) k (place_in image k) new) image words bytes o u)
+
+    -- the file's size, and where it is resized in place its offset, have 32 bits
+    pub small_size : (place_in image k).size < 2 ^ 32
+    small_size =
+        ⊎_elim (λ z. omega (arith, o.bounds.small, (o.places.lie (placeNumber image k) ((place_in image k).offset + (place_in image k).size - 1) (rw (files-at k (nodesIn image) isFile) (omega arith, omega arith))).1))
+        (λ z. omega arith) (lt-or-le 0 (place_in image k).size)
+
+    -- resized to the present size: nothing is written
+    same_size : (n : ℕ) → n ≡ (place_in image k).size → Kept w image (entered (resizeFile k n) l)
+    same_size n e =
+        let r : ℕ = number_in image k in
+        let h : History = get_or l.histories r newHistory in
+        let x = file-of (get_or (nodesIn image) k none) isFile in
+        let x' : get_or (nodesIn image) k none ≡ file x.0 (place_in image k).offset n = rw e x.1 in
+        let t : True image (region (filesIn image) r) (lowered n h) =
+        rw (files-at k (nodesIn image) isFile, e) (true-lowered image image (place_in image k) (place_in image k) h (λ i d. refl) old-true) in
+        record {
+          bytes = K.bytes;
+          opens = K.opens;
+          shape = sym (move-bare 0 k (nodesIn image) x.0 (place_in image k).offset n x') ∙ setPlace-bare 0 n k (nodesIn image) ∙ rw K.shape;
+          trues = rw (number_is k) (rw (set-get_or (filesIn image) r noPlace) at (trues-set image image r (region (filesIn image) r) (lowered n h) (filesIn image) l.histories (λ j d i g. refl) t K.trues));
+        }
+
+    -- in place
+    pub free-here : (n : ℕ) → (leb n (place_in image k).size || leb n (maxRegionSize (place_in image k).offset (place_in image k).size (freeOf image))) ≡ true →
+        Placeable image (placeNumber image k) (record { offset = (place_in image k).offset; size = n })
+    free-here n v =
+        let f = files-at k (nodesIn image) isFile in
+        rw f at (in_place image o (placeNumber image k) n (omega (arith, files-count k (nodesIn image) isFile)) (rw f v))
+
+    pub small-offset : (n : ℕ) → Placeable image (placeNumber image k) (record { offset = (place_in image k).offset; size = n }) →
+        (n ≡ (place_in image k).size → ⊥) → (place_in image k).offset < 2 ^ 32
+    small-offset n free d =
+        ⊎_elim (λ z. omega (arith, o.bounds.small, (free (place_in image k).offset (omega arith, omega arith)).1))
+        (λ z. ⊎_elim (λ y. omega (arith, o.bounds.small, (o.places.lie (placeNumber image k) (place_in image k).offset (rw (files-at k (nodesIn image) isFile) (omega arith, omega arith))).1))
+        (λ y. absurd (d (omega arith))) (lt-or-le 0 (place_in image k).size)) (lt-or-le 0 n)
+
+    here : (n : ℕ) → n < 2 ^ 32 → (n ≡ (place_in image k).size → ⊥) →
+        (leb n (place_in image k).size || leb n (maxRegionSize (place_in image k).offset (place_in image k).size (freeOf image))) ≡ true →
+        Good w image words bytes (change k (resized (nodesIn image) k (place_in image k) n)) (entered (resizeFile k n) l)
+    here n hn d v u =
+        let new : DiscRegion = record { offset = (place_in image k).offset; size = n } in
+        let free = free-here n v in
+        resized-kept (resized (nodesIn image) k (place_in image k) n) new free
+        (resized-placed w image l K words lent k isFile new free refl (small-offset n free d) hn
+        (room (resized (nodesIn image) k (place_in image k) n) image words bytes o u))
+
+    -- where a place is found
+    found : (n : ℕ) → n < 2 ^ 32 → (place_in image k).size < n → (a : Result DiscRegion Refusal) →
+        Good w image words bytes (planElsewhere (nodesIn image) (freeOf image) k (place_in image k) n a) (entered (resizeFile k n) l)
+    found n hn d (Err c) = good-refused w image words bytes c (entered (resizeFile k n) l)
+    found n hn d (Ok r) =
+        good-planned w image words bytes (relocateVerdict (freeOf image) (place_in image k) (record { offset = r.offset; size = n })) _ _ (λ v u.
+        let new : DiscRegion = record { offset = r.offset; size = n } in
+        let ho : new.offset < 2 ^ 32 = omega (arith, o.bounds.small, (free-else new v r.offset (omega arith, omega arith)).1) in
+        resized-kept (relocated (nodesIn image) k (place_in image k) new) new (free-else new v) (put-else new v ho hn u))
+
+  pub step_move : (k to : ℕ) → to < 2 ^ 32 → Good w image words bytes (planMove (freeOf image) (nodesIn image) k to) (entered (moveFile k to) l)
+  unfolding planMove
+  step_move k to h =
+      let new : DiscRegion = record { offset = to; size = (place_in image k).size } in
+      good-planned w image words bytes (first (fileVerdict (nodesIn image) k) (relocateVerdict (freeOf image) (place_in image k) new)) _ _ (λ v u.
+      let v₁ = first-passed (fileVerdict (nodesIn image) k) _ v in
+      let isFile = is-file (nodesIn image) k v₁.0 in
+      moved-kept k isFile (relocated (nodesIn image) k (place_in image k) new) to (free-else k isFile new v₁.1) (put-else k isFile new v₁.1 h (small_size k isFile) u))
+
+  pub step-resize : (k n : ℕ) → n < 2 ^ 32 → Good w image words bytes (planResize (freeOf image) (nodesIn image) k n) (entered (resizeFile k n) l)
+  unfolding planResize
+  step-resize k n h =
+      let old : DiscRegion = place_in image k in
+      let t : Bool = leb n old.size || leb n (maxRegionSize old.offset old.size (freeOf image)) in
+      let in₁ : Plan = change k (resized (nodesIn image) k old n) in
+      let in₂ : Plan = planElsewhere (nodesIn image) (freeOf image) k old n (allocationOf 0x8000 n (freeOf image)) in
+      good-planned w image words bytes (fileVerdict (nodesIn image) k) _ _ (λ v.
+      let isFile = is-file (nodesIn image) k v in
+      good-cond w image words bytes (eqb n old.size) nothing (cond t in₁ in₂) (entered (resizeFile k n) l) (λ e u. same_size k isFile n (eqb-true n old.size e))
+      (λ e. good-cond w image words bytes t in₁ in₂ (entered (resizeFile k n) l) (here k isFile n h (eqb-false n old.size e))
+      (λ g. found k isFile n h (leb-false n old.size (or-false (leb n old.size) _ g).0) (allocationOf 0x8000 n (freeOf image)))))

@@ -1,0 +1,188 @@
+-- A change that gives one file another place or size, and keeps clear of the others: the image opens, has the changed tree, and every file is
+-- true to its history. Assumes nothing.
+use Rattle.std.specs.Prelude.{Ok}
+use Rattle.std.specs.Prelude.{ℕ, suc, ◌+◌, ◌-◌, ◌^◌, ◌<◌, ◌≤◌, min, ◌≡◌, refl, false, List, length, get_or, set}
+use Rattle.std.proofs.Common.{ap, ◌∙◌}
+use Rattle.std.proofs.Math.Logic.{inl}
+use native.Mathlib.Omega.{arith}
+use Rattle.endian.specs.Bytes.{AllBytes}
+use Rattle.header.specs.Verdicts.{discEnd, table_end}
+use Rattle.tree.specs.Table.{none, encode}
+use Rattle.tree.specs.Lookup.{isDirectory}
+use Rattle.tree.specs.Insert.{setPlace}
+use Rattle.tree.specs.Laws.PlaceLaws.{setPlace-sound}
+use Rattle.space.specs.declared.DiscRegion.{DiscRegion}
+use Rattle.opening.specs.Opening.{nodesIn, opening, regionOf}
+use Rattle.edits.specs.Change.{Change, written}
+use Rattle.edits.specs.Edits.{relocated, resized}
+use Rattle.ledger.specs.Ledger.{History, Ledger, filesBefore, newHistory, lowered}
+use Rattle.ledger.proofs.Laws.Written.{newEnd, Safe, bytes-written, rest-written, copy_written, fst-offset-written, fst-size-written, fst-max-size-written, disc-end-written}
+use Rattle.ledger.proofs.Laws.Layout.{LaidOut, laid-place}
+use Rattle.ledger.specs.Inner.Files.{files_of}
+use Rattle.ledger.proofs.Laws.Files.{filesIn, placesIn, files-setPlace, files-at, files-count}
+use Rattle.ledger.proofs.Laws.Apart.{Has, region, apart-test, apart-table, apart-set}
+use Rattle.ledger.proofs.Laws.Histories.{True, Trues, SameIn, trues-set, trues-at, true-lowered}
+use Rattle.ledger.proofs.Laws.Opened.{Opened, nodes-written, opens-written}
+use Rattle.ledger.proofs.Laws.Room.{outside, TableRoom, Placeable}
+use Rattle.ledger.proofs.Laws.Kept.{Kept, opened-kept}
+use Rattle.ledger.proofs.Laws.ProgramKept.{ProgramKept, program-kept}
+
+-- where file k lies, its number among the files, and that of its place behind the table
+abbrev pub place_in : List ℕ → ℕ → DiscRegion
+place_in image k = regionOf (get_or (nodesIn image) k none)
+
+abbrev pub number_in : List ℕ → ℕ → ℕ
+number_in image k = filesBefore k (nodesIn image)
+
+abbrev pub placeNumber : List ℕ → ℕ → ℕ
+placeNumber image k = suc (number_in image k)
+
+-- where it lies among the others
+module _ (w : ℕ) (image : List ℕ) (l : Ledger) (K : Kept w image l) (k : ℕ) (isFile : isDirectory (get_or (nodesIn image) k none) ≡ false) where
+  pub place_is : region (placesIn image) (placeNumber image k) ≡ place_in image k
+  place_is = files-at k (nodesIn image) isFile
+
+  pub place-lies : (i : ℕ) → Has (place_in image k) i → (table_end image ≤ i) × (i < discEnd image)
+  place-lies i h = (opened-kept w image l K).places.lie (placeNumber image k) i (rw place_is h)
+
+  pub not_there : (j i : ℕ) → (j ≡ placeNumber image k → ⊥) → Has (region (placesIn image) j) i → Has (place_in image k) i → ⊥
+  not_there j i d h g = d ((opened-kept w image l K).places.apart j (placeNumber image k) i h (rw place_is g))
+
+module _ (w : ℕ) (image : List ℕ) (l : Ledger) (K : Kept w image l) (words : ℕ) (lent : words ≤ w) (k : ℕ) (isFile : isDirectory (get_or (nodesIn image) k none) ≡ false) (new : DiscRegion) (free : Placeable image (placeNumber image k) new) where
+  o : Opened image
+  o = opened-kept w image l K
+
+  pub record Placed (c : Change) : Type 0 where
+    pub nodes : c.nodes ≡ setPlace k new.offset new.size (nodesIn image)
+    pub safe : Safe c image
+    pub room : TableRoom c image words
+    pub place : c.place ≡ new
+    pub others : (j : ℕ) → (j ≡ placeNumber image k → ⊥) → SameIn image (written c image) (region (placesIn image) j)
+    pub moved : (i : ℕ) → i < min (place_in image k).size new.size → get_or (written c image) (new.offset + i) 0 ≡ get_or image ((place_in image k).offset + i) 0
+
+  pub placed-program : (c : Change) → Placed c → ProgramKept image (written c image)
+  placed-program c p = program-kept c image o p.safe (p.others 0 (λ e. omega arith))
+
+  pub placed-opens : (c : Change) → Placed c → opening (written c image) w ≡ Ok tt
+  placed-opens c p =
+      let e : files_of c.nodes ≡ set (filesIn image) (number_in image k) new = rw p.nodes (files-setPlace new.offset new.size k (nodesIn image) isFile) in
+      let n : placeNumber image k < length (placesIn image) = omega (arith, files-count k (nodesIn image) isFile) in
+      opens-written c image p.safe words w lent p.room.within o.program (placed-program c p).program
+      (rw e
+      (apart-test (newEnd c image) (discEnd image) (set (placesIn image) (placeNumber image k) new) (omega (arith, o.bounds.after-header))
+      (apart-set (newEnd c image) (discEnd image) (placesIn image) (apart-table (table_end image) (newEnd c image) (discEnd image) (placesIn image) o.places p.room.end p.room.clear) (placeNumber image k) new
+      n (λ i h. (omega (arith, p.room.place (rw p.place (omega arith)), ap (λ (r : DiscRegion). r.offset) p.place), (free i h).1)) (λ j i d h g. (free i g).2 j d h))))
+
+  pub placed-tree : (c : Change) → Placed c → nodesIn (written c image) ≡ setPlace k new.offset new.size (nodesIn image)
+  placed-tree c p = nodes-written c image p.safe words w lent p.room.within ∙ p.nodes
+
+  pub placed-laid : (c : Change) → Placed c → LaidOut image (written c image) (length (encode c.nodes)) (place_in image k) new
+  placed-laid c p =
+      let e : filesIn (written c image) ≡ set (filesIn image) (number_in image k) new = rw (placed-tree c p) (files-setPlace new.offset new.size k (nodesIn image) isFile) in
+      rw (files-at k (nodesIn image) isFile) at
+      (laid-place image (written c image) (disc-end-written c image p.safe) (fst-offset-written c image p.safe) (placed-program c p).program (length (encode c.nodes)) (fst-size-written c image p.safe) (fst-max-size-written c image p.safe) p.room.end
+      p.room.clear o (number_in image k) new (files-count k (nodesIn image) isFile) e)
+
+  pub placed-trues : (c : Change) → Placed c → (g : History) → True (written c image) new g → Trues (written c image) (filesIn (written c image)) (set l.histories (number_in image k) g)
+  placed-trues c p g h =
+      rw (placed-tree c p, files-setPlace new.offset new.size k (nodesIn image) isFile)
+      (trues-set image (written c image) (number_in image k) new g (filesIn image) l.histories (λ j d. p.others (suc j) (λ e. d (omega arith))) h K.trues)
+
+  -- its history
+  pub placed-true : (c : Change) → Placed c → True (written c image) new (lowered new.size (get_or l.histories (number_in image k) newHistory))
+  placed-true c p =
+      true-lowered image (written c image) (place_in image k) new (get_or l.histories (number_in image k) newHistory) p.moved (rw (files-at k (nodesIn image) isFile) at (trues-at image (filesIn image) l.histories (number_in image k) K.trues (files-count k (nodesIn image) isFile)))
+
+  pub placed-bytes : (c : Change) → Placed c → AllBytes (written c image)
+  placed-bytes c p = bytes-written c image p.safe
+
+  -- ---- elsewhere: the bytes are copied, the old place is zeroed
+
+  module _ (nowhere : (i : ℕ) → Has new i → Has (place_in image k) i → ⊥) (ho : new.offset < 2 ^ 32) (hn : new.size < 2 ^ 32)
+      (r : TableRoom (relocated (nodesIn image) k (place_in image k) new) image words) where
+    c : Change
+    c = relocated (nodesIn image) k (place_in image k) new
+
+    old-clear : (i : ℕ) → Has (place_in image k) i → newEnd c image ≤ i
+    unfolding c
+    old-clear i h = r.clear (placeNumber image k) i (rw (place_is w image l K k isFile) h)
+
+    relocated-safe : Safe (relocated (nodesIn image) k (place_in image k) new) image
+    unfolding c
+    relocated-safe = record {
+      bytes = K.bytes;
+      header = o.header;
+      bounds = o.bounds;
+      well = setPlace-sound new.offset new.size k (nodesIn image) o.well ho hn;
+      table = r.end;
+      copied = λ z. (
+        (free new.offset (omega arith, omega arith)).0,
+        r.place (omega arith),
+        omega (arith, (free (new.offset + new.size - 1) (omega arith, omega arith)).1),
+        omega (arith, (place-lies w image l K k isFile ((place_in image k).offset + (place_in image k).size - 1) (omega arith, omega arith)).1),
+      );
+      zeroed = λ z. (
+        (place-lies w image l K k isFile (place_in image k).offset (omega arith, omega arith)).0,
+        old-clear (place_in image k).offset (omega arith, omega arith),
+        omega (arith, (place-lies w image l K k isFile ((place_in image k).offset + (place_in image k).size - 1) (omega arith, omega arith)).1),
+      );
+    }
+
+    pub relocated-placed : Placed (relocated (nodesIn image) k (place_in image k) new)
+    unfolding c
+    relocated-placed = record {
+      nodes = refl;
+      safe = relocated-safe;
+      room = r;
+      place = refl;
+      others = λ j d i h.
+          rest-written c image relocated-safe i (o.places.lie j i h).0 (r.clear j i h) (λ z. outside new (min (place_in image k).size new.size) i (omega arith) (λ g. (free i g).2 j d h))
+          (λ z. outside (place_in image k) (place_in image k).size i (omega arith) (not_there w image l K k isFile j i d h));
+      moved = λ i h. copy_written c image relocated-safe i h (λ z. outside (place_in image k) (place_in image k).size (new.offset + i) (omega arith) (nowhere (new.offset + i) (omega arith, omega arith)));
+    }
+
+  -- ---- in place: nothing is copied, the lost end is zeroed
+
+  module _ (here : new.offset ≡ (place_in image k).offset) (ho : new.offset < 2 ^ 32) (hn : new.size < 2 ^ 32)
+      (r : TableRoom (resized (nodesIn image) k (place_in image k) new.size) image words) where
+    d : Change
+    d = resized (nodesIn image) k (place_in image k) new.size
+
+    lost-old : (i : ℕ) → Has d.lost i → Has (place_in image k) i
+    unfolding d
+    lost-old i h = (omega arith, omega arith)
+
+    old-clear' : (i : ℕ) → Has (place_in image k) i → newEnd d image ≤ i
+    unfolding d
+    old-clear' i h = r.clear (placeNumber image k) i (rw (place_is w image l K k isFile) h)
+
+    resized-safe : Safe (resized (nodesIn image) k (place_in image k) new.size) image
+    unfolding d
+    resized-safe = record {
+      bytes = K.bytes;
+      header = o.header;
+      bounds = o.bounds;
+      well = setPlace-sound (place_in image k).offset new.size k (nodesIn image) o.well (rw here at ho) hn;
+      table = r.end;
+      copied = λ z. absurd (omega arith);
+      zeroed = λ z. (
+        (place-lies w image l K k isFile ((place_in image k).offset + new.size) (omega arith, omega arith)).0,
+        old-clear' ((place_in image k).offset + new.size) (omega arith, omega arith),
+        omega (arith, (place-lies w image l K k isFile ((place_in image k).offset + (place_in image k).size - 1) (omega arith, omega arith)).1),
+      );
+    }
+
+    pub resized-placed : Placed (resized (nodesIn image) k (place_in image k) new.size)
+    unfolding d
+    resized-placed = record {
+      nodes = rw here;
+      safe = resized-safe;
+      room = r;
+      place = rw (← here);
+      others = λ j q i h.
+          rest-written d image resized-safe i (o.places.lie j i h).0 (r.clear j i h) (λ z. absurd (omega arith))
+          (λ z. outside d.lost d.lost.size i (omega arith) (λ g. not_there w image l K k isFile j i q h (lost-old i g)));
+      moved = λ i h.
+          rw here (rest-written d image resized-safe ((place_in image k).offset + i) (place-lies w image l K k isFile ((place_in image k).offset + i) (omega arith, omega arith)).0 (old-clear' ((place_in image k).offset + i) (omega arith, omega arith)) (λ z. absurd (omega arith))
+          (λ z. inl (omega arith)));
+    }

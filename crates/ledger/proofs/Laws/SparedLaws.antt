@@ -1,0 +1,83 @@
+-- The history and the name of a file that no accepted edit names are those it began with. Assumes nothing.
+use Rattle.std.specs.Prelude.{ℕ, zero, suc, ◌<◌, ◌≡◌, refl, Bool, true, false, cond, List, [], ◌∷◌, length, get_or, set, eqb}
+use Rattle.std.proofs.Common.{◌∙◌, arith, length-set, get_or-set_other}
+use Rattle.std.proofs.lemmas.Bool.{eqb-false}
+use Rattle.endian.specs.Bytes.{span}
+use Rattle.tree.specs.Table.{Node, file, directory, none}
+use Rattle.tree.specs.Lookup.{components}
+use Rattle.tree.specs.Insert.{shifted}
+use Rattle.tree.specs.Laws.InsertLaws.{shifted-min}
+use Rattle.opening.specs.Opening.{nodesIn}
+use Rattle.edits.specs.Edits.{Edit, insertFile, insertDirectory, makeDirectories, moveFile, resizeFile, fillFile, rewrite, newNumber}
+use Rattle.ledger.specs.Ledger.{History, Ledger, filesBefore, newHistory, put_in, entered, Report, ledgerAfter, firstHistories, firstLedger}
+use Rattle.ledger.specs.Inner.Files.{ownName, names_of}
+use Rattle.ledger.proofs.Laws.Files.{insert-directory, insert-file, names_at, names-setPlace, names-bare}
+use Rattle.ledger.proofs.Laws.Making.{made-same}
+use Rattle.ledger.specs.Spared.{names, shifted_by, ledgerNext, numberNext, numberAfter, Spared}
+
+shifted-suc : (q k : ℕ) → shifted (suc q) (suc k) ≡ suc (shifted q k)
+shifted-suc q k = omega (arith, shifted-min (suc q) (suc k), shifted-min q k)
+
+shifted-zero : (k : ℕ) → shifted 0 k ≡ suc k
+shifted-zero k = omega (arith, shifted-min 0 k)
+
+shifted-first : (q : ℕ) → shifted (suc q) 0 ≡ 0
+shifted-first q = omega (arith, shifted-min (suc q) 0)
+
+-- element f of a list is y
+abbrev pub Holds : {A : Type 0} → A → List A → ℕ → A → Type 0
+Holds d xs f y = (f < length xs) × (get_or xs f d ≡ y)
+
+pub put-in-holds : {A : Type 0} (d : A) (j : ℕ) (x : A) (xs : List A) (f : ℕ) (y : A) → Holds d xs f y → Holds d (put_in j x xs) (shifted j f) y
+unfolding put_in
+put-in-holds d zero x xs f y h = rw (shifted-zero f) (omega (arith, h.0), h.1)
+put-in-holds d (suc j) x [] f y h = absurd (omega (arith, h.0))
+put-in-holds d (suc j) x (z ∷ xs) zero y h = rw (shifted-first j) (omega arith, h.1)
+put-in-holds d (suc j) x (z ∷ xs) (suc f) y h = rw (shifted-suc j f) (let t = put-in-holds d j x xs f y (omega (arith, h.0), h.1) in (omega (arith, t.0), t.1))
+
+-- file f has history g and name nm
+abbrev Begun : Ledger → ℕ → History → List ℕ → Type 0
+Begun l f g nm = Holds newHistory l.histories f g × Holds [] (names_of l.nodes) f nm
+
+set_holds : (hs : List History) (f k : ℕ) (g x : History) → eqb f k ≡ false → Holds newHistory hs f g → Holds newHistory (set hs k x) f g
+set_holds hs f k g x e h = (rw (length-set hs k x) h.0, get_or-set_other hs k f x newHistory (eqb-false f k e) ∙ h.1)
+
+spared-entered : (ed : Edit) (l : Ledger) (f : ℕ) (g : History) (nm : List ℕ) → names ed l f ≡ false → Begun l f g nm → Begun (entered ed l) (shifted_by ed l f) g nm
+spared-entered (insertFile p new) l f g nm e b =
+    let j : ℕ = filesBefore (newNumber l.nodes p) l.nodes in
+    (put-in-holds newHistory j newHistory l.histories f g b.0, rw (insert-file ownName p new 0 0 l.nodes) (put-in-holds [] j new (names_of l.nodes) f nm b.1))
+spared-entered (insertDirectory p new) l f g nm e b = (b.0, rw (insert-directory ownName p new (suc (newNumber l.nodes p)) l.nodes) b.1)
+spared-entered (makeDirectories start path) l f g nm e b = (b.0, rw (made-same ownName l.nodes start (components path)) b.1)
+spared-entered (moveFile k to) l f g nm e b = (set_holds l.histories f (filesBefore k l.nodes) g _ e b.0, b.1)
+spared-entered (resizeFile k n) l f g nm e b = (set_holds l.histories f (filesBefore k l.nodes) g _ e b.0, rw (names-setPlace 0 n k l.nodes) b.1)
+spared-entered (fillFile k clip) l f g nm e b = (set_holds l.histories f (filesBefore k l.nodes) g _ e b.0, rw (names-setPlace 0 (length clip) k l.nodes) b.1)
+spared-entered rewrite l f g nm e b = b
+
+spared-next : (r : Report) (l : Ledger) (f : ℕ) (g : History) (nm : List ℕ) → (r.accepted ≡ true → names r.edit l f ≡ false) → Begun l f g nm → Begun (ledgerNext r l) (numberNext r l f) g nm
+spared-next r l f g nm e b = go r.accepted refl
+  where
+    go : (a : Bool) → r.accepted ≡ a → Begun (cond a (entered r.edit l) l) (cond a (shifted_by r.edit l f) f) g nm
+    go true q = spared-entered r.edit l f g nm (e q) b
+    go false q = b
+
+-- LAW: the history and the name of a file that is spared are those it began with
+pub spared : (reports : List Report) (l : Ledger) (f : ℕ) (g : History) (nm : List ℕ) → Spared reports l f → Begun l f g nm → Begun (ledgerAfter reports l) (numberAfter reports l f) g nm
+unfolding ledgerAfter numberAfter
+spared [] l f g nm s b = b
+spared (r ∷ reports) l f g nm s b = spared reports (ledgerNext r l) (numberNext r l f) g nm s.1 (spared-next r l f g nm s.0 b)
+
+-- ---- the first image
+
+first-history : (image : List ℕ) (k : ℕ) (xs : List Node) (nm : List ℕ) (offset size : ℕ) → get_or xs k none ≡ file nm offset size →
+    Holds newHistory (firstHistories image xs) (filesBefore k xs) (record { place = offset; bytes = span image offset size; m = size; named = false })
+unfolding firstHistories filesBefore
+first-history image k [] nm offset size e = let z : ◌≡◌ {A = ℕ} 0 1 = cc in absurd (omega arith)
+first-history image zero (file nm' a n ∷ xs) nm offset size e = let p : a ≡ offset = cc in let q : n ≡ size = cc in (omega arith, rw (p, q))
+first-history image zero (directory nm' next ∷ xs) nm offset size e = let z : ◌≡◌ {A = ℕ} 0 1 = cc in absurd (omega arith)
+first-history image (suc k) (file nm' a n ∷ xs) nm offset size e = let t = first-history image k xs nm offset size e in (omega (arith, t.0), t.1)
+first-history image (suc k) (directory nm' next ∷ xs) nm offset size e = first-history image k xs nm offset size e
+
+-- LAW: so it begins
+pub begins : (image : List ℕ) (k : ℕ) (nm : List ℕ) (offset size : ℕ) → get_or (nodesIn image) k none ≡ file nm offset size →
+    Begun (firstLedger image) (filesBefore k (nodesIn image)) (record { place = offset; bytes = span image offset size; m = size; named = false }) nm
+begins image k nm offset size e = (first-history image k (nodesIn image) nm offset size e, rw (names-bare (nodesIn image)) (names_at k (nodesIn image) nm offset size e))

@@ -1,0 +1,36 @@
+-- A call keeps image and ledger. Assumes nothing.
+use Rattle.std.specs.Prelude.{Ok, Err}
+use Rattle.refusal.specs.Refusal.{Verdict}
+use Rattle.std.specs.Prelude.{ℕ, ◌≤◌, ◌≡◌, cond, not, List}
+use Rattle.std.proofs.Math.Path.{refl}
+use Rattle.refusal.specs.Refusal.{is_refused}
+use Rattle.totals.specs.declared.Totals.{Totals}
+use Rattle.edits.specs.Edits.{Edit, insertFile, insertDirectory, makeDirectories, moveFile, resizeFile, fillFile, rewrite, plan_of, verdictOf, planImage, imageAfter}
+use Rattle.edits.specs.Laws.Accepted.{accepted}
+use Rattle.ledger.specs.Ledger.{Ledger, entered}
+use Rattle.ledger.specs.Runs.{Passable}
+use Rattle.ledger.proofs.Laws.Kept.{Kept}
+use Rattle.ledger.proofs.Laws.Plans.{Good}
+use Rattle.ledger.proofs.Laws.TableEdits.{step-rewrite, step-insert-directory, step-insert-file, step-make-directories}
+use Rattle.ledger.proofs.Laws.PlaceEdits.{step_move, step-resize}
+use Rattle.ledger.proofs.Laws.FillEdits.{step-fill}
+
+module _ (w : ℕ) (image : List ℕ) (l : Ledger) (K : Kept w image l) (words bytes : ℕ) (lent : words ≤ w) where
+  -- LAW: a plan whose own tests pass keeps what holds
+  pub step-accepted : (ed : Edit) → Passable ed → Good w image words bytes (plan_of ed image) (entered ed l)
+  step-accepted (insertFile p nm) h = step-insert-file w image l K words bytes lent p nm
+  step-accepted (insertDirectory p nm) h = step-insert-directory w image l K words bytes lent p nm
+  step-accepted (makeDirectories start path) h = step-make-directories w image l K words bytes lent start path
+  step-accepted (moveFile k to) h = step_move w image l K words bytes lent k to h
+  step-accepted (resizeFile k n) h = step-resize w image l K words bytes lent k n h
+  step-accepted (fillFile k clip) h = step-fill w image l K words bytes lent k clip h
+  step-accepted rewrite h = step-rewrite w image l K words bytes lent
+
+  -- LAW: a call keeps what holds; a refused one changes neither image nor ledger
+  pub step : (totals : Totals) (ed : Edit) → Passable ed → Kept w (imageAfter ed totals image words bytes) (cond (not (is_refused (verdictOf ed totals image words bytes))) (entered ed l) l)
+  unfolding imageAfter
+  step totals ed h = go (verdictOf ed totals image words bytes) refl
+    where
+      go : (v : Verdict) → verdictOf ed totals image words bytes ≡ v → Kept w (cond (is_refused v) image (planImage (plan_of ed image) image)) (cond (not (is_refused v)) (entered ed l) l)
+      go (Ok _) e = step-accepted ed h (accepted ed totals image words bytes e).own
+      go (Err c) e = K

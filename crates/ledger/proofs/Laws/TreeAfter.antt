@@ -1,0 +1,61 @@
+-- Of every edit: if it is accepted, the tree read from the image afterwards is the one that it planned, offsets included, and the program is the
+-- same, byte for byte. Assumes nothing.
+use Rattle.std.specs.Prelude.{Ok, Err}
+use Rattle.refusal.specs.Refusal.{Verdict}
+use Rattle.std.specs.Prelude.{ℕ, ◌≤◌, ◌≡◌, cond, List}
+use Rattle.std.proofs.Math.Path.{refl}
+use Rattle.std.proofs.Common.{arith}
+use Rattle.endian.specs.Bytes.{AllBytes}
+use Rattle.refusal.specs.Refusal.{is_refused}
+use Rattle.totals.specs.declared.Totals.{Totals}
+use Rattle.opening.specs.Opening.{nodesIn, opening}
+use Rattle.edits.specs.Edits.{Edit, insertFile, insertDirectory, makeDirectories, moveFile, resizeFile, fillFile, rewrite, plan_of, verdictOf, planTree, planImage, imageAfter}
+use Rattle.edits.specs.Laws.Accepted.{accepted}
+use Rattle.ledger.specs.Ledger.{firstLedger}
+use Rattle.ledger.specs.Runs.{Passable}
+use Rattle.ledger.proofs.Laws.Opened.{opened}
+use Rattle.ledger.proofs.Laws.Kept.{Kept}
+use Rattle.ledger.proofs.Laws.ProgramKept.{ProgramKept, nothing-done}
+use Rattle.ledger.proofs.Laws.Layout.{Lays}
+use Rattle.ledger.proofs.Laws.Arrives.{Arrives, on-table, insert-file, insert-directory, make-directories, move, resize}
+use Rattle.ledger.proofs.Laws.FillEdits.{fill}
+use Rattle.ledger.proofs.Laws.Sequence.{start}
+
+module _ (image : List ℕ) (words bytes : ℕ) (b : AllBytes image) (e : opening image words ≡ Ok tt) where
+  same : words ≤ words
+  same = omega arith
+
+  K : Kept words image (firstLedger image)
+  K = start image words words same b e
+
+  -- LAW
+  pub arrives : (ed : Edit) → Passable ed → Arrives image words bytes (plan_of ed image)
+  arrives (insertFile p nm) h = insert-file image words bytes words (firstLedger image) K same p nm
+  arrives (insertDirectory p nm) h = insert-directory image words bytes words (firstLedger image) K same p nm
+  arrives (makeDirectories from path) h = make-directories image words bytes words (firstLedger image) K same from path
+  arrives (moveFile k to) h = move image words bytes words (firstLedger image) K same k to h
+  arrives (resizeFile k n) h = resize image words bytes words (firstLedger image) K same k n h
+  arrives (fillFile k clip) h = fill words image (firstLedger image) K words bytes same k clip h
+  arrives rewrite h = on-table image words bytes words (firstLedger image) K same (nodesIn image) (opened image words e b).well refl 0
+
+module _ (ed : Edit) (totals : Totals) (image : List ℕ) (words bytes : ℕ) (b : AllBytes image) (h : Passable ed) where
+  after : verdictOf ed totals image words bytes ≡ Ok tt → (nodesIn (planImage (plan_of ed image) image) ≡ planTree (plan_of ed image) (nodesIn image)) × ProgramKept image (planImage (plan_of ed image) image) × Lays (plan_of ed image) image (planImage (plan_of ed image) image)
+  after v = let a = accepted ed totals image words bytes v in arrives image words bytes b a.opens ed h a.own
+
+  -- THEOREM: of every edit: if it is accepted, the tree read from the image afterwards is the planned one
+  pub tree-after : verdictOf ed totals image words bytes ≡ Ok tt → nodesIn (imageAfter ed totals image words bytes) ≡ planTree (plan_of ed image) (nodesIn image)
+  unfolding imageAfter
+  tree-after v = rw v (after v).0
+
+  -- THEOREM: "no edit alters its bytes": accepted or refused, it leaves the program as it was
+  pub program-after : ProgramKept image (imageAfter ed totals image words bytes)
+  unfolding imageAfter
+  program-after = go (verdictOf ed totals image words bytes) refl
+    where
+      go : (v : Verdict) → verdictOf ed totals image words bytes ≡ v → ProgramKept image (cond (is_refused v) image (planImage (plan_of ed image) image))
+      go (Ok _) e = (after e).1
+      go (Err c) e = nothing-done image
+
+-- THEOREM: a rewrite leaves the tree as it is
+pub rewritten : (totals : Totals) (image : List ℕ) (words bytes : ℕ) → AllBytes image → verdictOf rewrite totals image words bytes ≡ Ok tt → nodesIn (imageAfter rewrite totals image words bytes) ≡ nodesIn image
+rewritten totals image words bytes b v = tree-after rewrite totals image words bytes b tt v

@@ -1,0 +1,22 @@
+-- The files of a tree, in the order of its entries: as regions, and their names. Assumes nothing: these are definitions.
+use Rattle.std.specs.Prelude.{ℕ, List, [], ◌∷◌}
+use Rattle.tree.specs.Table.{Node, file, directory}
+use Rattle.space.specs.declared.DiscRegion.{DiscRegion}
+
+-- what g makes of each file
+unfoldable pub pick : {A : Type 0} → (List ℕ → ℕ → ℕ → A) → List Node → List A
+pick g [] = []
+pick g (file nm offset size ∷ xs) = g nm offset size ∷ pick g xs
+pick g (directory nm next ∷ xs) = pick g xs
+
+abbrev pub place_of : List ℕ → ℕ → ℕ → DiscRegion
+place_of nm offset size = record { offset = offset; size = size }
+
+abbrev pub files_of : List Node → List DiscRegion
+files_of xs = pick place_of xs
+
+abbrev pub ownName : List ℕ → ℕ → ℕ → List ℕ
+ownName nm offset size = nm
+
+abbrev pub names_of : List Node → List (List ℕ)
+names_of xs = pick ownName xs
