@@ -13,7 +13,7 @@ use Rattle.space.specs.Used.{nonempty, usedRegions}
 use Rattle.program.specs.Program.{programBehind}
 use Rattle.opening.specs.Opening.{nodesIn, regionOf}
 use Rattle.edits.specs.Edits.{noPlace}
-use Rattle.ledger.specs.Inner.Files.{pick, place_of, files_of, ownName, names_of}
+use Rattle.ledger.specs.Inner.Files.{pick, files_of, names_of}
 use Rattle.ledger.specs.Ledger.{bare, filesBefore, put_in}
 
 nonempty-files : (xs : List Node) → nonempty (map regionOf xs) ≡ nonempty (files_of xs)
