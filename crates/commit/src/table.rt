@@ -7,7 +7,6 @@ ghost use Rattle.edits.specs.Change.{aboveMaximum, tableVerdict, placeVerdict};
 ghost use Rattle.opening.specs.Inner.Prepared.{OpensImage, IsOpen};
 ghost use Rattle.commit.specs.Inner.Decision.{sizedAs, placing};
 
-use fst_measure::Measured;
 use refusal::{Refusal, Verdict};
 use space::DiscRegion;
 
@@ -74,14 +73,9 @@ pub fn check_table(
     requires { IsOpen image.now words.now m }
     ensures { result ≡ sizedAs (tableVerdict (placing (nodesIn image.now) place) image.now (length words.now) room) (length (encode (nodesIn image.now))) }
 {
-    let measured = fst_measure::measure(opening::table(image));
-    match measured {
-        Measured::PastLimit => Err(Refusal::LimitOrMemory),
-        Measured::Size(size) => {
-            check_place(image, words, m, room, size, place)?;
-            Ok(size)
-        }
-    }
+    let size = fst_measure::measure(opening::table(image))?;
+    check_place(image, words, m, room, size, place)?;
+    Ok(size)
 }
 
 // The tree as it is, written anew.

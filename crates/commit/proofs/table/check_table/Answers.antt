@@ -3,16 +3,18 @@ use Rattle.std.proofs.lemmas.Result.{err_from_is_err_and}
 use Rattle.commit.proofs.TableSlice.{opens-valid, tree-past, tree-refused, tree-passed}
 use Rattle.commit.proofs.table.check_table.Goals as goal
 
-pub measure-measured-requires : goal.measure-measured-requires
-measure-measured-requires c = search opens-valid
+pub measure-requires : goal.measure-requires
+measure-requires c = search opens-valid
 
-pub returns-in-PastLimit : goal.returns-in-PastLimit
-returns-in-PastLimit c = search tree-past
-
-pub returns-in_err-check_place-in-Size : goal.returns-in_err-check_place-in-Size
-returns-in_err-check_place-in-Size c =
+pub returns-in_err-size : goal.returns-in_err-size
+returns-in_err-size c =
     let p = err_from_is_err_and c.from_residual.result c.from_residual.ensures.1 in
-    rw (p.1, p.2) (search (tree-refused, c.in_err-check_place-in-Size.ensures))
+    rw (p.1, p.2) (search (tree-past, c.in_err-size.was))
 
-pub returns-in_ok-check_place-in-Size : goal.returns-in_ok-check_place-in-Size
-returns-in_ok-check_place-in-Size c = search (tree-passed, c.in_ok-check_place-in-Size.ensures)
+pub returns-in_err-check_place : goal.returns-in_err-check_place
+returns-in_err-check_place c =
+    let p = err_from_is_err_and c.from_residual-in_err-check_place.result c.from_residual-in_err-check_place.ensures.1 in
+    rw (p.1, p.2) (search (tree-refused, c.in_ok-size.was, c.in_err-check_place.ensures))
+
+pub returns : goal.returns
+returns c = search (tree-passed, c.in_ok-size.was, c.in_ok-check_place.ensures)
