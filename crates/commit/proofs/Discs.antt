@@ -1,5 +1,5 @@
 -- What a disc is, of an image that means it: its nodes, what is free of it, and its table as it is once that was judged. Assumes nothing.
-use Rattle.std.specs.Prelude.{Result, Ok, Err, ℕ, ◌≤◌, ◌^◌, ◌≡◌, List, length}
+use Rattle.std.specs.Prelude.{Result, Ok, ℕ, ◌≡◌, List, length}
 use Rattle.std.proofs.Common.{sym, ap, ◌∙◌}
 use Rattle.refusal.specs.declared.Refusal.{Refusal}
 use Rattle.space.specs.declared.DiscRegion.{DiscRegion}

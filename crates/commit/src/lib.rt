@@ -40,7 +40,10 @@ pub enum Decision {
     /// Nothing is to be written.
     Nothing,
     /// The clip alone, at the offset `at`, where the file lies that has that number.
-    Clip { number: u32, at: u32 },
+    Clip {
+        number: u32,
+        at: u32,
+    },
     /// The clip if there is one, the table, whose `size` bytes stand in the working bytes, and what goes with it, for the entry of that number.
     Write {
         number: u32,

@@ -53,7 +53,12 @@ pub(crate) fn write_change(image: &mut [u8], bytes: &[u8], size: usize, writing:
     } = writing;
     let fst_offset = header::fst_offset(image) as usize;
     let fst_size = header::fst_size(image) as usize;
-    copy_kept(image, old.offset as usize, place.offset as usize, kept as usize);
+    copy_kept(
+        image,
+        old.offset as usize,
+        place.offset as usize,
+        kept as usize,
+    );
     commit(image, bytes, fst_offset, fst_size, size);
     zero_lost(image, lost.offset as usize, lost.size as usize);
 }
