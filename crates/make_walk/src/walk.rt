@@ -1,0 +1,147 @@
+// A walk along a path that may lead below the tree as it is.
+ghost use Rattle.std.specs.Prelude.{◌≡◌, Result, Ok, ◌<◌, ◌^◌, length};
+ghost use Rattle.tree.specs.Table.{nodesOf};
+ghost use Rattle.fst_check.specs.Inner.Reading.{Opens};
+ghost use Rattle.make_walk.specs.Inner.Walk.{plainVerdict, walk_from, moved, directoryVerdict, backStep, intoStep, step_of, lastVerdict};
+
+use refusal::{Refusal, Verdict};
+use std::marker::Model;
+
+/// Where a walk from the entry `start` stands: at an entry of the table, so many new directories below it, and what the new names come to:
+/// 12 once one has a unit that no name may have.
+#[derive(Drop)]
+pub struct Walk<'a> {
+    table: &'a [u8],
+    start: usize,
+    entry: usize,
+    level: usize,
+    names: Verdict,
+}
+
+impl<'a> Model for Walk<'a> {
+    ghost use Rattle.std.specs.Prelude.{◌<◌};
+    ghost use Rattle.tree.specs.Table as table_of;
+    ghost use Rattle.tree.specs.Table.{nodesOf};
+    ghost use Rattle.tree.specs.Inner.WellFormed.{WellFormed};
+    ghost use Rattle.fst_check.specs.Inner.Reading.{Opens};
+    ghost use Rattle.make_walk.specs.Inner.Walk.{Place, place_in};
+
+    ghost Value = { Place };
+
+    ghost view = { λ w. place_in w.table.now w.start w.entry w.level w.names };
+
+    ghost invariant = { λ w. Opens w.table.now × WellFormed (nodesOf w.table.now) × (w.entry < table_of.count w.table.now) };
+}
+
+/// Whether each unit of a name is one that a name may have: 12.
+fn check_units(name: &[u8]) -> Verdict
+    ensures { result ≡ plainVerdict name.now }
+{
+    if fst_text::is_plain(name) {
+        Ok(())
+    } else {
+        Err(Refusal::InvalidNameByte)
+    }
+}
+
+impl<'a> Walk<'a> {
+    /// At its start: 15.
+    pub fn new(table: &'a [u8], start: usize) -> Result<Self, Refusal>
+        requires { Opens table.now }
+        ensures { result ≡ walk_from (nodesOf table.now) start }
+    {
+        if fst_check::count(table) <= start {
+            return Err(Refusal::NoSuchEntry);
+        }
+        Ok(Walk {
+            table,
+            start,
+            entry: start,
+            level: 0,
+            names: Ok(()),
+        })
+    }
+
+    /// From a file no step leads on, and no path may end on one: 17.
+    fn check_directory(&self) -> Verdict
+        ensures { result ≡ directoryVerdict self.now }
+    {
+        if self.level == 0 && !fst::is_directory(self.table, self.entry) {
+            return Err(Refusal::ExpectedDirectory);
+        }
+        Ok(())
+    }
+
+    /// To an entry of the table.
+    fn to(self, entry: usize) -> Self
+        requires { entry < length self.nodes }
+        ensures { result ≡ moved self.entry entry 0 }
+    {
+        Walk {
+            entry,
+            level: 0,
+            ..self
+        }
+    }
+
+    /// Back over the last named step, never above the start: 18.
+    fn back(self) -> Result<Self, Refusal>
+        ensures { result ≡ backStep self.entry }
+    {
+        if self.level != 0 {
+            return Ok(Walk {
+                level: self.level - 1,
+                ..self
+            });
+        }
+        if self.entry == self.start {
+            return Err(Refusal::NotFound);
+        }
+        let parent = fst::parent(self.table, self.entry);
+        Ok(self.to(parent))
+    }
+
+    /// To the first child with that name, whatever its kind, or into a directory that is not there yet: 13.
+    fn into(self, name: &[u8]) -> Result<Self, Refusal>
+        requires { self.level < 2 ^ 63 }
+        ensures { result ≡ intoStep self.entry name.now }
+    {
+        if self.level == 0 {
+            if let Ok(child) = fst::child(self.table, self.entry, name) {
+                return Ok(self.to(child as usize));
+            }
+        }
+        if !fst_text::is_safe(name) {
+            return Err(Refusal::UnsafeName);
+        }
+        Ok(Walk {
+            level: self.level + 1,
+            names: self.names.and(check_units(name)),
+            ..self
+        })
+    }
+
+    #[tactic(auto, unfolding(crate::specs::Inner::Walk::step_of))]
+    /// Along one component: empty and `.` stay, `..` goes back, any other is a name.
+    pub fn step(self, name: &[u8]) -> Result<Self, Refusal>
+        requires { self.level < 2 ^ 63 }
+        ensures { result ≡ step_of self.entry name.now }
+    {
+        self.check_directory()?;
+        if fst_path::stays(name) {
+            return Ok(self);
+        }
+        if fst_path::goes_back(name) {
+            return self.back();
+        }
+        self.into(name)
+    }
+
+    /// What the walk comes to where the path ends: 17, then 12.
+    pub fn end(self) -> Verdict
+        ensures { result ≡ lastVerdict self.entry }
+    {
+        self.check_directory()?;
+        self.names
+    }
+}
