@@ -7,20 +7,20 @@ ghost use Rattle.refusal.specs.declared.Refusal.TheVariants.{NoSuchEntry};
 ghost use Rattle.refusal.specs.Refusal.{refuse};
 ghost use Rattle.tree.specs.Table.{nodesOf};
 ghost use Rattle.tree.specs.Lookup.{components};
-ghost use Rattle.fst_check.specs.Inner.Reading.{Opens};
 ghost use Rattle.edits.specs.Inner.Troubles.{troubleOf};
 
 mod components;
 mod walk;
 
 use components::Components;
+use fst::Table;
 use refusal::Verdict;
 use walk::Walk;
 
 /// The first trouble along the path from the entry `start`: 15, then along the path 13, 17, 18, and 12 last.
-pub fn trouble(table: &[u8], start: usize, path: &[u8]) -> Verdict
-    requires { Opens table.now × (length path.now < 2 ^ 63) }
-    ensures { result ≡ refuse (leb (length (nodesOf table.now)) start) NoSuchEntry (troubleOf (nodesOf table.now) start start 0 false (components path.now)) }
+pub fn trouble(table: Table<'_>, start: usize, path: &[u8]) -> Verdict
+    requires { length path.now < 2 ^ 63 }
+    ensures { result ≡ refuse (leb (length (nodesOf table.entry)) start) NoSuchEntry (troubleOf (nodesOf table.entry) start start 0 false (components path.now)) }
 {
     let mut walk = Walk::new(table, start)?;
     for name in Components::new(path) {

@@ -1,9 +1,11 @@
 // A walk along a path that may lead below the tree as it is.
-ghost use Rattle.std.specs.Prelude.{◌≡◌, Result, Ok, ◌<◌, ◌^◌, length};
+ghost use Rattle.std.specs.Prelude.{◌≡◌, Result, Ok, IfOk, ◌<◌, ◌^◌, length};
+ghost use Rattle.tree.specs.Table as table_of;
 ghost use Rattle.tree.specs.Table.{nodesOf};
-ghost use Rattle.fst_check.specs.Inner.Reading.{Opens};
+ghost use Rattle.tree.specs.Lookup.{childOf};
 ghost use Rattle.make_walk.specs.Inner.Walk.{plainVerdict, walk_from, moved, directoryVerdict, backStep, intoStep, step_of, lastVerdict};
 
+use fst::Table;
 use refusal::{Refusal, Verdict};
 use std::marker::Model;
 
@@ -11,7 +13,7 @@ use std::marker::Model;
 /// 12 once one has a unit that no name may have.
 #[derive(Drop)]
 pub struct Walk<'a> {
-    table: &'a [u8],
+    table: Table<'a>,
     start: usize,
     entry: usize,
     level: usize,
@@ -21,16 +23,13 @@ pub struct Walk<'a> {
 impl<'a> Model for Walk<'a> {
     ghost use Rattle.std.specs.Prelude.{◌<◌};
     ghost use Rattle.tree.specs.Table as table_of;
-    ghost use Rattle.tree.specs.Table.{nodesOf};
-    ghost use Rattle.tree.specs.Inner.WellFormed.{WellFormed};
-    ghost use Rattle.fst_check.specs.Inner.Reading.{Opens};
     ghost use Rattle.make_walk.specs.Inner.Walk.{Place, place_in};
 
     ghost Value = { Place };
 
-    ghost view = { λ w. place_in w.table.now w.start w.entry w.level w.names };
+    ghost view = { λ w. place_in w.table w.start w.entry w.level w.names };
 
-    ghost invariant = { λ w. Opens w.table.now × WellFormed (nodesOf w.table.now) × (w.entry < table_of.count w.table.now) };
+    ghost invariant = { λ w. w.entry < table_of.count w.table };
 }
 
 /// Whether each unit of a name is one that a name may have: 12.
@@ -44,13 +43,23 @@ fn check_units(name: &[u8]) -> Verdict
     }
 }
 
+/// The first child of directory `d` with that name, an entry of the table.
+fn child_of(table: &Table<'_>, d: usize, name: &[u8]) -> Result<usize, Refusal>
+    requires { d < table_of.count table.now }
+    ensures child { result ≡ childOf (nodesOf table.now) d name.now }
+    ensures inside { IfOk result (λ j. j < length (nodesOf table.now)) }
+{
+    let _bytes = table.bytes();
+    let child = table.child(d, name)?;
+    Ok(child as usize)
+}
+
 impl<'a> Walk<'a> {
     /// At its start: 15.
-    pub fn new(table: &'a [u8], start: usize) -> Result<Self, Refusal>
-        requires { Opens table.now }
-        ensures { result ≡ walk_from (nodesOf table.now) start }
+    pub fn new(table: Table<'a>, start: usize) -> Result<Self, Refusal>
+        ensures { result ≡ walk_from (nodesOf table.entry) start }
     {
-        if fst_check::count(table) <= start {
+        if table.len() <= start {
             return Err(Refusal::NoSuchEntry);
         }
         Ok(Walk {
@@ -66,7 +75,7 @@ impl<'a> Walk<'a> {
     fn check_directory(&self) -> Verdict
         ensures { result ≡ directoryVerdict self.now }
     {
-        if self.level == 0 && !fst::is_directory(self.table, self.entry) {
+        if self.level == 0 && !self.table.is_directory(self.entry) {
             return Err(Refusal::ExpectedDirectory);
         }
         Ok(())
@@ -97,7 +106,7 @@ impl<'a> Walk<'a> {
         if self.entry == self.start {
             return Err(Refusal::NotFound);
         }
-        let parent = fst::parent(self.table, self.entry);
+        let parent = self.table.parent(self.entry);
         Ok(self.to(parent))
     }
 
@@ -107,8 +116,8 @@ impl<'a> Walk<'a> {
         ensures { result ≡ intoStep self.entry name.now }
     {
         if self.level == 0 {
-            if let Ok(child) = fst::child(self.table, self.entry, name) {
-                return Ok(self.to(child as usize));
+            if let Ok(child) = child_of(&self.table, self.entry, name) {
+                return Ok(self.to(child));
             }
         }
         if !fst_text::is_safe(name) {

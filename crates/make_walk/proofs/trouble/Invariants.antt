@@ -9,4 +9,4 @@ abbrev pub invariant-loop-name : goal.invariant-loop-name
 invariant-loop-name l =
     (goal.iterator-loop-name).can_next l.name-iterator ×
     (goal.iterator-loop-name).is_finite l.name-iterator ×
-    Walking (whole_of (nodesOf l.table) l.start l.path) (length (components l.path)) l.walk l.name-iterator
+    Walking (whole_of (nodesOf l.fn.table) l.start l.path) (length (components l.path)) l.walk l.name-iterator
