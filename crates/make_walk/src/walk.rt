@@ -3,6 +3,7 @@ ghost use Rattle.std.specs.Prelude.{◌≡◌, Result, Ok, IfOk, ◌<◌, ◌^�
 ghost use Rattle.tree.specs.Table as table_of;
 ghost use Rattle.tree.specs.Table.{nodesOf};
 ghost use Rattle.tree.specs.Lookup.{childOf};
+ghost use Rattle.fst_check.specs.Inner.Reading.{Opens};
 ghost use Rattle.make_walk.specs.Inner.Walk.{plainVerdict, walk_from, moved, directoryVerdict, backStep, intoStep, step_of, lastVerdict};
 
 use fst::Table;
@@ -44,13 +45,12 @@ fn check_units(name: &[u8]) -> Verdict
 }
 
 /// The first child of directory `d` with that name, an entry of the table.
-fn child_of(table: &Table<'_>, d: usize, name: &[u8]) -> Result<usize, Refusal>
-    requires { d < table_of.count table.now }
+fn child_of(table: &[u8], d: usize, name: &[u8]) -> Result<usize, Refusal>
+    requires { Opens table.now × (d < table_of.count table.now) }
     ensures child { result ≡ childOf (nodesOf table.now) d name.now }
     ensures inside { IfOk result (λ j. j < length (nodesOf table.now)) }
 {
-    let _bytes = table.bytes();
-    let child = table.child(d, name)?;
+    let child = Table::new(table).child(d, name)?;
     Ok(child as usize)
 }
 
@@ -116,7 +116,7 @@ impl<'a> Walk<'a> {
         ensures { result ≡ intoStep self.entry name.now }
     {
         if self.level == 0 {
-            if let Ok(child) = child_of(&self.table, self.entry, name) {
+            if let Ok(child) = child_of(self.table.bytes(), self.entry, name) {
                 return Ok(self.to(child));
             }
         }
