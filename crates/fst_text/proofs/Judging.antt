@@ -25,3 +25,6 @@ pub safe-is : (nm : List ℕ) → nameless nm ≡ false → safe nm ≡ list_all
 unfolding safe
 safe-is [] h = absurd (true≢false h)
 safe-is (x ∷ s) h = rw (h, all-every safeUnit (units (x ∷ s)))
+
+pub safe-fit : (nm : List ℕ) → nameless nm ≡ false → every safeUnit (units nm) ≡ true → safe nm ≡ true
+safe-fit nm h e = rw (safe-is nm h, all-every safeUnit (units nm)) e
