@@ -14,11 +14,10 @@ use lib.ListN.{length, get_or}
 use Rattle.refusal.specs.declared.Refusal.TheVariants.{LimitOrMemory, NotEnoughSpace, OverlappingMove}
 use Rattle.refusal.specs.Laws.Chains.{refuse-passed, first-passed}
 use Rattle.header.specs.Verdicts.{fstOffset, fstSize, discEnd, table_end}
-use Rattle.tree.specs.Table.{Node, none, count, textsOf, encode, limits}
+use Rattle.tree.specs.Table.{Node, none, count, nodesOf, textsOf, encode, limits}
 use Rattle.tree.specs.Laws.Accepted.{length-nodesOf}
 use Rattle.tree.specs.Laws.WrittenEntries.{length-encode}
 use Rattle.tree.specs.Laws.RoundTrip.{Within, within-limits, limits-within}
-use Rattle.fst_measure.specs.declared.Measured.TheVariants.{Size, PastLimit}
 use Rattle.fst_measure.specs.Inner.Measure.{measureOf}
 use Rattle.space.specs.declared.DiscRegion.{DiscRegion}
 use Rattle.space.specs.Used.{end_of, usedRegions}
@@ -57,6 +56,15 @@ within-at t e (x ∷ xs) (suc k) w z = within-at t e xs k (and_right (liesWithin
 
 -- ---- the limits of the tree as it is, from the size that was measured
 
+-- a table that is not measured passes the limit of the texts
+pub measured-cause : (tab : List ℕ) (cause : Refusal) → measureOf tab ≡ Err cause → cause ≡ LimitOrMemory
+unfolding measureOf
+measured-cause tab cause e = go (ltb 1048576 (length (textsOf (tail (nodesOf tab))))) e
+  where
+    go : (t : Bool) → cond t (Err LimitOrMemory) (Ok (length (encode (nodesOf tab)))) ≡ Err cause → cause ≡ LimitOrMemory
+    go true q = cc
+    go false q = let z : ◌≡◌ {A = ℕ} 0 1 = cc in absurd (omega arith)
+
 module _ (image : List ℕ) (words : ℕ) (known : OpenImage image words) where
   length-nodes : length (nodesIn image) ≡ count (table_of image)
   unfolding nodesIn
@@ -71,20 +79,20 @@ module _ (image : List ℕ) (words : ℕ) (known : OpenImage image words) where
     depth = known.reads.table.depth;
   }
 
-  pub measured-past : measureOf (table_of image) ≡ PastLimit → limits (nodesIn image) words ≡ Err LimitOrMemory
+  pub measured-past : measureOf (table_of image) ≡ Err LimitOrMemory → limits (nodesIn image) words ≡ Err LimitOrMemory
   unfolding measureOf limits nodesIn
   measured-past e = go (ltb 1048576 (length (textsOf (tail (nodesIn image))))) refl e
     where
-      go : (t : Bool) → ltb 1048576 (length (textsOf (tail (nodesIn image)))) ≡ t → cond t PastLimit (Size (length (encode (nodesIn image)))) ≡ PastLimit → limits (nodesIn image) words ≡ Err LimitOrMemory
+      go : (t : Bool) → ltb 1048576 (length (textsOf (tail (nodesIn image)))) ≡ t → cond t (Err LimitOrMemory) (Ok (length (encode (nodesIn image)))) ≡ Err LimitOrMemory → limits (nodesIn image) words ≡ Err LimitOrMemory
       go true a q = let f : length (nodesIn image) ≤ 16384 = omega (arith, length-nodes, known.reads.table.few) in
           rw (le-ltb 16384 (length (nodesIn image)) f, a)
       go false a q = let z : ◌≡◌ {A = ℕ} 0 1 = cc in absurd (omega arith)
 
-  pub measured-size : (n : ℕ) → measureOf (table_of image) ≡ Size n → (limits (nodesIn image) words ≡ Ok tt) × (n ≡ length (encode (nodesIn image)))
+  pub measured-size : (n : ℕ) → measureOf (table_of image) ≡ Ok n → (limits (nodesIn image) words ≡ Ok tt) × (n ≡ length (encode (nodesIn image)))
   unfolding measureOf nodesIn
   measured-size n e = go (ltb 1048576 (length (textsOf (tail (nodesIn image))))) refl e
     where
-      go : (t : Bool) → ltb 1048576 (length (textsOf (tail (nodesIn image)))) ≡ t → cond t PastLimit (Size (length (encode (nodesIn image)))) ≡ Size n →
+      go : (t : Bool) → ltb 1048576 (length (textsOf (tail (nodesIn image)))) ≡ t → cond t (Err LimitOrMemory) (Ok (length (encode (nodesIn image)))) ≡ Ok n →
           (limits (nodesIn image) words ≡ Ok tt) × (n ≡ length (encode (nodesIn image)))
       go true a q = let z : ◌≡◌ {A = ℕ} 0 1 = cc in absurd (omega arith)
       go false a q = (limits-within (nodesIn image) words (within (ltb-false 1048576 _ a)), cc)

@@ -4,7 +4,6 @@ ghost use Rattle.endian.specs.Bytes.{put};
 ghost use Rattle.tree.specs.Table.{encode};
 ghost use Rattle.commit.specs.Inner.Judged.{place_verdict, judged_size};
 
-use fst_measure::Measured;
 use opened::OpenDisc;
 use refusal::{Refusal, Verdict};
 use space::DiscRegion;
@@ -53,14 +52,9 @@ pub fn check_table(disc: &OpenDisc<'_>, room: usize, place: DiscRegion) -> Resul
     ensures held { IfOk result (λ _. length (encode disc.now.nodes) ≤ room) }
     ensures small { IfOk result (λ _. length (encode disc.now.nodes) ≤ 2 ^ 24) }
 {
-    let measured = fst_measure::measure(disc.table());
-    match measured {
-        Measured::PastLimit => Err(Refusal::LimitOrMemory),
-        Measured::Size(size) => {
-            check_place(disc, room, size, place)?;
-            Ok(size)
-        }
-    }
+    let size = fst_measure::measure(disc.table())?;
+    check_place(disc, room, size, place)?;
+    Ok(size)
 }
 
 /// The tree as it is, written anew.
