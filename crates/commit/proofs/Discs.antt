@@ -22,8 +22,8 @@ module _ (image : List ℕ) (d : Disc) (m : Means image d) where
 
   -- the table as it is, judged
   module _ (room : ℕ) (place : DiscRegion) (r : Result ℕ Refusal) (judged : r ≡ judged_size d room place) where
-    pub judged_is : r ≡ sizedAs (tableVerdict (placing (nodesIn image) place) image d.words room) (length (encode (nodesIn image)))
-    judged_is = judged ∙ sym (sized_shown image d.words room place d m.is)
+    pub judged_is : r ≡ sizedAs (tableVerdict (placing d.nodes place) image d.words room) (length (encode d.nodes))
+    judged_is = rw nodes_are at (judged ∙ sym (sized_shown image d.words room place d m.is))
 
     pub new_table : (size : ℕ) → r ≡ Ok size → NewTable d.nodes place image d.words room size
-    new_table size e = rw nodes_are at (new-table (nodesIn image) place image d.words room size r m.known judged_is e)
+    new_table size e = new-table d.nodes place image d.words room size r m.known judged_is e

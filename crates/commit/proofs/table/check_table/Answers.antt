@@ -13,14 +13,12 @@ pub returns-in_err-size-clause-answer : goal.returns-in_err-size-clause-answer
 returns-in_err-size-clause-answer c =
     let t = c.table.ensures.of_image in
     let p = err_from_is_err_and c.from_residual.result c.from_residual.ensures.1 in
-    rw (p.1, p.2)
-    (tree-past t.image _ t.is _ t.means.known _ c.measure.ensures c.args.room c.args.place _ c.in_err-size.was ∙ sized_shown t.image _ c.args.room c.args.place _ t.means.is)
+    rw (p.1, p.2) (tree-past t.image _ t.is _ t.means.known _ c.measure.ensures c.args.room c.args.place _ c.in_err-size.was ∙ sized_shown t.image _ c.args.room c.args.place _ t.means.is)
 
 pub returns-in_err-check_place-clause-answer : goal.returns-in_err-check_place-clause-answer
 returns-in_err-check_place-clause-answer c =
     let t = c.table.ensures.of_image in
-    let e = c.from_residual-in_err-check_place in
-    let p = err_from_is_err_and e.result e.ensures.1 in
+    let p = err_from_is_err_and c.from_residual-in_err-check_place.result c.from_residual-in_err-check_place.ensures.1 in
     rw (p.1, p.2)
     (tree-refused t.image _ t.is _ t.means.known _ c.measure.ensures c.args.room _ c.args.place _ c.in_ok-size.was (c.in_err-check_place.ensures ∙ sym (place_shown t.image _ c.args.room _ c.args.place _ t.means.is))
     ∙ sized_shown t.image _ c.args.room c.args.place _ t.means.is)
