@@ -1,5 +1,5 @@
 // A walk along a path that may lead below the tree as it is.
-ghost use Rattle.std.specs.Prelude.{◌≡◌, Result, Ok, IfOk, ◌<◌, ◌^◌, length};
+ghost use Rattle.std.specs.Prelude.{◌≡◌, Ok, IfOk, ◌<◌, ◌^◌, length};
 ghost use Rattle.tree.specs.Table as table_of;
 ghost use Rattle.tree.specs.Table.{nodesOf};
 ghost use Rattle.tree.specs.Lookup.{childOf};

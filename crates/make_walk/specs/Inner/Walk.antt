@@ -1,6 +1,6 @@
 -- Make-directories' tests that need no memory, and its troubles a component at a time: where the walk of `troubleOf` goes from an entry of the tree as it is, with so many new
 -- directories below it. Assumes nothing: these are definitions.
-use Rattle.std.specs.Prelude.{Result, Ok, Err, ℕ, ◌+◌, ◌-◌, Bool, false, cond, not, ◌&&◌, List, [], length, get_or, ltb, leb, eqb}
+use Rattle.std.specs.Prelude.{Result, Ok, Err, ℕ, ◌+◌, ◌-◌, false, cond, not, ◌&&◌, List, [], length, get_or, ltb, leb, eqb}
 use Rattle.refusal.specs.declared.Refusal.{Refusal}
 use Rattle.refusal.specs.declared.Refusal.TheVariants.{LimitOrMemory, InvalidNameByte, UnsafeName, NoSuchEntry, ExpectedDirectory, NotFound}
 use Rattle.refusal.specs.Refusal.{Verdict, refuse, first}
