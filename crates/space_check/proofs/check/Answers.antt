@@ -12,4 +12,4 @@ returns c =
     let s = c.sort in
     let l = s.auto.words in
     let r = c.check_sorted.ensures in
-    checked _ _ _ _ _ _ c.requires.nonempty (omega arith) s.ensures.count_after s.ensures.same_beside r.verdict r.in_sequence
+    checked _ _ _ _ _ _ c.requires.nonempty (omega arith) s.ensures.sorted s.ensures.same_beside r.verdict r.in_sequence
