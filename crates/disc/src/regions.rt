@@ -41,12 +41,12 @@ pub fn totals(image: &[u8], words: &mut [u32]) -> Result<DiscTotals, Refusal>
 fn record_of(disc: &OpenDisc<'_>) -> Totals
     ensures { (image : List ℕ) → Means image disc.now → result ≡ totalsOf image 0 }
 {
-    let disc_end = disc.end();
+    let (words, used) = (disc.words, disc.used);
     let table_end = disc.start() + disc.room();
     let none = DiscRegion { offset: 0, size: 0 };
     Totals {
         used: disc.used_size(),
-        largest: totals::largest_free(disc.words, disc.used, disc_end, table_end, none, none),
+        largest: totals::largest_free(words, used, disc.end(), table_end, none, none),
         edits: 0,
     }
 }

@@ -1,5 +1,5 @@
 -- `disc::regions::allocate` meets its contract: what the disc answers, behind opening's tests.
-use Rattle.std.specs.Prelude.{Ok, Err}
+use Rattle.std.specs.Prelude.{Err}
 use Rattle.std.proofs.Common.{refl}
 use Rattle.std.proofs.lemmas.Result.{err_from_is_err_and}
 use Rattle.free_space.specs.Allocate.{allocationOf}

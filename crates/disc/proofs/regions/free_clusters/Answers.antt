@@ -1,5 +1,5 @@
 -- `disc::regions::free_clusters` meets its contract: the free regions of the disc, behind opening's tests.
-use Rattle.std.specs.Prelude.{Ok, Err, List, length}
+use Rattle.std.specs.Prelude.{Err, List, length}
 use Rattle.std.proofs.lemmas.Result.{err_from_is_err_and}
 use Rattle.refusal.specs.declared.Refusal.{Refusal}
 use Rattle.space.specs.declared.DiscRegion.{DiscRegion}

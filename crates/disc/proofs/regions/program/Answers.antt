@@ -1,5 +1,5 @@
 -- `disc::regions::program` meets its contract: what the image says, behind opening's tests.
-use Rattle.std.specs.Prelude.{Ok, Err}
+use Rattle.std.specs.Prelude.{Err}
 use Rattle.std.proofs.lemmas.Result.{err_from_is_err_and}
 use Rattle.answers.specs.Laws.AnswerLaws.{asked, not_asked}
 use Rattle.disc.specs.Calls.{programAnswer}

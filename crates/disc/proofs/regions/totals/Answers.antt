@@ -1,6 +1,5 @@
 -- `disc::regions::totals` meets its contract: what the disc answers, behind opening's tests.
-use Rattle.std.specs.Prelude.{Ok, Err}
-use Rattle.std.proofs.Common.{sym, ◌∙◌}
+use Rattle.std.specs.Prelude.{Err}
 use Rattle.std.proofs.lemmas.Result.{err_from_is_err_and}
 use Rattle.opened.specs.Laws.Meant.{end_meant, total_meant}
 use Rattle.answers.specs.Laws.AnswerLaws.{asked, not_asked}
