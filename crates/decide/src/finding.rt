@@ -4,6 +4,7 @@ ghost use Rattle.edits.specs.Edits.{fileVerdict};
 ghost use Rattle.decide.specs.Inner.Files.{file_in, fileOf, fileAs, IsFileOf};
 
 use crate::File;
+use fst::Table;
 use opened::OpenDisc;
 use refusal::Refusal;
 use space::DiscRegion;
@@ -29,7 +30,7 @@ pub fn file_at(disc: &OpenDisc<'_>, number: u32) -> Result<File, Refusal>
     ensures answer { result ≡ fileAs (fileVerdict disc.now.nodes number) (file_in disc.now.nodes number) }
     ensures file { IfOk result (IsFileOf disc.now) }
 {
-    match fst::entry(disc.table(), number) {
+    match Table::new(disc.table()).entry(number) {
         Found::Refused(cause) => Err(cause),
         Found::At(_, entry) => file_of(number, entry),
     }
