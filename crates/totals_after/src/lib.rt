@@ -5,7 +5,6 @@ ghost use Rattle.std.specs.Prelude.{◌≡◌, ◌+◌, ◌-◌, ◌≤◌};
 ghost use Rattle.header.specs.Verdicts.{fstOffset, fstSize, discEnd};
 ghost use Rattle.space.specs.Inner.Sort.{regionsIn};
 ghost use Rattle.opening.specs.Inner.Prepared.{IsOpen};
-ghost use Rattle.totals.specs.Totals.{totalsIn};
 ghost use Rattle.totals.specs.Inner.Scan.{moved};
 ghost use Rattle.edits.specs.Edits.{noPlace};
 ghost use Rattle.totals_after.specs.Inner.Accounting.{OnDisc, accounted, enteredAs, accountOf};
@@ -15,7 +14,7 @@ use endian::wide;
 use header::Field;
 use refusal::{Refusal, Verdict};
 use space::DiscRegion;
-use totals::Record;
+use totals::Totals;
 
 // The record after an edit: used bytes move by what the table and the edited file gain and lose, and the largest free region comes from the
 // used regions in the words. The header of an open image is whole, so its words are read at once. The new table has `size` bytes, and the file
@@ -24,13 +23,13 @@ fn enter(
     image: &[u8],
     words: &[u32],
     m: usize,
-    record: &mut Record,
+    totals: &mut Totals,
     size: u32,
     old: DiscRegion,
     new: DiscRegion,
 ) -> Verdict
     requires { IsOpen image.now words.now m × (fstOffset image.now + size ≤ discEnd image.now) }
-    ensures { moved result (totalsIn «record».new) ≡ enteredAs image.now (regionsIn words.now 1 (m - 1)) (totalsIn «record».old) size old new }
+    ensures { moved result totals.new ≡ enteredAs image.now (regionsIn words.now 1 (m - 1)) totals.old size old new }
 {
     let disc_end = opening::disc_end(image);
     let table_end = endian::read_u32(image, Field::FST_OFFSET.at) + size;
@@ -38,17 +37,17 @@ fn enter(
     let fst_size = endian::read_u32(image, Field::FST_SIZE.at);
     let before = wide(fst_size) + wide(old.size);
     let after = wide(size) + wide(new.size);
-    totals::move_totals(record, before, after, largest)
+    totals.move_on(before, after, largest)
 }
 
 // The same where the table stays and no file moves.
-fn enter_none(image: &[u8], words: &[u32], m: usize, record: &mut Record) -> Verdict
+fn enter_none(image: &[u8], words: &[u32], m: usize, totals: &mut Totals) -> Verdict
     requires { IsOpen image.now words.now m }
-    ensures { moved result (totalsIn «record».new) ≡ enteredAs image.now (regionsIn words.now 1 (m - 1)) (totalsIn «record».old) (fstSize image.now) noPlace noPlace }
+    ensures { moved result totals.new ≡ enteredAs image.now (regionsIn words.now 1 (m - 1)) totals.old (fstSize image.now) noPlace noPlace }
 {
     let size = endian::read_u32(image, Field::FST_SIZE.at);
     let none = DiscRegion { offset: 0, size: 0 };
-    enter(image, words, m, record, size, none, none)
+    enter(image, words, m, totals, size, none, none)
 }
 
 // What is decided on, once the record is tested too: a refused edit leaves it as it is.
@@ -57,16 +56,16 @@ pub fn account(
     words: &[u32],
     m: usize,
     decided: Result<Decision, Refusal>,
-    record: &mut Record,
+    totals: &mut Totals,
 ) -> Result<Decision, Refusal>
     requires { IsOpen image.now words.now m × OnDisc image.now decided }
-    ensures { accounted result (totalsIn «record».new) ≡ accountOf image.now (regionsIn words.now 1 (m - 1)) decided (totalsIn «record».old) }
+    ensures { accounted result totals.new ≡ accountOf image.now (regionsIn words.now 1 (m - 1)) decided totals.old }
 {
     let decision = decided?;
     match decision {
-        Decision::Nothing => enter_none(image, words, m, record)?,
-        Decision::Clip(_, _) => enter_none(image, words, m, record)?,
-        Decision::Write(_, size, w) => enter(image, words, m, record, size as u32, w.old, w.place)?,
+        Decision::Nothing => enter_none(image, words, m, totals)?,
+        Decision::Clip(_, _) => enter_none(image, words, m, totals)?,
+        Decision::Write(_, size, w) => enter(image, words, m, totals, size as u32, w.old, w.place)?,
     }
     Ok(decision)
 }
