@@ -6,4 +6,4 @@ use Rattle.pipeline.proofs.run.Goals as goal
 pub returns : goal.returns
 returns c =
     let e = c.finish.ensures in
-    edited _ _ _ _ _ _ _ _ _ _ _ _ _ _ c.decide-decided.ensures c.clip_of.ensures e.value.1 e.words_after.0 e.words_after.1 (omega arith) (omega arith) _ e.value.0
+    edited _ _ _ _ _ _ _ _ _ _ _ _ _ _ c.decide-decided.ensures c.clip.ensures e.value.1 e.words_after.0 e.words_after.1 (omega arith) (omega arith) _ e.value.0

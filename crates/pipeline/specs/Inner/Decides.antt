@@ -9,25 +9,25 @@ use Rattle.commit.specs.Inner.Decision.{DecidedAs}
 use Rattle.pipeline.specs.declared.Edit.{Edit}
 use Rattle.pipeline.specs.declared.Edit.TheVariants as edit
 
--- with its name, path or clip beside it
-abbrev pub editOf : Edit → List ℕ → edits.Edit
-editOf edit.Rewrite text = edits.rewrite
-editOf (edit.MoveFile k to) text = edits.moveFile k to
-editOf (edit.ResizeFile k n) text = edits.resizeFile k n
-editOf (edit.FillFile k) text = edits.fillFile k text
-editOf (edit.InsertFile p) text = edits.insertFile p text
-editOf (edit.InsertDirectory p) text = edits.insertDirectory p text
-editOf (edit.MakeDirectories start) text = edits.makeDirectories start text
+-- by its cases, with its name, path or clip
+abbrev pub editOf : Edit → edits.Edit
+editOf edit.Rewrite = edits.rewrite
+editOf (edit.Move file offset) = edits.moveFile file offset
+editOf (edit.Resize file size) = edits.resizeFile file size
+editOf (edit.Fill file clip) = edits.fillFile file clip.now
+editOf (edit.InsertFile parent name) = edits.insertFile parent name.now
+editOf (edit.InsertDirectory parent name) = edits.insertDirectory parent name.now
+editOf (edit.MakeDirectories start path) = edits.makeDirectories start path.now
 
--- the clip, if the edit has one
-abbrev pub clipOf : Edit → List ℕ → List ℕ
-clipOf edit.Rewrite text = []
-clipOf (edit.MoveFile k to) text = []
-clipOf (edit.ResizeFile k n) text = []
-clipOf (edit.FillFile k) text = text
-clipOf (edit.InsertFile p) text = []
-clipOf (edit.InsertDirectory p) text = []
-clipOf (edit.MakeDirectories start) text = []
+-- the clip that fills a file; none for the other edits
+abbrev pub clipOf : Edit → List ℕ
+clipOf edit.Rewrite = []
+clipOf (edit.Move file offset) = []
+clipOf (edit.Resize file size) = []
+clipOf (edit.Fill file clip) = clip.now
+clipOf (edit.InsertFile parent name) = []
+clipOf (edit.InsertDirectory parent name) = []
+clipOf (edit.MakeDirectories start path) = []
 
 -- d is what the edit decides on, and its numbers are numbers that a call can hand on
 pub record Decides (ed : edits.Edit) (image : List ℕ) (words room : ℕ) (bytes clip : List ℕ) (d : Result Decision Refusal) : Type 0 where
