@@ -1,6 +1,6 @@
 -- An open image: its table, the tests of a new one, and where its files lie. Assumes nothing.
 use Rattle.std.specs.Prelude.{Result, Ok, Err}
-use Rattle.refusal.specs.Refusal.{Verdict, refuse, first}
+use Rattle.refusal.specs.Refusal.{Verdict, first}
 use Rattle.refusal.specs.declared.Refusal.{Refusal}
 use Prim.Native.Nat.{ℕ, zero, suc, ◌+◌, ◌≤◌, ◌<◌, ◌^◌}
 use mathlib.Core.Path.{◌≡◌, refl, sym, ap, ◌∙◌}
@@ -11,14 +11,13 @@ use native.Mathlib.Omega.{arith}
 use borrow.Author.Tests.{ltb-false, le-ltb, leb-true, eqb-true}
 use lib.Dec.{ltb, leb, eqb}
 use lib.ListN.{length, get_or}
-use Rattle.refusal.specs.declared.Refusal.TheVariants.{LimitOrMemory, NotEnoughSpace, OverlappingMove, TableAboveMaximum}
+use Rattle.refusal.specs.declared.Refusal.TheVariants.{LimitOrMemory, NotEnoughSpace, OverlappingMove}
 use Rattle.refusal.specs.Laws.Chains.{refuse-passed, first-passed}
 use Rattle.header.specs.Verdicts.{fstOffset, fstSize, discEnd, table_end}
-use Rattle.tree.specs.Table.{Node, none, count, textsOf, encode, limits}
+use Rattle.tree.specs.Table.{Node, none, count, nodesOf, textsOf, encode, limits}
 use Rattle.tree.specs.Laws.Accepted.{length-nodesOf}
 use Rattle.tree.specs.Laws.WrittenEntries.{length-encode}
 use Rattle.tree.specs.Laws.RoundTrip.{Within, within-limits, limits-within}
-use Rattle.fst_measure.specs.declared.Measured.TheVariants.{Size, PastLimit}
 use Rattle.fst_measure.specs.Inner.Measure.{measureOf}
 use Rattle.space.specs.declared.DiscRegion.{DiscRegion}
 use Rattle.space.specs.Used.{end_of, usedRegions}
@@ -29,12 +28,10 @@ use Rattle.space.specs.Free.{freeRegions}
 use Rattle.free_space.specs.Laws.GrowthLaws.{table-largest, place-free}
 use Rattle.free_space.specs.Laws.PassedLayout.{passes}
 use Rattle.opening.specs.Opening.{table_of, nodesIn, regionOf, behindTable, usedIn, freeOf}
-use Rattle.edits.specs.Change.{aboveMaximum, tableVerdict, placeVerdict}
+use Rattle.edits.specs.Change.{tableVerdict, placeVerdict}
 use Rattle.edits.specs.Edits.{overlapsItself, relocateVerdict}
 use Rattle.edits.specs.Laws.PlaceTests.{place-passed, free-byte}
-use Rattle.space.specs.Inner.Sort.{regionsIn}
-use Rattle.opening.specs.Inner.Prepared.{OpenImage, IsOpen}
-use Rattle.opening.proofs.Words.{free-below}
+use Rattle.opening.specs.Inner.Prepared.{OpenImage}
 use Rattle.commit.specs.Inner.Decision.{TableFits, placing, sizedAs}
 use Rattle.commit.proofs.Decisions.{sized-passed}
 
@@ -59,6 +56,15 @@ within-at t e (x ∷ xs) (suc k) w z = within-at t e xs k (and_right (liesWithin
 
 -- ---- the limits of the tree as it is, from the size that was measured
 
+-- a table that is not measured passes the limit of the texts
+pub measured-cause : (tab : List ℕ) (cause : Refusal) → measureOf tab ≡ Err cause → cause ≡ LimitOrMemory
+unfolding measureOf
+measured-cause tab cause e = go (ltb 1048576 (length (textsOf (tail (nodesOf tab))))) e
+  where
+    go : (t : Bool) → cond t (Err LimitOrMemory) (Ok (length (encode (nodesOf tab)))) ≡ Err cause → cause ≡ LimitOrMemory
+    go true q = cc
+    go false q = let z : ◌≡◌ {A = ℕ} 0 1 = cc in absurd (omega arith)
+
 module _ (image : List ℕ) (words : ℕ) (known : OpenImage image words) where
   length-nodes : length (nodesIn image) ≡ count (table_of image)
   unfolding nodesIn
@@ -73,20 +79,20 @@ module _ (image : List ℕ) (words : ℕ) (known : OpenImage image words) where
     depth = known.reads.table.depth;
   }
 
-  pub measured-past : measureOf (table_of image) ≡ PastLimit → limits (nodesIn image) words ≡ Err LimitOrMemory
+  pub measured-past : measureOf (table_of image) ≡ Err LimitOrMemory → limits (nodesIn image) words ≡ Err LimitOrMemory
   unfolding measureOf limits nodesIn
   measured-past e = go (ltb 1048576 (length (textsOf (tail (nodesIn image))))) refl e
     where
-      go : (t : Bool) → ltb 1048576 (length (textsOf (tail (nodesIn image)))) ≡ t → cond t PastLimit (Size (length (encode (nodesIn image)))) ≡ PastLimit → limits (nodesIn image) words ≡ Err LimitOrMemory
+      go : (t : Bool) → ltb 1048576 (length (textsOf (tail (nodesIn image)))) ≡ t → cond t (Err LimitOrMemory) (Ok (length (encode (nodesIn image)))) ≡ Err LimitOrMemory → limits (nodesIn image) words ≡ Err LimitOrMemory
       go true a q = let f : length (nodesIn image) ≤ 16384 = omega (arith, length-nodes, known.reads.table.few) in
           rw (le-ltb 16384 (length (nodesIn image)) f, a)
       go false a q = let z : ◌≡◌ {A = ℕ} 0 1 = cc in absurd (omega arith)
 
-  pub measured-size : (n : ℕ) → measureOf (table_of image) ≡ Size n → (limits (nodesIn image) words ≡ Ok tt) × (n ≡ length (encode (nodesIn image)))
+  pub measured-size : (n : ℕ) → measureOf (table_of image) ≡ Ok n → (limits (nodesIn image) words ≡ Ok tt) × (n ≡ length (encode (nodesIn image)))
   unfolding measureOf nodesIn
   measured-size n e = go (ltb 1048576 (length (textsOf (tail (nodesIn image))))) refl e
     where
-      go : (t : Bool) → ltb 1048576 (length (textsOf (tail (nodesIn image)))) ≡ t → cond t PastLimit (Size (length (encode (nodesIn image)))) ≡ Size n →
+      go : (t : Bool) → ltb 1048576 (length (textsOf (tail (nodesIn image)))) ≡ t → cond t (Err LimitOrMemory) (Ok (length (encode (nodesIn image)))) ≡ Ok n →
           (limits (nodesIn image) words ≡ Ok tt) × (n ≡ length (encode (nodesIn image)))
       go true a q = let z : ◌≡◌ {A = ℕ} 0 1 = cc in absurd (omega arith)
       go false a q = (limits-within (nodesIn image) words (within (ltb-false 1048576 _ a)), cc)
@@ -108,25 +114,31 @@ module _ (image : List ℕ) (words : ℕ) (known : OpenImage image words) where
         small = omega (arith, l.below, k.table, k.small);
       }
 
+  -- the disc ends in the image, at a number of 32 bits
+  pub end-in-image : discEnd image ≤ length image
+  end-in-image = known.reads.bounds.image_holds
+
+  pub end-small : discEnd image < 2 ^ 32
+  end-small = omega (arith, known.reads.bounds.small)
+
   -- a file that is not empty lies behind the table, and ends by the disc end
-  pub file-lies : (k : ℕ) → 0 < (regionOf (get_or (nodesIn image) k none)).size → (table_end image ≤ (regionOf (get_or (nodesIn image) k none)).offset) × (end_of (regionOf (get_or (nodesIn image) k none)) ≤ length image)
+  pub file-lies : (k : ℕ) → 0 < (regionOf (get_or (nodesIn image) k none)).size → (table_end image ≤ (regionOf (get_or (nodesIn image) k none)).offset) × (end_of (regionOf (get_or (nodesIn image) k none)) ≤ discEnd image)
   unfolding usedIn behindTable
   file-lies k z =
       let b = known.reads.bounds in
       let p = passes (table_end image) (discEnd image) (behindTable image) (omega (arith, b.after-header)) known.layout in
-      let l = within-at (table_end image) (discEnd image) (nodesIn image) k (within-rest _ _ _ _ p.within) z in
-      (l.0, omega (arith, l.1, b.image_holds))
+      within-at (table_end image) (discEnd image) (nodesIn image) k (within-rest _ _ _ _ p.within) z
 
   -- n bytes that are free
-  pub place-lies : (o n : ℕ) → n ≤ maxRegionSize o 0 (freeOf image) → 0 < n → (table_end image ≤ o) × (o + n ≤ length image)
+  pub place-lies : (o n : ℕ) → n ≤ maxRegionSize o 0 (freeOf image) → 0 < n → (table_end image ≤ o) × (o + n ≤ discEnd image)
   unfolding freeOf usedIn
   place-lies o n m z =
       let p = place-free (discEnd image) (usedIn image) o n z m in
       let e : o + 0 ≡ o = omega arith in
-      ((free-byte (table_end image) (behindTable image) o (rw e at (p.1 0 z))).0, omega (arith, p.0, known.reads.bounds.image_holds))
+      ((free-byte (table_end image) (behindTable image) o (rw e at (p.1 0 z))).0, p.0)
 
   -- a new place that is not empty
-  pub new-place : (old new : DiscRegion) → relocateVerdict (freeOf image) old new ≡ Ok tt → 0 < new.size → (table_end image ≤ new.offset) × (end_of new ≤ length image)
+  pub new-place : (old new : DiscRegion) → relocateVerdict (freeOf image) old new ≡ Ok tt → 0 < new.size → (table_end image ≤ new.offset) × (end_of new ≤ discEnd image)
   new-place old new e z =
       let a = refuse-passed (overlapsItself old new) OverlappingMove _ e in
       let b = refuse-passed (ltb (maxRegionSize new.offset 0 (freeOf image)) new.size) NotEnoughSpace _ a.1 in
@@ -146,20 +158,7 @@ table-passed nodes place image words room e =
     let w = within-limits nodes words p.0 in
     (omega (arith, length-encode nodes, w.few, w.texts), p.1)
 
--- ---- what the code computed, in the words of the definitions
-
--- a largest size, found in the words
-pub free-size : (image w : List ℕ) (m e o n r o' n' : ℕ) → IsOpen image w m → e ≡ discEnd image → o ≡ o' → n ≡ n' → r ≡ maxRegionSize o n (freeRegions e (regionsIn w 0 m)) → r ≡ maxRegionSize o' n' (freeOf image)
-free-size image w m e o n r o' n' u p q s t = t ∙ ap (maxRegionSize o n) (free-below image w m e u p) ∙ rw (q, s)
-
--- the tests of a table's place, by their results
-pub place-verdict : (image : List ℕ) (room size : ℕ) (place : DiscRegion) (most : ℕ) (r : Bool) → most ≡ maxRegionSize (fstOffset image) (fstSize image) (freeOf image) →
-    r ≡ (ltb 0 place.size && ltb place.offset (fstOffset image + size)) →
-    placeVerdict image room size place ≡ refuse (ltb room size) LimitOrMemory (refuse (aboveMaximum image size) TableAboveMaximum (refuse (ltb most size) NotEnoughSpace (refuse r NotEnoughSpace (Ok tt))))
-unfolding placeVerdict
-place-verdict image room size place most r p q =
-    ap (λ (m : ℕ). refuse (ltb room size) LimitOrMemory (refuse (aboveMaximum image size) TableAboveMaximum (refuse (ltb m size) NotEnoughSpace (refuse (ltb 0 place.size && ltb place.offset (fstOffset image + size)) NotEnoughSpace (Ok tt))))) (sym p)
-    ∙ ap (λ (b : Bool). refuse (ltb room size) LimitOrMemory (refuse (aboveMaximum image size) TableAboveMaximum (refuse (ltb most size) NotEnoughSpace (refuse b NotEnoughSpace (Ok tt))))) (sym q)
+-- ---- the table as it is
 
 -- the limits were passed, or the table's place was judged
 pub table-past : (nodes : List Node) (place : DiscRegion) (image : List ℕ) (words room : ℕ) → limits nodes words ≡ Err LimitOrMemory → Err LimitOrMemory ≡ sizedAs (tableVerdict (placing nodes place) image words room) (length (encode nodes))

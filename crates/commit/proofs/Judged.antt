@@ -1,49 +1,61 @@
--- The verdict on a new table's size and place, by what the code found: whether the maximum is passed, the largest size in the working words, and whether
--- the place reaches the table.
--- Assumes nothing.
+-- The verdict on a new table's size and place, by what the code found; and that it is the image's. Assumes nothing.
 use Rattle.std.specs.Prelude.{Ok, Err}
-use Prim.Native.Nat.{ℕ, ◌+◌, ◌≤◌, ◌<◌}
-use mathlib.Core.Path.{◌≡◌, refl, sym, ap, ◌∙◌}
-use mathlib.Core.Bool.{Bool, true, false, ◌&&◌}
-use mathlib.Core.List.{List}
-use borrow.Author.Tests.{lt-ltb, le-ltb}
-use lib.Dec.{ltb}
+use Rattle.refusal.specs.Refusal.{Verdict}
 use Rattle.refusal.specs.declared.Refusal.TheVariants.{LimitOrMemory, NotEnoughSpace, TableAboveMaximum}
-use Rattle.header.specs.Verdicts.{fstOffset, fstSize, discEnd}
+use Prim.Native.Nat.{ℕ, ◌+◌, ◌≤◌, ◌<◌}
+use Rattle.std.specs.Prelude.{◌≡◌, Bool, true, false, ◌&&◌, ltb, List, length}
+use Rattle.std.proofs.Common.{refl, ap, ◌∙◌, lt-ltb, le-ltb}
+use Rattle.tree.specs.Table.{encode}
 use Rattle.space.specs.declared.DiscRegion.{DiscRegion}
-use Rattle.space.specs.Free.{freeRegions}
-use Rattle.space.specs.Inner.Sort.{regionsIn}
 use Rattle.free_space.specs.MaxRegionSize.{maxRegionSize}
-use Rattle.opening.specs.Opening.{freeOf}
-use Rattle.opening.specs.Inner.Prepared.{IsOpen}
-use Rattle.edits.specs.Change.{aboveMaximum, placeVerdict}
-use Rattle.edits.specs.Laws.PlaceTests.{stated-first}
-use Rattle.commit.proofs.Images.{free-size, place-verdict}
+use Rattle.opening.specs.Opening.{nodesIn, freeOf, usedIn, behindTable}
+use Rattle.edits.specs.Change.{Change, placeVerdict, tableVerdict}
+use Rattle.commit.specs.Inner.Decision.{placing, sizedAs}
+use Rattle.opened.specs.Disc.{Disc, disc_of, free_of}
+use Rattle.commit.specs.Inner.Judged.{place_verdict, table_verdict, judged_size}
 
-pub too-few-bytes : (image : List ℕ) (room size : ℕ) (place : DiscRegion) → room < size → Err LimitOrMemory ≡ placeVerdict image room size place
-unfolding placeVerdict
-too-few-bytes image room size place h = rw (lt-ltb room size h)
+module _ (d : Disc) (bytes size : ℕ) (place : DiscRegion) where
+  pub too-few : bytes < size → Err LimitOrMemory ≡ place_verdict d bytes size place
+  unfolding place_verdict
+  too-few h = rw (lt-ltb bytes size h)
 
-pub above-stated : (image : List ℕ) (room size : ℕ) (place : DiscRegion) (a : Bool) → a ≡ aboveMaximum image size → size ≤ room → a ≡ true → Err TableAboveMaximum ≡ placeVerdict image room size place
-above-stated image room size place a e held t = sym (stated-first image room size place held (sym e ∙ t))
+  module _ (held : size ≤ bytes) (a : Bool) (above : a ≡ (ltb 0 d.maximum && ltb d.maximum size)) where
+    pub above-stated : a ≡ true → Err TableAboveMaximum ≡ place_verdict d bytes size place
+    unfolding place_verdict
+    above-stated t = rw (le-ltb bytes size held, ← above, t)
 
-module _ (image w : List ℕ) (room size m e o n most : ℕ) (place : DiscRegion) (opened : IsOpen image w m) (end : e ≡ discEnd image) (start : o ≡ fstOffset image) (long : n ≡ fstSize image)
-    (found : most ≡ maxRegionSize o n (freeRegions e (regionsIn w 0 m))) (held : size ≤ room) (a : Bool) (above : a ≡ aboveMaximum image size) (no : a ≡ false) where
-  most-is : most ≡ maxRegionSize (fstOffset image) (fstSize image) (freeOf image)
-  most-is = free-size image w m e o n most (fstOffset image) (fstSize image) opened end start long found
+    module _ (no : a ≡ false) (o n most : ℕ) (start : o ≡ d.start) (room : n ≡ d.room) (found : most ≡ maxRegionSize o n (free_of d)) where
+      most-is : most ≡ maxRegionSize d.start d.room (free_of d)
+      most-is = rw (← start, ← room) found
 
-  not-above : aboveMaximum image size ≡ false
-  not-above = sym above ∙ no
+      pub no-room : most < size → Err NotEnoughSpace ≡ place_verdict d bytes size place
+      unfolding place_verdict
+      no-room h = rw (le-ltb bytes size held, ← above, no, ← most-is, lt-ltb most size h)
 
-  pub no-room-to-grow : most < size → Err NotEnoughSpace ≡ placeVerdict image room size place
-  no-room-to-grow h = sym (place-verdict image room size place most _ most-is refl ∙ rw (le-ltb room size held, not-above, lt-ltb most size h))
+      module _ (r : Bool) (h : size ≤ most) (reached : r ≡ (ltb 0 place.size && ltb place.offset (o + size))) where
+        pub place-taken : r ≡ true → Err NotEnoughSpace ≡ place_verdict d bytes size place
+        unfolding place_verdict
+        place-taken t = rw (le-ltb bytes size held, ← above, no, ← most-is, le-ltb most size h, ← start, ← reached, t)
 
-  module _ (r : Bool) (h : size ≤ most) (reached : r ≡ (ltb 0 place.size && ltb place.offset (o + size))) where
-    reached-is : r ≡ (ltb 0 place.size && ltb place.offset (fstOffset image + size))
-    reached-is = reached ∙ ap (λ (f : ℕ). ltb 0 place.size && ltb place.offset (f + size)) start
+        pub place-clear : r ≡ false → Ok tt ≡ place_verdict d bytes size place
+        unfolding place_verdict
+        place-clear t = rw (le-ltb bytes size held, ← above, no, ← most-is, le-ltb most size h, ← start, ← reached, t)
 
-    pub place-taken : r ≡ true → Err NotEnoughSpace ≡ placeVerdict image room size place
-    place-taken t = sym (place-verdict image room size place most r most-is reached-is ∙ rw (le-ltb room size held, not-above, le-ltb most size h, t))
+-- ---- the image's verdict on a table, and its disc's
 
-    pub place-clear : r ≡ false → Ok tt ≡ placeVerdict image room size place
-    place-clear t = sym (place-verdict image room size place most r most-is reached-is ∙ rw (le-ltb room size held, not-above, le-ltb most size h, t))
+pub verdict_shown : (c : Change) (image : List ℕ) (words bytes : ℕ) → tableVerdict c image words bytes ≡ table_verdict c (disc_of image words) bytes
+unfolding tableVerdict placeVerdict place_verdict freeOf usedIn behindTable nodesIn
+verdict_shown c image words bytes = refl
+
+pub sized_shown : (image : List ℕ) (words bytes : ℕ) (place : DiscRegion) (d : Disc) → disc_of image words ≡ d →
+    sizedAs (tableVerdict (placing (nodesIn image) place) image words bytes) (length (encode (nodesIn image))) ≡ judged_size d bytes place
+unfolding nodesIn
+sized_shown image words bytes place d e =
+    ap (λ (v : Verdict). sizedAs v (length (encode (nodesIn image)))) (verdict_shown (placing (nodesIn image) place) image words bytes) ∙ ap (λ (x : Disc). judged_size x bytes place) e
+
+place-same : (image : List ℕ) (words bytes size : ℕ) (place : DiscRegion) → placeVerdict image bytes size place ≡ place_verdict (disc_of image words) bytes size place
+unfolding placeVerdict place_verdict freeOf usedIn behindTable nodesIn
+place-same image words bytes size place = refl
+
+pub place_shown : (image : List ℕ) (words bytes size : ℕ) (place : DiscRegion) (d : Disc) → disc_of image words ≡ d → placeVerdict image bytes size place ≡ place_verdict d bytes size place
+place_shown image words bytes size place d e = place-same image words bytes size place ∙ ap (λ (x : Disc). place_verdict x bytes size place) e

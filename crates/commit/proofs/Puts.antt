@@ -1,21 +1,15 @@
 -- Bytes put over a list from its start. Assumes nothing.
 use Prim.Native.Nat.{ℕ, ◌+◌, ◌-◌, ◌≤◌}
 use mathlib.Core.Path.{◌≡◌, sym, ap, ◌∙◌}
-use mathlib.Core.List.{List, [], ◌++◌, append-nil}
+use mathlib.Core.List.{List, [], ◌++◌}
 use native.Mathlib.Omega.{arith}
-use lib.ListN.{length, drop, replicate, length-replicate, drop_of_length-le}
+use lib.ListN.{length, drop, replicate, length-replicate}
 use Rattle.endian.specs.Bytes.{put, span, be32Bytes}
 use Rattle.endian.specs.Laws.Stored.{length-put, length-span, span-put, put-none}
 use Rattle.header.specs.Fields.{fstSizeField}
 use Rattle.tree.specs.Laws.Records.{put-middle}
 use Rattle.fst_measure.proofs.Puts.{put-start, put-append}
 use Rattle.edits.specs.Change.{withTable}
-
--- as many zeros as there are bytes
-pub put-zeros : (s : List ℕ) → put s 0 (replicate (length s) 0) ≡ replicate (length s) 0
-put-zeros s =
-    let z : List ℕ = replicate (length s) 0 in
-    put-start s z ∙ ap (λ (l : List ℕ). z ++ l) (drop_of_length-le s {i = length z} (omega (arith, length-replicate {A = ℕ} (length s) 0))) ∙ append-nil z
 
 -- bytes put into what stands at the start
 pub put-inside : (s t : List ℕ) (at : ℕ) (bs : List ℕ) → at + length bs ≤ length t → length t ≤ length s → put (put s 0 t) at bs ≡ put s 0 (put t at bs)
@@ -53,7 +47,3 @@ copied_none s from to n e = rw e (sym (put-none s to))
 
 pub filled_none : (s : List ℕ) (at n b : ℕ) → n ≡ 0 → s ≡ put s at (replicate n b)
 filled_none s at n b e = rw e (sym (put-none s at))
-
--- a slice filled with zeros
-pub filled-whole : (s t : List ℕ) → t ≡ put s 0 (replicate (length s) 0) → t ≡ replicate (length s) 0
-filled-whole s t e = e ∙ put-zeros s

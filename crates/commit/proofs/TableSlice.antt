@@ -1,6 +1,6 @@
 -- The table of an open image as it is read: it is valid, it is measured, and it is written anew.
 -- Assumes nothing.
-use Rattle.std.specs.Prelude.{Ok, Err}
+use Rattle.std.specs.Prelude.{Result, Ok, Err}
 use Rattle.refusal.specs.Refusal.{Verdict}
 use Rattle.refusal.specs.declared.Refusal.{Refusal}
 use Prim.Native.Nat.{ℕ, ◌≤◌}
@@ -11,8 +11,6 @@ use Rattle.endian.specs.Bytes.{put}
 use Rattle.refusal.specs.declared.Refusal.TheVariants.{LimitOrMemory}
 use Rattle.tree.specs.Table.{count, encode, nodesOf, limits}
 use Rattle.space.specs.declared.DiscRegion.{DiscRegion}
-use Rattle.fst_measure.specs.declared.Measured.{Measured}
-use Rattle.fst_measure.specs.declared.Measured.TheVariants.{Size, PastLimit}
 use Rattle.fst_measure.specs.Inner.Measure.{measureOf}
 use Rattle.fst_measure.specs.Inner.Valid.{Valid}
 use Rattle.fst_measure.specs.Laws.Accepted.{accepted-valid}
@@ -21,7 +19,7 @@ use Rattle.opening.specs.Inner.Prepared.{OpenImage}
 use Rattle.opening.proofs.Words.{Opens}
 use Rattle.edits.specs.Change.{tableVerdict, placeVerdict}
 use Rattle.commit.specs.Inner.Decision.{placing, sizedAs}
-use Rattle.commit.proofs.Images.{measured-past, measured-size, table-past, table-sized}
+use Rattle.commit.proofs.Images.{measured-cause, measured-past, measured-size, table-past, table-sized}
 
 pub opens-valid : (tab : List ℕ) → Opens tab → Valid tab (count tab)
 opens-valid tab o = accepted-valid tab o.words o.passed
@@ -35,25 +33,28 @@ module _ (image tab : List ℕ) (is : tab ≡ table_of image) where
   unfolding nodesIn
   table-written bytes after e = rw is at e
 
-  module _ (words : ℕ) (known : OpenImage image words) (r : Measured) (measured : r ≡ measureOf tab) where
-    pub limits-past : r ≡ PastLimit → limits (nodesIn image) words ≡ Err LimitOrMemory
-    limits-past e = measured-past image words known (ap measureOf (sym is) ∙ sym measured ∙ e)
+  module _ (words : ℕ) (known : OpenImage image words) (r : Result ℕ Refusal) (measured : r ≡ measureOf tab) where
+    pub past-cause : (cause : Refusal) → r ≡ Err cause → cause ≡ LimitOrMemory
+    past-cause cause e = measured-cause tab cause (sym measured ∙ e)
 
-    pub limits-passed : (n : ℕ) → r ≡ Size n → (limits (nodesIn image) words ≡ Ok tt) × (n ≡ length (encode (nodesIn image)))
+    pub limits-past : (cause : Refusal) → r ≡ Err cause → limits (nodesIn image) words ≡ Err LimitOrMemory
+    limits-past cause e = measured-past image words known (ap measureOf (sym is) ∙ sym measured ∙ e ∙ ap Err (past-cause cause e))
+
+    pub limits-passed : (n : ℕ) → r ≡ Ok n → (limits (nodesIn image) words ≡ Ok tt) × (n ≡ length (encode (nodesIn image)))
     limits-passed n e = measured-size image words known n (ap measureOf (sym is) ∙ sym measured ∙ e)
 
-    pub tree-past : (room : ℕ) (place : DiscRegion) → r ≡ PastLimit →
-        Err LimitOrMemory ≡ sizedAs (tableVerdict (placing (nodesIn image) place) image words room) (length (encode (nodesIn image)))
-    tree-past room place e = table-past (nodesIn image) place image words room (limits-past e)
+    pub tree-past : (room : ℕ) (place : DiscRegion) (cause : Refusal) → r ≡ Err cause →
+        Err cause ≡ sizedAs (tableVerdict (placing (nodesIn image) place) image words room) (length (encode (nodesIn image)))
+    tree-past room place cause e = ap Err (past-cause cause e) ∙ table-past (nodesIn image) place image words room (limits-past cause e)
 
-    tree-sized : (room n : ℕ) (place : DiscRegion) (v : Verdict) → r ≡ Size n → v ≡ placeVerdict image room n place →
+    tree-sized : (room n : ℕ) (place : DiscRegion) (v : Verdict) → r ≡ Ok n → v ≡ placeVerdict image room n place →
         sizedAs v n ≡ sizedAs (tableVerdict (placing (nodesIn image) place) image words room) (length (encode (nodesIn image)))
     tree-sized room n place v e p = let m = limits-passed n e in table-sized (nodesIn image) place image words room n v m.0 m.1 p
 
-    pub tree-refused : (room n : ℕ) (place : DiscRegion) (cause : Refusal) → r ≡ Size n → Err cause ≡ placeVerdict image room n place →
+    pub tree-refused : (room n : ℕ) (place : DiscRegion) (cause : Refusal) → r ≡ Ok n → Err cause ≡ placeVerdict image room n place →
         Err cause ≡ sizedAs (tableVerdict (placing (nodesIn image) place) image words room) (length (encode (nodesIn image)))
     tree-refused room n place cause e p = tree-sized room n place (Err cause) e p
 
-    pub tree-passed : (room n : ℕ) (place : DiscRegion) → r ≡ Size n → Ok tt ≡ placeVerdict image room n place →
+    pub tree-passed : (room n : ℕ) (place : DiscRegion) → r ≡ Ok n → Ok tt ≡ placeVerdict image room n place →
         Ok n ≡ sizedAs (tableVerdict (placing (nodesIn image) place) image words room) (length (encode (nodesIn image)))
     tree-passed room n place e p = tree-sized room n place (Ok tt) e p

@@ -1,29 +1,80 @@
-// The part that every edit ends with: the new table and its place, and what is decided on carried out.
+// The part that every edit ends with: the new table and its place judged, and what is decided on carried out.
 #![tactic(auto)]
 
 mod table;
 mod written;
 
+ghost use Rattle.std.specs.Prelude.{◌≡◌, length};
+ghost use Rattle.commit.specs.Inner.Decision.{CanCarry, number_of, carriedImage};
+
 use space::DiscRegion;
 pub use table::{check_place, check_table, write_table};
-pub use written::{finish, verdict_of};
 
-// What a change does to the image besides the table: `kept` bytes are copied from the file's old place to the new one, and `lost_size` bytes
-// from `lost` on are zeroed.
+/// What an edit does to the image besides the table. A region of no bytes is one that nothing is copied to, or that nothing is zeroed in,
+/// wherever it lies.
 #[derive(Clone, Copy)]
 pub struct Writing {
+    /// Where the edited file lies before.
     pub old: DiscRegion,
+    /// Where it lies afterwards.
     pub place: DiscRegion,
-    pub kept: usize,
-    pub lost: usize,
-    pub lost_size: usize,
+    /// How many bytes are copied from the old place to the new one, before the table is written.
+    pub kept: u32,
+    /// What is zeroed after the table is written.
+    pub lost: DiscRegion,
 }
 
-// What an edit that is not refused decides on before it writes: nothing to write, nothing but the clip at that offset for that entry, or a
-// change of that entry, whose table of that size stands in the working bytes. The clip that fills a file stands beside it.
+impl Writing {
+    /// No byte but the table's.
+    pub const NOTHING: Writing = Writing {
+        old: DiscRegion { offset: 0, size: 0 },
+        place: DiscRegion { offset: 0, size: 0 },
+        kept: 0,
+        lost: DiscRegion { offset: 0, size: 0 },
+    };
+}
+
+/// What an edit that is not refused comes to, before it writes. The clip that fills a file stands beside it.
 #[derive(Clone, Copy)]
 pub enum Decision {
+    /// Nothing is to be written.
     Nothing,
-    Clip(u32, u32),
-    Write(u32, usize, Writing),
+    /// The clip alone, at the offset `at`, where the file lies that has that number.
+    Clip {
+        number: u32,
+        at: u32,
+    },
+    /// The clip if there is one, the table, whose `size` bytes stand in the working bytes, and what goes with it, for the entry of that number.
+    Write {
+        number: u32,
+        size: usize,
+        writing: Writing,
+    },
+}
+
+impl Decision {
+    /// Writes what is decided on into the image, the table from the working bytes, and gives the number of the entry, 0 where there is none.
+    /// The clip comes before the table, so a table with the new place or size has the whole clip.
+    pub fn carry_out(self, image: &mut [u8], bytes: &[u8], clip: &[u8]) -> u32
+        requires { CanCarry image.old (length bytes.now) clip.now (Ok self) }
+        ensures number { result ≡ number_of self }
+        ensures image_after { image.new ≡ carriedImage (Ok self) bytes.now clip.now image.old }
+    {
+        match self {
+            Decision::Nothing => 0,
+            Decision::Clip { number, at } => {
+                written::put_clip(image, at as usize, clip);
+                number
+            }
+            Decision::Write {
+                number,
+                size,
+                writing,
+            } => {
+                written::put_clip(image, writing.place.offset as usize, clip);
+                written::write_change(image, bytes, size, writing);
+                number
+            }
+        }
+    }
 }

@@ -1,13 +1,10 @@
-// The new table: whether it can be written, and the tree of an open image written anew into the working bytes.
-ghost use Rattle.std.specs.Prelude.{◌≡◌, ◌&&◌, ◌+◌, ◌≤◌, ◌<◌, ◌^◌, ltb, length};
+// The new table: whether it can be written, and the tree of an open disc written anew into the working bytes.
+ghost use Rattle.std.specs.Prelude.{◌≡◌, ◌&&◌, ◌+◌, ◌≤◌, ◌^◌, ltb, length, IfOk};
 ghost use Rattle.endian.specs.Bytes.{put};
 ghost use Rattle.tree.specs.Table.{encode};
-ghost use Rattle.opening.specs.Opening.{nodesIn};
-ghost use Rattle.edits.specs.Change.{aboveMaximum, tableVerdict, placeVerdict};
-ghost use Rattle.opening.specs.Inner.Prepared.{OpensImage, IsOpen};
-ghost use Rattle.commit.specs.Inner.Decision.{sizedAs, placing};
+ghost use Rattle.commit.specs.Inner.Judged.{place_verdict, judged_size};
 
-use fst_measure::Measured;
+use opened::OpenDisc;
 use refusal::{Refusal, Verdict};
 use space::DiscRegion;
 
@@ -15,79 +12,55 @@ use space::DiscRegion;
 fn reaches(place: DiscRegion, end: usize) -> bool
     ensures { result ≡ (ltb 0 place.size && ltb place.offset end) }
 {
-    if place.size == 0 {
-        return false;
-    }
-    (place.offset as usize) < end
+    place.size != 0 && (place.offset as usize) < end
 }
 
 // Whether the header states a maximum, and a table of that size is above it.
-fn above_maximum(image: &[u8], size: usize) -> bool
-    ensures { result ≡ aboveMaximum image.now size }
+fn above_maximum(disc: &OpenDisc<'_>, size: usize) -> bool
+    ensures { result ≡ (ltb 0 disc.now.maximum && ltb disc.now.maximum size) }
 {
-    let maximum = header::fst_max_size(image);
-    if maximum == 0 {
-        return false;
-    }
-    (maximum as usize) < size
+    let maximum = disc.maximum();
+    maximum != 0 && (maximum as usize) < size
 }
 
-// The tests of a table of that size: the working bytes, the stated maximum, the room behind the old table, and the edited file's new place.
-pub fn check_place(
-    image: &[u8],
-    words: &[u32],
-    m: usize,
-    room: usize,
-    size: usize,
-    place: DiscRegion,
-) -> Verdict
-    requires { IsOpen image.now words.now m }
-    ensures { result ≡ placeVerdict image.now room size place }
+/// The tests of a table of `size` bytes, where `room` working bytes are lent: 9 if these are too few, 26 if it is above the stated maximum, 21
+/// if there is no room for it behind the old table, or before the edited file's new place.
+pub fn check_place(disc: &OpenDisc<'_>, room: usize, size: usize, place: DiscRegion) -> Verdict
+    ensures { result ≡ place_verdict disc.now room size place }
 {
     if room < size {
         return Err(Refusal::LimitOrMemory);
     }
-    if above_maximum(image, size) {
+    if above_maximum(disc, size) {
         return Err(Refusal::TableAboveMaximum);
     }
-    let fst_offset = header::fst_offset(image);
-    let fst_size = header::fst_size(image);
-    let disc_end = opening::disc_end(image);
-    let most = free_space::max_region_size(words, m, disc_end, fst_offset, fst_size);
+    let start = disc.start();
+    let most = disc.max_region_size(start, disc.room());
     if (most as usize) < size {
         return Err(Refusal::NotEnoughSpace);
     }
-    if reaches(place, fst_offset as usize + size) {
+    if reaches(place, start as usize + size) {
         return Err(Refusal::NotEnoughSpace);
     }
     Ok(())
 }
 
-// The tests that an edit ends with, for the tree as it is. A tree that differs in a file's place only has the same size and the same answer.
-pub fn check_table(
-    image: &[u8],
-    words: &[u32],
-    m: usize,
-    room: usize,
-    place: DiscRegion,
-) -> Result<usize, Refusal>
-    requires { IsOpen image.now words.now m }
-    ensures { result ≡ sizedAs (tableVerdict (placing (nodesIn image.now) place) image.now (length words.now) room) (length (encode (nodesIn image.now))) }
+/// The tests that an edit ends with, for the tree as it is, and how many bytes its table takes. A tree that differs in a file's place only has the
+/// same size and the same answer.
+pub fn check_table(disc: &OpenDisc<'_>, room: usize, place: DiscRegion) -> Result<usize, Refusal>
+    ensures answer { result ≡ judged_size disc.now room place }
+    ensures held { IfOk result (λ _. length (encode disc.now.nodes) ≤ room) }
+    ensures small { IfOk result (λ _. length (encode disc.now.nodes) ≤ 2 ^ 24) }
 {
-    let measured = fst_measure::measure(opening::table(image));
-    match measured {
-        Measured::PastLimit => Err(Refusal::LimitOrMemory),
-        Measured::Size(size) => {
-            check_place(image, words, m, room, size, place)?;
-            Ok(size)
-        }
-    }
+    let size = fst_measure::measure(disc.table())?;
+    check_place(disc, room, size, place)?;
+    Ok(size)
 }
 
-// The tree as it is, written anew.
-pub fn write_table(image: &[u8], bytes: &mut [u8])
-    requires { OpensImage image.now × (length (encode (nodesIn image.now)) ≤ length bytes.old) × (length (encode (nodesIn image.now)) ≤ 2 ^ 24) }
-    ensures { bytes.new ≡ put bytes.old 0 (encode (nodesIn image.now)) }
+/// The tree as it is, written anew.
+pub fn write_table(disc: &OpenDisc<'_>, bytes: &mut [u8])
+    requires { (length (encode disc.now.nodes) ≤ length bytes.old) × (length (encode disc.now.nodes) ≤ 2 ^ 24) }
+    ensures { bytes.new ≡ put bytes.old 0 (encode disc.now.nodes) }
 {
-    fst_write::write_table(opening::table(image), bytes);
+    fst_write::write_table(disc.table(), bytes);
 }

@@ -1,5 +1,5 @@
--- A file of an open image: found by its number, given another place, and what that place asks. Assumes nothing.
-use Rattle.std.specs.Prelude.{Result, Ok, Err}
+-- A file of a disc: found by its number, given another place, and what that place asks. Assumes nothing.
+use Rattle.std.specs.Prelude.{Result, Ok, Err, IfOk}
 use Rattle.refusal.specs.Refusal.{Verdict, refuse, first}
 use Prim.Native.Nat.{ℕ, ◌+◌, ◌-◌, ◌*◌, ◌≤◌, ◌<◌, min}
 use mathlib.Core.Path.{◌≡◌, refl, sym, ap, ◌∙◌}
@@ -23,66 +23,82 @@ use Rattle.tree.specs.Laws.WrittenEntries.{length-encode}
 use Rattle.space.specs.declared.DiscRegion.{DiscRegion}
 use Rattle.opening.specs.Opening.{nodesIn, regionOf, freeOf}
 use Rattle.opening.specs.Inner.Prepared.{OpenImage}
+use Rattle.opened.specs.Disc.{Disc, TableOf}
 use Rattle.commit.specs.declared.Decision.{Decision}
 use Rattle.commit.specs.declared.Decision.TheVariants as decision
 use Rattle.edits.specs.Change.{change}
 use Rattle.edits.specs.Edits.{fileVerdict, relocateVerdict, relocated, planned, planMove, planResize, planSized}
-use Rattle.decide.specs.Inner.Files.{IsFile, fileOf, fileAs}
+use Rattle.decide.specs.declared.File.{File}
+use Rattle.decide.specs.Inner.Files.{IsFile, file_in, fileOf, fileAs, IsFileOf}
 use Rattle.commit.specs.Inner.Decision.{InImage, Decided}
 use Rattle.commit.proofs.Puts.{put-inside}
 use Rattle.commit.proofs.Decisions.{planned-first, behind-passed, behind-refused}
-use Rattle.commit.proofs.Images.{file-lies, new-place}
+use Rattle.commit.proofs.Images.{file-lies, new-place, end-in-image}
 
 -- ---- found by its number
 
-file-case : (parent : ℕ) (x : Node) → fileOf (entryWith parent x) ≡ fileAs (refuse (isDirectory x) ExpectedFile (Ok tt)) (regionOf x)
-file-case parent (file nm a b) = refl
-file-case parent (directory nm n) = refl
+file-case : (parent k : ℕ) (x : Node) → fileOf k (entryWith parent x) ≡ fileAs (refuse (isDirectory x) ExpectedFile (Ok tt)) (record { number = k; place = regionOf x })
+file-case parent k (file nm a b) = refl
+file-case parent k (directory nm n) = refl
 
 module _ (nodes : List Node) (k : ℕ) where
   abbrev node : Node
   node = get_or nodes k none
 
-  pub entry-refused : (c : Refusal) → entryFound nodes k ≡ found.Refused c → Err c ≡ fileAs (fileVerdict nodes k) (regionOf node)
+  pub entry-refused : (c : Refusal) → entryFound nodes k ≡ found.Refused c → Err c ≡ fileAs (fileVerdict nodes k) (file_in nodes k)
   entry-refused c e = go (ltb k (length nodes)) refl e
     where
-      go : (t : Bool) → ltb k (length nodes) ≡ t → found_at nodes (cond t (Ok k) (Err NoSuchEntry)) ≡ found.Refused c → Err c ≡ fileAs (fileVerdict nodes k) (regionOf node)
+      go : (t : Bool) → ltb k (length nodes) ≡ t → found_at nodes (cond t (Ok k) (Err NoSuchEntry)) ≡ found.Refused c → Err c ≡ fileAs (fileVerdict nodes k) (file_in nodes k)
       go true a q = let z : ◌≡◌ {A = ℕ} 0 1 = cc in absurd (omega arith)
       go false a q =
           let r : c ≡ NoSuchEntry = cc in
           rw (le-leb (length nodes) k (ltb-false k (length nodes) a), r)
 
-  pub entry-file : (j : ℕ) (x : Entry) (r : Result DiscRegion Refusal) → entryFound nodes k ≡ found.At j x → r ≡ fileOf x → r ≡ fileAs (fileVerdict nodes k) (regionOf node)
+  pub entry-file : (j : ℕ) (x : Entry) (r : Result File Refusal) → entryFound nodes k ≡ found.At j x → r ≡ fileOf k x → r ≡ fileAs (fileVerdict nodes k) (file_in nodes k)
   entry-file j x r e f = go (ltb k (length nodes)) refl e
     where
-      go : (t : Bool) → ltb k (length nodes) ≡ t → found_at nodes (cond t (Ok k) (Err NoSuchEntry)) ≡ found.At j x → r ≡ fileAs (fileVerdict nodes k) (regionOf node)
+      go : (t : Bool) → ltb k (length nodes) ≡ t → found_at nodes (cond t (Ok k) (Err NoSuchEntry)) ≡ found.At j x → r ≡ fileAs (fileVerdict nodes k) (file_in nodes k)
       go true a q =
           let y : x ≡ entry_of nodes k = cc in
-          rw (lt-leb (length nodes) k (ltb-true k (length nodes) a)) (f ∙ ap fileOf y ∙ file-case (parent_of nodes k) node)
+          rw (lt-leb (length nodes) k (ltb-true k (length nodes) a)) (f ∙ ap (fileOf k) y ∙ file-case (parent_of nodes k) k node)
       go false a q = let z : ◌≡◌ {A = ℕ} 0 1 = cc in absurd (omega arith)
 
-  as_place : (v : Verdict) (s old : DiscRegion) → fileAs v s ≡ Ok old → (v ≡ Ok tt) × (s ≡ old)
-  as_place (Ok _) s old e = (refl, cc)
-  as_place (Err c) s old e = let z : ◌≡◌ {A = ℕ} 0 1 = cc in absurd (omega arith)
+  as_file : (v : Verdict) (s f : File) → fileAs v s ≡ Ok f → (v ≡ Ok tt) × (s ≡ f)
+  as_file (Ok _) s f e = (refl, cc)
+  as_file (Err c) s f e = let z : ◌≡◌ {A = ℕ} 0 1 = cc in absurd (omega arith)
 
-  as-refused : (v : Verdict) (s : DiscRegion) (c : Refusal) → fileAs v s ≡ Err c → v ≡ Err c
+  as-refused : (v : Verdict) (s : File) (c : Refusal) → fileAs v s ≡ Err c → v ≡ Err c
   as-refused (Ok _) s c e = let z : ◌≡◌ {A = ℕ} 0 1 = cc in absurd (omega arith)
   as-refused (Err d) s c e = cc
 
-  pub record FoundFile (old : DiscRegion) : Type 0 where
+  -- a file that was found
+  pub record FoundFile (f : File) : Type 0 where
     pub passed : fileVerdict nodes k ≡ Ok tt
-    pub place : regionOf node ≡ old
+    pub number : f.number ≡ k
+    pub place : regionOf node ≡ f.place
     pub is : IsFile nodes k
 
-  pub file-found : (r : Result DiscRegion Refusal) (old : DiscRegion) → r ≡ fileAs (fileVerdict nodes k) (regionOf node) → r ≡ Ok old → FoundFile old
-  file-found r old e f =
-      let p = as_place (fileVerdict nodes k) (regionOf node) old (sym e ∙ f) in
+  pub file-found : (r : Result File Refusal) (f : File) → r ≡ fileAs (fileVerdict nodes k) (file_in nodes k) → r ≡ Ok f → FoundFile f
+  file-found r f e g =
+      let p = as_file (fileVerdict nodes k) (file_in nodes k) f (sym e ∙ g) in
       let a = refuse-passed (leb (length nodes) k) NoSuchEntry _ p.0 in
       let b = refuse-passed (isDirectory node) ExpectedFile _ a.1 in
-      record { passed = p.0; place = p.1; is = record { inside = leb-false (length nodes) k a.0; kind = b.0 } }
+      record {
+        passed = p.0;
+        number = ap (λ (x : File). x.number) (sym p.1);
+        place = ap (λ (x : File). x.place) p.1;
+        is = record { inside = leb-false (length nodes) k a.0; kind = b.0 };
+      }
 
-  pub file-refused : (r : Result DiscRegion Refusal) (c : Refusal) → r ≡ fileAs (fileVerdict nodes k) (regionOf node) → r ≡ Err c → fileVerdict nodes k ≡ Err c
-  file-refused r c e f = as-refused (fileVerdict nodes k) (regionOf node) c (sym e ∙ f)
+  pub file-refused : (r : Result File Refusal) (c : Refusal) → r ≡ fileAs (fileVerdict nodes k) (file_in nodes k) → r ≡ Err c → fileVerdict nodes k ≡ Err c
+  file-refused r c e f = as-refused (fileVerdict nodes k) (file_in nodes k) c (sym e ∙ f)
+
+-- what was found is a file of the disc
+pub is-file : (d : Disc) (table : List ℕ) (t : TableOf d table) (k : ℕ) (r : Result File Refusal) → r ≡ fileAs (fileVerdict d.nodes k) (file_in d.nodes k) → IfOk r (IsFileOf d)
+is-file d table t k (Err c) e = tt
+is-file d table t k (Ok f) e =
+    let h = file-found d.nodes k (Ok f) f e refl in
+    record { image = t.image; means = t.means; is = rw h.number h.is; place = rw h.number h.place }
 
 -- ---- the table with another place for it
 
@@ -102,20 +118,20 @@ placed-table nodes k o n s l m f h e g =
 
 module _ (image : List ℕ) (words : ℕ) (known : OpenImage image words) (k : ℕ) (old : DiscRegion) (here : regionOf (get_or (nodesIn image) k none) ≡ old) where
   ends : 0 < old.size → old.offset + old.size ≤ length image
-  ends z = rw here at (file-lies image words known k (rw here z)).1
+  ends z = omega (arith, (rw here at (file-lies image words known k (rw here z))).1, end-in-image image words known)
 
   pub relocate-inside : (new : DiscRegion) (kept : ℕ) → relocateVerdict (freeOf image) old new ≡ Ok tt → kept ≡ min old.size new.size →
-      InImage (length image) (record { old = old; place = new; kept = kept; lost = old.offset; lost_size = old.size })
+      InImage (length image) (record { old = old; place = new; kept = kept; lost = old })
   relocate-inside new kept p e = record {
     copied = record {
       from = λ z. omega (arith, ends (omega arith));
-      into = λ z. omega (arith, (new-place image words known old new p (omega arith)).1);
+      into = λ z. omega (arith, (new-place image words known old new p (omega arith)).1, end-in-image image words known);
     };
     zeroed = record { into = ends };
   }
 
   pub resize-inside : (n lost : ℕ) → lost ≡ old.size - n →
-      InImage (length image) (record { old = old; place = record { offset = old.offset; size = n }; kept = 0; lost = old.offset + n; lost_size = lost })
+      InImage (length image) (record { old = old; place = record { offset = old.offset; size = n }; kept = 0; lost = record { offset = old.offset + n; size = lost } })
   resize-inside n lost e = record {
     copied = record { from = λ z. absurd (omega arith); into = λ z. absurd (omega arith) };
     zeroed = record { into = λ z. omega (arith, ends (omega arith)) };

@@ -1,4 +1,4 @@
 -- What the proofs of the functions cite.
 pub mod Files
 pub mod Outcomes
-pub mod Tests
+pub mod Stays

@@ -1,6 +1,18 @@
-// What a rewrite, a move and a resize decide on, once the image is open.
+// What a rewrite, a move and a resize decide on, on an open disc.
 #![tactic(auto)]
 
-mod opened;
+mod finding;
+mod moving;
+mod resizing;
 
-pub use opened::{file_at, move_file, resize, resize_file, rewrite};
+pub use finding::file_at;
+pub use moving::{move_file, rewrite};
+pub use resizing::{resize, resize_file};
+use space::DiscRegion;
+
+/// A file of a disc: the number of its entry, and where its bytes lie.
+#[derive(Clone, Copy)]
+pub struct File {
+    pub number: u32,
+    pub place: DiscRegion,
+}

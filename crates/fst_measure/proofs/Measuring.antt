@@ -9,7 +9,8 @@ use Rattle.tree.specs.Table.{name_of, none, nodesOf, textsOf}
 use Rattle.tree.specs.Laws.Accepted.{length-nodesOf}
 use Rattle.tree.specs.Laws.Size.{sizeTo, size-root, size-next, size-whole}
 use Rattle.tree.specs.Laws.Writing.{start-inside, start-end}
-use Rattle.fst_measure.specs.declared.Measured.TheVariants.{Size, PastLimit}
+use Rattle.std.specs.Prelude.{Ok, Err}
+use Rattle.refusal.specs.declared.Refusal.TheVariants.{LimitOrMemory}
 use Rattle.fst_measure.specs.Inner.Valid.{Valid, nameSize}
 use Rattle.fst_measure.specs.Inner.Measure.{measureOf}
 use Rattle.fst_measure.proofs.Nesting.{count-is, node_at}
@@ -40,13 +41,13 @@ module _ (tab : List ℕ) (n size k : ℕ) (u : Upto tab n size k) where
         let next = size-next (nodesOf tab) k u.low (omega (arith, entries)) in
         record { valid = u.valid; low = omega arith; high = omega arith; sized = omega (arith, u.sized, named); short = omega (arith, u.sized, u.short) }
 
-    pub measure-past : 1048576 - (size - 12 * k) ≤ name → PastLimit ≡ measureOf tab
+    pub measure-past : 1048576 - (size - 12 * k) ≤ name → Err LimitOrMemory ≡ measureOf tab
     unfolding measureOf
     measure-past h =
         rw (lt-ltb 1048576 (length (textsOf (tail (nodesOf tab))))
         (omega (arith, u.sized, named, start-inside (nodesOf tab) k u.low (omega (arith, entries)))))
 
-  pub measure-whole : n ≤ k → Size size ≡ measureOf tab
+  pub measure-whole : n ≤ k → Ok size ≡ measureOf tab
   unfolding measureOf
   measure-whole h =
       let z : k ≡ length (nodesOf tab) = omega (arith, u.high, entries) in

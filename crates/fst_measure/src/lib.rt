@@ -7,15 +7,10 @@ ghost use Rattle.fst_measure.specs.Inner.Valid.{Valid, nameSize};
 ghost use Rattle.fst_measure.specs.Inner.Measure.{measureOf};
 ghost use Rattle.fst_measure.specs.Inner.Flat.{afterIn};
 
+use refusal::Refusal;
+
 // More bytes of texts than this are refused (document 01: "texts over 1,048,576 bytes (9)").
 pub const TEXTS_LIMIT: usize = 1048576;
-
-// The size of the table written anew, or that its texts pass the limit.
-#[derive(Clone, Copy)]
-pub enum Measured {
-    Size(usize),
-    PastLimit,
-}
 
 // The length of the text at `at`, without its zero byte.
 pub fn name_len(table: &[u8], at: usize) -> usize
@@ -50,8 +45,8 @@ fn name_size(table: &[u8], count: usize, k: usize) -> usize
     name_len(table, from)
 }
 
-// The size of what `write_table` writes, or that its texts pass the limit.
-pub fn measure(table: &[u8]) -> Measured
+/// The size in bytes of what `write_table` writes; 9 if its texts pass the limit.
+pub fn measure(table: &[u8]) -> Result<usize, Refusal>
     requires { Valid table.now (count table.now) }
     ensures { result ≡ measureOf table.now }
 {
@@ -61,9 +56,9 @@ pub fn measure(table: &[u8]) -> Measured
         let name = name_size(table, count, k);
         // The texts so far are what is measured but for k records.
         if TEXTS_LIMIT - (size - 12 * k) <= name {
-            return Measured::PastLimit;
+            return Err(Refusal::LimitOrMemory);
         }
         size += 12 + name + 1;
     }
-    Measured::Size(size)
+    Ok(size)
 }

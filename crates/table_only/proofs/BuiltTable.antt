@@ -13,8 +13,7 @@ use Rattle.tree.specs.Inner.WellFormed.{GoodName, WellFormed}
 use Rattle.tree.specs.Laws.WrittenEntries.{length-encode}
 use Rattle.tree.specs.Laws.RoundTrip.{within-limits}
 use Rattle.tree.specs.Laws.Growing.{bigger-same}
-use Rattle.fst_measure.specs.declared.Measured.{Measured}
-use Rattle.fst_measure.specs.declared.Measured.TheVariants.{Size, PastLimit}
+use Rattle.refusal.specs.declared.Refusal.TheVariants.{LimitOrMemory}
 use Rattle.fst_measure.specs.Inner.Measure.{measureOf}
 use Rattle.fst_grow.specs.Inner.Growth.{treeIn, Stands, IsDirectory, added, Built}
 use Rattle.fst_grow.proofs.StandingTable.{built-stands}
@@ -25,7 +24,7 @@ use Rattle.edits.specs.Change.{change}
 use Rattle.edits.specs.Edits.{tableOnly}
 use Rattle.commit.specs.declared.Decision.{Decision}
 use Rattle.commit.specs.Inner.Decision.{Decided}
-use Rattle.commit.proofs.TableSlice.{limits-past, limits-passed}
+use Rattle.commit.proofs.TableSlice.{past-cause as measured-cause, limits-past, limits-passed}
 use Rattle.table_only.specs.Inner.Decisions.{tableDecision}
 use Rattle.table_only.proofs.TableChanges.{unbuilt-decided, same-decided}
 
@@ -35,11 +34,14 @@ pub well-open : (image : List ℕ) (words : ℕ) → OpenImage image words → W
 unfolding nodesIn
 well-open image words known = known.reads.table.well
 
-module _ (image w bytes : List ℕ) (m : ℕ) (tab : List ℕ) (r : Measured) (is : tab ≡ table_of image) (measured : r ≡ measureOf tab) (opened : IsOpen image w m) where
-  pub past-limits : r ≡ PastLimit → limits (nodesIn image) (length w) ≡ Ok tt → length bytes < length (encode (nodesIn image))
-  past-limits e p = let q = limits-past image tab is (length w) opened.known r measured e in let z : ◌≡◌ {A = ℕ} 0 1 = cc in absurd (omega arith)
+module _ (image w bytes : List ℕ) (m : ℕ) (tab : List ℕ) (r : Result ℕ Refusal) (is : tab ≡ table_of image) (measured : r ≡ measureOf tab) (opened : IsOpen image w m) where
+  pub past-cause : (cause : Refusal) → r ≡ Err cause → cause ≡ LimitOrMemory
+  past-cause = measured-cause image tab is (length w) opened.known r measured
 
-  module _ (n : ℕ) (sized : r ≡ Size n) where
+  pub past-limits : (cause : Refusal) → r ≡ Err cause → limits (nodesIn image) (length w) ≡ Ok tt → length bytes < length (encode (nodesIn image))
+  past-limits cause e p = let q = limits-past image tab is (length w) opened.known r measured cause e in let z : ◌≡◌ {A = ℕ} 0 1 = cc in absurd (omega arith)
+
+  module _ (n : ℕ) (sized : r ≡ Ok n) where
     both : (limits (nodesIn image) (length w) ≡ Ok tt) × (n ≡ length (encode (nodesIn image)))
     both = limits-passed image tab is (length w) opened.known r measured n sized
 

@@ -11,7 +11,6 @@ ghost use Rattle.commit.specs.Inner.Decision.{Decided};
 ghost use Rattle.table_only.specs.Inner.Decisions.{noWriting, tableDecision};
 
 use commit::{Decision, Writing};
-use fst_measure::Measured;
 use refusal::Refusal;
 use space::DiscRegion;
 
@@ -25,17 +24,12 @@ pub fn start_table(
     requires { IsOpen image.now words.now m }
     ensures { Built (nodesIn image.now) (length words.now) bytes.old bytes.new result }
 {
-    let measured = fst_measure::measure(opening::table(image));
-    match measured {
-        Measured::PastLimit => Err(Refusal::LimitOrMemory),
-        Measured::Size(size) => {
-            if bytes.len() < size {
-                return Err(Refusal::LimitOrMemory);
-            }
-            commit::write_table(image, bytes);
-            Ok(size)
-        }
+    let size = fst_measure::measure(opening::table(image))?;
+    if bytes.len() < size {
+        return Err(Refusal::LimitOrMemory);
     }
+    commit::write_table(image, bytes);
+    Ok(size)
 }
 
 // The new table stands in the bytes: its size and its place in the image are judged.

@@ -12,11 +12,12 @@ use Rattle.commit.specs.declared.Decision.{Decision}
 use Rattle.commit.specs.declared.Decision.TheVariants as decision
 use Rattle.edits.specs.Change.{Change, withTable, Plan, refused, nothing, change, filled}
 use Rattle.edits.specs.Edits.{noPlace, planVerdict, planImage}
+use Rattle.opened.specs.Disc.{Disc, Means}
 
 -- ---- the numbers of a change
 
 abbrev pub changeWith : List Node → Writing → Change
-changeWith nodes w = record { nodes = nodes; old = w.old; place = w.place; kept = w.kept; lost = record { offset = w.lost; size = w.lost_size } }
+changeWith nodes w = record { nodes = nodes; old = w.old; place = w.place; kept = w.kept; lost = w.lost }
 
 -- a change with a place, for the tests of its table
 abbrev pub placing : List Node → DiscRegion → Change
@@ -25,7 +26,7 @@ placing nodes place = record { nodes = nodes; old = noPlace; place = place; kept
 -- the image with the change written, where the table's bytes are these
 unfoldable pub writtenWith : Writing → List ℕ → List ℕ → List ℕ
 writtenWith w table image =
-    put (withTable (fstOffset image) (fstSize image) table (put image w.place.offset (span image w.old.offset w.kept))) w.lost (replicate w.lost_size 0)
+    put (withTable (fstOffset image) (fstSize image) table (put image w.place.offset (span image w.old.offset w.kept))) w.lost.offset (replicate w.lost.size 0)
 
 -- ---- the table's tests after the limits of the tree
 
@@ -51,7 +52,7 @@ pub record TableFits (long room f size new : ℕ) : Type 0 where
 
 pub record InImage (long : ℕ) (w : Writing) : Type 0 where
   pub copied : CopyFits long w.old.offset w.place.offset w.kept
-  pub zeroed : ZeroFits long w.lost w.lost_size
+  pub zeroed : ZeroFits long w.lost.offset w.lost.size
 
 pub record Fits (image : List ℕ) (room size : ℕ) (w : Writing) : Type 0 where
   pub table : TableFits (length image) room (fstOffset image) (fstSize image) size
@@ -80,12 +81,15 @@ abbrev pub carriedVerdict : Result Decision Refusal → Verdict
 carriedVerdict (Err c) = Err c
 carriedVerdict (Ok d) = Ok tt
 
--- with the number of the entry
+-- the number of the entry
+abbrev pub number_of : Decision → ℕ
+number_of decision.Nothing = 0
+number_of (decision.Clip n at) = n
+number_of (decision.Write n size w) = n
+
 abbrev pub carriedAnswer : Result Decision Refusal → Result ℕ Refusal
 carriedAnswer (Err c) = Err c
-carriedAnswer (Ok decision.Nothing) = Ok 0
-carriedAnswer (Ok (decision.Clip n at)) = Ok n
-carriedAnswer (Ok (decision.Write n size w)) = Ok n
+carriedAnswer (Ok d) = Ok (number_of d)
 
 -- whether an edit that gives a number was accepted
 abbrev pub verdictIn : Result ℕ Refusal → Verdict
@@ -143,3 +147,12 @@ pub record DecidedAs (v : Verdict) (p : Plan) (image : List ℕ) (room : ℕ) (b
 -- by all tests but 25, with no clip
 abbrev pub Decided : Plan → List ℕ → ℕ → ℕ → List ℕ → Result Decision Refusal → Type 0
 Decided p image words room bytes d = DecidedAs (planVerdict p image words room) p image room bytes [] d
+
+-- ---- a decision on a disc: it is what the plan comes to, on each image that means the disc
+
+abbrev pub Decides : Plan → Disc → ℕ → List ℕ → Result Decision Refusal → Type 0
+Decides p d room bytes r = (image : List ℕ) → Means image d → Decided p image d.words room bytes r
+
+-- with a clip
+abbrev pub DecidesWith : List ℕ → Plan → Disc → ℕ → List ℕ → Result Decision Refusal → Type 0
+DecidesWith clip p d room bytes r = (image : List ℕ) → Means image d → DecidedAs (planVerdict p image d.words room) p image room bytes clip r

@@ -7,16 +7,29 @@ use Rattle.tree.specs.Table.{Node, none}
 use Rattle.tree.specs.Lookup.{isDirectory}
 use Rattle.tree.specs.declared.Entry.{Entry}
 use Rattle.tree.specs.declared.Entry.TheVariants as entry
-use Rattle.space.specs.declared.DiscRegion.{DiscRegion}
+use Rattle.opening.specs.Opening.{regionOf}
+use Rattle.opened.specs.Disc.{Disc, Means}
+use Rattle.decide.specs.declared.File.{File}
 
 pub record IsFile (nodes : List Node) (k : ℕ) : Type 0 where
   pub inside : k < length nodes
   pub kind : isDirectory (get_or nodes k none) ≡ false
 
-abbrev pub fileOf : Entry → Result DiscRegion Refusal
-fileOf (entry.File f) = Ok (record { offset = f.offset; size = f.size })
-fileOf (entry.Directory d) = Err ExpectedFile
+-- entry k, where it is a file
+abbrev pub file_in : List Node → ℕ → File
+file_in nodes k = record { number = k; place = regionOf (get_or nodes k none) }
 
-abbrev pub fileAs : Verdict → DiscRegion → Result DiscRegion Refusal
-fileAs (Ok _) r = Ok r
-fileAs (Err c) r = Err c
+abbrev pub fileOf : ℕ → Entry → Result File Refusal
+fileOf k (entry.File f) = Ok (record { number = k; place = record { offset = f.offset; size = f.size } })
+fileOf k (entry.Directory d) = Err ExpectedFile
+
+abbrev pub fileAs : Verdict → File → Result File Refusal
+fileAs (Ok _) f = Ok f
+fileAs (Err c) f = Err c
+
+-- a file of a disc that some image means
+pub record IsFileOf (d : Disc) (f : File) : Type 0 where
+  pub image : List ℕ
+  pub means : Means image d
+  pub is : IsFile d.nodes f.number
+  pub place : regionOf (get_or d.nodes f.number none) ≡ f.place

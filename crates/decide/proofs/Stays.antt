@@ -1,0 +1,68 @@
+-- Where a file that keeps its place ends. Assumes nothing.
+use Prim.Native.Nat.{ℕ, ◌+◌, ◌<◌, ◌≤◌, ◌^◌, max}
+use mathlib.Core.Path.{◌≡◌}
+use mathlib.Core.Logic.{inr, ⊎_elim}
+use mathlib.Core.Bool.{true, ◌||◌}
+use mathlib.Core.List.{List, map}
+use native.Mathlib.Omega.{arith}
+use borrow.Author.Tests.{leb-true}
+use lib.Dec.{leb}
+use lib.ListN.{length, get_or, length-map, get_or-map}
+use Rattle.refusal.specs.Laws.Tests.{lt-or-le, or_cases}
+use Rattle.header.specs.Verdicts.{discEnd, table_end}
+use Rattle.tree.specs.Table.{Node, none}
+use Rattle.space.specs.declared.DiscRegion.{DiscRegion}
+use Rattle.space.specs.Used.{end_of}
+use Rattle.space.specs.Laws.FreeLaws.{In}
+use Rattle.free_space.specs.MaxRegionSize.{maxRegionSize}
+use Rattle.free_space.specs.Laws.GrowthLaws.{file-largest}
+use Rattle.opening.specs.Opening.{nodesIn, regionOf, behindTable, usedIn, freeOf}
+use Rattle.opening.specs.Inner.Prepared.{OpenImage}
+use Rattle.edits.specs.Laws.PlaceTests.{in-region}
+use Rattle.opened.specs.Disc.{Disc, free_of}
+use Rattle.commit.proofs.Images.{file-lies, place-lies, end-small}
+use Rattle.commit.proofs.Discs.{nodes_are, free_is}
+use Rattle.decide.specs.declared.File.{File}
+use Rattle.decide.specs.Inner.Files.{IsFile, IsFileOf}
+
+-- a file's region is one of its table's
+in-files : (xs : List Node) (k : ℕ) → k < length xs → In (regionOf (get_or xs k none)) (map regionOf xs)
+in-files xs k h = rw (← get_or-map regionOf xs k none) (in-region (map regionOf xs) k (rw (length-map xs regionOf) h))
+
+module _ (image : List ℕ) (words : ℕ) (known : OpenImage image words) (k : ℕ) (f : IsFile (nodesIn image) k) (old : DiscRegion) (here : regionOf (get_or (nodesIn image) k none) ≡ old) (n : ℕ) where
+  old-lies : 0 < old.size → (table_end image ≤ old.offset) × (end_of old ≤ discEnd image)
+  old-lies z = rw here at (file-lies image words known k (rw here z))
+
+  grows-below : old.offset + maxRegionSize old.offset old.size (freeOf image) ≤ max (end_of old) (discEnd image)
+  unfolding freeOf usedIn behindTable
+  grows-below = (file-largest (discEnd image) (table_end image) (behindTable image) old (inr (rw here at (in-files (nodesIn image) k f.inside)))).below
+
+  -- LAW: where a file stays, its n bytes lie behind the table and on the disc
+  pub stays-on-disc : (leb n old.size || leb n (maxRegionSize old.offset old.size (freeOf image))) ≡ true → 0 < n → (table_end image ≤ old.offset) × (old.offset + n ≤ discEnd image)
+  stays-on-disc t z = ⊎_elim full empty (lt-or-le 0 old.size)
+    where
+      full : 0 < old.size → (table_end image ≤ old.offset) × (old.offset + n ≤ discEnd image)
+      full y =
+          let l = old-lies y in
+          ⊎_elim (λ a. (l.0, omega (arith, l.1, leb-true n old.size a)))
+          (λ a. (l.0, omega (arith, l.1, leb-true n (maxRegionSize old.offset old.size (freeOf image)) a, grows-below))) (or_cases (leb n old.size) _ t)
+
+      empty : old.size ≤ 0 → (table_end image ≤ old.offset) × (old.offset + n ≤ discEnd image)
+      empty y =
+          let e : old.size ≡ 0 = omega arith in
+          ⊎_elim (λ a. absurd (omega (arith, leb-true n old.size a)))
+          (λ a. place-lies image words known old.offset n (rw e at (leb-true n (maxRegionSize old.offset old.size (freeOf image)) a)) z) (or_cases (leb n old.size) _ t)
+
+-- so the number of the byte behind it has 32 bits
+pub stays-small : (d : Disc) (f : File) (n : ℕ) → IsFileOf d f → (leb n f.place.size || leb n (maxRegionSize f.place.offset f.place.size (free_of d))) ≡ true → f.place.offset < 2 ^ 32 → f.place.offset + n < 2 ^ 32
+stays-small d f n h t small = ⊎_elim some no-byte (lt-or-le 0 n)
+  where
+    some : 0 < n → f.place.offset + n < 2 ^ 32
+    some z =
+        let nodes = nodes_are h.image d h.means in
+        let here : regionOf (get_or (nodesIn h.image) f.number none) ≡ f.place = rw nodes h.place in
+        let l = stays-on-disc h.image d.words h.means.known f.number (rw nodes h.is) f.place here n (rw (free_is h.image d h.means) t) z in
+        omega (arith, l.1, end-small h.image d.words h.means.known)
+
+    no-byte : n ≤ 0 → f.place.offset + n < 2 ^ 32
+    no-byte z = omega arith

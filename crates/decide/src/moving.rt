@@ -1,0 +1,115 @@
+// What a rewrite and a move decide on, for every image that means the disc.
+ghost use Rattle.std.specs.Prelude.{◌≡◌, List, ℕ, length};
+ghost use Rattle.tree.specs.Insert.{setPlace};
+ghost use Rattle.space.specs.Used.{end_of};
+ghost use Rattle.edits.specs.Change.{change};
+ghost use Rattle.edits.specs.Edits.{tableOnly, planned, overlapsItself, relocateVerdict, relocated, planMove};
+ghost use Rattle.opened.specs.Disc.{free_of, Means};
+ghost use Rattle.commit.specs.Inner.Decision.{InImage, changeWith, Decides};
+ghost use Rattle.decide.specs.Inner.Files.{IsFile, IsFileOf};
+
+use crate::File;
+use crate::finding::file_at;
+use commit::{Decision, Writing};
+use opened::OpenDisc;
+use refusal::{Refusal, Verdict};
+use space::DiscRegion;
+
+/// The tree as it is, written anew; refused by the tests of its table alone.
+pub fn rewrite(disc: &OpenDisc<'_>, bytes: &mut [u8]) -> Result<Decision, Refusal>
+    ensures { Decides (change 0 (tableOnly disc.now.nodes)) disc.now (length bytes.old) bytes.new result }
+{
+    let size = commit::check_table(disc, bytes.len(), Writing::NOTHING.place)?;
+    commit::write_table(disc, bytes);
+    Ok(Decision::Write {
+        number: 0,
+        size,
+        writing: Writing::NOTHING,
+    })
+}
+
+// The tree with another place for a file.
+pub(crate) fn set_place(
+    disc: &OpenDisc<'_>,
+    bytes: &mut [u8],
+    number: u32,
+    writing: Writing,
+) -> Result<Decision, Refusal>
+    requires is_file { IsFile disc.now.nodes number }
+    requires inside { (image : List ℕ) → Means image disc.now → InImage (length image) writing }
+    ensures { Decides (change number (changeWith (setPlace number writing.place.offset writing.place.size disc.now.nodes) writing)) disc.now (length bytes.old) bytes.new result }
+{
+    let place = writing.place;
+    let size = commit::check_table(disc, bytes.len(), place)?;
+    commit::write_table(disc, bytes);
+    fst_patch::set_place(bytes, number as usize, place.offset, place.size);
+    Ok(Decision::Write {
+        number,
+        size,
+        writing,
+    })
+}
+
+fn region_end(region: DiscRegion) -> u64
+    ensures { result ≡ end_of region }
+{
+    region.offset as u64 + region.size as u64
+}
+
+// Whether a region would be moved onto itself.
+fn overlaps_itself(old: DiscRegion, new: DiscRegion) -> bool
+    ensures { result ≡ overlapsItself old new }
+{
+    (new.offset as u64) < region_end(old) && (old.offset as u64) < region_end(new)
+}
+
+// The tests of a new place: 20, then 21.
+fn check_relocate(disc: &OpenDisc<'_>, old: DiscRegion, new: DiscRegion) -> Verdict
+    ensures { result ≡ relocateVerdict (free_of disc.now) old new }
+{
+    if overlaps_itself(old, new) {
+        return Err(Refusal::OverlappingMove);
+    }
+    if disc.max_region_size(new.offset, 0) < new.size {
+        return Err(Refusal::NotEnoughSpace);
+    }
+    Ok(())
+}
+
+// The file goes from one place to another: the smaller of both sizes is copied, and the old place is zeroed.
+pub(crate) fn relocate(
+    disc: &OpenDisc<'_>,
+    bytes: &mut [u8],
+    file: File,
+    new: DiscRegion,
+) -> Result<Decision, Refusal>
+    requires { IsFileOf disc.now file }
+    ensures { Decides (planned (relocateVerdict (free_of disc.now) file.place new) (change file.number (relocated disc.now.nodes file.number file.place new))) disc.now (length bytes.old) bytes.new result }
+{
+    let old = file.place;
+    check_relocate(disc, old, new)?;
+    let writing = Writing {
+        old,
+        place: new,
+        kept: old.size.min(new.size),
+        lost: old,
+    };
+    set_place(disc, bytes, file.number, writing)
+}
+
+/// The file of that number goes to another offset: 15, 16, 20 if it would overlap itself, 21 if its new place is not free, then the table's tests.
+pub fn move_file(
+    disc: &OpenDisc<'_>,
+    bytes: &mut [u8],
+    number: u32,
+    offset: u32,
+) -> Result<Decision, Refusal>
+    ensures { Decides (planMove (free_of disc.now) disc.now.nodes number offset) disc.now (length bytes.old) bytes.new result }
+{
+    let file = file_at(disc, number)?;
+    let new = DiscRegion {
+        offset,
+        size: file.place.size,
+    };
+    relocate(disc, bytes, file, new)
+}

@@ -1,0 +1,117 @@
+-- The disc that an image means, from its parts. Assumes nothing.
+use Prim.Native.Nat.{ℕ}
+use Rattle.std.specs.Prelude.{◌≡◌, List, length}
+use Rattle.std.proofs.Common.{refl, sym, ap, ◌∙◌}
+use Rattle.endian.specs.Bytes.{be32, span}
+use Rattle.header.specs.Verdicts.{dolOffset, fstOffset, fstSize, discEnd}
+use Rattle.space.specs.declared.DiscRegion.{DiscRegion}
+use Rattle.space.specs.Free.{freeRegions}
+use Rattle.space.specs.Used.{totalSize}
+use Rattle.space.specs.Inner.Sort.{regionsIn}
+use Rattle.space.specs.Inner.Words.{SortedDisjoint}
+use Rattle.space.specs.Laws.SortLaws.{same_total}
+use Rattle.tree.specs.Table.{nodesOf}
+use Rattle.tree.specs.Laws.Accepted.{length-nodesOf}
+use Rattle.fst_check.specs.Inner.Reading.{Opens}
+use Rattle.program.specs.Program.{programBehind}
+use Rattle.opening.specs.Opening.{table_of, nodesIn, behindTable, usedIn, freeOf}
+use Rattle.opening.specs.Inner.Prepared.{IsOpen}
+use Rattle.opening.specs.Laws.OpeningLaws.{table-accepted}
+use Rattle.opening.proofs.Words.{free-below, sorted-below}
+use Rattle.opened.specs.Parts.{HasParts}
+use Rattle.opened.specs.Disc.{Disc, disc_in, disc_of, free_of, Means, TableOf}
+use Rattle.opened.specs.Backed.{Backed}
+use Rattle.opened.proofs.Opens.{head_opens}
+use Rattle.opened.proofs.Heads.{start_is, size_is, maximum_is, user_is, disc_is}
+
+-- ---- the parts of an image that opens
+
+module _ (image header table program : List ℕ) (long : ℕ) (h : HasParts image header table program long) (w : List ℕ) (m : ℕ) (o : IsOpen image w m) (own : DiscRegion) (p : own ≡ programBehind image) where
+  table_there : table ≡ table_of image
+  table_there = h.table_is (head_opens image (length w) o.known.reads)
+
+  disc_same : disc_in header table own (length w) ≡ disc_of image (length w)
+  disc_same = rw (start_is image header long h.head, size_is image header long h.head, maximum_is image header long h.head, user_is image header long h.head, disc_is image header long h.head, table_there, p)
+
+  pub backed : Backed header table own w m
+  backed = record { image = image; known = o; table_is = table_there; disc_is = disc_same }
+
+  pub means : Means image (disc_in header table own (length w))
+  means = record { known = o.known; is = sym disc_same }
+
+-- ---- what is free of it
+
+pub free-shown : (image : List ℕ) (words : ℕ) → freeOf image ≡ free_of (disc_of image words)
+unfolding freeOf usedIn behindTable nodesIn
+free-shown image words = refl
+
+used_shown : (image : List ℕ) (words : ℕ) → usedIn image ≡ (disc_of image words).used
+unfolding usedIn behindTable nodesIn
+used_shown image words = refl
+
+pub nodes_shown : (image : List ℕ) (words : ℕ) → nodesIn image ≡ (disc_of image words).nodes
+unfolding nodesIn
+nodes_shown image words = refl
+
+module _ (header table : List ℕ) (own : DiscRegion) (w : List ℕ) (m : ℕ) (b : Backed header table own w m) where
+  pub opens_backed : Opens table
+  opens_backed = rw b.table_is (record { words = length w; passed = table-accepted b.image (length w) b.known.known.passed })
+
+  module _ (d : Disc) (v : disc_in header table own (length w) ≡ d) where
+    pub shown : disc_of b.image (length w) ≡ d
+    shown = sym b.disc_is ∙ v
+
+    pub free_backed : (e : ℕ) → e ≡ d.end → freeRegions e (regionsIn w 0 m) ≡ free_of d
+    free_backed e q =
+        free-below b.image w m e b.known (q ∙ ap (λ (x : Disc). x.end) (sym shown)) ∙ free-shown b.image (length w) ∙ ap free_of shown
+
+    pub means_backed : Means b.image d
+    means_backed =
+        let n : length w ≡ d.words = ap (λ (x : Disc). x.words) v in
+        record { known = rw n at b.known.known; is = rw n at shown }
+
+    pub lent_is : length w ≡ d.words
+    lent_is = ap (λ (x : Disc). x.words) v
+
+    pub sorted_backed : (e : ℕ) → e ≡ d.end → SortedDisjoint w m e
+    sorted_backed e q = sorted-below b.image w m e b.known (q ∙ ap (λ (x : Disc). x.end) (sym shown))
+
+    pub used_backed : totalSize (regionsIn w 0 m) ≡ totalSize d.used
+    used_backed = same_total (regionsIn w 0 m) (usedIn b.image) b.known.used.sums ∙ ap totalSize (used_shown b.image (length w) ∙ ap (λ (x : Disc). x.used) shown)
+
+    pub entries_backed : (n : ℕ) → n ≡ be32 table 8 → n ≡ length d.nodes
+    entries_backed n e =
+        (e ∙ ap (λ (l : List ℕ). be32 l 8) b.table_is)
+        ∙ b.known.known.reads.table.root-next
+        ∙ sym (length-nodesOf (table_of b.image))
+        ∙ ap (λ (l : List ℕ). length (nodesOf l)) (sym b.table_is)
+        ∙ ap (λ (x : Disc). length x.nodes) v
+
+    pub table_backed : TableOf d table
+    table_backed = record { image = b.image; means = means_backed; is = b.table_is }
+
+    -- LAW: the words hold the used regions of every image that means the disc
+    pub open_backed : (image : List ℕ) → Means image d → IsOpen image w m
+    unfolding freeOf
+    open_backed image i =
+        let s : disc_of b.image (length w) ≡ disc_of image (length w) = shown ∙ sym (ap (disc_of image) lent_is ∙ i.is) in
+        let e : discEnd b.image ≡ discEnd image = ap (λ (x : Disc). x.end) s in
+        let u : usedIn b.image ≡ usedIn image = used_shown b.image (length w) ∙ ap (λ (x : Disc). x.used) s ∙ sym (used_shown image (length w)) in
+        record {
+          known = rw lent_is i.known;
+          used = record {
+            sorted = rw e at b.known.used.sorted;
+            free = rw (e, u) at b.known.used.free;
+            sums = rw u at b.known.used.sums;
+          };
+        }
+
+-- ---- the parts that are cut from an image
+
+module _ (image t : List ℕ) where
+  pub cut_table : (from size : ℕ) → from ≡ fstOffset image → size ≡ fstSize image → t ≡ span image from size → t ≡ table_of image
+  unfolding table_of
+  cut_table from size p q e = rw (← p, ← q) e
+
+  pub cut_program : (at : ℕ) → at ≡ dolOffset image → t ≡ span image at 0xE4 → t ≡ span image (dolOffset image) 0xE4
+  cut_program at p e = rw (← p) e

@@ -1,0 +1,99 @@
+-- The header's tests and the program are those of the image: they read no byte that the parts do not have. Assumes nothing.
+use Rattle.std.specs.Prelude.{Ok, Err}
+use Rattle.refusal.specs.Refusal.{Verdict, first}
+use Prim.Native.Nat.{ℕ, zero, suc, ◌+◌, ◌*◌, ◌≤◌, ◌<◌, min}
+use Rattle.std.specs.Prelude.{◌≡◌, Bool, true, false, ltb, List, length, take}
+use Rattle.std.proofs.Common.{refl, sym, ap, ◌∙◌, arith, add-zero, length-take, ltb-true, ltb-false, lt-ltb, le-ltb}
+use Rattle.std.proofs.Math.Seq.{get_or-take}
+use Rattle.endian.specs.Bytes.{be32, span}
+use Rattle.endian.specs.Laws.Stored.{be32-same, length-span}
+use Rattle.header.specs.Verdicts.{headerVerdict, boundsVerdict, dolOffset, fstOffset, fstSize, fstMaxSize, userSize, discSize, discEnd, table_end}
+use Rattle.header.specs.Laws.Order.{header-order}
+use Rattle.refusal.specs.declared.Refusal.{Refusal}
+use Rattle.refusal.specs.declared.Refusal.TheVariants.{InvalidDol}
+use Rattle.dol.specs.Dol.{wordsAt, dolHeaderOf, fileSizeOf, dolSizeOf}
+use Rattle.opening.specs.Laws.OpeningLaws.{be32-span}
+use Rattle.opened.specs.Parts.{Heads}
+
+-- ---- a field of the header
+
+pub field_same : (image : List ℕ) (at : ℕ) → at + 4 ≤ 0x440 → be32 (take 0x440 image) at ≡ be32 image at
+field_same image at h = be32-same (take 0x440 image) image at (λ i l. get_or-take 0x440 image (at + i) 0 (omega arith))
+
+-- whether the image reaches a place of the header
+reach_same : (n image-length : ℕ) → n ≤ 0x440 → ltb (min 0x440 image-length) n ≡ ltb image-length n
+reach_same n long h = go (ltb long n) refl
+  where
+    go : (t : Bool) → ltb long n ≡ t → ltb (min 0x440 long) n ≡ t
+    go true e = let l : min 0x440 long < n = omega (arith, ltb-true long n e) in lt-ltb (min 0x440 long) n l
+    go false e = let l : n ≤ min 0x440 long = omega (arith, ltb-false long n e) in le-ltb (min 0x440 long) n l
+
+pub header_same : (image : List ℕ) → headerVerdict (take 0x440 image) ≡ headerVerdict image
+header_same image =
+    let r : (n : ℕ) → n ≤ 0x440 → ltb (length (take 0x440 image)) n ≡ ltb (length image) n = λ n h. rw length-take (reach_same n (length image) h) in
+    header-order (take 0x440 image)
+    ∙ rw (r 0x1C (omega arith), r 0x20 (omega arith), r 0x440 (omega arith), field_same image 0x18 (omega arith), field_same image 0x1C (omega arith)) (sym (header-order image))
+
+module _ (image header : List ℕ) (long : ℕ) (h : Heads image header long) where
+  field_is : (at : ℕ) → at + 4 ≤ 0x440 → be32 header at ≡ be32 image at
+  field_is at l = rw h.start (field_same image at l)
+
+  pub header_is : headerVerdict header ≡ headerVerdict image
+  header_is = rw h.start (header_same image)
+
+  pub dol_is : dolOffset header ≡ dolOffset image
+  dol_is = field_is 0x420 (omega arith)
+
+  pub start_is : fstOffset header ≡ fstOffset image
+  start_is = field_is 0x424 (omega arith)
+
+  pub size_is : fstSize header ≡ fstSize image
+  size_is = field_is 0x428 (omega arith)
+
+  pub maximum_is : fstMaxSize header ≡ fstMaxSize image
+  maximum_is = field_is 0x42C (omega arith)
+
+  pub user_is : userSize header ≡ userSize image
+  user_is = field_is 0x434 (omega arith)
+
+  pub disc_is : discSize header ≡ discSize image
+  disc_is = field_is 0x438 (omega arith)
+
+  pub end_is : discEnd header ≡ discEnd image
+  end_is = rw (user_is, disc_is)
+
+  pub table_end_is : table_end header ≡ table_end image
+  table_end_is = rw (start_is, size_is)
+
+  pub head-refused : (c : Refusal) → Err c ≡ headerVerdict header → Err c ≡ first (headerVerdict image) (boundsVerdict image)
+  head-refused c e = ap (λ (v : Verdict). first v (boundsVerdict image)) (e ∙ header_is)
+
+  pub head-passed : (r : Verdict) → Ok tt ≡ headerVerdict header → r ≡ boundsVerdict image → r ≡ first (headerVerdict image) (boundsVerdict image)
+  head-passed r e f = f ∙ ap (λ (v : Verdict). first v (boundsVerdict image)) (e ∙ header_is)
+
+-- ---- the executable's header
+
+words_part : (s : List ℕ) (at n k m : ℕ) → k + 4 * m ≤ n → wordsAt (span s at n) k m ≡ wordsAt s (at + k) m
+unfolding wordsAt
+words_part s at n k zero h = refl
+words_part s at n k (suc m) h =
+    let e : at + (k + 4) ≡ at + k + 4 = omega arith in
+    rw (be32-span s at n k (omega arith), words_part s at n (k + 4) m (omega arith), e)
+
+size-part : (image : List ℕ) (at : ℕ) → fileSizeOf (dolHeaderOf (span image at 0xE4) 0) ≡ fileSizeOf (dolHeaderOf image at)
+size-part image at =
+    rw (
+      words_part image at 0xE4 0 7 (omega arith),
+      words_part image at 0xE4 0x90 7 (omega arith),
+      words_part image at 0xE4 0x1C 11 (omega arith),
+      words_part image at 0xE4 0xAC 11 (omega arith),
+      add-zero at,
+    )
+
+pub size_past : (image : List ℕ) (at : ℕ) → length image < at + 0xE4 → Err InvalidDol ≡ dolSizeOf image at
+size_past image at h = rw (lt-ltb (length image) (at + 0xE4) h)
+
+pub size_inside : (image program : List ℕ) (at : ℕ) → at + 0xE4 ≤ length image → program ≡ span image at 0xE4 → dolSizeOf program 0 ≡ dolSizeOf image at
+size_inside image program at h e =
+    let l : 0 + 0xE4 ≤ length (span image at 0xE4) = omega (arith, length-span image at 0xE4 h) in
+    rw (e, le-ltb (length (span image at 0xE4)) (0 + 0xE4) l, le-ltb (length image) (at + 0xE4) h, size-part image at)

@@ -1,0 +1,4 @@
+-- What the proofs of the functions cite.
+pub mod Heads
+pub mod Opens
+pub mod Discs

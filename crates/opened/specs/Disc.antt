@@ -1,0 +1,59 @@
+-- What an image that opens means: all that the questions and the edits read of it. Assumes nothing: these are definitions.
+use Rattle.std.specs.Prelude.{Result, Ok, Err, ℕ, ◌≡◌, List, ◌∷◌, map}
+use Rattle.refusal.specs.declared.Refusal.{Refusal}
+use Rattle.header.specs.Verdicts.{fstOffset, fstSize, fstMaxSize, discEnd, table_end}
+use Rattle.tree.specs.Table.{Node, nodesOf}
+use Rattle.space.specs.declared.DiscRegion.{DiscRegion}
+use Rattle.space.specs.Used.{usedRegions}
+use Rattle.space.specs.Free.{freeRegions}
+use Rattle.program.specs.Program.{programBehind}
+use Rattle.opening.specs.Opening.{table_of, regionOf, opening}
+use Rattle.opening.specs.Inner.Prepared.{OpenImage}
+
+pub record Disc : Type 0 where
+  -- the tree; where its table stands, and the stated maximum of the table's size
+  pub nodes : List Node
+  pub start : ℕ
+  pub room : ℕ
+  pub maximum : ℕ
+  -- where the disc ends, and what is used: the bytes up to the table's end, the program, the files
+  pub end : ℕ
+  pub used : List DiscRegion
+  -- how many working words are lent
+  pub words : ℕ
+
+-- by a header, a table and the program's own region
+abbrev pub disc_in : List ℕ → List ℕ → DiscRegion → ℕ → Disc
+disc_in header table own words = record {
+  nodes = nodesOf table;
+  start = fstOffset header;
+  room = fstSize header;
+  maximum = fstMaxSize header;
+  end = discEnd header;
+  used = usedRegions (table_end header) (own ∷ map regionOf (nodesOf table));
+  words = words;
+}
+
+abbrev pub disc_of : List ℕ → ℕ → Disc
+disc_of image words = disc_in image (table_of image) (programBehind image) words
+
+abbrev pub free_of : Disc → List DiscRegion
+free_of d = freeRegions d.end d.used
+
+-- ---- an image and its disc
+
+-- the image opens, and means that disc
+pub record Means (image : List ℕ) (d : Disc) : Type 0 where
+  pub known : OpenImage image d.words
+  pub is : disc_of image d.words ≡ d
+
+-- some image means the disc, and that is its table
+pub record TableOf (d : Disc) (table : List ℕ) : Type 0 where
+  pub image : List ℕ
+  pub means : Means image d
+  pub is : table ≡ table_of image
+
+-- by the cases of the answer: the disc that the image means, or opening refused it
+abbrev pub OpensAs : List ℕ → ℕ → Result Disc Refusal → Type 0
+OpensAs image words (Ok d) = Means image d × (d.words ≡ words)
+OpensAs image words (Err c) = opening image words ≡ Err c

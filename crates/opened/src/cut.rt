@@ -1,0 +1,33 @@
+// The parts of an image in memory.
+ghost use Rattle.std.specs.Prelude.{◌≡◌};
+ghost use Rattle.endian.specs.Bytes.{span};
+ghost use Rattle.opened.specs.Parts.{HasParts};
+
+use crate::Parts;
+
+// What the image has of the `size` bytes from `from` on.
+fn cut(image: &[u8], from: usize, size: usize) -> &[u8]
+    ensures { result.now ≡ span image.now from size }
+{
+    let start = from.min(image.len());
+    let n = size.min(image.len() - start);
+    &image[start..start + n]
+}
+
+pub fn parts_of(image: &[u8]) -> Parts<'_>
+    ensures { HasParts image.now result.header.now result.table.now result.program.now result.length }
+{
+    let header = cut(image, 0, 0x440);
+    let table = cut(
+        image,
+        header::fst_offset(image) as usize,
+        header::fst_size(image) as usize,
+    );
+    let program = cut(image, header::dol_offset(image) as usize, 0xE4);
+    Parts {
+        header,
+        table,
+        program,
+        length: image.len() as u64,
+    }
+}
