@@ -1,6 +1,5 @@
 // A disc opened: contracts see the disc that it means, and no image.
 ghost use Rattle.std.specs.Prelude.{◌≡◌, List, ℕ, length};
-ghost use Rattle.program.specs.Program.{programBehind};
 ghost use Rattle.tree.specs.Table.{nodesOf};
 ghost use Rattle.fst_check.specs.Inner.Reading.{Opens};
 ghost use Rattle.space.specs.Used.{totalSize};
@@ -14,9 +13,8 @@ ghost use Rattle.opened.specs.Parts.{HasParts};
 ghost use Rattle.opened.specs.Disc.{OpensAs, Means, TableOf, free_of};
 
 use crate::Parts;
-use crate::bounds::read_program;
 use crate::cut::parts_of;
-use crate::whole::open_parts;
+use crate::whole::{check_program, check_table, check_used};
 use refusal::Refusal;
 use space::DiscRegion;
 use std::marker::Model;
@@ -48,16 +46,6 @@ impl<'a> Model for OpenDisc<'a> {
     ghost invariant = { λ d. Backed d.header.now d.table.now d.own d.words.now d.used };
 }
 
-// The region of the program behind the table.
-fn own_region(parts: Parts<'_>) -> DiscRegion
-    ghost image: { List ℕ }
-    requires { HasParts image parts.header.now parts.table.now parts.program.now parts.length }
-    ensures { result ≡ programBehind image }
-{
-    let program = read_program(parts.header, parts.program, parts.length);
-    program::own_region(program, header::fst_offset(parts.header))
-}
-
 // The image is passed for its name in the contract alone.
 fn open_shown<'a>(
     _image: &[u8],
@@ -78,8 +66,9 @@ impl<'a> OpenDisc<'a> {
         requires { HasParts image parts.header.now parts.table.now parts.program.now parts.length }
         ensures { OpensAs image (length words.old) result }
     {
-        let own = own_region(parts);
-        let used = open_parts(parts, words)?;
+        check_table(parts, words.len())?;
+        let own = check_program(parts)?;
+        let used = check_used(parts, words, own)?;
         Ok(OpenDisc {
             header: parts.header,
             table: parts.table,
