@@ -1,0 +1,20 @@
+-- `Clusters::of` meets its contract: what the region has from its first multiple of 0x8000 on, divided by 0x8000.
+use mathlib.Core.Path.{sym}
+use native.Mathlib.Omega.{arith}
+use Rattle.free_space.specs.Laws.AllocateLaws.{align-up-le}
+use Rattle.space.specs.Laws.ClusterLaws.{all-before, clusters-from}
+use Rattle.free_clusters.proofs.Clusters.of.Goals as goal
+
+pub returns-then-end-first : goal.returns-then-end-first
+returns-then-end-first c =
+    let a = all-before c.args.region (omega arith) in
+    (sym a.0, sym a.1, sym a.2)
+
+pub overflow_cast-left : goal.overflow_cast-left
+overflow_cast-left c = omega (arith, align-up-le 0x8000 c.args.region.offset (omega arith))
+
+pub overflow_sub-result : goal.overflow_sub-result
+overflow_sub-result c = omega (arith, align-up-le 0x8000 c.args.region.offset (omega arith))
+
+pub returns : goal.returns
+returns c = clusters-from _ _ (omega arith)
