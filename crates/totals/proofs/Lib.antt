@@ -1,2 +1,2 @@
 -- What the proofs of the functions cite.
-pub mod Scanned
+pub mod Behind

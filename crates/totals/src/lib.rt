@@ -1,12 +1,13 @@
 // The totals record that goes into an edit and comes back, and the largest free region that an edit leaves.
 #![tactic(auto)]
 
-ghost use Rattle.std.specs.Prelude.{◌≡◌, ◌-◌, ◌<◌, ◌^◌, max, OnOk, OnErr};
+ghost use Rattle.std.specs.Prelude.{◌≡◌, ◌-◌, ◌<◌, ◌^◌, drop, max, OnOk, OnErr};
 ghost use Rattle.space.specs.Inner.Sort.{regionsIn};
 ghost use Rattle.space.specs.Inner.Words.{SortedDisjoint};
 ghost use Rattle.totals.specs.Totals.{totalsVerdict, totalsMoved};
 ghost use Rattle.totals.specs.Inner.Scan.{longestBeside, longestFrom, goneOf};
 
+use free_space::UsedRegions;
 use refusal::{Refusal, Verdict};
 use space::DiscRegion;
 
@@ -48,24 +49,24 @@ impl Totals {
 
 // The longest run of the bytes from a up to b that has none of the region's bytes.
 #[tactic(auto, unfolding(crate::specs::Inner::Scan::longestBeside))]
-fn longest_beside(a: u32, b: u32, region: DiscRegion) -> u32
+fn longest_beside(a: u64, b: u32, region: DiscRegion) -> u32
     ensures { result ≡ longestBeside a b region }
 {
-    let end = u64::from(region.offset) + u64::from(region.size);
-    if region.size == 0 || end <= u64::from(a) || b <= region.offset {
-        return b.saturating_sub(a);
+    let b = u64::from(b);
+    let start = u64::from(region.offset);
+    if region.size == 0 || region.end() <= a || b <= start {
+        return b.saturating_sub(a) as u32;
     }
-    let before = region.offset.saturating_sub(a);
-    let behind = u64::from(b).saturating_sub(end) as u32;
-    before.max(behind)
+    start.saturating_sub(a).max(b.saturating_sub(region.end())) as u32
 }
 
 // The longer of `best` and that run. Most gaps are no longer than the best so far, and need no closer look.
 #[tactic(auto, unfolding(crate::specs::Inner::Scan::longestBeside))]
-fn longer(best: u32, a: u32, b: u32, region: DiscRegion) -> u32
+fn longer(best: u32, a: u64, b: u32, region: DiscRegion) -> u32
+    requires { a < 2 ^ 34 }
     ensures { result ≡ max best (longestBeside a b region) }
 {
-    if u64::from(b) <= u64::from(a) + u64::from(best) {
+    if u64::from(b) <= a + u64::from(best) {
         return best;
     }
     best.max(longest_beside(a, b, region))
@@ -78,8 +79,32 @@ fn gone_of(old: DiscRegion) -> u32
     if old.size == 0 { 0 } else { old.offset }
 }
 
-// The size of the largest free region after an edit, by the used regions before it, which stand in the words: the table is then up to
-// `table_end`, and the edited file, if there is one, no longer at `old` but at `new`.
+/// The size in bytes of the largest free region after an edit, by the used regions before it, of which the table is the first: the table then
+/// ends at `table_end`, and the edited file, if there is one, lies no longer at `old` but at `new`.
+pub fn largest_after(
+    used: &UsedRegions<'_>,
+    disc_end: u32,
+    table_end: u32,
+    old: DiscRegion,
+    new: DiscRegion,
+) -> u32
+    ensures { result ≡ longestFrom disc_end (goneOf old) new table_end 0 (drop 1 used.now.regions) }
+{
+    let gone = gone_of(old);
+    let mut at = u64::from(table_end);
+    let mut best = 0;
+    let mut behind_table = used.iter();
+    behind_table.next();
+    for region in behind_table {
+        if region.offset != gone {
+            best = longer(best, at, region.offset, new);
+            at = region.end();
+        }
+    }
+    longer(best, at, disc_end, new)
+}
+
+// For the callers that are still to go over.
 pub fn largest_free(
     words: &[u32],
     count: usize,
@@ -91,16 +116,11 @@ pub fn largest_free(
     requires { SortedDisjoint words.now count disc_end × (0 < count) }
     ensures { result ≡ longestFrom disc_end (goneOf old) new table_end 0 (regionsIn words.now 1 (count - 1)) }
 {
-    let gone = gone_of(old);
-    let mut at = table_end;
-    let mut best = 0;
-    for k in 1..count {
-        let offset = words[2 * k];
-        if offset == gone {
-            continue;
-        }
-        best = longer(best, at, offset, new);
-        at = offset + words[2 * k + 1];
-    }
-    longer(best, at, disc_end, new)
+    largest_after(
+        &UsedRegions::new(words, count, disc_end),
+        disc_end,
+        table_end,
+        old,
+        new,
+    )
 }

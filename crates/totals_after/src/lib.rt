@@ -6,6 +6,7 @@ ghost use Rattle.totals.specs.Inner.Scan.{moved};
 ghost use Rattle.totals_after.specs.Inner.Accounting.{OnDisc, OfUsed, enteredAs, enteredFor};
 
 use commit::{Decision, Writing};
+use free_space::UsedRegions;
 use opened::OpenDisc;
 use refusal::Verdict;
 use space::DiscRegion;
@@ -26,7 +27,8 @@ fn enter(
     let disc_end = disc.end();
     let size = size as u32;
     let table_end = disc.start() + size;
-    let largest = totals::largest_free(disc.words, disc.used, disc_end, table_end, old, new);
+    let used = UsedRegions::new(disc.words, disc.used, disc_end);
+    let largest = totals::largest_after(&used, disc_end, table_end, old, new);
     let before = u64::from(disc.room()) + u64::from(old.size);
     let after = u64::from(size) + u64::from(new.size);
     totals.move_on(before, after, largest)
