@@ -3,14 +3,15 @@
 
 ghost use Rattle.std.specs.Prelude.{◌≡◌, length};
 ghost use Rattle.opening.specs.Opening.{opening};
-ghost use Rattle.opening.specs.Inner.Prepared.{IsOpen};
 ghost use Rattle.edits.specs.Edits as edits;
 ghost use Rattle.edits.specs.Edits.{planned, plan_of, numberedAs};
-ghost use Rattle.totals_after.specs.Inner.Accounting.{accounted, AccountedFor};
 ghost use Rattle.edits.specs.Promise.{lent, onlyVerdict, Edited};
-ghost use Rattle.pipeline.specs.Inner.Decides.{editOf, clipOf, Decides};
+ghost use Rattle.totals_after.specs.Inner.Accounting.{accounted, AccountedFor};
+ghost use Rattle.pipeline.specs.Inner.Decides.{editOf, clipOf, EditDecided};
 
 use commit::Decision;
+use insert::NewEntry;
+use opened::{Lent, OpenDisc};
 use refusal::{Refusal, Verdict};
 use totals::Totals;
 
@@ -26,10 +27,8 @@ pub enum Edit<'a> {
     Resize { file: u32, size: u32 },
     /// Afterwards the file is the clip.
     Fill { file: u32, clip: &'a [u8] },
-    /// An empty file, with offset 0, as last child of the directory `parent`.
-    InsertFile { parent: u32, name: &'a [u8] },
-    /// An empty directory as last child of the directory `parent`.
-    InsertDirectory { parent: u32, name: &'a [u8] },
+    /// An empty file, with offset 0, or an empty directory as last child of a directory.
+    Insert(NewEntry<'a>),
     /// Each directory of the path that is missing, from the entry `start` on.
     MakeDirectories { start: u32, path: &'a [u8] },
 }
@@ -48,44 +47,33 @@ impl<'a> Edit<'a> {
 
 // A fill. What the bytes of a clip are is known of a parameter, and not of a reference in an enum.
 fn fill_file(
-    image: &[u8],
-    words: &[u32],
-    m: usize,
+    disc: &OpenDisc<'_>,
     bytes: &mut [u8],
     file: u32,
     clip: &[u8],
 ) -> Result<Decision, Refusal>
-    requires { IsOpen image.now words.now m }
-    ensures { Decides (edits.fillFile file clip.now) image.now (length words.now) (length bytes.old) bytes.new clip.now result }
+    ensures { EditDecided (edits.fillFile file clip.now) disc.now (length bytes.old) bytes.new clip.now result }
 {
-    fill::fill(image, words, m, bytes, file, clip)
+    fill::fill(disc, bytes, file, clip)
 }
 
-/// What an edit decides on, once the image is open: all its tests but the last, and the new table in the working bytes.
+/// What an edit decides on, on an open disc: all its tests but the last, and the new table in the working bytes.
 pub fn decide_open(
-    image: &[u8],
-    words: &[u32],
-    m: usize,
+    disc: &OpenDisc<'_>,
     bytes: &mut [u8],
-    edit: Edit,
+    edit: Edit<'_>,
 ) -> Result<Decision, Refusal>
-    requires { IsOpen image.now words.now m }
-    ensures { Decides (editOf edit.entry) image.now (length words.now) (length bytes.old) bytes.new (clipOf edit.entry) result }
+    ensures { EditDecided (editOf edit.entry) disc.now (length bytes.old) bytes.new (clipOf edit.entry) result }
 {
     match edit {
-        Edit::Rewrite => decide::rewrite(image, words, m, bytes),
-        Edit::Move { file, offset } => decide::move_file(image, words, m, bytes, file, offset),
-        Edit::Resize { file, size } => decide::resize_file(image, words, m, bytes, file, size),
-        Edit::Fill { file, clip } => fill_file(image, words, m, bytes, file, clip),
-        Edit::InsertFile { parent, name } => insert::insert(
-            image, words, m, bytes, parent, false, name,
-        ),
-        Edit::InsertDirectory { parent, name } => insert::insert(
-            image, words, m, bytes, parent, true, name,
-        ),
-        Edit::MakeDirectories { start, path } => make_directories::decide_open(
-            image, words, m, bytes, start, path,
-        ),
+        Edit::Rewrite => decide::rewrite(disc, bytes),
+        Edit::Move { file, offset } => decide::move_file(disc, bytes, file, offset),
+        Edit::Resize { file, size } => decide::resize_file(disc, bytes, file, size),
+        Edit::Fill { file, clip } => fill_file(disc, bytes, file, clip),
+        Edit::Insert(new) => insert::insert(disc, bytes, new),
+        Edit::MakeDirectories { start, path } => {
+            make_directories::make_directories(disc, bytes, start, path)
+        }
     }
 }
 
@@ -95,13 +83,14 @@ fn decide(
     words: &mut [u32],
     bytes: &mut [u8],
     totals: &mut Totals,
-    edit: Edit,
+    edit: Edit<'_>,
 ) -> Result<Decision, Refusal>
     ensures { AccountedFor (planned (opening image.now (length words.old)) (plan_of (editOf edit.entry) image.now)) image.now (length words.old) (length bytes.old) bytes.new (clipOf edit.entry) totals.old (accounted result totals.new) }
 {
-    let m = opening::prepare(image, words)?;
-    let decided = decide_open(image, words, m, bytes, edit);
-    totals_after::account(image, words, m, decided, totals)
+    let disc = OpenDisc::of_image(image, words)?;
+    let decision = decide_open(&disc, bytes, edit)?;
+    totals_after::account(&disc, decision, totals)?;
+    Ok(decision)
 }
 
 /// The whole edit: opens the image, makes every test, builds the new table in the working bytes, and only then writes the image. Gives the
@@ -111,12 +100,14 @@ pub fn run(
     words: &mut [u32],
     bytes: &mut [u8],
     totals: &mut Totals,
-    edit: Edit,
+    edit: Edit<'_>,
 ) -> Result<u32, Refusal>
     ensures { Edited numberedAs (editOf edit.entry) (lent image.old words.old bytes.old totals.old) (lent image.new words.new bytes.new totals.new) result }
 {
-    let decided = decide(image, words, bytes, totals, edit);
-    commit::finish(image, words, bytes, edit.clip(), decided)
+    let words = Lent::new(words);
+    let bytes = Lent::new(bytes);
+    let decision = decide(image, words.memory, bytes.memory, totals, edit)?;
+    Ok(decision.carry_out(image, bytes.memory, edit.clip()))
 }
 
 /// The whole edit, of one that gives only that it is done.
@@ -125,9 +116,10 @@ pub fn done(
     words: &mut [u32],
     bytes: &mut [u8],
     totals: &mut Totals,
-    edit: Edit,
+    edit: Edit<'_>,
 ) -> Verdict
     ensures { Edited onlyVerdict (editOf edit.entry) (lent image.old words.old bytes.old totals.old) (lent image.new words.new bytes.new totals.new) result }
 {
-    commit::verdict_of(run(image, words, bytes, totals, edit))
+    run(image, words, bytes, totals, edit)?;
+    Ok(())
 }
