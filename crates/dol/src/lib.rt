@@ -30,7 +30,8 @@ pub struct DolAnswer {
     pub size: u32,
 }
 
-// N words from `at` on.
+// N words from `at` on. Inlined, because an array that is stored word by word and then read by fours waits for each store.
+#[inline(always)]
 fn words_at<const N: usize>(s: &[u8], at: usize) -> [u32; N]
     requires { at + 4 * N ≤ length s.now }
     ensures { result ≡ wordsAt s.now at N }
