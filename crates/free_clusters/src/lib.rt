@@ -1,35 +1,35 @@
 // The free regions counted in clusters of 0x8000 bytes.
 #![tactic(auto)]
 
-ghost use Rattle.std.specs.Prelude.{◌≡◌, ◌<◌, length, refl};
+ghost use Rattle.std.specs.Prelude.{◌≡◌, length, refl};
 ghost use Rattle.std.proofs.Common.{arith};
 ghost use Rattle.space.specs.Free.{freeRegions};
-ghost use Rattle.space.specs.Clusters.{bytesBefore, wholeClusters, exactRest};
 ghost use Rattle.space.specs.Inner.Sort.{regionsIn};
 ghost use Rattle.space.specs.Inner.Words.{SortedDisjoint};
+ghost use Rattle.free_clusters.specs.Counted.{Counted};
 ghost use Rattle.free_space.specs.Listing.{clusterRow, listingOf, listAfter};
 
 use free_space::{Row, UsedRegions};
 use refusal::Refusal;
 use space::DiscRegion;
 
-/// A region in clusters: the bytes before its first multiple of 0x8000, the whole clusters from there on, and the bytes that are left.
+/// A region in clusters of 0x8000 bytes.
 #[derive(Clone, Copy, Debug, PartialEq, Eq)]
 pub struct Clusters {
+    /// The bytes before its first multiple of 0x8000.
     pub before: u32,
+    /// The whole clusters from there on.
     pub clusters: u32,
+    /// The bytes behind the last of them.
     pub rest: u32,
 }
 
 const CLUSTER_SIZE: u32 = 0x8000;
 
-impl Clusters {
-    /// A region's bytes in clusters.
-    pub fn of(region: DiscRegion) -> Clusters
-        ensures before { result.before ≡ bytesBefore region }
-        ensures clusters { result.clusters ≡ wholeClusters region }
-        ensures rest { result.rest ≡ exactRest region }
-    {
+impl From<DiscRegion> for Clusters {
+    ghost from_gives = { Counted };
+
+    fn from(region: DiscRegion) -> Clusters {
         let first = free_space::align_up(region.offset, CLUSTER_SIZE);
         let end = region.end();
         if end <= first {
@@ -50,11 +50,13 @@ impl Clusters {
 
 impl Row<3> for Clusters {
     ghost words_of = { clusterRow };
+
     ghost some = { Prim.omega arith };
+
     ghost width = { λ _. refl };
 
     fn row(region: DiscRegion) -> [u32; 3] {
-        let counted = Clusters::of(region);
+        let counted = Clusters::from(region);
         [counted.before, counted.clusters, counted.rest]
     }
 }
