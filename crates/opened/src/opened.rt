@@ -4,7 +4,8 @@ ghost use Rattle.tree.specs.Table.{nodesOf};
 ghost use Rattle.fst_check.specs.Inner.Reading.{Opens};
 ghost use Rattle.space.specs.Used.{totalSize};
 ghost use Rattle.space.specs.Free.{freeRegions};
-ghost use Rattle.space.specs.Inner.Sort.{regionsIn};
+ghost use Rattle.space.specs.Inner.Sort.{SameSums, regionsIn};
+ghost use Rattle.free_space.specs.UsedSpace.{free_in};
 ghost use Rattle.space.specs.Inner.Words.{SortedDisjoint};
 ghost use Rattle.free_space.specs.MaxRegionSize.{maxRegionSize};
 ghost use Rattle.free_space.specs.Allocate.{allocationOf};
@@ -15,6 +16,7 @@ ghost use Rattle.opened.specs.Disc.{OpensAs, Means, TableOf, free_of};
 use crate::Parts;
 use crate::cut::parts_of;
 use crate::whole::{check_program, check_table, check_used};
+use free_space::UsedRegions;
 use refusal::Refusal;
 use space::DiscRegion;
 use std::marker::Model;
@@ -138,24 +140,33 @@ impl<'a> OpenDisc<'a> {
         (self.words, self.used)
     }
 
+    /// Its used regions, and where it ends.
+    pub fn used_regions(&self) -> UsedRegions<'a>
+        ensures end { result.disc_end ≡ self.now.end }
+        ensures free { free_in result ≡ free_of self.now }
+        ensures same { SameSums result.regions self.now.used }
+    {
+        UsedRegions::new(self.words, self.used, self.end())
+    }
+
     /// How many bytes are used.
     pub fn used_size(&self) -> u32
         ensures { result ≡ totalSize self.now.used }
     {
-        free_space::used_size(self.words, self.used, self.end())
+        self.used_regions().used_size()
     }
 
     /// What a region of `size` bytes at `offset` can grow to.
     pub fn max_region_size(&self, offset: u32, size: u32) -> u32
         ensures { result ≡ maxRegionSize offset size (free_of self.now) }
     {
-        free_space::max_region_size(self.words, self.used, self.end(), offset, size)
+        self.used_regions().max_region_size(offset, size)
     }
 
     /// The largest free place for `size` bytes at a multiple of `align`, the last among equals; refuses 22, then 21.
     pub fn allocate(&self, size: u32, align: u32) -> Result<DiscRegion, Refusal>
         ensures { result ≡ allocationOf align size (free_of self.now) }
     {
-        free_space::allocate(self.words, self.used, self.end(), size, align)
+        self.used_regions().allocate(size, align)
     }
 }
