@@ -31,7 +31,7 @@ use Rattle.fst_raise.specs.Inner.Inserting.{newNode, Insertable}
 use Rattle.fst_raise.proofs.Patches.{new-name}
 use Rattle.fst_patch.proofs.Written.{fresh-new, insertable, insert-written}
 use Rattle.fst_grow.specs.Inner.Growth.{treeIn, Stands, IsDirectory, added, depthAllows, Built}
-use Rattle.fst_grow.proofs.StandingTable.{size_is, front, inside, built-stands}
+use Rattle.fst_grow.proofs.StandingTable.{size_is, front, inside, next-read, built-stands}
 
 -- ---- one entry more
 
@@ -155,6 +155,21 @@ module _ (s : List ℕ) (size words : ℕ) (st : Stands s size words) (d : Bool)
           let i : put (put s 0 (encode T)) 0 (insertPatch (take (length (encode T)) (put s 0 (encode T))) (sizeOrNext (put s 0 (encode T)) 0) p (newNode d nm (sizeOrNext (put s 0 (encode T)) p))) ≡ put s 0 (encode G) =
           insert-written s T p (next_of (get_or T p none)) x.0 d nm well x.1 dir.inside (inside s size words st).few (omega (arith, size_is s size words st)) (omega (arith, size_is s size words st, small)) in
           (sym passed, sym grown-size, room, g ∙ (rw (front s size words st, ← (size_is s size words st)) at i))
+
+  -- and then stands there, the new entry under the number that is returned
+  module _ (passed : Ok tt ≡ limits G words) (room : size + 12 + length nm + 1 ≤ length s) where
+    pub inserted-number : (number : ℕ) → number ≡ sizeOrNext s p → number ≡ next_of (get_or T p none)
+    inserted-number number e = e ∙ next-read s size words st p dir
+
+    module _ (t : List ℕ) (g : t ≡ put s 0 (insertPatch (take size s) (sizeOrNext s 0) p (newNode d nm (sizeOrNext s p)))) where
+      stands : Stands t (size + 12 + length nm + 1) words × (treeIn t (size + 12 + length nm + 1) ≡ G)
+      stands = built-stands G words s t (Ok (size + 12 + length nm + 1)) _ (bigger-added T d p nm well dir good).well (inserted-built passed room t g) refl
+
+      pub inserted-stands : Stands t (size + 12 + length nm + 1) words
+      inserted-stands = stands.0
+
+      pub inserted-tree : treeIn t (size + 12 + length nm + 1) ≡ G
+      inserted-tree = stands.1
 
   -- what grew stands there
   module _ (t : List ℕ) (r : Result ℕ Refusal) (built : Built G words s t r) (n : ℕ) (e : r ≡ Ok n) where

@@ -3,7 +3,7 @@ use Rattle.std.specs.Prelude.{Result, Ok}
 use Rattle.refusal.specs.declared.Refusal.{Refusal}
 use Prim.Native.Nat.{ℕ, suc, ◌+◌, ◌-◌, ◌*◌, ◌<◌, ◌≤◌}
 use mathlib.Core.Path.{◌≡◌, refl, sym, ap, ◌∙◌}
-use mathlib.Core.Bool.{true, false}
+use mathlib.Core.Bool.{Bool, true, false}
 use mathlib.Core.List.{List, ◌++◌, tail}
 use native.Mathlib.Omega.{arith}
 use native.Mathlib.Nat.{zero-add}
@@ -11,19 +11,23 @@ use lib.ListN.{length, get_or, take, drop, take-append-drop}
 use lib.Seq.{length-take-le, take-append_seam}
 use Rattle.endian.specs.Bytes.{be32, put}
 use Rattle.endian.specs.Laws.Stored.{length-put, put_in}
-use Rattle.tree.specs.Table.{Node, file, directory, none, sizeOrNext, offsetOrParent, nodesOf, encloses, parent_of, textsOf, encode}
+use Rattle.tree.specs.Table.{Node, file, directory, none, count, sizeOrNext, offsetOrParent, nodesOf, encloses, parent_of, textsOf, encode}
 use Rattle.tree.specs.Inner.WellFormed.{WellFormed}
 use Rattle.tree.specs.Laws.WellNested.{root_is, not-empty, parent-inside}
 use Rattle.tree.specs.Laws.Nesting.{parent-before}
 use Rattle.tree.specs.Laws.Renumbered.{directory-is}
 use Rattle.tree.specs.Inner.Depths.{depth_of}
+use Rattle.tree.specs.Lookup.{next_of}
 use Rattle.tree.specs.Laws.Depth.{depth-root, depth-parent}
-use Rattle.tree.specs.Laws.RoundTrip.{Within, within-limits, written-reads}
+use Rattle.tree.specs.Laws.RoundTrip.{Within, within-limits, written-reads, written-accepted}
 use Rattle.tree.specs.Laws.WrittenEntries.{length-encode}
 use Rattle.tree.specs.Laws.Writing.{Fields, textStart, written-fields}
+use borrow.Author.Tests.{lt-ltb, le-ltb}
+use Rattle.tree.specs.Laws.Accepted.{length-nodesOf}
+use Rattle.fst_check.specs.Inner.Reading.{Opens}
 use Rattle.fst_raise.proofs.Patches.{SameEntry, same-entry}
 use Rattle.fst_measure.proofs.Puts.{put-start}
-use Rattle.fst_grow.specs.Inner.Growth.{treeIn, Stands, IsDirectory, Built}
+use Rattle.fst_grow.specs.Inner.Growth.{treeIn, Stands, IsDirectory, depthAllows, Built}
 
 -- ---- what is read of the table
 
@@ -48,9 +52,6 @@ module _ (s : List ℕ) (size words : ℕ) (st : Stands s size words) where
   pub entry-held : (k : ℕ) → k < length M → 12 * k + 12 ≤ length s
   entry-held k h = omega (arith, size_is, length-encode M, st.held)
 
-  pub parent-held : (k : ℕ) → IsDirectory M k → 12 * k + 4 + 4 ≤ length s
-  parent-held k d = omega (arith, entry-held k d.inside)
-
   same : (k : ℕ) → k < length M → SameEntry s (encode M) k
   same k h =
       same-entry s (encode M) k
@@ -70,11 +71,20 @@ module _ (s : List ℕ) (size words : ℕ) (st : Stands s size words) where
   pub parent-read : (k r : ℕ) → IsDirectory M k → r ≡ be32 s (12 * k + 4) → r ≡ parent_of M k
   parent-read k r d e = e ∙ stored-parent k d
 
+  pub next-read : (p : ℕ) → IsDirectory M p → sizeOrNext s p ≡ next_of (get_or M p none)
+  next-read p d = let x = directory-is (get_or M p none) d.kind in (directory-fields p _ x.0 d.inside x.1).1 ∙ sym (ap next_of x.1)
+
   pub count-is : be32 s 8 ≡ length M
   count-is = (directory-fields 0 (length M) _ (not-empty M st.well) (root_is M st.well)).1
 
   pub texts-are : size - 12 * length M ≡ length (textsOf (tail M))
   texts-are = omega (arith, size_is, length-encode M)
+
+  -- it is an accepted table
+  pub opens-held : (k : ℕ) → k < length M → Opens (take size s) × (k < count (take size s))
+  unfolding treeIn
+  opens-held k h =
+      (record { words = words; passed = rw st.same (written-accepted (treeIn s size) words st.well st.within) }, rw (← length-nodesOf (take size s)) h)
 
 -- ---- the depth, counted from a directory up to the root
 
@@ -110,6 +120,18 @@ depth_falls s size words k at n up st c z e = (depth-up s size words k at n up s
 
 pub depth-turn : (s : List ℕ) (size words k at n up : ℕ) → Stands s size words → Counted (treeIn s size) k at n → 0 < at → up ≡ parent_of (treeIn s size) at → Counted (treeIn s size) k up (n + 1)
 depth-turn s size words k at n up st c z e = (depth-up s size words k at n up st c z e).1
+
+pub counted-none : (nodes : List Node) (k : ℕ) → IsDirectory nodes k → Counted nodes k k 0
+counted-none nodes k d = record { is = d; counted = omega arith; most = omega arith }
+
+-- the root is reached before so many directories are passed, or it is not
+pub shallow : (nodes : List Node) (k at n : ℕ) (d : Bool) → Counted nodes k at n → at ≡ 0 → n < 64 → true ≡ depthAllows d (depth_of nodes k)
+shallow nodes k at n true c z h = sym (lt-ltb (depth_of nodes k) 64 (omega (arith, depth-done nodes k at n c)))
+shallow nodes k at n false c z h = refl
+
+pub deep : (nodes : List Node) (k at n : ℕ) (d : Bool) → Counted nodes k at n → 64 ≤ n → d ≡ true → false ≡ depthAllows d (depth_of nodes k)
+deep nodes k at n true c h e = sym (le-ltb (depth_of nodes k) 64 (omega (arith, c.counted)))
+deep nodes k at n false c h e = e
 
 -- ---- a tree that was built stands there
 

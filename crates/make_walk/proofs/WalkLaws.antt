@@ -1,52 +1,71 @@
 -- The walk that finds the troubles of a path, a component at a time: each step leaves what the whole has. Assumes nothing.
 use Rattle.std.specs.Prelude.{Result, Ok, Err}
-use Prim.Native.Nat.{ℕ, zero, suc, ◌+◌, ◌-◌, ◌<◌, ◌≤◌}
+use Prim.Native.Nat.{ℕ, zero, suc, ◌+◌, ◌-◌, ◌≤◌}
 use mathlib.Core.Path.{◌≡◌, refl, sym, ◌∙◌}
 use mathlib.Core.Bool.{Bool, true, false, cond, not, ◌||◌}
 use mathlib.Core.List.{List, [], ◌∷◌}
 use native.Mathlib.Omega.{arith}
 use native.Mathlib.Numerals.{add-one}
-use borrow.Author.Tests.{lt-ltb, le-ltb, ne_eqb}
-use lib.ListN.{length, get_or, drop}
-use lib.Dec.{eqb}
-use Rattle.refusal.specs.Refusal.{Verdict}
+use borrow.Author.Tests.{ne_eqb}
+use lib.ListN.{length, get_or}
+use lib.Dec.{eqb, leb}
+use Rattle.refusal.specs.Refusal.{Verdict, refuse, first, is_refused}
 use Rattle.refusal.specs.declared.Refusal.{Refusal}
-use Rattle.refusal.specs.declared.Refusal.TheVariants.{UnsafeName, ExpectedDirectory, NotFound}
-use Rattle.tree.specs.Table.{Node, none, count, nodesOf, plain, safe, parent_of}
-use Rattle.tree.specs.Laws.Accepted.{length-nodesOf}
-use Rattle.tree.specs.Inner.WellFormed.{WellFormed}
+use Rattle.refusal.specs.declared.Refusal.TheVariants.{InvalidNameByte, UnsafeName, NoSuchEntry, ExpectedDirectory, NotFound}
+use Rattle.tree.specs.Table.{Node, none, plain, safe, parent_of}
 use Rattle.tree.specs.Lookup.{isDirectory, components, childOf, stays, goesBack}
-use Rattle.tree.specs.Laws.LookupLaws.{child-inside}
-use Rattle.fst_path.specs.Inner.Steps.{componentsAfter}
-use Rattle.fst.proofs.Nodes.{parent-at-most}
 use Rattle.edits.specs.Inner.Troubles.{ifChild, troubleOf}
-use Rattle.make_walk.specs.declared.Place.{Place}
-use Rattle.make_walk.specs.Inner.Walk.{to, newStep, childStep, oldStep, belowStep, step_of, lastVerdict}
+use Rattle.make_walk.specs.Inner.Walk.{Place, at_start, walk_from, moved, plainVerdict, directoryVerdict, newStep, backStep, childStep, intoStep, behind, step_of, lastVerdict}
+
+-- ---- what the new names come to: nothing, or 12
+
+abbrev pub Told : Verdict → Type 0
+Told v = v ≡ refuse (is_refused v) InvalidNameByte (Ok tt)
+
+told-both : (v : Verdict) (b : Bool) → Told v → Told (first v (refuse b InvalidNameByte (Ok tt)))
+told-both (Ok _) true t = refl
+told-both (Ok _) false t = refl
+told-both (Err c) b t = t
+
+refused-both : (v : Verdict) (b : Bool) → is_refused (first v (refuse b InvalidNameByte (Ok tt))) ≡ (is_refused v || b)
+refused-both (Ok _) true = refl
+refused-both (Ok _) false = refl
+refused-both (Err c) b = refl
+
+-- ---- a step
 
 -- what is left of the walk from a place
-abbrev pub left_at : List Node → ℕ → Place → List (List ℕ) → Verdict
-left_at nodes start p cs = troubleOf nodes start p.entry p.level p.bad cs
+abbrev pub left_at : Place → List (List ℕ) → Verdict
+left_at p cs = troubleOf p.nodes p.start p.entry p.level (is_refused p.names) cs
 
 -- and after a step
-abbrev pub onward : List Node → ℕ → List (List ℕ) → Result Place Refusal → Verdict
-onward nodes start cs (Ok p) = left_at nodes start p cs
-onward nodes start cs (Err c) = Err c
+abbrev pub onward : List (List ℕ) → Result Place Refusal → Verdict
+onward cs (Ok p) = left_at p cs
+onward cs (Err c) = Err c
 
-module _ (nodes : List Node) (start k : ℕ) (bad : Bool) where
+module _ (nodes : List Node) (start k : ℕ) (v : Verdict) where
   abbrev at : ℕ → Place
-  at level = record { entry = k; level = level; bad = bad }
+  at level = record { nodes = nodes; start = start; entry = k; level = level; names = v }
 
-  pub trouble-step : (level : ℕ) (nm : List ℕ) (cs : List (List ℕ)) → troubleOf nodes start k level bad (nm ∷ cs) ≡ onward nodes start cs (step_of nodes start (at level) nm)
+  abbrev bad : Bool
+  bad = is_refused v
+
+  -- with one new directory more
+  abbrev below : ℕ → List ℕ → Place
+  below level nm = record { nodes = nodes; start = start; entry = k; level = level; names = first v (plainVerdict nm) }
+
+  trouble-step : (level : ℕ) (nm : List ℕ) (cs : List (List ℕ)) → troubleOf nodes start k level bad (nm ∷ cs) ≡ onward cs (step_of (at level) nm)
   unfolding troubleOf step_of
-  trouble-step zero nm cs = go (isDirectory (get_or nodes k none)) (stays nm) (goesBack nm) (eqb k start) (childOf nodes k nm) (safe nm)
+  trouble-step zero nm cs =
+      rw (← refused-both v (not (plain nm))) (go (isDirectory (get_or nodes k none)) (stays nm) (goesBack nm) (eqb k start) (childOf nodes k nm) (safe nm))
     where
-      go : (t u v w : Bool) (a : Result ℕ Refusal) (s : Bool) →
-          cond t (cond u (troubleOf nodes start k zero bad cs) (cond v (cond w (Err NotFound) (troubleOf nodes start (parent_of nodes k) zero bad cs))
-          (ifChild a (λ j. troubleOf nodes start j zero bad cs) (cond s (troubleOf nodes start k 1 (bad || not (plain nm)) cs) (Err UnsafeName))))) (Err ExpectedDirectory) ≡
-          onward nodes start cs (cond t (cond u (to k 0 bad) (cond v (cond w (Err NotFound) (to (parent_of nodes k) 0 bad))
-          (childStep a bad (cond s (to k 1 (bad || not (plain nm))) (Err UnsafeName))))) (Err ExpectedDirectory))
-      go false u v w a s = refl
-      go true true v w a s = refl
+      go : (t u g w : Bool) (a : Result ℕ Refusal) (s : Bool) →
+          cond t (cond u (troubleOf nodes start k zero bad cs) (cond g (cond w (Err NotFound) (troubleOf nodes start (parent_of nodes k) zero bad cs))
+          (ifChild a (λ j. troubleOf nodes start j zero bad cs) (cond s (troubleOf nodes start k 1 (is_refused (first v (plainVerdict nm))) cs) (Err UnsafeName))))) (Err ExpectedDirectory) ≡
+          onward cs (behind (refuse (not t) ExpectedDirectory (Ok tt)) (cond u (Ok (at 0)) (cond g (cond w (Err NotFound) (Ok (moved (at 0) (parent_of nodes k) 0)))
+          (childStep (at 0) a (cond s (Ok (below 1 nm)) (Err UnsafeName))))))
+      go false u g w a s = refl
+      go true true g w a s = refl
       go true false true true a s = refl
       go true false true false a s = refl
       go true false false w (Ok j) s = refl
@@ -54,100 +73,107 @@ module _ (nodes : List Node) (start k : ℕ) (bad : Bool) where
       go true false false w (Err c) false = refl
   trouble-step (suc level) nm cs =
       let e : suc level - 1 ≡ level = omega arith in
-      rw (ne_eqb (suc level) 0 (λ z. omega arith), e, add-one (suc level)) (go (stays nm) (goesBack nm) (safe nm))
+      rw (← refused-both v (not (plain nm)), ne_eqb (suc level) 0 (λ z. omega arith), e, add-one (suc level)) (go (stays nm) (goesBack nm) (safe nm))
     where
-      go : (u v s : Bool) →
-          cond u (troubleOf nodes start k (suc level) bad cs) (cond v (troubleOf nodes start k level bad cs)
-          (cond s (troubleOf nodes start k (suc (suc level)) (bad || not (plain nm)) cs) (Err UnsafeName))) ≡
-          onward nodes start cs (cond u (to k (suc level) bad) (cond v (to k level bad) (cond s (to k (suc (suc level)) (bad || not (plain nm))) (Err UnsafeName))))
-      go true v s = refl
+      go : (u g s : Bool) →
+          cond u (troubleOf nodes start k (suc level) bad cs) (cond g (troubleOf nodes start k level bad cs)
+          (cond s (troubleOf nodes start k (suc (suc level)) (is_refused (first v (plainVerdict nm))) cs) (Err UnsafeName))) ≡
+          onward cs (cond u (Ok (at (suc level))) (cond g (Ok (moved (at (suc level)) k level)) (cond s (Ok (below (suc (suc level)) nm)) (Err UnsafeName))))
+      go true g s = refl
       go false true s = refl
       go false false true = refl
       go false false false = refl
 
-  pub trouble-last : (level : ℕ) → troubleOf nodes start k level bad [] ≡ lastVerdict nodes (at level)
-  unfolding troubleOf lastVerdict
-  trouble-last zero = refl
-  trouble-last (suc level) = rw (ne_eqb (suc level) 0 (λ z. omega arith))
-
--- a place in the tree, with so many new levels at most
-abbrev Within : List Node → ℕ → Place → Type 0
-Within nodes n q = (q.entry < length nodes) × (q.level ≤ n)
-
-module _ (nodes : List Node) (start : ℕ) (p : Place) (w : WellFormed nodes) (inside : p.entry < length nodes) (nm : List ℕ) (q : Place) where
-  landed : (k n m : ℕ) (b : Bool) → to k n b ≡ Ok q → k < length nodes → n ≤ m → Within nodes m q
-  landed k n m b e h l =
-      let x : record { entry = k; level = n; bad = b } ≡ q = cc in
-      rw (← x) (h, l)
-
-  unsafe : (m : ℕ) (c : Refusal) → Err c ≡ Ok q → Within nodes m q
-  unsafe m c e = let z : ◌≡◌ {A = ℕ} 0 1 = cc in absurd (omega arith)
-
-  new-inside : newStep p nm ≡ Ok q → Within nodes (p.level + 1) q
-  new-inside = go (safe nm)
+  trouble-last : (level : ℕ) → Told v → troubleOf nodes start k level bad [] ≡ lastVerdict (at level)
+  unfolding troubleOf
+  trouble-last zero t = go (isDirectory (get_or nodes k none))
     where
-      go : (s : Bool) → cond s (to p.entry (p.level + 1) (p.bad || not (plain nm))) (Err UnsafeName) ≡ Ok q → Within nodes (p.level + 1) q
-      go true e = landed _ _ _ _ e inside (omega arith)
-      go false e = unsafe _ _ e
+      go : (d : Bool) → cond d (refuse bad InvalidNameByte (Ok tt)) (Err ExpectedDirectory) ≡ first (refuse (not d) ExpectedDirectory (Ok tt)) v
+      go true = sym t
+      go false = refl
+  trouble-last (suc level) t = rw (ne_eqb (suc level) 0 (λ z. omega arith)) (sym t)
 
-  old-inside : oldStep nodes start p nm ≡ Ok q → Within nodes (p.level + 1) q
-  old-inside = go (isDirectory (get_or nodes p.entry none)) (stays nm) (goesBack nm) (eqb p.entry start) (childOf nodes p.entry nm) refl
+-- ---- a step is one level more at most
+
+-- a place with so many new levels at most
+abbrev Within : ℕ → Place → Type 0
+Within n q = (q.level ≤ n) × Told q.names
+
+module _ (p : Place) (t : Told p.names) (nm : List ℕ) (q : Place) where
+  landed : (r : Place) → ◌≡◌ {A = Result Place Refusal} (Ok r) (Ok q) → r.level ≤ p.level + 1 → Told r.names → Within (p.level + 1) q
+  landed r e l told =
+      let x : r ≡ q = cc in
+      rw (← x) (l, told)
+
+  never : (c : Refusal) → ◌≡◌ {A = Result Place Refusal} (Err c) (Ok q) → Within (p.level + 1) q
+  never c e = let z : ◌≡◌ {A = ℕ} 0 1 = cc in absurd (omega arith)
+
+  back-within : backStep p ≡ Ok q → Within (p.level + 1) q
+  back-within = go (eqb p.level 0) (eqb p.entry p.start)
     where
-      go : (t u v x : Bool) (a : Result ℕ Refusal) → childOf nodes p.entry nm ≡ a → cond t (cond u (Ok p) (cond v (cond x (Err NotFound) (to (parent_of nodes p.entry) 0 p.bad))
-          (childStep a p.bad (newStep p nm)))) (Err ExpectedDirectory) ≡ Ok q → Within nodes (p.level + 1) q
-      go false u v x a f e = unsafe _ _ e
-      go true true v x a f e = landed p.entry p.level _ p.bad e inside (omega arith)
-      go true false true true a f e = unsafe _ _ e
-      go true false true false a f e = landed _ _ _ _ e (omega (arith, parent-at-most nodes p.entry)) (omega arith)
-      go true false false x (Ok i) f e = landed _ _ _ _ e (child-inside nodes p.entry nm i w inside f) (omega arith)
-      go true false false x (Err c) f e = new-inside e
+      go : (z w : Bool) → cond z (cond w (Err NotFound) (Ok (moved p (parent_of p.nodes p.entry) 0))) (Ok (moved p p.entry (p.level - 1))) ≡ Ok q → Within (p.level + 1) q
+      go true true e = never _ e
+      go true false e = landed _ e (omega arith) t
+      go false w e = landed _ e (omega arith) t
 
-  below-inside : belowStep p nm ≡ Ok q → Within nodes (p.level + 1) q
-  below-inside = go (stays nm) (goesBack nm)
+  new-within : newStep p nm ≡ Ok q → Within (p.level + 1) q
+  new-within = go (safe nm)
     where
-      go : (u v : Bool) → cond u (Ok p) (cond v (to p.entry (p.level - 1) p.bad) (newStep p nm)) ≡ Ok q → Within nodes (p.level + 1) q
-      go true v e = landed p.entry p.level _ p.bad e inside (omega arith)
-      go false true e = landed _ _ _ _ e inside (omega arith)
-      go false false e = new-inside e
+      go : (s : Bool) → cond s (Ok (record { nodes = p.nodes; start = p.start; entry = p.entry; level = p.level + 1; names = first p.names (plainVerdict nm) })) (Err UnsafeName) ≡ Ok q → Within (p.level + 1) q
+      go true e = landed _ e (omega arith) (told-both p.names (not (plain nm)) t)
+      go false e = never _ e
 
-  -- a step stays in the tree, and is one level more at most
-  pub step-inside : step_of nodes start p nm ≡ Ok q → Within nodes (p.level + 1) q
+  into-within : intoStep p nm ≡ Ok q → Within (p.level + 1) q
+  into-within = go (eqb p.level 0) (childOf p.nodes p.entry nm)
+    where
+      go : (z : Bool) (a : Result ℕ Refusal) → cond z (childStep p a (newStep p nm)) (newStep p nm) ≡ Ok q → Within (p.level + 1) q
+      go true (Ok j) e = landed _ e (omega arith) t
+      go true (Err c) e = new-within e
+      go false a e = new-within e
+
+  step-within : step_of p nm ≡ Ok q → Within (p.level + 1) q
   unfolding step_of
-  step-inside = go (eqb p.level 0)
+  step-within = go (directoryVerdict p) (stays nm) (goesBack nm)
     where
-      go : (t : Bool) → cond t (oldStep nodes start p nm) (belowStep p nm) ≡ Ok q → Within nodes (p.level + 1) q
-      go true e = old-inside e
-      go false e = below-inside e
+      go : (d : Verdict) (u g : Bool) → behind d (cond u (Ok p) (cond g (backStep p) (intoStep p nm))) ≡ Ok q → Within (p.level + 1) q
+      go (Err c) u g e = never _ e
+      go (Ok _) true g e = landed p e (omega arith) t
+      go (Ok _) false true e = back-within e
+      go (Ok _) false false e = into-within e
 
--- ---- the loop along the path, which stands before the component that starts at `at`
+-- ---- the loop along the path: what is left of the walk is what the whole has
 
-pub record Walking (tab : List ℕ) (start : ℕ) (path : List ℕ) (p : Place) (at : ℕ) : Type 0 where
-  pub inside : p.entry < count tab
-  pub levels : p.level ≤ at
-  pub at_most : at ≤ length path
-  pub left : troubleOf (nodesOf tab) start start 0 false (components path) ≡ left_at (nodesOf tab) start p (components (drop at path))
+pub record Walking (whole : Verdict) (most : ℕ) (p : Place) (rest : List (List ℕ)) : Type 0 where
+  pub levels : p.level + length rest ≤ most
+  pub told : Told p.names
+  pub left : whole ≡ left_at p rest
 
-module _ (tab : List ℕ) (start : ℕ) (path : List ℕ) (p : Place) (at e : ℕ) (nm : List ℕ) (f : Walking tab start path p at)
-    (cut : components (drop at path) ≡ nm ∷ componentsAfter path e) where
-  stepped : (s : Result Place Refusal) → s ≡ step_of (nodesOf tab) start p nm →
-      troubleOf (nodesOf tab) start start 0 false (components path) ≡ onward (nodesOf tab) start (componentsAfter path e) s
-  stepped s took = f.left ∙ rw (cut, took) (trouble-step (nodesOf tab) start p.entry p.bad p.level nm (componentsAfter path e))
+module _ (whole : Verdict) (most : ℕ) (p : Place) (nm : List ℕ) (rest : List (List ℕ)) (f : Walking whole most p (nm ∷ rest)) where
+  stepped : (s : Result Place Refusal) → s ≡ step_of p nm → whole ≡ onward rest s
+  stepped s took = f.left ∙ rw took (trouble-step p.nodes p.start p.entry p.names p.level nm rest)
 
-  pub walk-stops : (c : Refusal) → Err c ≡ step_of (nodesOf tab) start p nm → Err c ≡ troubleOf (nodesOf tab) start start 0 false (components path)
+  pub walk-stops : (c : Refusal) → Err c ≡ step_of p nm → Err c ≡ whole
   walk-stops c took = sym (stepped (Err c) took)
 
-  module _ (q : Place) (took : Ok q ≡ step_of (nodesOf tab) start p nm) (w : WellFormed (nodesOf tab)) where
-    lands : (q.entry < count tab) × (q.level ≤ p.level + 1)
-    lands =
-        let i = step-inside (nodesOf tab) start p w (omega (arith, f.inside, length-nodesOf tab)) nm q (sym took) in
-        (omega (arith, i.0, length-nodesOf tab), i.1)
+  pub walk-goes-on : (q : Place) → Ok q ≡ step_of p nm → Walking whole most q rest
+  walk-goes-on q took =
+      let w = step-within p f.told nm q (sym took) in
+      record { levels = omega (arith, w.0, f.levels); told = w.1; left = stepped (Ok q) took }
 
-    pub walk-lands-inside : q.entry < count tab
-    walk-lands-inside = lands.0
+pub walk_ends : (whole : Verdict) (most : ℕ) (p : Place) → Walking whole most p [] → (r : Verdict) → r ≡ lastVerdict p → r ≡ whole
+walk_ends whole most p f r e = e ∙ sym (f.left ∙ trouble-last p.nodes p.start p.entry p.names p.level f.told)
 
-    pub walk_ends : (r : Verdict) → length path ≤ e → r ≡ lastVerdict (nodesOf tab) q → r ≡ troubleOf (nodesOf tab) start start 0 false (components path)
-    walk_ends r h l = l ∙ sym (stepped (Ok q) took ∙ rw (le-ltb e (length path) h) (trouble-last (nodesOf tab) start q.entry q.bad q.level))
+module _ (nodes : List Node) (start : ℕ) (path : List ℕ) where
+  -- 15, then the troubles along the path
+  abbrev pub whole_of : Verdict
+  whole_of = refuse (leb (length nodes) start) NoSuchEntry (troubleOf nodes start start 0 false (components path))
 
-    pub walk-goes-on : at ≤ e → e < length path → Walking tab start path q (e + 1)
-    walk-goes-on h l =
-        record { inside = lands.0; levels = omega (arith, f.levels, lands.1); at_most = omega arith; left = stepped (Ok q) took ∙ rw (lt-ltb e (length path) l) }
+  pub walk-starts : (p : Place) → walk_from nodes start ≡ Ok p → Walking whole_of (length (components path)) p (components path)
+  walk-starts p = go (leb (length nodes) start)
+    where
+      go : (t : Bool) → cond t (Err NoSuchEntry) (Ok (at_start nodes start)) ≡ Ok p →
+          Walking (refuse t NoSuchEntry (troubleOf nodes start start 0 false (components path))) (length (components path)) p (components path)
+      go true e = let z : ◌≡◌ {A = ℕ} 0 1 = cc in absurd (omega arith)
+      go false e =
+          let x : at_start nodes start ≡ p = cc in
+          rw (← x) (record { levels = omega arith; told = refl; left = refl })

@@ -1,26 +1,33 @@
--- `make_walk::trouble` meets its contract. The invariant of its loop: what is left of the walk is what the whole has.
-use Rattle.std.proofs.Common.{List, ℕ, arith, get_or, Fits, w8}
+-- `make_walk::trouble` meets its contract: each step leaves what the whole has.
+use Rattle.std.proofs.Common.{arith, sym, ◌∙◌}
 use Rattle.std.proofs.lemmas.Result.{err_from_is_err_and}
-use Rattle.tree.specs.Inner.WellFormed.{WellFormed}
-use Rattle.tree.specs.Table.{nodesOf}
-use Rattle.fst.proofs.Nodes.{opened}
-use Rattle.fst_check.specs.Inner.Reading.{Opens}
-use Rattle.make_walk.proofs.WalkLaws.{walk-stops, walk-lands-inside, walk_ends, walk-goes-on}
+use Rattle.make_walk.proofs.Counted.{components-few}
+use Rattle.make_walk.proofs.WalkLaws.{walk-starts, walk-stops, walk-goes-on, walk_ends}
 use Rattle.make_walk.proofs.trouble.Goals as goal
 
-well_formed : (tab : List ℕ) → ((i : ℕ) → Fits w8 (get_or tab i 0)) → Opens tab → WellFormed (nodesOf tab)
-well_formed tab bytes o = (opened tab (λ i. omega (arith, bytes i)) o).well
+pub loop-name-init : goal.loop-name-init
+loop-name-init c =
+    rw (c.into_iter-name-iterator.ensures.into_iter_gives, c.new-name-items.ensures)
+    (tt, tt, walk-starts _ _ c.args.path.now _ (sym c.new.ensures ∙ c.in_ok-walk.was))
 
-pub returns-in_err-here : goal.returns-in_err-here
-returns-in_err-here c =
-    let p = err_from_is_err_and c.from_residual.result c.from_residual.ensures.1 in
-    rw (p.1, p.2) (search (walk-stops, c.in_err-here.ensures))
+pub step-requires : goal.step-requires
+step-requires c =
+    let i = rw c.in-Some.ensures.steps at c.loop-name.invariant in
+    omega (arith, i.2.levels, components-few c.args.path.now)
 
-pub last_verdict-requires : goal.last_verdict-requires
-last_verdict-requires c = (search, search (walk-lands-inside, c.in_ok-here.ensures, well_formed c.args.table.now c.type_inv.table))
+pub returns-in_err-walk-2 : goal.returns-in_err-walk-2
+returns-in_err-walk-2 c =
+    let i = rw c.in-Some.ensures.steps at c.loop-name.invariant in
+    let e = c.from_residual-in_err-walk-2 in
+    let p = err_from_is_err_and e.result e.ensures.1 in
+    rw (p.1, p.2) (walk-stops _ _ _ _ _ i.2 _ (sym c.in_err-walk-2.was ∙ c.step.ensures))
 
-pub returns-then-path-end : goal.returns-then-path-end
-returns-then-path-end c = search (walk_ends, c.in_ok-here.ensures, well_formed c.args.table.now c.type_inv.table)
+pub loop-name-preserved : goal.loop-name-preserved
+loop-name-preserved c =
+    let i = rw c.in-Some.ensures.steps at c.loop-name.invariant in
+    (tt, tt, walk-goes-on _ _ _ _ _ i.2 _ (sym c.in_ok-walk-2.was ∙ c.step.ensures))
 
-pub loop-here-preserved : goal.loop-here-preserved
-loop-here-preserved c = search (walk-goes-on, c.in_ok-here.ensures, well_formed c.args.table.now c.type_inv.table)
+pub returns : goal.returns
+returns c =
+    let i = rw c.in-None.ensures.steps.0 at c.loop-name.invariant in
+    walk_ends _ _ _ i.2 _ c.end.ensures

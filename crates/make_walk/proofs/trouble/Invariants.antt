@@ -1,11 +1,12 @@
 -- `make_walk::trouble` meets its contract. The invariant of its loop: what is left of the walk is what the whole has.
-use Prim.Native.Nat.{◌-◌}
-use lib.ListN.{length}
-use Rattle.make_walk.proofs.WalkLaws.{Walking}
+use Rattle.std.proofs.Common.{length}
+use Rattle.tree.specs.Table.{nodesOf}
+use Rattle.tree.specs.Lookup.{components}
+use Rattle.make_walk.proofs.WalkLaws.{Walking, whole_of}
 use Rattle.make_walk.proofs.trouble.Given as goal
 
-abbrev pub invariant-loop-here : goal.invariant-loop-here
-invariant-loop-here l = Walking l.table l.start l.path l.here l.at
-
-abbrev pub decreases-loop-here : goal.decreases-loop-here
-decreases-loop-here l = length l.path - l.at
+abbrev pub invariant-loop-name : goal.invariant-loop-name
+invariant-loop-name l =
+    (goal.iterator-loop-name).can_next l.name-iterator ×
+    (goal.iterator-loop-name).is_finite l.name-iterator ×
+    Walking (whole_of (nodesOf l.fn.table) l.start l.path) (length (components l.path)) l.walk l.name-iterator

@@ -1,55 +1,77 @@
 -- Make-directories' tests that need no memory, and its troubles a component at a time: where the walk of `troubleOf` goes from an entry of the tree as it is, with so many new
 -- directories below it. Assumes nothing: these are definitions.
-use Rattle.std.specs.Prelude.{Result, Ok, Err, ℕ, ◌+◌, ◌-◌, Bool, false, cond, not, ◌||◌, List, [], length, get_or, ltb, leb, eqb}
+use Rattle.std.specs.Prelude.{Result, Ok, Err, ℕ, ◌+◌, ◌-◌, false, cond, not, ◌&&◌, List, [], length, get_or, ltb, leb, eqb}
 use Rattle.refusal.specs.declared.Refusal.{Refusal}
 use Rattle.refusal.specs.declared.Refusal.TheVariants.{LimitOrMemory, InvalidNameByte, UnsafeName, NoSuchEntry, ExpectedDirectory, NotFound}
-use Rattle.refusal.specs.Refusal.{Verdict, refuse}
-use Rattle.tree.specs.Table.{Node, none, plain, safe, parent_of}
+use Rattle.refusal.specs.Refusal.{Verdict, refuse, first}
+use Rattle.tree.specs.Table.{Node, none, nodesOf, plain, safe, parent_of}
 use Rattle.tree.specs.Lookup.{isDirectory, components, childOf, stays, goesBack}
 use Rattle.edits.specs.Edits.{make}
 use Rattle.edits.specs.Inner.Troubles.{madeVerdict}
-use Rattle.make_walk.specs.declared.Place.{Place}
 
--- the walk stands at entry k, with so many new directories below it
-abbrev pub to : ℕ → ℕ → Bool → Result Place Refusal
-to k level bad = Ok (record { entry = k; level = level; bad = bad })
+-- a walk from `start` stands at an entry of the tree as it is, so many new directories below it; and what the new names come to
+pub record Place : Type 0 where
+  pub nodes : List Node
+  pub start : ℕ
+  pub entry : ℕ
+  pub level : ℕ
+  pub names : Verdict
+
+abbrev pub place_in : List ℕ → ℕ → ℕ → ℕ → Verdict → Place
+place_in table start entry level names = record { nodes = nodesOf table; start = start; entry = entry; level = level; names = names }
+
+abbrev pub at_start : List Node → ℕ → Place
+at_start nodes start = record { nodes = nodes; start = start; entry = start; level = 0; names = Ok tt }
+
+abbrev pub walk_from : List Node → ℕ → Result Place Refusal
+walk_from nodes start = cond (leb (length nodes) start) (Err NoSuchEntry) (Ok (at_start nodes start))
+
+abbrev pub moved : Place → ℕ → ℕ → Place
+moved p k level = record { nodes = p.nodes; start = p.start; entry = k; level = level; names = p.names }
+
+-- a new name with a unit that no name may have
+abbrev pub plainVerdict : List ℕ → Verdict
+plainVerdict nm = refuse (not (plain nm)) InvalidNameByte (Ok tt)
+
+-- each step is from a directory, and the walk must end on one: at an entry of the tree that is to be seen, and a new level is one
+abbrev pub directoryVerdict : Place → Verdict
+directoryVerdict p = refuse (eqb p.level 0 && not (isDirectory (get_or p.nodes p.entry none))) ExpectedDirectory (Ok tt)
 
 -- into a directory that is not there yet
 abbrev pub newStep : Place → List ℕ → Result Place Refusal
-newStep p nm = cond (safe nm) (to p.entry (p.level + 1) (p.bad || not (plain nm))) (Err UnsafeName)
+newStep p nm =
+    cond (safe nm)
+    (Ok (record { nodes = p.nodes; start = p.start; entry = p.entry; level = p.level + 1; names = first p.names (plainVerdict nm) }))
+    (Err UnsafeName)
 
-abbrev pub backStep : List Node → ℕ → Place → Result Place Refusal
-backStep nodes start p = cond (eqb p.entry start) (Err NotFound) (to (parent_of nodes p.entry) 0 p.bad)
+abbrev pub backStep : Place → Result Place Refusal
+backStep p =
+    cond (eqb p.level 0)
+    (cond (eqb p.entry p.start) (Err NotFound) (Ok (moved p (parent_of p.nodes p.entry) 0)))
+    (Ok (moved p p.entry (p.level - 1)))
 
-abbrev pub childStep : Result ℕ Refusal → Bool → Result Place Refusal → Result Place Refusal
-childStep (Ok j) bad missing = to j 0 bad
-childStep (Err c) bad missing = missing
+abbrev pub childStep : Place → Result ℕ Refusal → Result Place Refusal → Result Place Refusal
+childStep p (Ok j) missing = Ok (moved p j 0)
+childStep p (Err c) missing = missing
 
--- at the entry itself
-abbrev pub oldStep : List Node → ℕ → Place → List ℕ → Result Place Refusal
-oldStep nodes start p nm =
-    cond (isDirectory (get_or nodes p.entry none))
+-- below the tree no name is there yet
+abbrev pub intoStep : Place → List ℕ → Result Place Refusal
+intoStep p nm = cond (eqb p.level 0) (childStep p (childOf p.nodes p.entry nm) (newStep p nm)) (newStep p nm)
+
+abbrev pub behind : Verdict → Result Place Refusal → Result Place Refusal
+behind (Ok _) r = r
+behind (Err c) r = Err c
+
+unfoldable pub step_of : Place → List ℕ → Result Place Refusal
+step_of p nm =
+    behind (directoryVerdict p)
     (cond (stays nm) (Ok p)
-    (cond (goesBack nm) (backStep nodes start p)
-    (childStep (childOf nodes p.entry nm) p.bad (newStep p nm))))
-    (Err ExpectedDirectory)
-
--- below the entry, one new directory at least
-abbrev pub belowStep : Place → List ℕ → Result Place Refusal
-belowStep p nm =
-    cond (stays nm) (Ok p)
-    (cond (goesBack nm) (to p.entry (p.level - 1) p.bad)
-    (newStep p nm))
-
-unfoldable pub step_of : List Node → ℕ → Place → List ℕ → Result Place Refusal
-step_of nodes start p nm = cond (eqb p.level 0) (oldStep nodes start p nm) (belowStep p nm)
+    (cond (goesBack nm) (backStep p)
+    (intoStep p nm)))
 
 -- the walk must end on a directory; 12 comes last
-unfoldable pub lastVerdict : List Node → Place → Verdict
-lastVerdict nodes p =
-    cond (eqb p.level 0)
-    (cond (isDirectory (get_or nodes p.entry none)) (refuse p.bad InvalidNameByte (Ok tt)) (Err ExpectedDirectory))
-    (refuse p.bad InvalidNameByte (Ok tt))
+abbrev pub lastVerdict : Place → Verdict
+lastVerdict p = first (directoryVerdict p) p.names
 
 -- a path over 1,024 bytes, 15, then the troubles along the path
 unfoldable pub pathVerdict : List Node → ℕ → List ℕ → Verdict

@@ -1,24 +1,36 @@
 -- `table_only::start_table` meets its contract: the size that was measured settles the limits, and what is written is the tree.
-use Rattle.commit.proofs.TableSlice.{opens-valid}
+use Rattle.std.proofs.Common.{refl, arith}
 use Rattle.std.proofs.lemmas.Result.{err_from_is_err_and}
-use Rattle.table_only.proofs.BuiltTable.{past-cause, past-limits, within-limit, size-measured, too_short, long-enough, table-small}
-use mathlib.Core.Path.{refl}
-use borrow.Author.Rules.{rules}
+use Rattle.commit.proofs.TableSlice.{opens-valid, past-cause}
+use Rattle.table_only.proofs.BuiltTable.{past-never, within-limit, size-measured, table-small, started}
 use Rattle.table_only.proofs.start_table.Goals as goal
 
 pub measure-requires : goal.measure-requires
-measure-requires c = search opens-valid
+measure-requires c = opens-valid _ c.table.ensures.opens
 
-pub returns-then-bytes-size : goal.returns-then-bytes-size
-returns-then-bytes-size c = (refl, search (too_short, c.in_ok-size.was))
+pub returns-in_err-size-clause-built : goal.returns-in_err-size-clause-built
+returns-in_err-size-clause-built c =
+    let p = err_from_is_err_and c.from_residual.result c.from_residual.ensures.1 in
+    let t = c.table.ensures.of_image in
+    rw (p.1, p.2) (past-cause t.image _ t.is _ t.means.known _ c.measure.ensures _ c.in_err-size.was, past-never _ _ c.table.ensures.of_image _ c.measure.ensures _ _ c.in_err-size.was)
+
+pub returns-then-bytes-size-clause-built : goal.returns-then-bytes-size-clause-built
+returns-then-bytes-size-clause-built c =
+    let n = size-measured _ _ c.table.ensures.of_image _ c.measure.ensures _ c.in_ok-size.was in
+    (refl, λ _. omega (arith, n))
 
 pub write_table-requires : goal.write_table-requires
-write_table-requires c = (search, search (long-enough, c.in_ok-size.was), search (table-small, c.in_ok-size.was))
+write_table-requires c =
+    let n = size-measured _ _ c.table.ensures.of_image _ c.measure.ensures _ c.in_ok-size.was in
+    (omega (arith, n), table-small _ _ c.table.ensures.of_image _ c.measure.ensures _ c.in_ok-size.was)
 
-pub returns-in_err-size : goal.returns-in_err-size
-returns-in_err-size c =
-    let p = err_from_is_err_and c.from_residual.result c.from_residual.ensures.1 in
-    rw (p.1, p.2) (search (past-cause, c.in_err-size.was), search (past-limits, c.in_err-size.was))
+pub returns-clause-built : goal.returns-clause-built
+returns-clause-built c =
+    let t = c.table.ensures.of_image in
+    (within-limit _ _ t _ c.measure.ensures _ c.in_ok-size.was, size-measured _ _ t _ c.measure.ensures _ c.in_ok-size.was, omega arith, c.write_table.ensures)
 
-pub returns : goal.returns
-returns c = (search (within-limit, c.in_ok-size.was), search (size-measured, c.in_ok-size.was), search rules, search)
+pub returns-clause-table : goal.returns-clause-table
+returns-clause-table c = (started _ _ c.table.ensures.of_image _ _ _ (returns-clause-built c)).0
+
+pub returns-clause-tree : goal.returns-clause-tree
+returns-clause-tree c = (started _ _ c.table.ensures.of_image _ _ _ (returns-clause-built c)).1

@@ -1,6 +1,6 @@
--- `fst_grow::check_limits` meets its contract: the tests of the tree with one entry more, one by one.
+-- `Growing::check_limits` meets its contract: the tests of the tree with one entry more, one by one.
 use Rattle.fst_grow.proofs.Limits.{count_held, entries_fit, texts-fit, past-count, past-texts, past_words, not-too-deep, too-deep}
-use Rattle.fst_grow.proofs.check_limits.Goals as goal
+use Rattle.fst_grow.proofs.growing.Growing.check_limits.Goals as goal
 
 pub read_u32-count-requires : goal.read_u32-count-requires
 read_u32-count-requires c = search count_held
@@ -17,8 +17,8 @@ overflow_sub-texts-2 c = search texts-fit
 pub returns-then-texts-name : goal.returns-then-texts-name
 returns-then-texts-name c = search past-texts
 
-pub returns-then-words-count : goal.returns-then-words-count
-returns-then-words-count c = search past_words
+pub returns-then-self-count : goal.returns-then-self-count
+returns-then-self-count c = search past_words
 
 pub returns-then-is_shallow : goal.returns-then-is_shallow
 returns-then-is_shallow c = search not-too-deep

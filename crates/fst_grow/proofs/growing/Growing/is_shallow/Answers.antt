@@ -1,0 +1,21 @@
+-- `Growing::is_shallow` meets its contract. The invariant of its loop: so many directories around p were passed, and those around the one where
+-- it stands are left.
+use native.Mathlib.Omega.{arith}
+use Rattle.fst_grow.proofs.StandingTable.{counted-none, depth-turn, shallow, deep}
+use Rattle.fst_grow.proofs.growing.Growing.is_shallow.Goals as goal
+
+pub loop-init : goal.loop-init
+loop-init c = search counted-none
+
+pub returns-then-around-eq0 : goal.returns-then-around-eq0
+returns-then-around-eq0 c = search shallow
+
+pub parent-around-requires : goal.parent-around-requires
+parent-around-requires c = (search, c.loop.invariant.is)
+
+pub loop-preserved : goal.loop-preserved
+loop-preserved c =
+    depth-turn _ _ _ _ _ _ _ c.requires.0 c.loop.invariant (omega (arith, c.if-around-eq0.false)) c.parent-around.ensures
+
+pub returns : goal.returns
+returns c = search deep

@@ -1,0 +1,122 @@
+// A written table that grows in lent bytes by one entry at a time.
+ghost use Rattle.std.specs.Prelude.{◌≡◌, ◌<◌, get_or, length, IfOk, OnOk, OnErr};
+ghost use Rattle.tree.specs.Table.{none, parent_of, limits};
+ghost use Rattle.tree.specs.Inner.WellFormed.{GoodName};
+ghost use Rattle.tree.specs.Inner.Depths.{depth_of};
+ghost use Rattle.tree.specs.Lookup.{childOf, next_of};
+ghost use Rattle.fst_grow.specs.Inner.Growth.{treeIn, Stands, IsDirectory, added, depthAllows, Built};
+ghost use Rattle.fst_grow.specs.Inner.Growing.{tree_of, IsTable, sizedAs};
+
+use refusal::{Refusal, Verdict};
+
+// No directory is in more than so many others, the root in none.
+const MOST_AROUND: usize = 64;
+
+/// A written table in front of lent bytes, which grows there by one entry at a time.
+// Kept: what is true of it stands in the contracts. With an `impl Model` or a ghost field on it, a caller that lends the bytes knew nothing
+// of what they hold when the loan ends: its proof didn't close.
+#[derive(Drop)]
+pub struct Growing<'a> {
+    /// The lent bytes, the table in front.
+    pub bytes: &'a mut [u8],
+    /// The size of the table in bytes.
+    pub size: usize,
+    /// How many words are lent, which limits the number of entries.
+    pub words: usize,
+}
+
+impl<'a> Growing<'a> {
+    /// The table that was written into the first `size` bytes, where so many words are lent.
+    pub fn new(bytes: &'a mut [u8], size: usize, words: usize) -> Growing<'a>
+        requires { Stands bytes.old size words }
+        ensures table { IsTable result }
+        ensures tree { tree_of result ≡ treeIn bytes.old size }
+        ensures bytes { result.bytes.now ≡ bytes.old }
+        ensures size { result.size ≡ size }
+        ensures words { result.words ≡ words }
+        ensures same_reference { result.bytes.ghost_name ≡ bytes.entry.ghost_name }
+    {
+        Growing { bytes, size, words }
+    }
+
+    /// The directory that directory k is nested in. A table written anew stores it.
+    pub fn parent(&self, k: usize) -> usize
+        requires { IsTable self.now × IsDirectory (tree_of self.now) k }
+        ensures { result ≡ parent_of (tree_of self.now) k }
+    {
+        endian::read_u32(self.bytes, 12 * k + 4) as usize
+    }
+
+    /// The first child of entry k with that name; 17 if k is no directory, 18 if none has it.
+    pub fn child(&self, k: usize, name: &[u8]) -> Result<u32, Refusal>
+        requires { IsTable self.now × (k < length (tree_of self.now)) }
+        ensures { result ≡ childOf (tree_of self.now) k name.now }
+    {
+        fst::child(&self.bytes[..self.size], k, name)
+    }
+
+    // Whether an entry more in directory p is not too deep. Only directories can be.
+    fn is_shallow(&self, p: usize, is_directory: bool) -> bool
+        requires { IsTable self.now × IsDirectory (tree_of self.now) p }
+        ensures { result ≡ depthAllows is_directory (depth_of (tree_of self.now) p) }
+    {
+        if !is_directory {
+            return true;
+        }
+        let mut around = p;
+        for _ in 0..MOST_AROUND {
+            if around == 0 {
+                return true;
+            }
+            around = self.parent(around);
+        }
+        false
+    }
+
+    // The limits of the tree with one entry more.
+    fn check_limits(&self, p: usize, is_directory: bool, name: &[u8]) -> Verdict
+        requires { IsTable self.now × IsDirectory (tree_of self.now) p × GoodName name.now }
+        ensures { result ≡ limits (added (tree_of self.now) is_directory p name.now) self.now.words }
+    {
+        let count = endian::read_u32(self.bytes, 8) as usize;
+        if 16384 <= count {
+            return Err(Refusal::LimitOrMemory);
+        }
+        let texts = self.size - 12 * count;
+        if fst_measure::TEXTS_LIMIT - texts <= name.len() {
+            return Err(Refusal::LimitOrMemory);
+        }
+        if self.words < 4 * (count + 3) {
+            return Err(Refusal::LimitOrMemory);
+        }
+        if self.is_shallow(p, is_directory) {
+            Ok(())
+        } else {
+            Err(Refusal::LimitOrMemory)
+        }
+    }
+
+    /// Puts an empty directory, or an empty file, in as last child of directory p, and returns its number; 9 if the tree then passes a limit,
+    /// or the bytes are too few, and the table stays as it is.
+    pub fn grow(&mut self, p: usize, is_directory: bool, name: &[u8]) -> Result<usize, Refusal>
+        requires { IsTable self.old × IsDirectory (tree_of self.old) p × GoodName name.now }
+        ensures number { IfOk result (λ number. number ≡ next_of (get_or (tree_of self.old) p none)) }
+        ensures table { OnOk result (IsTable self.new) }
+        ensures tree { OnOk result (tree_of self.new ≡ added (tree_of self.old) is_directory p name.now) }
+        ensures built { Built (added (tree_of self.old) is_directory p name.now) self.old.words self.old.bytes.now self.new.bytes.now (sizedAs result self.new.size) }
+        ensures err { OnErr result ((self.new.bytes.now ≡ self.old.bytes.now) × (self.new.size ≡ self.old.size)) }
+
+        ensures words { self.new.words ≡ self.old.words }
+        ensures length { length self.new.bytes.now ≡ length self.old.bytes.now }
+        ensures same_reference { self.new.bytes.ghost_name ≡ self.old.bytes.ghost_name }
+    {
+        self.check_limits(p, is_directory, name)?;
+        let grown = self.size + 12 + name.len() + 1;
+        if self.bytes.len() < grown {
+            return Err(Refusal::LimitOrMemory);
+        }
+        let number = fst_patch::insert(self.bytes, self.size, p, is_directory, name);
+        self.size = grown;
+        Ok(number)
+    }
+}

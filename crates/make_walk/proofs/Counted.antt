@@ -1,0 +1,35 @@
+-- A path has at most one component more than bytes. Assumes nothing.
+use Prim.Native.Nat.{ℕ, ◌+◌, ◌≤◌}
+use mathlib.Core.Path.{◌≡◌}
+use mathlib.Core.Bool.{Bool, true, false, cond}
+use mathlib.Core.List.{List, [], ◌∷◌}
+use native.Mathlib.Omega.{arith}
+use lib.ListN.{length}
+use Rattle.tree.specs.Units.{TextUnit, single, pair, leadByte, trailByte, units}
+use Rattle.tree.specs.Lookup.{separates, longer, componentsOf, components}
+use Rattle.tree.specs.Laws.UnitLaws.{by_units}
+
+one-more : (u : TextUnit) (us : List TextUnit) → length (componentsOf (u ∷ us)) ≤ length (componentsOf us) + 1
+unfolding componentsOf
+one-more u us = go (separates u) (componentsOf us)
+  where
+    go : (t : Bool) (cs : List (List ℕ)) → length (cond t ([] ∷ cs) (longer u cs)) ≤ length cs + 1
+    go true cs = omega arith
+    go false [] = omega arith
+    go false (c ∷ cs) = omega arith
+
+pub components-few : (path : List ℕ) → length (components path) ≤ length path + 1
+unfolding components componentsOf units
+components-few = by_units Few (few-none) of_pair of-single
+  where
+    Few : List ℕ → Type 0
+    Few s = length (componentsOf (units s)) ≤ length s + 1
+
+    few-none : Few []
+    few-none = omega arith
+
+    of_pair : (a b : ℕ) (s : List ℕ) → leadByte a ≡ true → trailByte b ≡ true → units (a ∷ b ∷ s) ≡ pair a b ∷ units s → Few s → Few (a ∷ b ∷ s)
+    of_pair a b s l t u few = let m = one-more (pair a b) (units s) in rw u (omega (arith, m, few))
+
+    of-single : (a : ℕ) (s : List ℕ) → units (a ∷ s) ≡ single a ∷ units s → Few s → Few (a ∷ s)
+    of-single a s u few = let m = one-more (single a) (units s) in rw u (omega (arith, m, few))

@@ -1,0 +1,156 @@
+// A walk along a path that may lead below the tree as it is.
+ghost use Rattle.std.specs.Prelude.{◌≡◌, Ok, IfOk, ◌<◌, ◌^◌, length};
+ghost use Rattle.tree.specs.Table as table_of;
+ghost use Rattle.tree.specs.Table.{nodesOf};
+ghost use Rattle.tree.specs.Lookup.{childOf};
+ghost use Rattle.fst_check.specs.Inner.Reading.{Opens};
+ghost use Rattle.make_walk.specs.Inner.Walk.{plainVerdict, walk_from, moved, directoryVerdict, backStep, intoStep, step_of, lastVerdict};
+
+use fst::Table;
+use refusal::{Refusal, Verdict};
+use std::marker::Model;
+
+/// Where a walk from the entry `start` stands: at an entry of the table, so many new directories below it, and what the new names come to:
+/// 12 once one has a unit that no name may have.
+#[derive(Drop)]
+pub struct Walk<'a> {
+    table: Table<'a>,
+    start: usize,
+    entry: usize,
+    level: usize,
+    names: Verdict,
+}
+
+impl<'a> Model for Walk<'a> {
+    ghost use Rattle.std.specs.Prelude.{◌<◌};
+    ghost use Rattle.tree.specs.Table as table_of;
+    ghost use Rattle.make_walk.specs.Inner.Walk.{Place, place_in};
+
+    ghost Value = { Place };
+
+    ghost view = { λ w. place_in w.table w.start w.entry w.level w.names };
+
+    ghost invariant = { λ w. w.entry < table_of.count w.table };
+}
+
+/// Whether each unit of a name is one that a name may have: 12.
+fn check_units(name: &[u8]) -> Verdict
+    ensures { result ≡ plainVerdict name.now }
+{
+    if fst_text::is_plain(name) {
+        Ok(())
+    } else {
+        Err(Refusal::InvalidNameByte)
+    }
+}
+
+/// The first child of directory `d` with that name, an entry of the table.
+fn child_of(table: &[u8], d: usize, name: &[u8]) -> Result<usize, Refusal>
+    requires { Opens table.now × (d < table_of.count table.now) }
+    ensures child { result ≡ childOf (nodesOf table.now) d name.now }
+    ensures inside { IfOk result (λ j. j < length (nodesOf table.now)) }
+{
+    let child = Table::new(table).child(d, name)?;
+    Ok(child as usize)
+}
+
+impl<'a> Walk<'a> {
+    /// At its start: 15.
+    pub fn new(table: Table<'a>, start: usize) -> Result<Self, Refusal>
+        ensures { result ≡ walk_from (nodesOf table.entry) start }
+    {
+        if table.len() <= start {
+            return Err(Refusal::NoSuchEntry);
+        }
+        Ok(Walk {
+            table,
+            start,
+            entry: start,
+            level: 0,
+            names: Ok(()),
+        })
+    }
+
+    /// From a file no step leads on, and no path may end on one: 17.
+    fn check_directory(&self) -> Verdict
+        ensures { result ≡ directoryVerdict self.now }
+    {
+        if self.level == 0 && !self.table.is_directory(self.entry) {
+            return Err(Refusal::ExpectedDirectory);
+        }
+        Ok(())
+    }
+
+    /// To an entry of the table.
+    fn to(self, entry: usize) -> Self
+        requires { entry < length self.nodes }
+        ensures { result ≡ moved self.entry entry 0 }
+    {
+        Walk {
+            entry,
+            level: 0,
+            ..self
+        }
+    }
+
+    /// Back over the last named step, never above the start: 18.
+    fn back(self) -> Result<Self, Refusal>
+        ensures { result ≡ backStep self.entry }
+    {
+        if self.level != 0 {
+            return Ok(Walk {
+                level: self.level - 1,
+                ..self
+            });
+        }
+        if self.entry == self.start {
+            return Err(Refusal::NotFound);
+        }
+        let parent = self.table.parent(self.entry);
+        Ok(self.to(parent))
+    }
+
+    /// To the first child with that name, whatever its kind, or into a directory that is not there yet: 13.
+    fn into(self, name: &[u8]) -> Result<Self, Refusal>
+        requires { self.level < 2 ^ 63 }
+        ensures { result ≡ intoStep self.entry name.now }
+    {
+        if self.level == 0 {
+            if let Ok(child) = child_of(self.table.bytes(), self.entry, name) {
+                return Ok(self.to(child));
+            }
+        }
+        if !fst_text::is_safe(name) {
+            return Err(Refusal::UnsafeName);
+        }
+        Ok(Walk {
+            level: self.level + 1,
+            names: self.names.and(check_units(name)),
+            ..self
+        })
+    }
+
+    #[tactic(auto, unfolding(crate::specs::Inner::Walk::step_of))]
+    /// Along one component: empty and `.` stay, `..` goes back, any other is a name.
+    pub fn step(self, name: &[u8]) -> Result<Self, Refusal>
+        requires { self.level < 2 ^ 63 }
+        ensures { result ≡ step_of self.entry name.now }
+    {
+        self.check_directory()?;
+        if fst_path::stays(name) {
+            return Ok(self);
+        }
+        if fst_path::goes_back(name) {
+            return self.back();
+        }
+        self.into(name)
+    }
+
+    /// What the walk comes to where the path ends: 17, then 12.
+    pub fn end(self) -> Verdict
+        ensures { result ≡ lastVerdict self.entry }
+    {
+        self.check_directory()?;
+        self.names
+    }
+}
