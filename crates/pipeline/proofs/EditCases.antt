@@ -15,7 +15,8 @@ use Rattle.commit.specs.Inner.Decision.{DecidedAs, Decides, verdictIn}
 use Rattle.insert.specs.declared.new_entry.Kind.{Kind}
 use Rattle.insert.specs.declared.new_entry.Kind.TheVariants.{File, Directory}
 use Rattle.insert.specs.Insertion.{insertion, planInserted}
-use Rattle.totals_after.specs.Inner.Accounting.{OfUsed, accounted, unless, enteredFor, AccountedFor}
+use Rattle.totals_after.specs.Inner.Accounting.{OnDisc, OfUsed, accounted, unless, enteredFor, AccountedFor}
+use Rattle.totals_after.specs.Laws.AccountLaws.{on-disc}
 use Rattle.totals_after.proofs.Edited.{refused-decision, open-accounted}
 use Rattle.pipeline.specs.Inner.Decides.{plan_on, EditDecided}
 
@@ -38,19 +39,22 @@ inserted Directory p name d room bytes r h = record { decided = h; passable = tt
 
 -- ---- on the disc that an image means
 
-module _ (ed : edits.Edit) (image : List ℕ) (words : ℕ) (d : Disc) (o : Means image d × (d.words ≡ words)) (room : ℕ) (bytes clip : List ℕ) (long : length bytes ≡ room) where
+module _ (ed : edits.Edit) (image : List ℕ) (words : ℕ) (d : Disc) (o : Means image d × (d.words ≡ words)) (room : ℕ) (bytes clip : List ℕ) where
   pub decided_as : (r : Result Decision Refusal) → EditDecided ed d room bytes clip r → DecidedAs (planVerdict (plan_of ed image) image d.words room) (plan_of ed image) image room bytes clip r
   decided_as r h = rw (plan_same ed image d.words ∙ ap (plan_on ed) o.0.is) (h.decided image o.0)
 
   -- refused by its own tests
-  pub edit-refused : (c : Refusal) (t : Totals) → EditDecided ed d room bytes clip (Err c) →
+  pub edit-refused : (c : Refusal) (t : Totals) → EditDecided ed d room bytes clip (Err c) → length bytes ≡ room →
       AccountedFor (planned (opening image words) (plan_of ed image)) image words room bytes clip t (accounted (Err c) t)
-  edit-refused c t h = rw o.1 at (refused-decision ed h.passable image d o.0 room bytes clip long c t (decided_as (Err c) h))
+  edit-refused c t h long = rw o.1 at (refused-decision ed h.passable image d o.0 room bytes clip long c t (decided_as (Err c) h))
+
+  pub on_disc : (r : Decision) → EditDecided ed d room bytes clip (Ok r) → length bytes ≡ room → OnDisc d r
+  on_disc r h long = on-disc d image o.0 room bytes clip long (plan_of ed image) r (decided_as (Ok r) h)
 
   -- entered in the record, by the answer
-  pub edit-accounted : (r : Decision) → EditDecided ed d room bytes clip (Ok r) → (v : Verdict) (t t' : Totals) → OfUsed d (λ image' behind. moved v t' ≡ enteredFor image' behind r t) →
+  pub edit-accounted : (r : Decision) → EditDecided ed d room bytes clip (Ok r) → (v : Verdict) (t t' : Totals) → OfUsed d (λ image' behind. moved v t' ≡ enteredFor image' behind r t) → length bytes ≡ room →
       AccountedFor (planned (opening image words) (plan_of ed image)) image words room bytes clip t (accounted (unless v r) t')
-  edit-accounted r h v t t' q = rw o.1 at (open-accounted ed h.passable image d o.0 room bytes clip long r (decided_as (Ok r) h) v t t' q)
+  edit-accounted r h v t t' q long = rw o.1 at (open-accounted ed h.passable image d o.0 room bytes clip long r (decided_as (Ok r) h) v t t' q)
 
 -- ---- an edit that gives only that it is done
 

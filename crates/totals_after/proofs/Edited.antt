@@ -13,7 +13,7 @@ use Rattle.space.specs.Inner.Sort.{regionsIn}
 use Rattle.totals.specs.declared.Totals.{Totals}
 use Rattle.totals.specs.Totals.{totalsVerdict}
 use Rattle.totals.specs.Inner.Scan.{moved}
-use Rattle.opening.specs.Opening.{opening, usedOf}
+use Rattle.opening.specs.Opening.{opening, usedOf, zeros}
 use Rattle.opened.specs.Disc.{Disc, Means}
 use Rattle.edits.specs.Change.{Plan, refused}
 use Rattle.edits.specs.Edits.{Edit, planned, plan_of, planVerdict, planImage, planNumber, numberedAs, countedVerdict, verdictOf, imageAfter, totalsTo, totalsAfter}
@@ -111,15 +111,8 @@ module _ (ed : Edit) (image : List ℕ) (words room : ℕ) (bytes clip : List �
           let e : countedVerdict (refused (Err c)) t image words room ≡ Err c = unfold countedVerdict in refl in
           (answered _ _ _ _ _ _ _ k.decided ∙ rw e, k.decided.after ∙ rw e, k.totals ∙ rw e)
 
-pub edited : (ed : Edit) (image words bytes clip x b image' words' bytes' : List ℕ) (n : ℕ) (t t' : Totals) (d : Result Decision Refusal) → AccountedFor (planned (opening image (length words)) (plan_of ed image)) image (length words) (length bytes) b clip t (accounted d t') → x ≡ clip →
-    image' ≡ carriedImage d b x image → words' ≡ replicate n 0 → bytes' ≡ replicate (length b) 0 → n ≡ length words → length b ≡ length bytes →
-    (r : Result ℕ Refusal) → r ≡ carriedAnswer d → Edited numberedAs ed (lent image words bytes t) (lent image' words' bytes' t') r
-edited ed image words bytes clip x b image' words' bytes' n t t' d f c i zw zb kw kb r q =
+pub edited : (ed : Edit) (image words bytes clip x b image' words' bytes' : List ℕ) (t t' : Totals) (d : Result Decision Refusal) → AccountedFor (planned (opening image (length words)) (plan_of ed image)) image (length words) (length bytes) b clip t (accounted d t') → x ≡ clip →
+    image' ≡ carriedImage d b x image → words' ≡ zeros words → bytes' ≡ zeros bytes → (r : Result ℕ Refusal) → r ≡ carriedAnswer d → Edited numberedAs ed (lent image words bytes t) (lent image' words' bytes' t') r
+edited ed image words bytes clip x b image' words' bytes' t t' d f c i zw zb r q =
     let e = edit-accounted ed image (length words) (length bytes) b clip t t' d f in
-    record {
-      answered = q ∙ e.0;
-      image = i ∙ rw c e.1;
-      totals = e.2;
-      words = zw ∙ ap (λ (m : ℕ). replicate m 0) kw;
-      bytes = zb ∙ ap (λ (m : ℕ). replicate m 0) kb;
-    }
+    record { answered = q ∙ e.0; image = i ∙ rw c e.1; totals = e.2; words = zw; bytes = zb }
