@@ -1,8 +1,8 @@
--- What the tests of an insert leave, and the number that was found. Assumes nothing.
+-- What the tests of an insert leave, and an insert as a plan. Assumes nothing.
 use Rattle.std.specs.Prelude.{Result, Ok, Err}
 use Rattle.refusal.specs.Refusal.{Verdict}
 use Rattle.refusal.specs.declared.Refusal.{Refusal}
-use Prim.Native.Nat.{ℕ}
+use Prim.Native.Nat.{ℕ, ◌<◌, ◌^◌}
 use mathlib.Core.Path.{◌≡◌, refl, sym, ◌∙◌}
 use mathlib.Core.Bool.{Bool, true, false, not}
 use mathlib.Core.List.{List}
@@ -12,12 +12,25 @@ use lib.Dec.{leb}
 use lib.ListN.{length, get_or}
 use Rattle.refusal.specs.declared.Refusal.TheVariants.{NoSuchEntry, UnsafeName, ExpectedDirectory, AlreadyExists, InvalidNameByte}
 use Rattle.refusal.specs.Laws.Chains.{refuse-passed}
-use Rattle.tree.specs.Table.{Node, none, plain, safe}
-use Rattle.tree.specs.Inner.WellFormed.{GoodName}
+use Rattle.tree.specs.Table.{Node, none, plain, safe, limits}
+use Rattle.tree.specs.Inner.WellFormed.{GoodName, WellFormed}
 use Rattle.tree.specs.Lookup.{isDirectory, childOf}
-use Rattle.opening.specs.Opening.{nodesIn}
-use Rattle.edits.specs.Edits.{newNumber, isFound, insertVerdict, numberedAs}
-use Rattle.fst_grow.specs.Inner.Growth.{IsDirectory}
+use Rattle.tree.specs.Laws.Growing.{bigger-same}
+use Rattle.tree.specs.Laws.Renumbered.{directory-is}
+use Rattle.tree.specs.Laws.RoundTrip.{within-limits}
+use Rattle.tree.specs.Laws.WellNested.{next-bounds}
+use Rattle.edits.specs.Change.{change}
+use Rattle.edits.specs.Edits.{tableOnly, newNumber, isFound, insertVerdict, planned}
+use Rattle.opened.specs.Disc.{Disc}
+use Rattle.commit.specs.declared.Decision.{Decision}
+use Rattle.commit.specs.Inner.Decision.{Decides}
+use Rattle.commit.proofs.Decisions.{behind-passed, behind-refused}
+use Rattle.fst_grow.specs.Inner.Growth.{IsDirectory, added, Built}
+use Rattle.fst_grow.proofs.GrowthLaws.{bigger-added}
+use Rattle.table_only.proofs.TableChanges.{unbuilt-decides}
+use Rattle.insert.specs.Insertion.{planInserted, ofDirectory}
+use Rattle.insert.specs.declared.new_entry.Kind.{Kind}
+use Rattle.insert.specs.declared.new_entry.Kind.TheVariants as kind
 
 not-off : (t : Bool) → not t ≡ false → t ≡ true
 not-off true e = refl
@@ -33,18 +46,45 @@ insert-allows nodes p nm e =
     let g = refuse-passed (not (plain nm)) InvalidNameByte _ f.1 in
     (record { inside = leb-false (length nodes) p a.0; kind = not-off _ d.0 }, (not-off _ g.0, not-off _ b.0))
 
--- ---- once its number was found
+-- the number that a new entry gets fits 32 bits
+pub number-small : (nodes : List Node) (words p : ℕ) → WellFormed nodes → limits nodes words ≡ Ok tt → IsDirectory nodes p → newNumber nodes p < 2 ^ 32
+number-small nodes words p w l dir =
+    let x = directory-is (get_or nodes p none) dir.kind in
+    omega (arith, (next-bounds nodes p _ x.0 w x.1 dir.inside).1, (within-limits nodes words l).few)
 
-number_at : (v : Verdict) (n k : ℕ) → numberedAs v n ≡ Ok k → (v ≡ Ok tt) × (n ≡ k)
-number_at (Ok _) n k e = (refl, cc)
-number_at (Err d) n k e = let z : ◌≡◌ {A = ℕ} 0 1 = cc in absurd (omega arith)
+-- ---- the plan: what is added, behind the tests
 
-module _ (image : List ℕ) (p : ℕ) (nm : List ℕ) (r : Result ℕ Refusal) (numbered : r ≡ numberedAs (insertVerdict (nodesIn image) p nm) (newNumber (nodesIn image) p)) where
-  found_at : (k : ℕ) → r ≡ Ok k → (insertVerdict (nodesIn image) p nm ≡ Ok tt) × (newNumber (nodesIn image) p ≡ k)
-  found_at k e = number_at (insertVerdict (nodesIn image) p nm) (newNumber (nodesIn image) p) k (sym numbered ∙ e)
+module _ (k : Kind) (d : Disc) (p : ℕ) (nm : List ℕ) (v : Verdict) (judged : v ≡ insertVerdict d.nodes p nm) where
+  plan-is : planInserted k d.nodes p nm ≡ planned (insertVerdict d.nodes p nm) (change (newNumber d.nodes p) (tableOnly (added d.nodes (ofDirectory k) p nm)))
+  plan-is = go k
+    where
+      go : (x : Kind) → planInserted x d.nodes p nm ≡ planned (insertVerdict d.nodes p nm) (change (newNumber d.nodes p) (tableOnly (added d.nodes (ofDirectory x) p nm)))
+      go kind.Directory = refl
+      go kind.File = refl
 
-  pub into-directory : (k : ℕ) → r ≡ Ok k → IsDirectory (nodesIn image) p
-  into-directory k e = (insert-allows (nodesIn image) p nm (found_at k e).0).0
+  pub tests-refuse : (room : ℕ) (bytes : List ℕ) (c : Refusal) → v ≡ Err c → Decides (planInserted k d.nodes p nm) d room bytes (Err c)
+  tests-refuse room bytes c e image m = rw plan-is (behind-refused image d.words room bytes (insertVerdict d.nodes p nm) _ c (sym judged ∙ e))
 
-  pub under-name : (k : ℕ) → r ≡ Ok k → GoodName nm
-  under-name k e = (insert-allows (nodesIn image) p nm (found_at k e).0).1
+  module _ (passed : v ≡ Ok tt) where
+    abbrev N : List Node
+    N = added d.nodes (ofDirectory k) p nm
+
+    pub allowed : IsDirectory d.nodes p × GoodName nm
+    allowed = insert-allows d.nodes p nm (sym judged ∙ passed)
+
+    pub tests-pass : (room : ℕ) (bytes : List ℕ) (r : Result Decision Refusal) → Decides (change (newNumber d.nodes p) (tableOnly N)) d room bytes r → Decides (planInserted k d.nodes p nm) d room bytes r
+    tests-pass room bytes r h image m = rw plan-is (behind-passed image d.words room bytes (insertVerdict d.nodes p nm) _ r (sym judged ∙ passed) (h image m))
+
+    module _ (w : WellFormed d.nodes) (room : ℕ) (s after : List ℕ) (held : length s ≡ room) (c : Refusal) where
+      -- the tree as it is could not be built
+      pub not-started : Built d.nodes d.words s s (Err c) → Decides (planInserted k d.nodes p nm) d room after (Err c)
+      not-started b =
+          rw (← held)
+          (tests-pass (length s) after (Err c) (unbuilt-decides d.nodes N d (newNumber d.nodes p) s after c (bigger-added d.nodes (ofDirectory k) p nm w allowed.0 allowed.1) b))
+
+      -- nor with the new entry
+      pub not-grown : (T : List Node) (words : ℕ) → T ≡ d.nodes → words ≡ d.words → Built (added T (ofDirectory k) p nm) words s s (Err c) → Decides (planInserted k d.nodes p nm) d room after (Err c)
+      not-grown T words e l b =
+          rw (← held)
+          (tests-pass (length s) after (Err c)
+          (unbuilt-decides N N d (newNumber d.nodes p) s after c (bigger-same N (bigger-added d.nodes (ofDirectory k) p nm w allowed.0 allowed.1).well) (rw (e, l) at b)))

@@ -2,7 +2,7 @@
 // since each directory there is one that the walk made.
 #![tactic(auto)]
 
-ghost use Rattle.std.specs.Prelude.{◌≡◌, false, ◌<◌, ◌≤◌, ◌^◌, leb, length};
+ghost use Rattle.std.specs.Prelude.{◌≡◌, false, ◌<◌, ◌^◌, leb, length};
 ghost use Rattle.refusal.specs.declared.Refusal.TheVariants.{NoSuchEntry};
 ghost use Rattle.refusal.specs.Refusal.{refuse};
 ghost use Rattle.tree.specs.Table.{nodesOf};

@@ -39,8 +39,8 @@ unbuilt M F words room k image b h = table-tests F noPlace image words room ∙ 
     fits : limits F words ≡ Ok tt → first (limits F words) (placeVerdict image room (length (encode F)) noPlace) ≡ Err LimitOrMemory
     fits e = rw (e, lt-ltb room (length (encode F)) (omega (arith, h (bigger-limits M F words b e), bigger-encode M F b)))
 
-pub unbuilt-decides : (M F : List Node) (d : Disc) (k : ℕ) (s t after : List ℕ) (c : Refusal) → Bigger M F → Built M d.words s t (Err c) → Decides (change k (tableOnly F)) d (length s) after (Err c)
-unbuilt-decides M F d k s t after c g b image m = refused-decided image d.words (length s) after (change k (tableOnly F)) c (unbuilt M F d.words (length s) k image g b.1 ∙ ap Err (sym b.0))
+pub unbuilt-decides : (M F : List Node) (d : Disc) (k : ℕ) (s after : List ℕ) (c : Refusal) → Bigger M F → Built M d.words s s (Err c) → Decides (change k (tableOnly F)) d (length s) after (Err c)
+unbuilt-decides M F d k s after c g b image m = refused-decided image d.words (length s) after (change k (tableOnly F)) c (unbuilt M F d.words (length s) k image g b.1 ∙ ap Err (sym b.0))
 
 -- ---- a table that stands in the bytes: its place on the disc
 
