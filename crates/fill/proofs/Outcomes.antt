@@ -19,12 +19,12 @@ use Rattle.edits.specs.Edits.{fileVerdict, clipVerdict, planSized, planResize, p
 use Rattle.edits.specs.Laws.Puts.{put-length}
 use Rattle.opened.specs.Disc.{Disc, free_of, Means}
 use Rattle.decide.specs.declared.File.{File}
-use Rattle.decide.specs.Inner.Files.{IsFile, file_in, fileAs}
+use Rattle.decide.specs.Inner.Files.{IsFile, file_in}
 use Rattle.decide.proofs.Files.{FoundFile, file-found, file-refused}
 use Rattle.commit.specs.declared.Writing.{Writing}
 use Rattle.commit.specs.declared.Decision.{Decision}
 use Rattle.commit.specs.declared.Decision.TheVariants as decision
-use Rattle.commit.specs.Inner.Decision.{writtenWith, Fits, carriedImage, Decided, DecidedAs}
+use Rattle.commit.specs.Inner.Decision.{behind_tests, writtenWith, Fits, carriedImage, Decided, DecidedAs}
 use Rattle.commit.proofs.Decisions.{behind-refused-with}
 use Rattle.commit.proofs.Discs.{nodes_are, free_is}
 use Rattle.fill.specs.Inner.Filling.{uncopied, withClip, Clear}
@@ -83,7 +83,7 @@ module _ (image : List ℕ) (words room : ℕ) (bytes clip : List ℕ) (known : 
 
 -- ---- by what the code found, on a disc that the image means
 
-module _ (image : List ℕ) (d : Disc) (m : Means image d) (bytes after clip : List ℕ) (k : ℕ) (r : Result File Refusal) (read : r ≡ fileAs (fileVerdict d.nodes k) (file_in d.nodes k)) where
+module _ (image : List ℕ) (d : Disc) (m : Means image d) (bytes after clip : List ℕ) (k : ℕ) (r : Result File Refusal) (read : r ≡ behind_tests (fileVerdict d.nodes k) (file_in d.nodes k)) where
   abbrev plan : Plan
   plan = planFill (free_of d) d.nodes k clip
 
