@@ -2,7 +2,7 @@
 -- for the table, or none. Assumes nothing.
 use Rattle.std.specs.Prelude.{Result, Ok, Err}
 use Prim.Native.Nat.{ℕ, ◌<◌, ◌≤◌, ◌^◌}
-use mathlib.Core.Path.{◌≡◌, refl, sym, ap, ◌∙◌}
+use mathlib.Core.Path.{◌≡◌, refl, sym, ap}
 use mathlib.Core.Bool.{Bool, true, false}
 use mathlib.Core.List.{List, []}
 use native.Mathlib.Omega.{arith}
@@ -24,17 +24,22 @@ use Rattle.edits.specs.Edits.{Made, stopped, made, make, tableOnly, planned, pla
 use Rattle.edits.specs.Inner.Troubles.{madeVerdict, troubleOf}
 use Rattle.edits.specs.Laws.Troubles.{make-trouble}
 use Rattle.edits.specs.Laws.MadeTree.{make-grows}
-use Rattle.commit.specs.Inner.Decision.{Decided}
-use Rattle.fst_grow.specs.Inner.Growth.{treeIn, Built}
-use Rattle.table_only.specs.Inner.Decisions.{tableDecision}
+use Rattle.opened.specs.Disc.{Disc}
+use Rattle.commit.specs.declared.Decision.{Decision}
+use Rattle.commit.specs.Inner.Decision.{Decides}
+use Rattle.fst_grow.specs.declared.growing.Growing.{Growing}
+use Rattle.fst_grow.specs.Inner.Growth.{Built}
+use Rattle.fst_grow.specs.Inner.Growing.{tree_of}
 use Rattle.commit.proofs.Decisions.{refused-decided}
-use Rattle.table_only.proofs.TableChanges.{unbuilt, change-numbered, same-decided}
-use Rattle.make_directories.specs.declared.making.Reached.{Reached}
+use Rattle.table_only.proofs.TableChanges.{unbuilt-decides, same-decides}
 use Rattle.make_walk.specs.Inner.Walk.{pathVerdict}
 use Rattle.make_directories.specs.Inner.Making.{madeTree, madeEntry, Reaches}
 use Rattle.make_directories.proofs.Turns.{all_made}
 
-module _ (nodes : List Node) (start : ℕ) (path : List ℕ) where
+module _ (d : Disc) (start : ℕ) (path : List ℕ) where
+  abbrev nodes : List Node
+  nodes = d.nodes
+
   abbrev whole : Made
   whole = make nodes [] start false (components path)
 
@@ -52,12 +57,12 @@ module _ (nodes : List Node) (start : ℕ) (path : List ℕ) where
       go true e = refl
       go false e = sym (make-trouble nodes start (components path) (well-nested nodes w) (leb-false (length nodes) start e))
 
-  pub path-refused : (image : List ℕ) (words room : ℕ) (bytes : List ℕ) (c : Refusal) → pathVerdict nodes start path ≡ Err c → Decided plan image words room bytes (Err c)
+  pub path-refused : (room : ℕ) (bytes : List ℕ) (c : Refusal) → pathVerdict nodes start path ≡ Err c → Decides plan d room bytes (Err c)
   unfolding pathVerdict planMakeDirectories
-  path-refused image words room bytes c e = refused-decided image words room bytes plan c (go (ltb 1024 (length path)) (leb (length nodes) start) whole e)
+  path-refused room bytes c e image m = refused-decided image d.words room bytes plan c (go (ltb 1024 (length path)) (leb (length nodes) start) whole e)
     where
       go : (a b : Bool) (x : Made) → refuse a LimitOrMemory (refuse b NoSuchEntry (madeVerdict x)) ≡ Err c →
-          planVerdict (planned (refuse a LimitOrMemory (refuse b NoSuchEntry (Ok tt))) (planMade x)) image words room ≡ Err c
+          planVerdict (planned (refuse a LimitOrMemory (refuse b NoSuchEntry (Ok tt))) (planMade x)) image d.words room ≡ Err c
       go true b x q = q
       go false true x q = q
       go false false (stopped d) q = q
@@ -90,30 +95,33 @@ module _ (nodes : List Node) (start : ℕ) (path : List ℕ) where
     grows : WellFormed nodes → Bigger nodes (madeTree whole) × (madeEntry whole < length (madeTree whole))
     grows w = make-grows nodes [] start false (components path) (madeTree whole) (madeEntry whole) w starts-inside tt (all_made whole makes-all)
 
-    module _ (w : WellFormed nodes) (image : List ℕ) (words room : ℕ) where
+    module _ (w : WellFormed nodes) (room : ℕ) (after : List ℕ) where
       -- there was no room for a tree on the way
-      no_room : (M : List Node) (c : Refusal) (bytes : List ℕ) → Bigger M (madeTree whole) → Reaches (made M 0 false) words room bytes (Err c) → Decided plan image words room bytes (Err c)
-      no_room M c bytes g h =
-          rw plan-is (refused-decided image words room bytes (change (madeEntry whole) (tableOnly (madeTree whole))) c (unbuilt M (madeTree whole) words room (madeEntry whole) image g h.1 ∙ ap Err (sym h.0)))
+      no_room : (M : List Node) (s : List ℕ) → length s ≡ room → (c : Refusal) → Bigger M (madeTree whole) → Built M d.words s s (Err c) → Decides plan d room after (Err c)
+      no_room M s l c g b = rw (plan-is, ← l) (unbuilt-decides M (madeTree whole) d (madeEntry whole) s after c g b)
 
-      pub start-refused : (s t bytes : List ℕ) (r : Result ℕ Refusal) (c : Refusal) → length s ≡ room → Built nodes words s t r → r ≡ Err c → Decided plan image words room bytes (Err c)
-      start-refused s t bytes r c l b e = no_room nodes c bytes (grows w).0 (rw (e, l) at b)
+      -- not for the tree as it is
+      pub start-refused : (s : List ℕ) → length s ≡ room → (c : Refusal) → Built nodes d.words s s (Err c) → Decides plan d room after (Err c)
+      start-refused s l c b = no_room nodes s l c (grows w).0 b
 
-      module _ (T : List Node) (same : T ≡ nodes) (after : List ℕ) (r : Result Reached Refusal) (h : Reaches (make T [] start false (components path)) words room after r) where
-        pub made-refused : (bytes : List ℕ) (c : Refusal) → r ≡ Err c → Decided plan image words room bytes (Err c)
-        made-refused bytes c e = no_room (madeTree whole) c bytes (bigger-same (madeTree whole) (grows w).0.well) (rw (same, e) at h)
+      -- the walk along the path, in a table that starts as the tree
+      module _ (T : List Node) (same : T ≡ nodes) (held : ℕ) (long : held ≡ room) (g : Growing) (lent : g.words ≡ d.words) where
+        pub made-refused : (s : List ℕ) → length s ≡ room → (c : Refusal) → Reaches (make T [] start false (components path)) held g (Err c) → Decides plan d room after (Err c)
+        made-refused s l c h =
+            let r : Reaches whole (length s) g (Err c) = rw (same, long, ← l) at h in
+            no_room (madeTree whole) s l c (bigger-same (madeTree whole) (grows w).0.well) (rw lent at r)
 
-        pub made_at : (q : Reached) → r ≡ Ok q → Reaches whole words room after (Ok q)
-        made_at q e = rw (same, e) at h
+        module _ (k : ℕ) (h : Reaches (make T [] start false (components path)) held g (Ok k)) where
+          made_at : Reaches whole held g (Ok k)
+          made_at = rw same at h
 
-        pub made-small : (q : Reached) → r ≡ Ok q → q.entry < 2 ^ 32
-        made-small q e =
-            let a = made_at q e in
-            let i = within-limits (treeIn after q.size) words a.1.within in
-            omega (arith, a.0, (grows w).1, i.few, ap length a.2)
+          pub made-small : k < 2 ^ 32
+          made-small =
+              let a = made_at in
+              let i = within-limits (tree_of g) g.words a.1.within in
+              omega (arith, a.0, (grows w).1, i.few, ap length a.2)
 
-        pub made-placed : (q : Reached) (room' : ℕ) (x : Result ℕ Refusal) → r ≡ Ok q → room' ≡ room → Decided (change 0 (tableOnly (treeIn after q.size))) image words room' after (tableDecision 0 x) →
-            Decided plan image words room after (tableDecision q.entry x)
-        made-placed q room' x e l d =
-            let a = made_at q e in
-            rw plan-is (change-numbered image words room after (madeEntry whole) q.entry (tableOnly (madeTree whole)) x a.0 (same-decided (treeIn after q.size) (madeTree whole) words room' room image after (tableDecision 0 x) a.2 l d))
+          pub made-placed : (n : ℕ) (r : Result Decision Refusal) → n ≡ room → Decides (change k (tableOnly (tree_of g))) d n after r → Decides plan d room after r
+          made-placed n r l h =
+              let a = made_at in
+              rw plan-is (same-decides (tree_of g) (madeTree whole) d k (madeEntry whole) n room after r a.2 a.0 l h)

@@ -1,18 +1,17 @@
 -- Make-directories turn by turn, once no trouble stands on the path: each component leads on to what the whole makes, and what there is no
 -- room for on the way there is none for at the end. Assumes nothing.
-use Rattle.std.specs.Prelude.{Result, Ok, Err}
-use Prim.Native.Nat.{ℕ, zero, suc, ◌+◌, ◌<◌, ◌≤◌}
+use Rattle.std.specs.Prelude.{Result, Ok, Err, IfOk, OnOk}
+use Prim.Native.Nat.{ℕ, zero, suc, ◌<◌}
 use mathlib.Core.Path.{◌≡◌, refl, ap, ◌∙◌}
 use mathlib.Core.Bool.{Bool, true, false, cond, not}
 use mathlib.Core.List.{List, [], ◌∷◌}
 use native.Mathlib.Omega.{arith}
-use borrow.Author.Tests.{lt-ltb, le-ltb}
-use lib.ListN.{length, get_or, drop, take}
+use lib.ListN.{length, get_or}
 use Rattle.refusal.specs.declared.Refusal.{Refusal}
 use Rattle.refusal.specs.declared.Refusal.TheVariants.{UnsafeName, ExpectedDirectory, LimitOrMemory}
 use Rattle.tree.specs.Table.{Node, none, plain, safe, parent_of, encode, limits}
 use Rattle.tree.specs.Inner.WellFormed.{GoodName, WellFormed}
-use Rattle.tree.specs.Lookup.{isDirectory, components, childOf, stays, goesBack}
+use Rattle.tree.specs.Lookup.{isDirectory, childOf, stays, goesBack}
 use Rattle.tree.specs.Laws.Children.{child-is}
 use Rattle.tree.specs.Laws.LookupLaws.{child-inside}
 use Rattle.tree.specs.Laws.Nesting.{parent-most}
@@ -20,27 +19,14 @@ use Rattle.tree.specs.Laws.Renumbered.{directory-is}
 use Rattle.tree.specs.Laws.WellNested.{next-bounds}
 use Rattle.tree.specs.Insert.{insertAt, emptyDirectory}
 use Rattle.tree.specs.Laws.InsertLaws.{length-insert, parent-insert-before, parent-insert-at}
-use Rattle.tree.specs.Laws.Accepted.{length-nodesOf}
-use Rattle.tree.specs.Laws.RoundTrip.{written-accepted}
 use Rattle.tree.specs.Laws.Growing.{Bigger, bigger-insert, bigger-limits, bigger-encode}
-use Rattle.fst_path.specs.Inner.Steps.{componentsAfter}
 use Rattle.edits.specs.Edits.{newNumber, Made, stopped, made, madeBack, ifFound, make}
 use Rattle.edits.specs.Inner.Troubles.{madeVerdict}
 use Rattle.edits.specs.Laws.MadeTree.{bad-stays, AllLt, make-grows}
-use Rattle.fst_grow.specs.Inner.Growth.{treeIn, Stands, IsDirectory, added, Built}
-use Rattle.fst_grow.proofs.GrowthLaws.{grown}
-use Rattle.make_directories.specs.declared.making.Reached.{Reached}
-use Rattle.make_directories.specs.Inner.Making.{madeTree, madeEntry, newIn, turn_of, CanTurn, InBytes, Reaches}
-
--- ---- a table that stands in the bytes is an accepted one
-
-pub in_bytes : (s : List ℕ) (size words k : ℕ) → Stands s size words → k < length (treeIn s size) → InBytes s size k
-unfolding treeIn
-in_bytes s size words k st h = record {
-  accepted = record { words = words; passed = rw st.same (written-accepted (treeIn s size) words st.well st.within) };
-  held = st.held;
-  inside = rw (← length-nodesOf (take size s)) h;
-}
+use Rattle.fst_grow.specs.declared.growing.Growing.{Growing}
+use Rattle.fst_grow.specs.Inner.Growth.{added, Built}
+use Rattle.fst_grow.specs.Inner.Growing.{tree_of, IsTable, sizedAs}
+use Rattle.make_directories.specs.Inner.Making.{madeTree, madeEntry, newIn, turn_of, CanTurn, Reaches}
 
 -- ---- the entries left behind are the directories that the entry is nested in
 
@@ -141,15 +127,15 @@ module _ (M : List Node) (k n : ℕ) (nm : List ℕ) (cs : List (List ℕ)) (F :
       go false false t (Ok i) f q = record { well = w; inside = child-inside M k nm i w k<n f; steps = suc n; left = rw (child-is M k nm i f).parent q }
       go false false t (Err c) f q = let g = new-name q in onward-new g.0 g.1
 
--- ---- the loop along the path, which stands before the component that starts at `at`; F is the tree at its end, and j the entry
+-- ---- the loop along the path: what is left of the walk makes what the whole makes; F is the tree at its end, and j the entry
 
-pub record Making (F : List Node) (j : ℕ) (path : List ℕ) (words room : ℕ) (bytes : List ℕ) (p : Reached) (at : ℕ) : Type 0 where
-  pub stands : Stands bytes p.size words
-  pub long : length bytes ≡ room
-  pub inside : p.entry < length (treeIn bytes p.size)
-  pub at_most : at ≤ length path
+pub record Making (F : List Node) (j words room : ℕ) (g : Growing) (k : ℕ) (rest : List (List ℕ)) : Type 0 where
+  pub table : IsTable g
+  pub lent : g.words ≡ words
+  pub long : length g.bytes.now ≡ room
+  pub inside : k < length (tree_of g)
   pub steps : ℕ
-  pub left : make (treeIn bytes p.size) (ups (treeIn bytes p.size) p.entry steps) p.entry false (components (drop at path)) ≡ made F j false
+  pub left : make (tree_of g) (ups (tree_of g) k steps) k false rest ≡ made F j false
 
 -- the walk met no trouble
 pub all_made : (m : Made) → madeVerdict m ≡ Ok tt → m ≡ made (madeTree m) (madeEntry m) false
@@ -157,64 +143,47 @@ all_made (stopped c) e = let z : ◌≡◌ {A = ℕ} 0 1 = cc in absurd (omega a
 all_made (made nodes k true) e = let z : ◌≡◌ {A = ℕ} 0 1 = cc in absurd (omega arith)
 all_made (made nodes k false) e = refl
 
-pub making-start : (start : ℕ) (path : List ℕ) (words : ℕ) (bytes : List ℕ) (size : ℕ) → Stands bytes size words → start < length (treeIn bytes size) →
-    (m : Made) → make (treeIn bytes size) [] start false (components path) ≡ m → madeVerdict m ≡ Ok tt → Making (madeTree m) (madeEntry m) path words (length bytes) bytes (record { entry = start; size = size }) 0
+pub making-start : (g : Growing) (start : ℕ) (cs : List (List ℕ)) → IsTable g → start < length (tree_of g) → madeVerdict (make (tree_of g) [] start false cs) ≡ Ok tt →
+    Making (madeTree (make (tree_of g) [] start false cs)) (madeEntry (make (tree_of g) [] start false cs)) g.words (length g.bytes.now) g start cs
 unfolding ups
-making-start start path words bytes size s h m f e = record { stands = s; long = refl; inside = h; at_most = omega arith; steps = 0; left = f ∙ all_made m e }
+making-start g start cs t h e = record { table = t; lent = refl; long = refl; inside = h; steps = 0; left = all_made (make (tree_of g) [] start false cs) e }
 
-module _ {F : List Node} {j : ℕ} {path : List ℕ} {words room : ℕ} {bytes : List ℕ} {p : Reached} {at : ℕ} (v : Making F j path words room bytes p at) (e : ℕ) (nm : List ℕ)
-    (cut : components (drop at path) ≡ nm ∷ componentsAfter path e) where
-  abbrev M : List Node
-  M = treeIn bytes p.size
+module _ {F : List Node} {j words room : ℕ} {g : Growing} {k : ℕ} {nm : List ℕ} {cs : List (List ℕ)} (v : Making F j words room g k (nm ∷ cs)) where
+  abbrev T : List Node
+  T = tree_of g
 
-  abbrev k : ℕ
-  k = p.entry
+  pub making-can : CanTurn (tree_of g) k nm
+  making-can = can-turn (tree_of g) k v.steps nm cs F j v.table.well v.inside v.left
 
-  onwards : make M (ups M k v.steps) k false (nm ∷ componentsAfter path e) ≡ made F j false
-  onwards = rw cut at v.left
+  next : Onward (turn_of (tree_of g) k nm) cs F j
+  next = onward-turn (tree_of g) k v.steps nm cs F j v.table.well v.inside v.left
 
-  pub making-can : CanTurn M k nm
-  making-can = can-turn M k v.steps nm (componentsAfter path e) F j v.stands.well v.inside onwards
-
-  next : Onward (turn_of M k nm) (componentsAfter path e) F j
-  next = onward-turn M k v.steps nm (componentsAfter path e) F j v.stands.well v.inside onwards
-
-  pub making-refused : (c : Refusal) → Reaches (turn_of M k nm) words (length bytes) bytes (Err c) → (c ≡ LimitOrMemory) × (limits F words ≡ Ok tt → room < length (encode F))
-  making-refused c r =
-      let o = next in
-      let T = madeTree (turn_of M k nm) in
-      let b : Bigger T F = (make-grows T _ _ false (componentsAfter path e) F j o.well o.inside (ups-inside T _ o.steps o.inside) o.left).0 in
-      (r.0, λ l. omega (arith, r.1 (bigger-limits T F words b l), bigger-encode T F b, v.long))
-
-  module _ (bytes' : List ℕ) (q : Reached) (r : Reaches (turn_of M k nm) words (length bytes) bytes' (Ok q)) where
-    pub making-end : length path ≤ e → (q.entry ≡ j) × Stands bytes' q.size words × (treeIn bytes' q.size ≡ F)
-    unfolding make
-    making-end h =
+  module _ (h : Growing) (lent : h.words ≡ g.words) where
+    -- what there is no room for on the way there is none for at the end
+    pub making-stops : (x : Result ℕ Refusal) (c : Refusal) → Reaches (turn_of (tree_of g) k nm) (length g.bytes.now) h x → x ≡ Err c → (c ≡ LimitOrMemory) × (limits F words ≡ Ok tt → room < length (encode F))
+    making-stops x c y e =
+        let r : Reaches (turn_of (tree_of g) k nm) (length g.bytes.now) h (Err c) = rw e at y in
         let o = next in
-        let T = madeTree (turn_of M k nm) in
-        let l : make T (ups T (madeEntry (turn_of M k nm)) o.steps) (madeEntry (turn_of M k nm)) false [] ≡ made F j false = rw (le-ltb e (length path) h) at o.left in
-        let d = must (isDirectory (get_or T (madeEntry (turn_of M k nm)) none)) (made T (madeEntry (turn_of M k nm)) false) ExpectedDirectory F j l in
-        let a : T ≡ F = ap madeTree d.1 in
-        let b : madeEntry (turn_of M k nm) ≡ j = ap madeEntry d.1 in
-        (r.0 ∙ b, r.1, r.2 ∙ a)
+        let T = madeTree (turn_of (tree_of g) k nm) in
+        let b : Bigger T F = (make-grows T _ _ false cs F j o.well o.inside (ups-inside T _ o.steps o.inside) o.left).0 in
+        let w : h.words ≡ words = lent ∙ v.lent in
+        (r.0, λ l. omega (arith, (rw w at r.1) (bigger-limits T F words b l), bigger-encode T F b, v.long))
 
-    pub making-turn : at ≤ e → e < length path → length bytes' ≡ length bytes → Making F j path words room bytes' q (e + 1)
-    making-turn h l same =
+    pub making-turn : (q : ℕ) → length h.bytes.now ≡ length g.bytes.now → Reaches (turn_of (tree_of g) k nm) (length g.bytes.now) h (Ok q) → Making F j words room h q cs
+    making-turn q same r =
         let o = next in
-        record {
-          stands = r.1;
-          long = same ∙ v.long;
-          inside = rw (r.2, r.0) o.inside;
-          at_most = omega arith;
-          steps = o.steps;
-          left = rw (r.2, r.0) (rw (lt-ltb e (length path) l) at o.left);
-        }
+        record { table = r.1; lent = lent ∙ v.lent; long = same ∙ v.long; inside = rw (r.2, r.0) o.inside; steps = o.steps; left = rw (r.2, r.0) o.left }
 
--- ---- a directory made in the bytes
+-- the path is at its end
+pub making-end : (F : List Node) (j words room : ℕ) (g : Growing) (k : ℕ) → Making F j words room g k [] → (k ≡ j) × IsTable g × (tree_of g ≡ F)
+unfolding make
+making-end F j words room g k v =
+    let d = must (isDirectory (get_or (tree_of g) k none)) (made (tree_of g) k false) ExpectedDirectory F j v.left in
+    (ap madeEntry d.1, v.table, ap madeTree d.1)
 
-module _ (s t : List ℕ) (size words k : ℕ) (nm : List ℕ) (st : Stands s size words) (dir : IsDirectory (treeIn s size) k) (good : GoodName nm) (r : Result ℕ Refusal)
-    (b : Built (added (treeIn s size) true k nm) words s t r) where
-  pub new-reached : (number n : ℕ) → number ≡ newNumber (treeIn s size) k → r ≡ Ok n → Reaches (newIn (treeIn s size) k nm) words (length s) t (Ok (record { entry = number; size = n }))
-  new-reached number n e f =
-      let g = grown s size words st true k nm dir good t r b n f in
-      (e, g.0, g.1)
+-- ---- a directory that is made
+
+pub grown-reached : (T : List Node) (k : ℕ) (nm : List ℕ) (r : Result ℕ Refusal) (g h : Growing) → h.words ≡ g.words → IfOk r (λ n. n ≡ newNumber T k) → OnOk r (IsTable h) → OnOk r (tree_of h ≡ added T true k nm) →
+    Built (added T true k nm) g.words g.bytes.now h.bytes.now (sizedAs r h.size) → Reaches (newIn T k nm) (length g.bytes.now) h r
+grown-reached T k nm (Ok n) g h w number table tree b = (number, table, tree)
+grown-reached T k nm (Err c) g h w number table tree b = (b.0, λ l. b.1 (rw w at l))

@@ -4,77 +4,46 @@
 
 mod making;
 
-ghost use Rattle.std.specs.Prelude.{◌≡◌, false, ◌<◌, ◌^◌, leb, length};
-ghost use Rattle.refusal.specs.declared.Refusal.TheVariants.{NoSuchEntry};
-ghost use Rattle.refusal.specs.Refusal.{refuse};
-ghost use Rattle.tree.specs.Table.{nodesOf};
-ghost use Rattle.tree.specs.Lookup.{components};
-ghost use Rattle.fst_check.specs.Inner.Reading as reading;
-ghost use Rattle.opening.specs.Opening.{nodesIn};
+ghost use Rattle.std.specs.Prelude.{◌≡◌, length};
+ghost use Rattle.tree.specs.Inner.WellFormed.{WellFormed};
 ghost use Rattle.edits.specs.Edits.{planMakeDirectories};
-ghost use Rattle.edits.specs.Inner.Troubles.{troubleOf};
-ghost use Rattle.opening.specs.Inner.Prepared.{OpensImage, IsOpen};
-ghost use Rattle.fst_grow.specs.Inner.Growth.{Stands, treeIn};
-ghost use Rattle.commit.specs.Inner.Decision.{Decided};
+ghost use Rattle.commit.specs.Inner.Decision.{Decides};
 ghost use Rattle.make_walk.specs.Inner.Walk.{pathVerdict};
 
 use commit::Decision;
+use fst::Table;
+use fst_grow::Growing;
+use opened::OpenDisc;
 use refusal::{Refusal, Verdict};
 
-// 15, then the troubles along the path.
-fn check_start(table: &[u8], start: u32, path: &[u8]) -> Verdict
-    requires { reading.Opens table.now × (length path.now < 2 ^ 63) }
-    ensures { result ≡ refuse (leb (length (nodesOf table.now)) start) NoSuchEntry (troubleOf (nodesOf table.now) start start 0 false (components path.now)) }
-{
-    let place = start as usize;
-    if fst_check::count(table) <= place {
-        return Err(Refusal::NoSuchEntry);
-    }
-    make_walk::trouble(table, place, path)
-}
+// How many bytes a path may have.
+const PATH_LIMIT: usize = 1024;
 
-// The tests that need no memory: a path over 1,024 bytes 9, then those of the table.
-fn check_path(image: &[u8], start: u32, path: &[u8]) -> Verdict
-    requires { OpensImage image.now }
-    ensures { result ≡ pathVerdict (nodesIn image.now) start path.now }
+// The tests that need no memory: a path over the limit 9, then 15, and the troubles along the path 13, 17, 18, 12.
+fn check_path(disc: &OpenDisc<'_>, start: u32, path: &[u8]) -> Verdict
+    ensures answer { result ≡ pathVerdict disc.now.nodes start path.now }
+    ensures well_formed { WellFormed disc.now.nodes }
 {
-    if 1024 < path.len() {
+    let table = Table::new(disc.table());
+    if PATH_LIMIT < path.len() {
         return Err(Refusal::LimitOrMemory);
     }
-    check_start(opening::table(image), start, path)
+    make_walk::trouble(table, start as usize, path)
 }
 
-// The missing directories are made in the table that stands in the bytes, and the table's size and place are judged.
-fn make_in(
-    image: &[u8],
-    words: &[u32],
-    m: usize,
-    bytes: &mut [u8],
-    size: usize,
-    start: u32,
-    path: &[u8],
-) -> Result<Decision, Refusal>
-    requires { IsOpen image.now words.now m × Stands bytes.old size (length words.now) × (treeIn bytes.old size ≡ nodesIn image.now) × (pathVerdict (nodesIn image.now) start path.now ≡ (Ok tt)) }
-    ensures { Decided (planMakeDirectories (nodesIn image.now) start path.now) image.now (length words.now) (length bytes.old) bytes.new result }
-{
-    let reached = making::make_along(bytes, size, words.len(), start as usize, path)?;
-    let placed = table_only::place_table(image, words, m, bytes, reached.size);
-    table_only::numbered(placed, reached.entry as u32)
-}
-
-// What is decided on for an open image.
-pub fn decide_open(
-    image: &[u8],
-    words: &[u32],
-    m: usize,
+/// The directories that are missing along the path from the entry `start`, each the last child of the one before: the tests of the path, then
+/// those of the new table, which stands in the bytes where it is decided on. The number is the entry's that the path leads to.
+pub fn make_directories(
+    disc: &OpenDisc<'_>,
     bytes: &mut [u8],
     start: u32,
     path: &[u8],
 ) -> Result<Decision, Refusal>
-    requires { IsOpen image.now words.now m }
-    ensures { Decided (planMakeDirectories (nodesIn image.now) start path.now) image.now (length words.now) (length bytes.old) bytes.new result }
+    ensures { Decides (planMakeDirectories disc.now.nodes start path.now) disc.now (length bytes.old) bytes.new result }
 {
-    check_path(image, start, path)?;
-    let size = table_only::start_table(image, words, m, bytes)?;
-    make_in(image, words, m, bytes, size, start, path)
+    check_path(disc, start, path)?;
+    let size = table_only::start_table(disc, bytes)?;
+    let mut table = Growing::new(bytes, size, table_only::lent_words(disc));
+    let entry = making::make_along(&mut table, start as usize, path)?;
+    table_only::place_table(disc, &table, entry as u32)
 }

@@ -12,7 +12,7 @@ ghost use Rattle.edits.specs.Inner.Troubles.{troubleOf};
 mod components;
 mod walk;
 
-use components::Components;
+pub use components::Components;
 use fst::Table;
 use refusal::Verdict;
 use walk::Walk;

@@ -1,13 +1,22 @@
 -- `make_directories::check_path` meets its contract: the troubles along the path are what make-directories would meet.
-use Rattle.std.proofs.Common.{arith}
+use Rattle.std.proofs.Common.{arith, ◌∙◌}
 use Rattle.std.proofs.lemmas.Grind.{common_steps}
 use Rattle.make_walk.specs.Inner.Walk.{pathVerdict}
-use Rattle.make_directories.proofs.Outcomes.{path-judged}
+use Rattle.table_only.proofs.BuiltTable.{well-disc}
+use Rattle.make_directories.proofs.Plans.{path-short}
 use Rattle.make_directories.proofs.check_path.Goals as goal
 
-pub returns-then-path-gt1024 : goal.returns-then-path-gt1024
+pub returns-then-path-gt-PATH_LIMIT-clause-answer : goal.returns-then-path-gt-PATH_LIMIT-clause-answer
 unfolding pathVerdict
-returns-then-path-gt1024 c = grind (arith, common_steps)
+returns-then-path-gt-PATH_LIMIT-clause-answer c = grind (arith, common_steps)
 
-pub returns : goal.returns
-returns c = search path-judged
+pub returns-then-path-gt-PATH_LIMIT-clause-well_formed : goal.returns-then-path-gt-PATH_LIMIT-clause-well_formed
+returns-then-path-gt-PATH_LIMIT-clause-well_formed c = well-disc c.args.disc.now _ c.table.ensures.of_image
+
+pub returns-clause-answer : goal.returns-clause-answer
+returns-clause-answer c =
+    let t = c.table.ensures in
+    (rw (c.new-table.ensures, t.nodes) at c.trouble.ensures) ∙ path-short c.args.disc.now c.args.start c.args.path.now (well-disc c.args.disc.now _ t.of_image) (omega arith)
+
+pub returns-clause-well_formed : goal.returns-clause-well_formed
+returns-clause-well_formed c = well-disc c.args.disc.now _ c.table.ensures.of_image

@@ -1,15 +1,15 @@
--- Make-directories in the table that stands in the working bytes, a component at a time. Assumes nothing: these are definitions.
-use Rattle.std.specs.Prelude.{Result, Ok, Err, ℕ, ◌<◌, ◌≤◌, ◌≡◌, false, cond, List, [], length, take}
+-- Make-directories in the table that grows, a component at a time. Assumes nothing: these are definitions.
+use Rattle.std.specs.Prelude.{Result, Ok, Err, ℕ, ◌<◌, ◌≡◌, false, cond, List, [], length}
 use Rattle.refusal.specs.declared.Refusal.{Refusal}
 use Rattle.refusal.specs.declared.Refusal.TheVariants.{LimitOrMemory}
-use Rattle.tree.specs.Table.{Node, count, parent_of, encode, limits}
+use Rattle.tree.specs.Table.{Node, parent_of, encode, limits}
 use Rattle.tree.specs.Inner.WellFormed.{GoodName}
 use Rattle.tree.specs.Lookup.{childOf, stays, goesBack}
 use Rattle.tree.specs.Insert.{insertAt, emptyDirectory}
-use Rattle.fst_check.specs.Inner.Reading.{Opens}
 use Rattle.edits.specs.Edits.{newNumber, Made, stopped, made, ifFound}
-use Rattle.fst_grow.specs.Inner.Growth.{treeIn, Stands, IsDirectory}
-use Rattle.make_directories.specs.declared.making.Reached.{Reached}
+use Rattle.fst_grow.specs.declared.growing.Growing.{Growing}
+use Rattle.fst_grow.specs.Inner.Growth.{IsDirectory}
+use Rattle.fst_grow.specs.Inner.Growing.{tree_of, IsTable}
 
 -- the tree that a walk made, and the entry where it ended
 abbrev pub madeTree : Made → List Node
@@ -44,13 +44,7 @@ pub record CanTurn (nodes : List Node) (k : ℕ) (nm : List ℕ) : Type 0 where
   pub directory : IsDirectory nodes k
   pub named : stays nm ≡ false → goesBack nm ≡ false → MayName nodes k nm
 
--- entry k of the table that stands in the first `size` of these bytes
-pub record InBytes (bytes : List ℕ) (size k : ℕ) : Type 0 where
-  pub accepted : Opens (take size bytes)
-  pub held : size ≤ length bytes
-  pub inside : k < count (take size bytes)
-
--- the tree of a walk stands in the bytes, or there is no room for it (9)
-abbrev pub Reaches : Made → ℕ → ℕ → List ℕ → Result Reached Refusal → Type 0
-Reaches m words room bytes (Ok p) = (p.entry ≡ madeEntry m) × Stands bytes p.size words × (treeIn bytes p.size ≡ madeTree m)
-Reaches m words room bytes (Err c) = (c ≡ LimitOrMemory) × (limits (madeTree m) words ≡ Ok tt → room < length (encode (madeTree m)))
+-- the table of a walk stands there, or there is no room for it (9)
+abbrev pub Reaches : Made → ℕ → Growing → Result ℕ Refusal → Type 0
+Reaches m room table (Ok k) = (k ≡ madeEntry m) × IsTable table × (tree_of table ≡ madeTree m)
+Reaches m room table (Err c) = (c ≡ LimitOrMemory) × (limits (madeTree m) table.words ≡ Ok tt → room < length (encode (madeTree m)))

@@ -1,22 +1,32 @@
--- `make_directories::making::make_along` meets its contract. The invariant of its loop: what is left of the walk makes what the whole makes.
+-- `make_along` meets its contract: each step leads on to what the whole makes, and what there is no room for there is none for at the end.
+use Rattle.std.proofs.Common.{refl, ◌∙◌}
 use Rattle.std.proofs.lemmas.Result.{err_from_is_err_and}
-use Rattle.make_directories.proofs.Steps.{making-from, making-goes-on, making-cause, making-no-room, making-entry, making-stands, making-tree}
-use Rattle.make_directories.proofs.Turns.{making-can}
+use Rattle.make_directories.proofs.Turns.{making-start, making-can, making-stops, making-turn, making-end}
 use Rattle.make_directories.proofs.making.make_along.Goals as goal
 
-pub loop-here-init : goal.loop-here-init
-loop-here-init c = search making-from
+pub loop-name-init : goal.loop-name-init
+loop-name-init c =
+    rw (c.into_iter-name-iterator.ensures.into_iter_gives, c.new-name-items.ensures)
+    (tt, tt, making-start c.args.table.now c.args.start _ c.requires.0 c.requires.1 c.requires.2, refl)
 
-pub take_step-requires : goal.take_step-requires
-take_step-requires c = (search, search making-can)
+pub step-requires : goal.step-requires
+step-requires c =
+    let i = rw c.in-Some.ensures.steps at c.loop-name.invariant in
+    (i.2.table, making-can i.2)
 
-pub returns-in_err-here : goal.returns-in_err-here
-returns-in_err-here c =
+pub returns-in_err-entry-clause-reaches : goal.returns-in_err-entry-clause-reaches
+returns-in_err-entry-clause-reaches c =
+    let i = rw c.in-Some.ensures.steps at c.loop-name.invariant in
     let p = err_from_is_err_and c.from_residual.result c.from_residual.ensures.1 in
-    rw (p.1, p.2) (search (making-cause, making-no-room, c.in_err-here.was))
+    let s = making-stops i.2 c.step.new.table c.step.ensures.words _ _ c.step.ensures.reaches c.in_err-entry.was in
+    rw (p.1, p.2, c.step.ensures.words, i.2.lent) s
 
-pub returns-then-path-end : goal.returns-then-path-end
-returns-then-path-end c = (search (making-entry, c.in_ok-here.was), search (making-stands, c.in_ok-here.was), search (making-tree, c.in_ok-here.was))
+pub loop-name-preserved : goal.loop-name-preserved
+loop-name-preserved c =
+    let i = rw c.in-Some.ensures.steps at c.loop-name.invariant in
+    (tt, tt, making-turn i.2 c.step.new.table c.step.ensures.words _ c.step.ensures.length (rw c.in_ok-entry.was at c.step.ensures.reaches), c.step.ensures.same_reference ∙ i.3)
 
-pub loop-here-preserved : goal.loop-here-preserved
-loop-here-preserved c = search (making-goes-on, c.in_ok-here.was)
+pub returns-clause-reaches : goal.returns-clause-reaches
+returns-clause-reaches c =
+    let i = rw c.in-None.ensures.steps.0 at c.loop-name.invariant in
+    making-end _ _ _ _ _ _ i.2

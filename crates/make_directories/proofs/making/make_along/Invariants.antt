@@ -1,17 +1,16 @@
--- `make_directories::making::make_along` meets its contract. The invariant of its loop: what is left of the walk makes what the whole makes.
-use Prim.Native.Nat.{◌-◌}
-use mathlib.Core.Bool.{false}
-use mathlib.Core.List.{[]}
-use lib.ListN.{length}
+-- `make_along` meets its contract. The invariant of its loop: what is left of the walk makes what the whole makes.
+use Rattle.std.proofs.Common.{◌≡◌, false, [], length}
 use Rattle.tree.specs.Lookup.{components}
 use Rattle.edits.specs.Edits.{make}
-use Rattle.fst_grow.specs.Inner.Growth.{treeIn}
+use Rattle.fst_grow.specs.Inner.Growing.{tree_of}
 use Rattle.make_directories.specs.Inner.Making.{madeTree, madeEntry}
 use Rattle.make_directories.proofs.Turns.{Making}
 use Rattle.make_directories.proofs.making.make_along.Given as goal
 
-abbrev pub invariant-loop-here : goal.invariant-loop-here
-invariant-loop-here l = Making (madeTree (make (treeIn l.initial.bytes l.size) [] l.start false (components l.path))) (madeEntry (make (treeIn l.initial.bytes l.size) [] l.start false (components l.path))) l.path l.words (length l.initial.bytes) l.bytes l.here l.at
-
-abbrev pub decreases-loop-here : goal.decreases-loop-here
-decreases-loop-here l = length l.path - l.at
+abbrev pub invariant-loop-name : goal.invariant-loop-name
+invariant-loop-name l =
+    (goal.iterator-loop-name).can_next l.name-iterator ×
+    (goal.iterator-loop-name).is_finite l.name-iterator ×
+    Making (madeTree (make (tree_of l.initial.table) [] l.start false (components l.path))) (madeEntry (make (tree_of l.initial.table) [] l.start false (components l.path))) l.initial.table.words (length l.initial.table.bytes.now)
+    l.table l.entry l.name-iterator ×
+    (l.table.bytes.ghost_name ≡ l.initial.table.bytes.ghost_name)
