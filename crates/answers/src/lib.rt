@@ -9,6 +9,7 @@ use opened::OpenDisc;
 use refusal::Refusal;
 
 /// What opening tells of a disc: offsets and sizes in bytes.
+#[repr(C)]
 #[derive(Clone, Copy, PartialEq, Eq, Debug)]
 pub struct Disc {
     /// The byte at which the file table starts.

@@ -8,6 +8,7 @@ pub use regions::{
 };
 
 /// Where a disc ends, and how many of its bytes are used.
+#[repr(C)]
 #[derive(Clone, Copy, PartialEq, Eq, Debug)]
 pub struct DiscTotals {
     pub disc_end: u32,

@@ -10,6 +10,7 @@ use refusal::Refusal;
 use window::Window;
 
 /// The header: where each of the 7 text and 11 data sections stands in the file and in memory, and how many bytes it has.
+#[repr(C)]
 #[derive(Clone, Copy, PartialEq, Eq, Debug)]
 pub struct DolHeader {
     pub text_offsets: [u32; 7],

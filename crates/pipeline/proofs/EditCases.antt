@@ -1,21 +1,66 @@
--- What an edit decides on, on the image that opening made ready, is entered in the record as any edit's decision is. Assumes nothing.
-use Rattle.std.specs.Prelude.{Result, Ok}
+-- What an edit decides on, on the disc that opened, is entered in the record as any edit's decision is. Assumes nothing.
+use Rattle.std.specs.Prelude.{Result, Ok, Err, ℕ, ◌≡◌, List, [], length}
+use Rattle.std.proofs.Common.{refl, ap, sym, ◌∙◌}
+use Rattle.refusal.specs.Refusal.{Verdict}
 use Rattle.refusal.specs.declared.Refusal.{Refusal}
-use Prim.Native.Nat.{ℕ, ◌-◌}
-use mathlib.Core.Path.{◌≡◌}
-use mathlib.Core.List.{List}
-use lib.ListN.{length}
-use Rattle.space.specs.Inner.Sort.{regionsIn}
 use Rattle.totals.specs.declared.Totals.{Totals}
-use Rattle.opening.specs.Opening.{opening}
-use Rattle.opening.specs.Inner.Prepared.{Prepares}
+use Rattle.totals.specs.Inner.Scan.{moved}
+use Rattle.opening.specs.Opening.{opening, nodesIn, behindTable, usedIn, freeOf}
 use Rattle.edits.specs.Edits as edits
-use Rattle.edits.specs.Edits.{planned, plan_of}
+use Rattle.edits.specs.Edits.{planned, plan_of, planVerdict, planNumber, numberedAs}
+use Rattle.edits.specs.Promise.{Lent, onlyVerdict, Edited}
+use Rattle.opened.specs.Disc.{Disc, disc_of, Means}
 use Rattle.commit.specs.declared.Decision.{Decision}
-use Rattle.totals_after.specs.Inner.Accounting.{Accounted, accountOf, AccountedFor}
-use Rattle.totals_after.proofs.Edited.{open-accounted}
-use Rattle.pipeline.specs.Inner.Decides.{Decides}
+use Rattle.commit.specs.Inner.Decision.{DecidedAs, Decides, verdictIn}
+use Rattle.insert.specs.declared.new_entry.Kind.{Kind}
+use Rattle.insert.specs.declared.new_entry.Kind.TheVariants.{File, Directory}
+use Rattle.insert.specs.Insertion.{insertion, planInserted}
+use Rattle.totals_after.specs.Inner.Accounting.{OnDisc, OfUsed, accounted, unless, enteredFor, AccountedFor}
+use Rattle.totals_after.specs.Laws.AccountLaws.{on-disc}
+use Rattle.totals_after.proofs.Edited.{refused-decision, open-accounted}
+use Rattle.pipeline.specs.Inner.Decides.{plan_on, EditDecided}
 
-pub decides-accounted : (ed : edits.Edit) (image w w' : List ℕ) (r : Result ℕ Refusal) (m room : ℕ) (bytes clip : List ℕ) (d : Result Decision Refusal) → Prepares image w' r → r ≡ Ok m → length w' ≡ length w → length bytes ≡ room →
-    Decides ed image (length w') room bytes clip d → (t : Totals) (a : Accounted) → a ≡ accountOf image (regionsIn w' 1 (m - 1)) d t → AccountedFor (planned (opening image (length w)) (plan_of ed image)) image (length w) room bytes clip t a
-decides-accounted ed image w w' r m room bytes clip d ready is same long h t a q = open-accounted ed h.passable image w w' r m room bytes clip d ready is same long h.decided t a q
+-- the plan of an edit is that of the disc which the image means
+plan_same : (ed : edits.Edit) (image : List ℕ) (words : ℕ) → plan_of ed image ≡ plan_on ed (disc_of image words)
+unfolding freeOf usedIn behindTable nodesIn
+plan_same (edits.insertFile p nm) image words = refl
+plan_same (edits.insertDirectory p nm) image words = refl
+plan_same (edits.makeDirectories start path) image words = refl
+plan_same (edits.moveFile k to) image words = refl
+plan_same (edits.resizeFile k n) image words = refl
+plan_same (edits.fillFile k clip) image words = refl
+plan_same edits.rewrite image words = refl
+
+-- an insert, by what it inserts
+pub inserted : (kind : Kind) (p : ℕ) (name : List ℕ) (d : Disc) (room : ℕ) (bytes : List ℕ) (r : Result Decision Refusal) → Decides (planInserted kind d.nodes p name) d room bytes r →
+    EditDecided (insertion kind p name) d room bytes [] r
+inserted File p name d room bytes r h = record { decided = h; passable = tt }
+inserted Directory p name d room bytes r h = record { decided = h; passable = tt }
+
+-- ---- on the disc that an image means
+
+module _ (ed : edits.Edit) (image : List ℕ) (words : ℕ) (d : Disc) (o : Means image d × (d.words ≡ words)) (room : ℕ) (bytes clip : List ℕ) where
+  pub decided_as : (r : Result Decision Refusal) → EditDecided ed d room bytes clip r → DecidedAs (planVerdict (plan_of ed image) image d.words room) (plan_of ed image) image room bytes clip r
+  decided_as r h = rw (plan_same ed image d.words ∙ ap (plan_on ed) o.0.is) (h.decided image o.0)
+
+  -- refused by its own tests
+  pub edit-refused : (c : Refusal) (t : Totals) → EditDecided ed d room bytes clip (Err c) → length bytes ≡ room →
+      AccountedFor (planned (opening image words) (plan_of ed image)) image words room bytes clip t (accounted (Err c) t)
+  edit-refused c t h long = rw o.1 at (refused-decision ed h.passable image d o.0 room bytes clip long c t (decided_as (Err c) h))
+
+  pub on_disc : (r : Decision) → EditDecided ed d room bytes clip (Ok r) → length bytes ≡ room → OnDisc d r
+  on_disc r h long = on-disc d image o.0 room bytes clip long (plan_of ed image) r (decided_as (Ok r) h)
+
+  -- entered in the record, by the answer
+  pub edit-accounted : (r : Decision) → EditDecided ed d room bytes clip (Ok r) → (v : Verdict) (t t' : Totals) → OfUsed d (λ image' behind. moved v t' ≡ enteredFor image' behind r t) → length bytes ≡ room →
+      AccountedFor (planned (opening image words) (plan_of ed image)) image words room bytes clip t (accounted (unless v r) t')
+  edit-accounted r h v t t' q long = rw o.1 at (open-accounted ed h.passable image d o.0 room bytes clip long r (decided_as (Ok r) h) v t t' q)
+
+-- ---- an edit that gives only that it is done
+
+only : (r : Result ℕ Refusal) (v : Verdict) (k : ℕ) → r ≡ numberedAs v k → verdictIn r ≡ v
+only r (Ok tt) k e = rw e
+only r (Err c) k e = rw e
+
+pub done_as : (ed : edits.Edit) (before after : Lent) (r : Result ℕ Refusal) → Edited numberedAs ed before after r → Edited onlyVerdict ed before after (verdictIn r)
+done_as ed before after r e = record { answered = only r _ _ e.answered; image = e.image; totals = e.totals; words = e.words; bytes = e.bytes }

@@ -3,51 +3,77 @@
 
 ghost use Rattle.std.specs.Prelude.{◌≡◌, length};
 ghost use Rattle.opening.specs.Opening.{opening};
-ghost use Rattle.opening.specs.Inner.Prepared.{IsOpen};
+ghost use Rattle.edits.specs.Edits as edits;
 ghost use Rattle.edits.specs.Edits.{planned, plan_of, numberedAs};
-ghost use Rattle.totals_after.specs.Inner.Accounting.{accounted, AccountedFor};
 ghost use Rattle.edits.specs.Promise.{lent, onlyVerdict, Edited};
-ghost use Rattle.totals.specs.Totals.{totalsIn};
-ghost use Rattle.pipeline.specs.Inner.Decides.{editOf, clipOf, Decides};
+ghost use Rattle.totals_after.specs.Inner.Accounting.{accounted, AccountedFor};
+ghost use Rattle.pipeline.specs.Inner.Decides.{editOf, clipOf, EditDecided};
 
 use commit::Decision;
+use insert::NewEntry;
+use opened::{Lent, OpenDisc};
 use refusal::{Refusal, Verdict};
-use totals::Record;
+use totals::Totals;
 
-// An edit with its numbers; its name, path or clip stands beside it.
+/// An edit, with all that it needs besides the image, the working memory and the record. Entries go by their numbers; offsets and sizes are
+/// in bytes.
 #[derive(Clone, Copy)]
-pub enum Edit {
+pub enum Edit<'a> {
+    /// The table is written anew, with no name shared.
     Rewrite,
-    MoveFile(u32, u32),
-    ResizeFile(u32, u32),
-    FillFile(u32),
-    InsertFile(u32),
-    InsertDirectory(u32),
-    MakeDirectories(u32),
+    /// The file goes to another offset.
+    Move { file: u32, offset: u32 },
+    /// The file gets another size, and another place where it cannot grow where it is.
+    Resize { file: u32, size: u32 },
+    /// Afterwards the file is the clip.
+    Fill { file: u32, clip: &'a [u8] },
+    /// An empty file, with offset 0, or an empty directory as last child of a directory.
+    Insert(NewEntry<'a>),
+    /// Each directory of the path that is missing, from the entry `start` on.
+    MakeDirectories { start: u32, path: &'a [u8] },
 }
 
-// What each edit decides on, once the image is open: all its tests but the last, and the new table in the working bytes.
-pub fn decide_open(
-    image: &[u8],
-    words: &[u32],
-    m: usize,
+impl<'a> Edit<'a> {
+    // The clip that fills a file; none for the other edits.
+    fn clip(self) -> &'a [u8]
+        ensures { result.now ≡ clipOf self.entry }
+    {
+        match self {
+            Edit::Fill { clip, .. } => clip,
+            _ => b"",
+        }
+    }
+}
+
+// A fill. What the bytes of a clip are is known of a parameter, and not of a reference in an enum.
+fn fill_file(
+    disc: &OpenDisc<'_>,
     bytes: &mut [u8],
-    edit: Edit,
-    text: &[u8],
+    file: u32,
+    clip: &[u8],
 ) -> Result<Decision, Refusal>
-    requires { IsOpen image.now words.now m }
-    ensures { Decides (editOf edit text.now) image.now (length words.now) (length bytes.old) bytes.new (clipOf edit text.now) result }
+    ensures { EditDecided (edits.fillFile file clip.now) disc.now (length bytes.old) bytes.new clip.now result }
+{
+    fill::fill(disc, bytes, file, clip)
+}
+
+/// What an edit decides on, on an open disc: all its tests but the last, and the new table in the working bytes.
+pub fn decide_open(
+    disc: &OpenDisc<'_>,
+    bytes: &mut [u8],
+    edit: Edit<'_>,
+) -> Result<Decision, Refusal>
+    ensures { EditDecided (editOf edit.entry) disc.now (length bytes.old) bytes.new (clipOf edit.entry) result }
 {
     match edit {
-        Edit::Rewrite => decide::rewrite(image, words, m, bytes),
-        Edit::MoveFile(number, to) => decide::move_file(image, words, m, bytes, number, to),
-        Edit::ResizeFile(number, size) => decide::resize_file(image, words, m, bytes, number, size),
-        Edit::FillFile(number) => fill::fill(image, words, m, bytes, number, text),
-        Edit::InsertFile(parent) => insert::insert(image, words, m, bytes, parent, false, text),
-        Edit::InsertDirectory(parent) => insert::insert(image, words, m, bytes, parent, true, text),
-        Edit::MakeDirectories(start) => make_directories::decide_open(
-            image, words, m, bytes, start, text,
-        ),
+        Edit::Rewrite => decide::rewrite(disc, bytes),
+        Edit::Move { file, offset } => decide::move_file(disc, bytes, file, offset),
+        Edit::Resize { file, size } => decide::resize_file(disc, bytes, file, size),
+        Edit::Fill { file, clip } => fill_file(disc, bytes, file, clip),
+        Edit::Insert(new) => insert::insert(disc, bytes, new),
+        Edit::MakeDirectories { start, path } => {
+            make_directories::make_directories(disc, bytes, start, path)
+        }
     }
 }
 
@@ -56,52 +82,44 @@ fn decide(
     image: &[u8],
     words: &mut [u32],
     bytes: &mut [u8],
-    record: &mut Record,
-    edit: Edit,
-    text: &[u8],
+    totals: &mut Totals,
+    edit: Edit<'_>,
 ) -> Result<Decision, Refusal>
-    ensures { AccountedFor (planned (opening image.now (length words.old)) (plan_of (editOf edit text.now) image.now)) image.now (length words.old) (length bytes.old) bytes.new (clipOf edit text.now) (totalsIn «record».old) (accounted result (totalsIn «record».new)) }
+    ensures { AccountedFor (planned (opening image.now (length words.old)) (plan_of (editOf edit.entry) image.now)) image.now (length words.old) (length bytes.old) bytes.new (clipOf edit.entry) totals.old (accounted result totals.new) }
 {
-    let m = opening::prepare(image, words)?;
-    let decided = decide_open(image, words, m, bytes, edit, text);
-    totals_after::account(image, words, m, decided, record)
+    let disc = OpenDisc::of_image(image, words)?;
+    let decision = decide_open(&disc, bytes, edit)?;
+    totals_after::account(&disc, decision, totals)?;
+    Ok(decision)
 }
 
-// The clip that fills the file; none for the other edits.
-fn clip_of<'a>(edit: Edit, text: &'a [u8]) -> &'a [u8]
-    ensures { result.now ≡ clipOf edit text.now }
-{
-    match edit {
-        Edit::FillFile(_) => text,
-        _ => &text[..0],
-    }
-}
-
-// The whole edit; with the number of the entry that it gives, 0 where it gives none.
+/// The whole edit: opens the image, makes every test, builds the new table in the working bytes, and only then writes the image. Gives the
+/// number of the entry that it makes, moves or fills, 0 where there is none; or why it is refused, with image and record as they were.
 pub fn run(
     image: &mut [u8],
     words: &mut [u32],
     bytes: &mut [u8],
-    record: &mut Record,
-    edit: Edit,
-    text: &[u8],
+    totals: &mut Totals,
+    edit: Edit<'_>,
 ) -> Result<u32, Refusal>
-    ensures { Edited numberedAs (editOf edit text.now) (lent image.old words.old bytes.old (totalsIn «record».old)) (lent image.new words.new bytes.new (totalsIn «record».new)) result }
+    ensures { Edited numberedAs (editOf edit.entry) (lent image.old words.old bytes.old totals.old) (lent image.new words.new bytes.new totals.new) result }
 {
-    let decided = decide(image, words, bytes, record, edit, text);
-    commit::finish(image, words, bytes, clip_of(edit, text), decided)
+    let words = Lent::new(words);
+    let bytes = Lent::new(bytes);
+    let decision = decide(image, words.memory, bytes.memory, totals, edit)?;
+    Ok(decision.carry_out(image, bytes.memory, edit.clip()))
 }
 
-// The whole edit, of one that gives only that it is done.
+/// The whole edit, of one that gives only that it is done.
 pub fn done(
     image: &mut [u8],
     words: &mut [u32],
     bytes: &mut [u8],
-    record: &mut Record,
-    edit: Edit,
-    text: &[u8],
+    totals: &mut Totals,
+    edit: Edit<'_>,
 ) -> Verdict
-    ensures { Edited onlyVerdict (editOf edit text.now) (lent image.old words.old bytes.old (totalsIn «record».old)) (lent image.new words.new bytes.new (totalsIn «record».new)) result }
+    ensures { Edited onlyVerdict (editOf edit.entry) (lent image.old words.old bytes.old totals.old) (lent image.new words.new bytes.new totals.new) result }
 {
-    commit::verdict_of(run(image, words, bytes, record, edit, text))
+    run(image, words, bytes, totals, edit)?;
+    Ok(())
 }

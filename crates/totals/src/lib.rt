@@ -1,69 +1,75 @@
 // The totals record that goes into an edit and comes back, and the largest free region that an edit leaves.
 #![tactic(auto)]
 
-ghost use Rattle.std.specs.Prelude.{◌≡◌, ◌-◌, ◌<◌, ◌^◌, max};
+ghost use Rattle.std.specs.Prelude.{◌≡◌, ◌-◌, ◌<◌, ◌^◌, drop, max, OnOk, OnErr};
 ghost use Rattle.space.specs.Inner.Sort.{regionsIn};
 ghost use Rattle.space.specs.Inner.Words.{SortedDisjoint};
-ghost use Rattle.totals.specs.Totals.{totalsIn, totalsVerdict, totalsMoved};
-ghost use Rattle.totals.specs.Inner.Scan.{longestBeside, longestFrom, goneOf, moved, movedAs};
+ghost use Rattle.totals.specs.Totals.{totalsVerdict, totalsMoved};
+ghost use Rattle.totals.specs.Inner.Scan.{longestBeside, longestFrom, goneOf};
 
-use endian::wide;
+use free_space::UsedRegions;
 use refusal::{Refusal, Verdict};
 use space::DiscRegion;
 
-// Used bytes, the largest free region's size, and the number of accepted edits.
-#[derive(Clone, Copy)]
+/// The totals record, which goes into an edit and comes back; in C it is lent as three 32-bit words in a row.
+#[repr(C)]
+#[derive(Clone, Copy, PartialEq, Eq, Debug)]
 pub struct Totals {
+    /// Bytes that are used.
     pub used: u32,
+    /// Bytes of the largest free region; 0 if there is none.
     pub largest: u32,
+    /// How many edits were accepted.
     pub edits: u32,
 }
 
-// The record as an edit is lent it: a slot for each of its numbers. Its length is written here alone.
-pub type Record = [u32; 3];
-
-// How many bytes there are from a up to b.
-fn bytes_between(a: u64, b: u32) -> u32
-    ensures { result ≡ b - a }
-{
-    if wide(b) <= a {
-        0
-    } else {
-        (wide(b) - a) as u32
+impl Totals {
+    /// Moves the record on by an edit that uses `after` bytes where `before` were used, in any two numbers with that difference, and that
+    /// leaves `largest` bytes as the largest free region. 25 if used bytes or edits would leave 32 bits: then the record stays.
+    #[tactic(auto, unfolding(crate::specs::Totals::totalsVerdict, crate::specs::Totals::totalsMoved))]
+    pub fn move_on(&mut self, before: u64, after: u64, largest: u32) -> Verdict
+        requires before_fits { before < 2 ^ 34 }
+        requires after_fits { after < 2 ^ 34 }
+        ensures answer { result ≡ totalsVerdict self.old before after }
+        ensures accepted { OnOk result (self.new ≡ totalsMoved self.old before after largest) }
+        ensures refused { OnErr result (self.new ≡ self.old) }
+    {
+        let sum = u64::from(self.used) + after;
+        let used = sum.checked_sub(before).ok_or(Refusal::TotalsOutOfRange)?;
+        let used = u32::try_from(used).or(Err(Refusal::TotalsOutOfRange))?;
+        let edits = self.edits.checked_add(1).ok_or(Refusal::TotalsOutOfRange)?;
+        *self = Totals {
+            used,
+            largest,
+            edits,
+        };
+        Ok(())
     }
-}
-
-fn larger(a: u32, b: u32) -> u32
-    ensures { result ≡ max a b }
-{
-    if a < b { b } else { a }
 }
 
 // The longest run of the bytes from a up to b that has none of the region's bytes.
-fn longest_beside(a: u32, b: u32, region: DiscRegion) -> u32
+#[tactic(auto, unfolding(crate::specs::Inner::Scan::longestBeside))]
+fn longest_beside(a: u64, b: u32, region: DiscRegion) -> u32
     ensures { result ≡ longestBeside a b region }
 {
-    let end = wide(region.offset) + wide(region.size);
-    if region.size == 0 {
-        return bytes_between(wide(a), b);
+    let b = u64::from(b);
+    let start = u64::from(region.offset);
+    if region.size == 0 || region.end() <= a || b <= start {
+        return b.saturating_sub(a) as u32;
     }
-    if end <= wide(a) {
-        return bytes_between(wide(a), b);
-    }
-    if b <= region.offset {
-        return bytes_between(wide(a), b);
-    }
-    larger(bytes_between(wide(a), region.offset), bytes_between(end, b))
+    start.saturating_sub(a).max(b.saturating_sub(region.end())) as u32
 }
 
 // The longer of `best` and that run. Most gaps are no longer than the best so far, and need no closer look.
-fn longer(best: u32, a: u32, b: u32, region: DiscRegion) -> u32
+#[tactic(auto, unfolding(crate::specs::Inner::Scan::longestBeside))]
+fn longer(best: u32, a: u64, b: u32, region: DiscRegion) -> u32
+    requires { a < 2 ^ 34 }
     ensures { result ≡ max best (longestBeside a b region) }
 {
-    if wide(b) <= wide(a) + wide(best) {
+    if u64::from(b) <= a + u64::from(best) {
         return best;
     }
-    larger(best, longest_beside(a, b, region))
+    best.max(longest_beside(a, b, region))
 }
 
 // Where the old place starts; 0, where no file can, if there is none.
@@ -73,8 +79,32 @@ fn gone_of(old: DiscRegion) -> u32
     if old.size == 0 { 0 } else { old.offset }
 }
 
-// The size of the largest free region after an edit, by the used regions before it, which stand in the words: the table is then up to
-// `table_end`, and the edited file, if there is one, no longer at `old` but at `new`.
+/// The size in bytes of the largest free region after an edit, by the used regions before it, of which the table is the first: the table then
+/// ends at `table_end`, and the edited file, if there is one, lies no longer at `old` but at `new`.
+pub fn largest_after(
+    used: &UsedRegions<'_>,
+    disc_end: u32,
+    table_end: u32,
+    old: DiscRegion,
+    new: DiscRegion,
+) -> u32
+    ensures { result ≡ longestFrom disc_end (goneOf old) new table_end 0 (drop 1 used.now.regions) }
+{
+    let gone = gone_of(old);
+    let mut at = u64::from(table_end);
+    let mut best = 0;
+    let mut behind_table = used.iter();
+    behind_table.next();
+    for region in behind_table {
+        if region.offset != gone {
+            best = longer(best, at, region.offset, new);
+            at = region.end();
+        }
+    }
+    longer(best, at, disc_end, new)
+}
+
+// For the callers that are still to go over.
 pub fn largest_free(
     words: &[u32],
     count: usize,
@@ -86,37 +116,11 @@ pub fn largest_free(
     requires { SortedDisjoint words.now count disc_end × (0 < count) }
     ensures { result ≡ longestFrom disc_end (goneOf old) new table_end 0 (regionsIn words.now 1 (count - 1)) }
 {
-    let gone = gone_of(old);
-    let mut at = table_end;
-    let mut best = 0;
-    for k in 1..count {
-        let offset = words[2 * k];
-        if offset == gone {
-            continue;
-        }
-        best = longer(best, at, offset, new);
-        at = offset + words[2 * k + 1];
-    }
-    longer(best, at, disc_end, new)
-}
-
-// The record after an edit that uses `after` bytes where `before` were used, in any two numbers with that difference; or 25, and it stays.
-pub fn move_totals(record: &mut Record, before: u64, after: u64, largest: u32) -> Verdict
-    requires { (before < 2 ^ 34) × (after < 2 ^ 34) }
-    ensures { moved result (totalsIn «record».new) ≡ movedAs (totalsVerdict (totalsIn «record».old) before after) (totalsIn «record».old) (totalsMoved (totalsIn «record».old) before after largest) }
-{
-    let sum = wide(record[0]) + after;
-    let edits = record[2];
-    if sum < before {
-        return Err(Refusal::TotalsOutOfRange);
-    }
-    let used = sum - before;
-    if 0xFFFFFFFF < used {
-        return Err(Refusal::TotalsOutOfRange);
-    }
-    if 0xFFFFFFFF <= edits {
-        return Err(Refusal::TotalsOutOfRange);
-    }
-    *record = [used as u32, largest, edits + 1];
-    Ok(())
+    largest_after(
+        &UsedRegions::new(words, count, disc_end),
+        disc_end,
+        table_end,
+        old,
+        new,
+    )
 }

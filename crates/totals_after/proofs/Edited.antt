@@ -11,9 +11,10 @@ use Rattle.refusal.specs.declared.Refusal.{Refusal}
 use Rattle.refusal.specs.Laws.Chains.{first-passed}
 use Rattle.space.specs.Inner.Sort.{regionsIn}
 use Rattle.totals.specs.declared.Totals.{Totals}
-use Rattle.opening.specs.Opening.{opening}
-use Rattle.opening.specs.Inner.Prepared.{Prepares, IsOpen}
-use Rattle.opening.specs.Laws.OpeningLaws.{was-ready, was-refused}
+use Rattle.totals.specs.Totals.{totalsVerdict}
+use Rattle.totals.specs.Inner.Scan.{moved}
+use Rattle.opening.specs.Opening.{opening, usedOf, zeros}
+use Rattle.opened.specs.Disc.{Disc, Means}
 use Rattle.edits.specs.Change.{Plan, refused}
 use Rattle.edits.specs.Edits.{Edit, planned, plan_of, planVerdict, planImage, planNumber, numberedAs, countedVerdict, verdictOf, imageAfter, totalsTo, totalsAfter}
 use Rattle.edits.specs.Promise.{lent, Edited}
@@ -24,7 +25,7 @@ use Rattle.ledger.proofs.Laws.TreeAfter.{arrives}
 use Rattle.commit.specs.declared.Decision.{Decision}
 use Rattle.commit.specs.Inner.Decision.{CanCarry, carriedAnswer, carriedImage, DecidedAs}
 use Rattle.commit.proofs.Decisions.{answered}
-use Rattle.totals_after.specs.Inner.Accounting.{Accounted, accounted, accountOf, AccountedFor}
+use Rattle.totals_after.specs.Inner.Accounting.{OfUsed, Accounted, accounted, unless, settledAs, enteredFor, accountOf, AccountedFor}
 use Rattle.totals_after.specs.Laws.AccountLaws as laws
 
 -- ---- a plan, of an open image
@@ -53,26 +54,40 @@ module _ (p : Plan) (image : List ℕ) (words room : ℕ) (bytes clip : List ℕ
       go (Ok _) e = passed-accounted d a e h (n.passed e)
       go (Err c) e = refused-accounted c a e (n.refused c e)
 
+-- the record of an account by the words
+counted : (p : Plan) (image : List ℕ) (words room : ℕ) (d : Result Decision Refusal) (a b : Accounted) (t t' : Totals) → a ≡ b →
+    laws.Entered (first (planVerdict p image words room) (totalsVerdict t (usedOf image) (usedOf (planImage p image)))) d t t' b → laws.Entered (countedVerdict p t image words room) d t t' a
+unfolding countedVerdict
+counted p image words room d a b t t' e n = rw e n
+
 -- ---- an edit: opening, then its plan
 
-module _ (ed : Edit) (h : Passable ed) (image w w' : List ℕ) (r : Result ℕ Refusal) (m room : ℕ) (bytes clip : List ℕ) (d : Result Decision Refusal) (ready : Prepares image w' r) (is : r ≡ Ok m)
-    (same : length w' ≡ length w) (long : length bytes ≡ room) (decided : DecidedAs (planVerdict (plan_of ed image) image (length w') room) (plan_of ed image) image room bytes clip d) where
-  ready_words : IsOpen image w' m
-  ready_words = was-ready image w' r ready m is
+module _ (ed : Edit) (h : Passable ed) (image : List ℕ) (d : Disc) (m : Means image d) (room : ℕ) (bytes clip : List ℕ) (long : length bytes ≡ room) where
+  -- refused by its own tests
+  pub refused-decision : (c : Refusal) (t : Totals) → DecidedAs (planVerdict (plan_of ed image) image d.words room) (plan_of ed image) image room bytes clip (Err c) →
+      AccountedFor (planned (opening image d.words) (plan_of ed image)) image d.words room bytes clip t (accounted (Err c) t)
+  refused-decision c t k =
+      rw (behind-passed (opening image d.words) (plan_of ed image) m.known.passed)
+      (refused-accounted (plan_of ed image) image d.words room bytes clip t c _ (unfold countedVerdict in rw (← k.answer)) refl)
 
-  lays : planVerdict (plan_of ed image) image (length w') room ≡ Ok tt → Lays (plan_of ed image) image (planImage (plan_of ed image) image)
-  lays v = (arrives image (length w') room ready_words.known.bytes ready_words.known.passed ed h v).2
+  module _ (r : Decision) (decided : DecidedAs (planVerdict (plan_of ed image) image d.words room) (plan_of ed image) image room bytes clip (Ok r)) where
+    lays : planVerdict (plan_of ed image) image d.words room ≡ Ok tt → Lays (plan_of ed image) image (planImage (plan_of ed image) image)
+    lays v = (arrives image d.words room m.known.bytes m.known.passed ed h v).2
 
-  pub open-accounted : (t : Totals) (a : Accounted) → a ≡ accountOf image (regionsIn w' 1 (m - 1)) d t → AccountedFor (planned (opening image (length w)) (plan_of ed image)) image (length w) room bytes clip t a
-  open-accounted t a q =
-      let n = laws.entered image w' m room bytes long t ready_words (planImage (plan_of ed image) image) (plan_of ed image) clip d decided lays in
-      let f : AccountedFor (plan_of ed image) image (length w') room bytes clip t a = entered-accounted (plan_of ed image) image (length w') room bytes clip t d a decided (unfold countedVerdict in rw q n) in
-      rw (behind-passed (opening image (length w)) (plan_of ed image) (rw same at ready_words.known.passed)) (rw same at f)
+    -- entered in the record
+    pub open-accounted : (v : Verdict) (t t' : Totals) → OfUsed d (λ image' behind. moved v t' ≡ enteredFor image' behind r t) →
+        AccountedFor (planned (opening image d.words) (plan_of ed image)) image d.words room bytes clip t (accounted (unless v r) t')
+    open-accounted v t t' q =
+        let a : Accounted = accounted (unless v r) t' in
+        let e : a ≡ accountOf image (regionsIn q.words 1 (q.count - 1)) (Ok r) t = ap (settledAs r) (q.is image m) in
+        let n = laws.entered image q.words q.count room bytes long t (q.held image m) (planImage (plan_of ed image) image) (plan_of ed image) clip (Ok r) (rw (← q.long) at decided) (rw (← q.long) at lays) in
+        let f = entered-accounted (plan_of ed image) image d.words room bytes clip t (Ok r) a decided (counted (plan_of ed image) image d.words room (Ok r) a _ t _ e (rw q.long at n)) in
+        rw (behind-passed (opening image d.words) (plan_of ed image) m.known.passed) f
 
-pub unopened-accounted : (p : Plan) (image w w' : List ℕ) (r : Result ℕ Refusal) (c : Refusal) (room : ℕ) (bytes clip : List ℕ) (t : Totals) (a : Accounted) → Prepares image w' r → r ≡ Err c → length w' ≡ length w → a ≡ accounted (Err c) t →
-    AccountedFor (planned (opening image (length w)) p) image (length w) room bytes clip t a
-unopened-accounted p image w w' r c room bytes clip t a q e same =
-    rw (behind-refused (opening image (length w)) p c (rw same at (was-refused image w' r q c e))) (refused-accounted (refused (Err c)) image (length w) room bytes clip t c a (unfold countedVerdict in refl))
+pub unopened-accounted : (p : Plan) (image : List ℕ) (words : ℕ) (c : Refusal) (room : ℕ) (bytes clip : List ℕ) (t : Totals) (a : Accounted) → opening image words ≡ Err c → a ≡ accounted (Err c) t →
+    AccountedFor (planned (opening image words) p) image words room bytes clip t a
+unopened-accounted p image words c room bytes clip t a q e =
+    rw (behind-refused (opening image words) p c q) (refused-accounted (refused (Err c)) image words room bytes clip t c a (unfold countedVerdict in refl) e)
 
 -- ---- the whole edit
 
@@ -96,15 +111,8 @@ module _ (ed : Edit) (image : List ℕ) (words room : ℕ) (bytes clip : List �
           let e : countedVerdict (refused (Err c)) t image words room ≡ Err c = unfold countedVerdict in refl in
           (answered _ _ _ _ _ _ _ k.decided ∙ rw e, k.decided.after ∙ rw e, k.totals ∙ rw e)
 
-pub edited : (ed : Edit) (image words bytes clip x b image' words' bytes' : List ℕ) (n : ℕ) (t t' : Totals) (d : Result Decision Refusal) → AccountedFor (planned (opening image (length words)) (plan_of ed image)) image (length words) (length bytes) b clip t (accounted d t') → x ≡ clip →
-    image' ≡ carriedImage d b x image → words' ≡ replicate n 0 → bytes' ≡ replicate (length b) 0 → n ≡ length words → length b ≡ length bytes →
-    (r : Result ℕ Refusal) → r ≡ carriedAnswer d → Edited numberedAs ed (lent image words bytes t) (lent image' words' bytes' t') r
-edited ed image words bytes clip x b image' words' bytes' n t t' d f c i zw zb kw kb r q =
+pub edited : (ed : Edit) (image words bytes clip x b image' words' bytes' : List ℕ) (t t' : Totals) (d : Result Decision Refusal) → AccountedFor (planned (opening image (length words)) (plan_of ed image)) image (length words) (length bytes) b clip t (accounted d t') → x ≡ clip →
+    image' ≡ carriedImage d b x image → words' ≡ zeros words → bytes' ≡ zeros bytes → (r : Result ℕ Refusal) → r ≡ carriedAnswer d → Edited numberedAs ed (lent image words bytes t) (lent image' words' bytes' t') r
+edited ed image words bytes clip x b image' words' bytes' t t' d f c i zw zb r q =
     let e = edit-accounted ed image (length words) (length bytes) b clip t t' d f in
-    record {
-      answered = q ∙ e.0;
-      image = i ∙ rw c e.1;
-      totals = e.2;
-      words = zw ∙ ap (λ (m : ℕ). replicate m 0) kw;
-      bytes = zb ∙ ap (λ (m : ℕ). replicate m 0) kb;
-    }
+    record { answered = q ∙ e.0; image = i ∙ rw c e.1; totals = e.2; words = zw; bytes = zb }

@@ -1,72 +1,53 @@
 // The totals record after what an edit decides on: its test, which comes last, and the record that is lent moved on.
 #![tactic(auto)]
 
-ghost use Rattle.std.specs.Prelude.{◌≡◌, ◌+◌, ◌-◌, ◌≤◌};
-ghost use Rattle.header.specs.Verdicts.{fstOffset, fstSize, discEnd};
-ghost use Rattle.space.specs.Inner.Sort.{regionsIn};
-ghost use Rattle.opening.specs.Inner.Prepared.{IsOpen};
-ghost use Rattle.totals.specs.Totals.{totalsIn};
+ghost use Rattle.std.specs.Prelude.{◌≡◌, ◌+◌, ◌≤◌};
 ghost use Rattle.totals.specs.Inner.Scan.{moved};
-ghost use Rattle.edits.specs.Edits.{noPlace};
-ghost use Rattle.totals_after.specs.Inner.Accounting.{OnDisc, accounted, enteredAs, accountOf};
+ghost use Rattle.totals_after.specs.Inner.Accounting.{OnDisc, OfUsed, enteredAs, enteredFor};
 
-use commit::Decision;
-use endian::wide;
-use header::Field;
-use refusal::{Refusal, Verdict};
+use commit::{Decision, Writing};
+use free_space::UsedRegions;
+use opened::OpenDisc;
+use refusal::Verdict;
 use space::DiscRegion;
-use totals::Record;
+use totals::Totals;
 
-// The record after an edit: used bytes move by what the table and the edited file gain and lose, and the largest free region comes from the
-// used regions in the words. The header of an open image is whole, so its words are read at once. The new table has `size` bytes, and the file
-// goes from `old` to `new`.
+// The record after an edit whose new table has `size` bytes, and whose file goes from `old` to `new`: used bytes move by what the table and
+// the file gain and lose, and the largest free region comes from the used regions in the words.
 fn enter(
-    image: &[u8],
-    words: &[u32],
-    m: usize,
-    record: &mut Record,
-    size: u32,
+    disc: &OpenDisc<'_>,
+    totals: &mut Totals,
+    size: usize,
     old: DiscRegion,
     new: DiscRegion,
 ) -> Verdict
-    requires { IsOpen image.now words.now m × (fstOffset image.now + size ≤ discEnd image.now) }
-    ensures { moved result (totalsIn «record».new) ≡ enteredAs image.now (regionsIn words.now 1 (m - 1)) (totalsIn «record».old) size old new }
+    requires { disc.now.start + size ≤ disc.now.end }
+    ensures { OfUsed disc.now (λ image behind. moved result totals.new ≡ enteredAs image behind totals.old size old new) }
 {
-    let disc_end = opening::disc_end(image);
-    let table_end = endian::read_u32(image, Field::FST_OFFSET.at) + size;
-    let largest = totals::largest_free(words, m, disc_end, table_end, old, new);
-    let fst_size = endian::read_u32(image, Field::FST_SIZE.at);
-    let before = wide(fst_size) + wide(old.size);
-    let after = wide(size) + wide(new.size);
-    totals::move_totals(record, before, after, largest)
+    let disc_end = disc.end();
+    let size = size as u32;
+    let table_end = disc.start() + size;
+    let used = UsedRegions::new(disc.words, disc.used, disc_end);
+    let largest = totals::largest_after(&used, disc_end, table_end, old, new);
+    let before = u64::from(disc.room()) + u64::from(old.size);
+    let after = u64::from(size) + u64::from(new.size);
+    totals.move_on(before, after, largest)
 }
 
-// The same where the table stays and no file moves.
-fn enter_none(image: &[u8], words: &[u32], m: usize, record: &mut Record) -> Verdict
-    requires { IsOpen image.now words.now m }
-    ensures { moved result (totalsIn «record».new) ≡ enteredAs image.now (regionsIn words.now 1 (m - 1)) (totalsIn «record».old) (fstSize image.now) noPlace noPlace }
+/// Moves the record on by what an edit decides on, or says 25 and leaves it as it is.
+pub fn account(disc: &OpenDisc<'_>, decision: Decision, totals: &mut Totals) -> Verdict
+    requires { OnDisc disc.now decision }
+    ensures { OfUsed disc.now (λ image behind. moved result totals.new ≡ enteredFor image behind decision totals.old) }
 {
-    let size = endian::read_u32(image, Field::FST_SIZE.at);
-    let none = DiscRegion { offset: 0, size: 0 };
-    enter(image, words, m, record, size, none, none)
-}
-
-// What is decided on, once the record is tested too: a refused edit leaves it as it is.
-pub fn account(
-    image: &[u8],
-    words: &[u32],
-    m: usize,
-    decided: Result<Decision, Refusal>,
-    record: &mut Record,
-) -> Result<Decision, Refusal>
-    requires { IsOpen image.now words.now m × OnDisc image.now decided }
-    ensures { accounted result (totalsIn «record».new) ≡ accountOf image.now (regionsIn words.now 1 (m - 1)) decided (totalsIn «record».old) }
-{
-    let decision = decided?;
+    // An open disc has room for its own table.
+    let _ = &disc.table;
     match decision {
-        Decision::Nothing => enter_none(image, words, m, record)?,
-        Decision::Clip(_, _) => enter_none(image, words, m, record)?,
-        Decision::Write(_, size, w) => enter(image, words, m, record, size as u32, w.old, w.place)?,
+        Decision::Nothing | Decision::Clip { .. } => {
+            let Writing { old, place, .. } = Writing::NOTHING;
+            enter(disc, totals, disc.room() as usize, old, place)
+        }
+        Decision::Write { size, writing, .. } => {
+            enter(disc, totals, size, writing.old, writing.place)
+        }
     }
-    Ok(decision)
 }

@@ -8,6 +8,7 @@ ghost use Rattle.window.specs.Window.{newWindow, judged, seekOf, settled_of, cou
 use refusal::Refusal;
 
 /// A part of an image, in bytes: where it starts, how long it is, and the position in it. A position past the end is one too.
+#[repr(C)]
 #[derive(Clone, Copy, PartialEq, Eq, Debug)]
 pub struct Window {
     pub start: u64,

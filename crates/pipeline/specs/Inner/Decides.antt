@@ -1,35 +1,47 @@
 -- The edit that a call asks for, and what it decides on. Assumes nothing: these are definitions.
 use Rattle.std.specs.Prelude.{Result, ℕ, List, []}
 use Rattle.refusal.specs.declared.Refusal.{Refusal}
+use Rattle.tree.specs.Insert.{emptyFile, emptyDirectory}
+use Rattle.edits.specs.Change.{Plan, change}
 use Rattle.edits.specs.Edits as edits
-use Rattle.edits.specs.Edits.{plan_of, planVerdict}
+use Rattle.edits.specs.Edits.{tableOnly, planMove, planResize, planFill, planInsert, planMakeDirectories}
+use Rattle.opened.specs.Disc.{Disc, free_of}
 use Rattle.ledger.specs.Runs.{Passable}
 use Rattle.commit.specs.declared.Decision.{Decision}
-use Rattle.commit.specs.Inner.Decision.{DecidedAs}
+use Rattle.commit.specs.Inner.Decision.{DecidesWith}
+use Rattle.insert.specs.Insertion.{insertion}
 use Rattle.pipeline.specs.declared.Edit.{Edit}
 use Rattle.pipeline.specs.declared.Edit.TheVariants as edit
 
--- with its name, path or clip beside it
-abbrev pub editOf : Edit → List ℕ → edits.Edit
-editOf edit.Rewrite text = edits.rewrite
-editOf (edit.MoveFile k to) text = edits.moveFile k to
-editOf (edit.ResizeFile k n) text = edits.resizeFile k n
-editOf (edit.FillFile k) text = edits.fillFile k text
-editOf (edit.InsertFile p) text = edits.insertFile p text
-editOf (edit.InsertDirectory p) text = edits.insertDirectory p text
-editOf (edit.MakeDirectories start) text = edits.makeDirectories start text
+-- by its cases, with its name, path or clip
+abbrev pub editOf : Edit → edits.Edit
+editOf edit.Rewrite = edits.rewrite
+editOf (edit.Move file offset) = edits.moveFile file offset
+editOf (edit.Resize file size) = edits.resizeFile file size
+editOf (edit.Fill file clip) = edits.fillFile file clip.now
+editOf (edit.Insert new) = insertion new.kind new.parent new.name.now
+editOf (edit.MakeDirectories start path) = edits.makeDirectories start path.now
 
--- the clip, if the edit has one
-abbrev pub clipOf : Edit → List ℕ → List ℕ
-clipOf edit.Rewrite text = []
-clipOf (edit.MoveFile k to) text = []
-clipOf (edit.ResizeFile k n) text = []
-clipOf (edit.FillFile k) text = text
-clipOf (edit.InsertFile p) text = []
-clipOf (edit.InsertDirectory p) text = []
-clipOf (edit.MakeDirectories start) text = []
+-- the clip that fills a file; none for the other edits
+abbrev pub clipOf : Edit → List ℕ
+clipOf edit.Rewrite = []
+clipOf (edit.Move file offset) = []
+clipOf (edit.Resize file size) = []
+clipOf (edit.Fill file clip) = clip.now
+clipOf (edit.Insert new) = []
+clipOf (edit.MakeDirectories start path) = []
 
--- d is what the edit decides on, and its numbers are numbers that a call can hand on
-pub record Decides (ed : edits.Edit) (image : List ℕ) (words room : ℕ) (bytes clip : List ℕ) (d : Result Decision Refusal) : Type 0 where
-  pub decided : DecidedAs (planVerdict (plan_of ed image) image words room) (plan_of ed image) image room bytes clip d
+-- the plan of an edit on a disc
+abbrev pub plan_on : edits.Edit → Disc → Plan
+plan_on (edits.insertFile p nm) d = planInsert (λ q. emptyFile nm) d.nodes p nm
+plan_on (edits.insertDirectory p nm) d = planInsert (emptyDirectory nm) d.nodes p nm
+plan_on (edits.makeDirectories start path) d = planMakeDirectories d.nodes start path
+plan_on (edits.moveFile k to) d = planMove (free_of d) d.nodes k to
+plan_on (edits.resizeFile k n) d = planResize (free_of d) d.nodes k n
+plan_on (edits.fillFile k clip) d = planFill (free_of d) d.nodes k clip
+plan_on edits.rewrite d = change 0 (tableOnly d.nodes)
+
+-- r is what the edit decides on, on the disc, and its numbers are numbers that a call can hand on
+pub record EditDecided (ed : edits.Edit) (d : Disc) (room : ℕ) (bytes clip : List ℕ) (r : Result Decision Refusal) : Type 0 where
+  pub decided : DecidesWith clip (plan_on ed d) d room bytes r
   pub passable : Passable ed

@@ -1,9 +1,12 @@
 -- What is decided on, or why it is refused, entered in the totals record. Assumes nothing: these are definitions.
-use Rattle.std.specs.Prelude.{Result, Ok, Err, ℕ, ◌+◌, ◌≤◌, ◌≡◌, cond, List}
+use Rattle.std.specs.Prelude.{Result, Ok, Err, ℕ, ◌+◌, ◌-◌, ◌≤◌, ◌≡◌, cond, List, length}
 use Rattle.refusal.specs.declared.Refusal.{Refusal}
 use Rattle.refusal.specs.Refusal.{Verdict, is_refused}
 use Rattle.header.specs.Verdicts.{fstOffset, fstSize, discEnd}
 use Rattle.space.specs.declared.DiscRegion.{DiscRegion}
+use Rattle.space.specs.Inner.Sort.{regionsIn}
+use Rattle.opening.specs.Inner.Prepared.{IsOpen}
+use Rattle.opened.specs.Disc.{Disc, Means}
 use Rattle.totals.specs.declared.Totals.{Totals}
 use Rattle.totals.specs.Totals.{totalsVerdict, totalsMoved}
 use Rattle.totals.specs.Inner.Scan.{longestFrom, goneOf, Moved, movedAs}
@@ -13,12 +16,19 @@ use Rattle.commit.specs.declared.Decision.{Decision}
 use Rattle.commit.specs.declared.Decision.TheVariants as decision
 use Rattle.commit.specs.Inner.Decision.{DecidedAs}
 
--- a table that is to be written ends on the disc; nothing is asked of an edit that is refused
-abbrev pub OnDisc : List ℕ → Result Decision Refusal → Type 0
-OnDisc image (Err c) = Unit {0}
-OnDisc image (Ok decision.Nothing) = Unit {0}
-OnDisc image (Ok (decision.Clip n at)) = Unit {0}
-OnDisc image (Ok (decision.Write n size w)) = fstOffset image + size ≤ discEnd image
+-- a table that is to be written ends on the disc
+abbrev pub OnDisc : Disc → Decision → Type 0
+OnDisc d decision.Nothing = Unit {0}
+OnDisc d (decision.Clip n at) = Unit {0}
+OnDisc d (decision.Write n size w) = d.start + size ≤ d.end
+
+-- P of each image that means the disc, and of its used regions behind the table, in the order in which lent words hold them
+pub record OfUsed (d : Disc) (P : List ℕ → List DiscRegion → Type 0) : Type 0 where
+  pub words : List ℕ
+  pub count : ℕ
+  pub long : length words ≡ d.words
+  pub held : (image : List ℕ) → Means image d → IsOpen image words count
+  pub is : (image : List ℕ) → Means image d → P image (regionsIn words 1 (count - 1))
 
 -- what is decided on once the record is tested too, and the record then
 pub record Accounted : Type 0 where
@@ -45,11 +55,15 @@ abbrev pub enteredAs : List ℕ → List DiscRegion → Totals → ℕ → DiscR
 enteredAs image xs t size old new =
     movedBy t (fstSize image + old.size) (size + new.size) (longestFrom (discEnd image) (goneOf old) new (fstOffset image + size) 0 xs)
 
+-- by what is decided on
+abbrev pub enteredFor : List ℕ → List DiscRegion → Decision → Totals → Moved
+enteredFor image xs decision.Nothing t = enteredAs image xs t (fstSize image) noPlace noPlace
+enteredFor image xs (decision.Clip n at) t = enteredAs image xs t (fstSize image) noPlace noPlace
+enteredFor image xs (decision.Write n size w) t = enteredAs image xs t size w.old w.place
+
 abbrev pub accountOf : List ℕ → List DiscRegion → Result Decision Refusal → Totals → Accounted
 accountOf image xs (Err c) t = accounted (Err c) t
-accountOf image xs (Ok decision.Nothing) t = settledAs decision.Nothing (enteredAs image xs t (fstSize image) noPlace noPlace)
-accountOf image xs (Ok (decision.Clip n at)) t = settledAs (decision.Clip n at) (enteredAs image xs t (fstSize image) noPlace noPlace)
-accountOf image xs (Ok (decision.Write n size w)) t = settledAs (decision.Write n size w) (enteredAs image xs t size w.old w.place)
+accountOf image xs (Ok d) t = settledAs d (enteredFor image xs d t)
 
 -- the record afterwards
 abbrev pub countedTotals : Plan → Totals → List ℕ → ℕ → ℕ → Totals

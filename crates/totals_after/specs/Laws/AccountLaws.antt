@@ -21,6 +21,7 @@ use Rattle.program.specs.Program.{programBehind}
 use Rattle.opening.specs.Opening.{nodesIn, behindTable, usedIn, usedOf, freeOf}
 use Rattle.opening.specs.Laws.OpeningLaws.{used-regions}
 use Rattle.opening.specs.Inner.Prepared.{IsOpen}
+use Rattle.opened.specs.Disc.{Disc, Means}
 use Rattle.edits.specs.Change.{Change, tableVerdict, Plan, refused, nothing, change, filled}
 use Rattle.edits.specs.Edits.{noPlace, planVerdict, totalsTo}
 use Rattle.ledger.proofs.Laws.Files.{placesIn, used-files}
@@ -145,23 +146,20 @@ module _ (image w : List ℕ) (m room : ℕ) (bytes : List ℕ) (long : length b
   entered (filled k y (filled j z p)) clip (Ok (decision.Write n size x)) h l = absurd h.carries
 
 -- LAW: a table that is to be written ends on the disc
-module _ (image w : List ℕ) (m room : ℕ) (bytes clip : List ℕ) (o : IsOpen image w m) (long : length bytes ≡ room) where
-  table-ends : (c : Change) (size : ℕ) → tableVerdict c image (length w) room ≡ Ok tt → size ≤ room → span bytes 0 size ≡ encode c.nodes → fstOffset image + size ≤ discEnd image
+module _ (d : Disc) (image : List ℕ) (m : Means image d) (room : ℕ) (bytes clip : List ℕ) (long : length bytes ≡ room) where
+  table-ends : (c : Change) (size : ℕ) → tableVerdict c image d.words room ≡ Ok tt → size ≤ room → span bytes 0 size ≡ encode c.nodes → d.start + size ≤ d.end
   table-ends c size v held e =
-      rw (table-size bytes (encode c.nodes) room size long held e) at (room-law.room c image (length w) room (opened image (length w) o.known.passed o.known.bytes) v).end
+      let start : fstOffset image ≡ d.start = ap (λ (x : Disc). x.start) m.is in
+      let end : discEnd image ≡ d.end = ap (λ (x : Disc). x.end) m.is in
+      rw (start, end, table-size bytes (encode c.nodes) room size long held e) at (room-law.room c image d.words room (opened image d.words m.known.passed m.known.bytes) v).end
 
-  on-disc : (p : Plan) (d : Result Decision Refusal) → DecidedAs (planVerdict p image (length w) room) p image room bytes clip d → OnDisc image d
-  on-disc p (Err c) h = tt
-  on-disc p (Ok decision.Nothing) h = tt
-  on-disc p (Ok (decision.Clip n at)) h = tt
-  on-disc (refused v) (Ok (decision.Write n size x)) h = absurd h.carries
-  on-disc nothing (Ok (decision.Write n size x)) h = absurd h.carries
-  on-disc (change k c) (Ok (decision.Write n size x)) h = table-ends c size (sym h.answer) h.fits.1.table.held h.carries.table
-  on-disc (filled k y (change j c)) (Ok (decision.Write n size x)) h = table-ends c size (sym h.answer) h.fits.1.table.held h.carries.table
-  on-disc (filled k y nothing) (Ok (decision.Write n size x)) h = absurd h.carries
-  on-disc (filled k y (refused v)) (Ok (decision.Write n size x)) h = absurd h.carries
-  on-disc (filled k y (filled j z p)) (Ok (decision.Write n size x)) h = absurd h.carries
-
-pub may-account : (p : Plan) (image w : List ℕ) (m room : ℕ) (bytes clip : List ℕ) (d : Result Decision Refusal) → DecidedAs (planVerdict p image (length w) room) p image room bytes clip d → IsOpen image w m → length bytes ≡ room →
-    IsOpen image w m × OnDisc image d
-may-account p image w m room bytes clip d h o long = (o, on-disc image w m room bytes clip o long p d h)
+  pub on-disc : (p : Plan) (r : Decision) → DecidedAs (planVerdict p image d.words room) p image room bytes clip (Ok r) → OnDisc d r
+  on-disc p decision.Nothing h = tt
+  on-disc p (decision.Clip n at) h = tt
+  on-disc (refused v) (decision.Write n size w) h = absurd h.carries
+  on-disc nothing (decision.Write n size w) h = absurd h.carries
+  on-disc (change k c) (decision.Write n size w) h = table-ends c size (sym h.answer) h.fits.1.table.held h.carries.table
+  on-disc (filled k y (change j c)) (decision.Write n size w) h = table-ends c size (sym h.answer) h.fits.1.table.held h.carries.table
+  on-disc (filled k y nothing) (decision.Write n size w) h = absurd h.carries
+  on-disc (filled k y (refused v)) (decision.Write n size w) h = absurd h.carries
+  on-disc (filled k y (filled j z p)) (decision.Write n size w) h = absurd h.carries

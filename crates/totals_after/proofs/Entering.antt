@@ -1,0 +1,25 @@
+-- The record moved on as the disc says is the record moved on as each image says that means the disc. Assumes nothing.
+use Rattle.std.specs.Prelude.{ℕ, List, ◌+◌, ◌≡◌, Ok, Err, OnOk, OnErr}
+use Rattle.std.proofs.Common.{ap}
+use Rattle.refusal.specs.Refusal.{Verdict}
+use Rattle.header.specs.Verdicts.{fstOffset, fstSize, discEnd}
+use Rattle.space.specs.declared.DiscRegion.{DiscRegion}
+use Rattle.totals.specs.declared.Totals.{Totals}
+use Rattle.totals.specs.Totals.{totalsVerdict, totalsMoved}
+use Rattle.totals.specs.Inner.Scan.{longestFrom, goneOf, moved, movedAs}
+use Rattle.opened.specs.Disc.{Disc, Means}
+use Rattle.totals_after.specs.Inner.Accounting.{enteredAs}
+
+-- by the three clauses of `move_on`
+moved-as : (v : Verdict) (t t' next : Totals) → OnOk v (t' ≡ next) → OnErr v (t' ≡ t) → moved v t' ≡ movedAs v t next
+moved-as (Ok tt) t t' next k e = rw k
+moved-as (Err c) t t' next k e = rw e
+
+pub entered-as : (image : List ℕ) (d : Disc) → Means image d → (behind : List DiscRegion) (size : ℕ) (old new : DiscRegion) (before after largest : ℕ) → before ≡ d.room + old.size → after ≡ size + new.size →
+    largest ≡ longestFrom d.end (goneOf old) new (d.start + size) 0 behind → (v : Verdict) (t t' : Totals) → v ≡ totalsVerdict t before after → OnOk v (t' ≡ totalsMoved t before after largest) → OnErr v (t' ≡ t) →
+    moved v t' ≡ enteredAs image behind t size old new
+entered-as image d m behind size old new before after largest b a l v t t' e k r =
+    let start : fstOffset image ≡ d.start = ap (λ (x : Disc). x.start) m.is in
+    let room : fstSize image ≡ d.room = ap (λ (x : Disc). x.room) m.is in
+    let end : discEnd image ≡ d.end = ap (λ (x : Disc). x.end) m.is in
+    rw (start, room, end, ← b, ← a, ← l, ← e) (moved-as v t t' _ k r)
