@@ -1,6 +1,7 @@
 -- A text compared with a name that has no zero byte: by the byte behind as many bytes as the name has, and then by those bytes. A name with a
 -- zero byte is no text. Assumes nothing.
 use Rattle.std.specs.Prelude.{Err}
+use Rattle.std.specs.List.{list_any}
 use Prim.Native.Nat.{ℕ, zero, suc, ◌+◌, ◌-◌, ◌<◌, ◌≤◌}
 use mathlib.Core.Path.{◌≡◌, refl, sym, ap}
 use mathlib.Core.Logic.{⊎_elim}
@@ -84,6 +85,10 @@ module _ (tab nm : List ℕ) (at : ℕ) where
       rw (take-length nm) (exact (drop at tab) nm z (rw (length-drop at tab) h) (rw (get_or-drop at tab (length nm) 0) e))
 
 -- ---- a name with a zero byte
+
+pub zero-any : (nm : List ℕ) → hasZero nm ≡ list_any (λ b. eqb b 0) nm
+zero-any [] = refl
+zero-any (b ∷ nm) = ap (λ (t : Bool). eqb b 0 || t) (zero-any nm)
 
 names-differ : (tab nm : List ℕ) → hasZero nm ≡ true → (j : ℕ) → sameBytes (name_of (get_or (nodesOf tab) j none)) nm ≡ false
 names-differ tab nm z zero = rw (root-name tab 0 refl) (zeroed [] nm z)

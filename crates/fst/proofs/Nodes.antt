@@ -17,6 +17,7 @@ use Rattle.tree.specs.Laws.WellNested.{root_is}
 use Rattle.tree.specs.Laws.Nesting.{parent-here, parent-lower, parent-before}
 use Rattle.fst_check.specs.Inner.Reading.{Inside, Opens}
 use Rattle.fst_text.specs.Inner.Texts.{textAt}
+use Rattle.fst.specs.Inner.Held.{Held}
 use Rattle.fst_check.proofs.Walking.{node-file, node-directory, node-name, entries-inside, count-some}
 
 pub opened : (tab : List ℕ) → AllBytes tab → (o : Opens tab) → Accepted tab o.words
@@ -103,3 +104,7 @@ name-short {tab} a k h l =
 pub root-name : (tab : List ℕ) (k : ℕ) → k ≡ 0 → name_of (get_or (nodesOf tab) k none) ≡ []
 unfolding nodesOf
 root-name tab k e = rw e
+
+-- a table that is held is accepted
+pub held : {tab : List ℕ} → (h : Held tab) → Accepted tab h.opens.words
+held {tab} h = opened tab h.bytes h.opens

@@ -1,3 +1,4 @@
 -- Definitions that only inner contracts need.
 pub mod After
+pub mod Held
 pub mod Zeros

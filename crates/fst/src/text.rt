@@ -4,18 +4,6 @@ ghost use Rattle.endian.specs.Bytes.{sameBytes};
 ghost use Rattle.fst_text.specs.Inner.Texts.{textAt};
 ghost use Rattle.fst.specs.Inner.Zeros.{hasZero};
 
-// Whether `name` has a zero byte: no text is such a name.
-pub fn has_zero(name: &[u8]) -> bool
-    ensures { result ≡ hasZero name.now }
-{
-    for i in 0..name.len() {
-        if name[i] == 0 {
-            return true;
-        }
-    }
-    false
-}
-
 // Whether the text at `at` has the bytes of `name`. One byte tells a text of another length apart.
 pub fn text_is(table: &[u8], at: usize, name: &[u8]) -> bool
     requires { (at ≤ length table.now) × (hasZero name.now ≡ false) }

@@ -1,2 +1,3 @@
 pub mod Refusal
+pub mod Causes
 pub mod Laws

@@ -3,27 +3,30 @@
 
 use refusal::Refusal;
 
-#[derive(Clone, Copy)]
+/// A file: where its bytes start on the disc, and how many they are.
+#[derive(Clone, Copy, PartialEq, Eq, Debug)]
 pub struct FileEntry {
     pub offset: u32,
     pub size: u32,
 }
 
-// The directory that this one is nested in, and the number of the entry after its last one.
-#[derive(Clone, Copy)]
+/// A directory: the one that it is nested in, and the number of the entry after its last one.
+#[derive(Clone, Copy, PartialEq, Eq, Debug)]
 pub struct DirectoryEntry {
     pub parent: u32,
     pub next: u32,
 }
 
-#[derive(Clone, Copy)]
+/// What an entry of a table is.
+#[derive(Clone, Copy, PartialEq, Eq, Debug)]
 pub enum Entry {
     File(FileEntry),
     Directory(DirectoryEntry),
 }
 
-// The answer of a call that looks for an entry: its number and the entry.
-#[derive(Clone, Copy)]
+/// The answer of a call that looks for an entry: its number and the entry.
+// Kept: one enum with the entry in it, and not a `Result` of a pair, since the scope names this form of the answer.
+#[derive(Clone, Copy, PartialEq, Eq, Debug)]
 pub enum Found {
     At(u32, Entry),
     Refused(Refusal),

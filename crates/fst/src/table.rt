@@ -1,0 +1,132 @@
+// An accepted file table as a type. Contracts see its bytes.
+ghost use Rattle.std.specs.Prelude.{◌≡◌, ◌≤◌, ◌<◌, ◌^◌, get_or};
+ghost use Rattle.tree.specs.Table as table_of;
+ghost use Rattle.tree.specs.Table.{none, nodesOf, parent_of, namePlace};
+ghost use Rattle.tree.specs.Lookup.{isDirectory, next_of, entry_of, entryFound};
+ghost use Rattle.fst_check.specs.Inner.Reading.{Opens};
+ghost use Rattle.fst.specs.Inner.Held.{Held};
+
+use refusal::Refusal;
+use std::marker::Model;
+use tree::{DirectoryEntry, Entry, FileEntry, Found};
+
+/// A file table that the checks accepted, so that its entries stand in it and nest, and each name ends in it.
+#[derive(Drop)]
+pub struct Table<'a> {
+    pub(crate) bytes: &'a [u8],
+}
+
+impl<'a> Model for Table<'a> {
+    ghost use Rattle.std.specs.Prelude.{ℕ, List};
+    ghost use Rattle.fst.specs.Inner.Held.{Held};
+
+    ghost Value = { List ℕ };
+
+    ghost view = { λ t. t.bytes.now };
+
+    ghost invariant = { λ t. Held t.bytes.now };
+}
+
+impl<'a> Table<'a> {
+    /// A table that the checks accepted.
+    pub fn new(bytes: &'a [u8]) -> Self
+        requires { Opens bytes.now }
+        ensures { result ≡ bytes.now }
+    {
+        Table { bytes }
+    }
+
+    /// Its bytes, the names with them.
+    pub fn bytes(&self) -> &'a [u8]
+        ensures bytes { result.now ≡ self.now }
+        ensures opens { Opens self.now }
+    {
+        self.bytes
+    }
+
+    /// How many entries it has, the root among them.
+    pub fn len(&self) -> usize
+        ensures len { result ≡ table_of.count self.now }
+        ensures some { (0 < result) × (result ≤ 16384) }
+        ensures held { Held self.now }
+    {
+        fst_check::count(self.bytes)
+    }
+
+    /// Whether entry `k` is a directory. An accepted table has the kinds 0 and 1 only.
+    pub fn is_directory(&self, k: usize) -> bool
+        requires { k < table_of.count self.now }
+        ensures { result ≡ isDirectory (get_or (nodesOf self.now) k none) }
+    {
+        let table = self.bytes;
+        table[12 * k] != 0
+    }
+
+    /// A directory's next, the number of the entry after its last one; 0 for a file.
+    pub fn next(&self, k: usize) -> usize
+        requires { k < table_of.count self.now }
+        ensures { result ≡ next_of (get_or (nodesOf self.now) k none) }
+    {
+        let table = self.bytes;
+        if table[12 * k] == 0 {
+            return 0;
+        }
+        endian::read_u32(table, 12 * k + 8) as usize
+    }
+
+    /// Where the name of entry `k`, which is not the root, stands in the table.
+    pub fn name_place(&self, k: usize) -> usize
+        requires not_root { 0 < k }
+        requires within { k < table_of.count self.now }
+        ensures place { result ≡ namePlace self.now k }
+        ensures inside { result < 2 ^ 25 }
+    {
+        let table = self.bytes;
+        12 * self.len() + endian::read_u24(table, 12 * k + 1) as usize
+    }
+
+    /// The directory that entry `k` is nested in: the last one before it whose next is past it. The stored parent is not read.
+    pub fn parent(&self, k: usize) -> usize
+        requires { k < table_of.count self.now }
+        ensures parent { result ≡ parent_of (nodesOf self.now) k }
+        ensures before { result ≤ k }
+    {
+        for i in (0..k).rev() {
+            if k < self.next(i) {
+                return i;
+            }
+        }
+        0
+    }
+
+    // Entry `k`, a file with offset and size or a directory with parent and next.
+    fn entry_at(&self, k: usize) -> Entry
+        requires { k < table_of.count self.now }
+        ensures { result ≡ entry_of (nodesOf self.now) k }
+    {
+        let table = self.bytes;
+        let last = endian::read_u32(table, 12 * k + 8);
+        if table[12 * k] == 0 {
+            Entry::File(FileEntry {
+                offset: endian::read_u32(table, 12 * k + 4),
+                size: last,
+            })
+        } else {
+            Entry::Directory(DirectoryEntry {
+                parent: self.parent(k) as u32,
+                next: last,
+            })
+        }
+    }
+
+    /// Entry `k`, or 15 past the count.
+    pub fn entry(&self, k: u32) -> Found
+        ensures { result ≡ entryFound (nodesOf self.now) k }
+    {
+        let place = k as usize;
+        if self.len() <= place {
+            return Found::Refused(Refusal::NoSuchEntry);
+        }
+        Found::At(k, self.entry_at(place))
+    }
+}
