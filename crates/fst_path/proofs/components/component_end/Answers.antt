@@ -1,9 +1,9 @@
--- `fst_path::component_end` meets its contract. The invariant of its loop: the component reaches to the unit that is next.
+-- `fst_path::components::component_end` meets its contract. The invariant of its loop: the component reaches to the unit that is next.
 use native.Mathlib.Omega.{arith}
 use mathlib.Core.Path.{sym, ◌∙◌}
 use Rattle.tree.specs.Laws.UnitLaws.{pair_inside}
-use Rattle.fst_path.proofs.Components.{cut-start, cut-pair, cut-here, cut-single, cut-end}
-use Rattle.fst_path.proofs.component_end.Goals as goal
+use Rattle.fst_path.proofs.Cuts.{cut-start, cut-pair, cut-here, cut-single, cut-end}
+use Rattle.fst_path.proofs.components.component_end.Goals as goal
 
 pub loop-end-init : goal.loop-end-init
 loop-end-init c = (omega arith, omega arith, cut-start c.args.path.now c.args.at)
