@@ -4,6 +4,7 @@ ghost use Rattle.tree.specs.Table as table_of;
 ghost use Rattle.tree.specs.Table.{none, nodesOf, parent_of, namePlace};
 ghost use Rattle.tree.specs.Lookup.{isDirectory, next_of, entry_of, entryFound};
 ghost use Rattle.fst_check.specs.Inner.Reading.{Opens};
+ghost use Rattle.fst.specs.Inner.Held.{Held};
 
 use refusal::Refusal;
 use std::marker::Model;
@@ -47,6 +48,7 @@ impl<'a> Table<'a> {
     pub fn len(&self) -> usize
         ensures len { result ≡ table_of.count self.now }
         ensures some { (0 < result) × (result ≤ 16384) }
+        ensures held { Held self.now }
     {
         fst_check::count(self.bytes)
     }

@@ -8,7 +8,7 @@ use mathlib.Core.List.{List, [], ◌∷◌}
 use native.Mathlib.Omega.{arith}
 use native.Mathlib.Numerals.{add-one}
 use borrow.Author.Tests.{ltb-false, le-leb, lt-leb}
-use lib.ListN.{length, get_or, set, replicate, get_or-replicate, length-replicate}
+use lib.ListN.{length, get_or, set, drop}
 use lib.Seq.{get_or-set_same, get_or-set_other}
 use lib.Dec.{leb, ltb}
 use Rattle.refusal.specs.declared.Refusal.TheVariants.{EntryPastTable, UnrecognizedKind, InvalidNextIndex, LimitOrMemory}
@@ -74,25 +74,25 @@ unfolding open_in
 open-some words zero h = absurd (h refl)
 open-some words (suc d) h = let m : suc d - 1 ≡ d = omega arith in rw m
 
+pub open_none : (words : List ℕ) (d : ℕ) → d ≡ 0 → open_in words d ≡ []
+unfolding open_in
+open_none words d h = rw h
+
 -- none is shut where the innermost goes on, and the innermost is where it ends
-pub shut-keep : (words : List ℕ) (k d : ℕ) → k < top (open_in words d) → shut k (open_in words d) ≡ open_in words d
+pub shut-keep : (dirs : List ℕ) (k : ℕ) → k < top dirs → shut k dirs ≡ dirs
 unfolding shut
-shut-keep words k d h = go (open_in words d) h
-  where
-    go : (dirs : List ℕ) → k < top dirs → shut k dirs ≡ dirs
-    go [] h = refl
-    go (n ∷ dirs) h = rw (lt-leb n k h)
+shut-keep [] k h = refl
+shut-keep (n ∷ dirs) k h = rw (lt-leb n k h)
 
-pub shut-drop : (words : List ℕ) (k d : ℕ) → 0 < d → top (open_in words d) ≤ k → shut k (open_in words d) ≡ shut k (open_in words (d - 1))
+pub shut-drop : (dirs : List ℕ) (k : ℕ) → top dirs ≤ k → shut k dirs ≡ shut k (drop 1 dirs)
 unfolding shut
-shut-drop words k d p h =
-    let e : open_in words d ≡ get_or words (d - 1) 0 ∷ open_in words (d - 1) = open-some words d (omega arith) in
-    let h' : get_or words (d - 1) 0 ≤ k = rw e at h in
-    rw (e, le-leb (get_or words (d - 1) 0) k h')
+shut-drop [] k h = refl
+shut-drop (n ∷ dirs) k h = rw (le-leb n k h)
 
-pub shut_none : (words : List ℕ) (k d : ℕ) → d ≡ 0 → shut k (open_in words d) ≡ open_in words d
-unfolding shut open_in
-shut_none words k d h = rw h
+pub shut_none : (dirs : List ℕ) (k : ℕ) → length dirs ≡ 0 → shut k dirs ≡ dirs
+unfolding shut
+shut_none [] k h = refl
+shut_none (n ∷ dirs) k h = absurd (omega arith)
 
 open-frame : (words : List ℕ) (i v d : ℕ) → d ≤ i → open_in (set words i v) d ≡ open_in words d
 unfolding open_in
@@ -102,10 +102,6 @@ open-frame words i v (suc d) h = rw (get_or-set_other words i d v 0 (λ e. omega
 pub open-enter : (words : List ℕ) (d v : ℕ) → d < length words → open_in (set words d v) (d + 1) ≡ v ∷ open_in words d
 unfolding open_in
 open-enter words d v h = rw (add-one d, get_or-set_same words d v 0 h, open-frame words d v d (omega arith))
-
-pub open-root : (n v : ℕ) → 0 < n → open_in (replicate n v) 1 ≡ v ∷ []
-unfolding open_in
-open-root n v h = rw (get_or-replicate n 0 v 0 h)
 
 -- a directory that passes is at most 64 deep
 pub next-depth : (c : ℕ) (dirs : List ℕ) (k : ℕ) (nm : List ℕ) (next : ℕ) → nextVerdict c dirs k (directory nm next) ≡ Ok tt → length dirs ≤ 64
@@ -119,39 +115,29 @@ next-depth c dirs k nm next e =
     ltb-false 64 (length dirs) (refuse-passed (ltb 64 (length dirs)) LimitOrMemory (Ok tt) e₃.1).0
 
 -- so there is room for its next
-pub enter-room : (tab : List ℕ) (c k : ℕ) (words : List ℕ) (d : ℕ) → (kind tab k ≡ 0 → ⊥) → nextVerdict c (open_in words d) k (nodeAt tab c k) ≡ Ok tt → d ≤ 64
-enter-room tab c k words d h e =
-    omega
-    (arith, length-open words d, next-depth c (open_in words d) k (name_at tab c (nameOffset tab k)) (sizeOrNext tab k) (rw (node-directory tab c k h) at e))
+pub enter-room : (tab : List ℕ) (c k : ℕ) (dirs : List ℕ) → (kind tab k ≡ 0 → ⊥) → nextVerdict c dirs k (nodeAt tab c k) ≡ Ok tt → length dirs ≤ 64
+enter-room tab c k dirs h e =
+    next-depth c dirs k (name_at tab c (nameOffset tab k)) (sizeOrNext tab k) (rw (node-directory tab c k h) at e)
 
--- ---- the walk's loop, where the nexts stand in words
+-- ---- the walk's loop
 
 -- what is left of the walk at entry k has the answer of the whole
-pub record Walked (tab : List ℕ) (c : ℕ) (words : List ℕ) (d k : ℕ) : Type 0 where
+pub record Walked (tab : List ℕ) (c : ℕ) (dirs : List ℕ) (k : ℕ) : Type 0 where
   pub from : 1 ≤ k
-  pub shallow : d ≤ 65
-  pub long : length words ≡ 65
-  pub left : walk tab c (c ∷ []) 1 (nodesFrom tab c 1 (c - 1)) ≡ walk tab c (open_in words d) k (nodesFrom tab c k (c - k))
+  pub left : walk tab c (c ∷ []) 1 (nodesFrom tab c 1 (c - 1)) ≡ walk tab c dirs k (nodesFrom tab c k (c - k))
 
-pub walked_start : (tab : List ℕ) (c : ℕ) → Walked tab c (replicate 65 c) 1 1
-walked_start tab c = record { from = omega arith; shallow = omega arith; long = length-replicate 65 c; left = rw (open-root 65 c (omega arith)) }
+pub walked_start : (tab : List ℕ) (c : ℕ) → Walked tab c (c ∷ []) 1
+walked_start tab c = record { from = omega arith; left = refl }
 
-module _ {tab : List ℕ} {c : ℕ} {words : List ℕ} {d k : ℕ} (w : Walked tab c words d k) (d' : ℕ) (shuts : open_in words d' ≡ shut k (open_in words d)) (v : Verdict) (test : v ≡ nodeVerdict tab c (open_in words d') k)
-    (more : k < c) where
-  same : v ≡ walkEntry tab c (open_in words d) k (nodeAt tab c k)
+module _ {tab : List ℕ} {c : ℕ} {dirs : List ℕ} {k : ℕ} (w : Walked tab c dirs k) (around : List ℕ) (shuts : around ≡ shut k dirs) (v : Verdict) (test : v ≡ nodeVerdict tab c around k) (more : k < c) where
+  same : v ≡ walkEntry tab c dirs k (nodeAt tab c k)
   same = test ∙ rw (shuts, node-name tab c k)
 
   pub walked_stop : is_refused v ≡ true → v ≡ walk tab c (c ∷ []) 1 (nodesFrom tab c 1 (c - 1))
-  walked_stop r = sym (w.left ∙ walk-stop tab c (open_in words d) k c v more same r)
+  walked_stop r = sym (w.left ∙ walk-stop tab c dirs k c v more same r)
 
-  pub walked-turn : is_refused v ≡ false → (words'' : List ℕ) (d'' : ℕ) → open_in words'' d'' ≡ enter (open_in words d') (nodeAt tab c k) → d'' ≤ 65 → length words'' ≡ 65 → Walked tab c words'' d'' (k + 1)
-  walked-turn r words'' d'' e s l =
-      record {
-        from = omega arith;
-        shallow = s;
-        long = l;
-        left = w.left ∙ walk-go tab c (open_in words d) k c v more same r ∙ rw (e, shuts);
-      }
+  pub walked-turn : is_refused v ≡ false → (next : List ℕ) → next ≡ enter around (nodeAt tab c k) → Walked tab c next (k + 1)
+  walked-turn r next e = record { from = omega arith; left = w.left ∙ walk-go tab c dirs k c v more same r ∙ rw (e, shuts) }
 
-pub walked_end : (tab : List ℕ) (c : ℕ) (words : List ℕ) (d k : ℕ) → Walked tab c words d k → c ≤ k → Ok tt ≡ walk tab c (c ∷ []) 1 (nodesFrom tab c 1 (c - 1))
-walked_end tab c words d k w h = sym (w.left ∙ walk_end tab c (open_in words d) k c h)
+pub walked_end : (tab : List ℕ) (c : ℕ) (dirs : List ℕ) (k : ℕ) → Walked tab c dirs k → c ≤ k → Ok tt ≡ walk tab c (c ∷ []) 1 (nodesFrom tab c 1 (c - 1))
+walked_end tab c dirs k w h = sym (w.left ∙ walk_end tab c dirs k c h)

@@ -2,5 +2,7 @@
 #![tactic(auto)]
 
 mod opening;
+mod stack;
 
 pub use opening::{check, count};
+pub use stack::Stack;

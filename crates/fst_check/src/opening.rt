@@ -1,20 +1,21 @@
-// Whether a table is accepted: document 01's tests 5 to 13, in the order of "Opening".
-ghost use Rattle.std.specs.Prelude.{◌≡◌, true, [], ◌∷◌, ◌+◌, ◌-◌, ◌*◌, ◌≤◌, ◌<◌, length};
+// Whether a table is accepted: the tests 5 to 13, in their order.
+ghost use Rattle.std.specs.Prelude.{◌≡◌, [], ◌∷◌, ◌-◌, ◌*◌, ◌≤◌, ◌<◌, length};
 ghost use Rattle.tree.specs.Table as table_of;
-ghost use Rattle.tree.specs.Table.{nameOffset, name_at, nodeAt, nodesFrom, entryVerdict, entriesVerdict, nameVerdict, nextVerdict, top};
-ghost use Rattle.fst_check.specs.Inner.Reading.{Inside, open_in, nodeVerdict, textsVerdict, textVerdict};
-ghost use Rattle.fst_text.specs.Inner.Texts.{textAt, cleanFrom, NoLead};
-ghost use Rattle.fst_text.specs.Inner.Blocks.{Fit, Marked};
+ghost use Rattle.tree.specs.Table.{nameOffset, name_at, nodeAt, nodesFrom, entryVerdict, entriesVerdict, nameVerdict, nextVerdict};
+ghost use Rattle.fst_check.specs.Inner.Reading.{Inside, nodeVerdict, textsVerdict, textVerdict};
+ghost use Rattle.fst_text.specs.Inner.Texts.{textAt};
+ghost use Rattle.fst_text.specs.Inner.Blocks.{Fit};
 
+use crate::stack::Stack;
+use fst_text::Survey;
 use refusal::{Refusal, Verdict};
 
-// The count of entries: the root's "next", where a count of 0 reads the root only.
+/// The count of entries: the root's "next", where a count of 0 reads the root only.
 pub fn count(table: &[u8]) -> usize
     requires { 12 ≤ length table.now }
     ensures { result ≡ table_of.count table.now }
 {
-    let next = endian::read_u32(table, 8) as usize;
-    if next == 0 { 1 } else { next }
+    (endian::read_u32(table, 8) as usize).max(1)
 }
 
 // Entry k: past the table, or of an unknown kind.
@@ -46,10 +47,11 @@ fn entries_verdict(table: &[u8], count: usize) -> Verdict
 fn units_verdict(table: &[u8], at: usize) -> Verdict
     ensures { result ≡ textVerdict (textAt table.now at) }
 {
-    if !fst_text::every_unit(table, at, false) {
+    let name = fst_text::text_at(table, at);
+    if !fst_text::is_plain(name) {
         return Err(Refusal::InvalidNameByte);
     }
-    if !fst_text::is_safe_name(table, at) {
+    if !fst_text::is_safe(name) {
         return Err(Refusal::UnsafeName);
     }
     Ok(())
@@ -60,179 +62,141 @@ fn clean_verdict(table: &[u8], at: usize) -> Verdict
     requires { Fit table.now at }
     ensures { result ≡ textVerdict (textAt table.now at) }
 {
-    if fst_text::byte_at(table, at) == 0 {
-        return Err(Refusal::UnsafeName);
-    }
-    if fst_text::is_dots(table, at) {
+    if fst_text::is_nameless_at(table, at) {
         return Err(Refusal::UnsafeName);
     }
     Ok(())
 }
 
-// The name of entry k: 11, 12, 13. Where its text starts clean, it is not looked at unit by unit. Elsewhere only a name that is refused, and so ends
-// the walk, is looked at to its end.
-fn name_verdict(table: &[u8], count: usize, marks: &[bool; 2048], k: usize, clean: bool) -> Verdict
-    requires { Inside table.now count × (k < count) × ((clean ≡ true) → Fit table.now (12 * count + nameOffset table.now k)) × Marked table.now (12 * count) marks.now }
-    ensures { result ≡ nameVerdict table.now count k (name_at table.now count (nameOffset table.now k)) }
+// Shuts the directories that end at entry k or before it.
+fn shut(dirs: &mut Stack, k: usize)
+    ensures { dirs.new ≡ table_of.shut k dirs.old }
 {
-    let offset = endian::read_u24(table, 12 * k + 1) as usize;
-    if table.len() - 12 * count <= offset {
-        return Err(Refusal::InvalidNameOffset);
-    }
-    let at = 12 * count + offset;
-    if clean {
-        return clean_verdict(table, at);
-    }
-    if fst_text::is_fit(table, 12 * count, marks, at) {
-        return clean_verdict(table, at);
-    }
-    units_verdict(table, at)
-}
-
-// Whether the name of entry k starts clean.
-fn starts_clean(
-    table: &[u8],
-    count: usize,
-    marks: &mut [bool; 2048],
-    first: usize,
-    k: usize,
-    clean: bool,
-) -> bool
-    requires { Inside table.now count × (k < count) × Marked table.now (12 * count) marks.old × ((clean ≡ true) → cleanFrom table.now (12 * count) ≡ true) × NoLead table.now (12 * count) first }
-    ensures { ((result ≡ true) → (clean ≡ true) × Fit table.now (12 * count + nameOffset table.now k)) × Marked table.now (12 * count) marks.new }
-{
-    let offset = endian::read_u24(table, 12 * k + 1) as usize;
-    fst_text::starts_clean(table, 12 * count, marks, first, 12 * count + offset, clean)
-}
-
-// The next of the innermost open directory.
-fn innermost(nexts: &[u32; 65], depth: usize) -> u32
-    requires { depth ≤ 65 }
-    ensures { result ≡ top (open_in nexts.now depth) }
-{
-    if depth == 0 { 0 } else { nexts[depth - 1] }
-}
-
-// The next of entry k, if it is a directory, and its depth: 10, 9.
-fn next_verdict(table: &[u8], count: usize, nexts: &[u32; 65], depth: usize, k: usize) -> Verdict
-    requires { Inside table.now count × (k < count) × (depth ≤ 65) }
-    ensures { result ≡ nextVerdict count (open_in nexts.now depth) k (nodeAt table.now count k) }
-{
-    if table[12 * k] == 0 {
-        return Ok(());
-    }
-    let next = endian::read_u32(table, 12 * k + 8) as usize;
-    if next <= k {
-        return Err(Refusal::InvalidNextIndex);
-    }
-    if count < next {
-        return Err(Refusal::InvalidNextIndex);
-    }
-    if (innermost(nexts, depth) as usize) < next {
-        return Err(Refusal::InvalidNextIndex);
-    }
-    if 64 < depth {
-        return Err(Refusal::LimitOrMemory);
-    }
-    Ok(())
-}
-
-// How many directories are still open at entry k.
-fn shut(nexts: &[u32; 65], depth: usize, k: usize) -> usize
-    requires { depth ≤ 65 }
-    ensures { (open_in nexts.now result ≡ table_of.shut k (open_in nexts.now depth)) × (result ≤ depth) }
-{
-    let mut left = depth;
-    while 0 < left {
-        if k < innermost(nexts, left) as usize {
-            return left;
+    while !dirs.is_empty() {
+        if k < dirs.top() as usize {
+            return;
         }
-        left -= 1;
+        dirs.pop();
     }
-    left
 }
 
-// Opens entry k, if it is a directory; how many are open then.
-fn enter(table: &[u8], count: usize, nexts: &mut [u32; 65], depth: usize, k: usize) -> usize
-    requires inside { Inside table.now count × (k < count) × (depth ≤ 65) × (length nexts.old ≡ 65) }
-    requires k_value { nextVerdict count (open_in nexts.old depth) k (nodeAt table.now count k) ≡ (Ok tt) }
-    ensures { (open_in nexts.new result ≡ table_of.enter (open_in nexts.old depth) (nodeAt table.now count k)) × (result ≤ 65) × (length nexts.new ≡ 65) }
-{
-    if table[12 * k] == 0 {
-        return depth;
-    }
-    nexts[depth] = endian::read_u32(table, 12 * k + 8);
-    depth + 1
-}
-
-// Entry k of the walk: its name, then its next.
-fn node_verdict(
-    table: &[u8],
+// A table in which `count` entries stand.
+#[derive(Drop)]
+struct Entries<'a> {
+    table: &'a [u8],
     count: usize,
-    marks: &[bool; 2048],
-    nexts: &[u32; 65],
-    depth: usize,
-    k: usize,
-    clean: bool,
-) -> Verdict
-    requires { Inside table.now count × (k < count) × (depth ≤ 65) × ((clean ≡ true) → Fit table.now (12 * count + nameOffset table.now k)) × Marked table.now (12 * count) marks.now }
-    ensures { result ≡ nodeVerdict table.now count (open_in nexts.now depth) k }
-{
-    name_verdict(table, count, marks, k, clean)?;
-    next_verdict(table, count, nexts, depth, k)
+    ghost inside: { Inside table.now count },
 }
 
-// The walk over the entries after the root.
-fn walk(table: &[u8], count: usize) -> Verdict
-    requires { Inside table.now count }
-    ensures { result ≡ table_of.walk table.now count (count ∷ []) 1 (nodesFrom table.now count 1 (count - 1)) }
-{
-    let mut marks: [bool; 2048] = [false; 2048];
-    let first = fst_text::clean_end(table, 12 * count);
-    let mut clean = fst_text::survey(table, 12 * count, &mut marks, first);
-    let mut nexts: [u32; 65] = [count as u32; 65];
-    let mut depth = 1;
-    for k in 1..count {
-        depth = shut(&nexts, depth, k);
-        clean = starts_clean(table, count, &mut marks, first, k, clean);
-        node_verdict(table, count, &marks, &nexts, depth, k, clean)?;
-        depth = enter(table, count, &mut nexts, depth, k);
+impl<'a> Entries<'a> {
+    // The name of entry k: 11, 12, 13. Where its text is fit, it is not looked at unit by unit. Elsewhere only a name that is refused, and so ends
+    // the walk, is looked at to its end.
+    fn name_verdict(&self, texts: &mut Survey<'_>, k: usize) -> Verdict
+        requires within { k < self.now.count }
+        requires texts_of { (texts.old.table ≡ self.now.table.now) × (texts.old.base ≡ 12 * self.now.count) }
+        ensures verdict { result ≡ nameVerdict self.now.table.now self.now.count k (name_at self.now.table.now self.now.count (nameOffset self.now.table.now k)) }
+        ensures same { texts.new ≡ texts.old }
+    {
+        let offset = endian::read_u24(self.table, 12 * k + 1) as usize;
+        if self.table.len() - 12 * self.count <= offset {
+            return Err(Refusal::InvalidNameOffset);
+        }
+        let at = 12 * self.count + offset;
+        if texts.is_fit(at) {
+            return clean_verdict(self.table, at);
+        }
+        units_verdict(self.table, at)
     }
-    Ok(())
+
+    // The next of entry k, if it is a directory, and its depth: 10, 9.
+    fn next_verdict(&self, dirs: &Stack, k: usize) -> Verdict
+        requires { k < self.now.count }
+        ensures { result ≡ nextVerdict self.now.count dirs.now k (nodeAt self.now.table.now self.now.count k) }
+    {
+        if self.table[12 * k] == 0 {
+            return Ok(());
+        }
+        let next = endian::read_u32(self.table, 12 * k + 8) as usize;
+        if next <= k {
+            return Err(Refusal::InvalidNextIndex);
+        }
+        if self.count < next {
+            return Err(Refusal::InvalidNextIndex);
+        }
+        if (dirs.top() as usize) < next {
+            return Err(Refusal::InvalidNextIndex);
+        }
+        if 64 < dirs.len() {
+            return Err(Refusal::LimitOrMemory);
+        }
+        Ok(())
+    }
+
+    // Entry k of the walk: its name, then its next.
+    fn node_verdict(&self, texts: &mut Survey<'_>, dirs: &Stack, k: usize) -> Verdict
+        requires within { k < self.now.count }
+        requires texts_of { (texts.old.table ≡ self.now.table.now) × (texts.old.base ≡ 12 * self.now.count) }
+        ensures verdict { result ≡ nodeVerdict self.now.table.now self.now.count dirs.now k }
+        ensures same { texts.new ≡ texts.old }
+    {
+        self.name_verdict(texts, k)?;
+        self.next_verdict(dirs, k)
+    }
+
+    // Opens entry k, if it is a directory.
+    fn enter(&self, dirs: &mut Stack, k: usize)
+        requires within { k < self.now.count }
+        requires passed { nextVerdict self.now.count dirs.old k (nodeAt self.now.table.now self.now.count k) ≡ (Ok tt) }
+        ensures { dirs.new ≡ table_of.enter dirs.old (nodeAt self.now.table.now self.now.count k) }
+    {
+        if self.table[12 * k] != 0 {
+            dirs.push(endian::read_u32(self.table, 12 * k + 8));
+        }
+    }
+
+    // The walk over the entries after the root.
+    fn walk(&self) -> Verdict
+        ensures { result ≡ table_of.walk self.now.table.now self.now.count (self.now.count ∷ []) 1 (nodesFrom self.now.table.now self.now.count 1 (self.now.count - 1)) }
+    {
+        let mut texts = Survey::new(self.table, 12 * self.count);
+        let mut dirs = Stack::new();
+        dirs.push(self.count as u32);
+        for k in 1..self.count {
+            shut(&mut dirs, k);
+            self.node_verdict(&mut texts, &dirs, k)?;
+            self.enter(&mut dirs, k);
+        }
+        Ok(())
+    }
+
+    // Whether texts stand after the entries, and the last has no zero byte at its end.
+    fn unended(&self) -> bool
+        ensures { result ≡ table_of.unended self.now.table.now self.now.count }
+    {
+        12 * self.count < self.table.len() && self.table[self.table.len() - 1] != 0
+    }
+
+    // The tests after those of the entries.
+    fn texts_verdict(&self, words: usize) -> Verdict
+        ensures { result ≡ textsVerdict self.now.table.now self.now.count words }
+    {
+        if self.unended() {
+            return Err(Refusal::MissingNullTerminator);
+        }
+        if 1048576 < self.table.len() - 12 * self.count {
+            return Err(Refusal::LimitOrMemory);
+        }
+        if words < 4 * (self.count + 2) {
+            return Err(Refusal::LimitOrMemory);
+        }
+        if endian::read_u32(self.table, 8) == 0 {
+            return Err(Refusal::InvalidNextIndex);
+        }
+        self.walk()
+    }
 }
 
-// Whether texts stand after the entries, and the last has no zero byte at its end.
-fn unended(table: &[u8], count: usize) -> bool
-    requires { Inside table.now count }
-    ensures { result ≡ table_of.unended table.now count }
-{
-    if table.len() <= 12 * count {
-        return false;
-    }
-    table[table.len() - 1] != 0
-}
-
-// The tests after those of the entries.
-fn texts_verdict(table: &[u8], count: usize, words: usize) -> Verdict
-    requires { Inside table.now count }
-    ensures { result ≡ textsVerdict table.now count words }
-{
-    if unended(table, count) {
-        return Err(Refusal::MissingNullTerminator);
-    }
-    if 1048576 < table.len() - 12 * count {
-        return Err(Refusal::LimitOrMemory);
-    }
-    if words < 4 * (count + 2) {
-        return Err(Refusal::LimitOrMemory);
-    }
-    if endian::read_u32(table, 8) == 0 {
-        return Err(Refusal::InvalidNextIndex);
-    }
-    walk(table, count)
-}
-
-// Whether a table is accepted where so many working words are lent. No word is written: the walk needs none.
+/// Whether a table is accepted where so many working words are lent. No word is written: the walk needs none.
 pub fn check(table: &[u8], words: usize) -> Verdict
     ensures { result ≡ table_of.check table.now words }
 {
@@ -250,5 +214,5 @@ pub fn check(table: &[u8], words: usize) -> Verdict
         return Err(Refusal::LimitOrMemory);
     }
     entries_verdict(table, count)?;
-    texts_verdict(table, count, words)
+    Entries { table, count }.texts_verdict(words)
 }

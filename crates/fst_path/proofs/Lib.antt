@@ -1,3 +1,3 @@
 -- What the proofs of the functions cite.
-pub mod Components
+pub mod Cuts
 pub mod PathLaws

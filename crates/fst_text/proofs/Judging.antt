@@ -1,33 +1,30 @@
--- Units judged one after the other, each safe or each plain: what is left has the answer of the whole. Assumes nothing.
+-- What `all` of the units says: the test of each. Assumes nothing.
 use Prim.Native.Nat.{ℕ}
-use mathlib.Core.Path.{◌≡◌, refl, sym, ◌∙◌}
-use mathlib.Core.Bool.{Bool, true, false, ◌&&◌}
+use mathlib.Core.Path.{◌≡◌, refl, ap}
+use mathlib.Core.Bool.{Bool, true, false, true≢false, ◌&&◌}
 use mathlib.Core.List.{List, [], ◌∷◌}
-use Rattle.tree.specs.Units.{TextUnit, single, pair}
-use Rattle.tree.specs.Table.{every}
-use Rattle.fst_text.specs.Inner.Texts.{byteTest, unitTest}
+use Rattle.std.specs.List.{list_all}
+use Rattle.tree.specs.Units.{TextUnit, units}
+use Rattle.tree.specs.Table.{every, safe, plain, plainUnit, safeUnit}
+use Rattle.fst_text.specs.Inner.Texts.{nameless}
 
-of-single : (s : Bool) (b : ℕ) → unitTest s (single b) ≡ byteTest s b
-of-single true b = refl
-of-single false b = refl
+pub all-every : (p : TextUnit → Bool) (us : List TextUnit) → list_all p us ≡ every p us
+all-every p [] = refl
+all-every p (u ∷ us) = ap (λ (t : Bool). p u && t) (all-every p us)
 
-of_pair : (s : Bool) (a b : ℕ) → unitTest s (pair a b) ≡ true
-of_pair true a b = refl
-of_pair false a b = refl
+pub plain-is : (nm : List ℕ) → list_all plainUnit (units nm) ≡ plain nm
+unfolding plain
+plain-is nm = all-every plainUnit (units nm)
 
-module _ (only : Bool) (whole left : List TextUnit) (so_far : every (unitTest only) whole ≡ every (unitTest only) left) where
-  pub none_left : left ≡ [] → true ≡ every (unitTest only) whole
-  none_left e = sym (so_far ∙ rw e)
+pub safe-none : (nm : List ℕ) → nameless nm ≡ true → safe nm ≡ false
+unfolding safe
+safe-none [] h = refl
+safe-none (x ∷ s) h = rw h
 
-  pub pair_fits : (a b : ℕ) (next : List TextUnit) → left ≡ pair a b ∷ next → every (unitTest only) whole ≡ every (unitTest only) next
-  pair_fits a b next e = so_far ∙ rw (e, of_pair only a b)
+pub safe-is : (nm : List ℕ) → nameless nm ≡ false → safe nm ≡ list_all safeUnit (units nm)
+unfolding safe
+safe-is [] h = absurd (true≢false h)
+safe-is (x ∷ s) h = rw (h, all-every safeUnit (units (x ∷ s)))
 
-  module _ (b : ℕ) (next : List TextUnit) (e : left ≡ single b ∷ next) (u : Bool) (fitting : u ≡ byteTest only b) where
-    judged : every (unitTest only) whole ≡ (u && every (unitTest only) next)
-    judged = so_far ∙ rw (e, of-single only b, ← fitting)
-
-    pub byte_fits : u ≡ true → every (unitTest only) whole ≡ every (unitTest only) next
-    byte_fits h = rw h at judged
-
-    pub byte-fails : u ≡ false → false ≡ every (unitTest only) whole
-    byte-fails h = sym (rw h at judged)
+pub safe-fit : (nm : List ℕ) → nameless nm ≡ false → every safeUnit (units nm) ≡ true → safe nm ≡ true
+safe-fit nm h e = rw (safe-is nm h, all-every safeUnit (units nm)) e

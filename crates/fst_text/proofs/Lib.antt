@@ -2,5 +2,4 @@
 pub mod BlockLaws
 pub mod Chart
 pub mod Judging
-pub mod NameLaws
 pub mod Texts

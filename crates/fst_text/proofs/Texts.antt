@@ -1,21 +1,23 @@
 -- A text read byte by byte and unit by unit: it ends at a zero byte or at the table's end. Assumes nothing.
-use Prim.Native.Nat.{ℕ, zero, suc, ◌+◌, ◌<◌, ◌≤◌}
+use Prim.Native.Nat.{ℕ, zero, suc, ◌+◌, ◌-◌, ◌<◌, ◌≤◌, min}
 use mathlib.Core.Path.{◌≡◌, refl, sym, ap, ◌∙◌}
 use mathlib.Core.Logic.{⊎_elim}
 use mathlib.Core.Bool.{Bool, true, false, true≢false, not, ◌&&◌}
-use mathlib.Core.List.{List, [], ◌∷◌}
+use mathlib.Core.List.{List, [], ◌∷◌, ◌++◌}
 use native.Mathlib.Omega.{arith}
 use native.Mathlib.Numerals.{add-one}
 use borrow.Author.Tests.{eqb-true, eqb-false}
-use lib.ListN.{length, get_or, drop}
-use lib.Seq.{drop-drop, get_or-drop}
+use lib.ListN.{length, get_or, drop, take, length-drop}
+use lib.Seq.{drop-drop, get_or-drop, take-suc}
+use Rattle.std.proofs.Common.{append_assoc}
+use Rattle.std.proofs.lemmas.List.{drop-take}
 use lib.Dec.{eqb}
 use Rattle.tree.specs.Units.{leadByte, trailByte, TextUnit, single, pair, units}
-use Rattle.tree.specs.Table.{every, dots, safe, plain_byte, safeByte, safeUnit}
+use Rattle.tree.specs.Table.{every, dots, safe, plain_byte, safeByte, safeUnit, upTo0}
 use Rattle.tree.specs.Inner.Pairs.{pair_at}
 use Rattle.tree.specs.Laws.UnitLaws.{in_either, lead_is, trail_is, by_units, units-pair, units-single, units-none}
 use Rattle.refusal.specs.Laws.Tests.{lt-or-le, and_left, and_right, or_cases, is_false}
-use Rattle.fst_text.specs.Inner.Texts.{textAt, cleanByte, cleanUnit, cleanFrom, NoLead}
+use Rattle.fst_text.specs.Inner.Texts.{textAt, nameless, cleanByte, cleanUnit, cleanFrom, NoLead}
 
 pub text-end : (tab : List ℕ) (i : ℕ) → get_or tab i 0 ≡ 0 → textAt tab i ≡ []
 text-end [] zero h = refl
@@ -89,6 +91,36 @@ unfolding safe
 safe-more tab at d t h e f =
     let m : textAt tab at ≡ get_or tab at 0 ∷ textAt tab (at + 1) = text-more tab at h in
     rw (m, rw m at e, rw m at f)
+
+-- empty, `.` or `..`: a text's first three bytes tell
+dots-head : (s : List ℕ) → nameless (upTo0 (take 3 s)) ≡ nameless (upTo0 s)
+dots-head [] = refl
+dots-head (zero ∷ s) = refl
+dots-head (suc a ∷ []) = refl
+dots-head (suc a ∷ zero ∷ s) = refl
+dots-head (suc a ∷ suc b ∷ []) = refl
+dots-head (suc a ∷ suc b ∷ zero ∷ s) = refl
+dots-head (suc a ∷ suc b ∷ suc c ∷ s) = refl
+
+take-min : (n : ℕ) (tab : List ℕ) → take (min (length tab) n) tab ≡ take n tab
+take-min zero tab = let e : min (length tab) 0 ≡ 0 = omega arith in rw e
+take-min (suc n) [] = let e : min 0 (suc n) ≡ 0 = omega arith in rw e
+take-min (suc n) (b ∷ tab) =
+    let e : min (suc (length tab)) (suc n) ≡ suc (min (length tab) n) = omega arith in
+    rw e (ap (λ (s : List ℕ). b ∷ s) (take-min n tab))
+
+pub nameless-head : (tab : List ℕ) (at m : ℕ) → m ≡ min (length tab) (at + 3) → nameless (textAt (take m tab) at) ≡ nameless (textAt tab at)
+nameless-head tab at m e = rw (e, take-min (at + 3) tab, drop-take at 3 tab) (dots-head (drop at tab))
+
+-- the bytes of a text one by one
+pub text-passed : (tab : List ℕ) (at end : ℕ) → at ≤ end → end < length tab → (get_or tab end 0 ≡ 0 → ⊥) → textAt tab at ≡ take (end - at) (drop at tab) ++ textAt tab end →
+    textAt tab at ≡ take (end + 1 - at) (drop at tab) ++ textAt tab (end + 1)
+text-passed tab at end p q h e =
+    let m : end + 1 - at ≡ suc (end - at) = omega arith in
+    let n : at + (end - at) ≡ end = omega arith in
+    let l : end - at < length (drop at tab) = rw (length-drop at tab) (omega arith) in
+    let g : get_or (drop at tab) (end - at) 0 ≡ get_or tab end 0 = get_or-drop at tab (end - at) 0 ∙ ap (λ (i : ℕ). get_or tab i 0) n in
+    rw (m, take-suc (drop at tab) (end - at) 0 l, g, append_assoc) (e ∙ ap (λ (t : List ℕ). take (end - at) (drop at tab) ++ t) (text-more tab end h))
 
 -- ---- the length of a text
 

@@ -1,3 +1,4 @@
 -- Definitions that only inner contracts need.
 pub mod Blocks
+pub mod Read
 pub mod Texts

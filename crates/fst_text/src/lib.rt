@@ -6,7 +6,7 @@ mod names;
 mod text;
 mod units;
 
-pub use marks::{is_fit, starts_clean, survey};
+pub use marks::Survey;
 pub use names::{is_plain, is_safe};
-pub use text::{clean_end, every_unit, is_dots, is_safe_name};
-pub use units::{byte_at, fits, is_pair};
+pub use text::{is_nameless_at, text_at};
+pub use units::{Unit, Units, byte_at, is_pair};

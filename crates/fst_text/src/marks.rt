@@ -2,14 +2,17 @@
 // the units of a text leave the block before at the one place or the other. So a name costs at most 1,024 bytes, even where 16,384 names share one
 // text of 1 MiB.
 ghost use Rattle.std.specs.Prelude.{◌≡◌, true, ◌≤◌};
-ghost use Rattle.fst_text.specs.Inner.Texts.{cleanFrom, NoLead};
+ghost use Rattle.fst_text.specs.Inner.Texts.{cleanFrom};
 ghost use Rattle.fst_text.specs.Inner.Blocks.{Fit, Marked};
 
 use crate::{text, units};
+use std::marker::Model;
 
 // Whether the text at `at` is fit: its units in this block, then a mark of the next. Where false is wrong it costs only time, so that is not proved.
-pub fn is_fit(table: &[u8], base: usize, marks: &[bool; 2048], at: usize) -> bool
-    requires { Marked table.now base marks.now × (base ≤ at) × (at ≤ 33554432) }
+fn is_fit(table: &[u8], base: usize, marks: &[bool; 2048], at: usize) -> bool
+    requires marked { Marked table.now base marks.now }
+    requires from { base ≤ at }
+    requires near { at ≤ 33554432 }
     ensures { (result ≡ true) → Fit table.now at }
 {
     let next = (at - base) / 1024 + 1;
@@ -29,55 +32,93 @@ pub fn is_fit(table: &[u8], base: usize, marks: &[bool; 2048], at: usize) -> boo
         }
     }
     let mark = 2 * next + (i - end);
-    if mark < 2048 { marks[mark] } else { false }
+    mark < 2048 && marks[mark]
 }
 
 // Marks the blocks, the last first, since each asks the next.
 fn mark_blocks(table: &[u8], base: usize, marks: &mut [bool; 2048])
-    requires { Marked table.now base marks.old × (base ≤ 196608) }
+    requires marked { Marked table.now base marks.old }
+    requires near { base ≤ 196608 }
     ensures { Marked table.now base marks.new }
 {
-    let mut mark = 2048;
-    while 0 < mark {
-        mark -= 1;
+    for mark in (0..2048).rev() {
         marks[mark] = is_fit(table, base, marks, base + (1024 * (mark / 2) + mark % 2));
     }
 }
 
 // Whether the units from `from` on are all clean; the blocks are marked only where some is not.
-pub fn survey(table: &[u8], base: usize, marks: &mut [bool; 2048], from: usize) -> bool
-    requires { Marked table.now base marks.old × (base ≤ 196608) }
-    ensures { (result ≡ cleanFrom table.now from) × Marked table.now base marks.new }
+fn all_clean(table: &[u8], base: usize, marks: &mut [bool; 2048], from: usize) -> bool
+    requires marked { Marked table.now base marks.old }
+    requires near { base ≤ 196608 }
+    ensures clean { result ≡ cleanFrom table.now from }
+    ensures marked { Marked table.now base marks.new }
 {
-    if text::clean_from(table, from) {
-        return true;
+    let clean = text::clean_from(table, from);
+    if !clean {
+        mark_blocks(table, base, marks);
     }
-    mark_blocks(table, base, marks);
-    false
+    clean
 }
 
-// Whether the text at `at` needs no look at its units: the texts are clean, and it does not start inside a pair. There is no lead byte before `first`.
-// Where it may start inside a pair the blocks are marked, and from then on no text is taken as clean.
-pub fn starts_clean(
-    table: &[u8],
+/// The texts of a table, which stand in it from `base` on, with what is known of them: whether all their units are clean, and else the marks.
+/// Contracts see the table, and where they start.
+#[derive(Drop)]
+pub struct Survey<'a> {
+    table: &'a [u8],
     base: usize,
-    marks: &mut [bool; 2048],
+    // No lead byte stands from `base` up to here.
     first: usize,
-    at: usize,
     clean: bool,
-) -> bool
-    requires { Marked table.now base marks.old × (base ≤ 196608) × (base ≤ at) × ((clean ≡ true) → cleanFrom table.now base ≡ true) × NoLead table.now base first }
-    ensures { ((result ≡ true) → (clean ≡ true) × Fit table.now at) × Marked table.now base marks.new }
-{
-    if !clean {
-        return false;
+    marks: [bool; 2048],
+}
+
+impl<'a> Model for Survey<'a> {
+    ghost use Rattle.fst_text.specs.Inner.Blocks.{TextsFrom, Surveyed};
+
+    ghost Value = { TextsFrom };
+
+    ghost view = { λ t. record { table = t.table.now; base = t.base } };
+
+    ghost invariant = { λ t. Surveyed t.table.now t.base t.first t.clean t.marks };
+}
+
+impl<'a> Survey<'a> {
+    /// Looks at the texts once; the blocks are marked only where some unit is not clean.
+    pub fn new(table: &'a [u8], base: usize) -> Self
+        requires { base ≤ 196608 }
+        ensures table { result.table ≡ table.now }
+        ensures base { result.base ≡ base }
+    {
+        let mut marks = [false; 2048];
+        let first = text::clean_end(table, base);
+        let clean = all_clean(table, base, &mut marks, first);
+        Survey {
+            table,
+            base,
+            first,
+            clean,
+            marks,
+        }
     }
-    if at <= first {
-        return true;
+
+    /// Whether no unit of the text at `at` is one that a name is refused for. Where all texts are clean, only one that may start inside a pair is
+    /// looked at; the blocks are marked at the first such one, and from then on no text is taken as clean. False may be wrong.
+    pub fn is_fit(&mut self, at: usize) -> bool
+        requires from { self.old.base ≤ at }
+        requires near { at ≤ 33554432 }
+        ensures same { self.new ≡ self.old }
+        ensures fit { (result ≡ true) → Fit self.old.table at }
+    {
+        if self.clean {
+            if at <= self.first {
+                return true;
+            }
+            if !units::is_lead(units::byte_at(self.table, at - 1)) {
+                return true;
+            }
+            mark_blocks(self.table, self.base, &mut self.marks);
+            self.clean = false;
+        }
+        is_fit(self.table, self.base, &self.marks, at)
     }
-    if !units::is_lead(units::byte_at(table, at - 1)) {
-        return true;
-    }
-    mark_blocks(table, base, marks);
-    false
 }

@@ -1,61 +1,27 @@
-// The tests of a name that is passed in (document 01, "Names", and document 02, Point 5).
+// The tests of a name.
 ghost use Rattle.std.specs.Prelude.{◌≡◌};
-ghost use Rattle.tree.specs.Table.{every, plain, safe};
-ghost use Rattle.tree.specs.Table as table_of;
-ghost use Rattle.tree.specs.Units.{units};
-ghost use Rattle.fst_text.specs.Inner.Texts.{unitTest};
+ghost use Rattle.tree.specs.Table.{plain, safe};
+ghost use Rattle.fst_text.specs.Inner.Texts.{nameless};
 
-use crate::units;
+use crate::units::Units;
 
-// Whether each unit is safe, or each is plain.
-fn every_unit(name: &[u8], safe_only: bool) -> bool
-    ensures { result ≡ every (unitTest safe_only) (units name.now) }
+/// Whether the name is empty, `.` or `..`.
+pub fn is_nameless(name: &[u8]) -> bool
+    ensures { result ≡ nameless name.now }
 {
-    let mut i = 0;
-    while i < name.len() {
-        if units::is_pair(name, i) {
-            i += 2;
-        } else if units::fits(name[i], safe_only) {
-            i += 1;
-        } else {
-            return false;
-        }
-    }
-    true
+    matches!(name, b"" | b"." | b"..")
 }
 
-// `.` or `..`.
-fn is_dots(name: &[u8]) -> bool
-    ensures { result ≡ table_of.dots name.now }
-{
-    if name.len() == 1 {
-        return name[0] == b'.';
-    }
-    if name.len() != 2 {
-        return false;
-    }
-    if name[0] != b'.' {
-        return false;
-    }
-    name[1] == b'.'
-}
-
-// Each unit a pair, or a byte 0x20 to 0x7E or 0xA1 to 0xDF.
+/// Whether each unit of the name is a pair, or a byte 0x20 to 0x7E or 0xA1 to 0xDF.
 pub fn is_plain(name: &[u8]) -> bool
     ensures { result ≡ plain name.now }
 {
-    every_unit(name, false)
+    Units::new(name).all(|unit| unit.is_plain())
 }
 
-// Not empty, not `.` or `..`, without `/`, `\` and `:` as units.
+/// Whether the name is not empty, not `.` or `..`, and without `/`, `\` and `:` as units.
 pub fn is_safe(name: &[u8]) -> bool
     ensures { result ≡ safe name.now }
 {
-    if name.len() == 0 {
-        return false;
-    }
-    if is_dots(name) {
-        return false;
-    }
-    every_unit(name, true)
+    !is_nameless(name) && Units::new(name).all(|unit| unit.is_safe())
 }

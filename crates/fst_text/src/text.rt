@@ -1,29 +1,19 @@
 // The texts of a table, unit by unit: bytes up to a zero byte, or up to the table's end (string_table.rs).
 ghost use Rattle.std.specs.Prelude.{◌≡◌, false, ◌+◌, ◌<◌};
-ghost use Rattle.tree.specs.Units.{units};
-ghost use Rattle.tree.specs.Table.{every, dots, safe};
-ghost use Rattle.fst_text.specs.Inner.Texts.{textAt, unitTest, cleanFrom, NoLead, CleanTo};
+ghost use Rattle.fst_text.specs.Inner.Texts.{textAt, cleanFrom, NoLead, CleanTo, nameless};
 
-use crate::units;
+use crate::{names, units};
 
-// Whether each unit of the text at `at` is safe, or each is plain.
-pub fn every_unit(table: &[u8], at: usize, safe_only: bool) -> bool
-    ensures { result ≡ every (unitTest safe_only) (units (textAt table.now at)) }
+/// The text that starts at `at`, up to its zero byte or the table's end.
+pub fn text_at(table: &[u8], at: usize) -> &[u8]
+    ensures { result.now ≡ textAt table.now at }
 {
-    let mut i = at;
-    while i < table.len() {
-        if table[i] == 0 {
-            return true;
-        }
-        if units::is_pair(table, i) {
-            i += 2;
-        } else if units::fits(table[i], safe_only) {
-            i += 1;
-        } else {
-            return false;
+    for end in at..table.len() {
+        if table[end] == 0 {
+            return &table[at..end];
         }
     }
-    true
+    &table[at.min(table.len())..]
 }
 
 // The bytes, 16 to a line: `c` for those that are clean. Opening has every byte of the texts passed, so each is looked up.
@@ -72,15 +62,12 @@ fn pass_clean(table: &[u8], from: usize) -> usize
 fn clean_to(table: &[u8], from: usize) -> usize
     ensures { CleanTo table.now from result }
 {
-    let mut end = from;
-    while end < table.len() {
-        if units::is_clean(table[end]) {
-            end += 1;
-        } else {
+    for end in from..table.len() {
+        if !units::is_clean(table[end]) {
             return end;
         }
     }
-    end
+    from.max(table.len())
 }
 
 // The same where many clean bytes are to be expected: the texts of an ASCII disc have no other.
@@ -96,41 +83,21 @@ pub fn clean_from(table: &[u8], from: usize) -> bool
 {
     let mut i = clean_to(table, from);
     while i < table.len() {
-        if units::is_pair(table, i) {
-            i = clean_to(table, i + 2);
-        } else {
+        if !units::is_pair(table, i) {
             return false;
         }
+        i = clean_to(table, i + 2);
     }
     true
 }
 
-// Whether the text at `at` is `.` or `..`.
-pub fn is_dots(table: &[u8], at: usize) -> bool
-    ensures { result ≡ dots (textAt table.now at) }
+/// Whether the text at `at` is empty, `.` or `..`. A byte tells most texts; else three do.
+pub fn is_nameless_at(table: &[u8], at: usize) -> bool
+    ensures { result ≡ nameless (textAt table.now at) }
 {
-    if units::byte_at(table, at) != b'.' {
-        return false;
+    match units::byte_at(table, at) {
+        0 => true,
+        b'.' => names::is_nameless(text_at(&table[..table.len().min(at + 3)], at)),
+        _ => false,
     }
-    let second = units::byte_at(table, at + 1);
-    if second == 0 {
-        return true;
-    }
-    if second != b'.' {
-        return false;
-    }
-    units::byte_at(table, at + 2) == 0
-}
-
-// Not empty, not `.` or `..`, each unit safe.
-pub fn is_safe_name(table: &[u8], at: usize) -> bool
-    ensures { result ≡ safe (textAt table.now at) }
-{
-    if units::byte_at(table, at) == 0 {
-        return false;
-    }
-    if is_dots(table, at) {
-        return false;
-    }
-    every_unit(table, at, true)
 }

@@ -1,104 +1,139 @@
 // The units of a text: a lead byte with its trail byte is one, and so is any other byte. A name is judged, and a path is cut, by units.
 ghost use Rattle.std.specs.Prelude.{◌≡◌, get_or};
-ghost use Rattle.tree.specs.Units.{leadByte, trailByte};
-ghost use Rattle.tree.specs.Table.{plain_byte, safeByte};
+ghost use Rattle.std.specs.Iterator.{YieldsFirstBy, item_count};
+ghost use Rattle.tree.specs.Units.{leadByte, trailByte, units};
+ghost use Rattle.tree.specs.Table.{plain_byte, safeByte, plainUnit, safeUnit};
 ghost use Rattle.tree.specs.Inner.Pairs.{pair_at};
-ghost use Rattle.fst_text.specs.Inner.Texts.{byteTest, cleanByte};
+ghost use Rattle.fst_text.specs.Inner.Texts.{cleanByte};
+ghost use Rattle.fst_text.specs.Inner.Read.{unit_of};
 
-// The byte at `at`; a text ends at the slice's end as it does at a zero byte.
+use std::marker::Model;
+
+/// The byte at `at`; a text ends at the slice's end as it does at a zero byte.
 pub fn byte_at(text: &[u8], at: usize) -> u8
     ensures { result ≡ get_or text.now at 0 }
 {
     if at < text.len() { text[at] } else { 0 }
 }
 
-// "a lead byte (0x81 to 0x9F, 0xE0 to 0xFC)"
+/// Whether a pair may start with this byte.
 pub fn is_lead(b: u8) -> bool
     ensures { result ≡ leadByte b }
 {
-    if b < 0x81 {
-        return false;
-    }
-    if b <= 0x9F {
-        return true;
-    }
-    if b < 0xE0 {
-        return false;
-    }
-    b <= 0xFC
+    matches!(b, 0x81..=0x9F | 0xE0..=0xFC)
 }
 
-// "a trail byte (0x40 to 0x7E, 0x80 to 0xFC)"
+// Whether a pair may end with this byte.
 fn is_trail(b: u8) -> bool
     ensures { result ≡ trailByte b }
 {
-    if b < 0x40 {
-        return false;
-    }
-    if b <= 0x7E {
-        return true;
-    }
-    if b < 0x80 {
-        return false;
-    }
-    b <= 0xFC
+    matches!(b, 0x40..=0x7E | 0x80..=0xFC)
 }
 
-// Whether the unit at `at` is a pair.
+/// Whether the unit at `at` is a pair.
 pub fn is_pair(text: &[u8], at: usize) -> bool
     ensures { result ≡ pair_at text.now at }
 {
-    if is_lead(byte_at(text, at)) {
-        return is_trail(byte_at(text, at + 1));
-    }
-    false
+    is_lead(byte_at(text, at)) && is_trail(byte_at(text, at + 1))
 }
 
-// "bytes 0x20 to 0x7E", and 0xA1 to 0xDF
+// Whether a name may have this byte as a unit.
 fn is_plain(b: u8) -> bool
     ensures { result ≡ plain_byte b }
 {
-    if b < 0x20 {
-        return false;
-    }
-    if b <= 0x7E {
-        return true;
-    }
-    if b < 0xA1 {
-        return false;
-    }
-    b <= 0xDF
+    matches!(b, 0x20..=0x7E | 0xA1..=0xDF)
 }
 
-// "without `/`, `\`, `:`"
+// Whether this byte as a unit is safe in a name.
 fn is_safe(b: u8) -> bool
     ensures { result ≡ safeByte b }
 {
-    if b == b'/' {
-        return false;
-    }
-    if b == b'\\' {
-        return false;
-    }
-    b != b':'
+    !matches!(b, b'/' | b'\\' | b':')
 }
 
-// A byte that no name is refused for where it is a unit: the end of a text, or plain and safe. Most are below 0x7F, and are looked at first.
+/// Whether no name is refused for this byte where it is a unit: the end of a text, or plain and safe. Most are below 0x7F, and are looked at
+/// first.
 pub fn is_clean(b: u8) -> bool
     ensures { result ≡ cleanByte b }
 {
-    if b < 0x20 {
-        return b == 0;
+    match b {
+        0x20..=0x7E => is_safe(b),
+        _ => b == 0 || is_plain(b),
     }
-    if b <= 0x7E {
-        return is_safe(b);
-    }
-    is_plain(b)
 }
 
-// The one test or the other, so that one loop serves both.
-pub fn fits(b: u8, safe_only: bool) -> bool
-    ensures { result ≡ byteTest safe_only b }
-{
-    if safe_only { is_safe(b) } else { is_plain(b) }
+/// A byte of its own, or a lead byte with its trail byte.
+#[derive(Clone, Copy, PartialEq, Eq, Debug)]
+pub enum Unit {
+    Single(u8),
+    Pair(u8, u8),
+}
+
+impl Unit {
+    /// Whether a name may have this unit: a pair, or a byte 0x20 to 0x7E or 0xA1 to 0xDF.
+    pub fn is_plain(self) -> bool
+        ensures { result ≡ plainUnit (unit_of self) }
+    {
+        match self {
+            Unit::Single(b) => is_plain(b),
+            Unit::Pair(_, _) => true,
+        }
+    }
+
+    /// Whether this unit is safe in a name: not `/`, `\` or `:`.
+    pub fn is_safe(self) -> bool
+        ensures { result ≡ safeUnit (unit_of self) }
+    {
+        match self {
+            Unit::Single(b) => is_safe(b),
+            Unit::Pair(_, _) => true,
+        }
+    }
+}
+
+/// A text unit by unit, from its start. Contracts see the list of those that are left.
+#[derive(Drop)]
+pub struct Units<'a> {
+    text: &'a [u8],
+    at: usize,
+}
+
+impl<'a> Model for Units<'a> {
+    ghost use Rattle.std.specs.Prelude.{List, drop};
+    ghost use Rattle.tree.specs.Units.{TextUnit, units};
+
+    ghost Value = { List TextUnit };
+
+    ghost view = { λ u. units (drop u.at u.text.now) };
+}
+
+impl<'a> Units<'a> {
+    /// The units of `text`.
+    pub fn new(text: &'a [u8]) -> Self
+        ensures { result ≡ units text.now }
+    {
+        Units { text, at: 0 }
+    }
+}
+
+impl<'a> Iterator for Units<'a> {
+    type Item = Unit;
+
+    ghost next_gives = { YieldsFirstBy unit_of (λ rest. rest) };
+
+    ghost remaining = { item_count (λ rest. rest) };
+
+    fn next(&mut self) -> Option<Unit> {
+        let text = self.text;
+        let at = self.at;
+        if text.len() <= at {
+            return None;
+        }
+        if is_pair(text, at) {
+            self.at = at + 2;
+            return Some(Unit::Pair(text[at], text[at + 1]));
+        }
+        self.at = at + 1;
+        Some(Unit::Single(text[at]))
+    }
 }

@@ -17,10 +17,14 @@ pub record Inside (tab : List ℕ) (c : ℕ) : Type 0 where
   pub some : 0 < c
   pub small : c ≤ 16384
 
--- the nexts of the directories that are open, which the walk keeps in words, the innermost last
+-- the numbers of a stack, which stand in words, the top one last
 unfoldable pub open_in : List ℕ → ℕ → List ℕ
 open_in words zero = []
 open_in words (suc d) = get_or words d 0 ∷ open_in words d
+
+pub record Stacked (words : List ℕ) (depth : ℕ) : Type 0 where
+  pub long : length words ≡ 65
+  pub fits : depth ≤ 65
 
 -- the tests of a table of c entries after those of its entries: 8, texts and working words, then the walk
 unfoldable pub textsVerdict : List ℕ → ℕ → ℕ → Verdict

@@ -1,12 +1,14 @@
 -- `fst_path::follow` meets its contract. The invariant of its loop: what is left of the path leads from here, with the trail kept, to where the whole leads from the start.
-use Prim.Native.Nat.{◌-◌}
-use lib.ListN.{length}
+use mathlib.Core.Path.{◌≡◌}
+use mathlib.Core.List.{[]}
 use Rattle.tree.specs.Table.{nodesOf}
-use Rattle.fst_path.proofs.PathLaws.{Following}
+use Rattle.tree.specs.Lookup.{components, follow}
+use Rattle.fst_path.specs.Inner.Steps.{Trail}
 use Rattle.fst_path.proofs.follow.Given as goal
 
-abbrev pub invariant-loop-step : goal.invariant-loop-step
-invariant-loop-step l = Following (nodesOf l.table) l.start l.path l.trail l.k l.steps l.at
-
-abbrev pub decreases-loop-step : goal.decreases-loop-step
-decreases-loop-step l = length l.path - l.at
+abbrev pub invariant-loop-name : goal.invariant-loop-name
+invariant-loop-name l =
+    (goal.iterator-loop-name).can_next l.name-iterator ×
+    (goal.iterator-loop-name).is_finite l.name-iterator ×
+    Trail (nodesOf l.table) l.trail l.k ×
+    (follow (nodesOf l.table) [] l.start (components l.path) ≡ follow (nodesOf l.table) l.trail l.k l.name-iterator)

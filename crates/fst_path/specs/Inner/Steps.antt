@@ -1,39 +1,33 @@
--- One step of a lookup, where the entries left by n named steps stand in the first n words of a trail, the last one last.
--- Assumes nothing: these are definitions.
-use Rattle.std.specs.Prelude.{Result, Ok, Err}
+-- What is left of a path, and where a lookup is on the way along it. Assumes nothing: these are definitions.
+use Rattle.std.specs.Prelude.{Result, Ok, Err, Option, Some, None}
+use Rattle.std.specs.Borrow.{Bor}
 use Rattle.refusal.specs.declared.Refusal.{Refusal}
-use Rattle.std.specs.Prelude.{ℕ, zero, suc, ◌+◌, cond, List, [], length, get_or, drop, ltb}
-use Rattle.refusal.specs.declared.Refusal.TheVariants.{ExpectedDirectory, NotFound}
-use Rattle.tree.specs.Table.{Node, none}
-use Rattle.tree.specs.Lookup.{isDirectory, components, childOf, stays, goesBack}
-use Rattle.fst_path.specs.declared.Step.{Step}
+use Rattle.std.specs.Prelude.{ℕ, ◌+◌, ◌<◌, ◌≤◌, cond, List, [], ◌∷◌, length, drop, ltb}
+use Rattle.tree.specs.Table.{Node}
+use Rattle.tree.specs.Inner.Depths.{depth_of}
+use Rattle.tree.specs.Lookup.{components, follow}
 
 -- the components of a path behind the one that ends at e
 abbrev pub componentsAfter : List ℕ → ℕ → List (List ℕ)
 componentsAfter path e = cond (ltb e (length path)) (components (drop (e + 1) path)) []
 
--- at entry k, n named steps from the start
-abbrev pub stepAt : ℕ → ℕ → Step
-stepAt k n = record { to = k; steps = n }
+-- the components of the rest of a path, if any is left
+abbrev pub left_of : Option (Bor (List ℕ)) → List (List ℕ)
+left_of None = []
+left_of (Some path) = components path.now
 
--- back over the last of n named steps
-abbrev pub backOf : List ℕ → ℕ → Result Step Refusal
-backOf trail zero = Err NotFound
-backOf trail (suc n) = Ok (stepAt (get_or trail n 0) n)
+-- what is left of a lookup after a step
+abbrev pub onward : List Node → List ℕ → List (List ℕ) → Result ℕ Refusal → Result ℕ Refusal
+onward nodes trail cs (Ok j) = follow nodes trail j cs
+onward nodes trail cs (Err c) = Err c
 
--- one named step more
-abbrev pub stepTo : ℕ → Result ℕ Refusal → Result Step Refusal
-stepTo n (Ok j) = Ok (stepAt j (n + 1))
-stepTo n (Err c) = Err c
+-- entries that named steps left, the last first: each stands deeper than those before it are many
+abbrev pub Behind : List Node → List ℕ → Type 0
+Behind nodes [] = Unit {0}
+Behind nodes (j ∷ trail) = (j < length nodes) × (length trail ≤ depth_of nodes j) × Behind nodes trail
 
-abbrev pub intoOf : List Node → ℕ → ℕ → List ℕ → Result Step Refusal
-intoOf nodes k n nm = stepTo n (childOf nodes k nm)
-
--- from entry k, n named steps from the start, along the component nm
-abbrev pub step_of : List Node → List ℕ → ℕ → ℕ → List ℕ → Result Step Refusal
-step_of nodes trail k n nm =
-    cond (isDirectory (get_or nodes k none))
-    (cond (stays nm) (Ok (stepAt k n))
-    (cond (goesBack nm) (backOf trail n)
-    (intoOf nodes k n nm)))
-    (Err ExpectedDirectory)
+-- named steps led to entry k, each one deeper than the last
+pub record Trail (nodes : List Node) (trail : List ℕ) (k : ℕ) : Type 0 where
+  pub inside : k < length nodes
+  pub deep : length trail ≤ depth_of nodes k
+  pub behind : Behind nodes trail

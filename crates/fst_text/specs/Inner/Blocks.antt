@@ -1,8 +1,8 @@
 -- The marks of the blocks of 1,024 bytes that the texts of a table are cut into. Assumes nothing: these are definitions.
-use Rattle.std.specs.Prelude.{ℕ, ◌+◌, ◌*◌, ◌/◌, ◌%◌, ◌≡◌, Bool, true, false, List, length, get_or}
+use Rattle.std.specs.Prelude.{ℕ, ◌+◌, ◌*◌, ◌/◌, ◌%◌, ◌≤◌, ◌≡◌, Bool, true, false, List, length, get_or}
 use Rattle.tree.specs.Units.{units}
 use Rattle.tree.specs.Table.{every, plainUnit, safeUnit}
-use Rattle.fst_text.specs.Inner.Texts.{textAt}
+use Rattle.fst_text.specs.Inner.Texts.{textAt, cleanFrom, NoLead}
 
 -- no unit of the text at `at` is one that a name is refused for
 pub record Fit (tab : List ℕ) (at : ℕ) : Type 0 where
@@ -17,3 +17,15 @@ markPlace mark = 1024 * (mark / 2) + mark % 2
 pub record Marked (tab : List ℕ) (base : ℕ) (marks : List Bool) : Type 0 where
   pub long : length marks ≡ 2048
   pub fit : (mark : ℕ) → get_or marks mark false ≡ true → Fit tab (base + markPlace mark)
+
+-- a table, and where its texts start
+pub record TextsFrom : Type 0 where
+  pub table : List ℕ
+  pub base : ℕ
+
+-- what is known of the texts: no lead byte stands before `first`, and they are clean, where that is said
+pub record Surveyed (tab : List ℕ) (base first : ℕ) (clean : Bool) (marks : List Bool) : Type 0 where
+  pub near : base ≤ 196608
+  pub marked : Marked tab base marks
+  pub all : clean ≡ true → cleanFrom tab base ≡ true
+  pub early : NoLead tab base first

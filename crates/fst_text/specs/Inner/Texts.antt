@@ -1,21 +1,16 @@
 -- The texts of a table and the units that a name may have, as the functions look at them. Assumes nothing: these are definitions.
-use Rattle.std.specs.Prelude.{ℕ, ◌<◌, ◌≤◌, ◌≡◌, Bool, true, false, ◌&&◌, ◌||◌, List, length, get_or, drop, eqb}
+use Rattle.std.specs.Prelude.{ℕ, ◌<◌, ◌≤◌, ◌≡◌, Bool, true, false, ◌&&◌, ◌||◌, List, [], ◌∷◌, length, get_or, drop, eqb}
 use Rattle.tree.specs.Units.{leadByte, TextUnit, single, pair, units}
-use Rattle.tree.specs.Table.{every, plain_byte, safeByte, plainUnit, safeUnit, upTo0}
+use Rattle.tree.specs.Table.{every, plain_byte, safeByte, dots, upTo0}
 
 -- the text that starts at byte `at` of a table
 abbrev pub textAt : List ℕ → ℕ → List ℕ
 textAt tab at = upTo0 (drop at tab)
 
--- a byte without `/`, `\`, `:`, or a byte 0x20 to 0x7E or 0xA1 to 0xDF
-abbrev pub byteTest : Bool → ℕ → Bool
-byteTest true b = safeByte b
-byteTest false b = plain_byte b
-
--- the same of a unit
-abbrev pub unitTest : Bool → TextUnit → Bool
-unitTest true u = safeUnit u
-unitTest false u = plainUnit u
+-- empty, `.` or `..`
+abbrev pub nameless : List ℕ → Bool
+nameless [] = true
+nameless (x ∷ xs) = dots (x ∷ xs)
 
 -- a byte that no name is refused for where it is a unit: the end of a text, or plain and safe
 abbrev pub cleanByte : ℕ → Bool

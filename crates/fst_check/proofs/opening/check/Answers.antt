@@ -41,9 +41,10 @@ returns-in_err-entries_verdict c =
     let e : Err c.in_err-entries_verdict.field-0.0 ≡ entriesVerdict T 1 (count T - 1) = rw c.count-count.ensures at c.in_err-entries_verdict.ensures in
     rw (p.1, p.2) (rw (le-ltb (length T) 12 c.if-table-lt12.false, le-ltb 1 (kind T 0) c.if-table-gt1.false, ne_eqb (kind T 0) 0 c.if-table-eq0.false, le-ltb 16384 (count T) (omega arith), ← e))
 
-pub texts_verdict-requires : goal.texts_verdict-requires
-texts_verdict-requires c =
-    entries-inside c.args.table.now c.count-count.result (omega arith) (omega (arith, count-some c.args.table.now)) (omega arith) (sym c.in_ok-entries_verdict.ensures)
+pub invariant_of-texts_verdict : goal.invariant_of-texts_verdict
+invariant_of-texts_verdict c = record {
+  inside = entries-inside c.args.table.now c.count-count.result (omega arith) (omega (arith, count-some c.args.table.now)) (omega arith) (sym c.in_ok-entries_verdict.ensures);
+}
 
 pub returns : goal.returns
 unfolding check textsVerdict

@@ -3,10 +3,6 @@ use native.Mathlib.Omega.{arith}
 use Rattle.tree.specs.Table.{count}
 use Rattle.fst_check.proofs.opening.count.Goals as goal
 
-pub returns-then-next-eq0 : goal.returns-then-next-eq0
+pub returns : goal.returns
 unfolding count
-returns-then-next-eq0 c = omega arith
-
-pub returns-else-next-eq0 : goal.returns-else-next-eq0
-unfolding count
-returns-else-next-eq0 c = omega arith
+returns c = omega (arith, c.max.ensures, c.read_u32.ensures)

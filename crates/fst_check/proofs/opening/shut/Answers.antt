@@ -1,23 +1,17 @@
 -- `fst_check::opening::shut` meets its contract. The invariant of its loop: those that are left shut to the same as all.
 use native.Mathlib.Omega.{arith}
 use mathlib.Core.Path.{sym, ◌∙◌}
+use borrow.Author.Tests.{eqb-true}
 use Rattle.fst_check.proofs.Walking.{shut-keep, shut-drop, shut_none}
 use Rattle.fst_check.proofs.opening.shut.Goals as goal
 
-pub returns-then-k-innermost : goal.returns-then-k-innermost
-returns-then-k-innermost c =
-    let a = c.args in
-    let l = c.loop-left in
-    (sym (l.invariant.1 ∙ shut-keep a.nexts.now a.k l.left (omega arith)), omega arith)
+pub returns-then-k-top : goal.returns-then-k-top
+returns-then-k-top c = sym (c.loop-dirs.invariant ∙ shut-keep c.loop-dirs.dirs c.args.k (omega (arith, c.top.ensures, c.if-k-top.true)))
 
-pub loop-left-preserved : goal.loop-left-preserved
-loop-left-preserved c =
-    let a = c.args in
-    let l = c.loop-left in
-    (omega arith, l.invariant.1 ∙ shut-drop a.nexts.now a.k l.left (omega arith) (omega arith))
+pub loop-dirs-preserved : goal.loop-dirs-preserved
+loop-dirs-preserved c =
+    rw c.pop.ensures.rest (c.loop-dirs.invariant ∙ shut-drop c.loop-dirs.dirs c.args.k (omega (arith, c.top.ensures, c.if-k-top.false)))
 
 pub returns : goal.returns
 returns c =
-    let a = c.args in
-    let l = c.loop-left in
-    (sym (l.invariant.1 ∙ shut_none a.nexts.now a.k l.left (omega arith)), omega arith)
+    sym (c.loop-dirs.invariant ∙ shut_none c.loop-dirs.dirs c.args.k (eqb-true _ _ (sym c.is_empty.ensures ∙ c.loop-dirs-test.false)))
