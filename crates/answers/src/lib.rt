@@ -2,20 +2,41 @@
 #![tactic(auto)]
 
 ghost use Rattle.std.specs.Prelude.{◌≡◌, length};
-ghost use Rattle.opening.specs.Opening.{opening};
-ghost use Rattle.answers.specs.Answers.{discOf, maxRegionSizeAnswer};
+ghost use Rattle.answers.specs.Answers.{discOf, told_of, maxRegionSizeAnswer};
 ghost use Rattle.opening.specs.Inner.Prepared.{IsOpen, Prepares};
 
+use opened::OpenDisc;
 use refusal::Refusal;
 
-#[derive(Clone, Copy)]
+/// What opening tells of a disc: offsets and sizes in bytes.
+#[derive(Clone, Copy, PartialEq, Eq, Debug)]
 pub struct Disc {
+    /// The byte at which the file table starts.
     pub fst_offset: u32,
+    /// How many bytes the table has.
     pub fst_size: u32,
+    /// The byte at which the disc ends.
     pub disc_end: u32,
+    /// How many entries the table has, the root among them.
     pub entries: u32,
+    /// How many bytes are used.
     pub used: u32,
 }
+
+/// What an open disc tells of itself.
+pub fn told(disc: &OpenDisc<'_>) -> Disc
+    ensures { result ≡ told_of disc.now }
+{
+    Disc {
+        fst_offset: disc.start(),
+        fst_size: disc.room(),
+        disc_end: disc.end(),
+        entries: disc.entries(),
+        used: disc.used_size(),
+    }
+}
+
+// For the callers that are still to go over.
 
 // What opening tells of an image that it accepts.
 pub fn disc_of(image: &[u8], words: &[u32], count: usize) -> Disc

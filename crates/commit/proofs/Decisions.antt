@@ -20,20 +20,20 @@ use Rattle.commit.specs.declared.Decision.TheVariants as decision
 use Rattle.edits.specs.Change.{written, tableVerdict, Plan, refused, nothing, change, filled, placeVerdict}
 use Rattle.edits.specs.Edits.{planned, planVerdict, planImage, planNumber, numberedAs}
 use Rattle.edits.specs.Laws.Behind as behind
-use Rattle.commit.specs.Inner.Decision.{changeWith, placing, writtenWith, Fits, sizedAs, carriedAnswer, Decided, DecidedAs}
+use Rattle.commit.specs.Inner.Decision.{changeWith, placing, writtenWith, Fits, behind_tests, carriedAnswer, Decided, DecidedAs}
 
 pub planned-first : (a b : Verdict) (p : Plan) → planned (first a b) p ≡ planned a (planned b p)
 planned-first (Ok _) b p = refl
 planned-first (Err c) b p = refl
 
--- the size of a table that passed, and the cause of one that did not
-pub sized-passed : (v : Verdict) (n size : ℕ) → sizedAs v n ≡ Ok size → (v ≡ Ok tt) × (size ≡ n)
-sized-passed (Ok _) n size e = (refl, cc)
-sized-passed (Err c) n size e = let z : ◌≡◌ {A = ℕ} 0 1 = cc in absurd (omega arith)
+-- what was found behind tests, and that they passed; or the cause
+pub tests-passed : {A : Type 0} (v : Verdict) (x y : A) → behind_tests v x ≡ Ok y → (v ≡ Ok tt) × (x ≡ y)
+tests-passed (Ok _) x y e = (refl, cc)
+tests-passed (Err c) x y e = let z : ◌≡◌ {A = ℕ} 0 1 = cc in absurd (omega arith)
 
-pub sized-refused : (v : Verdict) (n : ℕ) (c : Refusal) → sizedAs v n ≡ Err c → v ≡ Err c
-sized-refused (Ok _) n c e = let z : ◌≡◌ {A = ℕ} 0 1 = cc in absurd (omega arith)
-sized-refused (Err d) n c e = cc
+pub tests-refused : {A : Type 0} (v : Verdict) (x : A) (c : Refusal) → behind_tests v x ≡ Err c → v ≡ Err c
+tests-refused (Ok _) x c e = let z : ◌≡◌ {A = ℕ} 0 1 = cc in absurd (omega arith)
+tests-refused (Err d) x c e = cc
 
 written_same : (image : List ℕ) (nodes : List Node) (w : Writing) → writtenWith w (encode nodes) image ≡ written (changeWith nodes w) image
 unfolding writtenWith written

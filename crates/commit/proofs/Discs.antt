@@ -8,7 +8,7 @@ use Rattle.opening.specs.Opening.{nodesIn, freeOf}
 use Rattle.edits.specs.Change.{tableVerdict}
 use Rattle.opened.specs.Disc.{Disc, free_of, Means}
 use Rattle.opened.proofs.Discs.{free-shown, nodes_shown}
-use Rattle.commit.specs.Inner.Decision.{placing, sizedAs}
+use Rattle.commit.specs.Inner.Decision.{placing, behind_tests}
 use Rattle.commit.specs.Inner.Judged.{judged_size}
 use Rattle.commit.proofs.Images.{NewTable, new-table}
 use Rattle.commit.proofs.Judged.{sized_shown}
@@ -22,7 +22,7 @@ module _ (image : List ℕ) (d : Disc) (m : Means image d) where
 
   -- the table as it is, judged
   module _ (room : ℕ) (place : DiscRegion) (r : Result ℕ Refusal) (judged : r ≡ judged_size d room place) where
-    pub judged_is : r ≡ sizedAs (tableVerdict (placing d.nodes place) image d.words room) (length (encode d.nodes))
+    pub judged_is : r ≡ behind_tests (tableVerdict (placing d.nodes place) image d.words room) (length (encode d.nodes))
     judged_is = rw nodes_are at (judged ∙ sym (sized_shown image d.words room place d m.is))
 
     pub new_table : (size : ℕ) → r ≡ Ok size → NewTable d.nodes place image d.words room size

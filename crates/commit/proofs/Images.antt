@@ -32,8 +32,8 @@ use Rattle.edits.specs.Change.{tableVerdict, placeVerdict}
 use Rattle.edits.specs.Edits.{overlapsItself, relocateVerdict}
 use Rattle.edits.specs.Laws.PlaceTests.{place-passed, free-byte}
 use Rattle.opening.specs.Inner.Prepared.{OpenImage}
-use Rattle.commit.specs.Inner.Decision.{TableFits, placing, sizedAs}
-use Rattle.commit.proofs.Decisions.{sized-passed}
+use Rattle.commit.specs.Inner.Decision.{TableFits, placing, behind_tests}
+use Rattle.commit.proofs.Decisions.{tests-passed}
 
 -- ---- a file that is not empty lies behind the table and on the disc
 
@@ -161,15 +161,15 @@ table-passed nodes place image words room e =
 -- ---- the table as it is
 
 -- the limits were passed, or the table's place was judged
-pub table-past : (nodes : List Node) (place : DiscRegion) (image : List ℕ) (words room : ℕ) → limits nodes words ≡ Err LimitOrMemory → Err LimitOrMemory ≡ sizedAs (tableVerdict (placing nodes place) image words room) (length (encode nodes))
+pub table-past : (nodes : List Node) (place : DiscRegion) (image : List ℕ) (words room : ℕ) → limits nodes words ≡ Err LimitOrMemory → Err LimitOrMemory ≡ behind_tests (tableVerdict (placing nodes place) image words room) (length (encode nodes))
 table-past nodes place image words room e =
-    sym (ap (λ (v : Verdict). sizedAs v (length (encode nodes))) (table-tests nodes place image words room ∙ ap (λ (v : Verdict). first v (placeVerdict image room (length (encode nodes)) place)) e))
+    sym (ap (λ (v : Verdict). behind_tests v (length (encode nodes))) (table-tests nodes place image words room ∙ ap (λ (v : Verdict). first v (placeVerdict image room (length (encode nodes)) place)) e))
 
 pub table-sized : (nodes : List Node) (place : DiscRegion) (image : List ℕ) (words room size : ℕ) (v : Verdict) → limits nodes words ≡ Ok tt → size ≡ length (encode nodes) → v ≡ placeVerdict image room size place →
-    sizedAs v size ≡ sizedAs (tableVerdict (placing nodes place) image words room) (length (encode nodes))
+    behind_tests v size ≡ behind_tests (tableVerdict (placing nodes place) image words room) (length (encode nodes))
 table-sized nodes place image words room size v a b p =
-    ap (λ (x : Verdict). sizedAs x size) p ∙ ap (λ (n : ℕ). sizedAs (placeVerdict image room n place) n) b
-    ∙ sym (ap (λ (x : Verdict). sizedAs x (length (encode nodes))) (table-tests nodes place image words room ∙ ap (λ (x : Verdict). first x (placeVerdict image room (length (encode nodes)) place)) a))
+    ap (λ (x : Verdict). behind_tests x size) p ∙ ap (λ (n : ℕ). behind_tests (placeVerdict image room n place) n) b
+    ∙ sym (ap (λ (x : Verdict). behind_tests x (length (encode nodes))) (table-tests nodes place image words room ∙ ap (λ (x : Verdict). first x (placeVerdict image room (length (encode nodes)) place)) a))
 
 -- a table that passed its tests
 pub record NewTable (nodes : List Node) (place : DiscRegion) (image : List ℕ) (words room size : ℕ) : Type 0 where
@@ -180,9 +180,9 @@ pub record NewTable (nodes : List Node) (place : DiscRegion) (image : List ℕ) 
   pub fits : TableFits (length image) room (fstOffset image) (fstSize image) size
 
 pub new-table : (nodes : List Node) (place : DiscRegion) (image : List ℕ) (words room size : ℕ) (r : Result ℕ Refusal) → OpenImage image words →
-    r ≡ sizedAs (tableVerdict (placing nodes place) image words room) (length (encode nodes)) → r ≡ Ok size → NewTable nodes place image words room size
+    r ≡ behind_tests (tableVerdict (placing nodes place) image words room) (length (encode nodes)) → r ≡ Ok size → NewTable nodes place image words room size
 new-table nodes place image words room size r known e f =
-    let p = sized-passed (tableVerdict (placing nodes place) image words room) (length (encode nodes)) size (sym e ∙ f) in
+    let p = tests-passed (tableVerdict (placing nodes place) image words room) (length (encode nodes)) size (sym e ∙ f) in
     let q = table-passed nodes place image words room p.0 in
     let t : TableFits (length image) room (fstOffset image) (fstSize image) (length (encode nodes)) = place-fits image words known room (length (encode nodes)) place q.1 in
-    record { passed = p.0; length-is = p.1; small = q.0; held = t.held; fits = rw p.1 t }
+    record { passed = p.0; length-is = sym p.1; small = q.0; held = t.held; fits = rw (← p.1) t }

@@ -3,13 +3,12 @@
 use Rattle.std.specs.Prelude.{Result, Ok, Err}
 use Rattle.refusal.specs.Refusal.{Verdict}
 use Rattle.refusal.specs.declared.Refusal.{Refusal}
-use Prim.Native.Nat.{ℕ, ◌≤◌}
+use Prim.Native.Nat.{ℕ}
 use mathlib.Core.Path.{◌≡◌, sym, ap, ◌∙◌}
 use mathlib.Core.List.{List}
 use lib.ListN.{length}
-use Rattle.endian.specs.Bytes.{put}
 use Rattle.refusal.specs.declared.Refusal.TheVariants.{LimitOrMemory}
-use Rattle.tree.specs.Table.{count, encode, nodesOf, limits}
+use Rattle.tree.specs.Table.{count, encode, limits}
 use Rattle.space.specs.declared.DiscRegion.{DiscRegion}
 use Rattle.fst_measure.specs.Inner.Measure.{measureOf}
 use Rattle.fst_measure.specs.Inner.Valid.{Valid}
@@ -18,21 +17,13 @@ use Rattle.opening.specs.Opening.{table_of, nodesIn}
 use Rattle.opening.specs.Inner.Prepared.{OpenImage}
 use Rattle.opening.proofs.Words.{Opens}
 use Rattle.edits.specs.Change.{tableVerdict, placeVerdict}
-use Rattle.commit.specs.Inner.Decision.{placing, sizedAs}
+use Rattle.commit.specs.Inner.Decision.{placing, behind_tests}
 use Rattle.commit.proofs.Images.{measured-cause, measured-past, measured-size, table-past, table-sized}
 
 pub opens-valid : (tab : List ℕ) → Opens tab → Valid tab (count tab)
 opens-valid tab o = accepted-valid tab o.words o.passed
 
 module _ (image tab : List ℕ) (is : tab ≡ table_of image) where
-  pub table-shorter : (n : ℕ) → length (encode (nodesIn image)) ≤ n → length (encode (nodesOf tab)) ≤ n
-  unfolding nodesIn
-  table-shorter n h = rw is h
-
-  pub table-written : (bytes after : List ℕ) → after ≡ put bytes 0 (encode (nodesOf tab)) → after ≡ put bytes 0 (encode (nodesIn image))
-  unfolding nodesIn
-  table-written bytes after e = rw is at e
-
   module _ (words : ℕ) (known : OpenImage image words) (r : Result ℕ Refusal) (measured : r ≡ measureOf tab) where
     pub past-cause : (cause : Refusal) → r ≡ Err cause → cause ≡ LimitOrMemory
     past-cause cause e = measured-cause tab cause (sym measured ∙ e)
@@ -44,17 +35,17 @@ module _ (image tab : List ℕ) (is : tab ≡ table_of image) where
     limits-passed n e = measured-size image words known n (ap measureOf (sym is) ∙ sym measured ∙ e)
 
     pub tree-past : (room : ℕ) (place : DiscRegion) (cause : Refusal) → r ≡ Err cause →
-        Err cause ≡ sizedAs (tableVerdict (placing (nodesIn image) place) image words room) (length (encode (nodesIn image)))
+        Err cause ≡ behind_tests (tableVerdict (placing (nodesIn image) place) image words room) (length (encode (nodesIn image)))
     tree-past room place cause e = ap Err (past-cause cause e) ∙ table-past (nodesIn image) place image words room (limits-past cause e)
 
     tree-sized : (room n : ℕ) (place : DiscRegion) (v : Verdict) → r ≡ Ok n → v ≡ placeVerdict image room n place →
-        sizedAs v n ≡ sizedAs (tableVerdict (placing (nodesIn image) place) image words room) (length (encode (nodesIn image)))
+        behind_tests v n ≡ behind_tests (tableVerdict (placing (nodesIn image) place) image words room) (length (encode (nodesIn image)))
     tree-sized room n place v e p = let m = limits-passed n e in table-sized (nodesIn image) place image words room n v m.0 m.1 p
 
     pub tree-refused : (room n : ℕ) (place : DiscRegion) (cause : Refusal) → r ≡ Ok n → Err cause ≡ placeVerdict image room n place →
-        Err cause ≡ sizedAs (tableVerdict (placing (nodesIn image) place) image words room) (length (encode (nodesIn image)))
+        Err cause ≡ behind_tests (tableVerdict (placing (nodesIn image) place) image words room) (length (encode (nodesIn image)))
     tree-refused room n place cause e p = tree-sized room n place (Err cause) e p
 
     pub tree-passed : (room n : ℕ) (place : DiscRegion) → r ≡ Ok n → Ok tt ≡ placeVerdict image room n place →
-        Ok n ≡ sizedAs (tableVerdict (placing (nodesIn image) place) image words room) (length (encode (nodesIn image)))
+        Ok n ≡ behind_tests (tableVerdict (placing (nodesIn image) place) image words room) (length (encode (nodesIn image)))
     tree-passed room n place e p = tree-sized room n place (Ok tt) e p

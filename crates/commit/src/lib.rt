@@ -10,9 +10,10 @@ ghost use Rattle.commit.specs.Inner.Decision.{CanCarry, number_of, carriedImage}
 use space::DiscRegion;
 pub use table::{check_place, check_table, write_table};
 
-/// What an edit does to the image besides the table. A region of no bytes is one that nothing is copied to, or that nothing is zeroed in,
-/// wherever it lies.
-#[derive(Clone, Copy)]
+/// What an edit does to the image besides the table. In a region of no bytes nothing is copied or zeroed, wherever it lies.
+// Kept: a region of no bytes where no file is edited, and no `Option`, which would be no plainer: an empty file's place has no bytes either, and
+// is written the same way.
+#[derive(Clone, Copy, Debug, PartialEq, Eq)]
 pub struct Writing {
     /// Where the edited file lies before.
     pub old: DiscRegion,
@@ -35,7 +36,7 @@ impl Writing {
 }
 
 /// What an edit that is not refused comes to, before it writes. The clip that fills a file stands beside it.
-#[derive(Clone, Copy)]
+#[derive(Clone, Copy, Debug, PartialEq, Eq)]
 pub enum Decision {
     /// Nothing is to be written.
     Nothing,

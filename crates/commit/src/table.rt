@@ -25,6 +25,7 @@ fn above_maximum(disc: &OpenDisc<'_>, size: usize) -> bool
 
 /// The tests of a table of `size` bytes, where `room` working bytes are lent: 9 if these are too few, 26 if it is above the stated maximum, 21
 /// if there is no room for it behind the old table, or before the edited file's new place.
+#[tactic(auto, using(std::proofs::lemmas::Bool::Decides::nat_tests), unfolding(crate::specs::Inner::Judged::place_verdict))]
 pub fn check_place(disc: &OpenDisc<'_>, room: usize, size: usize, place: DiscRegion) -> Verdict
     ensures { result ≡ place_verdict disc.now room size place }
 {

@@ -1,7 +1,7 @@
 -- What the calls give back in C: for each answer of the crates below its number (document 01: "Causes and their numbers"; 0 where the call
 -- is accepted), and the slots that the caller lends, as many as the answer has words. With a refusal they are "left as it was".
 -- Assumes nothing: these are definitions.
-use Rattle.std.specs.Prelude.{Result, Ok, Err, ℕ, ◌≡◌, List, [], ◌∷◌, ◌++◌, get_or}
+use Rattle.std.specs.Prelude.{Some, None, Result, Ok, Err, ℕ, ◌≡◌, List, [], ◌∷◌, ◌++◌, get_or}
 use Rattle.refusal.specs.declared.Refusal.{Refusal}
 use Rattle.refusal.specs.Refusal.{Verdict, number_of}
 use Rattle.answers.specs.declared.Disc.{Disc}
@@ -14,8 +14,7 @@ use Rattle.tree.specs.declared.Found.TheVariants as found
 use Rattle.dol.specs.declared.DolHeader.{DolHeader}
 use Rattle.files.specs.declared.DolFile.{DolFile}
 use Rattle.totals.specs.declared.Totals.{Totals}
-use Rattle.program.specs.declared.Program.{Program}
-use Rattle.program.specs.declared.Program.TheVariants as program
+use Rattle.program.specs.Program.{Program}
 use Rattle.window.specs.declared.Window.{Window}
 use Rattle.edits.specs.Edits.{numberedAs}
 use Rattle.opening.specs.Opening.{zeros}
@@ -98,9 +97,9 @@ dolWords h =
 
 -- a program has at least 0xE4 bytes, so size 0 is none
 unfoldable pub programReply : List ℕ → Program → Reply
-programReply before (program.At r) = accepts (regionWords r)
-programReply before program.None = accepts (0 ∷ 0 ∷ [])
-programReply before (program.Refused c) = refuses before c
+programReply before (Ok (Some r)) = accepts (regionWords r)
+programReply before (Ok None) = accepts (0 ∷ 0 ∷ [])
+programReply before (Err c) = refuses before c
 
 unfoldable pub foundReply : List ℕ → Found → Reply
 foundReply before (found.At k e) = accepts (entryWords k e)

@@ -5,7 +5,6 @@ ghost use Rattle.files.specs.Files.{entryAnswer, lookupAnswer, entriesAnswer, en
 ghost use Rattle.counter.specs.Replies.{Read, reply, replied, discWords, discTotalsWords, totalsWords, foundReply, programReply};
 
 use crate::answer::give;
-use program::Program;
 use totals::Record;
 use tree::{Entry, Found};
 
@@ -57,17 +56,16 @@ pub extern "C" fn counter_make_record(image: &[u8], words: &mut [u32], record: &
 pub extern "C" fn counter_program(image: &[u8], words: &mut [u32], answer: &mut [u32; 2]) -> u32
     ensures { Read (programReply answer.old (programAnswer image.now (length words.old))) (reply result answer.new) words.old words.new }
 {
-    let program = disc::program(image, words);
-    match program {
-        Program::At(region) => {
+    match disc::program(image, words) {
+        Ok(Some(region)) => {
             *answer = [region.offset, region.size];
             0
         }
-        Program::None => {
+        Ok(None) => {
             *answer = [0, 0];
             0
         }
-        Program::Refused(cause) => cause.number(),
+        Err(cause) => cause.number(),
     }
 }
 

@@ -29,15 +29,15 @@ use Rattle.commit.specs.declared.Decision.TheVariants as decision
 use Rattle.edits.specs.Change.{change}
 use Rattle.edits.specs.Edits.{fileVerdict, relocateVerdict, relocated, planned, planMove, planResize, planSized}
 use Rattle.decide.specs.declared.File.{File}
-use Rattle.decide.specs.Inner.Files.{IsFile, file_in, fileOf, fileAs, IsFileOf}
-use Rattle.commit.specs.Inner.Decision.{InImage, Decided}
+use Rattle.decide.specs.Inner.Files.{IsFile, file_in, fileOf, IsFileOf}
+use Rattle.commit.specs.Inner.Decision.{InImage, Decided, behind_tests}
 use Rattle.commit.proofs.Puts.{put-inside}
-use Rattle.commit.proofs.Decisions.{planned-first, behind-passed, behind-refused}
+use Rattle.commit.proofs.Decisions.{tests-passed, tests-refused, planned-first, behind-passed, behind-refused}
 use Rattle.commit.proofs.Images.{file-lies, new-place, end-in-image}
 
 -- ---- found by its number
 
-file-case : (parent k : ℕ) (x : Node) → fileOf k (entryWith parent x) ≡ fileAs (refuse (isDirectory x) ExpectedFile (Ok tt)) (record { number = k; place = regionOf x })
+file-case : (parent k : ℕ) (x : Node) → fileOf k (entryWith parent x) ≡ behind_tests (refuse (isDirectory x) ExpectedFile (Ok tt)) (record { number = k; place = regionOf x })
 file-case parent k (file nm a b) = refl
 file-case parent k (directory nm n) = refl
 
@@ -45,31 +45,23 @@ module _ (nodes : List Node) (k : ℕ) where
   abbrev node : Node
   node = get_or nodes k none
 
-  pub entry-refused : (c : Refusal) → entryFound nodes k ≡ found.Refused c → Err c ≡ fileAs (fileVerdict nodes k) (file_in nodes k)
+  pub entry-refused : (c : Refusal) → entryFound nodes k ≡ found.Refused c → Err c ≡ behind_tests (fileVerdict nodes k) (file_in nodes k)
   entry-refused c e = go (ltb k (length nodes)) refl e
     where
-      go : (t : Bool) → ltb k (length nodes) ≡ t → found_at nodes (cond t (Ok k) (Err NoSuchEntry)) ≡ found.Refused c → Err c ≡ fileAs (fileVerdict nodes k) (file_in nodes k)
+      go : (t : Bool) → ltb k (length nodes) ≡ t → found_at nodes (cond t (Ok k) (Err NoSuchEntry)) ≡ found.Refused c → Err c ≡ behind_tests (fileVerdict nodes k) (file_in nodes k)
       go true a q = let z : ◌≡◌ {A = ℕ} 0 1 = cc in absurd (omega arith)
       go false a q =
           let r : c ≡ NoSuchEntry = cc in
           rw (le-leb (length nodes) k (ltb-false k (length nodes) a), r)
 
-  pub entry-file : (j : ℕ) (x : Entry) (r : Result File Refusal) → entryFound nodes k ≡ found.At j x → r ≡ fileOf k x → r ≡ fileAs (fileVerdict nodes k) (file_in nodes k)
+  pub entry-file : (j : ℕ) (x : Entry) (r : Result File Refusal) → entryFound nodes k ≡ found.At j x → r ≡ fileOf k x → r ≡ behind_tests (fileVerdict nodes k) (file_in nodes k)
   entry-file j x r e f = go (ltb k (length nodes)) refl e
     where
-      go : (t : Bool) → ltb k (length nodes) ≡ t → found_at nodes (cond t (Ok k) (Err NoSuchEntry)) ≡ found.At j x → r ≡ fileAs (fileVerdict nodes k) (file_in nodes k)
+      go : (t : Bool) → ltb k (length nodes) ≡ t → found_at nodes (cond t (Ok k) (Err NoSuchEntry)) ≡ found.At j x → r ≡ behind_tests (fileVerdict nodes k) (file_in nodes k)
       go true a q =
           let y : x ≡ entry_of nodes k = cc in
           rw (lt-leb (length nodes) k (ltb-true k (length nodes) a)) (f ∙ ap (fileOf k) y ∙ file-case (parent_of nodes k) k node)
       go false a q = let z : ◌≡◌ {A = ℕ} 0 1 = cc in absurd (omega arith)
-
-  as_file : (v : Verdict) (s f : File) → fileAs v s ≡ Ok f → (v ≡ Ok tt) × (s ≡ f)
-  as_file (Ok _) s f e = (refl, cc)
-  as_file (Err c) s f e = let z : ◌≡◌ {A = ℕ} 0 1 = cc in absurd (omega arith)
-
-  as-refused : (v : Verdict) (s : File) (c : Refusal) → fileAs v s ≡ Err c → v ≡ Err c
-  as-refused (Ok _) s c e = let z : ◌≡◌ {A = ℕ} 0 1 = cc in absurd (omega arith)
-  as-refused (Err d) s c e = cc
 
   -- a file that was found
   pub record FoundFile (f : File) : Type 0 where
@@ -78,9 +70,9 @@ module _ (nodes : List Node) (k : ℕ) where
     pub place : regionOf node ≡ f.place
     pub is : IsFile nodes k
 
-  pub file-found : (r : Result File Refusal) (f : File) → r ≡ fileAs (fileVerdict nodes k) (file_in nodes k) → r ≡ Ok f → FoundFile f
+  pub file-found : (r : Result File Refusal) (f : File) → r ≡ behind_tests (fileVerdict nodes k) (file_in nodes k) → r ≡ Ok f → FoundFile f
   file-found r f e g =
-      let p = as_file (fileVerdict nodes k) (file_in nodes k) f (sym e ∙ g) in
+      let p = tests-passed (fileVerdict nodes k) (file_in nodes k) f (sym e ∙ g) in
       let a = refuse-passed (leb (length nodes) k) NoSuchEntry _ p.0 in
       let b = refuse-passed (isDirectory node) ExpectedFile _ a.1 in
       record {
@@ -90,11 +82,11 @@ module _ (nodes : List Node) (k : ℕ) where
         is = record { inside = leb-false (length nodes) k a.0; kind = b.0 };
       }
 
-  pub file-refused : (r : Result File Refusal) (c : Refusal) → r ≡ fileAs (fileVerdict nodes k) (file_in nodes k) → r ≡ Err c → fileVerdict nodes k ≡ Err c
-  file-refused r c e f = as-refused (fileVerdict nodes k) (file_in nodes k) c (sym e ∙ f)
+  pub file-refused : (r : Result File Refusal) (c : Refusal) → r ≡ behind_tests (fileVerdict nodes k) (file_in nodes k) → r ≡ Err c → fileVerdict nodes k ≡ Err c
+  file-refused r c e f = tests-refused (fileVerdict nodes k) (file_in nodes k) c (sym e ∙ f)
 
 -- what was found is a file of the disc
-pub is-file : (d : Disc) (table : List ℕ) (t : TableOf d table) (k : ℕ) (r : Result File Refusal) → r ≡ fileAs (fileVerdict d.nodes k) (file_in d.nodes k) → IfOk r (IsFileOf d)
+pub is-file : (d : Disc) (table : List ℕ) (t : TableOf d table) (k : ℕ) (r : Result File Refusal) → r ≡ behind_tests (fileVerdict d.nodes k) (file_in d.nodes k) → IfOk r (IsFileOf d)
 is-file d table t k (Err c) e = tt
 is-file d table t k (Ok f) e =
     let h = file-found d.nodes k (Ok f) f e refl in

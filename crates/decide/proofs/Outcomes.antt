@@ -21,7 +21,7 @@ use Rattle.commit.specs.declared.Decision.TheVariants as decision
 use Rattle.commit.specs.Inner.Decision.{InImage, Decided, placing, changeWith}
 use Rattle.commit.specs.Inner.Judged.{judged_size}
 use Rattle.commit.proofs.Puts.{span-start}
-use Rattle.commit.proofs.Decisions.{sized-refused, refused-decided, write-decided, same_tests, length-encode-setPlace}
+use Rattle.commit.proofs.Decisions.{tests-refused, refused-decided, write-decided, same_tests, length-encode-setPlace}
 use Rattle.commit.proofs.Discs.{nodes_are, free_is, judged_is, new_table}
 use Rattle.decide.specs.declared.File.{File}
 use Rattle.decide.specs.Inner.Files.{IsFile, IsFileOf}
@@ -36,7 +36,7 @@ module _ (image : List ℕ) (d : Disc) (m : Means image d) where
 
   module _ (bytes : List ℕ) (to : DiscRegion) (r : Result ℕ Refusal) (judged : r ≡ judged_size d (length bytes) to) where
     past : (c : Refusal) → r ≡ Err c → tableVerdict (placing d.nodes to) image d.words (length bytes) ≡ Err c
-    past c e = sized-refused _ (length (encode d.nodes)) c (sym (judged_is image d m (length bytes) to r judged) ∙ e)
+    past c e = tests-refused _ (length (encode d.nodes)) c (sym (judged_is image d m (length bytes) to r judged) ∙ e)
 
   module _ (bytes : List ℕ) (r : Result ℕ Refusal) (judged : r ≡ judged_size d (length bytes) noPlace) where
     pub rewrite-refused : (c : Refusal) (after : List ℕ) → r ≡ Err c → Decided (change 0 (tableOnly d.nodes)) image d.words (length bytes) after (Err c)

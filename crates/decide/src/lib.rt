@@ -11,7 +11,7 @@ pub use resizing::{resize, resize_file};
 use space::DiscRegion;
 
 /// A file of a disc: the number of its entry, and where its bytes lie.
-#[derive(Clone, Copy)]
+#[derive(Clone, Copy, Debug, PartialEq, Eq)]
 pub struct File {
     pub number: u32,
     pub place: DiscRegion,

@@ -1,7 +1,6 @@
 // What a rewrite and a move decide on, for every image that means the disc.
 ghost use Rattle.std.specs.Prelude.{◌≡◌, List, ℕ, length};
 ghost use Rattle.tree.specs.Insert.{setPlace};
-ghost use Rattle.space.specs.Used.{end_of};
 ghost use Rattle.edits.specs.Change.{change};
 ghost use Rattle.edits.specs.Edits.{tableOnly, planned, overlapsItself, relocateVerdict, relocated, planMove};
 ghost use Rattle.opened.specs.Disc.{free_of, Means};
@@ -50,17 +49,11 @@ pub(crate) fn set_place(
     })
 }
 
-fn region_end(region: DiscRegion) -> u64
-    ensures { result ≡ end_of region }
-{
-    region.offset as u64 + region.size as u64
-}
-
 // Whether a region would be moved onto itself.
 fn overlaps_itself(old: DiscRegion, new: DiscRegion) -> bool
     ensures { result ≡ overlapsItself old new }
 {
-    (new.offset as u64) < region_end(old) && (old.offset as u64) < region_end(new)
+    u64::from(new.offset) < old.end() && u64::from(old.offset) < new.end()
 }
 
 // The tests of a new place: 20, then 21.

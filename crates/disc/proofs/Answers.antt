@@ -20,9 +20,7 @@ use Rattle.answers.proofs.Prepared.{ready-opened, ready-behind, refused-behind}
 use Rattle.free_space.specs.Listing.{listingOf, listAfter}
 use Rattle.free_space.specs.Allocate.{allocationOf}
 use Rattle.totals.specs.declared.Totals.{Totals}
-use Rattle.program.specs.declared.Program.{Program}
-use Rattle.program.specs.declared.Program.TheVariants as program
-use Rattle.program.specs.Program.{program_of}
+use Rattle.program.specs.Program.{Program, program_of}
 use Rattle.disc.specs.Calls.{opened_of, totalsAnswer, totalsOf, recordAnswer, programAnswer, freeAnswer, freeList, allocateAnswer}
 
 module _ (image w : List ℕ) (p : Result ℕ Refusal) (h : Prepares image w p) where
@@ -59,7 +57,7 @@ module _ (image w : List ℕ) (p : Result ℕ Refusal) (h : Prepares image w p) 
   unfolding programAnswer
   ready-program m n a k r e = rw (← k, ready-opened image w p h m r) e
 
-  pub refused-program : (n : ℕ) (c : Refusal) → length w ≡ n → p ≡ Err c → program.Refused c ≡ programAnswer image n
+  pub refused-program : (n : ℕ) (c : Refusal) → length w ≡ n → p ≡ Err c → Err c ≡ programAnswer image n
   unfolding programAnswer
   refused-program n c k r = rw (← k, was-refused image w p h c r)
 

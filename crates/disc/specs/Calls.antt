@@ -11,9 +11,7 @@ use Rattle.space.specs.Free.{largestSize}
 use Rattle.free_space.specs.Listing.{regionRow, clusterRow, listingOf, listAfter}
 use Rattle.free_space.specs.Allocate.{allocationOf}
 use Rattle.totals.specs.declared.Totals.{Totals}
-use Rattle.program.specs.declared.Program.{Program}
-use Rattle.program.specs.declared.Program.TheVariants as program
-use Rattle.program.specs.Program.{program_of}
+use Rattle.program.specs.Program.{Program, program_of}
 use Rattle.opening.specs.Opening.{opening, freeOf, usedOf}
 use Rattle.answers.specs.Answers.{behind, discOf}
 
@@ -38,7 +36,7 @@ recordAnswer image words = behind (opening image words) Err (Ok (totalsOf image 
 
 -- document 02, Point 2: "a nonzero DOL offset means a program from there"; wherever it lies
 unfoldable pub programAnswer : List ℕ → ℕ → Program
-programAnswer image words = behind (opening image words) program.Refused (program_of image)
+programAnswer image words = behind (opening image words) Err (program_of image)
 
 -- the free regions in a result list, with the words of each as `row` has them
 unfoldable pub freeAnswer : (DiscRegion → List ℕ) → List ℕ → ℕ → ℕ → Result ℕ Refusal

@@ -146,10 +146,8 @@ pub fn program(image: &[u8], words: &mut [u32]) -> Program
 {
     let prepared = opening::prepare(image, words);
     space::zero_words(words);
-    match prepared {
-        Ok(_) => program::read(image),
-        Err(cause) => Program::Refused(cause),
-    }
+    prepared?;
+    program::read(image)
 }
 
 // The free regions, an offset and a size each, into `list`.

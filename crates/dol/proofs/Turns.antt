@@ -1,10 +1,11 @@
 -- One turn of each loop: one word more, and one sum more. Assumes nothing.
-use Prim.Native.Nat.{ℕ, zero, suc, ◌+◌, ◌-◌, ◌*◌, ◌≤◌, ◌<◌, max}
-use mathlib.Core.Path.{◌≡◌, sym, ap, ◌∙◌}
+use Prim.Native.Nat.{ℕ, zero, suc, ◌+◌, ◌*◌, ◌<◌, max}
+use mathlib.Core.Logic.{◌⊎◌, inl, inr}
+use mathlib.Core.Path.{◌≡◌, refl, sym, ap, ◌∙◌}
 use mathlib.Core.List.{List, [], ◌∷◌, ◌++◌}
 use native.Mathlib.Omega.{arith}
 use native.Mathlib.Numerals.{add-one}
-use lib.ListN.{length, get_or, drop, set, drop_of_length-le}
+use lib.ListN.{length, drop, set}
 use lib.Seq.{drop-cons, append_snoc, set_at}
 use Rattle.endian.specs.Bytes.{be32}
 use Rattle.dol.specs.Dol.{wordsAt, largestOf}
@@ -21,43 +22,17 @@ words-turn s out₀ out at i e h =
     rw (e, add-one i, drop-cons out₀ i 0, words_snoc) (set_at (wordsAt s at i) _ _ _ i (length-words s at i) ∙ sym (append_snoc (wordsAt s at i) _ _))
 
 -- one turn of a loop that looks for the largest sum, and the loop's end
-pub largest-turn : (os ss : List ℕ) (i top : ℕ) → largestOf os ss ≡ max top (largestOf (drop i os) (drop i ss)) → i < length os → length os ≡ length ss
-    → largestOf os ss ≡ max (max top (get_or os i 0 + get_or ss i 0)) (largestOf (drop (i + 1) os) (drop (i + 1) ss))
+pub largest-turn : (os ss os' ss' : List ℕ) (x y all top next : ℕ) → os ≡ x ∷ os' → ss ≡ y ∷ ss' → all ≡ max top (largestOf os ss) → next ≡ max (x + y) top
+    → all ≡ max next (largestOf os' ss')
 unfolding largestOf
-largest-turn os ss i top e h l =
-    let k : i < length ss = omega arith in
-    let e₁ : largestOf (drop i os) (drop i ss) ≡ max (get_or os i 0 + get_or ss i 0) (largestOf (drop (suc i) os) (drop (suc i) ss)) = rw (drop-cons os i 0, drop-cons ss i 0) in
-    rw (add-one i) (omega arith)
+largest-turn os ss os' ss' x y all top next e f h n = let k : all ≡ max top (max (x + y) (largestOf os' ss')) = rw (e, f) at h in omega arith
 
-pub largest-end : (os ss : List ℕ) (i top : ℕ) → largestOf os ss ≡ max top (largestOf (drop i os) (drop i ss)) → length os ≤ i → top ≡ largestOf os ss
+largest-none : (os ss : List ℕ) → (os ≡ []) ⊎ (ss ≡ []) → largestOf os ss ≡ 0
 unfolding largestOf
-largest-end os ss i top e h = let z : largestOf (drop i os) (drop i ss) ≡ 0 = rw (drop_of_length-le os {i = i} h) in omega arith
+largest-none [] ss e = refl
+largest-none (o ∷ os) [] e = refl
+largest-none (o ∷ os) (s ∷ ss) (inl e) = cc
+largest-none (o ∷ os) (s ∷ ss) (inr e) = cc
 
--- the same over words that are read as the loop goes
-
-module _ (s : List ℕ) (at n : ℕ) where
-  abbrev pub left : ℕ → ℕ
-  left i = largestOf (wordsAt s (at + 4 * i) (n - i)) (wordsAt s (at + 0x90 + 4 * i) (n - i))
-
-  next : (i : ℕ) → i < n → left i ≡ max (be32 s (at + 4 * i) + be32 s (at + 4 * i + 0x90)) (left (i + 1))
-  unfolding wordsAt largestOf
-  next i h =
-      let m : n - i ≡ suc (n - (i + 1)) = omega arith in
-      let x : at + 4 * i + 4 ≡ at + 4 * (i + 1) = omega arith in
-      let y : at + 0x90 + 4 * i + 4 ≡ at + 0x90 + 4 * (i + 1) = omega arith in
-      let z : at + 0x90 + 4 * i ≡ at + 4 * i + 0x90 = omega arith in
-      rw (← x, ← y, m, z)
-
-  pub at_turn : (i top offset size a b v : ℕ) → left 0 ≡ max top (left i) → i < n → offset ≡ be32 s (at + 4 * i) → size ≡ be32 s (at + 4 * i + 0x90) → a ≡ offset → b ≡ size → v ≡ max top (a + b) → left 0 ≡ max v (left (i + 1))
-  at_turn i top offset size a b v e h p q x y r = omega (arith, next i h)
-
-  pub at-end : (i top : ℕ) → left 0 ≡ max top (left i) → i ≤ n → n ≤ i → top ≡ largestOf (wordsAt s at n) (wordsAt s (at + 0x90) n)
-  unfolding wordsAt largestOf
-  at-end i top e h l =
-      let m : n - i ≡ 0 = omega arith in
-      let z : left i ≡ 0 = rw m in
-      let a : at + 4 * 0 ≡ at = omega arith in
-      let b : at + 0x90 + 4 * 0 ≡ at + 0x90 = omega arith in
-      let c : n - 0 ≡ n = omega arith in
-      let t : top ≡ left 0 = omega (arith, z) in
-      rw (a, b, c) at t
+pub largest-end : (os ss : List ℕ) (all top : ℕ) → (os ≡ []) ⊎ (ss ≡ []) → all ≡ max top (largestOf os ss) → top ≡ all
+largest-end os ss all top e h = omega (arith, largest-none os ss e)

@@ -2,15 +2,15 @@
 // BSS address, BSS size, entry point; 0xE4 bytes.
 #![tactic(auto)]
 
-ghost use Rattle.std.specs.Prelude.{◌≡◌, ◌+◌, ◌*◌, ◌≤◌, ◌<◌, max, length};
+ghost use Rattle.std.specs.Prelude.{◌≡◌, ◌+◌, ◌*◌, ◌≤◌, ◌<◌, length};
 ghost use Rattle.window.specs.Window.{newWindow};
 ghost use Rattle.dol.specs.Dol.{wordsAt, largestOf, newHeader, dolHeaderOf, fileSizeOf, dolAnswerOf, dolSizeOf};
 
-use endian::wide;
 use refusal::Refusal;
 use window::Window;
 
-#[derive(Clone, Copy)]
+/// The header: where each of the 7 text and 11 data sections stands in the file and in memory, and how many bytes it has.
+#[derive(Clone, Copy, PartialEq, Eq, Debug)]
 pub struct DolHeader {
     pub text_offsets: [u32; 7],
     pub data_offsets: [u32; 11],
@@ -23,57 +23,33 @@ pub struct DolHeader {
     pub entry_point: u32,
 }
 
-// What reading gives: the header, and the file size that it says.
-#[derive(Clone, Copy)]
+/// What reading gives: the header, and the size in bytes of the file that it describes.
+#[derive(Clone, Copy, PartialEq, Eq, Debug)]
 pub struct DolAnswer {
     pub header: DolHeader,
     pub size: u32,
 }
 
-fn larger(a: u64, b: u64) -> u64
-    ensures { result ≡ max a b }
+// N words from `at` on. Inlined, because an array that is stored word by word and then read by fours waits for each store.
+#[inline(always)]
+fn words_at<const N: usize>(s: &[u8], at: usize) -> [u32; N]
+    requires { at + 4 * N ≤ length s.now }
+    ensures { result ≡ wordsAt s.now at N }
 {
-    if a <= b { b } else { a }
-}
-
-// As many words as `out` has, from `at` on.
-fn read_words(s: &[u8], at: usize, out: &mut [u32])
-    requires { at + 4 * length out.old ≤ length s.now }
-    ensures { out.new ≡ wordsAt s.now at (length out.old) }
-{
-    for i in 0..out.len() {
-        out[i] = endian::read_u32(s, at + 4 * i);
+    let mut words = [0; N];
+    for (i, word) in words.iter_mut().enumerate() {
+        *word = endian::read_u32(s, at + 4 * i);
     }
+    words
 }
 
-// A word for each text section.
-fn text_words(s: &[u8], at: usize) -> [u32; 7]
-    requires { at + 28 ≤ length s.now }
-    ensures { result ≡ wordsAt s.now at 7 }
-{
-    let mut a = [0u32; 7];
-    read_words(s, at, &mut a);
-    a
-}
-
-// A word for each data section.
-fn data_words(s: &[u8], at: usize) -> [u32; 11]
-    requires { at + 44 ≤ length s.now }
-    ensures { result ≡ wordsAt s.now at 11 }
-{
-    let mut a = [0u32; 11];
-    read_words(s, at, &mut a);
-    a
-}
-
-// The largest offset + size, as a number that holds every sum.
-fn largest(offsets: &[u32], sizes: &[u32]) -> u64
-    requires { length offsets.now ≡ length sizes.now }
+// The largest offset + size of N sections, as a number that holds every sum.
+fn largest<const N: usize>(offsets: &[u32; N], sizes: &[u32; N]) -> u64
     ensures { result ≡ largestOf offsets.now sizes.now }
 {
     let mut top = 0;
-    for i in 0..offsets.len() {
-        top = larger(top, wide(offsets[i]) + wide(sizes[i]));
+    for (offset, size) in offsets.iter().zip(sizes.iter()) {
+        top = (u64::from(*offset) + u64::from(*size)).max(top);
     }
     top
 }
@@ -82,96 +58,61 @@ fn header_at(s: &[u8], at: usize) -> DolHeader
     requires { at + 0xE4 ≤ length s.now }
     ensures { result ≡ dolHeaderOf s.now at }
 {
-    let text_offsets = text_words(s, at);
-    let data_offsets = data_words(s, at + 0x1C);
-    let text_addresses = text_words(s, at + 0x48);
-    let data_addresses = data_words(s, at + 0x64);
-    let text_sizes = text_words(s, at + 0x90);
-    let data_sizes = data_words(s, at + 0xAC);
-    let bss_address = endian::read_u32(s, at + 0xD8);
-    let bss_size = endian::read_u32(s, at + 0xDC);
-    let entry_point = endian::read_u32(s, at + 0xE0);
     DolHeader {
-        text_offsets,
-        data_offsets,
-        text_addresses,
-        data_addresses,
-        text_sizes,
-        data_sizes,
-        bss_address,
-        bss_size,
-        entry_point,
+        text_offsets: words_at(s, at),
+        data_offsets: words_at(s, at + 0x1C),
+        text_addresses: words_at(s, at + 0x48),
+        data_addresses: words_at(s, at + 0x64),
+        text_sizes: words_at(s, at + 0x90),
+        data_sizes: words_at(s, at + 0xAC),
+        bss_address: endian::read_u32(s, at + 0xD8),
+        bss_size: endian::read_u32(s, at + 0xDC),
+        entry_point: endian::read_u32(s, at + 0xE0),
     }
 }
 
 impl DolHeader {
-    // Every field 0.
+    /// Every field 0.
     pub fn new() -> DolHeader
         ensures { result ≡ newHeader }
     {
-        let text = [0u32; 7];
-        let data = [0u32; 11];
         DolHeader {
-            text_offsets: text,
-            data_offsets: data,
-            text_addresses: text,
-            data_addresses: data,
-            text_sizes: text,
-            data_sizes: data,
+            text_offsets: [0; 7],
+            data_offsets: [0; 11],
+            text_addresses: [0; 7],
+            data_addresses: [0; 11],
+            text_sizes: [0; 7],
+            data_sizes: [0; 11],
             bss_address: 0,
             bss_size: 0,
             entry_point: 0,
         }
     }
 
-    // The file size, before it is judged: a sum may pass 2^32 - 1.
+    /// The file size in bytes, before it is judged: a sum may pass 2^32 - 1.
     pub fn file_size(self) -> u64
         ensures { result ≡ fileSizeOf self }
     {
-        let text_offsets = self.text_offsets;
-        let text_sizes = self.text_sizes;
-        let data_offsets = self.data_offsets;
-        let data_sizes = self.data_sizes;
-        larger(
-            largest(&text_offsets, &text_sizes),
-            largest(&data_offsets, &data_sizes),
-        )
+        let text = largest(&self.text_offsets, &self.text_sizes);
+        let data = largest(&self.data_offsets, &self.data_sizes);
+        text.max(data)
     }
 }
 
-// The largest offset + size of n sections, where they stand: the sizes lie 0x90 bytes behind the offsets.
-fn largest_at(s: &[u8], at: usize, n: usize) -> u64
-    requires { at + 0x90 + 4 * n ≤ length s.now }
-    ensures { result ≡ largestOf (wordsAt s.now at n) (wordsAt s.now (at + 0x90) n) }
-{
-    let mut top = 0;
-    for i in 0..n {
-        let offset = endian::read_u32(s, at + 4 * i);
-        let size = endian::read_u32(s, at + 4 * i + 0x90);
-        top = larger(top, wide(offset) + wide(size));
-    }
-    top
-}
-
-// The file size alone, for whoever opens an image: the header is read in place, and not made.
+/// The file size in bytes alone, for whoever opens an image: the header is read in place, and not made. Refused (`InvalidDol`)
+/// where the header passes the image or a sum passes 2^32 - 1.
 pub fn size(image: &[u8], at: usize) -> Result<u32, Refusal>
     ensures { result ≡ dolSizeOf image.now at }
 {
-    if image.len() < 0xE4 {
+    if image.len() < 0xE4 || image.len() - 0xE4 < at {
         return Err(Refusal::InvalidDol);
     }
-    if image.len() - 0xE4 < at {
-        return Err(Refusal::InvalidDol);
-    }
-    let text = largest_at(image, at, 7);
-    let data = largest_at(image, at + 0x1C, 11);
-    let most = larger(text, data);
-    if 0xFFFF_FFFF < most {
-        return Err(Refusal::InvalidDol);
-    }
-    Ok(most as u32)
+    let text = largest::<7>(&words_at(image, at), &words_at(image, at + 0x90));
+    let data = largest::<11>(&words_at(image, at + 0x1C), &words_at(image, at + 0xAC));
+    u32::try_from(text.max(data)).map_err(|_| Refusal::InvalidDol)
 }
 
+/// The header and its file size, refused as `size` is.
 pub fn read(image: &[u8], at: usize) -> Result<DolAnswer, Refusal>
     ensures { result ≡ dolAnswerOf image.now at }
 {
@@ -181,10 +122,10 @@ pub fn read(image: &[u8], at: usize) -> Result<DolAnswer, Refusal>
 }
 
 impl DolAnswer {
-    // The window of the executable at `at`, whatever of it the image has.
+    /// The window of the executable at `at`, whatever of it the image has.
     pub fn window(self, at: u32) -> Window
         ensures { result ≡ newWindow at self.size }
     {
-        Window::new(at as u64, self.size as u64)
+        Window::new(u64::from(at), u64::from(self.size))
     }
 }

@@ -107,8 +107,8 @@ module _ (image t clip : List ℕ) (room : ℕ) (w : Writing) (k : Clear image (
   length-table : length table ≡ length t + (fstSize image - length t)
   length-table = length-append t (replicate (fstSize image - length t) 0) ∙ ap (λ (m : ℕ). length t + m) (length-replicate {A = ℕ} (fstSize image - length t) 0)
 
-  length-zeros : length (replicate {A = ℕ} w.lost_size 0) ≡ w.lost_size
-  length-zeros = length-replicate {A = ℕ} w.lost_size 0
+  length-zeros : length (replicate {A = ℕ} w.lost.size 0) ≡ w.lost.size
+  length-zeros = length-replicate {A = ℕ} w.lost.size 0
 
   copied : List ℕ
   copied = span image w.old.offset w.kept
@@ -127,24 +127,24 @@ module _ (image t clip : List ℕ) (room : ℕ) (w : Writing) (k : Clear image (
   header : 0x428 + 4 ≤ length image
   header = omega (arith, fits.table.old, fits.table.behind-header)
 
-  apart : 0 < n → 0 < length (replicate {A = ℕ} w.lost_size 0) → (a + n ≤ w.lost) ⊎ (w.lost + length (replicate {A = ℕ} w.lost_size 0) ≤ a)
+  apart : 0 < n → 0 < length (replicate {A = ℕ} w.lost.size 0) → (a + n ≤ w.lost.offset) ⊎ (w.lost.offset + length (replicate {A = ℕ} w.lost.size 0) ≤ a)
   apart z y = rw length-zeros (k.apart z (rw length-zeros at y))
 
-  zeroed : 0 < length (replicate {A = ℕ} w.lost_size 0) → w.lost + length (replicate {A = ℕ} w.lost_size 0) ≤ length image
+  zeroed : 0 < length (replicate {A = ℕ} w.lost.size 0) → w.lost.offset + length (replicate {A = ℕ} w.lost.size 0) ≤ length image
   zeroed y = rw length-zeros (fits.inside.zeroed.into (rw length-zeros at y))
 
   inside : fstOffset image + length table ≤ length image
   inside = omega (arith, length-table, fits.table.old, fits.table.into)
 
   abbrev others : List ℕ → List ℕ
-  others s = rest table (replicate w.lost_size 0) n a (fstOffset image) 0x428 w.lost (length image) (be32Bytes (length t)) behind before k.into header apart zeroed s
+  others s = rest table (replicate w.lost.size 0) n a (fstOffset image) 0x428 w.lost.offset (length image) (be32Bytes (length t)) behind before k.into header apart zeroed s
 
   writes : (x : List ℕ) → length x ≤ n → others (put image a x) ≡ put (others image) a x
   writes x h =
-      put-later table (replicate w.lost_size 0) n a (fstOffset image) 0x428 w.lost (length image) (be32Bytes (length t)) behind before k.into header apart zeroed image x refl inside h
+      put-later table (replicate w.lost.size 0) n a (fstOffset image) 0x428 w.lost.offset (length image) (be32Bytes (length t)) behind before k.into header apart zeroed image x refl inside h
 
   long : length (others image) ≡ length image
-  long = length_rest table (replicate w.lost_size 0) n a (fstOffset image) 0x428 w.lost (length image) (be32Bytes (length t)) behind before k.into header apart zeroed image refl inside
+  long = length_rest table (replicate w.lost.size 0) n a (fstOffset image) 0x428 w.lost.offset (length image) (be32Bytes (length t)) behind before k.into header apart zeroed image refl inside
 
   -- LAW: the clip, the table, the zeros, and no copy
   pub clip-first : writtenWith (uncopied w) t (put image a clip) ≡ put (writtenWith w t image) a clip

@@ -1,12 +1,10 @@
 -- What a fill decides on, as what its plan comes to: the clip first, and then what the resize writes besides. Assumes nothing.
 use Rattle.std.specs.Prelude.{Result, Ok, Err}
-use Prim.Native.Nat.{ℕ, ◌-◌, ◌^◌, ◌≤◌}
+use Prim.Native.Nat.{ℕ, ◌<◌, ◌≤◌}
 use mathlib.Core.Path.{◌≡◌, refl, sym, ap, ◌∙◌}
-use mathlib.Core.Bool.{true}
 use mathlib.Core.List.{List, []}
 use native.Mathlib.Omega.{arith}
-use borrow.Author.Tests.{le-ltb}
-use lib.Dec.{ltb}
+use borrow.Author.Tests.{le-ltb, lt-ltb}
 use lib.ListN.{length, get_or}
 use Rattle.endian.specs.Bytes.{put, span}
 use Rattle.endian.specs.Laws.Stored.{length-span}
@@ -15,17 +13,20 @@ use Rattle.refusal.specs.declared.Refusal.TheVariants.{NotEnoughSpace}
 use Rattle.tree.specs.Table.{none}
 use Rattle.space.specs.declared.DiscRegion.{DiscRegion}
 use Rattle.opening.specs.Opening.{nodesIn, freeOf, regionOf}
-use Rattle.opening.specs.Inner.Prepared.{OpenImage, IsOpen}
+use Rattle.opening.specs.Inner.Prepared.{OpenImage}
 use Rattle.edits.specs.Change.{Plan, filled}
 use Rattle.edits.specs.Edits.{fileVerdict, clipVerdict, planSized, planResize, planFill, planVerdict, planImage}
 use Rattle.edits.specs.Laws.Puts.{put-length}
-use Rattle.decide.specs.Inner.Files.{IsFile, fileAs}
-use Rattle.decide.proofs.Files.{file-found, file-refused}
+use Rattle.opened.specs.Disc.{Disc, free_of, Means}
+use Rattle.decide.specs.declared.File.{File}
+use Rattle.decide.specs.Inner.Files.{IsFile, file_in}
+use Rattle.decide.proofs.Files.{FoundFile, file-found, file-refused}
 use Rattle.commit.specs.declared.Writing.{Writing}
 use Rattle.commit.specs.declared.Decision.{Decision}
 use Rattle.commit.specs.declared.Decision.TheVariants as decision
-use Rattle.commit.specs.Inner.Decision.{writtenWith, Fits, carriedImage, Decided, DecidedAs}
+use Rattle.commit.specs.Inner.Decision.{behind_tests, writtenWith, Fits, carriedImage, Decided, DecidedAs}
 use Rattle.commit.proofs.Decisions.{behind-refused-with}
+use Rattle.commit.proofs.Discs.{nodes_are, free_is}
 use Rattle.fill.specs.Inner.Filling.{uncopied, withClip, Clear}
 use Rattle.fill.proofs.Clips.{clipped-put, clip-first, offset-kept, size-kept}
 use Rattle.fill.proofs.Places.{clip-stays, never-clip, clip-clear}
@@ -50,7 +51,7 @@ module _ (image : List ℕ) (words room : ℕ) (bytes clip : List ℕ) (known : 
   filled-refused c h = record { fits = tt; carries = tt; answer = h.answer; after = rw (← h.answer) }
 
   -- the clip goes where the file lies then
-  filled-decided : (d : Decision) → Decided sized image words room bytes (Ok d) → DecidedAs (planVerdict sized image words room) (filled k clip sized) image room bytes clip (Ok (withClip d k old.offset))
+  filled-decided : (d : Decision) → Decided sized image words room bytes (Ok d) → DecidedAs (planVerdict sized image words room) (filled k clip sized) image room bytes clip (Ok (withClip d (record { number = k; place = old })))
   filled-decided decision.Nothing h =
       let s = clip-stays image words known k f old here (length clip) bytes h.carries in
       record {
@@ -80,38 +81,57 @@ module _ (image : List ℕ) (words room : ℕ) (bytes clip : List ℕ) (known : 
             ∙ (rw (← h.answer, s.1) (ap (λ (x : List ℕ). put x w.place.offset clip) i));
       }
 
--- ---- by what the code found
+-- ---- by what the code found, on a disc that the image means
 
-module _ (image w bytes bytes' clip : List ℕ) (k : ℕ) (r : Result DiscRegion Refusal) (read : r ≡ fileAs (fileVerdict (nodesIn image) k) (regionOf (get_or (nodesIn image) k none))) where
+module _ (image : List ℕ) (d : Disc) (m : Means image d) (bytes after clip : List ℕ) (k : ℕ) (r : Result File Refusal) (read : r ≡ behind_tests (fileVerdict d.nodes k) (file_in d.nodes k)) where
   abbrev plan : Plan
-  plan = planFill (freeOf image) (nodesIn image) k clip
+  plan = planFill (free_of d) d.nodes k clip
 
   abbrev Fills : Result Decision Refusal → Type 0
-  Fills d = DecidedAs (planVerdict plan image (length w) (length bytes)) plan image (length bytes) bytes' clip d
+  Fills x = DecidedAs (planVerdict plan image d.words (length bytes)) plan image (length bytes) after clip x
 
-  fill-refused : (c : Refusal) → clipVerdict (nodesIn image) k (length clip) ≡ Err c → Fills (Err c)
+  fill-refused : (c : Refusal) → clipVerdict d.nodes k (length clip) ≡ Err c → Fills (Err c)
   unfolding planFill
-  fill-refused c e = behind-refused-with image (length w) (length bytes) bytes' clip (clipVerdict (nodesIn image) k (length clip)) _ c e
+  fill-refused c e = behind-refused-with image d.words (length bytes) after clip (clipVerdict d.nodes k (length clip)) _ c e
 
   pub no-file-to-fill : (c : Refusal) → r ≡ Err c → Fills (Err c)
-  no-file-to-fill c e = fill-refused c (rw (file-refused (nodesIn image) k r c read e))
+  no-file-to-fill c e = fill-refused c (rw (file-refused d.nodes k r c read e))
 
-  module _ (old : DiscRegion) (found : r ≡ Ok old) where
-    pub clip-too-long : ltb (2 ^ 32 - 1) (length clip) ≡ true → Fills (Err NotEnoughSpace)
-    clip-too-long h = let f = file-found (nodesIn image) k r old read found in fill-refused NotEnoughSpace (rw (f.passed, h))
+  module _ (f : File) (found : r ≡ Ok f) where
+    file : FoundFile d.nodes k f
+    file = file-found d.nodes k r f read found
 
-    plan-is : length clip ≤ 0xFFFFFFFF → plan ≡ filled k clip (planSized (freeOf image) (nodesIn image) k old (length clip))
-    unfolding planFill planResize
-    plan-is short = let f = file-found (nodesIn image) k r old read found in rw (f.passed, le-ltb 0xFFFFFFFF (length clip) short, f.place)
+    pub clip-too-long : 0xFFFFFFFF < length clip → Fills (Err NotEnoughSpace)
+    clip-too-long h = fill-refused NotEnoughSpace (rw (file.passed, lt-ltb 0xFFFFFFFF (length clip) h))
 
-    pub not-resized : (m n : ℕ) (c : Refusal) → IsOpen image w m → length bytes' ≡ length bytes → length clip ≤ 0xFFFFFFFF → n ≡ length clip →
-        Decided (planSized (freeOf image) (nodesIn image) k old n) image (length w) (length bytes) bytes' (Err c) → Fills (Err c)
-    not-resized m n c o long short e decided =
-        let f = file-found (nodesIn image) k r old read found in
-        rw (plan-is short) (filled-refused image (length w) (length bytes) bytes' clip o.known k f.is old f.place long c (rw e at decided))
+    module _ (long : length after ≡ length bytes) (n : ℕ) (short : length clip ≤ 0xFFFFFFFF) (e : n ≡ length clip) where
+      plan-is : plan ≡ filled k clip (planSized (free_of d) d.nodes k f.place (length clip))
+      unfolding planFill planResize
+      plan-is = rw (file.passed, le-ltb 0xFFFFFFFF (length clip) short, file.place)
 
-    pub filled-by : (m n : ℕ) (d g : Decision) → IsOpen image w m → length bytes' ≡ length bytes → length clip ≤ 0xFFFFFFFF → n ≡ length clip →
-        Decided (planSized (freeOf image) (nodesIn image) k old n) image (length w) (length bytes) bytes' (Ok d) → g ≡ withClip d k old.offset → Fills (Ok g)
-    filled-by m n d g o long short e decided u =
-        let f = file-found (nodesIn image) k r old read found in
-        rw (u, plan-is short) (filled-decided image (length w) (length bytes) bytes' clip o.known k f.is old f.place long d (rw e at decided))
+      nodes : nodesIn image ≡ d.nodes
+      nodes = nodes_are image d m
+
+      free : freeOf image ≡ free_of d
+      free = free_is image d m
+
+      abbrev Sized : Result Decision Refusal → Type 0
+      Sized x = Decided (planSized (free_of d) d.nodes f.number f.place n) image d.words (length bytes) after x
+
+      -- the resize, as one of the image to the clip's length
+      sized-is : (x : Result Decision Refusal) → Sized x → Decided (planSized (freeOf image) (nodesIn image) k f.place (length clip)) image d.words (length bytes) after x
+      sized-is x h = rw (free, nodes) (rw (file.number, e) at h)
+
+      is : IsFile (nodesIn image) k
+      is = rw nodes file.is
+
+      here : regionOf (get_or (nodesIn image) k none) ≡ f.place
+      here = rw nodes file.place
+
+      pub not-resized : (c : Refusal) → Sized (Err c) → Fills (Err c)
+      not-resized c h = rw plan-is (rw (nodes, free) at (filled-refused image d.words (length bytes) after clip m.known k is f.place here long c (sized-is (Err c) h)))
+
+      pub filled-by : (x y : Decision) → Sized (Ok x) → y ≡ withClip x f → Fills (Ok y)
+      filled-by x y h u =
+          let q : f ≡ record { number = k; place = f.place } = ap (λ (i : ℕ). record { number = i; place = f.place }) file.number in
+          rw (u, plan-is, q) (rw (nodes, free) at (filled-decided image d.words (length bytes) after clip m.known k is f.place here long x (sized-is (Ok x) h)))

@@ -1,47 +1,42 @@
 -- Where a file lies once it is resized to the clip: behind both tables, in the image, and apart from what is zeroed. Assumes nothing.
 use Rattle.std.specs.Prelude.{Result, Ok, Err}
 use Rattle.refusal.specs.Refusal.{Verdict}
-use Prim.Native.Nat.{ℕ, ◌+◌, ◌<◌, ◌≤◌, max}
+use Prim.Native.Nat.{ℕ, ◌+◌, ◌<◌, ◌≤◌}
 use mathlib.Core.Path.{◌≡◌, refl, sym, ap, ◌∙◌}
 use mathlib.Core.Logic.{◌⊎◌, inl, inr, ⊎_elim}
 use mathlib.Core.Bool.{Bool, true, false, cond, ◌||◌}
-use mathlib.Core.List.{List, map}
+use mathlib.Core.List.{List}
 use native.Mathlib.Omega.{arith}
-use borrow.Author.Tests.{ltb-false, leb-true, lt-ltb, eqb-true}
+use borrow.Author.Tests.{ltb-false, lt-ltb, eqb-true}
 use lib.Dec.{leb, eqb}
-use lib.ListN.{length, get_or, length-map, get_or-map}
+use lib.ListN.{length, get_or}
 use Rattle.endian.specs.Bytes.{span}
 use Rattle.endian.specs.Laws.Stored.{length-span}
 use Rattle.refusal.specs.declared.Refusal.{Refusal}
 use Rattle.refusal.specs.declared.Refusal.TheVariants.{OverlappingMove}
 use Rattle.refusal.specs.Laws.Chains.{refuse-passed, first-passed}
-use Rattle.refusal.specs.Laws.Tests.{lt-or-le, or_cases}
-use Rattle.header.specs.Verdicts.{discEnd, table_end}
+use Rattle.refusal.specs.Laws.Tests.{lt-or-le}
+use Rattle.header.specs.Verdicts.{table_end}
 use Rattle.tree.specs.Table.{Node, file, directory, none, encode, limits}
 use Rattle.tree.specs.Lookup.{isDirectory}
 use Rattle.tree.specs.Insert.{placed, setPlace}
 use Rattle.tree.specs.Laws.PlaceLaws.{setPlace-at}
 use Rattle.space.specs.declared.DiscRegion.{DiscRegion}
 use Rattle.space.specs.Used.{end_of}
-use Rattle.space.specs.Laws.FreeLaws.{In}
 use Rattle.free_space.specs.MaxRegionSize.{maxRegionSize}
 use Rattle.free_space.specs.Allocate.{allocationOf}
-use Rattle.free_space.specs.Laws.GrowthLaws.{file-largest}
-use Rattle.opening.specs.Opening.{nodesIn, regionOf, behindTable, usedIn, freeOf}
+use Rattle.opening.specs.Opening.{nodesIn, regionOf, freeOf}
 use Rattle.opening.specs.Inner.Prepared.{OpenImage}
 use Rattle.edits.specs.Change.{Change, tableVerdict, Plan, refused, nothing, change, filled}
 use Rattle.edits.specs.Edits.{overlapsItself, relocateVerdict, relocated, resized, planned, planElsewhere, planSized, planVerdict, planTree}
-use Rattle.edits.specs.Laws.PlaceTests.{place-passed, in-region}
+use Rattle.edits.specs.Laws.PlaceTests.{place-passed}
 use Rattle.decide.specs.Inner.Files.{IsFile}
 use Rattle.commit.specs.declared.Writing.{Writing}
 use Rattle.commit.specs.declared.Decision.TheVariants as decision
 use Rattle.commit.specs.Inner.Decision.{changeWith, Carries}
-use Rattle.commit.proofs.Images.{file-lies, place-lies, new-place}
+use Rattle.commit.proofs.Images.{file-lies, new-place, end-in-image}
+use Rattle.decide.proofs.Stays.{stays-on-disc}
 use Rattle.fill.specs.Inner.Filling.{Clear, uncopied}
-
--- a file's region is one of its table's
-in-files : (xs : List Node) (k : ℕ) → k < length xs → In (regionOf (get_or xs k none)) (map regionOf xs)
-in-files xs k h = rw (← get_or-map regionOf xs k none) (in-region (map regionOf xs) k (rw (length-map xs regionOf) h))
 
 -- a file that is put elsewhere is there
 put-there : (nodes : List Node) (k o n : ℕ) → IsFile nodes k → (regionOf (get_or (setPlace k o n nodes) k none)).offset ≡ o
@@ -60,7 +55,7 @@ record Lies (image : List ℕ) (c : Change) (n : ℕ) : Type 0 where
   size : c.place.size ≡ n
   behind : 0 < n → (table_end image ≤ c.place.offset) × (c.place.offset + n ≤ length image)
   covers : c.kept ≤ n
-  apart : 0 < n → 0 < c.lost.size → (c.place.offset + n ≤ c.lost.offset) ⊎ (c.lost.offset + c.lost.size ≤ c.place.offset)
+  apart : 0 < n → 0 < c.lost.size → (c.place.offset + n ≤ c.lost.offset) ⊎ (end_of c.lost ≤ c.place.offset)
 
 -- the same of the numbers that are written
 clear : (image : List ℕ) (c : Change) (n words room size : ℕ) (bytes : List ℕ) (w : Writing) → Lies image c n → tableVerdict c image words room ≡ Ok tt → span bytes 0 size ≡ encode c.nodes → size ≤ length bytes →
@@ -69,8 +64,7 @@ unfolding tableVerdict
 clear image c n words room size bytes w l v t s e =
     let p : c.place ≡ w.place = ap (λ (x : Change). x.place) e in
     let q : c.kept ≡ w.kept = ap (λ (x : Change). x.kept) e in
-    let o : c.lost.offset ≡ w.lost = ap (λ (x : Change). x.lost.offset) e in
-    let z : c.lost.size ≡ w.lost_size = ap (λ (x : Change). x.lost.size) e in
+    let o : c.lost ≡ w.lost = ap (λ (x : Change). x.lost) e in
     let long : length (encode c.nodes) ≡ size = ap length (sym t) ∙ length-span bytes 0 size (omega arith) in
     let tests = place-passed image room (length (encode c.nodes)) c.place (first-passed (limits c.nodes words) _ v).1 in
     record {
@@ -78,33 +72,17 @@ clear image c n words room size bytes w l v t s e =
       old-table = λ y. rw (← p) (l.behind y).0;
       new-table = λ y. rw (← p, ← long) (tests.before (omega (arith, l.size)));
       covers = rw (← q) l.covers;
-      apart = λ y. rw (← p, ← o, ← z) (l.apart y);
+      apart = λ y. rw (← p, ← o) (l.apart y);
     }
 
 module _ (image : List ℕ) (words : ℕ) (known : OpenImage image words) (k : ℕ) (f : IsFile (nodesIn image) k) (old : DiscRegion) (here : regionOf (get_or (nodesIn image) k none) ≡ old) (n : ℕ) where
-  old-lies : 0 < old.size → (table_end image ≤ old.offset) × (end_of old ≤ length image)
-  old-lies z = rw here at (file-lies image words known k (rw here z))
-
-  grows-below : old.offset + maxRegionSize old.offset old.size (freeOf image) ≤ max (end_of old) (discEnd image)
-  unfolding freeOf usedIn behindTable
-  grows-below = (file-largest (discEnd image) (table_end image) (behindTable image) old (inr (rw here at (in-files (nodesIn image) k f.inside)))).below
-
   -- ---- where the file stays
 
-  stays : (leb n old.size || leb n (maxRegionSize old.offset old.size (freeOf image))) ≡ true → 0 < n → (table_end image ≤ old.offset) × (old.offset + n ≤ length image)
-  stays t z = ⊎_elim full empty (lt-or-le 0 old.size)
-    where
-      full : 0 < old.size → (table_end image ≤ old.offset) × (old.offset + n ≤ length image)
-      full y =
-          let l = old-lies y in
-          ⊎_elim (λ a. (l.0, omega (arith, l.1, leb-true n old.size a)))
-          (λ a. (l.0, omega (arith, l.1, leb-true n (maxRegionSize old.offset old.size (freeOf image)) a, grows-below, known.reads.bounds.image_holds))) (or_cases (leb n old.size) _ t)
+  old-lies : 0 < old.size → end_of old ≤ length image
+  old-lies z = omega (arith, (rw here at (file-lies image words known k (rw here z))).1, end-in-image image words known)
 
-      empty : old.size ≤ 0 → (table_end image ≤ old.offset) × (old.offset + n ≤ length image)
-      empty y =
-          let e : old.size ≡ 0 = omega arith in
-          ⊎_elim (λ a. absurd (omega (arith, leb-true n old.size a)))
-          (λ a. place-lies image words known old.offset n (rw e at (leb-true n (maxRegionSize old.offset old.size (freeOf image)) a)) z) (or_cases (leb n old.size) _ t)
+  stays : (leb n old.size || leb n (maxRegionSize old.offset old.size (freeOf image))) ≡ true → 0 < n → (table_end image ≤ old.offset) × (old.offset + n ≤ length image)
+  stays t z = let l = stays-on-disc image words known k f old here n t z in (l.0, omega (arith, l.1, end-in-image image words known))
 
   lies-here : (leb n old.size || leb n (maxRegionSize old.offset old.size (freeOf image))) ≡ true → Lies image (resized (nodesIn image) k old n) n
   lies-here t = record { size = refl; behind = stays t; covers = omega arith; apart = λ z y. inl (omega arith) }
@@ -116,7 +94,7 @@ module _ (image : List ℕ) (words : ℕ) (known : OpenImage image words) (k : �
       let new : DiscRegion = record { offset = o; size = n } in
       record {
         size = refl;
-        behind = new-place image words known old new v;
+        behind = λ z. let l = new-place image words known old new v z in (l.0, omega (arith, l.1, end-in-image image words known));
         covers = omega arith;
         apart = one-behind old new (refuse-passed (overlapsItself old new) OverlappingMove _ v).0;
       }
@@ -152,7 +130,7 @@ module _ (image : List ℕ) (words : ℕ) (known : OpenImage image words) (k : �
   -- where nothing is to be resized, the clip has the file's size
   pub clip-stays : (bytes : List ℕ) → Carries (Ok decision.Nothing) bytes p → (0 < n → old.offset + n ≤ length image) × (p ≡ nothing)
   clip-stays bytes =
-      sized (λ (x : Plan). Carries (Ok decision.Nothing) bytes x → (0 < n → old.offset + n ≤ length image) × (x ≡ nothing)) (λ e h. (λ z. omega (arith, (old-lies (omega arith)).1), refl)) (λ c h. absurd h) (λ c l g h. absurd h)
+      sized (λ (x : Plan). Carries (Ok decision.Nothing) bytes x → (0 < n → old.offset + n ≤ length image) × (x ≡ nothing)) (λ e h. (λ z. omega (arith, old-lies (omega arith)), refl)) (λ c h. absurd h) (λ c l g h. absurd h)
 
   pub never-clip : (bytes : List ℕ) (number at : ℕ) → Carries (Ok (decision.Clip number at)) bytes p → ⊥
   never-clip bytes number at = sized (λ (x : Plan). Carries (Ok (decision.Clip number at)) bytes x → ⊥) (λ e h. h) (λ c h. h) (λ c l g h. h)

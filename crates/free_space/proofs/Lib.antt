@@ -1,5 +1,8 @@
 -- What the proofs of the functions cite.
 pub mod Choice
 pub mod GapAt
+pub mod Kept
+pub mod Left
 pub mod Listed
 pub mod Powers
+pub mod Written

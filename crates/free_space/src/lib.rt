@@ -1,21 +1,29 @@
-// Free regions, the largest size of a region, and allocation, over the used regions that stand in lent words in order (disc.rs).
+// The used regions of a disc as a value, and what they leave free: the free regions, the largest size of a region, allocation.
 #![tactic(auto)]
 
-ghost use Rattle.std.specs.Prelude.{◌≡◌, true, false, ◌+◌, ◌-◌, ◌*◌, ◌≤◌, ◌<◌, length, get_or};
-ghost use Rattle.endian.specs.Bytes.{put};
+ghost use Rattle.std.specs.Prelude.{◌≡◌, ◌+◌, ◌*◌, ◌≤◌, ◌<◌, length, get_or};
 ghost use Rattle.space.specs.Used.{totalSize};
 ghost use Rattle.space.specs.Free.{freeRegions};
-ghost use Rattle.free_space.specs.MaxRegionSize.{insideFree, besideFree, maxRegionSize};
-ghost use Rattle.space.specs.Align.{align_up};
-ghost use Rattle.free_space.specs.Allocate.{betterOf, largest, isPowerOfTwo, noRegion, allocationOf};
-ghost use Rattle.free_space.specs.Listing.{regionRow, rows_of, listingOf, listAfter};
 ghost use Rattle.space.specs.Inner.Sort.{regionsIn};
 ghost use Rattle.space.specs.Inner.Words.{SortedDisjoint, gaps, endBefore, start_at};
+ghost use Rattle.free_space.specs.MaxRegionSize.{maxRegionSize};
+ghost use Rattle.free_space.specs.Allocate.{noRegion, allocationOf};
+ghost use Rattle.free_space.specs.Listing.{regionRow, listingOf, listAfter};
 
+mod allocation;
+mod free;
+mod growth;
+mod rows;
+mod used;
+
+pub use allocation::align_up;
+pub use free::FreeRegions;
 use refusal::Refusal;
+pub use rows::Row;
 use space::DiscRegion;
+pub use used::UsedRegions;
 
-// ---- the free regions, read off the sorted words
+// For the callers that are still to go over.
 
 // Where the region before region i ends, 0 before the first.
 fn end_before(words: &[u32], i: usize) -> u32
@@ -56,37 +64,7 @@ pub fn count_free_regions(words: &[u32], count: usize, disc_end: u32) -> usize
     requires { SortedDisjoint words.now count disc_end }
     ensures { result ≡ length (freeRegions disc_end (regionsIn words.now 0 count)) }
 {
-    let mut found = 0;
-    for i in 0..count + 1 {
-        if gap_at(words, count, disc_end, i).size != 0 {
-            found += 1;
-        }
-    }
-    found
-}
-
-// The offset and the size of a region, from `at` on.
-fn put_region(list: &mut [u32], at: usize, region: DiscRegion)
-    requires { at + 2 ≤ length list.old }
-    ensures { list.new ≡ put list.old at (regionRow region) }
-{
-    list[at] = region.offset;
-    list[at + 1] = region.size;
-}
-
-// Writes the free regions to the front of a list that has room for them.
-fn list_free_regions(words: &[u32], count: usize, disc_end: u32, list: &mut [u32])
-    requires { SortedDisjoint words.now count disc_end × (length (rows_of regionRow (freeRegions disc_end (regionsIn words.now 0 count))) ≤ length list.old) }
-    ensures { list.new ≡ put list.old 0 (rows_of regionRow (freeRegions disc_end (regionsIn words.now 0 count))) }
-{
-    let mut at = 0;
-    for i in 0..count + 1 {
-        let gap = gap_at(words, count, disc_end, i);
-        if gap.size != 0 {
-            put_region(list, at, gap);
-            at += 2;
-        }
-    }
+    UsedRegions::new(words, count, disc_end).count_free()
 }
 
 // Lists the free regions, an offset and a size each, rising. Refuses 9, with nothing written, if the list is short.
@@ -100,12 +78,7 @@ pub fn free_regions(
     ensures value { result ≡ listingOf regionRow (freeRegions disc_end (regionsIn words.now 0 count)) (length list.old) }
     ensures list_after { list.new ≡ listAfter regionRow (freeRegions disc_end (regionsIn words.now 0 count)) list.old }
 {
-    let found = count_free_regions(words, count, disc_end);
-    if list.len() / 2 < found {
-        return Err(Refusal::LimitOrMemory);
-    }
-    list_free_regions(words, count, disc_end, list);
-    Ok(found)
+    UsedRegions::new(words, count, disc_end).list_free::<2, DiscRegion>(list)
 }
 
 // The used total: the disc end less the free regions, which is the sizes of the used regions together.
@@ -113,39 +86,7 @@ pub fn used_size(words: &[u32], count: usize, disc_end: u32) -> u32
     requires { SortedDisjoint words.now count disc_end }
     ensures { result ≡ totalSize (regionsIn words.now 0 count) }
 {
-    let mut used = disc_end;
-    for i in 0..count + 1 {
-        used -= gap_at(words, count, disc_end, i).size;
-    }
-    used
-}
-
-// ---- max_region_size
-
-// Where the free region before the region ends at prev_end: up to that end if the region ends before it.
-fn inside_free(prev_end: u64, offset: u32, size: u32, other: u32) -> u32
-    requires { prev_end < 4294967296 }
-    ensures { result ≡ insideFree offset size prev_end other }
-{
-    if endian::wide(offset) + endian::wide(size) < prev_end {
-        (prev_end - endian::wide(offset)) as u32
-    } else {
-        other
-    }
-}
-
-// The same beside the free region `next`, the first that starts at `offset` or later.
-fn beside_free(prev_end: u64, next: DiscRegion, offset: u32, size: u32) -> u32
-    requires { (prev_end < 4294967296) × (next.offset + next.size < 4294967296) }
-    ensures { result ≡ besideFree offset size prev_end next }
-{
-    if next.offset == offset {
-        return next.size;
-    }
-    if endian::wide(next.offset) == endian::wide(offset) + endian::wide(size) {
-        return inside_free(prev_end, offset, size, size + next.size);
-    }
-    inside_free(prev_end, offset, size, size)
+    UsedRegions::new(words, count, disc_end).used_size()
 }
 
 // What the Rust answers for a region; for a file's own place, the largest size that it can grow to.
@@ -153,76 +94,7 @@ pub fn max_region_size(words: &[u32], count: usize, disc_end: u32, offset: u32, 
     requires { SortedDisjoint words.now count disc_end }
     ensures { result ≡ maxRegionSize offset size (freeRegions disc_end (regionsIn words.now 0 count)) }
 {
-    let mut prev_end: u64 = 0;
-    for i in 0..count + 1 {
-        let gap = gap_at(words, count, disc_end, i);
-        if gap.size == 0 {
-            continue;
-        }
-        if offset <= gap.offset {
-            return beside_free(prev_end, gap, offset, size);
-        }
-        prev_end = endian::wide(gap.offset) + endian::wide(gap.size);
-    }
-    inside_free(prev_end, offset, size, size)
-}
-
-// ---- allocation
-
-// The first multiple of `align` from a on.
-pub fn align_up(a: u32, align: u32) -> u64
-    requires { 0 < align }
-    ensures { result ≡ align_up align a }
-{
-    let al = endian::wide(align);
-    (endian::wide(a) + (al - 1)) / al * al
-}
-
-// The better of the best region so far and what `gap` has from its first multiple on.
-fn better(best: DiscRegion, gap: DiscRegion, size: u32, align: u32) -> DiscRegion
-    requires { (0 < align) × (gap.offset + gap.size < 4294967296) }
-    ensures { result ≡ betterOf align size best gap }
-{
-    let start = align_up(gap.offset, align);
-    let end = endian::wide(gap.offset) + endian::wide(gap.size);
-    if end <= start {
-        return best;
-    }
-    let rest = end - start;
-    if rest < endian::wide(size) {
-        return best;
-    }
-    if rest < endian::wide(best.size) {
-        return best;
-    }
-    DiscRegion {
-        offset: start as u32,
-        size: rest as u32,
-    }
-}
-
-// The largest region for `size` bytes at a multiple of `align`, the last among equals; size 0 where there is none.
-fn find_largest(words: &[u32], count: usize, disc_end: u32, size: u32, align: u32) -> DiscRegion
-    requires { SortedDisjoint words.now count disc_end × (0 < align) }
-    ensures { result ≡ largest align size noRegion (freeRegions disc_end (regionsIn words.now 0 count)) }
-{
-    let mut best = DiscRegion { offset: 0, size: 0 };
-    for i in 0..count + 1 {
-        let gap = gap_at(words, count, disc_end, i);
-        best = better(best, gap, size, align);
-    }
-    best
-}
-
-fn power_of_two(x: u32) -> bool
-    ensures { result ≡ isPowerOfTwo x }
-{
-    for k in 0..32u32 {
-        if x == 1 << k {
-            return true;
-        }
-    }
-    false
+    UsedRegions::new(words, count, disc_end).max_region_size(offset, size)
 }
 
 // Finds the largest free region for `size` bytes at a multiple of `align`.
@@ -236,12 +108,5 @@ pub fn allocate(
     requires { SortedDisjoint words.now count disc_end }
     ensures { result ≡ allocationOf align size (freeRegions disc_end (regionsIn words.now 0 count)) }
 {
-    if !power_of_two(align) {
-        return Err(Refusal::InvalidAlignment);
-    }
-    let best = find_largest(words, count, disc_end, size, align);
-    if best.size == 0 {
-        return Err(Refusal::NotEnoughSpace);
-    }
-    Ok(best)
+    UsedRegions::new(words, count, disc_end).allocate(size, align)
 }

@@ -7,7 +7,7 @@ use Rattle.header.specs.Verdicts.{dolOffset, fstOffset, fstSize, discEnd}
 use Rattle.space.specs.declared.DiscRegion.{DiscRegion}
 use Rattle.space.specs.Free.{freeRegions}
 use Rattle.space.specs.Used.{totalSize}
-use Rattle.space.specs.Inner.Sort.{regionsIn}
+use Rattle.space.specs.Inner.Sort.{SameSums, regionsIn}
 use Rattle.space.specs.Inner.Words.{SortedDisjoint}
 use Rattle.space.specs.Laws.SortLaws.{same_total}
 use Rattle.tree.specs.Table.{nodesOf}
@@ -76,8 +76,11 @@ module _ (header table : List ℕ) (own : DiscRegion) (w : List ℕ) (m : ℕ) (
     pub sorted_backed : (e : ℕ) → e ≡ d.end → SortedDisjoint w m e
     sorted_backed e q = sorted-below b.image w m e b.known (q ∙ ap (λ (x : Disc). x.end) (sym shown))
 
+    pub sums_backed : SameSums (regionsIn w 0 m) d.used
+    sums_backed = rw (used_shown b.image (length w) ∙ ap (λ (x : Disc). x.used) shown) at b.known.used.sums
+
     pub used_backed : totalSize (regionsIn w 0 m) ≡ totalSize d.used
-    used_backed = same_total (regionsIn w 0 m) (usedIn b.image) b.known.used.sums ∙ ap totalSize (used_shown b.image (length w) ∙ ap (λ (x : Disc). x.used) shown)
+    used_backed = same_total (regionsIn w 0 m) d.used sums_backed
 
     pub entries_backed : (n : ℕ) → n ≡ be32 table 8 → n ≡ length d.nodes
     entries_backed n e =

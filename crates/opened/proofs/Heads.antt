@@ -1,5 +1,5 @@
 -- The header's tests and the program are those of the image: they read no byte that the parts do not have. Assumes nothing.
-use Rattle.std.specs.Prelude.{Ok, Err}
+use Rattle.std.specs.Prelude.{Result, Ok, Err}
 use Rattle.refusal.specs.Refusal.{Verdict, first}
 use Prim.Native.Nat.{ℕ, zero, suc, ◌+◌, ◌*◌, ◌≤◌, ◌<◌, min}
 use Rattle.std.specs.Prelude.{◌≡◌, Bool, true, false, ltb, List, length, take}
@@ -13,7 +13,9 @@ use Rattle.refusal.specs.declared.Refusal.{Refusal}
 use Rattle.refusal.specs.declared.Refusal.TheVariants.{InvalidDol}
 use Rattle.dol.specs.Dol.{wordsAt, dolHeaderOf, fileSizeOf, dolSizeOf}
 use Rattle.opening.specs.Laws.OpeningLaws.{be32-span}
-use Rattle.opened.specs.Parts.{Heads}
+use Rattle.space.specs.declared.DiscRegion.{DiscRegion}
+use Rattle.program.specs.Program.{Program, programVerdict, nowhere}
+use Rattle.opened.specs.Parts.{Heads, own_as}
 
 -- ---- a field of the header
 
@@ -97,3 +99,23 @@ pub size_inside : (image program : List ℕ) (at : ℕ) → at + 0xE4 ≤ length
 size_inside image program at h e =
     let l : 0 + 0xE4 ≤ length (span image at 0xE4) = omega (arith, length-span image at 0xE4 h) in
     rw (e, le-ltb (length (span image at 0xE4)) (0 + 0xE4) l, le-ltb (length image) (at + 0xE4) h, size-part image at)
+
+-- ---- the program's own region
+
+passed_place : Result DiscRegion Refusal → DiscRegion
+passed_place (Ok own) = own
+passed_place (Err c) = nowhere
+
+passed_verdict : Result DiscRegion Refusal → Verdict
+passed_verdict (Ok own) = Ok tt
+passed_verdict (Err c) = Err c
+
+pub own_passed : (p : Program) (own r : DiscRegion) → Ok r ≡ own_as p own → (programVerdict p ≡ Ok tt) × (r ≡ own)
+unfolding passed_place
+own_passed (Ok x) own r e = (refl, ap passed_place e)
+own_passed (Err c) own r e = let z : ◌≡◌ {A = ℕ} 0 1 = cc in absurd (omega arith)
+
+pub own_refused : (p : Program) (own : DiscRegion) (c : Refusal) → Err c ≡ own_as p own → programVerdict p ≡ Err c
+unfolding passed_verdict
+own_refused (Ok x) own c e = let z : ◌≡◌ {A = ℕ} 0 1 = cc in absurd (omega arith)
+own_refused (Err _) own c e = sym (ap passed_verdict e)

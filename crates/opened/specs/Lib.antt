@@ -1,3 +1,4 @@
 pub mod Parts
 pub mod Disc
 pub mod Backed
+pub mod Laws

@@ -1,5 +1,5 @@
 // The tests of the header, and the program, from parts.
-ghost use Rattle.std.specs.Prelude.{◌≡◌, List, ℕ, max};
+ghost use Rattle.std.specs.Prelude.{◌≡◌, List, ℕ};
 ghost use Rattle.refusal.specs.Refusal.{first};
 ghost use Rattle.header.specs.Verdicts.{headerVerdict, boundsVerdict};
 ghost use Rattle.program.specs.Program.{program_of};
@@ -41,12 +41,6 @@ pub fn check_bounds(header: &[u8], long: u64) -> Verdict
     bounds(header, long)
 }
 
-fn larger(a: u32, b: u32) -> u32
-    ensures { result ≡ max a b }
-{
-    if a <= b { b } else { a }
-}
-
 // Where the program lies: from the DOL offset on, as long as its file, and at least its header.
 pub fn read_program(header: &[u8], program: &[u8], long: u64) -> Program
     ghost image: { List ℕ }
@@ -54,18 +48,13 @@ pub fn read_program(header: &[u8], program: &[u8], long: u64) -> Program
     requires part { HasProgram image program.now }
     ensures { result ≡ program_of image }
 {
-    let at = header::dol_offset(header);
-    if at == 0 {
-        return Program::None;
+    let offset = header::dol_offset(header);
+    if offset == 0 {
+        return Ok(None);
     }
-    if long < at as u64 + 0xE4 {
-        return Program::Refused(Refusal::InvalidDol);
+    if long < offset as u64 + 0xE4 {
+        return Err(Refusal::InvalidDol);
     }
-    match dol::size(program, 0) {
-        Ok(n) => Program::At(DiscRegion {
-            offset: at,
-            size: larger(n, 0xE4),
-        }),
-        Err(cause) => Program::Refused(cause),
-    }
+    let size = dol::size(program, 0)?.max(0xE4);
+    Ok(Some(DiscRegion { offset, size }))
 }

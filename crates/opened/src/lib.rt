@@ -10,7 +10,7 @@ mod regions;
 mod whole;
 
 pub use cut::parts_of;
-pub use lent::Lent;
+pub use lent::{Lent, Zero};
 pub use opened::OpenDisc;
 
 /// What opening reads of an image. Bytes that the image does not have are not asked for; nor is the table where the header is refused.

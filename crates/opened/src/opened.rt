@@ -1,11 +1,11 @@
 // A disc opened: contracts see the disc that it means, and no image.
 ghost use Rattle.std.specs.Prelude.{◌≡◌, List, ℕ, length};
-ghost use Rattle.program.specs.Program.{programBehind};
 ghost use Rattle.tree.specs.Table.{nodesOf};
 ghost use Rattle.fst_check.specs.Inner.Reading.{Opens};
 ghost use Rattle.space.specs.Used.{totalSize};
 ghost use Rattle.space.specs.Free.{freeRegions};
-ghost use Rattle.space.specs.Inner.Sort.{regionsIn};
+ghost use Rattle.space.specs.Inner.Sort.{SameSums, regionsIn};
+ghost use Rattle.free_space.specs.UsedSpace.{free_in};
 ghost use Rattle.space.specs.Inner.Words.{SortedDisjoint};
 ghost use Rattle.free_space.specs.MaxRegionSize.{maxRegionSize};
 ghost use Rattle.free_space.specs.Allocate.{allocationOf};
@@ -14,9 +14,9 @@ ghost use Rattle.opened.specs.Parts.{HasParts};
 ghost use Rattle.opened.specs.Disc.{OpensAs, Means, TableOf, free_of};
 
 use crate::Parts;
-use crate::bounds::read_program;
 use crate::cut::parts_of;
-use crate::whole::open_parts;
+use crate::whole::{check_program, check_table, check_used};
+use free_space::UsedRegions;
 use refusal::Refusal;
 use space::DiscRegion;
 use std::marker::Model;
@@ -48,16 +48,6 @@ impl<'a> Model for OpenDisc<'a> {
     ghost invariant = { λ d. Backed d.header.now d.table.now d.own d.words.now d.used };
 }
 
-// The region of the program behind the table.
-fn own_region(parts: Parts<'_>) -> DiscRegion
-    ghost image: { List ℕ }
-    requires { HasParts image parts.header.now parts.table.now parts.program.now parts.length }
-    ensures { result ≡ programBehind image }
-{
-    let program = read_program(parts.header, parts.program, parts.length);
-    program::own_region(program, header::fst_offset(parts.header))
-}
-
 // The image is passed for its name in the contract alone.
 fn open_shown<'a>(
     _image: &[u8],
@@ -78,8 +68,9 @@ impl<'a> OpenDisc<'a> {
         requires { HasParts image parts.header.now parts.table.now parts.program.now parts.length }
         ensures { OpensAs image (length words.old) result }
     {
-        let own = own_region(parts);
-        let used = open_parts(parts, words)?;
+        check_table(parts, words.len())?;
+        let own = check_program(parts)?;
+        let used = check_used(parts, words, own)?;
         Ok(OpenDisc {
             header: parts.header,
             table: parts.table,
@@ -149,24 +140,33 @@ impl<'a> OpenDisc<'a> {
         (self.words, self.used)
     }
 
+    /// Its used regions, and where it ends.
+    pub fn used_regions(&self) -> UsedRegions<'a>
+        ensures end { result.disc_end ≡ self.now.end }
+        ensures free { free_in result ≡ free_of self.now }
+        ensures same { SameSums result.regions self.now.used }
+    {
+        UsedRegions::new(self.words, self.used, self.end())
+    }
+
     /// How many bytes are used.
     pub fn used_size(&self) -> u32
         ensures { result ≡ totalSize self.now.used }
     {
-        free_space::used_size(self.words, self.used, self.end())
+        self.used_regions().used_size()
     }
 
     /// What a region of `size` bytes at `offset` can grow to.
     pub fn max_region_size(&self, offset: u32, size: u32) -> u32
         ensures { result ≡ maxRegionSize offset size (free_of self.now) }
     {
-        free_space::max_region_size(self.words, self.used, self.end(), offset, size)
+        self.used_regions().max_region_size(offset, size)
     }
 
     /// The largest free place for `size` bytes at a multiple of `align`, the last among equals; refuses 22, then 21.
     pub fn allocate(&self, size: u32, align: u32) -> Result<DiscRegion, Refusal>
         ensures { result ≡ allocationOf align size (free_of self.now) }
     {
-        free_space::allocate(self.words, self.used, self.end(), size, align)
+        self.used_regions().allocate(size, align)
     }
 }

@@ -1,8 +1,8 @@
-// Opening: every test, and then the used regions in the lent words.
+// The tests of opening, the last of which leaves the used regions in the lent words.
 ghost use Rattle.std.specs.Prelude.{◌≡◌, List, ℕ, Ok, length};
 ghost use Rattle.program.specs.Program.{program_of, programVerdict, programBehind};
 ghost use Rattle.opening.specs.Inner.Prepared.{verdictBefore24, Prepares};
-ghost use Rattle.opened.specs.Parts.{HasParts};
+ghost use Rattle.opened.specs.Parts.{HasParts, own_as};
 
 use crate::Parts;
 use crate::bounds::{check_bounds, read_program};
@@ -11,7 +11,7 @@ use refusal::{Refusal, Verdict};
 use space::DiscRegion;
 
 // The tests 1 to 13.
-fn check_table(parts: Parts<'_>, words: usize) -> Verdict
+pub fn check_table(parts: Parts<'_>, words: usize) -> Verdict
     ghost image: { List ℕ }
     requires { HasParts image parts.header.now parts.table.now parts.program.now parts.length }
     ensures { result ≡ verdictBefore24 image words }
@@ -20,42 +20,29 @@ fn check_table(parts: Parts<'_>, words: usize) -> Verdict
     fst_check::check(parts.table, words)
 }
 
+// Test 24: the region that the program takes behind the table.
+pub fn check_program(parts: Parts<'_>) -> Result<DiscRegion, Refusal>
+    ghost image: { List ℕ }
+    requires { HasParts image parts.header.now parts.table.now parts.program.now parts.length }
+    ensures { result ≡ own_as (program_of image) (programBehind image) }
+{
+    let program = read_program(parts.header, parts.program, parts.length)?;
+    Ok(program::own_region(program, header::fst_offset(parts.header)))
+}
+
 // Test 14, which leaves the used regions in order.
-fn check_used(parts: Parts<'_>, words: &mut [u32], program: DiscRegion) -> Result<usize, Refusal>
+pub fn check_used(parts: Parts<'_>, words: &mut [u32], own: DiscRegion) -> Result<usize, Refusal>
     ghost image: { List ℕ }
     requires parts_of { HasParts image parts.header.now parts.table.now parts.program.now parts.length }
     requires before { verdictBefore24 image (length words.old) ≡ (Ok tt) }
     requires accepted { programVerdict (program_of image) ≡ (Ok tt) }
-    requires own { program ≡ programBehind image }
+    requires own { own ≡ programBehind image }
     ensures { Prepares image words.new result }
 {
     let to = header::table_end(parts.header);
     let end = header::disc_end(parts.header) as u32;
     let count = endian::read_u32(parts.table, 8) as usize;
-    let m = collect(parts.table, words, count, to as u32, program);
+    let m = collect(parts.table, words, count, to as u32, own);
     space_check::check_regions(words, count + 2, m, end)?;
     Ok(m)
-}
-
-// Test 24, and then 14.
-fn check_program(parts: Parts<'_>, words: &mut [u32]) -> Result<usize, Refusal>
-    ghost image: { List ℕ }
-    requires parts_of { HasParts image parts.header.now parts.table.now parts.program.now parts.length }
-    requires before { verdictBefore24 image (length words.old) ≡ (Ok tt) }
-    ensures { Prepares image words.new result }
-{
-    let program = read_program(parts.header, parts.program, parts.length);
-    program::verdict(program)?;
-    let own = program::own_region(program, header::fst_offset(parts.header));
-    check_used(parts, words, own)
-}
-
-// Opens the image that has these parts, whichever it is. Accepted, it leaves the used regions in the words, in order.
-pub fn open_parts(parts: Parts<'_>, words: &mut [u32]) -> Result<usize, Refusal>
-    ghost image: { List ℕ }
-    requires { HasParts image parts.header.now parts.table.now parts.program.now parts.length }
-    ensures { Prepares image words.new result }
-{
-    check_table(parts, words.len())?;
-    check_program(parts, words)
 }

@@ -124,8 +124,7 @@ fn check_program(image: &[u8], words: &mut [u32]) -> Result<usize, Refusal>
     requires { verdictBefore24 image.now (length words.old) ≡ (Ok tt) }
     ensures { Prepares image.now words.new result }
 {
-    let program = program::read(image);
-    program::verdict(program)?;
+    let program = program::read(image)?;
     let own = program::own_region(program, header::fst_offset(image));
     check_used(image, words, own)
 }

@@ -2,13 +2,16 @@
 -- 0xE4. It must lie wholly between 0x440 and the FST offset, as part of the used bytes 0 up to the table end, or wholly from the table end on,
 -- as a used region of its own; otherwise, or where it overlaps a file or passes the disc end, 14. At opening 24 now comes just before 14."
 -- Assumes nothing: these are definitions.
+use Rattle.refusal.specs.declared.Refusal.{Refusal}
 use Rattle.refusal.specs.Refusal.{Verdict}
-use Rattle.std.specs.Prelude.{ℕ, ◌+◌, max, Bool, cond, ◌&&◌, List, leb, eqb, Ok, Err}
+use Rattle.std.specs.Prelude.{ℕ, ◌+◌, max, Bool, cond, ◌&&◌, List, leb, eqb, Option, None, Some, Result, Ok, Err, unwrap_or}
 use Rattle.header.specs.Verdicts.{dolOffset, fstOffset}
 use Rattle.space.specs.declared.DiscRegion.{DiscRegion}
 use Rattle.dol.specs.Dol.{dolHeaderOf, fileSizeOf, dolVerdictOf}
-use Rattle.program.specs.declared.Program.{Program}
-use Rattle.program.specs.declared.Program.TheVariants.{At, None, Refused}
+
+-- the region of a program, none where there is no program, or the cause for which its header is refused
+abbrev pub Program : Type 0
+Program = Result (Option DiscRegion) Refusal
 
 -- "from there, as long as the DOL's file size and at least 0xE4"
 abbrev pub programFrom : List ℕ → ℕ → DiscRegion
@@ -16,17 +19,16 @@ programFrom image at = record { offset = at; size = max (fileSizeOf (dolHeaderOf
 
 -- by the verdict on its header
 abbrev pub programAs : Verdict → DiscRegion → Program
-programAs (Ok _) r = At r
-programAs (Err c) r = Refused c
+programAs (Ok _) r = Ok (Some r)
+programAs (Err c) r = Err c
 
 -- "a nonzero DOL offset means a program"; its header may be refused, 24
 unfoldable pub program_of : List ℕ → Program
-program_of image = cond (eqb (dolOffset image) 0) None (programAs (dolVerdictOf image (dolOffset image)) (programFrom image (dolOffset image)))
+program_of image = cond (eqb (dolOffset image) 0) (Ok None) (programAs (dolVerdictOf image (dolOffset image)) (programFrom image (dolOffset image)))
 
 abbrev pub programVerdict : Program → Verdict
-programVerdict (At r) = Ok tt
-programVerdict None = Ok tt
-programVerdict (Refused c) = Err c
+programVerdict (Ok _) = Ok tt
+programVerdict (Err c) = Err c
 
 -- ---- where it lies
 
@@ -35,9 +37,8 @@ abbrev pub nowhere : DiscRegion
 nowhere = record { offset = 0; size = 0 }
 
 abbrev pub place_of : Program → DiscRegion
-place_of (At r) = r
-place_of None = nowhere
-place_of (Refused c) = nowhere
+place_of (Ok region) = unwrap_or region nowhere
+place_of (Err c) = nowhere
 
 unfoldable pub programIn : List ℕ → DiscRegion
 programIn image = place_of (program_of image)

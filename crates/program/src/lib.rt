@@ -1,75 +1,45 @@
 // The program that a nonzero DOL offset means, and what it takes of the space behind the table.
 #![tactic(auto)]
 
-ghost use Rattle.std.specs.Prelude.{◌≡◌, max};
-ghost use Rattle.program.specs.Program.{program_of, programVerdict, place_of, ownRegion};
+ghost use Rattle.std.specs.Prelude.{◌≡◌, unwrap_or};
+ghost use Rattle.program.specs.Program.{program_of, nowhere, beforeTable, ownRegion};
 
-use refusal::{Refusal, Verdict};
+use refusal::Refusal;
 use space::DiscRegion;
 
-#[derive(Clone, Copy)]
-pub enum Program {
-    At(DiscRegion),
-    None,
-    Refused(Refusal),
-}
+/// Where the program of an image lies, `None` if it has none; or the cause for which its header is refused.
+pub type Program = Result<Option<DiscRegion>, Refusal>;
 
-fn larger(a: u32, b: u32) -> u32
-    ensures { result ≡ max a b }
-{
-    if a <= b { b } else { a }
-}
+// A region without a byte.
+const NOWHERE: DiscRegion = DiscRegion { offset: 0, size: 0 };
 
-// Where the program lies: from the DOL offset on, as long as its file, and at least its header.
+/// Where the program lies: from the DOL offset on, as long as its file, and at least its header.
 pub fn read(image: &[u8]) -> Program
     ensures { result ≡ program_of image.now }
 {
-    let at = header::dol_offset(image);
-    if at == 0 {
-        return Program::None;
+    let offset = header::dol_offset(image);
+    if offset == 0 {
+        return Ok(None);
     }
-    match dol::size(image, at as usize) {
-        Ok(n) => Program::At(DiscRegion {
-            offset: at,
-            size: larger(n, 0xE4),
-        }),
-        Err(cause) => Program::Refused(cause),
-    }
+    let size = dol::size(image, offset as usize)?.max(0xE4);
+    Ok(Some(DiscRegion { offset, size }))
 }
 
-// 24 or nothing.
-pub fn verdict(program: Program) -> Verdict
-    ensures { result ≡ programVerdict program }
+// Whether the region lies wholly between the header and the table.
+fn is_before_table(region: DiscRegion, fst_offset: u32) -> bool
+    ensures { result ≡ beforeTable fst_offset region }
+{
+    let end = u64::from(region.offset) + u64::from(region.size);
+    0x440 <= region.offset && end <= u64::from(fst_offset)
+}
+
+/// What the program uses besides the bytes up to the table's end: nothing where it lies before the table.
+#[tactic(auto, unfolding(crate::specs::Program::ownRegion))]
+pub fn own_region(program: Option<DiscRegion>, fst_offset: u32) -> DiscRegion
+    ensures { result ≡ ownRegion fst_offset (unwrap_or program nowhere) }
 {
     match program {
-        Program::At(_) => Ok(()),
-        Program::None => Ok(()),
-        Program::Refused(cause) => Err(cause),
+        Some(region) if !is_before_table(region, fst_offset) => region,
+        _ => NOWHERE,
     }
-}
-
-// The region of a program, empty where there is none.
-fn place(program: Program) -> DiscRegion
-    ensures { result ≡ place_of program }
-{
-    match program {
-        Program::At(region) => region,
-        Program::None => DiscRegion { offset: 0, size: 0 },
-        Program::Refused(_) => DiscRegion { offset: 0, size: 0 },
-    }
-}
-
-// What the program uses besides the bytes up to the table's end: nothing where it lies before the table.
-pub fn own_region(program: Program, fst_offset: u32) -> DiscRegion
-    ensures { result ≡ ownRegion fst_offset (place_of program) }
-{
-    let region = place(program);
-    let end = endian::wide(region.offset) + endian::wide(region.size);
-    if region.offset < 0x440 {
-        return region;
-    }
-    if end <= fst_offset as u64 {
-        return DiscRegion { offset: 0, size: 0 };
-    }
-    region
 }

@@ -2,71 +2,43 @@
 // call gives back the moved window. `seek_lent` and `read_lent` are the same two calls on a window that the caller lends and finds moved.
 #![tactic(auto)]
 
-ghost use Rattle.std.specs.Prelude.{◌≡◌, ◌-◌, min, length};
-ghost use Rattle.window.specs.Window.{newWindow, movedBy, judged, seekOf, settled_of, count_of, movedOn, read_of, bufferOf, seekReadOf};
+ghost use Rattle.std.specs.Prelude.{◌≡◌, length};
+ghost use Rattle.window.specs.Window.{newWindow, judged, seekOf, settled_of, count_of, movedOn, read_of, bufferOf, seekReadOf};
 
 use refusal::Refusal;
 
-#[derive(Clone, Copy)]
+/// A part of an image, in bytes: where it starts, how long it is, and the position in it. A position past the end is one too.
+#[derive(Clone, Copy, PartialEq, Eq, Debug)]
 pub struct Window {
     pub start: u64,
     pub len: u64,
     pub position: u64,
 }
 
-#[derive(Clone, Copy)]
+/// Where a seek counts from, and how many bytes from there.
+#[derive(Clone, Copy, PartialEq, Eq, Debug)]
 pub enum SeekFrom {
     Start(u64),
     Current(i64),
     End(i64),
 }
 
-#[derive(Clone, Copy)]
+/// What a read gives: how many bytes it put into the buffer, and the window moved by them.
+#[derive(Clone, Copy, PartialEq, Eq, Debug)]
 pub struct BytesRead {
     pub count: usize,
     pub window: Window,
 }
 
-// A signed distance added modulo 2^64. The distance -(n + 1) adds 2^64 - (n + 1), so that no cast takes a negative number.
-fn moved(p: u64, d: i64) -> u64
-    ensures { result ≡ movedBy p d }
-{
-    if d < 0 {
-        let n = (-1 - d) as u64;
-        std::num::wrapping_add_u64(p, u64::MAX - n)
-    } else {
-        std::num::wrapping_add_u64(p, d as u64)
-    }
-}
-
-// The checked sum with the start.
-fn judge(w: Window, p: u64) -> Result<Window, Refusal>
-    ensures { result ≡ judged w p }
-{
-    if u64::MAX - w.start < p {
-        return Err(Refusal::InvalidSeek);
-    }
-    Ok(Window {
-        start: w.start,
-        len: w.len,
-        position: p,
-    })
-}
-
-// a - b, and 0 where b is larger.
-fn saturating_sub(a: u64, b: u64) -> u64
-    ensures { result ≡ a - b }
-{
-    if b <= a { a - b } else { 0 }
-}
-
-fn least(a: u64, b: u64) -> u64
-    ensures { result ≡ min a b }
-{
-    if a <= b { a } else { b }
+/// What a seek and then a read on one window give.
+#[derive(Clone, Copy, PartialEq, Eq, Debug)]
+pub struct SoughtAndRead {
+    pub sought: Result<Window, Refusal>,
+    pub read: BytesRead,
 }
 
 impl Window {
+    /// A window on `len` bytes from `start` on, at its first byte.
     pub fn new(start: u64, len: u64) -> Window
         ensures { result ≡ newWindow start len }
     {
@@ -77,99 +49,103 @@ impl Window {
         }
     }
 
+    // The window at that position, if the sum with the start fits.
+    fn at(self, position: u64) -> Result<Window, Refusal>
+        ensures { result ≡ judged self position }
+    {
+        match self.start.checked_add(position) {
+            Some(_) => Ok(Window { position, ..self }),
+            None => Err(Refusal::InvalidSeek),
+        }
+    }
+
+    /// The window at another position; distances are added modulo 2^64. Refused (`InvalidSeek`) where start + position
+    /// passes 2^64 - 1; a distance of 0 from the current position always succeeds.
     pub fn seek(self, to: SeekFrom) -> Result<Window, Refusal>
         ensures { result ≡ seekOf self to }
     {
         match to {
-            SeekFrom::Start(n) => judge(self, n),
-            SeekFrom::Current(d) => {
-                if d == 0 {
-                    Ok(self)
-                } else {
-                    judge(self, moved(self.position, d))
-                }
-            }
-            SeekFrom::End(d) => judge(self, moved(self.len, d)),
+            SeekFrom::Start(position) => self.at(position),
+            SeekFrom::Current(0) => Ok(self),
+            SeekFrom::Current(distance) => self.at(self.position.wrapping_add_signed(distance)),
+            SeekFrom::End(distance) => self.at(self.len.wrapping_add_signed(distance)),
         }
     }
 
-    // Start and position are taken off one after the other, so that no sum wraps; the sum is formed only where bytes are left.
+    /// Puts the bytes at the position at the front of the buffer: as many as the buffer has room for, and as are left both in
+    /// the window and in the image. The rest of the buffer stays.
     pub fn read(self, image: &[u8], buf: &mut [u8]) -> BytesRead
-        ensures { (result ≡ read_of self (length image.now) (length buf.old)) × (buf.new ≡ bufferOf self image.now buf.old) }
+        ensures answer { result ≡ read_of self (length image.now) (length buf.old) }
+        ensures buffer { buf.new ≡ bufferOf self image.now buf.old }
     {
-        let start = self.start;
-        let len = self.len;
-        let position = self.position;
-        let left = least(
-            saturating_sub(len, position),
-            saturating_sub(saturating_sub(image.len() as u64, start), position),
-        );
-        let count = least(buf.len() as u64, left);
+        let in_window = self.len.saturating_sub(self.position);
+        // Start and position are taken off one after the other, so that no sum wraps.
+        let in_image = (image.len() as u64)
+            .saturating_sub(self.start)
+            .saturating_sub(self.position);
+        let count = (buf.len() as u64).min(in_window.min(in_image));
         if count == 0 {
             return BytesRead {
                 count: 0,
                 window: self,
             };
         }
-        endian::copy(image, (start + position) as usize, buf, 0, count as usize);
+        endian::copy(
+            image,
+            (self.start + self.position) as usize,
+            buf,
+            0,
+            count as usize,
+        );
         BytesRead {
             count: count as usize,
             window: Window {
-                start,
-                len,
-                position: position + count,
+                position: self.position + count,
+                ..self
             },
         }
     }
 }
 
-// The window after a seek: the one found, or with a refusal the one it was.
+/// The window after a seek: the one found, or with a refusal the one it was.
 pub fn settled(w: Window, s: Result<Window, Refusal>) -> Window
     ensures { result ≡ settled_of w s }
 {
     s.unwrap_or(w)
 }
 
-// `seek` on a window that the caller lends.
+/// `seek` on a window that the caller lends. A refusal leaves it as it was.
 pub fn seek_lent(w: &mut Window, to: SeekFrom) -> Result<Window, Refusal>
-    ensures { (result ≡ seekOf w.old to) × (w.new ≡ settled_of w.old (seekOf w.old to)) }
+    ensures answer { result ≡ seekOf w.old to }
+    ensures moved { w.new ≡ settled_of w.old (seekOf w.old to) }
 {
-    let sought = Window::seek(*w, to);
+    let sought = w.seek(to);
     *w = settled(*w, sought);
     sought
 }
 
-// `read` on a window that the caller lends.
+/// `read` on a window that the caller lends. It gives how many bytes it put into the buffer.
 pub fn read_lent(w: &mut Window, image: &[u8], buf: &mut [u8]) -> usize
-    ensures { (result ≡ count_of w.old (length image.now) (length buf.old))
-        × (w.new ≡ movedOn w.old result)
-        × (buf.new ≡ bufferOf w.old image.now buf.old) }
+    ensures answer { result ≡ count_of w.old (length image.now) (length buf.old) }
+    ensures moved { w.new ≡ movedOn w.old result }
+    ensures buffer { buf.new ≡ bufferOf w.old image.now buf.old }
 {
-    let r = Window::read(*w, image, buf);
-    *w = r.window;
-    r.count
+    let read = w.read(image, buf);
+    *w = read.window;
+    read.count
 }
 
-#[derive(Clone, Copy)]
-pub struct SoughtAndRead {
-    pub sought: Result<Window, Refusal>,
-    pub read: BytesRead,
-}
-
-fn sought_and_read(sought: Result<Window, Refusal>, count: usize, window: Window) -> SoughtAndRead
-    ensures { (result.sought ≡ sought) × (result.read.count ≡ count) × (result.read.window ≡ window) }
-{
-    let read = BytesRead { count, window };
-    SoughtAndRead { sought, read }
-}
-
-// A seek and then a read on one window, which this function lends to both. Its own parameters are plain values and slices.
+/// A seek and then a read on one window, which this function lends to both. A refused seek leaves the window for the read.
 pub fn seek_and_read(w: Window, to: SeekFrom, image: &[u8], buf: &mut [u8]) -> SoughtAndRead
-    ensures { (result ≡ seekReadOf w to (length image.now) (length buf.old))
-        × (buf.new ≡ bufferOf (settled_of w (seekOf w to)) image.now buf.old) }
+    ensures answer { result ≡ seekReadOf w to (length image.now) (length buf.old) }
+    ensures buffer { buf.new ≡ bufferOf (settled_of w (seekOf w to)) image.now buf.old }
 {
     let mut lent = w;
     let sought = seek_lent(&mut lent, to);
     let count = read_lent(&mut lent, image, buf);
-    sought_and_read(sought, count, lent)
+    let read = BytesRead {
+        count,
+        window: lent,
+    };
+    SoughtAndRead { sought, read }
 }

@@ -1,12 +1,33 @@
--- The answers by the verdict of opening. Assumes nothing.
-use Rattle.std.specs.Prelude.{Ok, Err}
+-- The answers by the verdict of opening, and by the disc that was opened. Assumes nothing.
+use Rattle.std.specs.Prelude.{Result, Ok, Err, ℕ, List}
 use Rattle.refusal.specs.Refusal.{Verdict}
 use Rattle.std.specs.Prelude.{◌≡◌}
+use Rattle.std.proofs.Common.{◌∙◌}
 use Rattle.refusal.specs.declared.Refusal.{Refusal}
-use Rattle.answers.specs.Answers.{behind}
+use Rattle.opening.specs.Opening.{opening}
+use Rattle.opened.specs.Disc.{Disc, Means, OpensAs}
+use Rattle.opened.specs.Laws.Meant.{start_meant, room_meant, end_meant, entries_meant, total_meant}
+use Rattle.answers.specs.Answers.{behind, discOf, told_of}
 
 pub behind-passed : {A : Type 0} (v : Verdict) (f : Refusal → A) (a : A) → v ≡ Ok tt → a ≡ behind v f a
 behind-passed v f a e = rw e
 
 pub behind-refused : {A : Type 0} (v : Verdict) (f : Refusal → A) (a : A) (c : Refusal) → v ≡ Err c → f c ≡ behind v f a
 behind-refused v f a c e = rw e
+
+-- ---- what an opened disc is asked
+
+module _ {A : Type 0} (f : Refusal → A) (a : A) (image : List ℕ) (words : ℕ) (r : Result Disc Refusal) (h : OpensAs image words r) where
+  -- what it answers is the image's answer behind opening's tests
+  pub asked : (d : Disc) → r ≡ Ok d → (b : A) → (Means image d → b ≡ a) → b ≡ behind (opening image words) f a
+  asked d e b g =
+      let o : OpensAs image words (Ok d) = rw e at h in
+      g o.0 ∙ behind-passed (opening image words) f a (rw o.1 at o.0.known.passed)
+
+  pub not_asked : (c : Refusal) → r ≡ Err c → f c ≡ behind (opening image words) f a
+  not_asked c e = let o : OpensAs image words (Err c) = rw e at h in behind-refused (opening image words) f a c o
+
+-- what it tells of itself
+pub told_meant : (image : List ℕ) (d : Disc) → Means image d → told_of d ≡ discOf image
+told_meant image d m =
+    rw (start_meant image d m, room_meant image d m, end_meant image d m, entries_meant image d m, total_meant image d m)

@@ -28,11 +28,11 @@ unfoldable pub writtenWith : Writing → List ℕ → List ℕ → List ℕ
 writtenWith w table image =
     put (withTable (fstOffset image) (fstSize image) table (put image w.place.offset (span image w.old.offset w.kept))) w.lost.offset (replicate w.lost.size 0)
 
--- ---- the table's tests after the limits of the tree
+-- ---- what is found behind tests that passed, or the cause of the first that did not
 
-abbrev pub sizedAs : Verdict → ℕ → Result ℕ Refusal
-sizedAs (Ok _) size = Ok size
-sizedAs (Err c) size = Err c
+abbrev pub behind_tests : {A : Type 0} → Verdict → A → Result A Refusal
+behind_tests (Ok _) x = Ok x
+behind_tests (Err c) x = Err c
 
 -- ---- what is written lies in the image; nothing is asked of a place where no byte is written
 

@@ -8,7 +8,7 @@ use Rattle.space.specs.declared.DiscRegion.{DiscRegion}
 use Rattle.free_space.specs.MaxRegionSize.{maxRegionSize}
 use Rattle.edits.specs.Change.{Change}
 use Rattle.opened.specs.Disc.{Disc, free_of}
-use Rattle.commit.specs.Inner.Decision.{placing, sizedAs}
+use Rattle.commit.specs.Inner.Decision.{placing, behind_tests}
 
 -- of a table of that size
 unfoldable pub place_verdict : Disc → ℕ → ℕ → DiscRegion → Verdict
@@ -25,4 +25,4 @@ table_verdict c d bytes = first (limits c.nodes d.words) (place_verdict d bytes 
 
 -- the size of the table of the tree as it is, once it passed these tests with that place
 abbrev pub judged_size : Disc → ℕ → DiscRegion → Result ℕ Refusal
-judged_size d bytes place = sizedAs (table_verdict (placing d.nodes place) d bytes) (length (encode d.nodes))
+judged_size d bytes place = behind_tests (table_verdict (placing d.nodes place) d bytes) (length (encode d.nodes))

@@ -1,13 +1,12 @@
 -- One reply of each kind, by computing: every slot holds a number of its own, in the order that host/include/counter.h gives them, so that the
 -- order is said twice. Assumes nothing.
-use Rattle.std.specs.Prelude.{Ok, Err, ℕ, zero, suc, ◌≡◌, refl, List, [], ◌∷◌}
+use Rattle.std.specs.Prelude.{Some, None, Ok, Err, ℕ, zero, suc, ◌≡◌, refl, List, [], ◌∷◌}
 use Rattle.refusal.specs.declared.Refusal.TheVariants.{LimitOrMemory, NoSuchEntry, ExpectedFile, NotFound, NotEnoughSpace, InvalidSeek, InvalidDol, TotalsOutOfRange}
 use Rattle.tree.specs.declared.Entry.TheVariants.{File, Directory}
 use Rattle.tree.specs.declared.Found.TheVariants as found
 use Rattle.dol.specs.declared.DolHeader.{DolHeader}
 use Rattle.totals.specs.declared.Totals.{Totals}
 use Rattle.totals.specs.Totals.{totalsIn}
-use Rattle.program.specs.declared.Program.TheVariants as program
 use Rattle.window.specs.declared.Window.{Window}
 use Rattle.opening.specs.Opening.{zeros}
 use Rattle.counter.specs.Replies.{Reply, reply, Read, replied, discWords, discTotalsWords, regionWords, one, windowIn, windowWords, totalsWords, dolWords, programReply, foundReply, dolReply, dolWindowReply, done, numbered}
@@ -26,8 +25,8 @@ rising a (suc n) = a ∷ rising (suc a) n
 disc-slots :
     (replied discWords old (Ok (record { fst_offset = 1; fst_size = 2; disc_end = 3; entries = 4; used = 5 })) ≡ reply 0 (1 ∷ 2 ∷ 3 ∷ 4 ∷ 5 ∷ [])) ×
     (replied discTotalsWords old (Ok (record { disc_end = 1; used = 2 })) ≡ reply 0 (1 ∷ 2 ∷ [])) ×
-    (programReply old (program.At (record { offset = 1; size = 2 })) ≡ reply 0 (1 ∷ 2 ∷ [])) ×
-    (programReply old program.None ≡ reply 0 (0 ∷ 0 ∷ []))
+    (programReply old (Ok (Some (record { offset = 1; size = 2 }))) ≡ reply 0 (1 ∷ 2 ∷ [])) ×
+    (programReply old (Ok None) ≡ reply 0 (0 ∷ 0 ∷ []))
 unfolding programReply
 disc-slots = (refl, refl, refl, refl)
 
@@ -89,7 +88,7 @@ dol-slots = (refl, refl)
 refused-slots :
     (replied discWords old (Err LimitOrMemory) ≡ reply 9 old) ×
     (replied discTotalsWords old (Err LimitOrMemory) ≡ reply 9 old) ×
-    (programReply old (program.Refused InvalidDol) ≡ reply 24 old) ×
+    (programReply old (Err InvalidDol) ≡ reply 24 old) ×
     (foundReply old (found.Refused NotFound) ≡ reply 18 old) ×
     (replied one old (Err LimitOrMemory) ≡ reply 9 old) ×
     (replied one old (Err ExpectedFile) ≡ reply 16 old) ×

@@ -1,6 +1,5 @@
 -- A file and its place, as the edits of a place ask for them. Assumes nothing: these are definitions.
 use Rattle.std.specs.Prelude.{Result, Ok, Err, ℕ, ◌<◌, ◌≡◌, false, List, length, get_or}
-use Rattle.refusal.specs.Refusal.{Verdict}
 use Rattle.refusal.specs.declared.Refusal.{Refusal}
 use Rattle.refusal.specs.declared.Refusal.TheVariants.{ExpectedFile}
 use Rattle.tree.specs.Table.{Node, none}
@@ -22,10 +21,6 @@ file_in nodes k = record { number = k; place = regionOf (get_or nodes k none) }
 abbrev pub fileOf : ℕ → Entry → Result File Refusal
 fileOf k (entry.File f) = Ok (record { number = k; place = record { offset = f.offset; size = f.size } })
 fileOf k (entry.Directory d) = Err ExpectedFile
-
-abbrev pub fileAs : Verdict → File → Result File Refusal
-fileAs (Ok _) f = Ok f
-fileAs (Err c) f = Err c
 
 -- a file of a disc that some image means
 pub record IsFileOf (d : Disc) (f : File) : Type 0 where

@@ -1,9 +1,10 @@
 -- `dol::largest` meets its contract. The invariant of its loop: the larger of `top` and the largest of what is left is the largest of all.
-use mathlib.Core.Path.{◌≡◌}
-use Prim.Native.Nat.{◌≤◌, max}
-use lib.ListN.{length, drop}
+use Rattle.std.proofs.Common.{◌≡◌}
+use Rattle.std.specs.Prelude.{max}
+use Rattle.std.specs.Iterator.Adapters.{zip_first, zip_second}
+use Rattle.std.specs.Slice.Iter.{iter_rest}
 use Rattle.dol.specs.Dol.{largestOf}
 use Rattle.dol.proofs.largest.Given as goal
 
-abbrev pub invariant-loop-i : goal.invariant-loop-i
-invariant-loop-i l = (l.i ≤ length l.offsets) × (largestOf l.offsets l.sizes ≡ max l.top (largestOf (drop l.i l.offsets) (drop l.i l.sizes)))
+abbrev pub invariant-loop-offset : goal.invariant-loop-offset
+invariant-loop-offset g l = largestOf l.fn.offsets l.fn.sizes ≡ max l.top (largestOf (iter_rest (zip_first l.offset-iterator)) (iter_rest (zip_second l.offset-iterator)))

@@ -1,6 +1,6 @@
 -- "Marked P": P1 to P12 of document 01, and the numbers of its listing, about the definitions that the calls' promises cite: by computing.
 -- Assumes nothing.
-use Rattle.std.specs.Prelude.{Ok, Err}
+use Rattle.std.specs.Prelude.{None, Ok, Err}
 use Rattle.refusal.specs.Refusal.{Verdict}
 use Rattle.std.specs.Prelude.{ℕ, ◌+◌, ◌-◌, ◌≡◌, refl, List, [], ◌∷◌, negsuc}
 use Rattle.endian.specs.Bytes.{be24, be32, put, sameBytes}
@@ -9,7 +9,7 @@ use Rattle.refusal.specs.Refusal.{number_of}
 use Rattle.header.specs.Fields.{fields}
 use Rattle.header.specs.Verdicts.{fieldVerdict, fieldsVerdict, headerVerdict, boundsVerdict, fstOffset, fstSize, fstMaxSize, discEnd}
 use Rattle.window.specs.declared.Window.{Window}
-use Rattle.window.specs.declared.SeekFrom.TheVariants.{Current}
+use Rattle.std.specs.declared.io.SeekFrom.TheVariants.{Current}
 use Rattle.window.specs.Window.{seekOf, newWindow}
 use Rattle.tree.specs.declared.Entry.TheVariants.{File, Directory}
 use Rattle.tree.specs.declared.Found.TheVariants as found
@@ -28,7 +28,6 @@ use Rattle.free_space.specs.Allocate.{betterOf, largest, powers, allocationOf}
 use Rattle.free_space.specs.Listing.{rows_of}
 use Rattle.totals.specs.declared.Totals.{Totals}
 use Rattle.totals.specs.Totals.{totalsVerdict}
-use Rattle.program.specs.declared.Program.TheVariants.{None}
 use Rattle.program.specs.Program.{program_of, programIn, ownRegion}
 use Rattle.opening.specs.Opening.{table_of, nodesIn, opening, freeOf, usedOf, usedIn, behindTable, layoutVerdict}
 use Rattle.files.specs.Files.{entryAnswer, lookupAnswer, maxFileSizeAnswer, openFileAnswer}
@@ -49,7 +48,7 @@ unfolding master put table_of nodesIn nodesOf nodesFrom nodeAt name_at count be2
 nodes = refl
 
 -- "DOL offset 0": there is no program
-pub no_program : program_of master ≡ None
+pub no_program : program_of master ≡ Ok None
 unfolding master put be32 program_of
 no_program = refl
 

@@ -1,6 +1,6 @@
 -- Document 02, Point 2, on small images, by computing: the walk before 24 and 24 before 14, what a program uses, and that neither a file nor the
 -- table takes its bytes. Assumes nothing.
-use Rattle.std.specs.Prelude.{Ok, Err}
+use Rattle.std.specs.Prelude.{Some, Ok, Err}
 use Rattle.refusal.specs.Refusal.{Verdict}
 use Rattle.std.specs.Prelude.{ℕ, ◌+◌, ◌≡◌, refl, List, [], ◌∷◌, ◌++◌, replicate}
 use Rattle.endian.specs.Bytes.{be24, be32, be32Bytes, put, sameBytes}
@@ -21,7 +21,6 @@ use Rattle.free_space.specs.MaxRegionSize.{besideFree, maxSizeFrom}
 use Rattle.free_space.specs.Allocate.{betterOf, largest, powers, allocationOf}
 use Rattle.totals.specs.Totals.{totalsVerdict}
 use Rattle.dol.specs.Dol.{wordsAt, largestOf}
-use Rattle.program.specs.declared.Program.TheVariants.{At}
 use Rattle.program.specs.Program.{program_of, programIn, ownRegion}
 use Rattle.opening.specs.Opening.{table_of, nodesIn, behindTable, usedIn, layoutVerdict, opening, freeOf, usedOf}
 use Rattle.edits.specs.Change.{withTable, written, tableVerdict, placeVerdict}
@@ -56,7 +55,7 @@ one = behind 0x600 0x100 0x23
 -- ---- whole images; every other place stands in program's vectors
 
 pub record Opens : Type 0 where
-  pub at-file : (opens one ≡ Ok tt) × (program_of one ≡ At (at 0x600 0x123))
+  pub at-file : (opens one ≡ Ok tt) × (program_of one ≡ Ok (Some (at 0x600 0x123)))
   -- a sum of 2^32 is 24, though the program lies in `a`, and a name `:` comes first
   pub sum : opens (behind 0x5FF 0xFFFFFFFF 1) ≡ Err InvalidDol
   pub walk : opens (with 0x5FF 0xFFFFFFFF 1 (disc 0x900 0x440 0x500 0x3A)) ≡ Err UnsafeName
@@ -95,7 +94,7 @@ free = rw (used.0, header.2) runs-of-one
 unfoldable pub two : List ℕ
 two = with 0x45A 0 0 (disc 0x900 0x440 0x600 0x61)
 
-two-opens : (opening two 20 ≡ Ok tt) × (program_of two ≡ At (at 0x45A 0xE4))
+two-opens : (opening two 20 ≡ Ok tt) × (program_of two ≡ Ok (Some (at 0x45A 0xE4)))
 unfolding two put opening layoutVerdict headerVerdict fieldsVerdict fieldVerdict fields boundsVerdict table_of check nodesIn nodesOf nodesFrom nodeAt name_at count entriesVerdict entryVerdict unended walk nameVerdict nextVerdict shut plain safe be24 be32 usedIn behindTable program_of programIn ownRegion wordsAt largestOf nonempty disjointBelow pairwise_disjoint disjointFromAll disjoint endBy units
 two-opens = (refl, refl)
 

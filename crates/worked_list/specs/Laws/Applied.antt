@@ -1,6 +1,6 @@
 -- Each theorem about lists of calls, applied to the worked list: its hypotheses hold there, and what it says is read off in numbers. Nothing of the
 -- last image is computed for that but what a theorem's words are held against. Assumes nothing.
-use Rattle.std.specs.Prelude.{Ok}
+use Rattle.std.specs.Prelude.{Some, Ok}
 use Rattle.std.specs.Prelude.{ℕ, zero, suc, ◌≤◌, ◌≡◌, refl, Bool, true, ◌&&◌, List, [], ◌∷◌, ◌++◌, map, ltb, length, get_or, replicate}
 use Rattle.std.proofs.Common.{sym, ap, ◌∙◌, arith, ltb-true}
 use Rattle.std.proofs.lemmas.Bool.{false≢true}
@@ -15,7 +15,6 @@ use Rattle.space.specs.Free.{largestSize}
 use Rattle.free_space.specs.Listing.{rows_of}
 use Rattle.window.specs.Window.{newWindow, count_of}
 use Rattle.totals.specs.declared.Totals.{Totals}
-use Rattle.program.specs.declared.Program.TheVariants.{At}
 use Rattle.program.specs.Program.{programIn, ownRegion}
 use Rattle.opening.specs.Opening.{table_of, nodesIn, usedIn, freeOf, usedOf, opening}
 use Rattle.disc.specs.Calls.{totalsAnswer, programAnswer, freeRegionsAnswer, freeRegionsList, totalsOf, recordAnswer}
@@ -90,7 +89,7 @@ pub record Demanded : Type 0 where
   pub free : freeRegionsAnswer last masterWords 8 ≡ Ok 4
   pub listed : freeRegionsList last masterWords (replicate 9 7) ≡ 1128 ∷ 152 ∷ 1536 ∷ 256 ∷ 2052 ∷ 252 ∷ 2309 ∷ 5883 ∷ 7 ∷ []
   pub program-stays : (dolOffset last ≡ 0x700) × (programIn last ≡ program) × (span last 0x700 0x104 ≡ programBytes) × (0x804 ≤ length last)
-  pub program-told : programAnswer last masterWords ≡ At program
+  pub program-told : programAnswer last masterWords ≡ Ok (Some program)
   -- entry 1, `a`, is unnamed; entry 2, `b`, begins with the clip
   pub of-a : (nm : List ℕ) (offset size : ℕ) → get_or (nodesIn last) 1 none ≡ file nm offset size → (offset ≡ 0x500) × (size ≡ 0x100) × (span last offset size ≡ ofA ++ replicate 0xF8 0)
   pub of-b : (nm : List ℕ) (offset size : ℕ) → get_or (nodesIn last) 2 none ≡ file nm offset size → (3 ≤ size) × (3 ≤ length clip) × (span last offset 3 ≡ clip)

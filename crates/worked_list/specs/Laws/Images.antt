@@ -1,5 +1,5 @@
 -- The images that the worked list goes through, written out from the layout, and what each of them reads as, by computing. Assumes nothing.
-use Rattle.std.specs.Prelude.{Ok}
+use Rattle.std.specs.Prelude.{Some, Ok}
 use Rattle.std.specs.Prelude.{ℕ, ◌+◌, ◌≡◌, refl, List, [], ◌∷◌, ◌++◌, map, replicate}
 use Rattle.endian.specs.Bytes.{be24, be32, be32Bytes, put}
 use Rattle.header.specs.Fields.{fields, dolOffsetField, fstSizeField}
@@ -11,7 +11,6 @@ use Rattle.space.specs.declared.DiscRegion.{DiscRegion}
 use Rattle.space.specs.Used.{usedRegions, usesByte, nonempty, totalSize}
 use Rattle.space.specs.Layout.{disjoint, disjointFromAll, pairwise_disjoint, endBy, disjointBelow}
 use Rattle.space.specs.Free.{runs, freeRegions}
-use Rattle.program.specs.declared.Program.TheVariants.{At}
 use Rattle.program.specs.Program.{program_of, programIn, ownRegion}
 use Rattle.opening.specs.Opening.{table_of, nodesIn, opening, behindTable, regionOf, usedIn, freeOf, usedOf, layoutVerdict}
 use Rattle.small_master.specs.Image.{master, masterWords}
@@ -65,7 +64,7 @@ program = at 0x700 0x104
 pub record Reads (image : List ℕ) (nodes : List Node) (free : List DiscRegion) (size used : ℕ) : Type 0 where
   pub opens : opening image masterWords ≡ Ok tt
   pub tree : nodesIn image ≡ nodes
-  pub runs : program_of image ≡ At program
+  pub runs : program_of image ≡ Ok (Some program)
   pub header : (fstOffset image ≡ 0x440) × (fstSize image ≡ size) × (fstMaxSize image ≡ 0x28) × (discEnd image ≡ 0x2000)
   -- the free regions and the used total, once tree, program and header are read
   pub gaps : freeRegions 0x2000 (usedRegions (0x440 + size) (ownRegion 0x440 program ∷ map regionOf nodes)) ≡ free

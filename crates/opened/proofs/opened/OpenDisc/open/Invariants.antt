@@ -1,8 +1,11 @@
 -- Each part is that of the same image.
 use Rattle.opened.proofs.opened.OpenDisc.open.Given as goal
 
-abbrev pub ghost-own_region : goal.ghost-own_region
-ghost-own_region g a = g.image
+abbrev pub ghost-check_table : goal.ghost-check_table
+ghost-check_table g a = g.image
 
-abbrev pub ghost-open_parts : goal.ghost-open_parts
-ghost-open_parts g a = g.image
+abbrev pub ghost-check_program : goal.ghost-check_program
+ghost-check_program g a = g.image
+
+abbrev pub ghost-check_used : goal.ghost-check_used
+ghost-check_used g a = g.image

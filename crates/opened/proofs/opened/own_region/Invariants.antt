@@ -1,5 +1,0 @@
--- The program is that of the same image.
-use Rattle.opened.proofs.opened.own_region.Given as goal
-
-abbrev pub ghost-read_program : goal.ghost-read_program
-ghost-read_program g a = g.image

@@ -1,8 +1,0 @@
--- Each test is that of the same image.
-use Rattle.opened.proofs.whole.open_parts.Given as goal
-
-abbrev pub ghost-check_table : goal.ghost-check_table
-ghost-check_table g a = g.image
-
-abbrev pub ghost-check_program : goal.ghost-check_program
-ghost-check_program g a = g.image

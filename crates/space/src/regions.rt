@@ -1,0 +1,59 @@
+// The regions that stand in words as an iterator. Contracts see the list of those that are left.
+ghost use Rattle.std.specs.Prelude.{◌≡◌, ◌*◌, ◌≤◌, length};
+ghost use Rattle.std.specs.Iterator.{YieldsFirst, item_count};
+ghost use Rattle.space.specs.Inner.Sort.{regionsIn};
+
+use crate::DiscRegion;
+use std::marker::Model;
+
+/// The regions in words, an offset and a size each, one after the other.
+#[derive(Drop)]
+pub struct Regions<'a> {
+    words: &'a [u32],
+    count: usize,
+    next: usize,
+}
+
+impl<'a> Model for Regions<'a> {
+    ghost use Rattle.std.specs.Prelude.{◌-◌, ◌*◌, ◌≤◌, List, length};
+    ghost use Rattle.space.specs.declared.DiscRegion.{DiscRegion};
+    ghost use Rattle.space.specs.Inner.Sort.{regionsIn};
+
+    ghost Value = { List DiscRegion };
+
+    ghost view = { λ r. regionsIn r.words.now r.next (r.count - r.next) };
+
+    ghost invariant = { λ r. (2 * r.count ≤ length r.words.now) × (r.next ≤ r.count) };
+}
+
+impl<'a> Regions<'a> {
+    /// The first `count` regions in the words.
+    pub fn new(words: &'a [u32], count: usize) -> Self
+        requires { 2 * count ≤ length words.now }
+        ensures { result ≡ regionsIn words.now 0 count }
+    {
+        Regions {
+            words,
+            count,
+            next: 0,
+        }
+    }
+}
+
+impl<'a> Iterator for Regions<'a> {
+    type Item = DiscRegion;
+
+    ghost next_gives = { YieldsFirst (λ rest. rest) };
+
+    ghost remaining = { item_count (λ rest. rest) };
+
+    fn next(&mut self) -> Option<DiscRegion> {
+        if self.next == self.count {
+            return None;
+        }
+        let offset = self.words[2 * self.next];
+        let size = self.words[2 * self.next + 1];
+        self.next += 1;
+        Some(DiscRegion { offset, size })
+    }
+}
