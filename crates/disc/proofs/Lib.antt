@@ -1,3 +1,3 @@
 -- What the proofs of the functions cite.
-pub mod Answers
+pub mod Asked
 pub mod Records

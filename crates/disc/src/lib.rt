@@ -7,7 +7,8 @@ pub use regions::{
     allocate, free_clusters, free_regions, make_record, max_region_size, open, program, totals,
 };
 
-#[derive(Clone, Copy)]
+/// Where a disc ends, and how many of its bytes are used.
+#[derive(Clone, Copy, PartialEq, Eq, Debug)]
 pub struct DiscTotals {
     pub disc_end: u32,
     pub used: u32,

@@ -13,6 +13,8 @@ use Rattle.window.specs.Window.{newWindow}
 use Rattle.dol.specs.Dol.{dolHeaderOf, fileSizeOf, dolVerdictOf}
 use Rattle.tree.specs.Lookup.{lookup, found_at, entryFound}
 use Rattle.tree.specs.declared.Entry.TheVariants.{File, Directory}
+use Rattle.tree.specs.Table.{Node}
+use Rattle.tree.specs.declared.FileEntry.{FileEntry}
 use Rattle.tree.specs.declared.Found.{Found}
 use Rattle.tree.specs.declared.Found.TheVariants as found
 use Rattle.fst_list.specs.Rows.{listVerdict, listed}
@@ -23,11 +25,13 @@ use Rattle.answers.specs.Answers.{behind, discOf, maxRegionSizeAnswer}
 unfoldable pub entryAnswer : List ℕ → ℕ → ℕ → Found
 entryAnswer image words k = behind (opening image words) found.Refused (entryFound (nodesIn image) k)
 
+-- the entry of a tree that a path leads to: "path over 1,024 bytes .. 9"
+abbrev pub pathFound : List Node → ℕ → List ℕ → Found
+pathFound nodes start path =
+    behind (refuse (ltb 1024 (length path)) LimitOrMemory (Ok tt)) found.Refused (found_at nodes (lookup nodes start path))
+
 unfoldable pub lookupAnswer : List ℕ → ℕ → ℕ → List ℕ → Found
-lookupAnswer image words start path =
-    behind (opening image words) found.Refused
-    (behind (refuse (ltb 1024 (length path)) LimitOrMemory (Ok tt)) found.Refused
-    (found_at (nodesIn image) (lookup (nodesIn image) start path)))
+lookupAnswer image words start path = behind (opening image words) found.Refused (pathFound (nodesIn image) start path)
 
 -- all entries at once, into a list of so many words: six an entry (`row_of`), with the place of its name in the image
 unfoldable pub entriesAnswer : List ℕ → ℕ → ℕ → Result Disc Refusal
@@ -38,6 +42,12 @@ entriesAnswer image words room =
 
 unfoldable pub entriesList : List ℕ → ℕ → List ℕ → List ℕ
 entriesList image words list = behind (opening image words) (λ c. list) (listed (fstOffset image) (table_of image) list)
+
+-- the place of a file, by its answer as an entry
+abbrev pub fileIn : Found → Result FileEntry Refusal
+fileIn (found.At k (File f)) = Ok f
+fileIn (found.At k (Directory d)) = Err ExpectedFile
+fileIn (found.Refused c) = Err c
 
 abbrev pub windowAnswer : Found → Result Window Refusal
 windowAnswer (found.At k (File f)) = Ok (newWindow f.offset f.size)

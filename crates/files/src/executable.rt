@@ -6,6 +6,7 @@ ghost use Rattle.header.specs.Verdicts.{dolOffset};
 ghost use Rattle.opening.specs.Opening.{zeros};
 
 use crate::DolFile;
+use opened::{Lent, OpenDisc};
 use refusal::Refusal;
 
 // The answer of an image that opened.
@@ -19,11 +20,12 @@ fn dol_in(image: &[u8]) -> Result<DolFile, Refusal>
     Ok(DolFile { header, window })
 }
 
+/// The executable at the DOL offset: its header, and the window that shows it.
 pub fn open_dol(image: &[u8], words: &mut [u32]) -> Result<DolFile, Refusal>
-    ensures { (result ≡ openDolAnswer image.now (length words.old)) × (words.new ≡ zeros words.old) }
+    ensures answer { result ≡ openDolAnswer image.now (length words.old) }
+    ensures words_zero { words.new ≡ zeros words.old }
 {
-    let prepared = opening::prepare(image, words);
-    space::zero_words(words);
-    prepared?;
+    let lent = Lent::new(words);
+    OpenDisc::of_image(image, lent.memory)?;
     dol_in(image)
 }

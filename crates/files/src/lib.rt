@@ -11,7 +11,7 @@ pub use listing::entries;
 pub use lookups::{entry, lookup, max_file_size, open_file};
 use window::Window;
 
-// The executable: its header, and the window that shows it.
+/// The executable: its header, and the window that shows it.
 #[derive(Clone, Copy)]
 pub struct DolFile {
     pub header: DolHeader,

@@ -1,114 +1,85 @@
-// An image's entries: by number, by path; a file's window and the size it can grow to; the executable.
+// An image's entries: by number, by path; a file's window and the size it can grow to.
 ghost use Rattle.std.specs.Prelude.{◌≡◌, length};
+ghost use Rattle.tree.specs.Lookup.{entryFound};
 ghost use Rattle.opening.specs.Opening.{zeros};
-ghost use Rattle.opening.specs.Inner.Prepared.{Prepares};
-ghost use Rattle.files.specs.Files.{entryAnswer, lookupAnswer, windowAnswer, openFileAnswer, maxFileSizeAnswer};
+ghost use Rattle.files.specs.Files.{pathFound, fileIn, entryAnswer, lookupAnswer, openFileAnswer, maxFileSizeAnswer};
 
+use fst::Table;
+use opened::{Lent, OpenDisc};
 use refusal::Refusal;
-use tree::{Entry, Found};
+use tree::{Entry, FileEntry, Found};
 use window::Window;
 
-// The answers, once the image is prepared.
-fn entry_in(image: &[u8], words: &[u32], prepared: Result<usize, Refusal>, number: u32) -> Found
-    requires { Prepares image.now words.now prepared }
-    ensures { result ≡ entryAnswer image.now (length words.now) number }
+// Entry `number` of a disc.
+fn entry_in(disc: &OpenDisc<'_>, number: u32) -> Found
+    ensures { result ≡ entryFound disc.now.nodes number }
 {
-    match prepared {
-        Ok(_) => fst::entry(opening::table(image), number),
-        Err(cause) => Found::Refused(cause),
+    Table::new(disc.table()).entry(number)
+}
+
+// The entry of a disc that a path of at most 1,024 bytes leads to.
+fn found_in(disc: &OpenDisc<'_>, start: u32, path: &[u8]) -> Found
+    ensures { result ≡ pathFound disc.now.nodes start path.now }
+{
+    if 1024 < path.len() {
+        return Found::Refused(Refusal::LimitOrMemory);
+    }
+    fst_path::find(disc.table(), start, path)
+}
+
+// The place of file `number` of a disc: 15, then 16.
+fn file_in(disc: &OpenDisc<'_>, number: u32) -> Result<FileEntry, Refusal>
+    ensures { result ≡ fileIn (entryFound disc.now.nodes number) }
+{
+    match entry_in(disc, number) {
+        Found::At(_, Entry::File(file)) => Ok(file),
+        Found::At(_, Entry::Directory(_)) => Err(Refusal::ExpectedFile),
+        Found::Refused(cause) => Err(cause),
     }
 }
 
-fn lookup_in(
-    image: &[u8],
-    words: &[u32],
-    prepared: Result<usize, Refusal>,
-    start: u32,
-    path: &[u8],
-) -> Found
-    requires { Prepares image.now words.now prepared }
-    ensures { result ≡ lookupAnswer image.now (length words.now) start path.now }
-{
-    match prepared {
-        Ok(_) => {
-            if 1024 < path.len() {
-                return Found::Refused(Refusal::LimitOrMemory);
-            }
-            fst_path::find(opening::table(image), start, path)
-        }
-        Err(cause) => Found::Refused(cause),
-    }
-}
-
-// ---- the calls
-
-// Entry `number`.
+/// Entry `number`.
 pub fn entry(image: &[u8], words: &mut [u32], number: u32) -> Found
-    ensures { (result ≡ entryAnswer image.now (length words.old) number) × (words.new ≡ zeros words.old) }
+    ensures answer { result ≡ entryAnswer image.now (length words.old) number }
+    ensures words_zero { words.new ≡ zeros words.old }
 {
-    let prepared = opening::prepare(image, words);
-    let answer = entry_in(image, words, prepared, number);
-    space::zero_words(words);
-    answer
+    let lent = Lent::new(words);
+    match OpenDisc::of_image(image, lent.memory) {
+        Ok(disc) => entry_in(&disc, number),
+        Err(cause) => Found::Refused(cause),
+    }
 }
 
-// The entry that a path leads to from the entry `start`.
+/// The entry that a path leads to from the entry `start`. Refuses 9 for a path of more than 1,024 bytes, then 15, 17 and 18.
 pub fn lookup(image: &[u8], words: &mut [u32], start: u32, path: &[u8]) -> Found
-    ensures { (result ≡ lookupAnswer image.now (length words.old) start path.now) × (words.new ≡ zeros words.old) }
+    ensures answer { result ≡ lookupAnswer image.now (length words.old) start path.now }
+    ensures words_zero { words.new ≡ zeros words.old }
 {
-    let prepared = opening::prepare(image, words);
-    let answer = lookup_in(image, words, prepared, start, path);
-    space::zero_words(words);
-    answer
-}
-
-// The window of a file, by its answer as an entry.
-fn window_of(found: Found) -> Result<Window, Refusal>
-    ensures { result ≡ windowAnswer found }
-{
-    match found {
-        Found::At(_, entry) => match entry {
-            Entry::File(file) => Ok(Window::new(file.offset as u64, file.size as u64)),
-            Entry::Directory(_) => Err(Refusal::ExpectedFile),
-        },
-        Found::Refused(cause) => Err(cause),
+    let lent = Lent::new(words);
+    match OpenDisc::of_image(image, lent.memory) {
+        Ok(disc) => found_in(&disc, start, path),
+        Err(cause) => Found::Refused(cause),
     }
 }
 
-// The window that shows file `number`.
+/// The window that shows file `number`.
 pub fn open_file(image: &[u8], words: &mut [u32], number: u32) -> Result<Window, Refusal>
-    ensures { (result ≡ openFileAnswer image.now (length words.old) number) × (words.new ≡ zeros words.old) }
+    ensures answer { result ≡ openFileAnswer image.now (length words.old) number }
+    ensures words_zero { words.new ≡ zeros words.old }
 {
-    let found = entry(image, words, number);
-    window_of(found)
+    let lent = Lent::new(words);
+    let disc = OpenDisc::of_image(image, lent.memory)?;
+    let file = file_in(&disc, number)?;
+    Ok(Window::new(file.offset as u64, file.size as u64))
 }
 
-// The size that the file can grow to, once the image is prepared.
-fn file_size_in(
-    image: &[u8],
-    words: &[u32],
-    prepared: Result<usize, Refusal>,
-    number: u32,
-) -> Result<u32, Refusal>
-    requires { Prepares image.now words.now prepared }
-    ensures { result ≡ maxFileSizeAnswer image.now (length words.now) number }
-{
-    let found = entry_in(image, words, prepared, number);
-    match found {
-        Found::At(_, entry) => match entry {
-            Entry::File(file) => answers::sized(image, words, prepared, file.offset, file.size),
-            Entry::Directory(_) => Err(Refusal::ExpectedFile),
-        },
-        Found::Refused(cause) => Err(cause),
-    }
-}
-
-// The size that file `number` can grow to where it is.
+/// The size in bytes that file `number` can grow to where it is.
 pub fn max_file_size(image: &[u8], words: &mut [u32], number: u32) -> Result<u32, Refusal>
-    ensures { (result ≡ maxFileSizeAnswer image.now (length words.old) number) × (words.new ≡ zeros words.old) }
+    ensures answer { result ≡ maxFileSizeAnswer image.now (length words.old) number }
+    ensures words_zero { words.new ≡ zeros words.old }
 {
-    let prepared = opening::prepare(image, words);
-    let answer = file_size_in(image, words, prepared, number);
-    space::zero_words(words);
-    answer
+    let lent = Lent::new(words);
+    let disc = OpenDisc::of_image(image, lent.memory)?;
+    let file = file_in(&disc, number)?;
+    Ok(disc.max_region_size(file.offset, file.size))
 }

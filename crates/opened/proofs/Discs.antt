@@ -1,7 +1,7 @@
 -- The disc that an image means, from its parts. Assumes nothing.
-use Prim.Native.Nat.{ℕ}
+use Prim.Native.Nat.{ℕ, ◌+◌, ◌<◌, ◌^◌}
 use Rattle.std.specs.Prelude.{◌≡◌, List, length}
-use Rattle.std.proofs.Common.{refl, sym, ap, ◌∙◌}
+use Rattle.std.proofs.Common.{refl, sym, ap, ◌∙◌, arith}
 use Rattle.endian.specs.Bytes.{be32, span}
 use Rattle.header.specs.Verdicts.{dolOffset, fstOffset, fstSize, discEnd}
 use Rattle.space.specs.declared.DiscRegion.{DiscRegion}
@@ -89,6 +89,12 @@ module _ (header table : List ℕ) (own : DiscRegion) (w : List ℕ) (m : ℕ) (
         ∙ sym (length-nodesOf (table_of b.image))
         ∙ ap (λ (l : List ℕ). length (nodesOf l)) (sym b.table_is)
         ∙ ap (λ (x : Disc). length x.nodes) v
+
+    pub table_fits : d.start + length table < 2 ^ 32
+    table_fits =
+        let k = b.known.known.reads in
+        let s : fstOffset b.image ≡ d.start = ap (λ (x : Disc). x.start) shown in
+        rw (← s, b.table_is) (omega (arith, k.size, k.bounds.table, k.bounds.small))
 
     pub table_backed : TableOf d table
     table_backed = record { image = b.image; means = means_backed; is = b.table_is }

@@ -11,7 +11,8 @@ use Rattle.opening.specs.Opening.{table_of, regionOf, opening}
 use Rattle.opening.specs.Inner.Prepared.{OpenImage}
 
 pub record Disc : Type 0 where
-  -- the tree; where its table stands, and the stated maximum of the table's size
+  -- the table and its tree; where the table stands, and the stated maximum of its size
+  pub table : List ℕ
   pub nodes : List Node
   pub start : ℕ
   pub room : ℕ
@@ -25,6 +26,7 @@ pub record Disc : Type 0 where
 -- by a header, a table and the program's own region
 abbrev pub disc_in : List ℕ → List ℕ → DiscRegion → ℕ → Disc
 disc_in header table own words = record {
+  table = table;
   nodes = nodesOf table;
   start = fstOffset header;
   room = fstSize header;

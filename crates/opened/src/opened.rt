@@ -1,5 +1,5 @@
 // A disc opened: contracts see the disc that it means, and no image.
-ghost use Rattle.std.specs.Prelude.{◌≡◌, List, ℕ, length};
+ghost use Rattle.std.specs.Prelude.{◌≡◌, ◌+◌, ◌<◌, ◌^◌, List, ℕ, length};
 ghost use Rattle.tree.specs.Table.{nodesOf};
 ghost use Rattle.fst_check.specs.Inner.Reading.{Opens};
 ghost use Rattle.space.specs.Used.{totalSize};
@@ -117,9 +117,11 @@ impl<'a> OpenDisc<'a> {
 
     /// Its table, which opens.
     pub fn table(&self) -> &'a [u8]
+        ensures bytes { result.now ≡ self.now.table }
         ensures nodes { nodesOf result.now ≡ self.now.nodes }
         ensures opens { Opens result.now }
         ensures of_image { TableOf self.now result.now }
+        ensures fits { self.now.start + length result.now < 2 ^ 32 }
     {
         self.table
     }

@@ -17,12 +17,20 @@ behind-refused v f a c e = rw e
 
 -- ---- what an opened disc is asked
 
+module _ (image : List ℕ) (words : ℕ) (r : Result Disc Refusal) (h : OpensAs image words r) (d : Disc) (e : r ≡ Ok d) where
+  opened-disc : Means image d × (d.words ≡ words)
+  opened-disc = let o : OpensAs image words (Ok d) = rw e at h in o
+
+  pub opened_means : Means image d
+  opened_means = opened-disc.0
+
+  pub opened_passes : opening image words ≡ Ok tt
+  opened_passes = rw opened-disc.1 at opened-disc.0.known.passed
+
 module _ {A : Type 0} (f : Refusal → A) (a : A) (image : List ℕ) (words : ℕ) (r : Result Disc Refusal) (h : OpensAs image words r) where
   -- what it answers is the image's answer behind opening's tests
   pub asked : (d : Disc) → r ≡ Ok d → (b : A) → (Means image d → b ≡ a) → b ≡ behind (opening image words) f a
-  asked d e b g =
-      let o : OpensAs image words (Ok d) = rw e at h in
-      g o.0 ∙ behind-passed (opening image words) f a (rw o.1 at o.0.known.passed)
+  asked d e b g = g (opened_means image words r h d e) ∙ behind-passed (opening image words) f a (opened_passes image words r h d e)
 
   pub not_asked : (c : Refusal) → r ≡ Err c → f c ≡ behind (opening image words) f a
   not_asked c e = let o : OpensAs image words (Err c) = rw e at h in behind-refused (opening image words) f a c o

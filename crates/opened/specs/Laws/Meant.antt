@@ -38,6 +38,9 @@ module _ (image : List ℕ) (d : Disc) (m : Means image d) where
   pub end_meant : discEnd image ≡ d.end
   end_meant = ap (λ (x : Disc). x.end) m.is
 
+  pub table_meant : table_of image ≡ d.table
+  table_meant = ap (λ (x : Disc). x.table) m.is
+
   pub nodes_meant : nodesIn image ≡ d.nodes
   nodes_meant = nodes-shown image d.words ∙ ap (λ (x : Disc). x.nodes) m.is
 

@@ -1,13 +1,16 @@
--- `disc::regions::program` meets its contract, by the two cases of a prepared image. Assumes nothing.
+-- `disc::regions::program` meets its contract: what the image says, behind opening's tests.
+use Rattle.std.specs.Prelude.{Err}
 use Rattle.std.proofs.lemmas.Result.{err_from_is_err_and}
-use Rattle.disc.proofs.Answers.{ready-program, refused-program}
-use Rattle.opening.proofs.Words.{zeroed-kept}
+use Rattle.answers.specs.Laws.AnswerLaws.{asked, not_asked}
+use Rattle.disc.specs.Calls.{programAnswer}
 use Rattle.disc.proofs.regions.program.Goals as goal
 
-pub returns-in_err-prepared : goal.returns-in_err-prepared
-returns-in_err-prepared c =
+pub returns-in_err-of_image-clause-answer : goal.returns-in_err-of_image-clause-answer
+unfolding programAnswer
+returns-in_err-of_image-clause-answer c =
     let p = err_from_is_err_and c.from_residual.result c.from_residual.ensures.1 in
-    (rw (p.1, p.2) (search (refused-program, c.in_err-prepared.was)), search zeroed-kept)
+    rw (p.1, p.2, ← c.new-lent.ensures.memory) (not_asked Err _ _ _ _ c.of_image.ensures _ c.in_err-of_image.was)
 
-pub returns : goal.returns
-returns c = (search (ready-program, c.in_ok-prepared.was), search zeroed-kept)
+pub returns-clause-answer : goal.returns-clause-answer
+unfolding programAnswer
+returns-clause-answer c = rw (← c.new-lent.ensures.memory) (asked Err _ _ _ _ c.of_image.ensures _ c.in_ok-of_image.was _ (λ m. c.read.ensures))

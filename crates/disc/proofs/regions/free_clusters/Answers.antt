@@ -1,0 +1,30 @@
+-- `disc::regions::free_clusters` meets its contract: the free regions of the disc, behind opening's tests.
+use Rattle.std.specs.Prelude.{Err, List, length}
+use Rattle.std.proofs.lemmas.Result.{err_from_is_err_and}
+use Rattle.refusal.specs.declared.Refusal.{Refusal}
+use Rattle.space.specs.declared.DiscRegion.{DiscRegion}
+use Rattle.free_space.specs.Listing.{clusterRow, listingOf, listAfter}
+use Rattle.answers.specs.Laws.AnswerLaws.{not_asked}
+use Rattle.disc.specs.Calls.{freeAnswer, freeList}
+use Rattle.disc.proofs.Asked.{free_asked}
+use Rattle.disc.proofs.regions.free_clusters.Goals as goal
+
+pub returns-in_err-disc-clause-answer : goal.returns-in_err-disc-clause-answer
+unfolding freeAnswer
+returns-in_err-disc-clause-answer c =
+    let p = err_from_is_err_and c.from_residual.result c.from_residual.ensures.1 in
+    rw (p.1, p.2, ← c.new-lent.ensures.memory) (not_asked Err _ _ _ _ c.of_image.ensures _ c.in_err-disc.was)
+
+pub returns-clause-answer : goal.returns-clause-answer
+unfolding freeAnswer
+returns-clause-answer c = rw (← c.new-lent.ensures.memory) (free_asked Err (λ (l : List DiscRegion). listingOf clusterRow l (length c.args.list.now)) _ _ _ c.of_image.ensures _ c.in_ok-disc.was _ c.used_regions.ensures.free _ c.list_free.ensures.answer)
+
+pub returns-in_err-disc-clause-list_after : goal.returns-in_err-disc-clause-list_after
+unfolding freeList
+returns-in_err-disc-clause-list_after c =
+    rw (← c.new-lent.ensures.memory) (not_asked (λ (x : Refusal). c.args.list.now) _ _ _ _ c.of_image.ensures _ c.in_err-disc.was)
+
+pub returns-clause-list_after : goal.returns-clause-list_after
+unfolding freeList
+returns-clause-list_after c =
+    rw (← c.new-lent.ensures.memory) (free_asked (λ (x : Refusal). c.args.list.now) (λ (l : List DiscRegion). listAfter clusterRow l c.args.list.now) _ _ _ c.of_image.ensures _ c.in_ok-disc.was _ c.used_regions.ensures.free _ c.list_free.ensures.list_after)

@@ -1,0 +1,20 @@
+-- `disc::regions::max_region_size` meets its contract: what the disc answers, behind opening's tests.
+use Rattle.std.specs.Prelude.{Ok, Err, List}
+use Rattle.std.proofs.Common.{ap, refl}
+use Rattle.std.proofs.lemmas.Result.{err_from_is_err_and}
+use Rattle.space.specs.declared.DiscRegion.{DiscRegion}
+use Rattle.free_space.specs.MaxRegionSize.{maxRegionSize}
+use Rattle.answers.specs.Answers.{maxRegionSizeAnswer}
+use Rattle.answers.specs.Laws.AnswerLaws.{not_asked}
+use Rattle.disc.proofs.Asked.{free_asked}
+use Rattle.disc.proofs.regions.max_region_size.Goals as goal
+
+pub returns-in_err-disc-clause-answer : goal.returns-in_err-disc-clause-answer
+unfolding maxRegionSizeAnswer
+returns-in_err-disc-clause-answer c =
+    let p = err_from_is_err_and c.from_residual.result c.from_residual.ensures.1 in
+    rw (p.1, p.2, ← c.new-lent.ensures.memory) (not_asked Err _ _ _ _ c.of_image.ensures _ c.in_err-disc.was)
+
+pub returns-clause-answer : goal.returns-clause-answer
+unfolding maxRegionSizeAnswer
+returns-clause-answer c = rw (← c.new-lent.ensures.memory) (free_asked Err (λ (l : List DiscRegion). Ok (maxRegionSize c.args.offset c.args.size l)) _ _ _ c.of_image.ensures _ c.in_ok-disc.was _ refl _ (ap Ok c.max_region_size.ensures))
