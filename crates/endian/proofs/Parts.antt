@@ -1,5 +1,5 @@
 -- A span put in parts, the lowest first or the highest first, is put whole: a part is read before it is written over. Assumes nothing.
-use Prim.Native.Nat.{ℕ, ◌+◌, ◌-◌, ◌≤◌}
+use Prim.Native.Nat.{ℕ, ◌+◌, ◌-◌, ◌*◌, ◌<◌, ◌≤◌, min}
 use mathlib.Core.Path.{◌≡◌, refl, sym, ap, ◌∙◌}
 use mathlib.Core.Logic.{◌⊎◌, ⊎_elim}
 use mathlib.Core.List.{List, ◌++◌, append_assoc}
@@ -8,7 +8,7 @@ use lib.ListN.{length, take, drop, length-append}
 use borrow.Rule.Slice.PartMut.{put_mid}
 use lib.Seq.{length-take-le, take_at, drop_at, take-append-le, take-take, take-add, drop-drop}
 use Rattle.endian.specs.Bytes.{put, span}
-use Rattle.endian.specs.Laws.Stored.{length-put, put-before, put-after, drop-put, span-put, length-span, span_ext}
+use Rattle.endian.specs.Laws.Stored.{length-put, put-before, put-after, put-none, drop-put, span-put, length-span, span_ext}
 
 put-open : (s : List ℕ) (at : ℕ) (bs : List ℕ) → put s at bs ≡ take at s ++ (bs ++ drop (at + length bs) s)
 unfolding put
@@ -58,9 +58,6 @@ pub put-length : (s₀ s : List ℕ) (from to n : ℕ) → s ≡ put s₀ to (sp
 put-length s₀ s from to n e h k =
     rw e (length-put s₀ to (span s₀ from n) (rw (length-span s₀ from n h) k))
 
-pub put-from-length : (s₀ s : List ℕ) (from to n j : ℕ) → s ≡ put s₀ (to + j) (span s₀ (from + j) (n - j)) → j ≤ n → from ≤ to → to + n ≤ length s₀ → length s ≡ length s₀
-put-from-length s₀ s from to n j e h up fits = put-length s₀ s (from + j) (to + j) (n - j) e (omega arith) (omega arith)
-
 -- by way of an array that has room for n bytes
 pub by_way : (s c c' t : List ℕ) (from to n : ℕ) → c' ≡ put c 0 (span s from n) → t ≡ put s to (span c' 0 n) → n ≤ length c → from + n ≤ length s
     → t ≡ put s to (span s from n)
@@ -101,6 +98,39 @@ up-part s₀ s t from to n left j k is e f h fits up =
     let v : from + left ≡ from + j + k = omega arith in
     let w : span s₀ (from + j) (n - j) ≡ a ++ b = rw (q, v) (span-add s₀ (from + j) k (n - left)) in
     f ∙ rw (r, e) (put-prepend s₀ (to + j) a (to + left) b (omega arith) (omega arith)) ∙ ap (λ (x : List ℕ). put s₀ (to + j) x) (sym w)
+
+-- ---- parts of 65,536 bytes
+
+-- the first k parts are put, and one more
+abbrev pub Down : List ℕ → List ℕ → ℕ → ℕ → ℕ → ℕ → Type 0
+Down s₀ s from to n k = s ≡ put s₀ to (span s₀ from (min (65536 * k) n))
+
+-- the parts from part k on are put
+abbrev pub Up : List ℕ → List ℕ → ℕ → ℕ → ℕ → ℕ → Type 0
+Up s₀ s from to n k = s ≡ put s₀ (to + min (65536 * k) n) (span s₀ (from + min (65536 * k) n) (n - min (65536 * k) n))
+
+module _ (s₀ : List ℕ) (from to n : ℕ) (fits : to + n ≤ length s₀) where
+  module _ (s t : List ℕ) (k : ℕ) (f : t ≡ put s (to + 65536 * k) (span s (from + 65536 * k) (min (n - 65536 * k) 65536))) (some : 65536 * k < n) where
+    here : min (65536 * k) n ≡ 65536 * k
+    here = omega arith
+
+    there : min (65536 * (k + 1)) n ≡ 65536 * k + min (n - 65536 * k) 65536
+    there = omega arith
+
+    pub down-turn : Down s₀ s from to n k → from + n ≤ length s₀ → (to ≤ from) ⊎ (from + n ≤ to) → Down s₀ t from to n (k + 1)
+    down-turn e h way = rw there (down-part s₀ s t from to n (65536 * k) (min (n - 65536 * k) 65536) (rw here at e) f (omega arith) h fits way)
+
+    pub up-turn : (j : ℕ) → j ≡ k + 1 → Up s₀ s from to n j → from ≤ to → Up s₀ t from to n k
+    up-turn j next e up = rw here (up-part s₀ s t from to n (min (65536 * (k + 1)) n) (65536 * k) (min (n - 65536 * k) 65536) there (rw next at e) f (omega arith) fits up)
+
+  pub down-start : Down s₀ s₀ from to n 0
+  down-start = let z : min (65536 * 0) n ≡ 0 = omega arith in rw z (sym (put-none s₀ to))
+
+  pub up-start : (k : ℕ) → n ≤ 65536 * k → Up s₀ s₀ from to n k
+  up-start k h =
+      let m : min (65536 * k) n ≡ n = omega arith in
+      let z : n - n ≡ 0 = omega arith in
+      rw (m, z) (sym (put-none s₀ (to + n)))
 
 -- ---- a part that a slice's own methods wrote
 

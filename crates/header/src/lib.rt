@@ -1,21 +1,22 @@
 // The disc header: 21 fields in the first 0x440 bytes of an image.
 #![tactic(auto)]
 
-ghost use Rattle.std.specs.Prelude.{◌≡◌, ◌+◌, ◌<◌, get_or};
+ghost use Rattle.std.specs.Prelude.{◌≡◌, ◌<◌, slice_index};
 ghost use Rattle.refusal.specs.Refusal.{first};
 ghost use Rattle.endian.specs.Bytes.{be32};
-ghost use Rattle.header.specs.Inner.Judged.{field_at};
 ghost use Rattle.header.specs.Verdicts.{fieldVerdict, headerVerdict, dolOffset, fstOffset, fstSize, fstMaxSize, discEnd, table_end, boundsVerdict};
 ghost use Rattle.header.specs.Inner.Judged.{Judged};
 
 use refusal::{Refusal, Verdict};
 
+/// The word at 0x1C of a GameCube disc.
 pub const GCN_MAGIC: u32 = 0xC2339F3D;
 
+/// The word at 0x18 of a Wii disc.
 pub const WII_MAGIC: u32 = 0x5D1C9EA3;
 
-// The place of a field: its offset, and how many bytes it has.
-#[derive(Clone, Copy)]
+/// The place of a field: its offset, and how many bytes it has.
+#[derive(Clone, Copy, PartialEq, Eq, Debug)]
 pub struct Field {
     pub at: usize,
     pub len: usize,
@@ -90,44 +91,31 @@ const FIELDS: [Field; 21] = [
     Field::UNUSED_43C,
 ];
 
-// The field with number k.
-fn field_at(k: usize) -> Field
-    requires { k < 21 }
-    ensures { result ≡ field_at k }
-{
-    FIELDS[k]
-}
-
 // The tests made as a field is read.
+#[tactic(auto, using(std::proofs::lemmas::Bool::Decides::nat_tests), unfolding(crate::specs::Verdicts::fieldVerdict))]
 fn check_field(image: &[u8], f: Field) -> Verdict
     requires { Judged f }
     ensures { result ≡ fieldVerdict image.now f }
 {
-    let at = f.at;
-    if image.len() < at + f.len {
+    if image.len() < f.at + f.len {
         return Err(Refusal::HeaderPastImage);
     }
-    if at == Field::WII_MAGIC.at {
-        if endian::read_u32(image, at) == WII_MAGIC {
-            return Err(Refusal::WiiNotSupported);
-        }
-        return Ok(());
+    if f.at == Field::WII_MAGIC.at && endian::read_u32(image, f.at) == WII_MAGIC {
+        return Err(Refusal::WiiNotSupported);
     }
-    if at == Field::GCN_MAGIC.at {
-        if endian::read_u32(image, at) == GCN_MAGIC {
-            return Ok(());
-        }
+    if f.at == Field::GCN_MAGIC.at && endian::read_u32(image, f.at) != GCN_MAGIC {
         return Err(Refusal::InvalidMagic);
     }
     Ok(())
 }
 
-// Field by field: 1 at the first that the image does not hold, 2 and 3 as soon as their magic is read.
+/// The header's tests, field by field: `HeaderPastImage` at the first that the image does not hold, `WiiNotSupported` and
+/// `InvalidMagic` as soon as their magic is read.
 pub fn check(image: &[u8]) -> Verdict
     ensures { result ≡ headerVerdict image.now }
 {
-    for k in 0..21 {
-        check_field(image, field_at(k))?;
+    for field in FIELDS.iter() {
+        check_field(image, *field)?;
     }
     Ok(())
 }
@@ -135,91 +123,86 @@ pub fn check(image: &[u8]) -> Verdict
 // ---- what the header of an image says of the disc, for the layers above: they ask once the header has passed. In an image too short for
 // a field a byte past the end reads as 0, so that the answer is settled there too.
 
-fn byte_at(image: &[u8], at: usize) -> u32
-    ensures { (result ≡ get_or image.now at 0) × (result < 256) }
+fn byte_at(image: &[u8], at: usize) -> u8
+    ensures { result ≡ slice_index image.now at }
 {
-    if at < image.len() {
-        return image[at] as u32;
-    }
-    0
+    image.get(at).copied().unwrap_or(0)
 }
 
 // The number in a field of 4 bytes.
+#[tactic(auto, unfolding(endian::specs::Bytes::be32))]
 fn word_at(image: &[u8], at: usize) -> u32
     requires { at < 0x440 }
     ensures { result ≡ be32 image.now at }
 {
-    let high = byte_at(image, at) * 256 + byte_at(image, at + 1);
-    let low = byte_at(image, at + 2) * 256 + byte_at(image, at + 3);
-    high * 65536 + low
+    u32::from_be_bytes([
+        byte_at(image, at),
+        byte_at(image, at + 1),
+        byte_at(image, at + 2),
+        byte_at(image, at + 3),
+    ])
 }
 
+/// Where the executable's header stands, 0 if there is none.
 pub fn dol_offset(image: &[u8]) -> u32
     ensures { result ≡ dolOffset image.now }
 {
     word_at(image, Field::DOL_OFFSET.at)
 }
 
+/// Where the file table stands.
 pub fn fst_offset(image: &[u8]) -> u32
     ensures { result ≡ fstOffset image.now }
 {
     word_at(image, Field::FST_OFFSET.at)
 }
 
+/// How many bytes the file table has.
 pub fn fst_size(image: &[u8]) -> u32
     ensures { result ≡ fstSize image.now }
 {
     word_at(image, Field::FST_SIZE.at)
 }
 
+/// How many bytes a file table of this disc may have.
 pub fn fst_max_size(image: &[u8]) -> u32
     ensures { result ≡ fstMaxSize image.now }
 {
     word_at(image, Field::FST_MAX_SIZE.at)
 }
 
-// The sum of two words: it never wraps.
-fn sum(a: u32, b: u32) -> u64
-    ensures { result ≡ a + b }
-{
-    a as u64 + b as u64
-}
-
+/// Where the disc ends: its user size and its disc size together.
 pub fn disc_end(image: &[u8]) -> u64
     ensures { result ≡ discEnd image.now }
 {
-    let user_size = word_at(image, Field::USER_SIZE.at);
-    let disc_size = word_at(image, Field::DISC_SIZE.at);
-    sum(user_size, disc_size)
+    u64::from(word_at(image, Field::USER_SIZE.at)) + u64::from(word_at(image, Field::DISC_SIZE.at))
 }
 
+/// Where the file table ends.
 pub fn table_end(image: &[u8]) -> u64
     ensures { result ≡ table_end image.now }
 {
-    sum(fst_offset(image), fst_size(image))
+    u64::from(fst_offset(image)) + u64::from(fst_size(image))
 }
 
-// The places that the header gives: 4. The table is held to the disc end, and not to the image's.
+// The places that the header gives: `InvalidBounds`. The table is held to the disc end, and not to the image's.
+#[tactic(auto, using(std::proofs::lemmas::Bool::Decides::nat_tests), unfolding(crate::specs::Verdicts::boundsVerdict))]
 fn bounds(image: &[u8]) -> Verdict
     ensures { result ≡ boundsVerdict image.now }
 {
-    if fst_offset(image) < 0x440 {
-        return Err(Refusal::InvalidBounds);
-    }
     let end = disc_end(image);
-    if 0xFFFF_FFFF < end {
-        return Err(Refusal::InvalidBounds);
-    }
-    if end < table_end(image) {
-        return Err(Refusal::InvalidBounds);
-    }
-    if (image.len() as u64) < end {
+    if fst_offset(image) < 0x440
+        || u64::from(u32::MAX) < end
+        || end < table_end(image)
+        || (image.len() as u64) < end
+    {
         return Err(Refusal::InvalidBounds);
     }
     Ok(())
 }
 
-// The header's own tests, then the places that it gives.
+/// The header's own tests, then the places that it gives: `InvalidBounds` if the table begins inside the header, or the disc
+/// ends past 2^32 - 1, before its table does or past the image's end.
 pub fn check_bounds(image: &[u8]) -> Verdict
     ensures { result ≡ first (headerVerdict image.now) (boundsVerdict image.now) }
 {

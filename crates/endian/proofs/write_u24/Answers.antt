@@ -1,14 +1,7 @@
--- `endian::write_u24` meets its contract: single stores, one behind the other, put the bytes.
-use native.Mathlib.Omega.{arith}
-use lib.ListN.{length-set}
-use Rattle.endian.proofs.Turns.{stores-3}
+-- `endian::write_u24` meets its contract: the lowest three bytes of the number are put.
+use Rattle.std.proofs.Common.{refl, ◌∙◌}
+use Rattle.endian.proofs.Parts.{part-put}
 use Rattle.endian.proofs.write_u24.Goals as goal
 
-pub bounds-s-at-2 : goal.bounds-s-at-2
-bounds-s-at-2 c = simp length-set (omega arith)
-
-pub bounds-s-at-3 : goal.bounds-s-at-3
-bounds-s-at-3 c = simp length-set (omega arith)
-
 pub returns : goal.returns
-returns c = stores-3 _ _ _ _ _ (omega arith)
+returns c = part-put c.args.s.now _ _ c.args.at 3 (c.copy_from_slice.ensures.after ∙ rw c.to_be_bytes.ensures) refl

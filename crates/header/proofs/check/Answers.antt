@@ -1,26 +1,24 @@
 -- `header::check` meets its contract: the fields that are left give the answer of all, as long as none refuses.
-use mathlib.Core.Path.{refl, sym, ◌∙◌}
-use native.Mathlib.Omega.{arith}
-use Rattle.header.specs.Verdicts.{headerVerdict}
-use Rattle.header.specs.Laws.FieldTests.{judged}
-use Rattle.header.proofs.Turns.{fields-end, fields-stop, fields_go}
+use Rattle.std.proofs.Common.{refl, sym, ◌∙◌}
 use Rattle.std.proofs.lemmas.Result.{err_from_is_err_and}
+use Rattle.header.specs.Fields.{fields}
+use Rattle.header.specs.Verdicts.{headerVerdict}
+use Rattle.header.proofs.Turns.{fields-end, fields-stop, fields_go}
 use Rattle.header.proofs.check.Goals as goal
 
-pub loop-k-init : goal.loop-k-init
+pub loop-field-init : goal.loop-field-init
 unfolding headerVerdict
-loop-k-init c = (omega arith, refl)
-
-pub check_field-requires : goal.check_field-requires
-check_field-requires c = rw c.field_at.ensures (judged c.loop-k.k c.loop-k-test.true)
+loop-field-init c = refl
 
 pub returns-in_err-check_field : goal.returns-in_err-check_field
+unfolding fields
 returns-in_err-check_field c =
     let p = err_from_is_err_and c.from_residual.result c.from_residual.ensures.1 in
-    rw (p.1, p.2) (sym (c.loop-k.invariant.1 ∙ fields-stop _ _ _ c.loop-k-test.true (rw c.field_at.ensures at c.in_err-check_field.ensures) refl))
+    rw (p.1, p.2) (sym (c.loop-field.invariant ∙ fields-stop _ _ _ c.loop-field-test.true c.in_err-check_field.ensures refl))
 
-pub loop-k-preserved : goal.loop-k-preserved
-loop-k-preserved c = (omega arith, c.loop-k.invariant.1 ∙ fields_go _ _ _ c.loop-k-test.true (rw c.field_at.ensures at c.in_ok-check_field.ensures) refl)
+pub loop-field-preserved : goal.loop-field-preserved
+unfolding fields
+loop-field-preserved c = c.loop-field.invariant ∙ fields_go _ _ _ c.loop-field-test.true c.in_ok-check_field.ensures refl
 
 pub returns : goal.returns
-returns c = sym (c.loop-k.invariant.1 ∙ fields-end _ _ c.loop-k-test.false)
+returns c = sym (c.loop-field.invariant ∙ fields-end _ _ c.loop-field-test.false)

@@ -1,10 +1,8 @@
 -- `header::check` meets its contract: the fields that are left give the answer of all, as long as none refuses.
-use Prim.Native.Nat.{◌≤◌}
-use mathlib.Core.Path.{◌≡◌}
-use lib.ListN.{drop}
+use Rattle.std.proofs.Common.{◌≡◌, drop}
 use Rattle.header.specs.Fields.{fields}
 use Rattle.header.specs.Verdicts.{fieldsVerdict, headerVerdict}
 use Rattle.header.proofs.check.Given as goal
 
-abbrev pub invariant-loop-k : goal.invariant-loop-k
-invariant-loop-k l = (l.k ≤ 21) × (headerVerdict l.image ≡ fieldsVerdict l.image (drop l.k fields))
+abbrev pub invariant-loop-field : goal.invariant-loop-field
+invariant-loop-field l = headerVerdict l.image ≡ fieldsVerdict l.image (drop l.field-index fields)
