@@ -55,9 +55,11 @@ impl Row<3> for Clusters {
 
     ghost width = { λ _. refl };
 
-    fn row(region: DiscRegion) -> [u32; 3] {
+    fn put(region: DiscRegion, row: &mut [u32]) {
         let counted = Clusters::from(region);
-        [counted.before, counted.clusters, counted.rest]
+        row[0] = counted.before;
+        row[1] = counted.clusters;
+        row[2] = counted.rest;
     }
 }
 

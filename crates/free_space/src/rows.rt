@@ -10,9 +10,10 @@ use space::DiscRegion;
 pub trait Row<const N: usize> {
     ghost words_of: { DiscRegion → List ℕ };
 
-    /// The words of a region.
-    fn row(region: DiscRegion) -> [u32; N]
-        ensures { result ≡ words_of region };
+    /// Writes the words of a region.
+    fn put(region: DiscRegion, row: &mut [u32])
+        requires { length row.old ≡ N }
+        ensures { row.new ≡ words_of region };
 
     ghost some: { 0 < N };
 
@@ -26,7 +27,8 @@ impl Row<2> for DiscRegion {
 
     ghost width = { λ _. refl };
 
-    fn row(region: DiscRegion) -> [u32; 2] {
-        [region.offset, region.size]
+    fn put(region: DiscRegion, row: &mut [u32]) {
+        row[0] = region.offset;
+        row[1] = region.size;
     }
 }

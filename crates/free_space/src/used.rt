@@ -132,7 +132,7 @@ impl<'a> UsedRegions<'a> {
         }
         let mut at = 0;
         for region in self.free_regions() {
-            list[at..at + N].copy_from_slice(&R::row(region));
+            R::put(region, &mut list[at..at + N]);
             at += N;
         }
         Ok(found)

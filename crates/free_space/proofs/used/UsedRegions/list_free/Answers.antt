@@ -1,5 +1,5 @@
 -- `UsedRegions::list_free` meets its contract: the regions listed, and those that are left, are the free regions.
-use Rattle.std.proofs.Common.{rules, ◌∙◌, arith}
+use Rattle.std.proofs.Common.{rules, arith}
 use Rattle.endian.proofs.Parts.{part-put}
 use Rattle.free_space.specs.UsedSpace.{free_in}
 use Rattle.free_space.proofs.Listed.{list-short, list-fits, short-by-rows, fits-by-rows}
@@ -31,8 +31,8 @@ offset_bounds-list-at g c =
     let i = rw c.in-Some.ensures.steps at c.loop-region.invariant in
     omega (arith, listed-room _ _ _ _ _ _ _ i.2 g.row.N (row.width _) (fits-by-rows _ g.row.N row.some row.width _ _ _ c.count_free-found.ensures c.if-list-found.false))
 
-pub slice_bounds-copy_from_slice-end : goal.slice_bounds-copy_from_slice-end
-slice_bounds-copy_from_slice-end g c =
+pub slice_bounds-put-end : goal.slice_bounds-put-end
+slice_bounds-put-end g c =
     let row = g.met.R.Row in
     let i = rw c.in-Some.ensures.steps at c.loop-region.invariant in
     let r = listed-room _ _ _ _ _ _ _ i.2 g.row.N (row.width _) (fits-by-rows _ g.row.N row.some row.width _ _ _ c.count_free-found.ensures c.if-list-found.false) in
@@ -43,7 +43,7 @@ loop-region-preserved g c =
     let row = g.met.R.Row in
     let i = rw c.in-Some.ensures.steps at c.loop-region.invariant in
     let fits = fits-by-rows _ g.row.N row.some row.width _ _ _ c.count_free-found.ensures c.if-list-found.false in
-    (tt, tt, listed-one _ _ _ _ _ _ _ i.2 g.row.N (row.width _) fits _ (part-put _ _ _ _ g.row.N (c.copy_from_slice.ensures.after ∙ c.row.ensures) (row.width _)))
+    (tt, tt, listed-one _ _ _ _ _ _ _ i.2 g.row.N (row.width _) fits _ (part-put _ _ _ _ g.row.N c.put.ensures (row.width _)))
 
 pub returns-clause-answer : goal.returns-clause-answer
 returns-clause-answer g c =
