@@ -3,5 +3,6 @@ pub mod Measuring
 pub mod Names
 pub mod Nesting
 pub mod Puts
+pub mod Sources
 pub mod Split
 pub mod Whole

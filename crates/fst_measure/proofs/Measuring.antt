@@ -1,11 +1,11 @@
 -- The size of the entries before k, over the turns of the loop that measures. Assumes nothing.
 use Prim.Native.Nat.{ℕ, ◌+◌, ◌-◌, ◌*◌, ◌≤◌, ◌<◌}
-use mathlib.Core.Path.{◌≡◌, sym, ◌∙◌}
+use mathlib.Core.Path.{◌≡◌, sym, ap, ◌∙◌}
 use mathlib.Core.List.{List, tail}
 use native.Mathlib.Omega.{arith}
 use borrow.Author.Tests.{lt-ltb, le-ltb}
 use lib.ListN.{length, get_or}
-use Rattle.tree.specs.Table.{name_of, none, nodesOf, textsOf}
+use Rattle.tree.specs.Table.{name_of, none, count, nameOffset, name_at, nodesOf, textsOf}
 use Rattle.tree.specs.Laws.Accepted.{length-nodesOf}
 use Rattle.tree.specs.Laws.Size.{sizeTo, size-root, size-next, size-whole}
 use Rattle.tree.specs.Laws.Writing.{start-inside, start-end}
@@ -15,6 +15,11 @@ use Rattle.fst_measure.specs.Inner.Valid.{Valid, nameSize}
 use Rattle.fst_measure.specs.Inner.Measure.{measureOf}
 use Rattle.fst_measure.proofs.Nesting.{count-is, node_at}
 use Rattle.fst_measure.proofs.Whole.{name-is}
+
+-- the length of a name that was read
+pub name-length : (tab : List ℕ) (n k : ℕ) (name : List ℕ) → n ≡ count tab → name ≡ name_at tab (count tab) (nameOffset tab k) → length name ≡ nameSize tab n k
+unfolding nameSize
+name-length tab n k name e r = rw e (ap length r)
 
 -- the entries before k of a table of n are measured, and their texts do not pass the limit
 pub record Upto (tab : List ℕ) (n size k : ℕ) : Type 0 where

@@ -3,20 +3,26 @@
 
 ghost use Rattle.std.specs.Prelude.{◌≡◌, ◌++◌, ◌+◌, ◌-◌, ◌*◌, ◌≤◌, ◌<◌, length, take};
 ghost use Rattle.endian.specs.Bytes.{put, be32Bytes};
-ghost use Rattle.tree.specs.Table.{sizeOrNext, count};
+ghost use Rattle.tree.specs.Table.{sizeOrNext};
 ghost use Rattle.tree.specs.Inner.Patch.{records, recordBefore, recordAfter, patchedRecord, insertPatch};
 ghost use Rattle.fst_raise.specs.Inner.Inserting.{newNode, EachRaisable, NamesGrow, Patchable, newTexts, start_in, Insertable};
 
-// The entries behind the new one at q: all move at once, then each is raised where it stands.
-fn patch_behind(table: &mut [u8], count: usize, q: usize, grow: usize)
-    requires { (12 * count + 12 ≤ length table.old) × (q ≤ count) × EachRaisable table.old count × NamesGrow table.old count grow }
-    ensures { table.new ≡ put table.old (12 * (q + 1)) (records (recordAfter table.old q grow) q (count - q)) }
+use fst_raise::{NewEntry, Shift};
+
+// The entries behind the new one: all move at once, then each is raised where it stands.
+fn patch_behind(table: &mut [u8], count: usize, shift: Shift)
+    requires { (12 * count + 12 ≤ length table.old) × (shift.number ≤ count) × EachRaisable table.old count × NamesGrow table.old count shift.text }
+    ensures { table.new ≡ put table.old (12 * (shift.number + 1)) (records (recordAfter table.old shift.number shift.text) shift.number (count - shift.number)) }
 {
-    endian::copy_within(table, 12 * q, 12 * (q + 1), 12 * (count - q));
-    let mut k = count;
-    while q < k {
-        fst_raise::raise(table, k, q, grow);
-        k -= 1;
+    let first = shift.number + 1;
+    endian::copy_within(
+        table,
+        12 * shift.number,
+        12 * first,
+        12 * (count - shift.number),
+    );
+    for k in (first..count + 1).rev() {
+        shift.raise(table, k);
     }
 }
 
@@ -25,29 +31,24 @@ fn patch_up_to(table: &mut [u8], p: usize)
     requires { (12 * (p + 1) ≤ length table.old) × EachRaisable table.old (p + 1) }
     ensures { table.new ≡ put table.old 0 (records (recordBefore table.old p) 0 (p + 1)) }
 {
-    let mut k = p + 1;
-    while 0 < k {
-        k -= 1;
+    for k in (0..p + 1).rev() {
         fst_raise::patch_before(table, k, p);
     }
 }
 
-// All records of the new table. Those behind the new one move before it is written over the first of them; those between p and it stay.
-fn patch_records(
-    table: &mut [u8],
-    count: usize,
-    p: usize,
-    q: usize,
-    is_directory: bool,
-    start: usize,
-    name: &[u8],
-)
-    requires { Patchable table.old count p q start (length name.now + 1) }
-    ensures { table.new ≡ put table.old 0 (records (patchedRecord table.old p q (newNode is_directory name.now q) start) 0 (count + 1)) }
+// All records of the new table. Those behind the new one move before it is written over the first of them; those between its directory and it
+// stay.
+fn patch_records(table: &mut [u8], count: usize, entry: &NewEntry<'_>)
+    requires { Patchable table.old count entry.now.parent entry.now.number entry.now.start (length entry.now.name.now + 1) }
+    ensures { table.new ≡ put table.old 0 (records (patchedRecord table.old entry.now.parent entry.now.number (newNode entry.now.is_directory entry.now.name.now entry.now.number) entry.now.start) 0 (count + 1)) }
 {
-    patch_behind(table, count, q, name.len() + 1);
-    fst_raise::write_new(table, p, q, is_directory, start);
-    patch_up_to(table, p);
+    let shift = Shift {
+        number: entry.number,
+        text: entry.name.len() + 1,
+    };
+    patch_behind(table, count, shift);
+    entry.write(table);
+    patch_up_to(table, entry.parent);
 }
 
 // The texts of `count` entries, from 12 bytes further on, with the new name where `start` bytes of them are passed.
@@ -75,22 +76,29 @@ fn new_start(table: &[u8], size: usize, count: usize, q: usize) -> usize
     }
 }
 
-// Puts an empty directory or an empty file in as the last child of directory p of the table that stands in the first `size` bytes, and
-// returns its number. The new table has 12 + name.len() + 1 bytes more.
+/// Puts an empty directory or an empty file in as the last child of directory p of the table that stands in the first `size` bytes, and
+/// returns its number. The new table has 12 + name.len() + 1 bytes more.
 pub fn insert(table: &mut [u8], size: usize, p: usize, is_directory: bool, name: &[u8]) -> usize
     requires { Insertable table.old size p (length name.now) }
     ensures value { result ≡ sizeOrNext table.old p }
     ensures table_after { table.new ≡ put table.old 0 (insertPatch (take size table.old) (sizeOrNext table.old 0) p (newNode is_directory name.now (sizeOrNext table.old p))) }
 {
     let count = endian::read_u32(table, 8) as usize;
-    let q = endian::read_u32(table, 12 * p + 8) as usize;
-    let start = new_start(table, size, count, q);
+    let number = endian::read_u32(table, 12 * p + 8) as usize;
+    let start = new_start(table, size, count, number);
     insert_text(table, size, count, start, name);
-    patch_records(table, count, p, q, is_directory, start, name);
-    q
+    let entry = NewEntry {
+        is_directory,
+        name,
+        parent: p,
+        number,
+        start,
+    };
+    patch_records(table, count, &entry);
+    number
 }
 
-// Sets the offset and the size of file k of a written table.
+/// Sets the offset and the size of file k of a written table.
 pub fn set_place(table: &mut [u8], k: usize, offset: u32, size: u32)
     requires { 12 * k + 12 ≤ length table.old }
     ensures { table.new ≡ put table.old (12 * k + 4) (be32Bytes offset ++ be32Bytes size) }

@@ -6,26 +6,57 @@ ghost use Rattle.endian.specs.Bytes.{put};
 ghost use Rattle.tree.specs.Table.{nameOffset, nodeBytes};
 ghost use Rattle.tree.specs.Insert.{shifted};
 ghost use Rattle.tree.specs.Inner.Patch.{recordBefore, recordAfter};
+ghost use Rattle.fst_record.specs.Record.{bytes_of};
 ghost use Rattle.fst_raise.specs.Inner.Inserting.{newNode, Raisable};
 
-// The parent of a directory that moves behind the new entry at q: one more, if the parent moves too.
-fn place_after(q: usize, place: u32) -> u32
-    requires { place + 1 < 2 ^ 32 }
-    ensures { result ≡ shifted q place }
-{
-    if q <= place as usize {
-        place + 1
-    } else {
-        place
+use fst_measure::Kind;
+use fst_record::Record;
+
+/// How what stands behind a new entry moves.
+#[derive(Clone, Copy, PartialEq, Eq, Debug)]
+pub struct Shift {
+    /// The number of the new entry: those from it on get the next number.
+    pub number: usize,
+    /// The bytes of its text, with the zero byte: the texts behind it move up by so many.
+    pub text: usize,
+}
+
+impl Shift {
+    // The parent of a directory that moves behind the new entry: one more, if the parent moves too.
+    fn parent(self, parent: u32) -> u32
+        requires { parent + 1 < 2 ^ 32 }
+        ensures { result ≡ shifted self.number parent }
+    {
+        if self.number <= parent as usize {
+            parent + 1
+        } else {
+            parent
+        }
+    }
+
+    /// Entry k, which has moved behind the new one: the name offset grows by the new text, and a directory ends one later, and its parent may
+    /// have moved too. Each field is read and written back as one word, and the first holds the kind above the name offset.
+    pub fn raise(self, table: &mut [u8], k: usize)
+        requires { (12 * k + 12 ≤ length table.old) × Raisable table.old k × (nameOffset table.old k + self.text < 2 ^ 24) }
+        ensures { table.new ≡ put table.old (12 * k) (recordAfter table.old self.number self.text k) }
+    {
+        let first = endian::read_u32(table, 12 * k) + self.text as u32;
+        endian::write_u32(table, 12 * k, first);
+        if 0x1000000 <= first {
+            let place = endian::read_u32(table, 12 * k + 4);
+            endian::write_u32(table, 12 * k + 4, self.parent(place));
+            let next = endian::read_u32(table, 12 * k + 8);
+            endian::write_u32(table, 12 * k + 8, next + 1);
+        }
     }
 }
 
-// Entry k, which stays before the new one: directory p and those around it end one later, and nothing else changes.
+/// Entry k, which stays before the new one: directory p and those around it end one later, and nothing else changes.
 pub fn patch_before(table: &mut [u8], k: usize, p: usize)
     requires { (k ≤ p) × (12 * k + 12 ≤ length table.old) × Raisable table.old k }
     ensures { table.new ≡ put table.old (12 * k) (recordBefore table.old p k) }
 {
-    if endian::read_u8(table, 12 * k) == 1 {
+    if endian::read_u8(table, 12 * k) == Kind::Directory.number() {
         let next = endian::read_u32(table, 12 * k + 8);
         if p < next as usize {
             endian::write_u32(table, 12 * k + 8, next + 1);
@@ -33,30 +64,48 @@ pub fn patch_before(table: &mut [u8], k: usize, p: usize)
     }
 }
 
-// Entry k, which has moved behind the new one at q: the name offset grows by the new text, and a directory ends one later, and its parent may
-// have moved too. Each field is read and written back as one word, and the first holds the kind above the name offset.
-pub fn raise(table: &mut [u8], k: usize, q: usize, grow: usize)
-    requires { (12 * k + 12 ≤ length table.old) × Raisable table.old k × (nameOffset table.old k + grow < 2 ^ 24) }
-    ensures { table.new ≡ put table.old (12 * k) (recordAfter table.old q grow k) }
-{
-    let first = endian::read_u32(table, 12 * k) + grow as u32;
-    endian::write_u32(table, 12 * k, first);
-    if 0x1000000 <= first {
-        let place = endian::read_u32(table, 12 * k + 4);
-        endian::write_u32(table, 12 * k + 4, place_after(q, place));
-        let next = endian::read_u32(table, 12 * k + 8);
-        endian::write_u32(table, 12 * k + 8, next + 1);
-    }
+/// An empty directory or an empty file that is put in.
+#[derive(Clone, Copy, PartialEq, Eq, Debug)]
+pub struct NewEntry<'n> {
+    pub is_directory: bool,
+    pub name: &'n [u8],
+    /// The directory that it is in.
+    pub parent: usize,
+    /// The number that it gets.
+    pub number: usize,
+    /// Where its name starts among the texts.
+    pub start: usize,
 }
 
-// The new entry: an empty directory, or an empty file.
-pub fn write_new(table: &mut [u8], p: usize, q: usize, is_directory: bool, start: usize)
-    requires { (12 * q + 12 ≤ length table.old) × (p < q) × (q ≤ 16384) × (start < 2 ^ 24) }
-    ensures { table.new ≡ put table.old (12 * q) (nodeBytes p start (newNode is_directory [] q)) }
-{
-    if is_directory {
-        fst_record::write_fields(table, q, 1, start as u32, p as u32, q as u32 + 1);
-    } else {
-        fst_record::write_fields(table, q, 0, start as u32, 0, 0);
+impl<'n> NewEntry<'n> {
+    // Its record.
+    fn fields(&self) -> Record
+        requires { (self.now.parent < self.now.number) × (self.now.number ≤ 16384) × (self.now.start < 2 ^ 24) }
+        ensures bytes { bytes_of result ≡ nodeBytes self.now.parent self.now.start (newNode self.now.is_directory [] self.now.number) }
+        ensures name { result.name ≡ self.now.start }
+    {
+        if self.is_directory {
+            Record {
+                kind: Kind::Directory,
+                name: self.start as u32,
+                place: self.parent as u32,
+                next: self.number as u32 + 1,
+            }
+        } else {
+            Record {
+                kind: Kind::File,
+                name: self.start as u32,
+                place: 0,
+                next: 0,
+            }
+        }
+    }
+
+    /// Writes its record.
+    pub fn write(&self, table: &mut [u8])
+        requires { (12 * self.now.number + 12 ≤ length table.old) × (self.now.parent < self.now.number) × (self.now.number ≤ 16384) × (self.now.start < 2 ^ 24) }
+        ensures { table.new ≡ put table.old (12 * self.now.number) (nodeBytes self.now.parent self.now.start (newNode self.now.is_directory [] self.now.number)) }
+    {
+        self.fields().write(table, self.number);
     }
 }

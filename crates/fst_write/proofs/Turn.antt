@@ -2,14 +2,16 @@
 -- Assumes nothing.
 use mathlib.Core.Path.{◌≡◌, refl, sym, ◌∙◌}
 use mathlib.Core.List.{List}
-use Prim.Native.Nat.{ℕ, ◌+◌, ◌≤◌, ◌<◌}
+use Prim.Native.Nat.{ℕ, ◌+◌, ◌*◌, ◌≤◌, ◌<◌, ◌^◌}
 use native.Mathlib.Omega.{arith}
 use borrow.Author.Tests.{eq-eqb}
 use lib.ListN.{length}
-use Rattle.tree.specs.Table.{kind, sizeOrNext, nodesOf, parent_of}
+use Rattle.endian.specs.Bytes.{put}
+use Rattle.tree.specs.Table.{kind, sizeOrNext, count, nodesOf, parent_of, encode}
 use Rattle.fst_measure.specs.Inner.Valid.{Valid}
-use Rattle.fst_measure.specs.Inner.Flat.{afterIn, textTo, writeTo, Room}
+use Rattle.fst_measure.specs.Inner.Flat.{afterIn, textTo, writeTo, rootAt, Room}
 use Rattle.fst_measure.proofs.Nesting.{Closed, closed_none, closed-more, after-later, after-within, parent_is}
+use Rattle.fst_measure.proofs.Whole.{whole-size, whole, whole_room}
 use Rattle.fst_measure.proofs.Split.{text-split, write-split, text-none, write-none, text-mono, text-up}
 
 -- the entries of directory k up to c are written
@@ -112,3 +114,16 @@ module _ (tab : List ℕ) (n k text : ℕ) (v : Valid tab n) (kn : k < n) (L : �
     room_in at L' e el =
         let up : text ≤ textTo tab n k (k + 1) text = text-up tab n k (k + 1) text in
         rw (e, el) record { past = omega arith; fits = omega (arith, texts-in); small = omega (arith, texts-in) }
+
+-- ---- the whole table, by what was read and written on the way
+
+module _ (tab source out out₁ : List ℕ) (n text : ℕ) (v : Valid tab (count tab)) (e : source ≡ tab) (c : n ≡ count source) (z : text ≡ 12 * n) where
+  pub written-room : (L : ℕ) → length out₁ ≡ L → length (encode (nodesOf tab)) ≤ L → length (encode (nodesOf tab)) ≤ 2 ^ 24 →
+      Room (count source) text (textTo source (count source) 1 (sizeOrNext source 0) text) (length out₁)
+  written-room L l h g = rw (z, c, e, l) (whole_room tab (count tab) v L h g)
+
+  pub written-size : (end : ℕ) → end ≡ textTo source (count source) 1 (sizeOrNext source 0) text → end ≡ length (encode (nodesOf tab))
+  written-size end w = w ∙ rw (z, c, e, v.reach) (whole-size tab (count tab) v)
+
+  pub written-whole : (out₂ : List ℕ) → length (encode (nodesOf tab)) ≤ length out → out₁ ≡ rootAt n out → out₂ ≡ writeTo source (count source) 1 (sizeOrNext source 0) text out₁ → out₂ ≡ put out 0 (encode (nodesOf tab))
+  written-whole out₂ h r w = w ∙ rw (r, z, c, e, v.reach) (whole tab (count tab) v out h)

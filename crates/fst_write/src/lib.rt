@@ -8,63 +8,74 @@ ghost use Rattle.tree.specs.Table.{kind, sizeOrNext, count, nodesOf, parent_of, 
 ghost use Rattle.fst_measure.specs.Inner.Valid.{Valid};
 ghost use Rattle.fst_measure.specs.Inner.Flat.{afterIn, textTo, writeTo, rootAt, Room};
 
-// Writes the record and the name of entry k, and nothing that is in it.
-fn write_one(
-    table: &[u8],
-    out: &mut [u8],
-    count: usize,
-    k: usize,
-    parent: u32,
+use fst_measure::{Kind, Source};
+use fst_record::Record;
+
+// The lent bytes, where the table goes, and the place among them where the next name goes.
+#[derive(Drop)]
+struct Writer<'o> {
+    out: &'o mut [u8],
     text: usize,
-) -> usize
-    requires valid { Valid table.now count × (0 < k) × (k < count) × (parent ≡ parent_of (nodesOf table.now) k) }
-    requires room { Room count text (textTo table.now count k (k + 1) text) (length out.old) }
-    ensures value { result ≡ textTo table.now count k (k + 1) text }
-    ensures out_after { out.new ≡ writeTo table.now count k (k + 1) text out.old }
-{
-    fst_record::write_record(table, out, count, k, parent, text);
-    fst_record::write_name(table, out, count, k, text)
 }
 
-// Writes entry k, and if it is a directory all that is in it.
-#[cycle(write_directory_write_entry)]
-fn write_entry(
-    table: &[u8],
-    out: &mut [u8],
-    count: usize,
-    k: usize,
-    parent: u32,
-    text: usize,
-) -> usize
-    requires valid { Valid table.now count × (0 < k) × (k < count) × (parent ≡ parent_of (nodesOf table.now) k) }
-    requires room { Room count text (textTo table.now count k (afterIn table.now k) text) (length out.old) }
-    ensures value { result ≡ textTo table.now count k (afterIn table.now k) text }
-    ensures out_after { out.new ≡ writeTo table.now count k (afterIn table.now k) text out.old }
-{
-    let next_text = write_one(table, out, count, k, parent, text);
-    if table[12 * k] == 1 {
-        write_directory(table, out, count, k, next_text)
-    } else {
-        next_text
+impl<'o> Writer<'o> {
+    fn new(out: &'o mut [u8], text: usize) -> Writer<'o>
+        ensures out { result.out.now ≡ out.old }
+        ensures text { result.text ≡ text }
+        ensures same_reference { result.out.ghost_name ≡ out.entry.ghost_name }
+    {
+        Writer { out, text }
     }
-}
 
-// Writes all that is in directory k.
-#[cycle(write_directory_write_entry)]
-fn write_directory(table: &[u8], out: &mut [u8], count: usize, k: usize, text: usize) -> usize
-    requires valid { Valid table.now count × (k < count) × (kind table.now k ≡ 1) }
-    requires room { Room count text (textTo table.now count (k + 1) (sizeOrNext table.now k) text) (length out.old) }
-    ensures value { result ≡ textTo table.now count (k + 1) (sizeOrNext table.now k) text }
-    ensures out_after { out.new ≡ writeTo table.now count (k + 1) (sizeOrNext table.now k) text out.old }
-{
-    let stop = endian::read_u32(table, 12 * k + 8) as usize;
-    let mut at = text;
-    let mut c = k + 1;
-    while c < stop {
-        at = write_entry(table, out, count, c, k as u32, at);
-        c = fst_measure::after(table, c);
+    // Writes the record and the name of entry k, and nothing that is in it.
+    fn write_one(&mut self, source: &Source<'_>, k: usize, parent: u32)
+        requires entry { (0 < k) × (k < count source.now) × (parent ≡ parent_of (nodesOf source.now) k) }
+        requires room { Room (count source.now) self.old.text (textTo source.now (count source.now) k (k + 1) self.old.text) (length self.old.out.now) }
+        ensures text { self.new.text ≡ textTo source.now (count source.now) k (k + 1) self.old.text }
+        ensures out { self.new.out.now ≡ writeTo source.now (count source.now) k (k + 1) self.old.text self.old.out.now }
+        ensures length { length self.new.out.now ≡ length self.old.out.now }
+        ensures same_reference { self.new.out.ghost_name ≡ self.old.out.ghost_name }
+    {
+        fst_record::write_record(source, self.out, k, parent, self.text);
+        self.text = fst_record::write_name(source, self.out, k, self.text);
     }
-    at
+
+    // Writes entry k, and if it is a directory all that is in it.
+    #[cycle(write_directory_write_entry)]
+    fn write_entry(&mut self, source: &Source<'_>, k: usize, parent: u32)
+        requires entry { (0 < k) × (k < count source.now) × (parent ≡ parent_of (nodesOf source.now) k) }
+        requires room { Room (count source.now) self.old.text (textTo source.now (count source.now) k (afterIn source.now k) self.old.text) (length self.old.out.now) }
+        ensures text { self.new.text ≡ textTo source.now (count source.now) k (afterIn source.now k) self.old.text }
+        ensures out { self.new.out.now ≡ writeTo source.now (count source.now) k (afterIn source.now k) self.old.text self.old.out.now }
+        ensures length { length self.new.out.now ≡ length self.old.out.now }
+        ensures same_reference { self.new.out.ghost_name ≡ self.old.out.ghost_name }
+    {
+        let kind = source.kind(k);
+        self.write_one(source, k, parent);
+        match kind {
+            Kind::File => {}
+            Kind::Directory => self.write_directory(source, k),
+        }
+    }
+
+    // Writes all that is in directory k.
+    #[cycle(write_directory_write_entry)]
+    fn write_directory(&mut self, source: &Source<'_>, k: usize)
+        requires directory { (k < count source.now) × (kind source.now k ≡ 1) }
+        requires room { Room (count source.now) self.old.text (textTo source.now (count source.now) (k + 1) (sizeOrNext source.now k) self.old.text) (length self.old.out.now) }
+        ensures text { self.new.text ≡ textTo source.now (count source.now) (k + 1) (sizeOrNext source.now k) self.old.text }
+        ensures out { self.new.out.now ≡ writeTo source.now (count source.now) (k + 1) (sizeOrNext source.now k) self.old.text self.old.out.now }
+        ensures length { length self.new.out.now ≡ length self.old.out.now }
+        ensures same_reference { self.new.out.ghost_name ≡ self.old.out.ghost_name }
+    {
+        let stop = source.next(k) as usize;
+        let mut c = k + 1;
+        // Kept: an iterator of the children would be one more type with a `next` of its own, for this loop alone.
+        while c < stop {
+            self.write_entry(source, c, k as u32);
+            c = source.after(c);
+        }
+    }
 }
 
 // Writes the root's record: a directory with no name, with parent 0, that reaches to the end of the table.
@@ -72,17 +83,26 @@ fn write_root(out: &mut [u8], count: usize)
     requires { (12 ≤ length out.old) × (count ≤ 16384) }
     ensures { out.new ≡ rootAt count out.old }
 {
-    fst_record::write_fields(out, 0, 1, 0, 0, count as u32);
+    let root = Record {
+        kind: Kind::Directory,
+        name: 0,
+        place: 0,
+        next: count as u32,
+    };
+    root.write(out, 0);
 }
 
-// Writes the whole table, and returns its size.
+/// Writes the whole table, and returns its size in bytes.
 pub fn write_table(table: &[u8], out: &mut [u8]) -> usize
     requires valid { Valid table.now (count table.now) }
     requires table_in_bounds { (length (encode (nodesOf table.now)) ≤ length out.old) × (length (encode (nodesOf table.now)) ≤ 2 ^ 24) }
     ensures value { result ≡ length (encode (nodesOf table.now)) }
     ensures out_after { out.new ≡ put out.old 0 (encode (nodesOf table.now)) }
 {
-    let count = endian::read_u32(table, 8) as usize;
+    let source = Source::new(table);
+    let count = source.count();
     write_root(out, count);
-    write_directory(table, out, count, 0, 12 * count)
+    let mut writer = Writer::new(out, 12 * count);
+    writer.write_directory(&source, 0);
+    writer.text
 }

@@ -6,6 +6,3 @@ use Rattle.fst_patch.proofs.patch_up_to.Given as goal
 
 abbrev pub invariant-loop-k : goal.invariant-loop-k
 invariant-loop-k l = Filled l.initial.table (recordBefore l.initial.table l.p) (l.p + 1) l.table l.k
-
-abbrev pub decreases-loop-k : goal.decreases-loop-k
-decreases-loop-k l = l.k

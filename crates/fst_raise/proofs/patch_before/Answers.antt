@@ -8,14 +8,14 @@ use Rattle.fst_raise.proofs.patch_before.Goals as goal
 pub returns-then-p-next : goal.returns-then-p-next
 returns-then-p-next c =
     let s = c in
-    cc (c.read_u32-next.ensures, c.write_u32.ensures, raised s.args.table.now s.args.p s.args.k (search rules) s.requires.1 s.requires.2.kinds (sym c.read_u8.ensures ∙ c.if-read_u8-eq1.true) s.requires.0 (omega (arith, c.read_u32-next.ensures, c.if-p-next.true)))
+    cc (c.read_u32-next.ensures, c.write_u32.ensures, raised s.args.table.now s.args.p s.args.k (search rules) s.requires.1 s.requires.2.kinds (sym c.read_u8.ensures ∙ c.if-read_u8-number.true ∙ c.number.ensures) s.requires.0 (omega (arith, c.read_u32-next.ensures, c.if-p-next.true)))
 
 pub returns-else-p-next : goal.returns-else-p-next
 returns-else-p-next c =
     let s = c in
     sym (ended-stays s.args.table.now s.args.p s.args.k (search rules) s.requires.1 s.requires.2.kinds (omega (arith, c.read_u32-next.ensures, c.if-p-next.false)))
 
-pub returns-else-read_u8-eq1 : goal.returns-else-read_u8-eq1
-returns-else-read_u8-eq1 c =
+pub returns-else-read_u8-number : goal.returns-else-read_u8-number
+returns-else-read_u8-number c =
     let s = c in
-    sym (file-stays s.args.table.now s.args.p s.args.k (search rules) s.requires.1 s.requires.2.kinds (λ e. c.if-read_u8-eq1.false (c.read_u8.ensures ∙ e)))
+    sym (file-stays s.args.table.now s.args.p s.args.k (search rules) s.requires.1 s.requires.2.kinds (λ e. c.if-read_u8-number.false (c.read_u8.ensures ∙ e ∙ sym c.number.ensures)))

@@ -1,7 +1,10 @@
 -- `fst_record::write_record` meets its contract: its four fields are the entry's bytes.
-use Rattle.fst_record.proofs.Records.{record_is}
+use native.Mathlib.Omega.{arith}
+use Rattle.fst_record.proofs.Records.{record-at}
 use Rattle.fst_record.proofs.write_record.Goals as goal
 
+pub write-requires : goal.write-requires
+write-requires c = (c.requires.k_in_bounds.1, omega (arith, c.requires.text_behind.1, c.of.ensures.name))
+
 pub returns : goal.returns
-returns c =
-    cc (record_is c.args.table.now c.args.count c.args.parent c.args.k c.args.text c.args.out.now c.requires.k_in_bounds.2)
+returns c = record-at _ _ _ _ _ _ _ _ _ c.count.ensures.value c.of.ensures.bytes c.write.ensures

@@ -4,4 +4,4 @@ use Rattle.fst_write.proofs.write_root.Goals as goal
 
 pub returns : goal.returns
 unfolding rootAt
-returns c = c.write_fields.ensures
+returns c = c.write.ensures

@@ -1,0 +1,130 @@
+// A table that can be written anew.
+ghost use Rattle.std.specs.Prelude.{◌≡◌, ◌+◌, ◌*◌, ◌<◌, length, drop};
+ghost use Rattle.tree.specs.Table as table_of;
+ghost use Rattle.tree.specs.Table.{upTo0, nameOffset, offsetOrParent, sizeOrNext, name_at};
+ghost use Rattle.fst_measure.specs.Inner.Flat.{afterIn};
+ghost use Rattle.fst_measure.specs.Inner.Kind.{number_of};
+ghost use Rattle.fst_measure.specs.Inner.Measure.{measureOf};
+ghost use Rattle.fst_measure.specs.Inner.Valid.{Valid};
+
+use crate::{Kind, TEXTS_LIMIT};
+use refusal::Refusal;
+use std::marker::Model;
+
+/// A table that can be written anew: its directories nest, and its names end within it. Contracts see its bytes.
+#[derive(Drop)]
+pub struct Source<'a> {
+    bytes: &'a [u8],
+    count: usize,
+}
+
+impl<'a> Model for Source<'a> {
+    ghost use Rattle.std.specs.Prelude.{ℕ, List};
+    ghost use Rattle.fst_measure.specs.Inner.Valid.{Valid};
+
+    ghost Value = { List ℕ };
+
+    ghost view = { λ s. s.bytes.now };
+
+    ghost invariant = { λ s. Valid s.bytes.now s.count };
+}
+
+// The length of the text at `at`, without its zero byte.
+fn text_len(bytes: &[u8], at: usize) -> usize
+    requires { at + length (upTo0 (drop at bytes.now)) < length bytes.now }
+    ensures { result ≡ length (upTo0 (drop at bytes.now)) }
+{
+    let mut len = 0;
+    while bytes[at + len] != 0 {
+        len += 1;
+    }
+    len
+}
+
+impl<'a> Source<'a> {
+    /// A table that the checks accepted.
+    pub fn new(bytes: &'a [u8]) -> Self
+        requires { Valid bytes.now (table_of.count bytes.now) }
+        ensures { result ≡ bytes.now }
+    {
+        let count = endian::read_u32(bytes, 8) as usize;
+        Source { bytes, count }
+    }
+
+    /// How many entries it has.
+    pub fn count(&self) -> usize
+        ensures value { result ≡ table_of.count self.now }
+        ensures valid { Valid self.now (table_of.count self.now) }
+    {
+        self.count
+    }
+
+    /// What entry k is.
+    pub fn kind(&self, k: usize) -> Kind
+        requires { k < table_of.count self.now }
+        ensures value { number_of result ≡ table_of.kind self.now k }
+        ensures valid { Valid self.now (table_of.count self.now) }
+    {
+        let bytes = self.bytes;
+        if bytes[12 * k] == Kind::File.number() {
+            Kind::File
+        } else {
+            Kind::Directory
+        }
+    }
+
+    /// The third field of entry k: the offset of a file, the parent that a directory stores.
+    pub fn place(&self, k: usize) -> u32
+        requires { k < table_of.count self.now }
+        ensures { result ≡ offsetOrParent self.now k }
+    {
+        endian::read_u32(self.bytes, 12 * k + 4)
+    }
+
+    /// The fourth field of entry k: the size of a file, the entry after all those in a directory.
+    pub fn next(&self, k: usize) -> u32
+        requires { k < table_of.count self.now }
+        ensures value { result ≡ sizeOrNext self.now k }
+        ensures valid { Valid self.now (table_of.count self.now) }
+    {
+        endian::read_u32(self.bytes, 12 * k + 8)
+    }
+
+    /// The entry after k in its directory, where the writers go on.
+    pub fn after(&self, k: usize) -> usize
+        requires { k < table_of.count self.now }
+        ensures { result ≡ afterIn self.now k }
+    {
+        match self.kind(k) {
+            Kind::File => k + 1,
+            Kind::Directory => self.next(k) as usize,
+        }
+    }
+
+    /// The name of entry k, which is not the root, without its zero byte.
+    pub fn name(&self, k: usize) -> &'a [u8]
+        requires { (0 < k) × (k < table_of.count self.now) }
+        ensures { result.now ≡ name_at self.now (table_of.count self.now) (nameOffset self.now k) }
+    {
+        let from = 12 * self.count + endian::read_u24(self.bytes, 12 * k + 1) as usize;
+        let len = text_len(self.bytes, from);
+        &self.bytes[from..from + len]
+    }
+
+    /// The size in bytes of the table written anew; 9 if its texts pass the limit.
+    pub fn measure(&self) -> Result<usize, Refusal>
+        ensures { result ≡ measureOf self.now }
+    {
+        let count = self.count();
+        let mut size = 12;
+        for k in 1..count {
+            let name = self.name(k).len();
+            // The texts so far are what is measured but for k records.
+            if TEXTS_LIMIT - (size - 12 * k) <= name {
+                return Err(Refusal::LimitOrMemory);
+            }
+            size += 12 + name + 1;
+        }
+        Ok(size)
+    }
+}
