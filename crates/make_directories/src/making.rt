@@ -7,11 +7,11 @@ ghost use Rattle.fst_grow.specs.Inner.Growing.{tree_of, IsTable};
 ghost use Rattle.make_directories.specs.Inner.Making.{turn_of, CanTurn, Reaches};
 
 use fst_grow::Growing;
-use make_walk::Components;
+use fst_path::Components;
 use refusal::Refusal;
 
-/// From a directory along one component: empty and `.` stay, `..` goes back, any other leads to the child with that name, or into a directory
-/// that is made for it; 9 if there is no room for one.
+// From a directory along one component: empty and `.` stay, `..` goes back, any other leads to the child with that name, or into a directory
+// that is made for it; 9 if there is no room for one.
 #[tactic(auto, unfolding(crate::specs::Inner::Making::turn_of))]
 fn step(table: &mut Growing<'_>, entry: usize, name: &[u8]) -> Result<usize, Refusal>
     requires { IsTable table.old × CanTurn (tree_of table.old) entry name.now }

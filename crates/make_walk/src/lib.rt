@@ -9,11 +9,10 @@ ghost use Rattle.tree.specs.Table.{nodesOf};
 ghost use Rattle.tree.specs.Lookup.{components};
 ghost use Rattle.edits.specs.Inner.Troubles.{troubleOf};
 
-mod components;
 mod walk;
 
-pub use components::Components;
 use fst::Table;
+use fst_path::Components;
 use refusal::Verdict;
 use walk::Walk;
 

@@ -6,4 +6,4 @@ use Rattle.make_walk.proofs.walk.Walk.to.Goals as goal
 pub invariant_of-result : goal.invariant_of-result
 invariant_of-result c =
     let inside = rw (← c.self.view_is) at c.requires in
-    omega (arith, inside, length-nodesOf c.self.inside.table)
+    (c.self.invariant.0, omega (arith, inside, length-nodesOf c.self.inside.table))
