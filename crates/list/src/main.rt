@@ -1,32 +1,35 @@
-// Lists the image that standard input gives, or says why not (document 01, "A small master"): what it writes is what `listing::report`
-// gives. The file `stdout` is document 01's listing of its small master.
+// Lists the image that standard input gives, or says why not: what it writes is what `listing::report` gives. The file `stdout` is the
+// listing of the small master that `stdin` has.
 #![tactic(auto)]
 
 use std::io::{self, Read, Write};
 
-fn write<P: Print>(rt: &P, text: &[u8], size: usize) -> io::Result<()> {
-    if size <= text.len() {
-        io::writer(rt).write_all(&text[0..size])?;
-    }
-    Ok(())
-}
+// How many bytes of an image, words of working memory and bytes of text the program has.
+const MOST_BYTES: u64 = 65536;
 
-// Lends 16,384 words, and a buffer: a text that does not fit it is refused 9.
+const WORDS: usize = 16384;
+
+const TEXT: usize = 1048576;
+
+// Lends the words, and a buffer: a text that does not fit it is refused 9.
 fn list<P: Print>(
     rt: &P,
     image: &[u8],
-    words: &mut [u32; 16384],
-    text: &mut [u8; 1048576],
+    words: &mut [u32; WORDS],
+    text: &mut [u8; TEXT],
 ) -> io::Result<()> {
     let size = listing::report(image, words, text);
-    write(rt, text, size)
+    match text.get(..size) {
+        Some(report) => io::writer(rt).write_all(report),
+        None => Ok(()),
+    }
 }
 
 // One byte more than is accepted tells whether there are more.
 fn main(rt: HostRuntime) -> io::Result<()> {
     let mut image = Vec::new(rt.alloc());
-    let mut words = [0u32; 16384];
-    let mut text = [0u8; 1048576];
-    rt.reader().take(65537).read_to_end(&mut image)?;
+    let mut words = [0; WORDS];
+    let mut text = [0; TEXT];
+    rt.reader().take(MOST_BYTES + 1).read_to_end(&mut image)?;
     list(&rt, &image, &mut words, &mut text)
 }

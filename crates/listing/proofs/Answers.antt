@@ -3,7 +3,7 @@ use Rattle.std.specs.Prelude.{Result, Ok, Err}
 use Rattle.refusal.specs.Refusal.{Verdict}
 use Prim.Native.Nat.{ℕ, ◌<◌, ◌≤◌, ◌^◌}
 use mathlib.Core.Path.{◌≡◌, refl, ap}
-use mathlib.Core.Bool.{cond}
+use mathlib.Core.Bool.{Bool, true, false, cond}
 use mathlib.Core.List.{List, ◌++◌}
 use native.Mathlib.Omega.{arith}
 use borrow.Author.Tests.{lt-ltb, le-ltb, ltb-false}
@@ -12,27 +12,32 @@ use lib.Dec.{ltb}
 use Rattle.endian.specs.Bytes.{put}
 use Rattle.refusal.specs.declared.Refusal.{Refusal}
 use Rattle.refusal.specs.declared.Refusal.TheVariants.{LimitOrMemory}
-use Rattle.refusal.specs.Refusal.{refuse}
+use Rattle.refusal.specs.Refusal.{refuse, first}
 use Rattle.refusal.specs.Laws.Chains.{refuse-passed, first-passed}
-use Rattle.header.specs.Verdicts.{discEnd}
 use Rattle.tree.specs.Table.{nodesOf, count}
 use Rattle.tree.specs.Laws.Accepted.{length-nodesOf}
 use Rattle.space.specs.Used.{totalSize}
 use Rattle.space.specs.Free.{freeRegions}
 use Rattle.space.specs.Inner.Sort.{regionsIn}
-use Rattle.opening.specs.Opening.{table_of, nodesIn, opening}
-use Rattle.opening.specs.Laws.OpeningLaws.{used-total, was-refused}
-use Rattle.opening.specs.Inner.Prepared.{IsOpen, Prepares}
+use Rattle.opening.specs.Opening.{opening}
+use Rattle.opened.specs.Disc.{Disc, free_of, Means}
+use Rattle.opened.specs.Laws.Meant.{end_meant, nodes_meant, total_meant, free_meant}
+use Rattle.listing.specs.Inner.Fits.{listed_or, laid_or, text_of}
 use Rattle.answers.specs.Answers.{behind}
 use Rattle.listing_text.specs.Lines.{totalsLine, entryLines, regionLines}
 use Rattle.listing.specs.Listing.{listingText, listingVerdict, listAnswer, listBuffer, refusedText, reportVerdict, reportText, reportAnswer, reportBuffer}
 use Rattle.text_buffer.specs.Inner.Writing.{Wrote}
 
--- the lines of an image that opened
-pub text-is : (image w : List ℕ) (m e : ℕ) (tab : List ℕ) → IsOpen image w m → e ≡ discEnd image → tab ≡ table_of image →
-    totalsLine e (totalSize (regionsIn w 0 m)) ++ (entryLines (nodesOf tab) (count tab) ++ regionLines (freeRegions e (regionsIn w 0 m))) ≡ listingText image
-unfolding listingText nodesIn
-text-is image w m e tab u p q = rw (p, q, used-total image w m u.used, u.used.free, length-nodesOf (table_of image))
+-- the lines of a disc, from its words
+pub text-is : (d : Disc) (w tab : List ℕ) (m e u : ℕ) → e ≡ d.end → nodesOf tab ≡ d.nodes → u ≡ totalSize d.used → freeRegions d.end (regionsIn w 0 m) ≡ free_of d →
+    totalsLine e u ++ (entryLines (nodesOf tab) (count tab) ++ regionLines (freeRegions e (regionsIn w 0 m))) ≡ text_of d
+unfolding text_of
+text-is d w tab m e u p n s f = rw (p, s, f, ← length-nodesOf tab, n)
+
+-- the lines of an image that means the disc
+pub text-meant : (image : List ℕ) (d : Disc) → Means image d → text_of d ≡ listingText image
+unfolding listingText text_of
+text-meant image d m = rw (end_meant image d m, total_meant image d m, nodes_meant image d m, free_meant image d m)
 
 -- ---- measured with no buffer to speak of, then written
 
@@ -46,27 +51,45 @@ module _ (text : List ℕ) {none none' bs : List ℕ} {size : ℕ} (w : Wrote no
   written : {text' : List ℕ} {r : ℕ} → size ≤ length text → Wrote text text' 0 bs r → (r ≡ length bs) × (text' ≡ put text 0 bs)
   written h v = let s = short h in (omega (arith, v.stop, s.0, s.1), v.laid (omega (arith, s.1)) (omega (arith, s.1)))
 
-  module _ (image : List ℕ) (words : ℕ) (passed : opening image words ≡ Ok tt) (is : bs ≡ listingText image) where
-    pub list-short : length text < size → (Err LimitOrMemory ≡ listAnswer image words (length text)) × (text ≡ listBuffer image words text)
-    unfolding listAnswer listBuffer listingVerdict
-    list-short h = let t = rw is at (lt-ltb (length text) (length bs) (too_long h)) in (rw (passed, t), rw (passed, t))
+  module _ (whole : List ℕ) (is : bs ≡ whole) where
+    pub fits-short : length text < size → (Err LimitOrMemory ≡ listed_or (length text) whole) × (text ≡ laid_or text whole)
+    fits-short h = let t = rw is at (lt-ltb (length text) (length bs) (too_long h)) in (rw t, rw t)
 
-    pub list-fits : {text' : List ℕ} {r : ℕ} → size ≤ length text → Wrote text text' 0 bs r → (Ok size ≡ listAnswer image words (length text)) × (text' ≡ listBuffer image words text)
-    unfolding listAnswer listBuffer listingVerdict
-    list-fits h v =
+    pub fits-whole : {text' : List ℕ} {r : ℕ} → size ≤ length text → Wrote text text' 0 bs r → (Ok size ≡ listed_or (length text) whole) × (text' ≡ laid_or text whole)
+    fits-whole h v =
         let t = rw is at (le-ltb (length text) (length bs) (short h).1) in
-        (rw (passed, t) (ap Ok (rw is at (short h).0)), rw (passed, t) (rw is at (written h v).1))
+        (rw t (ap Ok (rw is at (short h).0)), rw t (rw is at (written h v).1))
 
--- ---- refused
+-- ---- behind opening
 
-module _ (image w : List ℕ) (p : Result ℕ Refusal) (h : Prepares image w p) (c : Refusal) (e : p ≡ Err c) where
-  pub list-refused : (room : ℕ) → Err c ≡ listAnswer image (length w) room
+module _ (image : List ℕ) (words : ℕ) (text : List ℕ) where
+  pub list-refused : (c : Refusal) → opening image words ≡ Err c → Err c ≡ listAnswer image words (length text)
   unfolding listAnswer listingVerdict
-  list-refused room = rw (was-refused image w p h c e)
+  list-refused c e = rw e
 
-  pub buffer-refused : (text : List ℕ) → text ≡ listBuffer image (length w) text
+  pub buffer-refused : (c : Refusal) → opening image words ≡ Err c → text ≡ listBuffer image words text
   unfolding listBuffer listingVerdict
-  buffer-refused text = rw (was-refused image w p h c e)
+  buffer-refused c e = rw e
+
+  module _ (d : Disc) (o : Means image d × (d.words ≡ words)) where
+    passes : opening image words ≡ Ok tt
+    passes = rw o.1 at o.0.known.passed
+
+    pub list-opened : (r : Result ℕ Refusal) → r ≡ listed_or (length text) (text_of d) → r ≡ listAnswer image words (length text)
+    unfolding listAnswer listingVerdict
+    list-opened r e = go (ltb (length text) (length (listingText image))) (rw (text-meant image d o.0) at e)
+      where
+        go : (t : Bool) → r ≡ cond t (Err LimitOrMemory) (Ok (length (listingText image))) → r ≡ behind (first (opening image words) (refuse t LimitOrMemory (Ok tt))) Err (Ok (length (listingText image)))
+        go true q = rw passes q
+        go false q = rw passes q
+
+    pub buffer-opened : (text' : List ℕ) → text' ≡ laid_or text (text_of d) → text' ≡ listBuffer image words text
+    unfolding listBuffer listingVerdict
+    buffer-opened text' e = go (ltb (length text) (length (listingText image))) (rw (text-meant image d o.0) at e)
+      where
+        go : (t : Bool) → text' ≡ cond t text (put text 0 (listingText image)) → text' ≡ behind (first (opening image words) (refuse t LimitOrMemory (Ok tt))) (λ c. text) (put text 0 (listingText image))
+        go true q = rw passes q
+        go false q = rw passes q
 
 -- ---- images of the program's length
 

@@ -1,1 +1,2 @@
 pub mod Listing
+pub mod Inner

@@ -1,25 +1,26 @@
-// The listing of an image as text (document 01, "A small master"), and what the listing program writes.
+// The listing of an image as text, and what the listing program writes.
 #![tactic(auto)]
 
-ghost use Rattle.std.specs.Prelude.{◌≡◌, cond, ltb, length, replicate};
+ghost use Rattle.std.specs.Prelude.{◌≡◌, cond, ltb, length};
 ghost use Rattle.endian.specs.Bytes.{put};
-ghost use Rattle.opening.specs.Opening.{opening};
-ghost use Rattle.opening.specs.Inner.Prepared.{IsOpen, Prepares};
+ghost use Rattle.opening.specs.Opening.{zeros};
 ghost use Rattle.answers.specs.Answers.{behind};
 ghost use Rattle.text_buffer.specs.Inner.Writing.{Wrote};
+ghost use Rattle.listing.specs.Inner.Fits.{listed_or, laid_or, text_of};
 ghost use Rattle.listing.specs.Listing.{listingText, listAnswer, listBuffer, refusedText, reportVerdict, reportAnswer, reportBuffer};
 
+use opened::{Lent, OpenDisc};
 use refusal::Refusal;
 
-// The text of an image that opened: measured first, so that a short buffer stays as it is.
-fn list_opened(image: &[u8], words: &[u32], count: usize, text: &mut [u8]) -> Result<usize, Refusal>
-    requires { IsOpen image.now words.now count }
-    ensures { (result ≡ listAnswer image.now (length words.now) (length text.old)) × (text.new ≡ listBuffer image.now (length words.now) text.old) }
+// The listing of an open disc: measured first, so that a short buffer stays as it is.
+fn list_disc(disc: &OpenDisc<'_>, text: &mut [u8]) -> Result<usize, Refusal>
+    ensures answer { result ≡ listed_or (length text.old) (text_of disc.now) }
+    ensures text_after { text.new ≡ laid_or text.old (text_of disc.now) }
 {
-    let table = opening::table(image);
-    let end = opening::disc_end(image);
-    let mut nothing: [u8; 1] = [0; 1];
-    let size = listing_text::put_listing(table, words, count, end, &mut nothing);
+    let table = disc.table();
+    let end = disc.end();
+    let (words, count) = disc.used_words();
+    let size = listing_text::put_listing(table, words, count, end, &mut [0; 1]);
     if text.len() < size {
         return Err(Refusal::LimitOrMemory);
     }
@@ -27,32 +28,28 @@ fn list_opened(image: &[u8], words: &[u32], count: usize, text: &mut [u8]) -> Re
     Ok(size)
 }
 
-fn list_in(
-    image: &[u8],
-    words: &[u32],
-    prepared: Result<usize, Refusal>,
-    text: &mut [u8],
-) -> Result<usize, Refusal>
-    requires { Prepares image.now words.now prepared }
-    ensures { (result ≡ listAnswer image.now (length words.now) (length text.old)) × (text.new ≡ listBuffer image.now (length words.now) text.old) }
+// The listing of an image, the words left as opening leaves them.
+fn list_image(image: &[u8], words: &mut [u32], text: &mut [u8]) -> Result<usize, Refusal>
+    ensures answer { result ≡ listAnswer image.now (length words.old) (length text.old) }
+    ensures text_after { text.new ≡ listBuffer image.now (length words.old) text.old }
 {
-    let count = prepared?;
-    list_opened(image, words, count, text)
+    let disc = OpenDisc::of_image(image, words)?;
+    list_disc(&disc, text)
 }
 
-// The listing of an image, in front of `text`: its length; or why there is none, with the buffer as it was.
+/// The listing of an image, in front of `text`: its length in bytes. Refused by opening, or 9 if the text is too short; then it stays as it was.
 pub fn list(image: &[u8], words: &mut [u32], text: &mut [u8]) -> Result<usize, Refusal>
-    ensures { (result ≡ listAnswer image.now (length words.old) (length text.old)) × (text.new ≡ listBuffer image.now (length words.old) text.old) × (words.new ≡ replicate (length words.old) 0) }
+    ensures answer { result ≡ listAnswer image.now (length words.old) (length text.old) }
+    ensures text_after { text.new ≡ listBuffer image.now (length words.old) text.old }
+    ensures words_zero { words.new ≡ zeros words.old }
 {
-    let prepared = opening::prepare(image, words);
-    let answer = list_in(image, words, prepared, text);
-    space::zero_words(words);
-    answer
+    let lent = Lent::new(words);
+    list_image(image, lent.memory, text)
 }
 
 // ---- the listing program
 
-// "the fixed text `refused `, the number and a line feed"
+// The fixed text `refused `, the number and a line feed.
 fn put_refused(text: &mut [u8], cause: Refusal) -> usize
     ensures { Wrote text.old text.new 0 (refusedText cause) result }
 {
@@ -63,33 +60,37 @@ fn put_refused(text: &mut [u8], cause: Refusal) -> usize
 
 // The same for a buffer that has room for it; otherwise nothing.
 fn write_refused(text: &mut [u8], cause: Refusal) -> usize
-    ensures { (result ≡ cond (ltb (length text.old) (length (refusedText cause))) 0 (length (refusedText cause))) × (text.new ≡ cond (ltb (length text.old) (length (refusedText cause))) text.old (put text.old 0 (refusedText cause))) }
+    ensures answer { result ≡ cond (ltb (length text.old) (length (refusedText cause))) 0 (length (refusedText cause)) }
+    ensures text_after { text.new ≡ laid_or text.old (refusedText cause) }
 {
-    let mut nothing: [u8; 1] = [0; 1];
-    let size = put_refused(&mut nothing, cause);
+    let size = put_refused(&mut [0; 1], cause);
     if text.len() < size {
         return 0;
     }
     put_refused(text, cause)
 }
 
-// The listing of an image of at most 65,536 bytes.
+// The listing of an image of at most so many bytes.
 fn list_small(image: &[u8], words: &mut [u32], text: &mut [u8]) -> Result<usize, Refusal>
-    ensures { (result ≡ behind (reportVerdict image.now (length words.old) (length text.old)) Err (Ok (length (listingText image.now)))) × (text.new ≡ behind (reportVerdict image.now (length words.old) (length text.old)) (λ c. text.old) (put text.old 0 (listingText image.now))) × (words.new ≡ replicate (length words.old) 0) }
+    ensures answer { result ≡ behind (reportVerdict image.now (length words.old) (length text.old)) Err (Ok (length (listingText image.now))) }
+    ensures text_after { text.new ≡ behind (reportVerdict image.now (length words.old) (length text.old)) (λ c. text.old) (put text.old 0 (listingText image.now)) }
+    ensures words_zero { words.new ≡ zeros words.old }
 {
+    let lent = Lent::new(words);
     if 65536 < image.len() {
-        space::zero_words(words);
         return Err(Refusal::LimitOrMemory);
     }
-    list(image, words, text)
+    list_image(image, lent.memory, text)
 }
 
-// What the program writes for its input, in front of `text`: the listing, or `refused ` and the number. Returns its length.
+/// What the program writes for its input, in front of `text`: the listing, or `refused ` and the number. Gives its length in bytes; 0, with the
+/// text as it was, if it is too short even for a refusal.
 pub fn report(image: &[u8], words: &mut [u32], text: &mut [u8]) -> usize
-    ensures { (result ≡ reportAnswer image.now (length words.old) (length text.old)) × (text.new ≡ reportBuffer image.now (length words.old) text.old) × (words.new ≡ replicate (length words.old) 0) }
+    ensures answer { result ≡ reportAnswer image.now (length words.old) (length text.old) }
+    ensures text_after { text.new ≡ reportBuffer image.now (length words.old) text.old }
+    ensures words_zero { words.new ≡ zeros words.old }
 {
-    let listed = list_small(image, words, text);
-    match listed {
+    match list_small(image, words, text) {
         Ok(size) => size,
         Err(cause) => write_refused(text, cause),
     }

@@ -1,0 +1,20 @@
+-- A text in front of a buffer, if the buffer has room for it; and the text of a disc. Assumes nothing: these are definitions.
+use Rattle.std.specs.Prelude.{Result, Ok, Err, ℕ, cond, List, ◌++◌, ltb, length}
+use Rattle.endian.specs.Bytes.{put}
+use Rattle.refusal.specs.declared.Refusal.{Refusal}
+use Rattle.refusal.specs.declared.Refusal.TheVariants.{LimitOrMemory}
+use Rattle.space.specs.Used.{totalSize}
+use Rattle.opened.specs.Disc.{Disc, free_of}
+use Rattle.listing_text.specs.Lines.{totalsLine, entryLines, regionLines}
+
+-- how long it is, or 9
+abbrev pub listed_or : ℕ → List ℕ → Result ℕ Refusal
+listed_or room bs = cond (ltb room (length bs)) (Err LimitOrMemory) (Ok (length bs))
+
+-- the buffer with the text in front, or as it was
+abbrev pub laid_or : List ℕ → List ℕ → List ℕ
+laid_or text bs = cond (ltb (length text) (length bs)) text (put text 0 bs)
+
+-- the lines of a disc
+unfoldable pub text_of : Disc → List ℕ
+text_of d = totalsLine d.end (totalSize d.used) ++ (entryLines d.nodes (length d.nodes) ++ regionLines (free_of d))
