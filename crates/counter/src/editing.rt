@@ -1,26 +1,25 @@
-// The edits. The totals record is lent in three slots: used bytes, the largest free region's size, accepted edits.
+// The edits. The totals record is lent: used bytes, the largest free region's size, accepted edits.
 ghost use Rattle.edits.specs.Edits as edits;
 ghost use Rattle.edits.specs.Promise.{Edited, lent};
-ghost use Rattle.totals.specs.Totals.{totalsIn};
 ghost use Rattle.pipeline.specs.Inner.Decides.{editOf};
-ghost use Rattle.counter.specs.Replies.{reply, done, numbered};
+ghost use Rattle.counter.specs.Replies.{reply, one, done, numbered};
 
-use crate::answer::{give, number_of};
+use crate::answer::give;
+use insert::{Kind, NewEntry};
 use pipeline::Edit;
-use totals::Record;
+use totals::Totals;
 
 // An edit that gives only that it is done.
 fn give_done(
     image: &mut [u8],
     words: &mut [u32],
     bytes: &mut [u8],
-    record: &mut Record,
-    edit: Edit,
-    text: &[u8],
+    totals: &mut Totals,
+    edit: Edit<'_>,
 ) -> u32
-    ensures { Edited done (editOf edit text.now) (lent image.old words.old bytes.old (totalsIn «record».old)) (lent image.new words.new bytes.new (totalsIn «record».new)) result }
+    ensures { Edited done (editOf edit.entry) (lent image.old words.old bytes.old totals.old) (lent image.new words.new bytes.new totals.new) result }
 {
-    number_of(pipeline::done(image, words, bytes, record, edit, text))
+    give(&mut (), pipeline::done(image, words, bytes, totals, edit))
 }
 
 #[unsafe(no_mangle)]
@@ -28,20 +27,13 @@ pub extern "C" fn counter_move_file(
     image: &mut [u8],
     words: &mut [u32],
     bytes: &mut [u8],
-    record: &mut Record,
-    number: u32,
-    new_offset: u32,
+    totals: &mut Totals,
+    file: u32,
+    offset: u32,
 ) -> u32
-    ensures { Edited done (edits.moveFile number new_offset) (lent image.old words.old bytes.old (totalsIn «record».old)) (lent image.new words.new bytes.new (totalsIn «record».new)) result }
+    ensures { Edited done (edits.moveFile file offset) (lent image.old words.old bytes.old totals.old) (lent image.new words.new bytes.new totals.new) result }
 {
-    give_done(
-        image,
-        words,
-        bytes,
-        record,
-        Edit::MoveFile(number, new_offset),
-        b"",
-    )
+    give_done(image, words, bytes, totals, Edit::Move { file, offset })
 }
 
 #[unsafe(no_mangle)]
@@ -49,20 +41,13 @@ pub extern "C" fn counter_resize_file(
     image: &mut [u8],
     words: &mut [u32],
     bytes: &mut [u8],
-    record: &mut Record,
-    number: u32,
-    new_size: u32,
+    totals: &mut Totals,
+    file: u32,
+    size: u32,
 ) -> u32
-    ensures { Edited done (edits.resizeFile number new_size) (lent image.old words.old bytes.old (totalsIn «record».old)) (lent image.new words.new bytes.new (totalsIn «record».new)) result }
+    ensures { Edited done (edits.resizeFile file size) (lent image.old words.old bytes.old totals.old) (lent image.new words.new bytes.new totals.new) result }
 {
-    give_done(
-        image,
-        words,
-        bytes,
-        record,
-        Edit::ResizeFile(number, new_size),
-        b"",
-    )
+    give_done(image, words, bytes, totals, Edit::Resize { file, size })
 }
 
 #[unsafe(no_mangle)]
@@ -70,13 +55,13 @@ pub extern "C" fn counter_fill_file(
     image: &mut [u8],
     words: &mut [u32],
     bytes: &mut [u8],
-    record: &mut Record,
-    number: u32,
+    totals: &mut Totals,
+    file: u32,
     clip: &[u8],
 ) -> u32
-    ensures { Edited done (edits.fillFile number clip.now) (lent image.old words.old bytes.old (totalsIn «record».old)) (lent image.new words.new bytes.new (totalsIn «record».new)) result }
+    ensures { Edited done (edits.fillFile file clip.now) (lent image.old words.old bytes.old totals.old) (lent image.new words.new bytes.new totals.new) result }
 {
-    give_done(image, words, bytes, record, Edit::FillFile(number), clip)
+    give_done(image, words, bytes, totals, Edit::Fill { file, clip })
 }
 
 #[unsafe(no_mangle)]
@@ -84,11 +69,11 @@ pub extern "C" fn counter_rewrite(
     image: &mut [u8],
     words: &mut [u32],
     bytes: &mut [u8],
-    record: &mut Record,
+    totals: &mut Totals,
 ) -> u32
-    ensures { Edited done edits.rewrite (lent image.old words.old bytes.old (totalsIn «record».old)) (lent image.new words.new bytes.new (totalsIn «record».new)) result }
+    ensures { Edited done edits.rewrite (lent image.old words.old bytes.old totals.old) (lent image.new words.new bytes.new totals.new) result }
 {
-    give_done(image, words, bytes, record, Edit::Rewrite, b"")
+    give_done(image, words, bytes, totals, Edit::Rewrite)
 }
 
 // ---- the edits that add entries, each with the number of the entry that it gives
@@ -97,17 +82,13 @@ fn give_entry(
     image: &mut [u8],
     words: &mut [u32],
     bytes: &mut [u8],
-    record: &mut Record,
-    edit: Edit,
-    text: &[u8],
-    answer: &mut [u32; 1],
+    totals: &mut Totals,
+    edit: Edit<'_>,
+    answer: &mut u32,
 ) -> u32
-    ensures { Edited (numbered answer.old) (editOf edit text.now) (lent image.old words.old bytes.old (totalsIn «record».old)) (lent image.new words.new bytes.new (totalsIn «record».new)) (reply result answer.new) }
+    ensures { Edited (numbered (one answer.old)) (editOf edit.entry) (lent image.old words.old bytes.old totals.old) (lent image.new words.new bytes.new totals.new) (reply result (one answer.new)) }
 {
-    give(
-        answer,
-        pipeline::run(image, words, bytes, record, edit, text),
-    )
+    give(answer, pipeline::run(image, words, bytes, totals, edit))
 }
 
 #[unsafe(no_mangle)]
@@ -115,22 +96,16 @@ pub extern "C" fn counter_insert_file(
     image: &mut [u8],
     words: &mut [u32],
     bytes: &mut [u8],
-    record: &mut Record,
+    totals: &mut Totals,
     parent: u32,
     name: &[u8],
-    answer: &mut [u32; 1],
+    answer: &mut u32,
 ) -> u32
-    ensures { Edited (numbered answer.old) (edits.insertFile parent name.now) (lent image.old words.old bytes.old (totalsIn «record».old)) (lent image.new words.new bytes.new (totalsIn «record».new)) (reply result answer.new) }
+    ensures { Edited (numbered (one answer.old)) (edits.insertFile parent name.now) (lent image.old words.old bytes.old totals.old) (lent image.new words.new bytes.new totals.new) (reply result (one answer.new)) }
 {
-    give_entry(
-        image,
-        words,
-        bytes,
-        record,
-        Edit::InsertFile(parent),
-        name,
-        answer,
-    )
+    let kind = Kind::File;
+    let new = NewEntry { parent, kind, name };
+    give_entry(image, words, bytes, totals, Edit::Insert(new), answer)
 }
 
 #[unsafe(no_mangle)]
@@ -138,22 +113,16 @@ pub extern "C" fn counter_insert_directory(
     image: &mut [u8],
     words: &mut [u32],
     bytes: &mut [u8],
-    record: &mut Record,
+    totals: &mut Totals,
     parent: u32,
     name: &[u8],
-    answer: &mut [u32; 1],
+    answer: &mut u32,
 ) -> u32
-    ensures { Edited (numbered answer.old) (edits.insertDirectory parent name.now) (lent image.old words.old bytes.old (totalsIn «record».old)) (lent image.new words.new bytes.new (totalsIn «record».new)) (reply result answer.new) }
+    ensures { Edited (numbered (one answer.old)) (edits.insertDirectory parent name.now) (lent image.old words.old bytes.old totals.old) (lent image.new words.new bytes.new totals.new) (reply result (one answer.new)) }
 {
-    give_entry(
-        image,
-        words,
-        bytes,
-        record,
-        Edit::InsertDirectory(parent),
-        name,
-        answer,
-    )
+    let kind = Kind::Directory;
+    let new = NewEntry { parent, kind, name };
+    give_entry(image, words, bytes, totals, Edit::Insert(new), answer)
 }
 
 #[unsafe(no_mangle)]
@@ -161,20 +130,19 @@ pub extern "C" fn counter_make_directories(
     image: &mut [u8],
     words: &mut [u32],
     bytes: &mut [u8],
-    record: &mut Record,
+    totals: &mut Totals,
     start: u32,
     path: &[u8],
-    answer: &mut [u32; 1],
+    answer: &mut u32,
 ) -> u32
-    ensures { Edited (numbered answer.old) (edits.makeDirectories start path.now) (lent image.old words.old bytes.old (totalsIn «record».old)) (lent image.new words.new bytes.new (totalsIn «record».new)) (reply result answer.new) }
+    ensures { Edited (numbered (one answer.old)) (edits.makeDirectories start path.now) (lent image.old words.old bytes.old totals.old) (lent image.new words.new bytes.new totals.new) (reply result (one answer.new)) }
 {
     give_entry(
         image,
         words,
         bytes,
-        record,
-        Edit::MakeDirectories(start),
-        path,
+        totals,
+        Edit::MakeDirectories { start, path },
         answer,
     )
 }

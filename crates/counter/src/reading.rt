@@ -2,10 +2,13 @@
 ghost use Rattle.std.specs.Prelude.{◌≡◌, length};
 ghost use Rattle.disc.specs.Calls.{opened_of, totalsAnswer, recordAnswer, programAnswer};
 ghost use Rattle.files.specs.Files.{entryAnswer, lookupAnswer, entriesAnswer, entriesList};
-ghost use Rattle.counter.specs.Replies.{Read, reply, replied, discWords, discTotalsWords, totalsWords, foundReply, programReply};
+ghost use Rattle.counter.specs.Replies.{Read, reply, replied, discWords, discTotalsWords, totalsWords, regionWords, foundReply, programReply};
 
 use crate::answer::give;
-use totals::Record;
+use answers::Disc;
+use disc::DiscTotals;
+use space::DiscRegion;
+use totals::Totals;
 use tree::{Entry, Found};
 
 // ---- an answer that two calls give
@@ -15,57 +18,51 @@ fn give_found(answer: &mut [u32; 4], found: Found) -> u32
     ensures { reply result answer.new ≡ foundReply answer.old found }
 {
     match found {
-        Found::At(number, entry) => {
-            match entry {
-                Entry::File(f) => *answer = [number, 0, f.offset, f.size],
-                Entry::Directory(d) => *answer = [number, 1, d.parent, d.next],
-            }
-            0
+        Found::At(number, Entry::File(file)) => give(
+            answer,
+            Ok([number, 0, file.offset, file.size]),
+        ),
+        Found::At(number, Entry::Directory(directory)) => {
+            give(answer, Ok([number, 1, directory.parent, directory.next]))
         }
-        Found::Refused(cause) => cause.number(),
+        Found::Refused(cause) => give(answer, Err(cause)),
     }
 }
 
 // ---- the calls
 
 #[unsafe(no_mangle)]
-pub extern "C" fn counter_open(image: &[u8], words: &mut [u32], answer: &mut [u32; 5]) -> u32
-    ensures { Read (replied discWords answer.old (opened_of image.now (length words.old))) (reply result answer.new) words.old words.new }
+pub extern "C" fn counter_open(image: &[u8], words: &mut [u32], answer: &mut Disc) -> u32
+    ensures { Read (replied discWords (discWords answer.old) (opened_of image.now (length words.old))) (reply result (discWords answer.new)) words.old words.new }
 {
     give(answer, disc::open(image, words))
 }
 
 #[unsafe(no_mangle)]
-pub extern "C" fn counter_totals(image: &[u8], words: &mut [u32], answer: &mut [u32; 2]) -> u32
-    ensures { Read (replied discTotalsWords answer.old (totalsAnswer image.now (length words.old))) (reply result answer.new) words.old words.new }
+pub extern "C" fn counter_totals(image: &[u8], words: &mut [u32], answer: &mut DiscTotals) -> u32
+    ensures { Read (replied discTotalsWords (discTotalsWords answer.old) (totalsAnswer image.now (length words.old))) (reply result (discTotalsWords answer.new)) words.old words.new }
 {
     give(answer, disc::totals(image, words))
 }
 
 // A totals record of the image, its count 0: used bytes, the largest free region's size, accepted edits.
 #[unsafe(no_mangle)]
-pub extern "C" fn counter_make_record(image: &[u8], words: &mut [u32], record: &mut Record) -> u32
-    ensures { Read (replied totalsWords «record».old (recordAnswer image.now (length words.old))) (reply result «record».new) words.old words.new }
+pub extern "C" fn counter_make_record(image: &[u8], words: &mut [u32], totals: &mut Totals) -> u32
+    ensures { Read (replied totalsWords (totalsWords totals.old) (recordAnswer image.now (length words.old))) (reply result (totalsWords totals.new)) words.old words.new }
 {
-    give(record, disc::make_record(image, words))
+    give(totals, disc::make_record(image, words))
 }
 
 // Where the program lies; 0 and 0 where there is none.
 #[tactic(auto, unfolding(crate::specs::Replies::programReply))]
 #[unsafe(no_mangle)]
-pub extern "C" fn counter_program(image: &[u8], words: &mut [u32], answer: &mut [u32; 2]) -> u32
-    ensures { Read (programReply answer.old (programAnswer image.now (length words.old))) (reply result answer.new) words.old words.new }
+pub extern "C" fn counter_program(image: &[u8], words: &mut [u32], answer: &mut DiscRegion) -> u32
+    ensures { Read (programReply (regionWords answer.old) (programAnswer image.now (length words.old))) (reply result (regionWords answer.new)) words.old words.new }
 {
     match disc::program(image, words) {
-        Ok(Some(region)) => {
-            *answer = [region.offset, region.size];
-            0
-        }
-        Ok(None) => {
-            *answer = [0, 0];
-            0
-        }
-        Err(cause) => cause.number(),
+        Ok(Some(region)) => give(answer, Ok(region)),
+        Ok(None) => give(answer, Ok(DiscRegion { offset: 0, size: 0 })),
+        Err(cause) => give(answer, Err(cause)),
     }
 }
 
@@ -99,9 +96,9 @@ pub extern "C" fn counter_entries(
     image: &[u8],
     words: &mut [u32],
     list: &mut [u32],
-    answer: &mut [u32; 5],
+    answer: &mut Disc,
 ) -> u32
-    ensures { Read (replied discWords answer.old (entriesAnswer image.now (length words.old) (length list.old))) (reply result answer.new) words.old words.new × (list.new ≡ entriesList image.now (length words.old) list.old) }
+    ensures { Read (replied discWords (discWords answer.old) (entriesAnswer image.now (length words.old) (length list.old))) (reply result (discWords answer.new)) words.old words.new × (list.new ≡ entriesList image.now (length words.old) list.old) }
 {
     give(answer, files::entries(image, words, list))
 }

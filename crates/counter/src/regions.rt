@@ -7,18 +7,16 @@ ghost use Rattle.counter.specs.Replies.{Read, reply, replied, one, regionWords};
 
 use crate::answer::give;
 use refusal::Refusal;
+use space::DiscRegion;
 
 // How many regions there are; their number fits a slot, since each has a byte below the disc end.
-fn give_listing(answer: &mut [u32; 1], listing: Result<usize, Refusal>) -> u32
-    requires { (n : ℕ) → listing ≡ Ok n → n < 2 ^ 32 }
-    ensures { reply result answer.new ≡ replied one answer.old listing }
+fn give_count(answer: &mut u32, listed: Result<usize, Refusal>) -> u32
+    requires { (n : ℕ) → listed ≡ Ok n → n < 2 ^ 32 }
+    ensures { reply result (one answer.new) ≡ replied one (one answer.old) listed }
 {
-    match listing {
-        Ok(n) => {
-            *answer = [n as u32];
-            0
-        }
-        Err(cause) => cause.number(),
+    match listed {
+        Ok(count) => give(answer, Ok(count as u32)),
+        Err(cause) => give(answer, Err(cause)),
     }
 }
 
@@ -27,11 +25,11 @@ pub extern "C" fn counter_free_regions(
     image: &[u8],
     words: &mut [u32],
     list: &mut [u32],
-    answer: &mut [u32; 1],
+    answer: &mut u32,
 ) -> u32
-    ensures { Read (replied one answer.old (freeRegionsAnswer image.now (length words.old) (length list.old))) (reply result answer.new) words.old words.new × (list.new ≡ freeRegionsList image.now (length words.old) list.old) }
+    ensures { Read (replied one (one answer.old) (freeRegionsAnswer image.now (length words.old) (length list.old))) (reply result (one answer.new)) words.old words.new × (list.new ≡ freeRegionsList image.now (length words.old) list.old) }
 {
-    give_listing(answer, disc::free_regions(image, words, list))
+    give_count(answer, disc::free_regions(image, words, list))
 }
 
 #[unsafe(no_mangle)]
@@ -39,11 +37,11 @@ pub extern "C" fn counter_free_clusters(
     image: &[u8],
     words: &mut [u32],
     list: &mut [u32],
-    answer: &mut [u32; 1],
+    answer: &mut u32,
 ) -> u32
-    ensures { Read (replied one answer.old (freeClustersAnswer image.now (length words.old) (length list.old))) (reply result answer.new) words.old words.new × (list.new ≡ freeClustersList image.now (length words.old) list.old) }
+    ensures { Read (replied one (one answer.old) (freeClustersAnswer image.now (length words.old) (length list.old))) (reply result (one answer.new)) words.old words.new × (list.new ≡ freeClustersList image.now (length words.old) list.old) }
 {
-    give_listing(answer, disc::free_clusters(image, words, list))
+    give_count(answer, disc::free_clusters(image, words, list))
 }
 
 #[unsafe(no_mangle)]
@@ -52,9 +50,9 @@ pub extern "C" fn counter_max_region_size(
     words: &mut [u32],
     offset: u32,
     size: u32,
-    answer: &mut [u32; 1],
+    answer: &mut u32,
 ) -> u32
-    ensures { Read (replied one answer.old (maxRegionSizeAnswer image.now (length words.old) offset size)) (reply result answer.new) words.old words.new }
+    ensures { Read (replied one (one answer.old) (maxRegionSizeAnswer image.now (length words.old) offset size)) (reply result (one answer.new)) words.old words.new }
 {
     give(answer, disc::max_region_size(image, words, offset, size))
 }
@@ -64,9 +62,9 @@ pub extern "C" fn counter_max_file_size(
     image: &[u8],
     words: &mut [u32],
     number: u32,
-    answer: &mut [u32; 1],
+    answer: &mut u32,
 ) -> u32
-    ensures { Read (replied one answer.old (maxFileSizeAnswer image.now (length words.old) number)) (reply result answer.new) words.old words.new }
+    ensures { Read (replied one (one answer.old) (maxFileSizeAnswer image.now (length words.old) number)) (reply result (one answer.new)) words.old words.new }
 {
     give(answer, files::max_file_size(image, words, number))
 }
@@ -77,9 +75,9 @@ pub extern "C" fn counter_allocate(
     words: &mut [u32],
     size: u32,
     align: u32,
-    answer: &mut [u32; 2],
+    answer: &mut DiscRegion,
 ) -> u32
-    ensures { Read (replied regionWords answer.old (allocateAnswer image.now (length words.old) size align)) (reply result answer.new) words.old words.new }
+    ensures { Read (replied regionWords (regionWords answer.old) (allocateAnswer image.now (length words.old) size align)) (reply result (regionWords answer.new)) words.old words.new }
 {
     give(answer, disc::allocate(image, words, size, align))
 }

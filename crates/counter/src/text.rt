@@ -10,11 +10,14 @@ pub extern "C" fn counter_list(
     image: &[u8],
     words: &mut [u32],
     text: &mut [u8],
-    answer: &mut [u64; 1],
+    answer: &mut u64,
 ) -> u32
-    ensures { Read (replied one answer.old (listAnswer image.now (length words.old) (length text.old))) (reply result answer.new) words.old words.new × (text.new ≡ listBuffer image.now (length words.old) text.old) }
+    ensures { Read (replied one (one answer.old) (listAnswer image.now (length words.old) (length text.old))) (reply result (one answer.new)) words.old words.new × (text.new ≡ listBuffer image.now (length words.old) text.old) }
 {
-    give(answer, listing::list(image, words, text))
+    match listing::list(image, words, text) {
+        Ok(length) => give(answer, Ok(length as u64)),
+        Err(cause) => give(answer, Err(cause)),
+    }
 }
 
 // What the listing program writes; never refused.
@@ -23,11 +26,10 @@ pub extern "C" fn counter_report(
     image: &[u8],
     words: &mut [u32],
     text: &mut [u8],
-    answer: &mut [u64; 1],
+    answer: &mut u64,
 ) -> u32
-    ensures { Read (accepts (reportAnswer image.now (length words.old) (length text.old) ∷ [])) (reply result answer.new) words.old words.new × (text.new ≡ reportBuffer image.now (length words.old) text.old) }
+    ensures { Read (accepts (reportAnswer image.now (length words.old) (length text.old) ∷ [])) (reply result (one answer.new)) words.old words.new × (text.new ≡ reportBuffer image.now (length words.old) text.old) }
 {
-    let n = listing::report(image, words, text);
-    *answer = [n as u64];
-    0
+    let length = listing::report(image, words, text);
+    give(answer, Ok(length as u64))
 }

@@ -5,6 +5,7 @@ ghost use Rattle.edits.specs.Edits as edits;
 ghost use Rattle.edits.specs.Edits.{numberedAs};
 ghost use Rattle.edits.specs.Promise.{lent, onlyVerdict, Edited};
 
+use insert::{Kind, NewEntry};
 use pipeline::Edit;
 use refusal::{Refusal, Verdict};
 use totals::Totals;
@@ -74,13 +75,9 @@ pub fn insert_file(
 ) -> Result<u32, Refusal>
     ensures { Edited numberedAs (edits.insertFile parent name.now) (lent image.old words.old bytes.old totals.old) (lent image.new words.new bytes.new totals.new) result }
 {
-    pipeline::run(
-        image,
-        words,
-        bytes,
-        totals,
-        Edit::InsertFile { parent, name },
-    )
+    let kind = Kind::File;
+    let new = NewEntry { parent, kind, name };
+    pipeline::run(image, words, bytes, totals, Edit::Insert(new))
 }
 
 /// An empty directory as last child of a directory; its number.
@@ -94,13 +91,9 @@ pub fn insert_directory(
 ) -> Result<u32, Refusal>
     ensures { Edited numberedAs (edits.insertDirectory parent name.now) (lent image.old words.old bytes.old totals.old) (lent image.new words.new bytes.new totals.new) result }
 {
-    pipeline::run(
-        image,
-        words,
-        bytes,
-        totals,
-        Edit::InsertDirectory { parent, name },
-    )
+    let kind = Kind::Directory;
+    let new = NewEntry { parent, kind, name };
+    pipeline::run(image, words, bytes, totals, Edit::Insert(new))
 }
 
 /// Makes each directory of the path that is missing, from the entry `start`: all of them or none. The number, in the new table, of the entry

@@ -10,7 +10,7 @@ returns-then-text-size c =
     let t = c.table-table.ensures.of_image in
     let u = c.used_words-count.ensures in
     let is = text-is c.args.disc.now c.used_words-count.result.0.now _ c.used_words-count.result.1 _ _ c.end-end.ensures c.table-table.ensures.nodes
-      (used-total t.image _ _ (u.open t.image t.means).used ∙ total_meant t.image _ t.means) u.free in
+    (used-total t.image _ _ (u.open t.image t.means).used ∙ total_meant t.image _ t.means) u.free in
     let f = fits-short c.args.text.now c.put_listing-size.ensures (omega arith) _ is c.if-text-size.true in
     record { answer = f.0; text_after = f.1 }
 
@@ -19,6 +19,6 @@ returns c =
     let t = c.table-table.ensures.of_image in
     let u = c.used_words-count.ensures in
     let is = text-is c.args.disc.now c.used_words-count.result.0.now _ c.used_words-count.result.1 _ _ c.end-end.ensures c.table-table.ensures.nodes
-      (used-total t.image _ _ (u.open t.image t.means).used ∙ total_meant t.image _ t.means) u.free in
+    (used-total t.image _ _ (u.open t.image t.means).used ∙ total_meant t.image _ t.means) u.free in
     let f = fits-whole c.args.text.now c.put_listing-size.ensures (omega arith) _ is c.if-text-size.false c.put_listing.ensures in
     record { answer = f.0; text_after = f.1 }

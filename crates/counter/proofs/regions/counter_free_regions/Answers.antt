@@ -2,5 +2,5 @@
 use Rattle.counter.proofs.Counts.{listed_small}
 use Rattle.counter.proofs.regions.counter_free_regions.Goals as goal
 
-pub give_listing-requires : goal.give_listing-requires
-give_listing-requires c = search listed_small
+pub give_count-requires : goal.give_count-requires
+give_count-requires c = search listed_small
