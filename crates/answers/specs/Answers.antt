@@ -9,7 +9,7 @@ use Rattle.free_space.specs.MaxRegionSize.{maxRegionSize}
 use Rattle.opening.specs.Opening.{opening, table_of, freeOf, usedOf}
 use Rattle.tree.specs.Table.{count}
 use Rattle.space.specs.Used.{totalSize}
-use Rattle.opened.specs.Disc as opened
+use Rattle.opened.specs.Inner.Disc as opened
 use Rattle.answers.specs.declared.Disc.{Disc}
 
 -- an answer behind tests: the refusal that they give, or the answer

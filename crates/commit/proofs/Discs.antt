@@ -6,7 +6,7 @@ use Rattle.space.specs.declared.DiscRegion.{DiscRegion}
 use Rattle.tree.specs.Table.{encode}
 use Rattle.opening.specs.Opening.{nodesIn, freeOf}
 use Rattle.edits.specs.Change.{tableVerdict}
-use Rattle.opened.specs.Disc.{Disc, free_of, Means}
+use Rattle.opened.specs.Inner.Disc.{Disc, free_of, Means}
 use Rattle.opened.proofs.Discs.{free-shown, nodes_shown}
 use Rattle.commit.specs.Inner.Decision.{placing, behind_tests}
 use Rattle.commit.specs.Inner.Judged.{judged_size}

@@ -8,7 +8,7 @@ use Rattle.space.specs.declared.DiscRegion.{DiscRegion}
 use Rattle.opening.specs.Opening.{nodesIn, freeOf, usedIn, behindTable}
 use Rattle.edits.specs.Change.{Change, placeVerdict, tableVerdict}
 use Rattle.commit.specs.Inner.Decision.{placing, behind_tests}
-use Rattle.opened.specs.Disc.{Disc, disc_of}
+use Rattle.opened.specs.Inner.Disc.{Disc, disc_of}
 use Rattle.commit.specs.Inner.Judged.{place_verdict, table_verdict, judged_size}
 
 pub verdict_shown : (c : Change) (image : List ℕ) (words bytes : ℕ) → tableVerdict c image words bytes ≡ table_verdict c (disc_of image words) bytes

@@ -23,7 +23,7 @@ use Rattle.tree.specs.Laws.WrittenEntries.{length-encode}
 use Rattle.space.specs.declared.DiscRegion.{DiscRegion}
 use Rattle.opening.specs.Opening.{nodesIn, regionOf, freeOf}
 use Rattle.opening.specs.Inner.Prepared.{OpenImage}
-use Rattle.opened.specs.Disc.{Disc, TableOf}
+use Rattle.opened.specs.Inner.Disc.{Disc, TableOf}
 use Rattle.commit.specs.declared.Decision.{Decision}
 use Rattle.commit.specs.declared.Decision.TheVariants as decision
 use Rattle.edits.specs.Change.{change}

@@ -15,7 +15,7 @@ use Rattle.space.specs.declared.DiscRegion.{DiscRegion}
 use Rattle.opening.specs.Opening.{regionOf}
 use Rattle.edits.specs.Change.{tableVerdict, change}
 use Rattle.edits.specs.Edits.{noPlace, tableOnly, relocateVerdict}
-use Rattle.opened.specs.Disc.{Disc, free_of, Means}
+use Rattle.opened.specs.Inner.Disc.{Disc, free_of, Means}
 use Rattle.commit.specs.declared.Writing.{Writing}
 use Rattle.commit.specs.declared.Decision.TheVariants as decision
 use Rattle.commit.specs.Inner.Decision.{InImage, Decided, placing, changeWith}

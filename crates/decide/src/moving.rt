@@ -3,7 +3,7 @@ ghost use Rattle.std.specs.Prelude.{◌≡◌, List, ℕ, length};
 ghost use Rattle.tree.specs.Insert.{setPlace};
 ghost use Rattle.edits.specs.Change.{change};
 ghost use Rattle.edits.specs.Edits.{tableOnly, planned, overlapsItself, relocateVerdict, relocated, planMove};
-ghost use Rattle.opened.specs.Disc.{free_of, Means};
+ghost use Rattle.opened.specs.Inner.Disc.{free_of, Means};
 ghost use Rattle.commit.specs.Inner.Decision.{InImage, changeWith, Decides};
 ghost use Rattle.decide.specs.Inner.Files.{IsFile, IsFileOf};
 

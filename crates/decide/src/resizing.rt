@@ -4,7 +4,7 @@ ghost use Rattle.free_space.specs.MaxRegionSize.{maxRegionSize};
 ghost use Rattle.free_space.specs.Allocate.{allocationOf};
 ghost use Rattle.edits.specs.Change.{change};
 ghost use Rattle.edits.specs.Edits.{resized, planElsewhere, planResize, planSized};
-ghost use Rattle.opened.specs.Disc.{free_of};
+ghost use Rattle.opened.specs.Inner.Disc.{free_of};
 ghost use Rattle.commit.specs.Inner.Decision.{Decides};
 ghost use Rattle.decide.specs.Inner.Files.{IsFileOf};
 

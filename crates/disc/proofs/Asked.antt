@@ -4,7 +4,7 @@ use Rattle.std.proofs.Common.{sym, ap, ◌∙◌}
 use Rattle.refusal.specs.declared.Refusal.{Refusal}
 use Rattle.space.specs.declared.DiscRegion.{DiscRegion}
 use Rattle.opening.specs.Opening.{opening, freeOf}
-use Rattle.opened.specs.Disc.{Disc, OpensAs, free_of}
+use Rattle.opened.specs.Inner.Disc.{Disc, OpensAs, free_of}
 use Rattle.opened.specs.Laws.Meant.{free_meant}
 use Rattle.answers.specs.Answers.{behind}
 use Rattle.answers.specs.Laws.AnswerLaws.{asked}

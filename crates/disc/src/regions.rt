@@ -1,7 +1,7 @@
 // What an image's header and its regions say: opening, totals, the totals record, the program, free regions, clusters, the largest size of a region, allocation.
 ghost use Rattle.std.specs.Prelude.{◌≡◌, List, ℕ, length};
 ghost use Rattle.opening.specs.Opening.{zeros};
-ghost use Rattle.opened.specs.Disc.{Means};
+ghost use Rattle.opened.specs.Inner.Disc.{Means};
 ghost use Rattle.answers.specs.Answers.{maxRegionSizeAnswer};
 ghost use Rattle.disc.specs.Calls.{opened_of, totalsAnswer, totalsOf, recordAnswer, programAnswer, freeRegionsAnswer, freeRegionsList, freeClustersAnswer, freeClustersList, allocateAnswer};
 

@@ -17,7 +17,7 @@ use Rattle.fst_list.specs.Rows.{listVerdict, listed}
 use Rattle.window.specs.declared.Window.{Window}
 use Rattle.window.specs.Window.{newWindow}
 use Rattle.opening.specs.Opening.{opening, table_of, nodesIn, freeOf}
-use Rattle.opened.specs.Disc.{Disc, OpensAs, Means, free_of}
+use Rattle.opened.specs.Inner.Disc.{Disc, OpensAs, Means, free_of}
 use Rattle.opened.specs.Laws.Meant.{start_meant, table_meant, nodes_meant, free_meant}
 use Rattle.answers.specs.declared.Disc as Told
 use Rattle.answers.specs.Answers.{behind, discOf, told_of, maxRegionSizeAnswer}

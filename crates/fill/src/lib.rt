@@ -3,7 +3,7 @@
 
 ghost use Rattle.std.specs.Prelude.{◌≡◌, length};
 ghost use Rattle.edits.specs.Edits.{planFill};
-ghost use Rattle.opened.specs.Disc.{free_of};
+ghost use Rattle.opened.specs.Inner.Disc.{free_of};
 ghost use Rattle.commit.specs.Inner.Decision.{DecidesWith};
 ghost use Rattle.fill.specs.Inner.Filling.{withClip};
 

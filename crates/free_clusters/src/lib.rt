@@ -6,7 +6,7 @@ ghost use Rattle.std.proofs.Common.{arith};
 ghost use Rattle.space.specs.Free.{freeRegions};
 ghost use Rattle.space.specs.Inner.Sort.{regionsIn};
 ghost use Rattle.space.specs.Inner.Words.{SortedDisjoint};
-ghost use Rattle.free_clusters.specs.Counted.{Counted};
+ghost use Rattle.free_clusters.specs.Inner.Counted.{Counted};
 ghost use Rattle.free_space.specs.Listing.{clusterRow, listingOf, listAfter};
 
 use free_space::{Row, UsedRegions};

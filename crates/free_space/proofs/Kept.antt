@@ -7,7 +7,7 @@ use Rattle.space.specs.Inner.Sort.{regionsIn}
 use Rattle.space.specs.Inner.Words.{SortedDisjoint, gaps}
 use Rattle.space.proofs.Pairs.{length-regions}
 use Rattle.space.proofs.Gaps.{gaps-free}
-use Rattle.free_space.specs.UsedSpace.{UsedSpace, used_in, free_in}
+use Rattle.free_space.specs.Inner.UsedSpace.{UsedSpace, used_in, free_in}
 use Rattle.free_space.proofs.Listed.{total-gaps}
 use Rattle.free_space.proofs.GapAt.{length-gaps}
 

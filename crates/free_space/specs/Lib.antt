@@ -1,5 +1,5 @@
 pub mod Allocate
 pub mod Listing
 pub mod MaxRegionSize
-pub mod UsedSpace
 pub mod Laws
+pub mod Inner

@@ -3,7 +3,7 @@
 ghost use Rattle.std.specs.Prelude.{◌≡◌, ◌<◌, length};
 ghost use Rattle.space.specs.Used.{totalSize};
 ghost use Rattle.space.specs.Inner.Words.{SortedDisjoint};
-ghost use Rattle.free_space.specs.UsedSpace.{used_in, free_in};
+ghost use Rattle.free_space.specs.Inner.UsedSpace.{used_in, free_in};
 ghost use Rattle.free_space.specs.MaxRegionSize.{maxRegionSize};
 ghost use Rattle.free_space.specs.Allocate.{noRegion, largest, foundOrNone, allocationOf};
 ghost use Rattle.free_space.specs.Listing.{listingOf, listAfter};
@@ -26,7 +26,7 @@ pub struct UsedRegions<'a> {
 impl<'a> Model for UsedRegions<'a> {
     ghost use Rattle.std.specs.Prelude.{◌<◌, ◌^◌};
     ghost use Rattle.space.specs.Inner.Words.{SortedDisjoint};
-    ghost use Rattle.free_space.specs.UsedSpace.{UsedSpace, used_in};
+    ghost use Rattle.free_space.specs.Inner.UsedSpace.{UsedSpace, used_in};
 
     ghost Value = { UsedSpace };
 

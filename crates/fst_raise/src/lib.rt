@@ -6,7 +6,7 @@ ghost use Rattle.endian.specs.Bytes.{put};
 ghost use Rattle.tree.specs.Table.{nameOffset, nodeBytes};
 ghost use Rattle.tree.specs.Insert.{shifted};
 ghost use Rattle.tree.specs.Inner.Patch.{recordBefore, recordAfter};
-ghost use Rattle.fst_record.specs.Record.{bytes_of};
+ghost use Rattle.fst_record.specs.Inner.Record.{bytes_of};
 ghost use Rattle.fst_raise.specs.Inner.Inserting.{newNode, Raisable};
 
 use fst_measure::Kind;

@@ -6,7 +6,7 @@ ghost use Rattle.endian.specs.Bytes.{put};
 ghost use Rattle.tree.specs.Table.{count, nodeAt, nodeBytes};
 ghost use Rattle.fst_measure.specs.Inner.Valid.{nameSize};
 ghost use Rattle.fst_measure.specs.Inner.Flat.{place_of, recordAt, putText};
-ghost use Rattle.fst_record.specs.Record.{bytes_of};
+ghost use Rattle.fst_record.specs.Inner.Record.{bytes_of};
 
 use fst_measure::{Kind, Source};
 

@@ -21,14 +21,14 @@ use Rattle.tree.specs.Laws.RoundTrip.{within-limits}
 use Rattle.tree.specs.Laws.WellNested.{next-bounds}
 use Rattle.edits.specs.Change.{change}
 use Rattle.edits.specs.Edits.{tableOnly, newNumber, isFound, insertVerdict, planned}
-use Rattle.opened.specs.Disc.{Disc}
+use Rattle.opened.specs.Inner.Disc.{Disc}
 use Rattle.commit.specs.declared.Decision.{Decision}
 use Rattle.commit.specs.Inner.Decision.{Decides}
 use Rattle.commit.proofs.Decisions.{behind-passed, behind-refused}
 use Rattle.fst_grow.specs.Inner.Growth.{IsDirectory, added, Built}
 use Rattle.fst_grow.proofs.GrowthLaws.{bigger-added}
 use Rattle.table_only.proofs.TableChanges.{unbuilt-decides}
-use Rattle.insert.specs.Insertion.{planInserted, ofDirectory}
+use Rattle.insert.specs.Inner.Insertion.{planInserted, ofDirectory}
 use Rattle.insert.specs.declared.new_entry.Kind.{Kind}
 use Rattle.insert.specs.declared.new_entry.Kind.TheVariants as kind
 

@@ -5,7 +5,7 @@ mod new_entry;
 
 ghost use Rattle.std.specs.Prelude.{length};
 ghost use Rattle.commit.specs.Inner.Decision.{Decides};
-ghost use Rattle.insert.specs.Insertion.{planInserted};
+ghost use Rattle.insert.specs.Inner.Insertion.{planInserted};
 
 use commit::Decision;
 use fst::Table;

@@ -3,7 +3,7 @@ ghost use Rattle.std.specs.Prelude.{◌≡◌, ◌<◌};
 ghost use Rattle.tree.specs.Table as table_of;
 ghost use Rattle.tree.specs.Table.{nodesOf};
 ghost use Rattle.edits.specs.Edits.{insertVerdict, childVerdict};
-ghost use Rattle.insert.specs.Insertion.{ofDirectory};
+ghost use Rattle.insert.specs.Inner.Insertion.{ofDirectory};
 
 use fst::Table;
 use refusal::{Refusal, Verdict};

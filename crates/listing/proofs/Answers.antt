@@ -20,7 +20,7 @@ use Rattle.space.specs.Used.{totalSize}
 use Rattle.space.specs.Free.{freeRegions}
 use Rattle.space.specs.Inner.Sort.{regionsIn}
 use Rattle.opening.specs.Opening.{opening}
-use Rattle.opened.specs.Disc.{Disc, free_of, Means}
+use Rattle.opened.specs.Inner.Disc.{Disc, free_of, Means}
 use Rattle.opened.specs.Laws.Meant.{end_meant, nodes_meant, total_meant, free_meant}
 use Rattle.listing.specs.Inner.Fits.{listed_or, laid_or, text_of}
 use Rattle.answers.specs.Answers.{behind}

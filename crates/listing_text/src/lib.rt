@@ -10,7 +10,7 @@ ghost use Rattle.tree.specs.Table as table_of;
 ghost use Rattle.tree.specs.Table.{nodesOf};
 ghost use Rattle.fst_check.specs.Inner.Reading.{Opens};
 ghost use Rattle.space.specs.Free.{freeRegions};
-ghost use Rattle.free_space.specs.UsedSpace.{free_in};
+ghost use Rattle.free_space.specs.Inner.UsedSpace.{free_in};
 ghost use Rattle.space.specs.Inner.Sort.{regionsIn};
 ghost use Rattle.space.specs.Used.{totalSize};
 ghost use Rattle.space.specs.Inner.Words.{SortedDisjoint};

@@ -1,5 +1,5 @@
 // The lines of the free regions, read off the used regions.
-ghost use Rattle.free_space.specs.UsedSpace.{free_in};
+ghost use Rattle.free_space.specs.Inner.UsedSpace.{free_in};
 ghost use Rattle.listing_text.specs.Lines.{regionLine, regionLines};
 ghost use Rattle.text_buffer.specs.Inner.Writing.{Appends};
 

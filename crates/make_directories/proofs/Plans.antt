@@ -24,7 +24,7 @@ use Rattle.edits.specs.Edits.{Made, stopped, made, make, tableOnly, planned, pla
 use Rattle.edits.specs.Inner.Troubles.{madeVerdict, troubleOf}
 use Rattle.edits.specs.Laws.Troubles.{make-trouble}
 use Rattle.edits.specs.Laws.MadeTree.{make-grows}
-use Rattle.opened.specs.Disc.{Disc}
+use Rattle.opened.specs.Inner.Disc.{Disc}
 use Rattle.commit.specs.declared.Decision.{Decision}
 use Rattle.commit.specs.Inner.Decision.{Decides}
 use Rattle.fst_grow.specs.declared.growing.Growing.{Growing}

@@ -18,10 +18,10 @@ use Rattle.opening.specs.Opening.{table_of, usedIn, freeOf}
 use Rattle.opening.specs.Inner.Prepared.{IsOpen}
 use Rattle.opening.specs.Laws.OpeningLaws.{table-accepted}
 use Rattle.opening.proofs.Words.{free-below, sorted-below}
-use Rattle.opened.specs.Parts.{HasParts}
-use Rattle.opened.specs.Disc.{Disc, disc_in, disc_of, free_of, Means, TableOf}
+use Rattle.opened.specs.Inner.Parts.{HasParts}
+use Rattle.opened.specs.Inner.Disc.{Disc, disc_in, disc_of, free_of, Means, TableOf}
 pub use Rattle.opened.specs.Laws.Meant.{free-shown, used_shown, nodes_shown}
-use Rattle.opened.specs.Backed.{Backed}
+use Rattle.opened.specs.Inner.Backed.{Backed}
 use Rattle.opened.proofs.Opens.{head_opens}
 use Rattle.opened.proofs.Heads.{start_is, size_is, maximum_is, user_is, disc_is}
 

@@ -15,7 +15,7 @@ use Rattle.dol.specs.Dol.{wordsAt, dolHeaderOf, fileSizeOf, dolSizeOf}
 use Rattle.opening.specs.Laws.OpeningLaws.{be32-span}
 use Rattle.space.specs.declared.DiscRegion.{DiscRegion}
 use Rattle.program.specs.Program.{Program, programVerdict, nowhere}
-use Rattle.opened.specs.Parts.{Heads, own_as}
+use Rattle.opened.specs.Inner.Parts.{Heads, own_as}
 
 -- ---- a field of the header
 

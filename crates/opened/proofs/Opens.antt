@@ -10,7 +10,7 @@ use Rattle.tree.specs.Table.{count, check}
 use Rattle.opening.specs.Opening.{table_of}
 use Rattle.opening.specs.Inner.Prepared.{verdictBefore24, Readable}
 use Rattle.opening.specs.Laws.OpeningLaws.{went_on}
-use Rattle.opened.specs.Parts.{HasTable}
+use Rattle.opened.specs.Inner.Parts.{HasTable}
 
 pub head_opens : (image : List ℕ) (words : ℕ) → Readable image words → first (headerVerdict image) (boundsVerdict image) ≡ Ok tt
 head_opens image words k = rw (header-passes image k.header, bounds-pass image k.bounds)

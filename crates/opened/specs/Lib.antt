@@ -1,4 +1,2 @@
-pub mod Parts
-pub mod Disc
-pub mod Backed
 pub mod Laws
+pub mod Inner

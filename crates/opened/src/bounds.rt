@@ -3,7 +3,7 @@ ghost use Rattle.std.specs.Prelude.{◌≡◌, List, ℕ};
 ghost use Rattle.refusal.specs.Refusal.{first};
 ghost use Rattle.header.specs.Verdicts.{headerVerdict, boundsVerdict};
 ghost use Rattle.program.specs.Program.{program_of};
-ghost use Rattle.opened.specs.Parts.{Heads, HasProgram};
+ghost use Rattle.opened.specs.Inner.Parts.{Heads, HasProgram};
 
 use program::Program;
 use refusal::{Refusal, Verdict};

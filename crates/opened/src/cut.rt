@@ -1,7 +1,7 @@
 // The parts of an image in memory.
 ghost use Rattle.std.specs.Prelude.{◌≡◌};
 ghost use Rattle.endian.specs.Bytes.{span};
-ghost use Rattle.opened.specs.Parts.{HasParts};
+ghost use Rattle.opened.specs.Inner.Parts.{HasParts};
 
 use crate::Parts;
 

@@ -5,13 +5,13 @@ ghost use Rattle.fst_check.specs.Inner.Reading.{Opens};
 ghost use Rattle.space.specs.Used.{totalSize};
 ghost use Rattle.space.specs.Free.{freeRegions};
 ghost use Rattle.space.specs.Inner.Sort.{SameSums, regionsIn};
-ghost use Rattle.free_space.specs.UsedSpace.{free_in};
+ghost use Rattle.free_space.specs.Inner.UsedSpace.{free_in};
 ghost use Rattle.space.specs.Inner.Words.{SortedDisjoint};
 ghost use Rattle.free_space.specs.MaxRegionSize.{maxRegionSize};
 ghost use Rattle.free_space.specs.Allocate.{allocationOf};
 ghost use Rattle.opening.specs.Inner.Prepared.{IsOpen};
-ghost use Rattle.opened.specs.Parts.{HasParts};
-ghost use Rattle.opened.specs.Disc.{OpensAs, Means, TableOf, free_of};
+ghost use Rattle.opened.specs.Inner.Parts.{HasParts};
+ghost use Rattle.opened.specs.Inner.Disc.{OpensAs, Means, TableOf, free_of};
 
 use crate::Parts;
 use crate::cut::parts_of;
@@ -38,8 +38,8 @@ pub struct OpenDisc<'a> {
 
 impl<'a> Model for OpenDisc<'a> {
     ghost use Rattle.std.specs.Prelude.{length};
-    ghost use Rattle.opened.specs.Disc.{Disc, disc_in};
-    ghost use Rattle.opened.specs.Backed.{Backed};
+    ghost use Rattle.opened.specs.Inner.Disc.{Disc, disc_in};
+    ghost use Rattle.opened.specs.Inner.Backed.{Backed};
 
     ghost Value = { Disc };
 

@@ -2,7 +2,7 @@
 ghost use Rattle.std.specs.Prelude.{◌≡◌, List, ℕ, Ok, length};
 ghost use Rattle.program.specs.Program.{program_of, programVerdict, programBehind};
 ghost use Rattle.opening.specs.Inner.Prepared.{verdictBefore24, Prepares};
-ghost use Rattle.opened.specs.Parts.{HasParts, own_as};
+ghost use Rattle.opened.specs.Inner.Parts.{HasParts, own_as};
 
 use crate::Parts;
 use crate::bounds::{check_bounds, read_program};

@@ -9,12 +9,12 @@ use Rattle.opening.specs.Opening.{opening, nodesIn, behindTable, usedIn, freeOf}
 use Rattle.edits.specs.Edits as edits
 use Rattle.edits.specs.Edits.{planned, plan_of, planVerdict, planNumber, numberedAs}
 use Rattle.edits.specs.Promise.{Lent, onlyVerdict, Edited}
-use Rattle.opened.specs.Disc.{Disc, disc_of, Means}
+use Rattle.opened.specs.Inner.Disc.{Disc, disc_of, Means}
 use Rattle.commit.specs.declared.Decision.{Decision}
 use Rattle.commit.specs.Inner.Decision.{DecidedAs, Decides, verdictIn}
 use Rattle.insert.specs.declared.new_entry.Kind.{Kind}
 use Rattle.insert.specs.declared.new_entry.Kind.TheVariants.{File, Directory}
-use Rattle.insert.specs.Insertion.{insertion, planInserted}
+use Rattle.insert.specs.Inner.Insertion.{insertion, planInserted}
 use Rattle.totals_after.specs.Inner.Accounting.{OnDisc, OfUsed, accounted, unless, enteredFor, AccountedFor}
 use Rattle.totals_after.specs.Laws.AccountLaws.{on-disc}
 use Rattle.totals_after.proofs.Edited.{refused-decision, open-accounted}

@@ -14,7 +14,7 @@ use Rattle.tree.specs.Laws.RoundTrip.{within-limits}
 use Rattle.fst_measure.specs.Inner.Measure.{measureOf}
 use Rattle.opening.specs.Opening.{nodesIn}
 use Rattle.opening.specs.Inner.Prepared.{OpenImage}
-use Rattle.opened.specs.Disc.{Disc, TableOf}
+use Rattle.opened.specs.Inner.Disc.{Disc, TableOf}
 use Rattle.fst_grow.specs.Inner.Growth.{treeIn, Stands, Built}
 use Rattle.fst_grow.proofs.StandingTable.{built-stands}
 use Rattle.commit.proofs.Discs.{nodes_are}

@@ -16,7 +16,7 @@ use Rattle.fst_grow.specs.Inner.Growth.{treeIn, Stands, Built}
 use Rattle.fst_grow.proofs.StandingTable.{size_is, front}
 use Rattle.edits.specs.Change.{change, placeVerdict}
 use Rattle.edits.specs.Edits.{tableOnly, noPlace, planVerdict}
-use Rattle.opened.specs.Disc.{Disc, Means}
+use Rattle.opened.specs.Inner.Disc.{Disc, Means}
 use Rattle.commit.specs.declared.Writing.{Writing}
 use Rattle.commit.specs.declared.Decision.{Decision}
 use Rattle.commit.specs.declared.Decision.TheVariants as decision

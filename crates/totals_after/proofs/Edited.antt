@@ -14,7 +14,7 @@ use Rattle.totals.specs.declared.Totals.{Totals}
 use Rattle.totals.specs.Totals.{totalsVerdict}
 use Rattle.totals.specs.Inner.Scan.{moved}
 use Rattle.opening.specs.Opening.{opening, usedOf, zeros}
-use Rattle.opened.specs.Disc.{Disc, Means}
+use Rattle.opened.specs.Inner.Disc.{Disc, Means}
 use Rattle.edits.specs.Change.{Plan, refused}
 use Rattle.edits.specs.Edits.{Edit, planned, plan_of, planVerdict, planImage, planNumber, numberedAs, countedVerdict, verdictOf, imageAfter, totalsTo, totalsAfter}
 use Rattle.edits.specs.Promise.{lent, Edited}

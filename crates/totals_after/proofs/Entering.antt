@@ -7,7 +7,7 @@ use Rattle.space.specs.declared.DiscRegion.{DiscRegion}
 use Rattle.totals.specs.declared.Totals.{Totals}
 use Rattle.totals.specs.Totals.{totalsVerdict, totalsMoved}
 use Rattle.totals.specs.Inner.Scan.{longestFrom, goneOf, moved, movedAs}
-use Rattle.opened.specs.Disc.{Disc, Means}
+use Rattle.opened.specs.Inner.Disc.{Disc, Means}
 use Rattle.totals_after.specs.Inner.Accounting.{enteredAs}
 
 -- by the three clauses of `move_on`

@@ -5,7 +5,7 @@ use Rattle.std.specs.Prelude.{◌≡◌}
 use Rattle.std.proofs.Common.{◌∙◌}
 use Rattle.refusal.specs.declared.Refusal.{Refusal}
 use Rattle.opening.specs.Opening.{opening}
-use Rattle.opened.specs.Disc.{Disc, Means, OpensAs}
+use Rattle.opened.specs.Inner.Disc.{Disc, Means, OpensAs}
 use Rattle.opened.specs.Laws.Meant.{start_meant, room_meant, end_meant, entries_meant, total_meant}
 use Rattle.answers.specs.Answers.{behind, discOf, told_of}
 

@@ -12,7 +12,7 @@ use Rattle.commit.specs.declared.Decision.{Decision}
 use Rattle.commit.specs.declared.Decision.TheVariants as decision
 use Rattle.edits.specs.Change.{Change, withTable, Plan, refused, nothing, change, filled}
 use Rattle.edits.specs.Edits.{noPlace, planVerdict, planImage}
-use Rattle.opened.specs.Disc.{Disc, Means}
+use Rattle.opened.specs.Inner.Disc.{Disc, Means}
 
 -- ---- the numbers of a change
 

@@ -7,7 +7,7 @@ use Rattle.tree.specs.Table.{encode, limits}
 use Rattle.space.specs.declared.DiscRegion.{DiscRegion}
 use Rattle.free_space.specs.MaxRegionSize.{maxRegionSize}
 use Rattle.edits.specs.Change.{Change}
-use Rattle.opened.specs.Disc.{Disc, free_of}
+use Rattle.opened.specs.Inner.Disc.{Disc, free_of}
 use Rattle.commit.specs.Inner.Decision.{placing, behind_tests}
 
 -- of a table of that size

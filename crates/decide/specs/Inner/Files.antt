@@ -7,7 +7,7 @@ use Rattle.tree.specs.Lookup.{isDirectory}
 use Rattle.tree.specs.declared.Entry.{Entry}
 use Rattle.tree.specs.declared.Entry.TheVariants as entry
 use Rattle.opening.specs.Opening.{regionOf}
-use Rattle.opened.specs.Disc.{Disc, Means}
+use Rattle.opened.specs.Inner.Disc.{Disc, Means}
 use Rattle.decide.specs.declared.File.{File}
 
 pub record IsFile (nodes : List Node) (k : ℕ) : Type 0 where

@@ -4,7 +4,7 @@ use Rattle.endian.specs.Bytes.{put}
 use Rattle.refusal.specs.declared.Refusal.{Refusal}
 use Rattle.refusal.specs.declared.Refusal.TheVariants.{LimitOrMemory}
 use Rattle.space.specs.Used.{totalSize}
-use Rattle.opened.specs.Disc.{Disc, free_of}
+use Rattle.opened.specs.Inner.Disc.{Disc, free_of}
 use Rattle.listing_text.specs.Lines.{totalsLine, entryLines, regionLines}
 
 -- how long it is, or 9

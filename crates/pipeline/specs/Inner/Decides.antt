@@ -5,11 +5,11 @@ use Rattle.tree.specs.Insert.{emptyFile, emptyDirectory}
 use Rattle.edits.specs.Change.{Plan, change}
 use Rattle.edits.specs.Edits as edits
 use Rattle.edits.specs.Edits.{tableOnly, planMove, planResize, planFill, planInsert, planMakeDirectories}
-use Rattle.opened.specs.Disc.{Disc, free_of}
+use Rattle.opened.specs.Inner.Disc.{Disc, free_of}
 use Rattle.ledger.specs.Runs.{Passable}
 use Rattle.commit.specs.declared.Decision.{Decision}
 use Rattle.commit.specs.Inner.Decision.{DecidesWith}
-use Rattle.insert.specs.Insertion.{insertion}
+use Rattle.insert.specs.Inner.Insertion.{insertion}
 use Rattle.pipeline.specs.declared.Edit.{Edit}
 use Rattle.pipeline.specs.declared.Edit.TheVariants as edit
 

@@ -6,7 +6,7 @@ use Rattle.header.specs.Verdicts.{fstOffset, fstSize, discEnd}
 use Rattle.space.specs.declared.DiscRegion.{DiscRegion}
 use Rattle.space.specs.Inner.Sort.{regionsIn}
 use Rattle.opening.specs.Inner.Prepared.{IsOpen}
-use Rattle.opened.specs.Disc.{Disc, Means}
+use Rattle.opened.specs.Inner.Disc.{Disc, Means}
 use Rattle.totals.specs.declared.Totals.{Totals}
 use Rattle.totals.specs.Totals.{totalsVerdict, totalsMoved}
 use Rattle.totals.specs.Inner.Scan.{longestFrom, goneOf, Moved, movedAs}

@@ -21,7 +21,7 @@ use Rattle.program.specs.Program.{programBehind}
 use Rattle.opening.specs.Opening.{nodesIn, behindTable, usedIn, usedOf, freeOf}
 use Rattle.opening.specs.Laws.OpeningLaws.{used-regions}
 use Rattle.opening.specs.Inner.Prepared.{IsOpen}
-use Rattle.opened.specs.Disc.{Disc, Means}
+use Rattle.opened.specs.Inner.Disc.{Disc, Means}
 use Rattle.edits.specs.Change.{Change, tableVerdict, Plan, refused, nothing, change, filled}
 use Rattle.edits.specs.Edits.{noPlace, planVerdict, totalsTo}
 use Rattle.ledger.proofs.Laws.Files.{placesIn, used-files}

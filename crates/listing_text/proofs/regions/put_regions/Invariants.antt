@@ -1,5 +1,5 @@
 -- `listing_text::regions::put_regions` meets its contract: the lines written, and those of the regions that are left, are those of the free regions.
-use Rattle.free_space.specs.UsedSpace.{free_in}
+use Rattle.free_space.specs.Inner.UsedSpace.{free_in}
 use Rattle.listing_text.proofs.Gaps.{Listing}
 use Rattle.listing_text.proofs.regions.put_regions.Given as goal
 

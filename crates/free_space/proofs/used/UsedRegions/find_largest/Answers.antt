@@ -2,7 +2,7 @@
 use Rattle.std.proofs.Common.{rules, refl, ap, arith}
 use Rattle.space.specs.Laws.FreeLaws.{free-end}
 use Rattle.free_space.specs.Allocate.{largest}
-use Rattle.free_space.specs.UsedSpace.{UsedSpace}
+use Rattle.free_space.specs.Inner.UsedSpace.{UsedSpace}
 use Rattle.free_space.proofs.Choice.{found-is}
 use Rattle.free_space.proofs.used.UsedRegions.find_largest.Goals as goal
 

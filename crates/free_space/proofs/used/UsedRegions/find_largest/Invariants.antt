@@ -3,7 +3,7 @@ use Rattle.std.proofs.Common.{◌≡◌, ◌<◌, unwrap_or}
 use Rattle.std.specs.Option.{ForSome}
 use Rattle.space.specs.declared.DiscRegion.{DiscRegion}
 use Rattle.space.specs.Laws.FreeLaws.{AllEndBy}
-use Rattle.free_space.specs.UsedSpace.{free_in}
+use Rattle.free_space.specs.Inner.UsedSpace.{free_in}
 use Rattle.free_space.specs.Allocate.{noRegion, largest}
 use Rattle.free_space.proofs.used.UsedRegions.find_largest.Given as goal
 

@@ -1,7 +1,7 @@
 -- `UsedRegions::list_free` meets its contract: the regions listed, and those that are left, are the free regions.
 use Rattle.std.proofs.Common.{rules, arith}
 use Rattle.endian.proofs.Parts.{part-put}
-use Rattle.free_space.specs.UsedSpace.{free_in}
+use Rattle.free_space.specs.Inner.UsedSpace.{free_in}
 use Rattle.free_space.proofs.Listed.{list-short, list-fits, short-by-rows, fits-by-rows}
 use Rattle.free_space.proofs.Written.{listed-start, listed-room, listed-one, listed-end}
 use Rattle.free_space.proofs.used.UsedRegions.list_free.Goals as goal

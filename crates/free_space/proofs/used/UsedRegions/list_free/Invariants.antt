@@ -1,5 +1,5 @@
 -- `UsedRegions::list_free` meets its contract: the regions listed, and those that are left, are the free regions.
-use Rattle.free_space.specs.UsedSpace.{free_in}
+use Rattle.free_space.specs.Inner.UsedSpace.{free_in}
 use Rattle.free_space.proofs.Written.{Listed}
 use Rattle.free_space.proofs.used.UsedRegions.list_free.Given as goal
 

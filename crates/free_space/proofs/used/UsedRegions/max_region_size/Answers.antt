@@ -2,7 +2,7 @@
 use Rattle.std.proofs.Common.{refl, ap, ◌∙◌, arith}
 use Rattle.space.specs.Laws.FreeLaws.{free-end}
 use Rattle.free_space.specs.MaxRegionSize.{maxSizeFrom}
-use Rattle.free_space.specs.UsedSpace.{UsedSpace}
+use Rattle.free_space.specs.Inner.UsedSpace.{UsedSpace}
 use Rattle.free_space.proofs.Choice.{grown-more, grown-found}
 use Rattle.free_space.proofs.used.UsedRegions.max_region_size.Goals as goal
 

@@ -2,7 +2,7 @@
 use Rattle.std.proofs.Common.{◌≡◌, ◌≤◌}
 use Rattle.space.specs.Laws.FreeLaws.{AllEndBy}
 use Rattle.free_space.specs.MaxRegionSize.{maxSizeFrom, maxRegionSize}
-use Rattle.free_space.specs.UsedSpace.{free_in}
+use Rattle.free_space.specs.Inner.UsedSpace.{free_in}
 use Rattle.free_space.proofs.used.UsedRegions.max_region_size.Given as goal
 
 abbrev pub invariant-loop-region : goal.invariant-loop-region

@@ -3,7 +3,7 @@ use Rattle.std.specs.Prelude.{ℕ, ◌≡◌, List, length}
 use Rattle.space.specs.declared.DiscRegion.{DiscRegion}
 use Rattle.opening.specs.Opening.{table_of}
 use Rattle.opening.specs.Inner.Prepared.{IsOpen}
-use Rattle.opened.specs.Disc.{disc_in, disc_of}
+use Rattle.opened.specs.Inner.Disc.{disc_in, disc_of}
 
 -- the words hold the used regions of an image, and the header, the table and the program's own region are that image's
 pub record Backed (header table : List ℕ) (own : DiscRegion) (w : List ℕ) (m : ℕ) : Type 0 where

@@ -1,0 +1,2 @@
+-- What only inner contracts say.
+pub mod Counted

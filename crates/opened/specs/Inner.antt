@@ -1,0 +1,4 @@
+-- What only inner contracts say.
+pub mod Backed
+pub mod Disc
+pub mod Parts
