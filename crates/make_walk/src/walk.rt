@@ -1,8 +1,8 @@
 // A walk along a path that may lead below the tree as it is.
-ghost use Rattle.std.specs.Prelude.{◌≡◌, Ok, ◌<◌, ◌^◌, length};
+ghost use Rattle.std.specs.Prelude.{◌≡◌, Ok, ◌<◌, ◌^◌};
 ghost use Rattle.tree.specs.Table as table_of;
 ghost use Rattle.tree.specs.Table.{nodesOf};
-ghost use Rattle.make_walk.specs.Inner.Walk.{plainVerdict, walk_from, moved, directoryVerdict, backStep, intoStep, step_of, lastVerdict};
+ghost use Rattle.make_walk.specs.Inner.Walk.{plainVerdict, walk_from, directoryVerdict, backStep, intoStep, step_of, lastVerdict};
 
 use fst::Table;
 use refusal::{Refusal, Verdict};
@@ -70,18 +70,6 @@ impl<'a> Walk<'a> {
         Ok(())
     }
 
-    // To an entry of the table.
-    fn to(self, entry: usize) -> Self
-        requires { entry < length self.nodes }
-        ensures { result ≡ moved self.entry entry 0 }
-    {
-        Walk {
-            entry,
-            level: 0,
-            ..self
-        }
-    }
-
     // Back over the last named step, never above the start: 18.
     fn back(self) -> Result<Self, Refusal>
         ensures { result ≡ backStep self.entry }
@@ -96,7 +84,10 @@ impl<'a> Walk<'a> {
             return Err(Refusal::NotFound);
         }
         let parent = self.table.parent(self.entry);
-        Ok(self.to(parent))
+        Ok(Walk {
+            entry: parent,
+            ..self
+        })
     }
 
     // To the first child with that name, whatever its kind, or into a directory that is not there yet: 13.
@@ -106,7 +97,10 @@ impl<'a> Walk<'a> {
     {
         if self.level == 0 {
             if let Ok(child) = self.table.child(self.entry, name) {
-                return Ok(self.to(child as usize));
+                return Ok(Walk {
+                    entry: child as usize,
+                    ..self
+                });
             }
         }
         if !fst_text::is_safe(name) {

@@ -6,9 +6,10 @@ use Rattle.tree.specs.Laws.LookupLaws.{child-inside}
 use Rattle.fst.proofs.Nodes.{opened}
 use Rattle.make_walk.proofs.walk.Walk.into.Goals as goal
 
-pub to-requires : goal.to-requires
-to-requires c =
+pub invariant_of-result : goal.invariant_of-result
+invariant_of-result c =
     let T = c.self.inside.table in
-    let well = (opened T c.self.invariant.0.bytes c.self.invariant.0.opens).well in
-    rw (← c.self.view_is)
-    (child-inside (nodesOf T) c.self.inside.entry c.args.name.now c.in-Ok.child well (omega (arith, c.self.invariant.1, length-nodesOf T)) (sym c.child.ensures ∙ c.in-Ok.is))
+    let held = c.self.invariant.0 in
+    let l = length-nodesOf T in
+    let child = child-inside (nodesOf T) c.self.inside.entry _ _ (opened T held.bytes held.opens).well (omega (arith, c.self.invariant.1)) (sym c.child.ensures ∙ c.in-Ok.is) in
+    (held, omega (arith, child))
