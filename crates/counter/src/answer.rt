@@ -1,5 +1,5 @@
 // A value or a refusal in C: 0 and the value in the memory that the caller lends, or the refusal's number and that memory as it was.
-ghost use Rattle.std.specs.Prelude.{◌≡◌};
+ghost use Rattle.std.specs.Prelude.{◌≡◌, ℕ, List, []};
 ghost use Rattle.counter.specs.Replies.{numberTold, slotsTold, discWords, discTotalsWords, regionWords, one, windowWords, totalsWords};
 
 use answers::Disc;
@@ -11,8 +11,6 @@ use window::Window;
 
 /// A value that C is lent as it stands, with its words in the order of their slots.
 pub trait Value: Copy {
-    ghost use Rattle.std.specs.Prelude.{ℕ, List};
-
     ghost words: { Self → List ℕ };
 }
 
@@ -33,8 +31,6 @@ pub fn give<T: Value>(slot: &mut T, answer: Result<T, Refusal>) -> u32
 
 // Where there is no value.
 impl Value for () {
-    ghost use Rattle.std.specs.Prelude.{[]};
-
     ghost words = { λ _. [] };
 }
 

@@ -1,20 +1,17 @@
 -- What an edit decides on, on the disc that opened, is entered in the record as any edit's decision is. Assumes nothing.
-use Rattle.std.specs.Prelude.{Result, Ok, Err, ℕ, ◌≡◌, List, [], length}
-use Rattle.std.proofs.Common.{refl, ap, sym, ◌∙◌}
+use Rattle.std.specs.Prelude.{Result, Ok, Err, ℕ, ◌≡◌, List, length}
+use Rattle.std.proofs.Common.{refl, ap, ◌∙◌}
 use Rattle.refusal.specs.Refusal.{Verdict}
 use Rattle.refusal.specs.declared.Refusal.{Refusal}
 use Rattle.totals.specs.declared.Totals.{Totals}
 use Rattle.totals.specs.Inner.Scan.{moved}
 use Rattle.opening.specs.Opening.{opening, nodesIn, behindTable, usedIn, freeOf}
 use Rattle.edits.specs.Edits as edits
-use Rattle.edits.specs.Edits.{planned, plan_of, planVerdict, planNumber, numberedAs}
+use Rattle.edits.specs.Edits.{planned, plan_of, planVerdict, numberedAs}
 use Rattle.edits.specs.Promise.{Lent, onlyVerdict, Edited}
-use Rattle.opened.specs.Inner.Disc.{Disc, disc_of, Means}
+use Rattle.opened.specs.Disc.{Disc, disc_of, Means}
 use Rattle.commit.specs.declared.Decision.{Decision}
-use Rattle.commit.specs.Inner.Decision.{DecidedAs, Decides, verdictIn}
-use Rattle.insert.specs.declared.new_entry.Kind.{Kind}
-use Rattle.insert.specs.declared.new_entry.Kind.TheVariants.{File, Directory}
-use Rattle.insert.specs.Inner.Insertion.{insertion, planInserted}
+use Rattle.commit.specs.Inner.Decision.{DecidedAs, verdictIn}
 use Rattle.totals_after.specs.Inner.Accounting.{OnDisc, OfUsed, accounted, unless, enteredFor, AccountedFor}
 use Rattle.totals_after.specs.Laws.AccountLaws.{on-disc}
 use Rattle.totals_after.proofs.Edited.{refused-decision, open-accounted}
@@ -30,12 +27,6 @@ plan_same (edits.moveFile k to) image words = refl
 plan_same (edits.resizeFile k n) image words = refl
 plan_same (edits.fillFile k clip) image words = refl
 plan_same edits.rewrite image words = refl
-
--- an insert, by what it inserts
-pub inserted : (kind : Kind) (p : ℕ) (name : List ℕ) (d : Disc) (room : ℕ) (bytes : List ℕ) (r : Result Decision Refusal) → Decides (planInserted kind d.nodes p name) d room bytes r →
-    EditDecided (insertion kind p name) d room bytes [] r
-inserted File p name d room bytes r h = record { decided = h; passable = tt }
-inserted Directory p name d room bytes r h = record { decided = h; passable = tt }
 
 -- ---- on the disc that an image means
 
