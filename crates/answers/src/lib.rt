@@ -1,12 +1,10 @@
 // What the calls on an image that opened share: their answers, and what is told of the disc and of a region.
 #![tactic(auto)]
 
-ghost use Rattle.std.specs.Prelude.{◌≡◌, length};
-ghost use Rattle.answers.specs.Answers.{discOf, told_of, maxRegionSizeAnswer};
-ghost use Rattle.opening.specs.Inner.Prepared.{IsOpen, Prepares};
+ghost use Rattle.std.specs.Prelude.{◌≡◌};
+ghost use Rattle.answers.specs.Answers.{told_of};
 
 use opened::OpenDisc;
-use refusal::Refusal;
 
 /// What opening tells of a disc: offsets and sizes in bytes.
 #[repr(C)]
@@ -35,40 +33,4 @@ pub fn told(disc: &OpenDisc<'_>) -> Disc
         entries: disc.entries(),
         used: disc.used_size(),
     }
-}
-
-// For the callers that are still to go over.
-
-// What opening tells of an image that it accepts.
-pub fn disc_of(image: &[u8], words: &[u32], count: usize) -> Disc
-    requires { IsOpen image.now words.now count }
-    ensures { result ≡ discOf image.now }
-{
-    let fst_offset = header::fst_offset(image);
-    let fst_size = header::fst_size(image);
-    let disc_end = opening::disc_end(image);
-    let entries = endian::read_u32(image, fst_offset as usize + 8);
-    let used = free_space::used_size(words, count, disc_end);
-    Disc {
-        fst_offset,
-        fst_size,
-        disc_end,
-        entries,
-        used,
-    }
-}
-
-pub fn sized(
-    image: &[u8],
-    words: &[u32],
-    prepared: Result<usize, Refusal>,
-    offset: u32,
-    size: u32,
-) -> Result<u32, Refusal>
-    requires { Prepares image.now words.now prepared }
-    ensures { result ≡ maxRegionSizeAnswer image.now (length words.now) offset size }
-{
-    let count = prepared?;
-    let disc = disc_of(image, words, count);
-    Ok(free_space::max_region_size(words, count, disc.disc_end, offset, size))
 }
