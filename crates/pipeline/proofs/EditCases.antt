@@ -9,7 +9,7 @@ use Rattle.opening.specs.Opening.{opening, nodesIn, behindTable, usedIn, freeOf}
 use Rattle.edits.specs.Edits as edits
 use Rattle.edits.specs.Edits.{planned, plan_of, planVerdict, numberedAs}
 use Rattle.edits.specs.Promise.{Lent, onlyVerdict, Edited}
-use Rattle.opened.specs.Disc.{Disc, disc_of, Means}
+use Rattle.opened.specs.Inner.Disc.{Disc, disc_of, Means}
 use Rattle.commit.specs.declared.Decision.{Decision}
 use Rattle.commit.specs.Inner.Decision.{DecidedAs, verdictIn}
 use Rattle.totals_after.specs.Inner.Accounting.{OnDisc, OfUsed, accounted, unless, enteredFor, AccountedFor}
