@@ -2,14 +2,12 @@
 -- Assumes nothing: these are definitions.
 use Rattle.std.specs.Prelude.{Result, Ok, Err}
 use Rattle.refusal.specs.Refusal.{Verdict}
-use Rattle.std.specs.Prelude.{ℕ, List, length}
+use Rattle.std.specs.Prelude.{ℕ, List}
 use Rattle.refusal.specs.declared.Refusal.{Refusal}
 use Rattle.header.specs.Verdicts.{fstOffset, discEnd, fstSize}
 use Rattle.free_space.specs.MaxRegionSize.{maxRegionSize}
 use Rattle.opening.specs.Opening.{opening, table_of, freeOf, usedOf}
 use Rattle.tree.specs.Table.{count}
-use Rattle.space.specs.Used.{totalSize}
-use Rattle.opened.specs.Inner.Disc as opened
 use Rattle.answers.specs.declared.Disc.{Disc}
 
 -- an answer behind tests: the refusal that they give, or the answer
@@ -24,16 +22,6 @@ discOf image = record {
   disc_end = discEnd image;
   entries = count (table_of image);
   used = usedOf image;
-}
-
--- the same of the disc that an image means
-abbrev pub told_of : opened.Disc → Disc
-told_of d = record {
-  fst_offset = d.start;
-  fst_size = d.room;
-  disc_end = d.end;
-  entries = length d.nodes;
-  used = totalSize d.used;
 }
 
 unfoldable pub maxRegionSizeAnswer : List ℕ → ℕ → ℕ → ℕ → Result ℕ Refusal

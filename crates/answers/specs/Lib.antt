@@ -1,2 +1,3 @@
 pub mod Answers
+pub mod Inner
 pub mod Laws

@@ -2,7 +2,7 @@
 #![tactic(auto)]
 
 ghost use Rattle.std.specs.Prelude.{◌≡◌};
-ghost use Rattle.answers.specs.Answers.{told_of};
+ghost use Rattle.answers.specs.Inner.Told.{told_of};
 
 use opened::OpenDisc;
 

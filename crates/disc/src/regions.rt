@@ -8,6 +8,7 @@ ghost use Rattle.disc.specs.Calls.{opened_of, totalsAnswer, totalsOf, recordAnsw
 use crate::DiscTotals;
 use answers::Disc;
 use free_clusters::Clusters;
+use free_space::UsedRegions;
 use opened::{Lent, OpenDisc};
 use program::Program;
 use refusal::Refusal;
@@ -41,12 +42,12 @@ pub fn totals(image: &[u8], words: &mut [u32]) -> Result<DiscTotals, Refusal>
 fn record_of(disc: &OpenDisc<'_>) -> Totals
     ensures { (image : List ℕ) → Means image disc.now → result ≡ totalsOf image 0 }
 {
-    let (words, used) = (disc.words, disc.used);
     let table_end = disc.start() + disc.room();
+    let used = UsedRegions::new(disc.words, disc.used, disc.end());
     let none = DiscRegion { offset: 0, size: 0 };
     Totals {
         used: disc.used_size(),
-        largest: totals::largest_free(words, used, disc.end(), table_end, none, none),
+        largest: totals::largest_after(&used, disc.end(), table_end, none, none),
         edits: 0,
     }
 }

@@ -115,11 +115,3 @@ pub fn same(a: &[u8], at: usize, b: &[u8], start: usize, n: usize) -> bool
 {
     a[at..at + n] == b[start..start + n]
 }
-
-// For the callers that are still to go over.
-
-pub fn wide(x: u32) -> u64
-    ensures { (result ≡ x) × (result < 4294967296) }
-{
-    u64::from(x)
-}

@@ -20,7 +20,8 @@ use Rattle.opening.specs.Opening.{opening, table_of, nodesIn, freeOf}
 use Rattle.opened.specs.Inner.Disc.{Disc, OpensAs, Means, free_of}
 use Rattle.opened.specs.Laws.Meant.{start_meant, table_meant, nodes_meant, free_meant}
 use Rattle.answers.specs.declared.Disc as Told
-use Rattle.answers.specs.Answers.{behind, discOf, told_of, maxRegionSizeAnswer}
+use Rattle.answers.specs.Answers.{behind, discOf, maxRegionSizeAnswer}
+use Rattle.answers.specs.Inner.Told.{told_of}
 use Rattle.answers.specs.Laws.AnswerLaws.{behind-passed, asked, not_asked, opened_means, opened_passes, told_meant}
 use Rattle.files.specs.Files.{fileIn, entryAnswer, windowAnswer, openFileAnswer, fileSizeAnswer, maxFileSizeAnswer, dolVerdict, dolAs, openDolAnswer}
 

@@ -1,16 +1,12 @@
 // The free regions counted in clusters of 0x8000 bytes.
 #![tactic(auto)]
 
-ghost use Rattle.std.specs.Prelude.{◌≡◌, length, refl};
+ghost use Rattle.std.specs.Prelude.{refl};
 ghost use Rattle.std.proofs.Common.{arith};
-ghost use Rattle.space.specs.Free.{freeRegions};
-ghost use Rattle.space.specs.Inner.Sort.{regionsIn};
-ghost use Rattle.space.specs.Inner.Words.{SortedDisjoint};
 ghost use Rattle.free_clusters.specs.Inner.Counted.{Counted};
-ghost use Rattle.free_space.specs.Listing.{clusterRow, listingOf, listAfter};
+ghost use Rattle.free_space.specs.Listing.{clusterRow};
 
 use free_space::{Row, UsedRegions};
-use refusal::Refusal;
 use space::DiscRegion;
 
 /// A region in clusters of 0x8000 bytes.
@@ -61,20 +57,4 @@ impl Row<3> for Clusters {
         row[1] = counted.clusters;
         row[2] = counted.rest;
     }
-}
-
-// For the callers that are still to go over.
-
-// Lists the free regions in clusters, three words each, rising. Refuses 9, with nothing written, if the list is short.
-pub fn free_clusters(
-    words: &[u32],
-    count: usize,
-    disc_end: u32,
-    list: &mut [u32],
-) -> Result<usize, Refusal>
-    requires { SortedDisjoint words.now count disc_end }
-    ensures value { result ≡ listingOf clusterRow (freeRegions disc_end (regionsIn words.now 0 count)) (length list.old) }
-    ensures list_after { list.new ≡ listAfter clusterRow (freeRegions disc_end (regionsIn words.now 0 count)) list.old }
-{
-    UsedRegions::new(words, count, disc_end).list_free::<3, Clusters>(list)
 }

@@ -5,22 +5,15 @@ use Rattle.std.specs.Option.{ForSome, ok_or}
 use Prim.Native.Nat.{ℕ, ◌+◌, ◌<◌, ◌≤◌}
 use mathlib.Core.Path.{◌≡◌, refl, sym, ap}
 use mathlib.Core.Bool.{Bool, true, false, cond, ◌&&◌}
-use mathlib.Core.List.{List, [], ◌∷◌}
+use mathlib.Core.List.{List, ◌∷◌}
 use native.Mathlib.Omega.{arith}
-use native.Mathlib.Numerals.{add-one}
 use borrow.Author.Tests.{le-leb, lt-leb, lt-ltb, le-ltb, eq-eqb, ne_eqb}
-use lib.ListN.{get_or, drop, drop_of_length-le}
-use lib.Seq.{drop-cons}
 use lib.Dec.{leb, eqb}
 use Rattle.space.specs.declared.DiscRegion.{DiscRegion}
 use Rattle.refusal.specs.declared.Refusal.TheVariants.{NotEnoughSpace, InvalidAlignment}
 use Rattle.space.specs.Used.{end_of}
 use Rattle.free_space.specs.MaxRegionSize.{insideFree, besideFree, maxSizeFrom}
 use Rattle.free_space.specs.Allocate.{rest, fits, betterOf, noRegion, largest, powers, foundOrNone, allocationOf}
-use Rattle.space.specs.Inner.Sort.{regionsIn}
-use Rattle.space.specs.Inner.Words.{gaps}
-use Rattle.space.proofs.Pairs.{length-regions}
-use Rattle.free_space.proofs.GapAt.{length-gaps}
 
 -- ---- the better of two
 
@@ -54,15 +47,6 @@ module _ (align wish : ℕ) (best r : DiscRegion) where
 pub found-is : (o : Option DiscRegion) (b : DiscRegion) → ForSome o (λ (x : DiscRegion). 0 < x.size) → unwrap_or o noRegion ≡ b → o ≡ foundOrNone b
 found-is None b h e = rw (← e)
 found-is (Some x) b h e = rw (← e, ne_eqb x.size 0 (λ z. omega (arith, h x refl)))
-
--- ---- the gaps
-
--- gap i and the gaps after it
-pub gaps-more : (w : List ℕ) (m e i : ℕ) → i ≤ m → drop i (gaps 0 e (regionsIn w 0 m)) ≡ get_or (gaps 0 e (regionsIn w 0 m)) i noRegion ∷ drop (i + 1) (gaps 0 e (regionsIn w 0 m))
-gaps-more w m e i h = rw (add-one i) (drop-cons (gaps 0 e (regionsIn w 0 m)) i noRegion (omega (arith, length-gaps 0 e (regionsIn w 0 m), length-regions w 0 m)))
-
-pub gaps-over : (w : List ℕ) (m e i : ℕ) → m < i → drop i (gaps 0 e (regionsIn w 0 m)) ≡ []
-gaps-over w m e i h = drop_of_length-le (gaps 0 e (regionsIn w 0 m)) {i = i} (omega (arith, length-gaps 0 e (regionsIn w 0 m), length-regions w 0 m))
 
 -- ---- the answer of an allocation
 

@@ -1,15 +1,14 @@
 -- What the invariant of `UsedRegions` says of its value. Assumes nothing.
-use Rattle.std.specs.Prelude.{ℕ, suc, ◌+◌, ◌≤◌, ◌≡◌, Bool, true, false, cond, ltb, List, [], ◌∷◌, length}
+use Rattle.std.specs.Prelude.{ℕ, suc, ◌+◌, ◌≤◌, ◌≡◌, refl, Bool, true, false, cond, ltb, List, [], ◌∷◌, length}
 use Rattle.std.proofs.Common.{sym, ap, arith}
 use Rattle.space.specs.declared.DiscRegion.{DiscRegion}
-use Rattle.space.specs.Used.{nonempty, totalSize}
+use Rattle.space.specs.Used.{end_of, nonempty, totalSize}
 use Rattle.space.specs.Inner.Sort.{regionsIn}
 use Rattle.space.specs.Inner.Words.{SortedDisjoint, gaps}
 use Rattle.space.proofs.Pairs.{length-regions}
 use Rattle.space.proofs.Gaps.{gaps-free}
 use Rattle.free_space.specs.Inner.UsedSpace.{UsedSpace, used_in, free_in}
 use Rattle.free_space.proofs.Listed.{total-gaps}
-use Rattle.free_space.proofs.GapAt.{length-gaps}
 
 few-more : (t : Bool) (x : DiscRegion) (xs : List DiscRegion) (n : ℕ) → length xs ≤ n → length (cond t (x ∷ xs) xs) ≤ suc n
 few-more true x xs n h = omega arith
@@ -19,6 +18,11 @@ nonempty-few : (xs : List DiscRegion) → length (nonempty xs) ≤ length xs
 unfolding nonempty
 nonempty-few [] = omega arith
 nonempty-few (x ∷ xs) = few-more (ltb 0 x.size) x (nonempty xs) (length xs) (nonempty-few xs)
+
+length-gaps : (at e : ℕ) (xs : List DiscRegion) → length (gaps at e xs) ≡ suc (length xs)
+unfolding gaps
+length-gaps at e [] = refl
+length-gaps at e (x ∷ xs) = ap suc (length-gaps (end_of x) e xs)
 
 module _ (w : List ℕ) (m e : ℕ) (s : SortedDisjoint w m e) (u : UsedSpace) (is : used_in w m e ≡ u) where
   -- the used regions end by the disc's end

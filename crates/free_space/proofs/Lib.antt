@@ -1,6 +1,5 @@
 -- What the proofs of the functions cite.
 pub mod Choice
-pub mod GapAt
 pub mod Kept
 pub mod Left
 pub mod Listed

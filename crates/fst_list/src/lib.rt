@@ -5,7 +5,6 @@ ghost use Rattle.std.specs.Prelude.{◌≡◌, [], ◌∷◌, ◌+◌, ◌*◌, 
 ghost use Rattle.endian.specs.Bytes.{put};
 ghost use Rattle.tree.specs.Table as table_of;
 ghost use Rattle.tree.specs.Table.{none, nodesOf, name_of, parent_of};
-ghost use Rattle.fst_check.specs.Inner.Reading.{Opens};
 ghost use Rattle.fst_list.specs.Rows.{imagePlace, row_of, listVerdict, listed};
 ghost use Rattle.fst_text.specs.Inner.Texts.{textAt};
 ghost use Rattle.fst_list.specs.Inner.ParentsIn.{ParentsIn};
@@ -186,7 +185,7 @@ fn add_entry(table: &Table<'_>, base: u32, list: &mut [u32], k: usize, size: u32
 
 /// All entries, six words each: kind (0 file, 1 directory), the directory it is nested in, offset (0 for a directory), size or next, and where its
 /// name stands in the image, which has the table at `base`, and how long it is. A list that is too short stays as it is: `LimitOrMemory`.
-pub fn list_entries_in(table: &Table<'_>, base: u32, list: &mut [u32]) -> Verdict
+pub fn list_entries(table: &Table<'_>, base: u32, list: &mut [u32]) -> Verdict
     requires { base + length table.now < 2 ^ 32 }
     ensures value { result ≡ listVerdict table.now (length list.old) }
     ensures list_after { list.new ≡ listed base table.now list.old }
@@ -201,13 +200,4 @@ pub fn list_entries_in(table: &Table<'_>, base: u32, list: &mut [u32]) -> Verdic
         add_entry(table, base, list, k, size as u32);
     }
     Ok(())
-}
-
-// For the callers that are still to go over.
-pub fn list_entries(table: &[u8], base: u32, list: &mut [u32]) -> Verdict
-    requires { Opens table.now × (base + length table.now < 2 ^ 32) }
-    ensures value { result ≡ listVerdict table.now (length list.old) }
-    ensures list_after { list.new ≡ listed base table.now list.old }
-{
-    list_entries_in(&Table::new(table), base, list)
 }

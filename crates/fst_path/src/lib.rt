@@ -6,7 +6,6 @@ ghost use Rattle.tree.specs.Table as table_of;
 ghost use Rattle.tree.specs.Table.{nodesOf};
 ghost use Rattle.tree.specs.Lookup as lookup_of;
 ghost use Rattle.tree.specs.Lookup.{components, goesBack, found_at};
-ghost use Rattle.fst_check.specs.Inner.Reading.{Opens};
 ghost use Rattle.fst.specs.Inner.Held.{Held};
 ghost use Rattle.fst_path.specs.Inner.Steps.{Trail, onward};
 
@@ -86,7 +85,7 @@ pub fn lookup(table: &Table<'_>, start: u32, path: &[u8]) -> Result<u32, Refusal
 }
 
 /// The same, with the entry.
-pub fn find_in(table: &Table<'_>, start: u32, path: &[u8]) -> Found
+pub fn find(table: &Table<'_>, start: u32, path: &[u8]) -> Found
     requires { length path.now < 2 ^ 63 }
     ensures { result ≡ found_at (nodesOf table.now) (lookup_of.lookup (nodesOf table.now) start path.now) }
 {
@@ -94,12 +93,4 @@ pub fn find_in(table: &Table<'_>, start: u32, path: &[u8]) -> Found
         Ok(k) => table.entry(k),
         Err(cause) => Found::Refused(cause),
     }
-}
-
-// For the callers that are still to go over.
-pub fn find(table: &[u8], start: u32, path: &[u8]) -> Found
-    requires { Opens table.now × (length path.now < 2 ^ 63) }
-    ensures { result ≡ found_at (nodesOf table.now) (lookup_of.lookup (nodesOf table.now) start path.now) }
-{
-    find_in(&Table::new(table), start, path)
 }

@@ -43,6 +43,6 @@ pub fn check_used(parts: Parts<'_>, words: &mut [u32], own: DiscRegion) -> Resul
     let end = header::disc_end(parts.header) as u32;
     let count = endian::read_u32(parts.table, 8) as usize;
     let m = collect(parts.table, words, count, to as u32, own);
-    space_check::check_regions(words, count + 2, m, end)?;
+    space_check::check(words, count + 2, m, end)?;
     Ok(m)
 }

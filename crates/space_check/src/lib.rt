@@ -41,12 +41,3 @@ pub fn check(words: &mut [u32], buf: usize, count: usize, disc_end: u32) -> Verd
     space_sort::sort(words, buf, count);
     check_sorted(words, count, disc_end)
 }
-
-// For the callers that are still to go over.
-
-pub fn check_regions(words: &mut [u32], buf: usize, count: usize, disc_end: u32) -> Verdict
-    requires { (count ≤ buf) × (2 * (buf + count) ≤ length words.old) × AllNonempty (regionsIn words.old 0 count) }
-    ensures { Checked words.old words.new buf count disc_end result }
-{
-    check(words, buf, count, disc_end)
-}

@@ -1,9 +1,7 @@
 // The totals record that goes into an edit and comes back, and the largest free region that an edit leaves.
 #![tactic(auto)]
 
-ghost use Rattle.std.specs.Prelude.{◌≡◌, ◌-◌, ◌<◌, ◌^◌, drop, max, OnOk, OnErr};
-ghost use Rattle.space.specs.Inner.Sort.{regionsIn};
-ghost use Rattle.space.specs.Inner.Words.{SortedDisjoint};
+ghost use Rattle.std.specs.Prelude.{◌≡◌, ◌<◌, ◌^◌, drop, max, OnOk, OnErr};
 ghost use Rattle.totals.specs.Totals.{totalsVerdict, totalsMoved};
 ghost use Rattle.totals.specs.Inner.Scan.{longestBeside, longestFrom, goneOf};
 
@@ -102,25 +100,4 @@ pub fn largest_after(
         }
     }
     longer(best, at, disc_end, new)
-}
-
-// For the callers that are still to go over.
-pub fn largest_free(
-    words: &[u32],
-    count: usize,
-    disc_end: u32,
-    table_end: u32,
-    old: DiscRegion,
-    new: DiscRegion,
-) -> u32
-    requires { SortedDisjoint words.now count disc_end × (0 < count) }
-    ensures { result ≡ longestFrom disc_end (goneOf old) new table_end 0 (regionsIn words.now 1 (count - 1)) }
-{
-    largest_after(
-        &UsedRegions::new(words, count, disc_end),
-        disc_end,
-        table_end,
-        old,
-        new,
-    )
 }

@@ -7,7 +7,8 @@ use Rattle.refusal.specs.declared.Refusal.{Refusal}
 use Rattle.opening.specs.Opening.{opening}
 use Rattle.opened.specs.Inner.Disc.{Disc, Means, OpensAs}
 use Rattle.opened.specs.Laws.Meant.{start_meant, room_meant, end_meant, entries_meant, total_meant}
-use Rattle.answers.specs.Answers.{behind, discOf, told_of}
+use Rattle.answers.specs.Answers.{behind, discOf}
+use Rattle.answers.specs.Inner.Told.{told_of}
 
 pub behind-passed : {A : Type 0} (v : Verdict) (f : Refusal → A) (a : A) → v ≡ Ok tt → a ≡ behind v f a
 behind-passed v f a e = rw e

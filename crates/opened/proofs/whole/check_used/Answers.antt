@@ -26,8 +26,8 @@ collect-m-requires g c =
     let n = count_in _ _ c.requires.0.table_is _ k _ c.read_u32-count.ensures in
     (some-entry _ _ _ k n, rw (table_is _ _ c.requires.0.table_is _ k) (entries-inside _ _ _ k n), words-enough _ _ _ k n)
 
-pub check_regions-requires : goal.check_regions-requires
-check_regions-requires g c =
+pub check-requires : goal.check-requires
+check-requires g c =
     let k = readable g.image (length c.args.words.now) c.requires.0.bytes c.requires.1.0 in
     let n = count_in _ _ c.requires.0.table_is _ k _ c.read_u32-count.ensures in (
       omega (arith, c.collect-m.ensures.bound),
@@ -41,13 +41,13 @@ returns g c =
     let n = count_in _ _ c.requires.0.table_is _ k _ c.read_u32-count.ensures in
     let h = c.requires.0.head in
     let used = used-words _ _ _ _ _ _ _ (table_is _ _ c.requires.0.table_is _ k) (c.table_end-to.ensures ∙ table_end_is _ _ _ h) n c.requires.1.1.1 c.collect-m.ensures in
-    left_open _ _ _ _ _ _ _ _ c.requires.1.0 c.requires.1.1.0 used (c.disc_end-end.ensures ∙ end_is _ _ _ h) c.in_ok-check_regions.ensures (c.check_regions.auto.words ∙ c.collect-m.auto.words) c.requires.0.bytes refl
+    left_open _ _ _ _ _ _ _ _ c.requires.1.0 c.requires.1.1.0 used (c.disc_end-end.ensures ∙ end_is _ _ _ h) c.in_ok-check.ensures (c.check.auto.words ∙ c.collect-m.auto.words) c.requires.0.bytes refl
 
-pub returns-in_err-check_regions : goal.returns-in_err-check_regions
-returns-in_err-check_regions g c =
+pub returns-in_err-check : goal.returns-in_err-check
+returns-in_err-check g c =
     let k = readable g.image (length c.args.words.now) c.requires.0.bytes c.requires.1.0 in
     let n = count_in _ _ c.requires.0.table_is _ k _ c.read_u32-count.ensures in
     let h = c.requires.0.head in
     let used = used-words _ _ _ _ _ _ _ (table_is _ _ c.requires.0.table_is _ k) (c.table_end-to.ensures ∙ table_end_is _ _ _ h) n c.requires.1.1.1 c.collect-m.ensures in
     let p = err_from_is_err_and c.from_residual.result c.from_residual.ensures.1 in
-    rw (p.1, p.2) (left-refused _ _ _ _ _ _ _ _ c.requires.1.0 c.requires.1.1.0 used (c.disc_end-end.ensures ∙ end_is _ _ _ h) c.in_err-check_regions.ensures (c.check_regions.auto.words ∙ c.collect-m.auto.words) _ refl)
+    rw (p.1, p.2) (left-refused _ _ _ _ _ _ _ _ c.requires.1.0 c.requires.1.1.0 used (c.disc_end-end.ensures ∙ end_is _ _ _ h) c.in_err-check.ensures (c.check.auto.words ∙ c.collect-m.auto.words) _ refl)

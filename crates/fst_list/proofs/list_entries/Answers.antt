@@ -1,4 +1,4 @@
--- `fst_list::list_entries_in` meets its contract. The invariant of its loop: the rows of the entries below k stand in the list, and the ends that are kept are of this table.
+-- `fst_list::list_entries` meets its contract. The invariant of its loop: the rows of the entries below k stand in the list, and the ends that are kept are of this table.
 use native.Mathlib.Omega.{arith}
 use Prim.Native.Nat.{◌*◌, ◌≤◌}
 use mathlib.Core.Path.{◌≡◌, ◌∙◌}
@@ -9,7 +9,7 @@ use lib.Dec.{ltb}
 use Rattle.tree.specs.Table as tab
 use Rattle.fst_list.specs.Rows.{listVerdict, listed}
 use Rattle.fst_list.proofs.RowLaws.{listing_start, listing-parents, listing-turn, listing-end}
-use Rattle.fst_list.proofs.list_entries_in.Goals as goal
+use Rattle.fst_list.proofs.list_entries.Goals as goal
 
 pub returns-then-list-count : goal.returns-then-list-count
 unfolding listVerdict listed

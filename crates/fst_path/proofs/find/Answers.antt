@@ -5,7 +5,7 @@ use borrow.Author.Tests.{lt-ltb}
 use lib.ListN.{length}
 use Rattle.tree.specs.Table.{nodesOf}
 use Rattle.tree.specs.Laws.Accepted.{length-nodesOf}
-use Rattle.fst_path.proofs.find_in.Goals as goal
+use Rattle.fst_path.proofs.find.Goals as goal
 
 pub returns-in-Ok : goal.returns-in-Ok
 returns-in-Ok c =
