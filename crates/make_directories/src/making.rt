@@ -35,8 +35,10 @@ fn step(table: &mut Growing<'_>, entry: usize, name: &[u8]) -> Result<usize, Ref
 /// Along the components of a path from the entry `start`, to the entry where it ends; 9 once there is no room for a directory, since there is
 /// none for the whole then.
 pub fn make_along(table: &mut Growing<'_>, start: usize, path: &[u8]) -> Result<usize, Refusal>
-    requires { IsTable table.old × (start < length (tree_of table.old)) × (madeVerdict (make (tree_of table.old) [] start false (components path.now)) ≡ (Ok tt)) }
-    ensures reaches { Reaches (make (tree_of table.old) [] start false (components path.now)) (length table.old.bytes.now) table.new result }
+    requires { IsTable table.old × (start < length (tree_of table.old))
+        × (madeVerdict (make (tree_of table.old) [] start false (components path.now)) ≡ (Ok tt)) }
+    ensures reaches { Reaches (make (tree_of table.old) [] start false (components path.now))
+        (length table.old.bytes.now) table.new result }
     ensures words { table.new.words ≡ table.old.words }
     ensures length { length table.new.bytes.now ≡ length table.old.bytes.now }
     ensures same_reference { table.new.bytes.ghost_name ≡ table.old.bytes.ghost_name }

@@ -15,7 +15,7 @@ use Rattle.refusal.specs.declared.Refusal.TheVariants.{InvalidNameByte, UnsafeNa
 use Rattle.tree.specs.Table.{Node, none, plain, safe, parent_of}
 use Rattle.tree.specs.Lookup.{isDirectory, components, childOf, stays, goesBack}
 use Rattle.edits.specs.Inner.Troubles.{ifChild, troubleOf}
-use Rattle.make_walk.specs.Inner.Walk.{Place, at_start, walk_from, moved, plainVerdict, directoryVerdict, childStep, behind, step_of, lastVerdict}
+use Rattle.make_walk.specs.Inner.Walk.{Place, at_start, walk_from, moved, plainVerdict, directoryVerdict, childStep, behind, step_of, lastVerdict, pathTrouble}
 
 -- ---- what the new names come to: nothing, or 12
 
@@ -156,11 +156,7 @@ pub walk_ends : (whole : Verdict) (most : ℕ) (p : Place) → Walking whole mos
 walk_ends whole most p f r e = e ∙ sym (f.left ∙ trouble-last p.nodes p.start p.entry p.names p.level f.told)
 
 module _ (nodes : List Node) (start : ℕ) (path : List ℕ) where
-  -- 15, then the troubles along the path
-  abbrev pub whole_of : Verdict
-  whole_of = refuse (leb (length nodes) start) NoSuchEntry (troubleOf nodes start start 0 false (components path))
-
-  pub walk-starts : (p : Place) → walk_from nodes start ≡ Ok p → Walking whole_of (length (components path)) p (components path)
+  pub walk-starts : (p : Place) → walk_from nodes start ≡ Ok p → Walking (pathTrouble nodes start path) (length (components path)) p (components path)
   walk-starts p = go (leb (length nodes) start)
     where
       go : (t : Bool) → cond t (Err NoSuchEntry) (Ok (at_start nodes start)) ≡ Ok p →
