@@ -17,10 +17,6 @@ pub fn entries(image: &[u8], words: &mut [u32], list: &mut [u32]) -> Result<Disc
 {
     let lent = Lent::new(words);
     let disc = OpenDisc::of_image(image, lent.memory)?;
-<<<<<<< HEAD
     fst_list::list_entries(&Table::new(disc.table()), disc.start(), list)?;
-=======
-    fst_list::list_entries_in(&Table::new(disc.table()), disc.start(), list)?;
->>>>>>> origin/h5
     Ok(answers::told(&disc))
 }
