@@ -1,3 +1,2 @@
 -- What the proofs of the functions cite.
 pub mod Parts
-pub mod Whole

@@ -1,4 +1,4 @@
-// The disc header as a value (disc.rs): read, made and written.
+// The disc header as a value: read, made and written.
 #![tactic(auto)]
 
 ghost use Rattle.std.specs.Prelude.{◌≡◌, ◌+◌, ◌≤◌, ◌<◌, length};
@@ -10,7 +10,8 @@ ghost use Rattle.header.specs.Verdicts.{gcnMagic};
 use header::Field;
 use refusal::{Refusal, Verdict};
 
-#[derive(Clone, Copy)]
+/// The 21 fields of the header, numbers in the order of this machine.
+#[derive(Clone, Copy, PartialEq, Eq, Debug)]
 pub struct DiscHeader {
     pub game_code: [u8; 4],
     pub maker_code: [u8; 2],
@@ -40,14 +41,38 @@ impl DiscHeader {
 
     pub const WII_MAGIC: u32 = header::WII_MAGIC;
 
-    // A header of a GameCube disc, with every other field 0.
+    /// A header of a GameCube disc, with every other field 0.
+    #[tactic(auto, unfolding(crate::specs::Header::blank))]
     pub fn new() -> Self
         ensures { result ≡ blank gcnMagic }
     {
-        blank_header(Self::GCN_MAGIC)
+        DiscHeader {
+            game_code: [0; 4],
+            maker_code: [0; 2],
+            disc_id: 0,
+            version: 0,
+            audio_streaming: 0,
+            stream_buffer_size: 0,
+            unused_00a: [0; 0x0E],
+            wii_magic: 0,
+            gcn_magic: Self::GCN_MAGIC,
+            game_name: [0; 0x3E0],
+            debug_monitor_offset: 0,
+            debug_monitor_addr: 0,
+            unused_408: [0; 0x18],
+            dol_offset: 0,
+            fst_offset: 0,
+            fst_size: 0,
+            fst_max_size: 0,
+            user_position: 0,
+            user_size: 0,
+            disc_size: 0,
+            unused_43c: 0,
+        }
     }
 
-    // The game name, the word at 0x18 and the unused runs are kept as they are.
+    /// The header of an image, refused as `header::check` refuses it. The game name, the word at 0x18 and the unused runs are
+    /// kept as they are.
     pub fn read_from(image: &[u8]) -> Result<DiscHeader, Refusal>
         ensures { result ≡ headerRead image.now }
     {
@@ -56,103 +81,44 @@ impl DiscHeader {
     }
 }
 
-// ---- the header made, and read field by field
-
-fn blank_header(gcn_magic: u32) -> DiscHeader
-    ensures { result ≡ blank gcn_magic }
+// N bytes from `at` on.
+fn bytes_at<const N: usize>(image: &[u8], at: usize) -> [u8; N]
+    requires { at + N ≤ length image.now }
+    ensures { result ≡ span image.now at N }
 {
-    let game_code = [0u8; 4];
-    let maker_code = [0u8; 2];
-    let unused_00a = [0u8; 0x0E];
-    let game_name = [0u8; 0x3E0];
-    let unused_408 = [0u8; 0x18];
-    DiscHeader {
-        game_code,
-        maker_code,
-        disc_id: 0,
-        version: 0,
-        audio_streaming: 0,
-        stream_buffer_size: 0,
-        unused_00a,
-        wii_magic: 0,
-        gcn_magic,
-        game_name,
-        debug_monitor_offset: 0,
-        debug_monitor_addr: 0,
-        unused_408,
-        dol_offset: 0,
-        fst_offset: 0,
-        fst_size: 0,
-        fst_max_size: 0,
-        user_position: 0,
-        user_size: 0,
-        disc_size: 0,
-        unused_43c: 0,
-    }
-}
-
-// As many bytes as `out` has, from `at` on.
-fn read_exact(image: &[u8], at: usize, out: &mut [u8])
-    requires { at + length out.old ≤ length image.now }
-    ensures { out.new ≡ span image.now at (length out.old) }
-{
-    let n = out.len();
-    endian::copy(image, at, out, 0, n);
+    let mut bytes = [0; N];
+    bytes.copy_from_slice(&image[at..at + N]);
+    bytes
 }
 
 // Straight down the table.
+#[tactic(auto, unfolding(crate::specs::Header::headerOf))]
 fn read_fields(image: &[u8]) -> DiscHeader
     requires { 0x440 ≤ length image.now }
     ensures { result ≡ headerOf image.now }
 {
-    let mut game_code = [0u8; 4];
-    read_exact(image, Field::GAME_CODE.at, &mut game_code);
-    let mut maker_code = [0u8; 2];
-    read_exact(image, Field::MAKER_CODE.at, &mut maker_code);
-    let disc_id = endian::read_u8(image, Field::DISC_ID.at);
-    let version = endian::read_u8(image, Field::VERSION.at);
-    let audio_streaming = endian::read_u8(image, Field::AUDIO_STREAMING.at);
-    let stream_buffer_size = endian::read_u8(image, Field::STREAM_BUFFER_SIZE.at);
-    let mut unused_00a = [0u8; 14];
-    read_exact(image, Field::UNUSED_00A.at, &mut unused_00a);
-    let wii_magic = endian::read_u32(image, Field::WII_MAGIC.at);
-    let gcn_magic = endian::read_u32(image, Field::GCN_MAGIC.at);
-    let mut game_name = [0u8; 992];
-    read_exact(image, Field::GAME_NAME.at, &mut game_name);
-    let debug_monitor_offset = endian::read_u32(image, Field::DEBUG_MONITOR_OFFSET.at);
-    let debug_monitor_addr = endian::read_u32(image, Field::DEBUG_MONITOR_ADDR.at);
-    let mut unused_408 = [0u8; 24];
-    read_exact(image, Field::UNUSED_408.at, &mut unused_408);
-    let dol_offset = endian::read_u32(image, Field::DOL_OFFSET.at);
-    let fst_offset = endian::read_u32(image, Field::FST_OFFSET.at);
-    let fst_size = endian::read_u32(image, Field::FST_SIZE.at);
-    let fst_max_size = endian::read_u32(image, Field::FST_MAX_SIZE.at);
-    let user_position = endian::read_u32(image, Field::USER_POSITION.at);
-    let user_size = endian::read_u32(image, Field::USER_SIZE.at);
-    let disc_size = endian::read_u32(image, Field::DISC_SIZE.at);
-    let unused_43c = endian::read_u32(image, Field::UNUSED_43C.at);
     DiscHeader {
-        game_code,
-        maker_code,
-        disc_id,
-        version,
-        audio_streaming,
-        stream_buffer_size,
-        unused_00a,
-        wii_magic,
-        gcn_magic,
-        game_name,
-        debug_monitor_offset,
-        debug_monitor_addr,
-        unused_408,
-        dol_offset,
-        fst_offset,
-        fst_size,
-        fst_max_size,
-        user_position,
-        user_size,
-        disc_size,
-        unused_43c,
+        game_code: bytes_at(image, Field::GAME_CODE.at),
+        maker_code: bytes_at(image, Field::MAKER_CODE.at),
+        disc_id: endian::read_u8(image, Field::DISC_ID.at),
+        version: endian::read_u8(image, Field::VERSION.at),
+        audio_streaming: endian::read_u8(image, Field::AUDIO_STREAMING.at),
+        stream_buffer_size: endian::read_u8(image, Field::STREAM_BUFFER_SIZE.at),
+        unused_00a: bytes_at(image, Field::UNUSED_00A.at),
+        wii_magic: endian::read_u32(image, Field::WII_MAGIC.at),
+        gcn_magic: endian::read_u32(image, Field::GCN_MAGIC.at),
+        game_name: bytes_at(image, Field::GAME_NAME.at),
+        debug_monitor_offset: endian::read_u32(image, Field::DEBUG_MONITOR_OFFSET.at),
+        debug_monitor_addr: endian::read_u32(image, Field::DEBUG_MONITOR_ADDR.at),
+        unused_408: bytes_at(image, Field::UNUSED_408.at),
+        dol_offset: endian::read_u32(image, Field::DOL_OFFSET.at),
+        fst_offset: endian::read_u32(image, Field::FST_OFFSET.at),
+        fst_size: endian::read_u32(image, Field::FST_SIZE.at),
+        fst_max_size: endian::read_u32(image, Field::FST_MAX_SIZE.at),
+        user_position: endian::read_u32(image, Field::USER_POSITION.at),
+        user_size: endian::read_u32(image, Field::USER_SIZE.at),
+        disc_size: endian::read_u32(image, Field::DISC_SIZE.at),
+        unused_43c: endian::read_u32(image, Field::UNUSED_43C.at),
     }
 }
 
@@ -161,8 +127,7 @@ fn write_all(image: &mut [u8], at: usize, bytes: &[u8])
     requires { at + length bytes.now ≤ length image.old }
     ensures { image.new ≡ put image.old at bytes.now }
 {
-    let n = bytes.len();
-    endian::copy(bytes, 0, image, at, n);
+    endian::copy(bytes, 0, image, at, bytes.len());
 }
 
 // The header written in three parts: the fields up to the magics, those up to the DOL offset, and the words from there on.
@@ -171,16 +136,13 @@ impl DiscHeader {
         requires { 0x440 ≤ length image.old }
         ensures { image.new ≡ put_some 0 7 self image.old }
     {
-        let game_code = self.game_code;
-        write_all(image, Field::GAME_CODE.at, &game_code);
-        let maker_code = self.maker_code;
-        write_all(image, Field::MAKER_CODE.at, &maker_code);
+        write_all(image, Field::GAME_CODE.at, &self.game_code);
+        write_all(image, Field::MAKER_CODE.at, &self.maker_code);
         endian::write_u8(image, Field::DISC_ID.at, self.disc_id);
         endian::write_u8(image, Field::VERSION.at, self.version);
         endian::write_u8(image, Field::AUDIO_STREAMING.at, self.audio_streaming);
         endian::write_u8(image, Field::STREAM_BUFFER_SIZE.at, self.stream_buffer_size);
-        let unused_00a = self.unused_00a;
-        write_all(image, Field::UNUSED_00A.at, &unused_00a);
+        write_all(image, Field::UNUSED_00A.at, &self.unused_00a);
     }
 
     fn write_magics_and_name(self, image: &mut [u8])
@@ -189,16 +151,14 @@ impl DiscHeader {
     {
         endian::write_u32(image, Field::WII_MAGIC.at, self.wii_magic);
         endian::write_u32(image, Field::GCN_MAGIC.at, self.gcn_magic);
-        let game_name = self.game_name;
-        write_all(image, Field::GAME_NAME.at, &game_name);
+        write_all(image, Field::GAME_NAME.at, &self.game_name);
         endian::write_u32(
             image,
             Field::DEBUG_MONITOR_OFFSET.at,
             self.debug_monitor_offset,
         );
         endian::write_u32(image, Field::DEBUG_MONITOR_ADDR.at, self.debug_monitor_addr);
-        let unused_408 = self.unused_408;
-        write_all(image, Field::UNUSED_408.at, &unused_408);
+        write_all(image, Field::UNUSED_408.at, &self.unused_408);
     }
 
     fn write_places(self, image: &mut [u8])
@@ -215,7 +175,7 @@ impl DiscHeader {
         endian::write_u32(image, Field::UNUSED_43C.at, self.unused_43c);
     }
 
-    // Every field at its place. An image too short for the header is left as it was.
+    /// Writes every field at its place. An image too short for the header is refused (`HeaderPastImage`) and left as it was.
     pub fn write_to(self, image: &mut [u8]) -> Verdict
         ensures { (result ≡ writeVerdict image.old) × (image.new ≡ headerWritten self image.old) }
     {

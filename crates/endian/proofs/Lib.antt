@@ -1,4 +1,4 @@
 -- What the proofs of the functions cite.
 pub mod Turns
 pub mod Parts
-pub mod Blocks
+pub mod Compared

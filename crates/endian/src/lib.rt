@@ -4,13 +4,7 @@
 ghost use Rattle.std.specs.Prelude.{◌≡◌, [], ◌∷◌, ◌+◌, ◌-◌, ◌*◌, ◌≤◌, ◌<◌, ◌^◌, min, length, get_or, replicate};
 ghost use Rattle.endian.specs.Bytes.{be24, be32, be24Bytes, be32Bytes, put, span, sameBytes};
 
-// A word as a wider number, which asks its caller for no proof.
-pub fn wide(x: u32) -> u64
-    ensures { (result ≡ x) × (result < 4294967296) }
-{
-    x as u64
-}
-
+/// The byte at `at`.
 pub fn read_u8(s: &[u8], at: usize) -> u8
     requires { at < length s.now }
     ensures { result ≡ get_or s.now at 0 }
@@ -18,6 +12,7 @@ pub fn read_u8(s: &[u8], at: usize) -> u8
     s[at]
 }
 
+/// The number in the 3 bytes at `at`, highest byte first.
 #[tactic(auto, unfolding(crate::specs::Bytes::be24))]
 pub fn read_u24(s: &[u8], at: usize) -> u32
     requires { at + 3 ≤ length s.now }
@@ -26,6 +21,7 @@ pub fn read_u24(s: &[u8], at: usize) -> u32
     u32::from_be_bytes([0, s[at], s[at + 1], s[at + 2]])
 }
 
+/// The number in the 4 bytes at `at`, highest byte first.
 #[tactic(auto, unfolding(crate::specs::Bytes::be32))]
 pub fn read_u32(s: &[u8], at: usize) -> u32
     requires { at + 4 ≤ length s.now }
@@ -34,6 +30,7 @@ pub fn read_u32(s: &[u8], at: usize) -> u32
     u32::from_be_bytes([s[at], s[at + 1], s[at + 2], s[at + 3]])
 }
 
+/// Writes the byte at `at`.
 pub fn write_u8(s: &mut [u8], at: usize, v: u8)
     requires { at < length s.old }
     ensures { s.new ≡ put s.old at (v ∷ []) }
@@ -41,6 +38,7 @@ pub fn write_u8(s: &mut [u8], at: usize, v: u8)
     s[at] = v;
 }
 
+/// Writes the number into the 3 bytes at `at`, highest byte first.
 pub fn write_u24(s: &mut [u8], at: usize, v: u32)
     requires { (at + 3 ≤ length s.old) × (v < 2 ^ 24) }
     ensures { s.new ≡ put s.old at (be24Bytes v) }
@@ -49,6 +47,7 @@ pub fn write_u24(s: &mut [u8], at: usize, v: u32)
     s[at..at + 3].copy_from_slice(&[high, middle, low]);
 }
 
+/// Writes the number into the 4 bytes at `at`, highest byte first.
 pub fn write_u32(s: &mut [u8], at: usize, v: u32)
     requires { at + 4 ≤ length s.old }
     ensures { s.new ≡ put s.old at (be32Bytes v) }
@@ -56,7 +55,7 @@ pub fn write_u32(s: &mut [u8], at: usize, v: u32)
     s[at..at + 4].copy_from_slice(&v.to_be_bytes());
 }
 
-// n bytes from `from` of one slice, to `to` of another.
+/// Copies n bytes from `from` of one slice to `to` of another.
 pub fn copy(source: &[u8], from: usize, s: &mut [u8], to: usize, n: usize)
     requires { (from + n ≤ length source.now) × (to + n ≤ length s.old) }
     ensures { s.new ≡ put s.old to (span source.now from n) }
@@ -72,8 +71,8 @@ const PART: usize = 65536;
 fn copy_part(s: &mut [u8], from: usize, to: usize, n: usize, k: usize)
     requires source { from + n ≤ length s.old }
     requires target { to + n ≤ length s.old }
-    requires part { 65536 * k < n }
-    ensures { s.new ≡ put s.old (to + 65536 * k) (span s.old (from + 65536 * k) (min (n - 65536 * k) 65536)) }
+    requires part { PART * k < n }
+    ensures { s.new ≡ put s.old (to + PART * k) (span s.old (from + PART * k) (min (n - PART * k) PART)) }
 {
     let start = PART * k;
     let len = (n - start).min(PART);
@@ -82,7 +81,7 @@ fn copy_part(s: &mut [u8], from: usize, to: usize, n: usize, k: usize)
     copy(&part, 0, s, to + start, len);
 }
 
-// n bytes from `from` to `to` of the same slice, whether or not the two spans overlap.
+/// Copies n bytes from `from` to `to` of the same slice, whether or not the two spans overlap.
 pub fn copy_within(s: &mut [u8], from: usize, to: usize, n: usize)
     requires { (from + n ≤ length s.old) × (to + n ≤ length s.old) }
     ensures { s.new ≡ put s.old to (span s.old from n) }
@@ -101,7 +100,7 @@ pub fn copy_within(s: &mut [u8], from: usize, to: usize, n: usize)
     }
 }
 
-// n times the byte b from `at` on.
+/// Writes n times the byte b from `at` on.
 pub fn fill(s: &mut [u8], at: usize, n: usize, b: u8)
     requires { at + n ≤ length s.old }
     ensures { s.new ≡ put s.old at (replicate n b) }
@@ -109,45 +108,18 @@ pub fn fill(s: &mut [u8], at: usize, n: usize, b: u8)
     s[at..at + n].fill(b);
 }
 
-// The rest of `same`, byte by byte.
-fn same_rest(a: &[u8], at: usize, b: &[u8], start: usize, n: usize) -> bool
-    requires { (at + n ≤ length a.now) × (start + n ≤ length b.now) }
-    ensures { result ≡ sameBytes (span a.now at n) (span b.now start n) }
-{
-    for i in 0..n {
-        if a[at + i] != b[start + i] {
-            return false;
-        }
-    }
-    true
-}
-
-// 1,024 bytes, all of them looked at even where an early one differs, so that the compiler compares many at a time.
-fn same_block(a: &[u8], at: usize, b: &[u8], start: usize) -> bool
-    requires { (at + 1024 ≤ length a.now) × (start + 1024 ≤ length b.now) }
-    ensures { result ≡ sameBytes (span a.now at 1024) (span b.now start 1024) }
-{
-    let mut same = true;
-    for i in 0..1024 {
-        if a[at + i] != b[start + i] {
-            same = false;
-        }
-    }
-    same
-}
-
-// Whether the n bytes from `at` of one slice are those from `start` of another: whole blocks, then the rest.
+/// Whether the n bytes from `at` of one slice are those from `start` of another.
 pub fn same(a: &[u8], at: usize, b: &[u8], start: usize, n: usize) -> bool
     requires { (at + n ≤ length a.now) × (start + n ≤ length b.now) }
     ensures { result ≡ sameBytes (span a.now at n) (span b.now start n) }
 {
-    let mut i = 0;
-    while 1024 <= n - i {
-        if same_block(a, at + i, b, start + i) {
-            i += 1024;
-        } else {
-            return false;
-        }
-    }
-    same_rest(a, at + i, b, start + i, n - i)
+    a[at..at + n] == b[start..start + n]
+}
+
+// For the callers that are still to go over.
+
+pub fn wide(x: u32) -> u64
+    ensures { (result ≡ x) × (result < 4294967296) }
+{
+    u64::from(x)
 }
