@@ -1,4 +1,5 @@
-// The used regions of a disc as a value, and what they leave free: the free regions, the largest size of a region, allocation.
+// The used regions of a disc as a value, and what they leave free: the free regions, the largest size of a region,
+// allocation.
 #![tactic(auto)]
 
 ghost use Rattle.std.specs.Prelude.{◌≡◌, ◌+◌, ◌*◌, ◌≤◌, ◌<◌, length, get_or};
@@ -45,7 +46,8 @@ fn start_at(words: &[u32], count: usize, disc_end: u32, i: usize) -> u32
     if i < count { words[2 * i] } else { disc_end }
 }
 
-// The gap before region i, the one after the last where i is `count`. A gap may be empty; those that are not are the free regions.
+// The gap before region i, the one after the last where i is `count`. A gap may be empty; those that are not are the
+// free regions.
 pub fn gap_at(words: &[u32], count: usize, disc_end: u32, i: usize) -> DiscRegion
     requires { SortedDisjoint words.now count disc_end × (i ≤ count) }
     ensures value { result ≡ get_or (gaps 0 disc_end (regionsIn words.now 0 count)) i noRegion }

@@ -1,4 +1,5 @@
-// The used regions of a disc as a value: what stands in lent words after a test. Contracts see the list and the disc's end.
+// The used regions of a disc as a value: what stands in lent words after a test. Contracts see the list and the
+// disc's end.
 ghost use Rattle.std.specs.Prelude.{◌≡◌, ◌<◌, length};
 ghost use Rattle.space.specs.Used.{totalSize};
 ghost use Rattle.space.specs.Inner.Words.{SortedDisjoint};
@@ -53,6 +54,9 @@ impl<'a> UsedRegions<'a> {
     {
         Regions::new(self.words, self.count)
     }
+
+    // A function learns what the type keeps where it uses a field: `let _ = &self.words;` does in those that call
+    // methods alone.
 
     /// How many bytes are used.
     pub fn used_size(&self) -> u32
@@ -109,7 +113,8 @@ impl<'a> UsedRegions<'a> {
         best
     }
 
-    /// Finds the largest free region for `size` bytes at a multiple of `align`. Refuses 22 if that is no power of two, 21 if there is none.
+    /// Finds the largest free region for `size` bytes at a multiple of `align`. Refuses 22 if that is no power of
+    /// two, 21 if there is none.
     pub fn allocate(&self, size: u32, align: u32) -> Result<DiscRegion, Refusal>
         ensures { result ≡ allocationOf align size (free_in self.now) }
     {
@@ -130,6 +135,8 @@ impl<'a> UsedRegions<'a> {
         if list.len() / N < found {
             return Err(Refusal::LimitOrMemory);
         }
+        // Kept: where the row of a number stands is `i * N..(i + 1) * N` under `enumerate`, which is no plainer than
+        // `at`.
         let mut at = 0;
         for region in self.free_regions() {
             R::put(region, &mut list[at..at + N]);

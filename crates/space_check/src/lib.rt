@@ -30,7 +30,8 @@ fn check_sorted(words: &[u32], count: usize, disc_end: u32) -> Verdict
     Ok(())
 }
 
-/// Sorts the regions, none of them empty, with as many pairs from buf on to work in, and refuses 14 if two share a byte or one passes the disc end.
+/// Sorts the regions, none of them empty, with as many pairs from buf on to work in, and refuses 14 if two share a
+/// byte or one passes the disc end.
 pub fn check(words: &mut [u32], buf: usize, count: usize, disc_end: u32) -> Verdict
     requires beside { count ≤ buf }
     requires room { 2 * (buf + count) ≤ length words.old }
