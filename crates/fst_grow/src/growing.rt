@@ -7,6 +7,7 @@ ghost use Rattle.tree.specs.Lookup.{childOf, next_of};
 ghost use Rattle.fst_grow.specs.Inner.Growth.{treeIn, Stands, IsDirectory, added, depthAllows, Built};
 ghost use Rattle.fst_grow.specs.Inner.Growing.{tree_of, IsTable, sizedAs};
 
+use fst::Table;
 use refusal::{Refusal, Verdict};
 
 // No directory is in more than so many others, the root in none.
@@ -52,7 +53,7 @@ impl<'a> Growing<'a> {
         requires { IsTable self.now × (k < length (tree_of self.now)) }
         ensures { result ≡ childOf (tree_of self.now) k name.now }
     {
-        fst::child(&self.bytes[..self.size], k, name)
+        Table::new(&self.bytes[..self.size]).child(k, name)
     }
 
     // Whether an entry more in directory p is not too deep. Only directories can be.

@@ -1,7 +1,7 @@
 // A table that can be written anew.
-ghost use Rattle.std.specs.Prelude.{◌≡◌, ◌+◌, ◌*◌, ◌<◌, length, drop};
+ghost use Rattle.std.specs.Prelude.{◌≡◌, ◌+◌, ◌*◌, ◌<◌};
 ghost use Rattle.tree.specs.Table as table_of;
-ghost use Rattle.tree.specs.Table.{upTo0, nameOffset, offsetOrParent, sizeOrNext, name_at};
+ghost use Rattle.tree.specs.Table.{nameOffset, offsetOrParent, sizeOrNext, name_at};
 ghost use Rattle.fst_measure.specs.Inner.Flat.{afterIn};
 ghost use Rattle.fst_measure.specs.Inner.Kind.{number_of};
 ghost use Rattle.fst_measure.specs.Inner.Measure.{measureOf};
@@ -27,18 +27,6 @@ impl<'a> Model for Source<'a> {
     ghost view = { λ s. s.bytes.now };
 
     ghost invariant = { λ s. Valid s.bytes.now s.count };
-}
-
-// The length of the text at `at`, without its zero byte.
-fn text_len(bytes: &[u8], at: usize) -> usize
-    requires { at + length (upTo0 (drop at bytes.now)) < length bytes.now }
-    ensures { result ≡ length (upTo0 (drop at bytes.now)) }
-{
-    let mut len = 0;
-    while bytes[at + len] != 0 {
-        len += 1;
-    }
-    len
 }
 
 impl<'a> Source<'a> {
@@ -107,7 +95,7 @@ impl<'a> Source<'a> {
         ensures { result.now ≡ name_at self.now (table_of.count self.now) (nameOffset self.now k) }
     {
         let from = 12 * self.count + endian::read_u24(self.bytes, 12 * k + 1) as usize;
-        let len = text_len(self.bytes, from);
+        let len = fst::text_length(self.bytes, from);
         &self.bytes[from..from + len]
     }
 

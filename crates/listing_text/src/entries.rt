@@ -3,22 +3,23 @@
 ghost use Rattle.std.specs.Prelude.{◌≡◌, ◌∷◌, ◌++◌, ◌+◌, ◌-◌, ◌<◌, ◌≤◌, get_or};
 ghost use Rattle.tree.specs.Table as table_of;
 ghost use Rattle.tree.specs.Table.{none, nodesOf, name_of, parent_of, parentBelow};
-ghost use Rattle.fst_check.specs.Inner.Reading.{Opens};
 ghost use Rattle.listing_text.specs.Lines.{ending, entryFields, pathOf, entryLine, entryLines};
 ghost use Rattle.listing_text.specs.Inner.Around.{Chain, Around};
-ghost use Rattle.text_buffer.specs.Inner.Writing.{Wrote};
+ghost use Rattle.text_buffer.specs.Inner.Writing.{Appends};
 
 use crate::lines;
+use fst::Table;
+use text_buffer::TextBuffer;
 
 // How many of the directories are around entry k: those at the end that are done are left out.
-fn shut(table: &[u8], dirs: &[usize; 65], depth: usize, k: usize) -> usize
-    requires opens { Opens table.now × (k < table_of.count table.now) × Chain (nodesOf table.now) dirs.now depth k }
+fn shut(table: &Table<'_>, dirs: &[usize; 65], depth: usize, k: usize) -> usize
+    requires opens { (k < table_of.count table.now) × Chain (nodesOf table.now) dirs.now depth k }
     requires k_value { parent_of (nodesOf table.now) k ≡ parentBelow (nodesOf table.now) k (get_or dirs.now (depth - 1) 0 + 1) }
     ensures { Around (nodesOf table.now) dirs.now result k }
 {
     let mut d = depth;
     while 1 < d {
-        if k < fst::next(table, dirs[d - 1]) {
+        if k < table.next(dirs[d - 1]) {
             return d;
         }
         d -= 1;
@@ -27,12 +28,14 @@ fn shut(table: &[u8], dirs: &[usize; 65], depth: usize, k: usize) -> usize
 }
 
 // The directories around the next entry: k too, if it is one.
-fn enter(table: &[u8], dirs: &mut [usize; 65], depth: usize, k: usize) -> usize
-    requires { Opens table.now × (0 < k) × (k < table_of.count table.now) × Around (nodesOf table.now) dirs.old depth k }
+fn enter(table: &Table<'_>, dirs: &mut [usize; 65], depth: usize, k: usize) -> usize
+    requires { (0 < k) × (k < table_of.count table.now) × Around (nodesOf table.now) dirs.old depth k }
     ensures chain { Chain (nodesOf table.now) dirs.new result (k + 1) }
     ensures k_value { parent_of (nodesOf table.now) (k + 1) ≡ parentBelow (nodesOf table.now) (k + 1) (get_or dirs.new (result - 1) 0 + 1) }
 {
-    if fst::is_directory(table, k) {
+    // So that it is known of the table that no directory is deeper.
+    let _ = table.len();
+    if table.is_directory(k) {
         dirs[depth] = k;
         return depth + 1;
     }
@@ -40,91 +43,93 @@ fn enter(table: &[u8], dirs: &mut [usize; 65], depth: usize, k: usize) -> usize
 }
 
 // The first byte of entry k's line and its three numbers.
-fn put_fields(table: &[u8], k: usize, parent: usize, text: &mut [u8], at: usize) -> usize
-    requires { Opens table.now × (k < table_of.count table.now) × (parent ≤ k) }
-    ensures { Wrote text.old text.new at (entryFields k parent (get_or (nodesOf table.now) k none)) result }
+fn put_fields(table: &Table<'_>, k: usize, parent: usize, text: &mut TextBuffer<'_>)
+    requires { (k < table_of.count table.now) × (parent ≤ k) }
+    ensures { Appends text.old text.new (entryFields k parent (get_or (nodesOf table.now) k none)) }
 {
-    let last = endian::read_u32(table, 12 * k + 8);
-    if table[12 * k] == 0 {
-        let offset = endian::read_u32(table, 12 * k + 4);
-        let end = lines::put_pair(text, at, b'f', k as u32, offset);
-        return text_buffer::put_field(text, end, last);
+    // So that it is known of the table that entry k stands in it.
+    let _ = table.len();
+    let bytes = table.bytes();
+    let last = endian::read_u32(bytes, 12 * k + 8);
+    if bytes[12 * k] == 0 {
+        let offset = endian::read_u32(bytes, 12 * k + 4);
+        lines::put_pair(text, b'f', k as u32, offset);
+        text.push_field(last);
+        return;
     }
-    let end = lines::put_pair(text, at, b'd', k as u32, parent as u32);
-    text_buffer::put_field(text, end, last)
+    lines::put_pair(text, b'd', k as u32, parent as u32);
+    text.push_field(last);
 }
 
 // The last part of entry k's path, which is not the root: its name, and `/` if it is a directory.
-fn put_name(table: &[u8], k: usize, text: &mut [u8], at: usize) -> usize
-    requires { Opens table.now × (0 < k) × (k < table_of.count table.now) }
-    ensures { Wrote text.old text.new at (name_of (get_or (nodesOf table.now) k none) ++ ending (get_or (nodesOf table.now) k none)) result }
+fn put_name(table: &Table<'_>, k: usize, text: &mut TextBuffer<'_>)
+    requires { (0 < k) × (k < table_of.count table.now) }
+    ensures { Appends text.old text.new (name_of (get_or (nodesOf table.now) k none) ++ ending (get_or (nodesOf table.now) k none)) }
 {
-    let place = 12 * fst_check::count(table) + endian::read_u24(table, 12 * k + 1) as usize;
-    let end = text_buffer::put_text(text, at, table, place);
-    if fst::is_directory(table, k) {
-        return text_buffer::put_byte(text, end, b'/');
+    // So that it is known of the table that its names end in it.
+    let _ = table.len();
+    let bytes = table.bytes();
+    let place = table.name_place(k);
+    text.push_text(&bytes[place..]);
+    if table.is_directory(k) {
+        text.push(b'/');
     }
-    end
 }
 
 // A space, and the path of the last of the directories.
 fn put_parent(
-    table: &[u8],
+    table: &Table<'_>,
     dirs: &[usize; 65],
     depth: usize,
     k: usize,
-    text: &mut [u8],
-    at: usize,
-) -> usize
-    requires { Opens table.now × (k < table_of.count table.now) × Around (nodesOf table.now) dirs.now depth k }
-    ensures { Wrote text.old text.new at (0x20 ∷ pathOf (nodesOf table.now) (parent_of (nodesOf table.now) k)) result }
+    text: &mut TextBuffer<'_>,
+)
+    requires { (k < table_of.count table.now) × Around (nodesOf table.now) dirs.now depth k }
+    ensures { Appends text.old text.new (0x20 ∷ pathOf (nodesOf table.now) (parent_of (nodesOf table.now) k)) }
 {
-    let mut end = text_buffer::put_text(text, at, b" /", 0);
+    text.push_text(b" /");
     for i in 1..depth {
-        end = put_name(table, dirs[i], text, end);
+        put_name(table, dirs[i], text);
     }
-    end
 }
 
 // The line of entry k, which is not the root.
 fn put_entry(
-    table: &[u8],
+    table: &Table<'_>,
     dirs: &[usize; 65],
     depth: usize,
     k: usize,
-    text: &mut [u8],
-    at: usize,
-) -> usize
-    requires { Opens table.now × (0 < k) × (k < table_of.count table.now) × Around (nodesOf table.now) dirs.now depth k }
-    ensures { Wrote text.old text.new at (entryLine (nodesOf table.now) k) result }
+    text: &mut TextBuffer<'_>,
+)
+    requires { (0 < k) × (k < table_of.count table.now) × Around (nodesOf table.now) dirs.now depth k }
+    ensures { Appends text.old text.new (entryLine (nodesOf table.now) k) }
 {
-    let a = put_fields(table, k, dirs[depth - 1], text, at);
-    let b = put_parent(table, dirs, depth, k, text, a);
-    let c = put_name(table, k, text, b);
-    text_buffer::put_byte(text, c, b'\n')
+    put_fields(table, k, dirs[depth - 1], text);
+    put_parent(table, dirs, depth, k, text);
+    put_name(table, k, text);
+    text.push(b'\n');
 }
 
-fn put_root(table: &[u8], text: &mut [u8], at: usize) -> usize
-    requires { Opens table.now }
-    ensures { Wrote text.old text.new at (entryLine (nodesOf table.now) 0) result }
+fn put_root(table: &Table<'_>, text: &mut TextBuffer<'_>)
+    ensures { Appends text.old text.new (entryLine (nodesOf table.now) 0) }
 {
-    let end = put_fields(table, 0, 0, text, at);
-    text_buffer::put_text(text, end, b" /\n", 0)
+    // So that it is known that the table has its root.
+    let _ = table.len();
+    put_fields(table, 0, 0, text);
+    text.push_text(b" /\n");
 }
 
 // All entries, in table order.
-pub fn put_entries(table: &[u8], text: &mut [u8], at: usize) -> usize
-    requires { Opens table.now }
-    ensures { Wrote text.old text.new at (entryLines (nodesOf table.now) (table_of.count table.now)) result }
+pub fn put_entries(table: &Table<'_>, text: &mut TextBuffer<'_>)
+    ensures { Appends text.old text.new (entryLines (nodesOf table.now) (table_of.count table.now)) }
 {
-    let count = fst_check::count(table);
+    let count = table.len();
     let mut dirs: [usize; 65] = [0; 65];
     let mut depth = 1;
-    let mut end = put_root(table, text, at);
+    put_root(table, text);
     for k in 1..count {
         depth = shut(table, &dirs, depth, k);
-        end = put_entry(table, &dirs, depth, k, text, end);
+        put_entry(table, &dirs, depth, k, text);
         depth = enter(table, &mut dirs, depth, k);
     }
-    end
 }

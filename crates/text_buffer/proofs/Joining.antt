@@ -8,8 +8,10 @@ use Rattle.endian.specs.Bytes.{put}
 use Rattle.endian.specs.Laws.Stored.{length-put, put-none}
 use Rattle.endian.proofs.Parts.{put-append}
 use Rattle.fst_text.specs.Inner.Texts.{textAt}
-use Rattle.fst_text.proofs.Texts.{text-more}
-use Rattle.text_buffer.specs.Inner.Writing.{Wrote}
+use Rattle.std.proofs.lemmas.List.{get_or_past}
+use Rattle.fst_text.proofs.Texts.{text-more, text-end}
+use Rattle.text_buffer.specs.Inner.Writing.{Wrote, Appends}
+use Rattle.text_buffer.specs.declared.buffer.TextBuffer.{TextBuffer}
 
 pub wrote_none : (text : List ℕ) (at : ℕ) → Wrote text text at [] at
 wrote_none text at = record { stop = omega arith; laid = λ h l. sym (put-none text at) }
@@ -28,30 +30,43 @@ module _ {text text' text'' : List ℕ} {at m end : ℕ} {a b : List ℕ} (f : W
   pub wrote-join : Wrote text text'' at (a ++ b) end
   wrote-join = record { stop = omega (arith, both, f.stop, g.stop); laid = lies }
 
--- a text in two parts, and in three
-pub wrote-two : (text text₁ text₂ : List ℕ) (at m end : ℕ) (a b bs : List ℕ) → Wrote text text₁ at a m → Wrote text₁ text₂ m b end → a ++ b ≡ bs → Wrote text text₂ at bs end
-wrote-two text text₁ text₂ at m end a b bs f g e = rw e at (wrote-join f g)
+-- ---- the same of a buffer
 
-pub wrote-three : (text text₁ text₂ text₃ : List ℕ) (at m₁ m₂ end : ℕ) (a b c bs : List ℕ) → Wrote text text₁ at a m₁ → Wrote text₁ text₂ m₁ b m₂ → Wrote text₂ text₃ m₂ c end
-    → a ++ (b ++ c) ≡ bs → Wrote text text₃ at bs end
-wrote-three text text₁ text₂ text₃ at m₁ m₂ end a b c bs f g h e = rw e at (wrote-join f (wrote-join g h))
+pub appends-none : (t : TextBuffer) → Appends t t []
+appends-none t = record { wrote = wrote_none t.bytes.now t.len; long = refl; same_reference = refl }
+
+pub appends-join : {t u v : TextBuffer} {a b : List ℕ} → Appends t u a → Appends u v b → Appends t v (a ++ b)
+appends-join f g = record { wrote = wrote-join f.wrote g.wrote; long = g.long ∙ f.long; same_reference = g.same_reference ∙ f.same_reference }
+
+-- the same text said otherwise
+pub appends-as : {t u : TextBuffer} {a b : List ℕ} → Appends t u a → a ≡ b → Appends t u b
+appends-as f e = rw e at f
+
+-- a text in two parts, and in three
+pub appends-two : (t u v : TextBuffer) (a b bs : List ℕ) → Appends t u a → Appends u v b → a ++ b ≡ bs → Appends t v bs
+appends-two t u v a b bs f g e = appends-as (appends-join f g) e
+
+pub appends-three : (t u v w : TextBuffer) (a b c bs : List ℕ) → Appends t u a → Appends u v b → Appends v w c → a ++ (b ++ c) ≡ bs → Appends t w bs
+appends-three t u v w a b c bs f g h e = appends-as (appends-join f (appends-join g h)) e
+
+-- behind the end of a list no text stands
+pub wrote-past : (text source : List ℕ) (at from : ℕ) → length source ≤ from → Wrote text text at (textAt source from) at
+wrote-past text source at from h = rw (text-end source from (get_or_past source from 0 h)) (wrote_none text at)
 
 -- ---- a text up to its end
 
-pub record Copying (source text₀ text : List ℕ) (from i at end : ℕ) : Type 0 where
-  pub same : length text ≡ length text₀
+pub record Copying (source : List ℕ) (t u : TextBuffer) (i : ℕ) : Type 0 where
   pub done : List ℕ
-  pub wrote : Wrote text₀ text at done end
-  pub left : done ++ textAt source i ≡ textAt source from
+  pub appends : Appends t u done
+  pub left : done ++ textAt source i ≡ textAt source 0
 
-pub copy_start : (source text : List ℕ) (from at : ℕ) → Copying source text text from from at at
-copy_start source text from at = record { same = refl; done = []; wrote = wrote_none text at; left = refl }
+pub copy_start : (source : List ℕ) (t : TextBuffer) → Copying source t t 0
+copy_start source t = record { done = []; appends = appends-none t; left = refl }
 
-module _ {source text₀ text : List ℕ} {from i at end : ℕ} (c : Copying source text₀ text from i at end) where
-  pub copy-turn : {text' : List ℕ} {end' : ℕ} → (get_or source i 0 ≡ 0 → ⊥) → length text' ≡ length text → Wrote text text' end (get_or source i 0 ∷ []) end' → Copying source text₀ text' from (i + 1) at end'
-  copy-turn h l w = record {
-    same = l ∙ c.same;
+module _ (source : List ℕ) (t u : TextBuffer) (i : ℕ) (c : Copying source t u i) where
+  pub copy-turn : (v : TextBuffer) → (get_or source i 0 ≡ 0 → ⊥) → Appends u v (get_or source i 0 ∷ []) → Copying source t v (i + 1)
+  copy-turn v h w = record {
     done = c.done ++ (get_or source i 0 ∷ []);
-    wrote = wrote-join c.wrote w;
+    appends = appends-join c.appends w;
     left = append_assoc c.done (get_or source i 0 ∷ []) (textAt source (i + 1)) ∙ (rw (text-more source i h) at c.left);
   }

@@ -6,4 +6,4 @@ use Rattle.listing_text.proofs.LineParts.{Walking}
 use Rattle.listing_text.proofs.entries.put_entries.Given as goal
 
 abbrev pub invariant-loop-k : goal.invariant-loop-k
-invariant-loop-k l = Chain (nodesOf l.table) l.dirs l.depth l.k × Climbs (nodesOf l.table) l.dirs l.depth l.k × Walking (nodesOf l.table) l.initial.text l.text l.initial.end l.end l.k
+invariant-loop-k l = Chain (nodesOf l.table) l.dirs l.depth l.k × Climbs (nodesOf l.table) l.dirs l.depth l.k × Walking (nodesOf l.table) l.initial.text l.text l.k

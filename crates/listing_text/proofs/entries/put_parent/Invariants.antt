@@ -4,4 +4,4 @@ use Rattle.listing_text.proofs.LineParts.{Stepping}
 use Rattle.listing_text.proofs.entries.put_parent.Given as goal
 
 abbrev pub invariant-loop-i : goal.invariant-loop-i
-invariant-loop-i l = Stepping (nodesOf l.table) l.dirs l.depth l.initial.text l.text l.initial.end l.end l.i
+invariant-loop-i l = Stepping (nodesOf l.table) l.dirs l.depth l.initial.text l.text l.i

@@ -1,6 +1,6 @@
 -- `listing_text::lines::put_totals` meets its contract: five texts, one behind the other.
-use Rattle.text_buffer.proofs.Joining.{wrote-join}
+use Rattle.text_buffer.proofs.Joining.{appends-join}
 use Rattle.listing_text.proofs.lines.put_totals.Goals as goal
 
 pub returns : goal.returns
-returns c = wrote-join c.put_text-a.ensures (wrote-join c.put_field-b.ensures (wrote-join c.put_text-c.ensures (wrote-join c.put_field-d.ensures c.put_byte.ensures)))
+returns c = appends-join c.push_text.ensures (appends-join c.push_field.ensures (appends-join c.push_text-2.ensures (appends-join c.push_field-2.ensures c.push.ensures)))

@@ -1,6 +1,10 @@
--- `listing_text::regions::put_regions` meets its contract: the lines written, and those of the gaps that are left, are those of the free regions.
+-- `listing_text::regions::put_regions` meets its contract: the lines written, and those of the regions that are left, are those of the free regions.
+use Rattle.free_space.specs.UsedSpace.{free_in}
 use Rattle.listing_text.proofs.Gaps.{Listing}
 use Rattle.listing_text.proofs.regions.put_regions.Given as goal
 
-abbrev pub invariant-loop-i : goal.invariant-loop-i
-invariant-loop-i l = Listing l.words l.count l.disc_end l.initial.text l.text l.at l.end l.i
+abbrev pub invariant-loop-region : goal.invariant-loop-region
+invariant-loop-region l =
+    (goal.iterator-loop-region).can_next l.region-iterator ×
+    (goal.iterator-loop-region).is_finite l.region-iterator ×
+    Listing (free_in l.used) l.fn.text l.text l.region-iterator

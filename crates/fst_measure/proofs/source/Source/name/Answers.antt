@@ -12,14 +12,14 @@ overflow_add-k c = omega (arith, held _ _ _ c.args.k c.self.invariant c.self.vie
 pub read_u24-requires : goal.read_u24-requires
 read_u24-requires c = omega (arith, held _ _ _ c.args.k c.self.invariant c.self.view_is c.requires.1)
 
-pub text_len-len-requires : goal.text_len-len-requires
-text_len-len-requires c = name-held _ _ _ c.args.k c.self.invariant c.self.view_is c.requires.0 c.requires.1 _ c.read_u24.ensures.0
+pub text_length-len-requires : goal.text_length-len-requires
+text_length-len-requires c = name-held _ _ _ c.args.k c.self.invariant c.self.view_is c.requires.0 c.requires.1 _ c.read_u24.ensures.0
 
 pub overflow_add-result : goal.overflow_add-result
-overflow_add-result c = omega (arith, name-held _ _ _ c.args.k c.self.invariant c.self.view_is c.requires.0 c.requires.1 _ c.read_u24.ensures.0, c.text_len-len.ensures)
+overflow_add-result c = omega (arith, name-held _ _ _ c.args.k c.self.invariant c.self.view_is c.requires.0 c.requires.1 _ c.read_u24.ensures.0, c.text_length-len.ensures)
 
 pub slice_bounds-result-end : goal.slice_bounds-result-end
-slice_bounds-result-end c = omega (arith, name-held _ _ _ c.args.k c.self.invariant c.self.view_is c.requires.0 c.requires.1 _ c.read_u24.ensures.0, c.text_len-len.ensures)
+slice_bounds-result-end c = omega (arith, name-held _ _ _ c.args.k c.self.invariant c.self.view_is c.requires.0 c.requires.1 _ c.read_u24.ensures.0, c.text_length-len.ensures)
 
 pub returns : goal.returns
-returns c = name-read _ _ _ c.args.k c.self.invariant c.self.view_is c.requires.0 c.requires.1 _ c.read_u24.ensures.0 _ c.text_len-len.ensures
+returns c = name-read _ _ _ c.args.k c.self.invariant c.self.view_is c.requires.0 c.requires.1 _ c.read_u24.ensures.0 _ c.text_length-len.ensures
