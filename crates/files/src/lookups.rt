@@ -24,7 +24,7 @@ fn found_in(disc: &OpenDisc<'_>, start: u32, path: &[u8]) -> Found
     if 1024 < path.len() {
         return Found::Refused(Refusal::LimitOrMemory);
     }
-    fst_path::find(disc.table(), start, path)
+    fst_path::find_in(&Table::new(disc.table()), start, path)
 }
 
 // The place of file `number` of a disc: 15, then 16.

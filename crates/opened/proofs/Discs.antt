@@ -1,7 +1,7 @@
 -- The disc that an image means, from its parts. Assumes nothing.
 use Prim.Native.Nat.{ℕ, ◌+◌, ◌<◌, ◌^◌}
 use Rattle.std.specs.Prelude.{◌≡◌, List, length}
-use Rattle.std.proofs.Common.{refl, sym, ap, ◌∙◌, arith}
+use Rattle.std.proofs.Common.{sym, ap, ◌∙◌, arith}
 use Rattle.endian.specs.Bytes.{be32, span}
 use Rattle.header.specs.Verdicts.{dolOffset, fstOffset, fstSize, discEnd}
 use Rattle.space.specs.declared.DiscRegion.{DiscRegion}
@@ -14,12 +14,13 @@ use Rattle.tree.specs.Table.{nodesOf}
 use Rattle.tree.specs.Laws.Accepted.{length-nodesOf}
 use Rattle.fst_check.specs.Inner.Reading.{Opens}
 use Rattle.program.specs.Program.{programBehind}
-use Rattle.opening.specs.Opening.{table_of, nodesIn, behindTable, usedIn, freeOf}
+use Rattle.opening.specs.Opening.{table_of, usedIn, freeOf}
 use Rattle.opening.specs.Inner.Prepared.{IsOpen}
 use Rattle.opening.specs.Laws.OpeningLaws.{table-accepted}
 use Rattle.opening.proofs.Words.{free-below, sorted-below}
 use Rattle.opened.specs.Parts.{HasParts}
 use Rattle.opened.specs.Disc.{Disc, disc_in, disc_of, free_of, Means, TableOf}
+pub use Rattle.opened.specs.Laws.Meant.{free-shown, used_shown, nodes_shown}
 use Rattle.opened.specs.Backed.{Backed}
 use Rattle.opened.proofs.Opens.{head_opens}
 use Rattle.opened.proofs.Heads.{start_is, size_is, maximum_is, user_is, disc_is}
@@ -39,19 +40,7 @@ module _ (image header table program : List ℕ) (long : ℕ) (h : HasParts imag
   pub means : Means image (disc_in header table own (length w))
   means = record { known = o.known; is = sym disc_same }
 
--- ---- what is free of it
-
-pub free-shown : (image : List ℕ) (words : ℕ) → freeOf image ≡ free_of (disc_of image words)
-unfolding freeOf usedIn behindTable nodesIn
-free-shown image words = refl
-
-used_shown : (image : List ℕ) (words : ℕ) → usedIn image ≡ (disc_of image words).used
-unfolding usedIn behindTable nodesIn
-used_shown image words = refl
-
-pub nodes_shown : (image : List ℕ) (words : ℕ) → nodesIn image ≡ (disc_of image words).nodes
-unfolding nodesIn
-nodes_shown image words = refl
+-- ---- what the words hold
 
 module _ (header table : List ℕ) (own : DiscRegion) (w : List ℕ) (m : ℕ) (b : Backed header table own w m) where
   pub opens_backed : Opens table

@@ -35,10 +35,8 @@ fn next_file(table: &[u8], k: usize, end: usize) -> usize
     ensures { (k ≤ result) × (result ≤ end) }
 {
     for i in k..end {
-        if endian::read_u8(table, 12 * i) == 0 {
-            if endian::read_u32(table, 12 * i + 8) != 0 {
-                return i;
-            }
+        if endian::read_u8(table, 12 * i) == 0 && endian::read_u32(table, 12 * i + 8) != 0 {
+            return i;
         }
     }
     end
@@ -46,6 +44,7 @@ fn next_file(table: &[u8], k: usize, end: usize) -> usize
 
 // The entry before which the program has its turn: where the files are in order, the first that lies behind it. Any turn is right; with this
 // one, what is in order without the program is in order with it, and no sort is needed.
+// Kept: no `partition_point`, since directories and empty files lie between the files and have no place in the order.
 fn turn_of(table: &[u8], count: usize, program: DiscRegion) -> usize
     requires { (0 < count) × (12 * count ≤ length table.now) }
     ensures { (1 ≤ result) × (result ≤ count) }

@@ -9,17 +9,17 @@ use Rattle.space.specs.Laws.TotalLaws.{total-used}
 use Rattle.opening.specs.Opening.{table_of, nodesIn, behindTable, usedIn, freeOf, usedOf}
 use Rattle.opened.specs.Disc.{Disc, disc_of, free_of, Means}
 
-free-shown : (image : List ℕ) (words : ℕ) → freeOf image ≡ free_of (disc_of image words)
+pub free-shown : (image : List ℕ) (words : ℕ) → freeOf image ≡ free_of (disc_of image words)
 unfolding freeOf usedIn behindTable nodesIn
 free-shown image words = refl
 
-used-shown : (image : List ℕ) (words : ℕ) → usedIn image ≡ (disc_of image words).used
+pub used_shown : (image : List ℕ) (words : ℕ) → usedIn image ≡ (disc_of image words).used
 unfolding usedIn behindTable nodesIn
-used-shown image words = refl
+used_shown image words = refl
 
-nodes-shown : (image : List ℕ) (words : ℕ) → nodesIn image ≡ (disc_of image words).nodes
+pub nodes_shown : (image : List ℕ) (words : ℕ) → nodesIn image ≡ (disc_of image words).nodes
 unfolding nodesIn
-nodes-shown image words = refl
+nodes_shown image words = refl
 
 total-shown : (image : List ℕ) → usedOf image ≡ totalSize (usedIn image)
 unfolding usedIn usedOf
@@ -42,13 +42,13 @@ module _ (image : List ℕ) (d : Disc) (m : Means image d) where
   table_meant = ap (λ (x : Disc). x.table) m.is
 
   pub nodes_meant : nodesIn image ≡ d.nodes
-  nodes_meant = nodes-shown image d.words ∙ ap (λ (x : Disc). x.nodes) m.is
+  nodes_meant = nodes_shown image d.words ∙ ap (λ (x : Disc). x.nodes) m.is
 
   pub entries_meant : count (table_of image) ≡ length d.nodes
   entries_meant = sym (length-nodesOf (table_of image)) ∙ ap (λ (x : Disc). length x.nodes) m.is
 
   pub used_meant : usedIn image ≡ d.used
-  used_meant = used-shown image d.words ∙ ap (λ (x : Disc). x.used) m.is
+  used_meant = used_shown image d.words ∙ ap (λ (x : Disc). x.used) m.is
 
   pub total_meant : usedOf image ≡ totalSize d.used
   total_meant = total-shown image ∙ ap totalSize used_meant
