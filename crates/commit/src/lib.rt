@@ -10,9 +10,8 @@ ghost use Rattle.commit.specs.Inner.Decision.{CanCarry, number_of, carriedImage}
 use space::DiscRegion;
 pub use table::{check_place, check_table, write_table};
 
-/// What an edit does to the image besides the table. In a region of no bytes nothing is copied or zeroed, wherever it lies.
-// Kept: a region of no bytes where no file is edited, and no `Option`, which would be no plainer: an empty file's place has no bytes either, and
-// is written the same way.
+/// What an edit does to the image besides the table. In a region of no bytes nothing is done, wherever it lies.
+// Kept: a region of no bytes, and no `Option`, which is no plainer: an empty file's place is such a region too.
 #[derive(Clone, Copy, Debug, PartialEq, Eq)]
 pub struct Writing {
     /// Where the edited file lies before.
@@ -45,7 +44,8 @@ pub enum Decision {
         number: u32,
         at: u32,
     },
-    /// The clip if there is one, the table, whose `size` bytes stand in the working bytes, and what goes with it, for the entry of that number.
+    /// The clip if there is one, the table, whose `size` bytes stand in the working bytes, and what goes with it, for
+    /// the entry of that number.
     Write {
         number: u32,
         size: usize,
@@ -54,7 +54,7 @@ pub enum Decision {
 }
 
 impl Decision {
-    /// Writes what is decided on into the image, the table from the working bytes, and gives the number of the entry, 0 where there is none.
+    /// Writes what is decided on, the table from the working bytes, and gives the entry's number, 0 where there is none.
     /// The clip comes before the table, so a table with the new place or size has the whole clip.
     pub fn carry_out(self, image: &mut [u8], bytes: &[u8], clip: &[u8]) -> u32
         requires { CanCarry image.old (length bytes.now) clip.now (Ok self) }

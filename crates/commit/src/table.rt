@@ -23,8 +23,9 @@ fn above_maximum(disc: &OpenDisc<'_>, size: usize) -> bool
     maximum != 0 && (maximum as usize) < size
 }
 
-/// The tests of a table of `size` bytes, where `room` working bytes are lent: 9 if these are too few, 26 if it is above the stated maximum, 21
-/// if there is no room for it behind the old table, or before the edited file's new place.
+/// The tests of a table of `size` bytes, where `room` working bytes are lent: 9 if these are too few, 26 if it is
+/// above the stated maximum, 21 if there is no room for it behind the old table, or before the edited file's new
+/// place.
 #[tactic(auto, using(std::proofs::lemmas::Bool::Decides::nat_tests), unfolding(crate::specs::Inner::Judged::place_verdict))]
 pub fn check_place(disc: &OpenDisc<'_>, room: usize, size: usize, place: DiscRegion) -> Verdict
     ensures { result ≡ place_verdict disc.now room size place }
@@ -46,8 +47,8 @@ pub fn check_place(disc: &OpenDisc<'_>, room: usize, size: usize, place: DiscReg
     Ok(())
 }
 
-/// The tests that an edit ends with, for the tree as it is, and how many bytes its table takes. A tree that differs in a file's place only has the
-/// same size and the same answer.
+/// The tests that an edit ends with, for the tree as it is, and how many bytes its table takes. A tree that differs
+/// in a file's place only has the same size and the same answer.
 pub fn check_table(disc: &OpenDisc<'_>, room: usize, place: DiscRegion) -> Result<usize, Refusal>
     ensures answer { result ≡ judged_size disc.now room place }
     ensures held { IfOk result (λ _. length (encode disc.now.nodes) ≤ room) }

@@ -18,7 +18,8 @@ fn commit(image: &mut [u8], bytes: &[u8], fst_offset: usize, fst_size: usize, si
     endian::write_u32(image, Field::FST_SIZE.at, size as u32);
 }
 
-// The bytes of a file to its new place. No byte may be asked for at a place past the image: an empty file may go anywhere.
+// The bytes of a file to its new place. No byte may be asked for at a place past the image: an empty file may go
+// anywhere.
 fn copy_kept(image: &mut [u8], source: usize, to: usize, n: usize)
     requires { CopyFits (length image.old) source to n }
     ensures { image.new ≡ put image.old to (span image.old source n) }

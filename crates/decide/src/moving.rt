@@ -36,7 +36,8 @@ pub(crate) fn set_place(
 ) -> Result<Decision, Refusal>
     requires is_file { IsFile disc.now.nodes number }
     requires inside { (image : List ℕ) → Means image disc.now → InImage (length image) writing }
-    ensures { Decides (change number (changeWith (setPlace number writing.place.offset writing.place.size disc.now.nodes) writing)) disc.now (length bytes.old) bytes.new result }
+    ensures { let nodes = setPlace number writing.place.offset writing.place.size disc.now.nodes in
+        Decides (change number (changeWith nodes writing)) disc.now (length bytes.old) bytes.new result }
 {
     let place = writing.place;
     let size = commit::check_table(disc, bytes.len(), place)?;
@@ -77,7 +78,9 @@ pub(crate) fn relocate(
     new: DiscRegion,
 ) -> Result<Decision, Refusal>
     requires { IsFileOf disc.now file }
-    ensures { Decides (planned (relocateVerdict (free_of disc.now) file.place new) (change file.number (relocated disc.now.nodes file.number file.place new))) disc.now (length bytes.old) bytes.new result }
+    ensures { let moved = change file.number (relocated disc.now.nodes file.number file.place new) in
+        let plan = planned (relocateVerdict (free_of disc.now) file.place new) moved in
+        Decides plan disc.now (length bytes.old) bytes.new result }
 {
     let old = file.place;
     check_relocate(disc, old, new)?;
@@ -90,14 +93,16 @@ pub(crate) fn relocate(
     set_place(disc, bytes, file.number, writing)
 }
 
-/// The file of that number goes to another offset: 15, 16, 20 if it would overlap itself, 21 if its new place is not free, then the table's tests.
+/// The file of that number goes to another offset: 15, 16, 20 if it would overlap itself, 21 if its new place is not
+/// free, then the table's tests.
 pub fn move_file(
     disc: &OpenDisc<'_>,
     bytes: &mut [u8],
     number: u32,
     offset: u32,
 ) -> Result<Decision, Refusal>
-    ensures { Decides (planMove (free_of disc.now) disc.now.nodes number offset) disc.now (length bytes.old) bytes.new result }
+    ensures { let plan = planMove (free_of disc.now) disc.now.nodes number offset in
+        Decides plan disc.now (length bytes.old) bytes.new result }
 {
     let file = file_at(disc, number)?;
     let new = DiscRegion {

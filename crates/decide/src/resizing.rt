@@ -18,7 +18,8 @@ use space::DiscRegion;
 
 // Whether a file keeps its place: it gets smaller, or can grow there.
 fn stays(disc: &OpenDisc<'_>, place: DiscRegion, new_size: u32) -> bool
-    ensures { result ≡ (leb new_size place.size || leb new_size (maxRegionSize place.offset place.size (free_of disc.now))) }
+    ensures { let most = maxRegionSize place.offset place.size (free_of disc.now) in
+        result ≡ (leb new_size place.size || leb new_size most) }
 {
     new_size <= place.size || new_size <= disc.max_region_size(place.offset, place.size)
 }
@@ -32,7 +33,8 @@ fn resize_in_place(
 ) -> Result<Decision, Refusal>
     requires file { IsFileOf disc.now file }
     requires ends { file.place.offset + new_size < 2 ^ 32 }
-    ensures { Decides (change file.number (resized disc.now.nodes file.number file.place new_size)) disc.now (length bytes.old) bytes.new result }
+    ensures { let plan = change file.number (resized disc.now.nodes file.number file.place new_size) in
+        Decides plan disc.now (length bytes.old) bytes.new result }
 {
     let old = file.place;
     let writing = Writing {
@@ -58,7 +60,10 @@ fn grow_elsewhere(
     new_size: u32,
 ) -> Result<Decision, Refusal>
     requires { IsFileOf disc.now file }
-    ensures { Decides (planElsewhere disc.now.nodes (free_of disc.now) file.number file.place new_size (allocationOf 0x8000 new_size (free_of disc.now))) disc.now (length bytes.old) bytes.new result }
+    ensures { let free = free_of disc.now in
+        let region = allocationOf 0x8000 new_size free in
+        let plan = planElsewhere disc.now.nodes free file.number file.place new_size region in
+        Decides plan disc.now (length bytes.old) bytes.new result }
 {
     let region = disc.allocate(new_size, 0x8000)?;
     let new = DiscRegion {
@@ -68,8 +73,8 @@ fn grow_elsewhere(
     relocate(disc, bytes, file, new)
 }
 
-/// A file gets another size: nothing is done where it has that size; it keeps its place if it can, else it goes where there is room, or 21; then
-/// the table's tests.
+/// A file gets another size: nothing is done where it has that size; it keeps its place if it can, else it goes where
+/// there is room, or 21; then the table's tests.
 pub fn resize(
     disc: &OpenDisc<'_>,
     bytes: &mut [u8],
@@ -77,7 +82,8 @@ pub fn resize(
     new_size: u32,
 ) -> Result<Decision, Refusal>
     requires { IsFileOf disc.now file }
-    ensures { Decides (planSized (free_of disc.now) disc.now.nodes file.number file.place new_size) disc.now (length bytes.old) bytes.new result }
+    ensures { let plan = planSized (free_of disc.now) disc.now.nodes file.number file.place new_size in
+        Decides plan disc.now (length bytes.old) bytes.new result }
 {
     if new_size == file.place.size {
         return Ok(Decision::Nothing);
@@ -95,7 +101,8 @@ pub fn resize_file(
     number: u32,
     new_size: u32,
 ) -> Result<Decision, Refusal>
-    ensures { Decides (planResize (free_of disc.now) disc.now.nodes number new_size) disc.now (length bytes.old) bytes.new result }
+    ensures { let plan = planResize (free_of disc.now) disc.now.nodes number new_size in
+        Decides plan disc.now (length bytes.old) bytes.new result }
 {
     let file = file_at(disc, number)?;
     resize(disc, bytes, file, new_size)

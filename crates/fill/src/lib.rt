@@ -12,8 +12,8 @@ use decide::File;
 use opened::OpenDisc;
 use refusal::Refusal;
 
-// A resize's decision with the clip: a file of the clip's size stays where it is, and only the clip is written. No byte of the old file is copied,
-// since the clip covers what a resize would copy.
+// A resize's decision with the clip: a file of the clip's size stays where it is, and only the clip is written. No
+// byte of the old file is copied, since the clip covers what a resize would copy.
 fn with_clip(decision: Decision, file: File) -> Decision
     ensures { result ≡ withClip decision file }
 {
@@ -31,15 +31,16 @@ fn with_clip(decision: Decision, file: File) -> Decision
     }
 }
 
-/// The file of that number becomes the clip: 15, 16, 21 for a clip that no place can hold, then as a resize to the clip's length. The clip stands
-/// beside the decision when that is carried out.
+/// The file of that number becomes the clip: 15, 16, 21 for a clip that no place can hold, then as a resize to the
+/// clip's length. The clip stands beside the decision when that is carried out.
 pub fn fill(
     disc: &OpenDisc<'_>,
     bytes: &mut [u8],
     number: u32,
     clip: &[u8],
 ) -> Result<Decision, Refusal>
-    ensures { DecidesWith clip.now (planFill (free_of disc.now) disc.now.nodes number clip.now) disc.now (length bytes.old) bytes.new result }
+    ensures { let plan = planFill (free_of disc.now) disc.now.nodes number clip.now in
+        DecidesWith clip.now plan disc.now (length bytes.old) bytes.new result }
 {
     let file = decide::file_at(disc, number)?;
     let Ok(new_size) = u32::try_from(clip.len()) else {

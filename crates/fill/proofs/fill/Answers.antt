@@ -24,10 +24,10 @@ returns-in_err-decision c =
     let p = err_from_is_err_and e.result e.ensures.1 in
     let n = c.in-Ok.ensures in
     rw (p.1, p.2)
-    (λ image m. not-resized image a.disc.now m a.bytes.now _ a.clip.now a.number _ c.file_at.ensures.answer _ c.in_ok-file.was c.resize.auto.bytes _ (omega (arith, n.0)) n.1 _ (c.in_err-decision.ensures image m))
+    (λ image m. not-resized image a.disc.now m a.bytes.now _ a.clip.now a.number _ c.file_at.ensures.answer _ c.in_ok-file.was c.resize.auto.bytes _ (omega (arith, n.0)) n.1 _ (search c.in_err-decision.ensures))
 
 pub returns : goal.returns
 returns c =
     let a = c.args in
     let n = c.in-Ok.ensures in
-    λ image m. filled-by image a.disc.now m a.bytes.now _ a.clip.now a.number _ c.file_at.ensures.answer _ c.in_ok-file.was c.resize.auto.bytes _ (omega (arith, n.0)) n.1 _ _ (c.in_ok-decision.ensures image m) c.with_clip.ensures
+    λ image m. filled-by image a.disc.now m a.bytes.now _ a.clip.now a.number _ c.file_at.ensures.answer _ c.in_ok-file.was c.resize.auto.bytes _ (omega (arith, n.0)) n.1 _ _ (search c.in_ok-decision.ensures) c.with_clip.ensures
