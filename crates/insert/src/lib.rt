@@ -17,7 +17,8 @@ use refusal::Refusal;
 /// An empty file or an empty directory as the last child of a directory: 15, 13, 17, 19, 12, then the tests of the new table, which stands in
 /// the bytes where it is decided on.
 pub fn insert(disc: &OpenDisc<'_>, bytes: &mut [u8], new: NewEntry<'_>) -> Result<Decision, Refusal>
-    ensures { Decides (planInserted new.entry.kind disc.now.nodes new.entry.parent new.entry.name.now) disc.now (length bytes.old) bytes.new result }
+    ensures { Decides (planInserted new.entry.kind disc.now.nodes new.entry.parent new.entry.name.now)
+        disc.now (length bytes.old) bytes.new result }
 {
     new.check(&Table::new(disc.table()))?;
     let size = table_only::start_table(disc, bytes)?;

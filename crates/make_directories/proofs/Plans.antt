@@ -32,7 +32,7 @@ use Rattle.fst_grow.specs.Inner.Growth.{Built}
 use Rattle.fst_grow.specs.Inner.Growing.{tree_of}
 use Rattle.commit.proofs.Decisions.{refused-decided}
 use Rattle.table_only.proofs.TableChanges.{unbuilt-decides, same-decides}
-use Rattle.make_walk.specs.Inner.Walk.{pathVerdict}
+use Rattle.make_walk.specs.Inner.Walk.{pathTrouble, pathVerdict}
 use Rattle.make_directories.specs.Inner.Making.{madeTree, madeEntry, Reaches}
 use Rattle.make_directories.proofs.Turns.{all_made}
 
@@ -49,7 +49,7 @@ module _ (d : Disc) (start : ℕ) (path : List ℕ) where
   -- ---- the tests that need no memory
 
   pub path-short : WellFormed nodes → length path ≤ 1024 →
-      refuse (leb (length nodes) start) NoSuchEntry (troubleOf nodes start start 0 false (components path)) ≡ pathVerdict nodes start path
+      pathTrouble nodes start path ≡ pathVerdict nodes start path
   unfolding pathVerdict
   path-short w h = rw (le-ltb 1024 (length path) h) (go (leb (length nodes) start) refl)
     where

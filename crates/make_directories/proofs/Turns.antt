@@ -1,6 +1,6 @@
 -- Make-directories turn by turn, once no trouble stands on the path: each component leads on to what the whole makes, and what there is no
 -- room for on the way there is none for at the end. Assumes nothing.
-use Rattle.std.specs.Prelude.{Result, Ok, Err, IfOk, OnOk}
+use Rattle.std.specs.Prelude.{Result, Ok, Err}
 use Prim.Native.Nat.{ℕ, zero, suc, ◌<◌}
 use mathlib.Core.Path.{◌≡◌, refl, ap, ◌∙◌}
 use mathlib.Core.Bool.{Bool, true, false, cond, not}
@@ -24,9 +24,8 @@ use Rattle.edits.specs.Edits.{newNumber, Made, stopped, made, madeBack, ifFound,
 use Rattle.edits.specs.Inner.Troubles.{madeVerdict}
 use Rattle.edits.specs.Laws.MadeTree.{bad-stays, AllLt, make-grows}
 use Rattle.fst_grow.specs.declared.growing.Growing.{Growing}
-use Rattle.fst_grow.specs.Inner.Growth.{added, Built}
-use Rattle.fst_grow.specs.Inner.Growing.{tree_of, IsTable, sizedAs}
-use Rattle.make_directories.specs.Inner.Making.{madeTree, madeEntry, newIn, turn_of, CanTurn, Reaches}
+use Rattle.fst_grow.specs.Inner.Growing.{tree_of, IsTable}
+use Rattle.make_directories.specs.Inner.Making.{madeTree, madeEntry, turn_of, CanTurn, Reaches}
 
 -- ---- the entries left behind are the directories that the entry is nested in
 
@@ -149,9 +148,6 @@ unfolding ups
 making-start g start cs t h e = record { table = t; lent = refl; long = refl; inside = h; steps = 0; left = all_made (make (tree_of g) [] start false cs) e }
 
 module _ {F : List Node} {j words room : ℕ} {g : Growing} {k : ℕ} {nm : List ℕ} {cs : List (List ℕ)} (v : Making F j words room g k (nm ∷ cs)) where
-  abbrev T : List Node
-  T = tree_of g
-
   pub making-can : CanTurn (tree_of g) k nm
   making-can = can-turn (tree_of g) k v.steps nm cs F j v.table.well v.inside v.left
 
@@ -180,10 +176,3 @@ unfolding make
 making-end F j words room g k v =
     let d = must (isDirectory (get_or (tree_of g) k none)) (made (tree_of g) k false) ExpectedDirectory F j v.left in
     (ap madeEntry d.1, v.table, ap madeTree d.1)
-
--- ---- a directory that is made
-
-pub grown-reached : (T : List Node) (k : ℕ) (nm : List ℕ) (r : Result ℕ Refusal) (g h : Growing) → h.words ≡ g.words → IfOk r (λ n. n ≡ newNumber T k) → OnOk r (IsTable h) → OnOk r (tree_of h ≡ added T true k nm) →
-    Built (added T true k nm) g.words g.bytes.now h.bytes.now (sizedAs r h.size) → Reaches (newIn T k nm) (length g.bytes.now) h r
-grown-reached T k nm (Ok n) g h w number table tree b = (number, table, tree)
-grown-reached T k nm (Err c) g h w number table tree b = (b.0, λ l. b.1 (rw w at l))

@@ -39,7 +39,8 @@ pub fn make_directories(
     start: u32,
     path: &[u8],
 ) -> Result<Decision, Refusal>
-    ensures { Decides (planMakeDirectories disc.now.nodes start path.now) disc.now (length bytes.old) bytes.new result }
+    ensures { Decides (planMakeDirectories disc.now.nodes start path.now)
+        disc.now (length bytes.old) bytes.new result }
 {
     check_path(disc, start, path)?;
     let size = table_only::start_table(disc, bytes)?;

@@ -7,11 +7,11 @@ ghost use Rattle.fst_grow.specs.Inner.Growing.{tree_of, IsTable};
 ghost use Rattle.make_directories.specs.Inner.Making.{turn_of, CanTurn, Reaches};
 
 use fst_grow::Growing;
-use make_walk::Components;
+use fst_path::Components;
 use refusal::Refusal;
 
-/// From a directory along one component: empty and `.` stay, `..` goes back, any other leads to the child with that name, or into a directory
-/// that is made for it; 9 if there is no room for one.
+// From a directory along one component: empty and `.` stay, `..` goes back, any other leads to the child with that name, or into a directory
+// that is made for it; 9 if there is no room for one.
 #[tactic(auto, unfolding(crate::specs::Inner::Making::turn_of))]
 fn step(table: &mut Growing<'_>, entry: usize, name: &[u8]) -> Result<usize, Refusal>
     requires { IsTable table.old × CanTurn (tree_of table.old) entry name.now }
@@ -35,8 +35,10 @@ fn step(table: &mut Growing<'_>, entry: usize, name: &[u8]) -> Result<usize, Ref
 /// Along the components of a path from the entry `start`, to the entry where it ends; 9 once there is no room for a directory, since there is
 /// none for the whole then.
 pub fn make_along(table: &mut Growing<'_>, start: usize, path: &[u8]) -> Result<usize, Refusal>
-    requires { IsTable table.old × (start < length (tree_of table.old)) × (madeVerdict (make (tree_of table.old) [] start false (components path.now)) ≡ (Ok tt)) }
-    ensures reaches { Reaches (make (tree_of table.old) [] start false (components path.now)) (length table.old.bytes.now) table.new result }
+    requires { IsTable table.old × (start < length (tree_of table.old))
+        × (madeVerdict (make (tree_of table.old) [] start false (components path.now)) ≡ (Ok tt)) }
+    ensures reaches { Reaches (make (tree_of table.old) [] start false (components path.now))
+        (length table.old.bytes.now) table.new result }
     ensures words { table.new.words ≡ table.old.words }
     ensures length { length table.new.bytes.now ≡ length table.old.bytes.now }
     ensures same_reference { table.new.bytes.ghost_name ≡ table.old.bytes.ghost_name }

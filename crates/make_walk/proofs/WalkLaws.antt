@@ -15,7 +15,7 @@ use Rattle.refusal.specs.declared.Refusal.TheVariants.{InvalidNameByte, UnsafeNa
 use Rattle.tree.specs.Table.{Node, none, plain, safe, parent_of}
 use Rattle.tree.specs.Lookup.{isDirectory, components, childOf, stays, goesBack}
 use Rattle.edits.specs.Inner.Troubles.{ifChild, troubleOf}
-use Rattle.make_walk.specs.Inner.Walk.{Place, at_start, walk_from, moved, plainVerdict, directoryVerdict, newStep, backStep, childStep, intoStep, behind, step_of, lastVerdict}
+use Rattle.make_walk.specs.Inner.Walk.{Place, at_start, walk_from, moved, plainVerdict, directoryVerdict, childStep, behind, step_of, lastVerdict, pathTrouble}
 
 -- ---- what the new names come to: nothing, or 12
 
@@ -108,38 +108,30 @@ module _ (p : Place) (t : Told p.names) (nm : List ℕ) (q : Place) where
   never : (c : Refusal) → ◌≡◌ {A = Result Place Refusal} (Err c) (Ok q) → Within (p.level + 1) q
   never c e = let z : ◌≡◌ {A = ℕ} 0 1 = cc in absurd (omega arith)
 
-  back-within : backStep p ≡ Ok q → Within (p.level + 1) q
-  back-within = go (eqb p.level 0) (eqb p.entry p.start)
-    where
-      go : (z w : Bool) → cond z (cond w (Err NotFound) (Ok (moved p (parent_of p.nodes p.entry) 0))) (Ok (moved p p.entry (p.level - 1))) ≡ Ok q → Within (p.level + 1) q
-      go true true e = never _ e
-      go true false e = landed _ e (omega arith) t
-      go false w e = landed _ e (omega arith) t
-
-  new-within : newStep p nm ≡ Ok q → Within (p.level + 1) q
-  new-within = go (safe nm)
-    where
-      go : (s : Bool) → cond s (Ok (record { nodes = p.nodes; start = p.start; entry = p.entry; level = p.level + 1; names = first p.names (plainVerdict nm) })) (Err UnsafeName) ≡ Ok q → Within (p.level + 1) q
-      go true e = landed _ e (omega arith) (told-both p.names (not (plain nm)) t)
-      go false e = never _ e
-
-  into-within : intoStep p nm ≡ Ok q → Within (p.level + 1) q
-  into-within = go (eqb p.level 0) (childOf p.nodes p.entry nm)
-    where
-      go : (z : Bool) (a : Result ℕ Refusal) → cond z (childStep p a (newStep p nm)) (newStep p nm) ≡ Ok q → Within (p.level + 1) q
-      go true (Ok j) e = landed _ e (omega arith) t
-      go true (Err c) e = new-within e
-      go false a e = new-within e
+  -- with one new directory more
+  abbrev new : Place
+  new = record { nodes = p.nodes; start = p.start; entry = p.entry; level = p.level + 1; names = first p.names (plainVerdict nm) }
 
   step-within : step_of p nm ≡ Ok q → Within (p.level + 1) q
   unfolding step_of
-  step-within = go (directoryVerdict p) (stays nm) (goesBack nm)
+  step-within = go (directoryVerdict p) (stays nm) (goesBack nm) (eqb p.level 0) (eqb p.entry p.start) (childOf p.nodes p.entry nm) (safe nm)
     where
-      go : (d : Verdict) (u g : Bool) → behind d (cond u (Ok p) (cond g (backStep p) (intoStep p nm))) ≡ Ok q → Within (p.level + 1) q
-      go (Err c) u g e = never _ e
-      go (Ok _) true g e = landed p e (omega arith) t
-      go (Ok _) false true e = back-within e
-      go (Ok _) false false e = into-within e
+      told : Told (first p.names (plainVerdict nm))
+      told = told-both p.names (not (plain nm)) t
+
+      go : (d : Verdict) (u g z w : Bool) (a : Result ℕ Refusal) (s : Bool) →
+          behind d (cond u (Ok p) (cond g (cond z (cond w (Err NotFound) (Ok (moved p (parent_of p.nodes p.entry) 0))) (Ok (moved p p.entry (p.level - 1))))
+          (cond z (childStep p a (cond s (Ok new) (Err UnsafeName))) (cond s (Ok new) (Err UnsafeName))))) ≡ Ok q → Within (p.level + 1) q
+      go (Err c) u g z w a s e = never c e
+      go (Ok _) true g z w a s e = landed p e (omega arith) t
+      go (Ok _) false true true true a s e = never _ e
+      go (Ok _) false true true false a s e = landed _ e (omega arith) t
+      go (Ok _) false true false w a s e = landed _ e (omega arith) t
+      go (Ok _) false false true w (Ok j) s e = landed _ e (omega arith) t
+      go (Ok _) false false true w (Err c) true e = landed new e (omega arith) told
+      go (Ok _) false false true w (Err c) false e = never _ e
+      go (Ok _) false false false w a true e = landed new e (omega arith) told
+      go (Ok _) false false false w a false e = never _ e
 
 -- ---- the loop along the path: what is left of the walk is what the whole has
 
@@ -164,11 +156,7 @@ pub walk_ends : (whole : Verdict) (most : ℕ) (p : Place) → Walking whole mos
 walk_ends whole most p f r e = e ∙ sym (f.left ∙ trouble-last p.nodes p.start p.entry p.names p.level f.told)
 
 module _ (nodes : List Node) (start : ℕ) (path : List ℕ) where
-  -- 15, then the troubles along the path
-  abbrev pub whole_of : Verdict
-  whole_of = refuse (leb (length nodes) start) NoSuchEntry (troubleOf nodes start start 0 false (components path))
-
-  pub walk-starts : (p : Place) → walk_from nodes start ≡ Ok p → Walking whole_of (length (components path)) p (components path)
+  pub walk-starts : (p : Place) → walk_from nodes start ≡ Ok p → Walking (pathTrouble nodes start path) (length (components path)) p (components path)
   walk-starts p = go (leb (length nodes) start)
     where
       go : (t : Bool) → cond t (Err NoSuchEntry) (Ok (at_start nodes start)) ≡ Ok p →

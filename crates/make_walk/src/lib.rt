@@ -2,25 +2,21 @@
 // since each directory there is one that the walk made.
 #![tactic(auto)]
 
-ghost use Rattle.std.specs.Prelude.{◌≡◌, false, ◌<◌, ◌^◌, leb, length};
-ghost use Rattle.refusal.specs.declared.Refusal.TheVariants.{NoSuchEntry};
-ghost use Rattle.refusal.specs.Refusal.{refuse};
+ghost use Rattle.std.specs.Prelude.{◌≡◌, ◌<◌, ◌^◌, length};
 ghost use Rattle.tree.specs.Table.{nodesOf};
-ghost use Rattle.tree.specs.Lookup.{components};
-ghost use Rattle.edits.specs.Inner.Troubles.{troubleOf};
+ghost use Rattle.make_walk.specs.Inner.Walk.{pathTrouble};
 
-mod components;
 mod walk;
 
-pub use components::Components;
 use fst::Table;
+use fst_path::Components;
 use refusal::Verdict;
 use walk::Walk;
 
 /// The first trouble along the path from the entry `start`: 15, then along the path 13, 17, 18, and 12 last.
 pub fn trouble(table: Table<'_>, start: usize, path: &[u8]) -> Verdict
     requires { length path.now < 2 ^ 63 }
-    ensures { result ≡ refuse (leb (length (nodesOf table.entry)) start) NoSuchEntry (troubleOf (nodesOf table.entry) start start 0 false (components path.now)) }
+    ensures { result ≡ pathTrouble (nodesOf table.entry) start path.now }
 {
     let mut walk = Walk::new(table, start)?;
     for name in Components::new(path) {

@@ -1,10 +1,8 @@
 // A walk along a path that may lead below the tree as it is.
-ghost use Rattle.std.specs.Prelude.{◌≡◌, Ok, IfOk, ◌<◌, ◌^◌, length};
+ghost use Rattle.std.specs.Prelude.{◌≡◌, Ok, ◌<◌, ◌^◌};
 ghost use Rattle.tree.specs.Table as table_of;
 ghost use Rattle.tree.specs.Table.{nodesOf};
-ghost use Rattle.tree.specs.Lookup.{childOf};
-ghost use Rattle.fst_check.specs.Inner.Reading.{Opens};
-ghost use Rattle.make_walk.specs.Inner.Walk.{plainVerdict, walk_from, moved, directoryVerdict, backStep, intoStep, step_of, lastVerdict};
+ghost use Rattle.make_walk.specs.Inner.Walk.{plainVerdict, walk_from, directoryVerdict, backStep, intoStep, step_of, lastVerdict};
 
 use fst::Table;
 use refusal::{Refusal, Verdict};
@@ -24,16 +22,17 @@ pub struct Walk<'a> {
 impl<'a> Model for Walk<'a> {
     ghost use Rattle.std.specs.Prelude.{◌<◌};
     ghost use Rattle.tree.specs.Table as table_of;
+    ghost use Rattle.fst.specs.Inner.Held.{Held};
     ghost use Rattle.make_walk.specs.Inner.Walk.{Place, place_in};
 
     ghost Value = { Place };
 
     ghost view = { λ w. place_in w.table w.start w.entry w.level w.names };
 
-    ghost invariant = { λ w. w.entry < table_of.count w.table };
+    ghost invariant = { λ w. Held w.table × (w.entry < table_of.count w.table) };
 }
 
-/// Whether each unit of a name is one that a name may have: 12.
+// Whether each unit of a name is one that a name may have: 12.
 fn check_units(name: &[u8]) -> Verdict
     ensures { result ≡ plainVerdict name.now }
 {
@@ -42,16 +41,6 @@ fn check_units(name: &[u8]) -> Verdict
     } else {
         Err(Refusal::InvalidNameByte)
     }
-}
-
-/// The first child of directory `d` with that name, an entry of the table.
-fn child_of(table: &[u8], d: usize, name: &[u8]) -> Result<usize, Refusal>
-    requires { Opens table.now × (d < table_of.count table.now) }
-    ensures child { result ≡ childOf (nodesOf table.now) d name.now }
-    ensures inside { IfOk result (λ j. j < length (nodesOf table.now)) }
-{
-    let child = Table::new(table).child(d, name)?;
-    Ok(child as usize)
 }
 
 impl<'a> Walk<'a> {
@@ -71,7 +60,7 @@ impl<'a> Walk<'a> {
         })
     }
 
-    /// From a file no step leads on, and no path may end on one: 17.
+    // From a file no step leads on, and no path may end on one: 17.
     fn check_directory(&self) -> Verdict
         ensures { result ≡ directoryVerdict self.now }
     {
@@ -81,19 +70,7 @@ impl<'a> Walk<'a> {
         Ok(())
     }
 
-    /// To an entry of the table.
-    fn to(self, entry: usize) -> Self
-        requires { entry < length self.nodes }
-        ensures { result ≡ moved self.entry entry 0 }
-    {
-        Walk {
-            entry,
-            level: 0,
-            ..self
-        }
-    }
-
-    /// Back over the last named step, never above the start: 18.
+    // Back over the last named step, never above the start: 18.
     fn back(self) -> Result<Self, Refusal>
         ensures { result ≡ backStep self.entry }
     {
@@ -107,17 +84,23 @@ impl<'a> Walk<'a> {
             return Err(Refusal::NotFound);
         }
         let parent = self.table.parent(self.entry);
-        Ok(self.to(parent))
+        Ok(Walk {
+            entry: parent,
+            ..self
+        })
     }
 
-    /// To the first child with that name, whatever its kind, or into a directory that is not there yet: 13.
+    // To the first child with that name, whatever its kind, or into a directory that is not there yet: 13.
     fn into(self, name: &[u8]) -> Result<Self, Refusal>
         requires { self.level < 2 ^ 63 }
         ensures { result ≡ intoStep self.entry name.now }
     {
         if self.level == 0 {
-            if let Ok(child) = child_of(self.table.bytes(), self.entry, name) {
-                return Ok(self.to(child));
+            if let Ok(child) = self.table.child(self.entry, name) {
+                return Ok(Walk {
+                    entry: child as usize,
+                    ..self
+                });
             }
         }
         if !fst_text::is_safe(name) {

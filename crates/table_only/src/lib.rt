@@ -42,7 +42,8 @@ pub fn place_table(
 ) -> Result<Decision, Refusal>
     requires table { IsTable table.now }
     requires words { table.now.words ≡ disc.now.words }
-    ensures { Decides (change number (tableOnly (tree_of table.now))) disc.now (length table.now.bytes.now) table.now.bytes.now result }
+    ensures { Decides (change number (tableOnly (tree_of table.now)))
+        disc.now (length table.now.bytes.now) table.now.bytes.now result }
 {
     commit::check_place(disc, table.bytes.len(), table.size, Writing::NOTHING.place)?;
     Ok(Decision::Write {

@@ -2,11 +2,12 @@
 use Rattle.std.proofs.Common.{length}
 use Rattle.tree.specs.Table.{nodesOf}
 use Rattle.tree.specs.Lookup.{components}
-use Rattle.make_walk.proofs.WalkLaws.{Walking, whole_of}
+use Rattle.make_walk.specs.Inner.Walk.{pathTrouble}
+use Rattle.make_walk.proofs.WalkLaws.{Walking}
 use Rattle.make_walk.proofs.trouble.Given as goal
 
 abbrev pub invariant-loop-name : goal.invariant-loop-name
 invariant-loop-name l =
     (goal.iterator-loop-name).can_next l.name-iterator ×
     (goal.iterator-loop-name).is_finite l.name-iterator ×
-    Walking (whole_of (nodesOf l.fn.table) l.start l.path) (length (components l.path)) l.walk l.name-iterator
+    Walking (pathTrouble (nodesOf l.fn.table) l.start l.path) (length (components l.path)) l.walk l.name-iterator

@@ -7,7 +7,7 @@ use Rattle.refusal.specs.Refusal.{Verdict, refuse, first}
 use Rattle.tree.specs.Table.{Node, none, nodesOf, plain, safe, parent_of}
 use Rattle.tree.specs.Lookup.{isDirectory, components, childOf, stays, goesBack}
 use Rattle.edits.specs.Edits.{make}
-use Rattle.edits.specs.Inner.Troubles.{madeVerdict}
+use Rattle.edits.specs.Inner.Troubles.{madeVerdict, troubleOf}
 
 -- a walk from `start` stands at an entry of the tree as it is, so many new directories below it; and what the new names come to
 pub record Place : Type 0 where
@@ -72,6 +72,12 @@ step_of p nm =
 -- the walk must end on a directory; 12 comes last
 abbrev pub lastVerdict : Place → Verdict
 lastVerdict p = first (directoryVerdict p) p.names
+
+-- 15, then the troubles along the path
+abbrev pub pathTrouble : List Node → ℕ → List ℕ → Verdict
+pathTrouble nodes start path =
+    refuse (leb (length nodes) start) NoSuchEntry
+    (troubleOf nodes start start 0 false (components path))
 
 -- a path over 1,024 bytes, 15, then the troubles along the path
 unfoldable pub pathVerdict : List Node → ℕ → List ℕ → Verdict
