@@ -1,7 +1,7 @@
 // The calls on a window, which stands in three slots: start, length, position.
 ghost use Rattle.std.specs.Prelude.{◌≡◌, length};
 ghost use Rattle.window.specs.Window.{seekOf, count_of, movedOn, bufferOf};
-ghost use Rattle.window.specs.declared.SeekFrom.TheVariants.{Start, Current, End};
+ghost use Rattle.std.specs.declared.io.SeekFrom.TheVariants.{Start, Current, End};
 ghost use Rattle.files.specs.Files.{openFileAnswer};
 ghost use Rattle.counter.specs.Replies.{Read, reply, replied, windowWords};
 

@@ -9,7 +9,7 @@ use Rattle.refusal.specs.Refusal.{number_of}
 use Rattle.header.specs.Fields.{fields}
 use Rattle.header.specs.Verdicts.{fieldVerdict, fieldsVerdict, headerVerdict, boundsVerdict, fstOffset, fstSize, fstMaxSize, discEnd}
 use Rattle.window.specs.declared.Window.{Window}
-use Rattle.window.specs.declared.SeekFrom.TheVariants.{Current}
+use Rattle.std.specs.declared.io.SeekFrom.TheVariants.{Current}
 use Rattle.window.specs.Window.{seekOf, newWindow}
 use Rattle.tree.specs.declared.Entry.TheVariants.{File, Directory}
 use Rattle.tree.specs.declared.Found.TheVariants as found
