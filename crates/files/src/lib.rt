@@ -12,7 +12,7 @@ pub use lookups::{entry, lookup, max_file_size, open_file};
 use window::Window;
 
 /// The executable: its header, and the window that shows it.
-#[derive(Clone, Copy)]
+#[derive(Clone, Copy, PartialEq, Eq, Debug)]
 pub struct DolFile {
     pub header: DolHeader,
     pub window: Window,

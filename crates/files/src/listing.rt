@@ -4,6 +4,7 @@ ghost use Rattle.files.specs.Files.{entriesAnswer, entriesList};
 ghost use Rattle.opening.specs.Opening.{zeros};
 
 use answers::Disc;
+use fst::Table;
 use opened::{Lent, OpenDisc};
 use refusal::Refusal;
 
@@ -16,6 +17,6 @@ pub fn entries(image: &[u8], words: &mut [u32], list: &mut [u32]) -> Result<Disc
 {
     let lent = Lent::new(words);
     let disc = OpenDisc::of_image(image, lent.memory)?;
-    fst_list::list_entries(disc.table(), disc.start(), list)?;
+    fst_list::list_entries_in(&Table::new(disc.table()), disc.start(), list)?;
     Ok(answers::told(&disc))
 }

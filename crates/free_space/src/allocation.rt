@@ -12,8 +12,7 @@ pub fn align_up(a: u32, align: u32) -> u64
     requires { 0 < align }
     ensures { result ≡ align_up align a }
 {
-    let align = u64::from(align);
-    (u64::from(a) + (align - 1)) / align * align
+    u64::from(a).next_multiple_of(u64::from(align))
 }
 
 // What a free region has for `size` bytes from its first multiple of `align` on.

@@ -1,9 +1,10 @@
 // An accepted file table as a type. Contracts see its bytes.
-ghost use Rattle.std.specs.Prelude.{◌≡◌, ◌≤◌, ◌<◌, ◌^◌, get_or};
+ghost use Rattle.std.specs.Prelude.{◌≡◌, ◌+◌, ◌≤◌, ◌<◌, ◌^◌, length, get_or};
 ghost use Rattle.tree.specs.Table as table_of;
 ghost use Rattle.tree.specs.Table.{none, nodesOf, parent_of, namePlace};
 ghost use Rattle.tree.specs.Lookup.{isDirectory, next_of, entry_of, entryFound};
 ghost use Rattle.fst_check.specs.Inner.Reading.{Opens};
+ghost use Rattle.fst_text.specs.Inner.Texts.{textAt};
 ghost use Rattle.fst.specs.Inner.Held.{Held};
 
 use refusal::Refusal;
@@ -40,6 +41,7 @@ impl<'a> Table<'a> {
     pub fn bytes(&self) -> &'a [u8]
         ensures bytes { result.now ≡ self.now }
         ensures opens { Opens self.now }
+        ensures held { Held self.now }
     {
         self.bytes
     }
@@ -80,6 +82,8 @@ impl<'a> Table<'a> {
         requires within { k < table_of.count self.now }
         ensures place { result ≡ namePlace self.now k }
         ensures inside { result < 2 ^ 25 }
+        ensures ended { result + length (textAt self.now result) < length self.now }
+        ensures short { length (textAt self.now result) ≤ 2 ^ 20 }
     {
         let table = self.bytes;
         12 * self.len() + endian::read_u24(table, 12 * k + 1) as usize

@@ -19,7 +19,8 @@ pub fn text_is(table: &[u8], at: usize, name: &[u8]) -> bool
     endian::same(table, at, name, 0, n)
 }
 
-// The length of the text at `at`, whose zero byte is in the table; the loop tests no bound, so that the compiler makes strlen of it.
+/// The length of the text at `at`, whose zero byte is in the table.
+// Kept: the loop by index tests no bound, so that the compiler makes strlen of it; an iterator looks at a byte at a time.
 pub fn text_length(table: &[u8], at: usize) -> usize
     requires { at + length (textAt table.now at) < length table.now }
     ensures { result ≡ length (textAt table.now at) }

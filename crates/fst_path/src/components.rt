@@ -14,6 +14,7 @@ fn is_separator(b: u8) -> bool
 }
 
 /// The end of the component that starts at `at`: the next separator that is a unit of its own, or the path's end.
+// Kept: by index, and not over `Units`: the answer is a place in the path, so that the place would be counted beside the units.
 pub fn component_end(path: &[u8], at: usize) -> usize
     requires { at ≤ length path.now }
     ensures { (at ≤ result) × (result ≤ length path.now) × (components (drop at path.now) ≡ span path.now at (result - at) ∷ componentsAfter path.now result) }

@@ -9,6 +9,7 @@ use crate::{text, units};
 use std::marker::Model;
 
 // Whether the text at `at` is fit: its units in this block, then a mark of the next. Where false is wrong it costs only time, so that is not proved.
+// Kept: by index, and not over `Units`, which does not say where in the block a unit ends: the mark that is asked at last depends on it.
 fn is_fit(table: &[u8], base: usize, marks: &[bool; 2048], at: usize) -> bool
     requires marked { Marked table.now base marks.now }
     requires from { base ≤ at }

@@ -7,8 +7,8 @@ use Rattle.std.specs.Prelude.{ℕ, zero, suc, ◌+◌, ◌-◌, ◌%◌, ◌^◌
 use Rattle.endian.specs.Bytes.{put, span}
 use Rattle.refusal.specs.declared.Refusal.TheVariants.{InvalidSeek}
 use Rattle.window.specs.declared.Window.{Window}
-use Rattle.window.specs.declared.SeekFrom.{SeekFrom}
-use Rattle.window.specs.declared.SeekFrom.TheVariants.{Start, Current, End}
+use Rattle.std.specs.declared.io.SeekFrom.{SeekFrom}
+use Rattle.std.specs.declared.io.SeekFrom.TheVariants.{Start, Current, End}
 use Rattle.window.specs.declared.BytesRead.{BytesRead}
 use Rattle.window.specs.declared.SoughtAndRead.{SoughtAndRead}
 

@@ -6,6 +6,7 @@ ghost use Rattle.std.specs.Prelude.{◌≡◌, length};
 ghost use Rattle.window.specs.Window.{newWindow, judged, seekOf, settled_of, count_of, movedOn, read_of, bufferOf, seekReadOf};
 
 use refusal::Refusal;
+pub use std::io::SeekFrom;
 
 /// A part of an image, in bytes: where it starts, how long it is, and the position in it. A position past the end is one too.
 #[derive(Clone, Copy, PartialEq, Eq, Debug)]
@@ -13,14 +14,6 @@ pub struct Window {
     pub start: u64,
     pub len: u64,
     pub position: u64,
-}
-
-/// Where a seek counts from, and how many bytes from there.
-#[derive(Clone, Copy, PartialEq, Eq, Debug)]
-pub enum SeekFrom {
-    Start(u64),
-    Current(i64),
-    End(i64),
 }
 
 /// What a read gives: how many bytes it put into the buffer, and the window moved by them.

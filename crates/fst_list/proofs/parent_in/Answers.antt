@@ -7,16 +7,16 @@ use Rattle.fst.proofs.Nodes.{parent-whole, parent-none}
 use Rattle.fst_list.proofs.RowLaws.{climb-start, climb-found, climb-turn, climb-end}
 use Rattle.fst_list.proofs.parent_in.Goals as goal
 
-pub returns-then-k-eq0 : goal.returns-then-k-eq0
-returns-then-k-eq0 c =
+pub returns-then-k-eq0-clause-parent : goal.returns-then-k-eq0-clause-parent
+returns-then-k-eq0-clause-parent c =
     let N = nodesOf c.args.table.now in
-    (sym (parent-whole N c.args.k ∙ parent-none N c.args.k c.args.k c.if-k-eq0.true), omega arith)
+    sym (parent-whole N c.args.k ∙ parent-none N c.args.k c.args.k c.if-k-eq0.true)
 
 pub loop-p-init : goal.loop-p-init
 loop-p-init c = (omega arith, climb-start (nodesOf c.args.table.now) c.args.k _ (omega arith) refl)
 
-pub returns-then-k-next : goal.returns-then-k-next
-returns-then-k-next c = (sym (c.loop-p.invariant.1 ∙ climb-found (nodesOf c.args.table.now) c.args.k c.loop-p.p (omega arith)), omega arith)
+pub returns-then-k-next-clause-parent : goal.returns-then-k-next-clause-parent
+returns-then-k-next-clause-parent c = sym (c.loop-p.invariant.1 ∙ climb-found (nodesOf c.args.table.now) c.args.k c.loop-p.p (omega arith))
 
 pub loop-p-smaller : goal.loop-p-smaller
 loop-p-smaller c =
@@ -28,5 +28,5 @@ loop-p-preserved c =
     let e = c.requires.parents_in.at c.loop-p.p (omega arith) in
     (omega (arith, parent-before (nodesOf c.args.table.now) c.loop-p.p (omega arith)), rw e (c.loop-p.invariant.1 ∙ climb-turn (nodesOf c.args.table.now) c.args.k c.loop-p.p (omega arith) (omega arith) (omega arith)))
 
-pub returns : goal.returns
-returns c = (sym (c.loop-p.invariant.1 ∙ climb-end (nodesOf c.args.table.now) c.args.k c.loop-p.p (omega arith)), omega arith)
+pub returns-clause-parent : goal.returns-clause-parent
+returns-clause-parent c = sym (c.loop-p.invariant.1 ∙ climb-end (nodesOf c.args.table.now) c.args.k c.loop-p.p (omega arith))

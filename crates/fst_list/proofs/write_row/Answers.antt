@@ -7,4 +7,5 @@ use Rattle.fst_list.proofs.write_row.Goals as goal
 pub returns : goal.returns
 returns c =
     let a = c.args in
-    stores-6 a.list.now (6 * a.k) a.kind a.parent a.offset a.last a.place a.size (omega arith)
+    let r = a.row in
+    stores-6 a.list.now (6 * a.k) r.kind r.parent r.offset r.last r.place r.size (omega arith)

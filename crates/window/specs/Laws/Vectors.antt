@@ -5,7 +5,7 @@ use Rattle.endian.specs.Bytes.{put}
 use Rattle.refusal.specs.declared.Refusal.TheVariants.{InvalidSeek}
 use Rattle.refusal.specs.Refusal.{number_of}
 use Rattle.window.specs.declared.Window.{Window}
-use Rattle.window.specs.declared.SeekFrom.TheVariants.{Start, Current, End}
+use Rattle.std.specs.declared.io.SeekFrom.TheVariants.{Start, Current, End}
 use Rattle.window.specs.Window.{seekOf, read_of, bufferOf}
 
 abbrev pub windowOfA : ℕ → Window

@@ -1,0 +1,7 @@
+-- `fst_list::list_entries_in` meets its contract. The invariant of its loop: the rows of the entries below k stand in the list, and the ends that are kept are of this table.
+use mathlib.Core.Path.{◌≡◌}
+use Rattle.fst_list.proofs.RowLaws.{Listing}
+use Rattle.fst_list.proofs.list_entries_in.Given as goal
+
+abbrev pub invariant-loop-k : goal.invariant-loop-k
+invariant-loop-k l = record { rows : Listing l.base l.table l.initial.list l.list l.k; same : l.ends.table.now ≡ l.table }
