@@ -17,8 +17,9 @@ use Rattle.refusal.specs.Laws.Chains.{refuse-passed, first-passed}
 use Rattle.tree.specs.Table.{nodesOf, count}
 use Rattle.tree.specs.Laws.Accepted.{length-nodesOf}
 use Rattle.space.specs.Used.{totalSize}
-use Rattle.space.specs.Free.{freeRegions}
-use Rattle.space.specs.Inner.Sort.{regionsIn}
+use Rattle.space.specs.Laws.SortLaws.{same_total}
+use Rattle.space.specs.Inner.Sort.{SameSums}
+use Rattle.free_space.specs.UsedSpace.{UsedSpace, free_in}
 use Rattle.opening.specs.Opening.{opening}
 use Rattle.opened.specs.Inner.Disc.{Disc, free_of, Means}
 use Rattle.opened.specs.Laws.Meant.{end_meant, nodes_meant, total_meant, free_meant}
@@ -28,11 +29,11 @@ use Rattle.listing_text.specs.Lines.{totalsLine, entryLines, regionLines}
 use Rattle.listing.specs.Listing.{listingText, listingVerdict, listAnswer, listBuffer, refusedText, reportVerdict, reportText, reportAnswer, reportBuffer}
 use Rattle.text_buffer.specs.Inner.Writing.{Wrote}
 
--- the lines of a disc, from its words
-pub text-is : (d : Disc) (w tab : List ℕ) (m e u : ℕ) → e ≡ d.end → nodesOf tab ≡ d.nodes → u ≡ totalSize d.used → freeRegions d.end (regionsIn w 0 m) ≡ free_of d →
-    totalsLine e u ++ (entryLines (nodesOf tab) (count tab) ++ regionLines (freeRegions e (regionsIn w 0 m))) ≡ text_of d
+-- the lines of a disc, from its table and its used regions
+pub text-is : (d : Disc) (tab : List ℕ) (u : UsedSpace) → u.disc_end ≡ d.end → nodesOf tab ≡ d.nodes → SameSums u.regions d.used → free_in u ≡ free_of d →
+    totalsLine u.disc_end (totalSize u.regions) ++ (entryLines (nodesOf tab) (count tab) ++ regionLines (free_in u)) ≡ text_of d
 unfolding text_of
-text-is d w tab m e u p n s f = rw (p, s, f, ← length-nodesOf tab, n)
+text-is d tab u e n s f = rw (f, e, same_total u.regions d.used s, ← length-nodesOf tab, n)
 
 -- the lines of an image that means the disc
 pub text-meant : (image : List ℕ) (d : Disc) → Means image d → text_of d ≡ listingText image

@@ -5,26 +5,43 @@ ghost use Rattle.std.specs.Prelude.{◌≡◌, cond, ltb, length};
 ghost use Rattle.endian.specs.Bytes.{put};
 ghost use Rattle.opening.specs.Opening.{zeros};
 ghost use Rattle.answers.specs.Answers.{behind};
-ghost use Rattle.text_buffer.specs.Inner.Writing.{Wrote};
+ghost use Rattle.text_buffer.specs.Inner.Writing.{Wrote, Appends};
 ghost use Rattle.listing.specs.Inner.Fits.{listed_or, laid_or, text_of};
 ghost use Rattle.listing.specs.Listing.{listingText, listAnswer, listBuffer, refusedText, reportVerdict, reportAnswer, reportBuffer};
 
+use fst::Table;
 use opened::{Lent, OpenDisc};
 use refusal::Refusal;
+use text_buffer::TextBuffer;
+
+// Appends the lines of an open disc.
+fn push_disc(text: &mut TextBuffer<'_>, disc: &OpenDisc<'_>)
+    ensures { Appends text.old text.new (text_of disc.now) }
+{
+    let table = Table::new(disc.table());
+    let used = disc.used_regions();
+    listing_text::put_lines(&table, disc.end(), &used, text);
+}
+
+// The same in front of a text, as far as it reaches; gives their length.
+fn put_disc(text: &mut [u8], disc: &OpenDisc<'_>) -> usize
+    ensures { Wrote text.old text.new 0 (text_of disc.now) result }
+{
+    let mut buffer = TextBuffer::new(text);
+    push_disc(&mut buffer, disc);
+    buffer.len
+}
 
 // The listing of an open disc: measured first, so that a short buffer stays as it is.
 fn list_disc(disc: &OpenDisc<'_>, text: &mut [u8]) -> Result<usize, Refusal>
     ensures answer { result ≡ listed_or (length text.old) (text_of disc.now) }
     ensures text_after { text.new ≡ laid_or text.old (text_of disc.now) }
 {
-    let table = disc.table();
-    let end = disc.end();
-    let (words, count) = disc.used_words();
-    let size = listing_text::put_listing(table, words, count, end, &mut [0; 1]);
+    let size = put_disc(&mut [0; 1], disc);
     if text.len() < size {
         return Err(Refusal::LimitOrMemory);
     }
-    listing_text::put_listing(table, words, count, end, text);
+    put_disc(text, disc);
     Ok(size)
 }
 
@@ -49,13 +66,22 @@ pub fn list(image: &[u8], words: &mut [u32], text: &mut [u8]) -> Result<usize, R
 
 // ---- the listing program
 
-// The fixed text `refused `, the number and a line feed.
+// Appends the fixed text `refused `, the number and a line feed.
+fn push_refused(text: &mut TextBuffer<'_>, cause: Refusal)
+    ensures { Appends text.old text.new (refusedText cause) }
+{
+    text.push_text(b"refused ");
+    text.push_decimal(cause.number());
+    text.push(b'\n');
+}
+
+// The same in front of a text, as far as it reaches; gives its length.
 fn put_refused(text: &mut [u8], cause: Refusal) -> usize
     ensures { Wrote text.old text.new 0 (refusedText cause) result }
 {
-    let a = text_buffer::put_text(text, 0, b"refused ", 0);
-    let b = text_buffer::put_decimal(text, a, cause.number());
-    text_buffer::put_byte(text, b, b'\n')
+    let mut buffer = TextBuffer::new(text);
+    push_refused(&mut buffer, cause);
+    buffer.len
 }
 
 // The same for a buffer that has room for it; otherwise nothing.
