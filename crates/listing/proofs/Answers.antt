@@ -19,7 +19,7 @@ use Rattle.tree.specs.Laws.Accepted.{length-nodesOf}
 use Rattle.space.specs.Used.{totalSize}
 use Rattle.space.specs.Laws.SortLaws.{same_total}
 use Rattle.space.specs.Inner.Sort.{SameSums}
-use Rattle.free_space.specs.UsedSpace.{UsedSpace, free_in}
+use Rattle.free_space.specs.Inner.UsedSpace.{UsedSpace, free_in}
 use Rattle.opening.specs.Opening.{opening}
 use Rattle.opened.specs.Inner.Disc.{Disc, free_of, Means}
 use Rattle.opened.specs.Laws.Meant.{end_meant, nodes_meant, total_meant, free_meant}
