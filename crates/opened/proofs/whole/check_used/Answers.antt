@@ -29,11 +29,12 @@ collect-m-requires g c =
 pub check-requires : goal.check-requires
 check-requires g c =
     let k = readable g.image (length c.args.words.now) c.requires.0.bytes c.requires.1.0 in
-    let n = count_in _ _ c.requires.0.table_is _ k _ c.read_u32-count.ensures in (
-      omega (arith, c.collect-m.ensures.bound),
-      regions-room _ _ _ _ _ k n c.collect-m.ensures.bound c.collect-m.auto.words,
-      regions-full _ _ _ _ _ _ _ (table_is _ _ c.requires.0.table_is _ k) (c.table_end-to.ensures ∙ table_end_is _ _ _ c.requires.0.head) n c.requires.1.1.1 c.collect-m.ensures,
-    )
+    let n = count_in _ _ c.requires.0.table_is _ k _ c.read_u32-count.ensures in
+    record {
+      beside = omega (arith, c.collect-m.ensures.bound);
+      room = regions-room _ _ _ _ _ k n c.collect-m.ensures.bound c.collect-m.auto.words;
+      nonempty = regions-full _ _ _ _ _ _ _ (table_is _ _ c.requires.0.table_is _ k) (c.table_end-to.ensures ∙ table_end_is _ _ _ c.requires.0.head) n c.requires.1.1.1 c.collect-m.ensures;
+    }
 
 pub returns : goal.returns
 returns g c =
