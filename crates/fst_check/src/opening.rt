@@ -43,7 +43,8 @@ fn entries_verdict(table: &[u8], count: usize) -> Verdict
     Ok(())
 }
 
-// The units of the name at `at`: 12, 13.
+// The units of the name at `at`: first whether each is a name's, then whether each is safe.
+#[cold]
 fn units_verdict(table: &[u8], at: usize) -> Verdict
     ensures { result ≡ textVerdict (textAt table.now at) }
 {

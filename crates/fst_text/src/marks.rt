@@ -37,6 +37,7 @@ fn is_fit(table: &[u8], base: usize, marks: &[bool; 2048], at: usize) -> bool
 }
 
 // Marks the blocks, the last first, since each asks the next.
+#[cold]
 fn mark_blocks(table: &[u8], base: usize, marks: &mut [bool; 2048])
     requires marked { Marked table.now base marks.old }
     requires near { base ≤ 196608 }

@@ -1,5 +1,5 @@
 // The texts of a table, unit by unit: bytes up to a zero byte, or up to the table's end (string_table.rs).
-ghost use Rattle.std.specs.Prelude.{◌≡◌, false, ◌+◌, ◌<◌};
+ghost use Rattle.std.specs.Prelude.{◌≡◌, false, ◌+◌, ◌<◌, length};
 ghost use Rattle.fst_text.specs.Inner.Texts.{textAt, cleanFrom, NoLead, CleanTo, nameless};
 
 use crate::units::Units;
@@ -86,13 +86,22 @@ pub fn clean_from(table: &[u8], from: usize) -> bool
     Units::new(&table[from.min(table.len())..]).all(|unit| unit.is_clean())
 }
 
+// The same of a text that starts with a point: three bytes tell.
+#[cold]
+fn is_nameless_point(table: &[u8], at: usize) -> bool
+    requires { at < length table.now }
+    ensures { result ≡ nameless (textAt table.now at) }
+{
+    names::is_nameless(text_at(&table[..table.len().min(at + 3)], at))
+}
+
 /// Whether the text at `at` is empty, `.` or `..`. A byte tells most texts; else three do.
 pub fn is_nameless_at(table: &[u8], at: usize) -> bool
     ensures { result ≡ nameless (textAt table.now at) }
 {
     match units::byte_at(table, at) {
         0 => true,
-        b'.' => names::is_nameless(text_at(&table[..table.len().min(at + 3)], at)),
+        b'.' => is_nameless_point(table, at),
         _ => false,
     }
 }

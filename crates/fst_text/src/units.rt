@@ -53,17 +53,13 @@ fn is_safe(b: u8) -> bool
 
 /// Whether no name is refused for this byte where it is a unit: the end of a text, or plain and safe. Most are below 0x7F, and are looked at
 /// first.
-// Kept: `if` after `if`; a `match` on the range took a tenth longer for a table of ASCII names.
 pub fn is_clean(b: u8) -> bool
     ensures { result ≡ cleanByte b }
 {
-    if b < 0x20 {
-        return b == 0;
+    match b {
+        0x20..=0x7E => is_safe(b),
+        _ => b == 0 || is_plain(b),
     }
-    if b <= 0x7E {
-        return is_safe(b);
-    }
-    is_plain(b)
 }
 
 /// A byte of its own, or a lead byte with its trail byte.

@@ -1,9 +1,9 @@
--- `fst_text::text::is_nameless_at` meets its contract: of a text that starts with `.` three bytes tell.
+-- `fst_text::text::is_nameless_point` meets its contract: of a text that starts with `.` three bytes tell.
 use Rattle.std.proofs.Common.{ap, ◌∙◌}
 use Rattle.fst_text.specs.Inner.Texts.{nameless}
 use Rattle.fst_text.proofs.Texts.{nameless-head}
-use Rattle.fst_text.proofs.text.is_nameless_at.Goals as goal
+use Rattle.fst_text.proofs.text.is_nameless_point.Goals as goal
 
-pub returns-in-46 : goal.returns-in-46
-returns-in-46 c =
+pub returns : goal.returns
+returns c =
     c.is_nameless.ensures ∙ ap nameless c.text_at.ensures ∙ nameless-head c.args.table.now c.args.at c.min.result c.min.ensures
