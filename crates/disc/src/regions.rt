@@ -42,12 +42,13 @@ pub fn totals(image: &[u8], words: &mut [u32]) -> Result<DiscTotals, Refusal>
 fn record_of(disc: &OpenDisc<'_>) -> Totals
     ensures { (image : List ℕ) → Means image disc.now → result ≡ totalsOf image 0 }
 {
+    let disc_end = disc.end();
+    let used = UsedRegions::new(disc.words, disc.used, disc_end);
     let table_end = disc.start() + disc.room();
-    let used = UsedRegions::new(disc.words, disc.used, disc.end());
     let none = DiscRegion { offset: 0, size: 0 };
     Totals {
         used: disc.used_size(),
-        largest: totals::largest_after(&used, disc.end(), table_end, none, none),
+        largest: totals::largest_after(&used, disc_end, table_end, none, none),
         edits: 0,
     }
 }
