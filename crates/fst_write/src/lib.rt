@@ -40,11 +40,12 @@ impl<'o> Writer<'o> {
         self.text = fst_record::write_name(source, self.out, k, self.text);
     }
 
-    // Writes entry k, and if it is a directory all that is in it.
+    // Writes entry k, and if it is a directory all that is in it, and returns the entry after it in its directory.
     #[cycle(write_directory_write_entry)]
-    fn write_entry(&mut self, source: &Source<'_>, k: usize, parent: u32)
+    fn write_entry(&mut self, source: &Source<'_>, k: usize, parent: u32) -> usize
         requires entry { (0 < k) × (k < count source.now) × (parent ≡ parent_of (nodesOf source.now) k) }
         requires room { Room (count source.now) self.old.text (textTo source.now (count source.now) k (afterIn source.now k) self.old.text) (length self.old.out.now) }
+        ensures next { result ≡ afterIn source.now k }
         ensures text { self.new.text ≡ textTo source.now (count source.now) k (afterIn source.now k) self.old.text }
         ensures out { self.new.out.now ≡ writeTo source.now (count source.now) k (afterIn source.now k) self.old.text self.old.out.now }
         ensures length { length self.new.out.now ≡ length self.old.out.now }
@@ -53,8 +54,11 @@ impl<'o> Writer<'o> {
         let kind = source.kind(k);
         self.write_one(source, k, parent);
         match kind {
-            Kind::File => {}
-            Kind::Directory => self.write_directory(source, k),
+            Kind::File => k + 1,
+            Kind::Directory => {
+                self.write_directory(source, k);
+                source.next(k) as usize
+            }
         }
     }
 
@@ -72,8 +76,7 @@ impl<'o> Writer<'o> {
         let mut c = k + 1;
         // Kept: an iterator of the children would be one more type with a `next` of its own, for this loop alone.
         while c < stop {
-            self.write_entry(source, c, k as u32);
-            c = source.after(c);
+            c = self.write_entry(source, c, k as u32);
         }
     }
 }

@@ -14,8 +14,8 @@ write_directory-loop-c-init t c =
     let w = c.args.self.now in
     record { written = start tab (count tab) c.args.k w.text c.next-stop.ensures.valid p.0 p.1 w.out.now; same_reference = refl }
 
-pub write_directory-write_entry-requires : goal.write_directory-write_entry-requires
-write_directory-write_entry-requires t c =
+pub write_directory-write_entry-c-requires : goal.write_directory-write_entry-c-requires
+write_directory-write_entry-c-requires t c =
     let tab = c.args.source.now in
     let p = c.requires.directory in
     let w = c.args.self.now in
@@ -31,9 +31,9 @@ write_directory-loop-c-preserved t c =
     let p = c.requires.directory in
     let w = c.args.self.now in
     let l = c.loop-c in
-    let e = c.write_entry.ensures in
+    let e = c.write_entry-c.ensures in
     let u = turn tab (count tab) c.args.k w.text c.next-stop.ensures.valid p.0 p.1 w.out.now l.self.out.now l.self.text l.c l.invariant.written (rw c.next-stop.ensures.value at c.loop-c-test.true) in
-    record { written = u.again _ _ _ e.text e.out e.length c.after-c.ensures; same_reference = e.same_reference ∙ l.invariant.same_reference }
+    record { written = u.again _ _ _ e.text e.out e.length e.next; same_reference = e.same_reference ∙ l.invariant.same_reference }
 
 pub write_entry-write_one-requires-clause-room : goal.write_entry-write_one-requires-clause-room
 write_entry-write_one-requires-clause-room t c =
