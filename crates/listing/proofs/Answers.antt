@@ -2,7 +2,7 @@
 use Rattle.std.specs.Prelude.{Result, Ok, Err}
 use Rattle.refusal.specs.Refusal.{Verdict}
 use Prim.Native.Nat.{ℕ, ◌<◌, ◌≤◌, ◌^◌}
-use mathlib.Core.Path.{◌≡◌, refl, ap}
+use mathlib.Core.Path.{◌≡◌, refl}
 use mathlib.Core.Bool.{Bool, true, false, cond}
 use mathlib.Core.List.{List, ◌++◌}
 use native.Mathlib.Omega.{arith}
@@ -17,8 +17,7 @@ use Rattle.refusal.specs.Laws.Chains.{refuse-passed, first-passed}
 use Rattle.tree.specs.Table.{nodesOf, count}
 use Rattle.tree.specs.Laws.Accepted.{length-nodesOf}
 use Rattle.space.specs.Used.{totalSize}
-use Rattle.space.specs.Free.{freeRegions}
-use Rattle.space.specs.Inner.Sort.{regionsIn}
+use Rattle.space.specs.declared.DiscRegion.{DiscRegion}
 use Rattle.opening.specs.Opening.{opening}
 use Rattle.opened.specs.Inner.Disc.{Disc, free_of, Means}
 use Rattle.opened.specs.Laws.Meant.{end_meant, nodes_meant, total_meant, free_meant}
@@ -26,39 +25,37 @@ use Rattle.listing.specs.Inner.Fits.{listed_or, laid_or, text_of}
 use Rattle.answers.specs.Answers.{behind}
 use Rattle.listing_text.specs.Lines.{totalsLine, entryLines, regionLines}
 use Rattle.listing.specs.Listing.{listingText, listingVerdict, listAnswer, listBuffer, refusedText, reportVerdict, reportText, reportAnswer, reportBuffer}
-use Rattle.text_buffer.specs.Inner.Writing.{Wrote}
+use Rattle.text_buffer.specs.Inner.Writing.{Wrote, Appends}
+use Rattle.text_buffer.specs.declared.buffer.TextBuffer.{TextBuffer}
 
--- the lines of a disc, from its words
-pub text-is : (d : Disc) (w tab : List ℕ) (m e u : ℕ) → e ≡ d.end → nodesOf tab ≡ d.nodes → u ≡ totalSize d.used → freeRegions d.end (regionsIn w 0 m) ≡ free_of d →
-    totalsLine e u ++ (entryLines (nodesOf tab) (count tab) ++ regionLines (freeRegions e (regionsIn w 0 m))) ≡ text_of d
+-- the lines of a disc, from what its parts say
+pub text-is : (d : Disc) (tab : List ℕ) (e u : ℕ) (free : List DiscRegion) → e ≡ d.end → u ≡ totalSize d.used → nodesOf tab ≡ d.nodes → free ≡ free_of d →
+    totalsLine e u ++ (entryLines (nodesOf tab) (count tab) ++ regionLines free) ≡ text_of d
 unfolding text_of
-text-is d w tab m e u p n s f = rw (p, s, f, ← length-nodesOf tab, n)
+text-is d tab e u free p t n f = rw (p, t, f, ← length-nodesOf tab, n)
 
 -- the lines of an image that means the disc
 pub text-meant : (image : List ℕ) (d : Disc) → Means image d → text_of d ≡ listingText image
 unfolding listingText text_of
 text-meant image d m = rw (end_meant image d m, total_meant image d m, nodes_meant image d m, free_meant image d m)
 
+-- a text in front of bytes that were lent
+pub laid-in : {t u : TextBuffer} {bs bytes bytes' : List ℕ} → t.bytes.now ≡ bytes → t.len ≡ 0 → Appends t u bs → bytes' ≡ u.bytes.now → Wrote bytes bytes' 0 bs u.len
+laid-in held first a after = rw (after, ← held, ← first) a.wrote
+
 -- ---- measured with no buffer to speak of, then written
 
-module _ (text : List ℕ) {none none' bs : List ℕ} {size : ℕ} (w : Wrote none none' 0 bs size) (small : length text < 2 ^ 63) where
-  too_long : length text < size → length text < length bs
-  too_long h = omega (arith, w.stop)
-
+-- bs in front of any bytes
+module _ {none none' : List ℕ} {bs : List ℕ} {size : ℕ} (w : Wrote none none' 0 bs size) (text : List ℕ) (small : length text < 2 ^ 63) where
   short : size ≤ length text → (size ≡ length bs) × (length bs ≤ length text)
   short h = (omega (arith, w.stop), omega (arith, w.stop))
 
-  written : {text' : List ℕ} {r : ℕ} → size ≤ length text → Wrote text text' 0 bs r → (r ≡ length bs) × (text' ≡ put text 0 bs)
-  written h v = let s = short h in (omega (arith, v.stop, s.0, s.1), v.laid (omega (arith, s.1)) (omega (arith, s.1)))
+  pub fits-short : length text < size → ltb (length text) (length bs) ≡ true
+  fits-short h = lt-ltb (length text) (length bs) (omega (arith, w.stop))
 
-  module _ (whole : List ℕ) (is : bs ≡ whole) where
-    pub fits-short : length text < size → (Err LimitOrMemory ≡ listed_or (length text) whole) × (text ≡ laid_or text whole)
-    fits-short h = let t = rw is at (lt-ltb (length text) (length bs) (too_long h)) in (rw t, rw t)
-
-    pub fits-whole : {text' : List ℕ} {r : ℕ} → size ≤ length text → Wrote text text' 0 bs r → (Ok size ≡ listed_or (length text) whole) × (text' ≡ laid_or text whole)
-    fits-whole h v =
-        let t = rw is at (le-ltb (length text) (length bs) (short h).1) in
-        (rw t (ap Ok (rw is at (short h).0)), rw t (rw is at (written h v).1))
+  pub fits-whole : {text' : List ℕ} {r : ℕ} → size ≤ length text → Wrote text text' 0 bs r →
+      (ltb (length text) (length bs) ≡ false) × (r ≡ length bs) × (text' ≡ put text 0 bs)
+  fits-whole h v = let s = short h in (le-ltb (length text) (length bs) s.1, omega (arith, v.stop, s.0, s.1), v.laid (omega (arith, s.1)) (omega (arith, s.1)))
 
 -- ---- behind opening
 

@@ -9,23 +9,31 @@ ghost use Rattle.text_buffer.specs.Inner.Writing.{Wrote};
 ghost use Rattle.listing.specs.Inner.Fits.{listed_or, laid_or, text_of};
 ghost use Rattle.listing.specs.Listing.{listingText, listAnswer, listBuffer, refusedText, reportVerdict, reportAnswer, reportBuffer};
 
+use fst::Table;
 use opened::{Lent, OpenDisc};
 use refusal::Refusal;
+use text_buffer::TextBuffer;
+
+// The lines of an open disc in front of the bytes, as far as they reach: how long the lines are.
+fn put_disc(disc: &OpenDisc<'_>, bytes: &mut [u8]) -> usize
+    ensures { Wrote bytes.old bytes.new 0 (text_of disc.now) result }
+{
+    let table = Table::new(disc.table());
+    let used = disc.used_regions();
+    let mut text = TextBuffer::new(bytes);
+    listing_text::put_lines(&table, disc.end(), &used, &mut text);
+    text.len
+}
 
 // The listing of an open disc: measured first, so that a short buffer stays as it is.
 fn list_disc(disc: &OpenDisc<'_>, text: &mut [u8]) -> Result<usize, Refusal>
     ensures answer { result ≡ listed_or (length text.old) (text_of disc.now) }
     ensures text_after { text.new ≡ laid_or text.old (text_of disc.now) }
 {
-    let table = disc.table();
-    let end = disc.end();
-    let (words, count) = disc.used_words();
-    let size = listing_text::put_listing(table, words, count, end, &mut [0; 1]);
-    if text.len() < size {
+    if text.len() < put_disc(disc, &mut [0; 1]) {
         return Err(Refusal::LimitOrMemory);
     }
-    listing_text::put_listing(table, words, count, end, text);
-    Ok(size)
+    Ok(put_disc(disc, text))
 }
 
 // The listing of an image, the words left as opening leaves them.
@@ -49,13 +57,15 @@ pub fn list(image: &[u8], words: &mut [u32], text: &mut [u8]) -> Result<usize, R
 
 // ---- the listing program
 
-// The fixed text `refused `, the number and a line feed.
-fn put_refused(text: &mut [u8], cause: Refusal) -> usize
-    ensures { Wrote text.old text.new 0 (refusedText cause) result }
+// The fixed text `refused `, the number and a line feed, as far as the bytes reach: how long it is.
+fn put_refused(cause: Refusal, bytes: &mut [u8]) -> usize
+    ensures { Wrote bytes.old bytes.new 0 (refusedText cause) result }
 {
-    let a = text_buffer::put_text(text, 0, b"refused ", 0);
-    let b = text_buffer::put_decimal(text, a, cause.number());
-    text_buffer::put_byte(text, b, b'\n')
+    let mut text = TextBuffer::new(bytes);
+    text.push_text(b"refused ");
+    text.push_decimal(cause.number());
+    text.push(b'\n');
+    text.len
 }
 
 // The same for a buffer that has room for it; otherwise nothing.
@@ -63,11 +73,10 @@ fn write_refused(text: &mut [u8], cause: Refusal) -> usize
     ensures answer { result ≡ cond (ltb (length text.old) (length (refusedText cause))) 0 (length (refusedText cause)) }
     ensures text_after { text.new ≡ laid_or text.old (refusedText cause) }
 {
-    let size = put_refused(&mut [0; 1], cause);
-    if text.len() < size {
+    if text.len() < put_refused(cause, &mut [0; 1]) {
         return 0;
     }
-    put_refused(text, cause)
+    put_refused(cause, text)
 }
 
 // The listing of an image of at most so many bytes.
