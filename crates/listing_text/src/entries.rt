@@ -83,9 +83,10 @@ fn put_fields(table: &Table<'_>, k: usize, parent: usize, text: &mut TextBuffer<
     // So that it is known of the table that entry k stands in it.
     let _ = table.len();
     let bytes = table.bytes();
-    let last = endian::read_u32(bytes, 12 * k + 8);
-    if bytes[12 * k] == 0 {
-        let offset = endian::read_u32(bytes, 12 * k + 4);
+    let record = 12 * k;
+    let last = endian::read_u32(bytes, record + 8);
+    if bytes[record] == 0 {
+        let offset = endian::read_u32(bytes, record + 4);
         lines::put_pair(text, b'f', k as u32, offset);
         text.push_field(last);
         return;
