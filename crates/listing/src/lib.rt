@@ -69,6 +69,8 @@ fn put_refused(cause: Refusal, bytes: &mut [u8]) -> usize
 }
 
 // The same for a buffer that has room for it; otherwise nothing.
+// Kept: it measures, tests and writes as `list_disc` does, and answers otherwise: a function over a closure that writes would be no shorter than
+// these two.
 fn write_refused(text: &mut [u8], cause: Refusal) -> usize
     ensures answer { result ≡ cond (ltb (length text.old) (length (refusedText cause))) 0 (length (refusedText cause)) }
     ensures text_after { text.new ≡ laid_or text.old (refusedText cause) }

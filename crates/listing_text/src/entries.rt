@@ -42,10 +42,7 @@ impl Directories {
         requires { (k < table_of.count table.now) × Before (nodesOf table.now) self.old k }
         ensures { Around (nodesOf table.now) self.new k }
     {
-        while 1 < self.depth {
-            if k < table.next(self.numbers[self.depth - 1]) {
-                return;
-            }
+        while 1 < self.depth && table.next(self.numbers[self.depth - 1]) <= k {
             self.depth -= 1;
         }
     }
