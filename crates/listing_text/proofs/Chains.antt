@@ -21,11 +21,7 @@ use Rattle.fst_path.proofs.PathLaws.{directory-depth}
 use Rattle.fst_list.proofs.RowLaws.{climb-found, climb-turn, climb-end}
 use Rattle.tree.specs.Laws.Accepted.{length-nodesOf}
 use Rattle.listing_text.proofs.Tables.{Read}
-use Rattle.listing_text.specs.Inner.Around.{Chain, Around}
-
--- entry k's parent is the last of d directories, or one around that
-abbrev pub Climbs : List Node → List ℕ → ℕ → ℕ → Type 0
-Climbs nodes dirs d k = parent_of nodes k ≡ parentBelow nodes k (get_or dirs (d - 1) 0 + 1)
+use Rattle.listing_text.specs.Inner.Around.{Chain, Climbs, Ends}
 
 -- ---- the first entry after the root
 
@@ -60,6 +56,18 @@ module _ {nodes : List Node} {dirs : List ℕ} {d k : ℕ} (c : Chain nodes dirs
     nested = λ i q. c.nested i (omega arith);
   }
 
+  -- before a later entry too
+  chain-later : Chain nodes dirs d (k + 1)
+  chain-later = record {
+    long = c.long;
+    some = c.some;
+    few = c.few;
+    root = c.root;
+    before = λ i q. omega (arith, c.before i q);
+    directories = c.directories;
+    nested = c.nested;
+  }
+
   -- ---- their depth
 
   module _ (w : WellFormed nodes) (few : k < length nodes) where
@@ -72,31 +80,30 @@ module _ {nodes : List Node} {dirs : List ℕ} {d k : ℕ} (c : Chain nodes dirs
 
 -- ---- those that are done, left out
 
-module _ (nodes : List Node) (dirs : List ℕ) (depth d k : ℕ) (c : Chain nodes dirs depth k) (some : 0 < d) (few : d ≤ depth) where
-  shorter : Chain nodes dirs d k
-  shorter = chain-shorter c d some few
-
+module _ (nodes : List Node) (dirs : List ℕ) (d k : ℕ) (b : Chain nodes dirs d k × Climbs nodes dirs d k) where
   -- entry k is among those of the last
-  pub shut-found : (n : ℕ) → Climbs nodes dirs d k → n ≡ next_of (get_or nodes (get_or dirs (d - 1) 0) none) → k < n → Around nodes dirs d k
-  shut-found n s e h = record { chain = shorter; last = s ∙ climb-found nodes k (get_or dirs (d - 1) 0) (rw e at h) }
+  pub shut-found : (n : ℕ) → n ≡ next_of (get_or nodes (get_or dirs (d - 1) 0) none) → k < n → Ends nodes dirs d k
+  shut-found n e h = record { chain = b.0; last = b.1 ∙ climb-found nodes k (get_or dirs (d - 1) 0) (rw e at h) }
 
   -- only the root is left
-  pub shut-root : Climbs nodes dirs d k → d ≤ 1 → Around nodes dirs d k
-  shut-root s h =
+  pub shut-root : d ≤ 1 → Ends nodes dirs d k
+  shut-root h =
       let n : d - 1 ≡ 0 = omega arith in
-      let e : get_or dirs (d - 1) 0 ≡ 0 = ap (λ (i : ℕ). get_or dirs i 0) n ∙ c.root in
-      record { chain = shorter; last = s ∙ climb-end nodes k (get_or dirs (d - 1) 0) e ∙ sym e }
+      let e : get_or dirs (d - 1) 0 ≡ 0 = ap (λ (i : ℕ). get_or dirs i 0) n ∙ b.0.root in
+      record { chain = b.0; last = b.1 ∙ climb-end nodes k (get_or dirs (d - 1) 0) e ∙ sym e }
 
   -- it is not: the last is left out
-  pub shut-turn : (n : ℕ) → Climbs nodes dirs d k → 1 < d → n ≡ next_of (get_or nodes (get_or dirs (d - 1) 0) none) → n ≤ k → Climbs nodes dirs (d - 1) k
-  shut-turn n s h f l =
+  pub shut-turn : (n : ℕ) → 1 < d → n ≡ next_of (get_or nodes (get_or dirs (d - 1) 0) none) → n ≤ k → Chain nodes dirs (d - 1) k × Climbs nodes dirs (d - 1) k
+  shut-turn n h f l =
       let m : d - 1 - 1 + 1 ≡ d - 1 = omega arith in
-      let q = rw m at (c.nested (d - 1 - 1) (omega arith)) in
-      s ∙ climb-turn nodes k (get_or dirs (d - 1) 0) q.0 (c.before (d - 1) (omega arith)) (rw f at l) ∙ ap (λ (p : ℕ). parentBelow nodes k (p + 1)) q.1
+      let q = rw m at (b.0.nested (d - 1 - 1) (omega arith)) in (
+        chain-shorter b.0 (d - 1) (omega arith) (omega arith),
+        b.1 ∙ climb-turn nodes k (get_or dirs (d - 1) 0) q.0 (b.0.before (d - 1) (omega arith)) (rw f at l) ∙ ap (λ (p : ℕ). parentBelow nodes k (p + 1)) q.1,
+      )
 
 -- ---- one entry further
 
-module _ {nodes : List Node} {dirs : List ℕ} {d k : ℕ} (a : Around nodes dirs d k) (w : WellFormed nodes) (some : 0 < k) (few : k < length nodes) where
+module _ {nodes : List Node} {dirs : List ℕ} {d k : ℕ} (a : Ends nodes dirs d k) (w : WellFormed nodes) (some : 0 < k) (few : k < length nodes) where
   c : Chain nodes dirs d k
   c = a.chain
 
@@ -143,7 +150,7 @@ module _ {nodes : List Node} {dirs : List ℕ} {d k : ℕ} (a : Around nodes dir
             rw (e, new, o) (some, a.last)
 
 -- the same of a table's entries, by the kind that was read
-module _ (tab dirs : List ℕ) (d k : ℕ) (b : Bool) (a : Around (nodesOf tab) dirs d k) (r : Read tab) (some : 0 < k) (few : k < count tab)
+module _ (tab dirs : List ℕ) (d k : ℕ) (b : Bool) (a : Ends (nodesOf tab) dirs d k) (r : Read tab) (some : 0 < k) (few : k < count tab)
     (asked : b ≡ isDirectory (get_or (nodesOf tab) k none)) where
   inside : k < length (nodesOf tab)
   inside = rw (length-nodesOf tab) few
@@ -151,14 +158,8 @@ module _ (tab dirs : List ℕ) (d k : ℕ) (b : Bool) (a : Around (nodesOf tab) 
   pub entered-room : b ≡ true → d < 65
   entered-room h = enter-room a r.is.well some inside r.is.depth (sym asked ∙ h)
 
-  entered : b ≡ true → Chain (nodesOf tab) (set dirs d k) (d + 1) (k + 1) × Climbs (nodesOf tab) (set dirs d k) (d + 1) (k + 1)
+  pub entered : b ≡ true → Chain (nodesOf tab) (set dirs d k) (d + 1) (k + 1) × Climbs (nodesOf tab) (set dirs d k) (d + 1) (k + 1)
   entered h = enter-directory a r.is.well some inside (sym asked ∙ h) (entered-room h)
 
-  pub entered-chain : b ≡ true → Chain (nodesOf tab) (set dirs d k) (d + 1) (k + 1)
-  entered-chain h = (entered h).0
-
-  pub entered-climbs : b ≡ true → Climbs (nodesOf tab) (set dirs d k) (d + 1) (k + 1)
-  entered-climbs h = (entered h).1
-
-  pub passed-climbs : b ≡ false → Climbs (nodesOf tab) dirs d (k + 1)
-  passed-climbs h = pass-file a r.is.well some inside (sym asked ∙ h)
+  pub passed : b ≡ false → Chain (nodesOf tab) dirs d (k + 1) × Climbs (nodesOf tab) dirs d (k + 1)
+  passed h = (chain-later a.chain, pass-file a r.is.well some inside (sym asked ∙ h))

@@ -5,7 +5,8 @@ use mathlib.Core.Path.{◌≡◌, refl, sym, ap, ◌∙◌}
 use mathlib.Core.Bool.{Bool, true, false}
 use mathlib.Core.List.{List, [], ◌∷◌, ◌++◌, append-nil, append_assoc}
 use native.Mathlib.Omega.{arith}
-use lib.ListN.{get_or}
+use lib.ListN.{length, get_or, take, drop, length-drop}
+use lib.Seq.{get_or-take, get_or-drop, length-take-le}
 use Rattle.tree.specs.Table.{Node, file, directory, name_of, none, count, kind, namePlace, offsetOrParent, sizeOrNext, nodesOf, parent_of}
 use Rattle.tree.specs.Lookup.{isDirectory}
 use Rattle.tree.specs.Laws.Accepted.{Accepted}
@@ -14,7 +15,7 @@ use Rattle.fst.proofs.Nodes.{file-is, directory-is}
 use Rattle.fst.proofs.Ended.{name-there}
 use Rattle.listing_text.specs.Lines.{totalsLine, ending, entryFields, lineFeed, pathOf, entryLine, entryLines}
 use Rattle.text_buffer.specs.Decimal.{field}
-use Rattle.listing_text.specs.Inner.Around.{Around}
+use Rattle.listing_text.specs.Inner.Around.{Ends}
 use Rattle.text_buffer.specs.Inner.Writing.{Appends}
 use Rattle.text_buffer.specs.declared.buffer.TextBuffer.{TextBuffer}
 use Rattle.text_buffer.proofs.Joining.{appends-none, appends-join, appends-as}
@@ -97,7 +98,7 @@ pub record Stepping (nodes : List Node) (dirs : List ℕ) (d : ℕ) (text₀ tex
   pub wrote : Appends text₀ text done
   pub is : 0x2F ∷ done ≡ pathOf nodes (get_or dirs (i - 1) 0)
 
-module _ {nodes : List Node} {dirs : List ℕ} {d k : ℕ} (a : Around nodes dirs d k) where
+module _ {nodes : List Node} {dirs : List ℕ} {d k : ℕ} (a : Ends nodes dirs d k) where
   pub step_start : (text : TextBuffer) → Stepping nodes dirs d text text 1
   step_start text = record {
     some = omega arith;
@@ -133,6 +134,26 @@ module _ {nodes : List Node} {dirs : List ℕ} {d k : ℕ} (a : Around nodes dir
         let e : 0x2F ∷ s.done ≡ pathOf nodes (parent_of nodes k) = s.is ∙ ap (λ (j : ℕ). pathOf nodes (get_or dirs j 0)) n ∙ ap (pathOf nodes) (sym a.last) in
         appends-as (appends-join w s.wrote) (ap (λ (p : List ℕ). 0x20 ∷ p) e)
 
+-- the same of the directories after the root, one by one
+module _ {nodes : List Node} {dirs : List ℕ} {d k : ℕ} (a : Ends nodes dirs d k) where
+  long-after : length (take (d - 1) (drop 1 dirs)) ≡ d - 1
+  long-after = length-take-le (d - 1) (drop 1 dirs) (omega (arith, length-drop 1 dirs, a.chain.long, a.chain.few))
+
+  module _ {text₀ text : TextBuffer} {j : ℕ} (s : Stepping nodes dirs d text₀ text (j + 1)) where
+    at-after : j < length (take (d - 1) (drop 1 dirs)) → get_or (take (d - 1) (drop 1 dirs)) j 0 ≡ get_or dirs (j + 1) 0
+    at-after h = let n : 1 + j ≡ j + 1 = omega arith in get_or-take (d - 1) (drop 1 dirs) j 0 (omega (arith, long-after)) ∙ get_or-drop 1 dirs j 0 ∙ ap (λ (i : ℕ). get_or dirs i 0) n
+
+    pub after-named : j < length (take (d - 1) (drop 1 dirs)) → (0 < get_or (take (d - 1) (drop 1 dirs)) j 0) × (get_or (take (d - 1) (drop 1 dirs)) j 0 < k)
+    after-named h = rw (at-after h) ((step-nested a s (omega (arith, long-after))).0, a.chain.before (j + 1) (omega (arith, long-after)))
+
+    pub after-turn : {text' : TextBuffer} → j < length (take (d - 1) (drop 1 dirs)) →
+        Appends text text' (name_of (get_or nodes (get_or (take (d - 1) (drop 1 dirs)) j 0) none) ++ ending (get_or nodes (get_or (take (d - 1) (drop 1 dirs)) j 0) none)) →
+        Stepping nodes dirs d text₀ text' (j + 1 + 1)
+    after-turn h w = step-turn a s (omega (arith, long-after)) (rw (at-after h) at w)
+
+    pub after-end : length (take (d - 1) (drop 1 dirs)) ≤ j → {text₁ : TextBuffer} → Appends text₁ text₀ (0x20 ∷ 0x2F ∷ []) → Appends text₁ text (0x20 ∷ pathOf nodes (parent_of nodes k))
+    after-end h w = step_end a s (omega (arith, long-after)) w
+
 -- ---- line by line
 
 -- behind the root's line, those of the entries below k
@@ -167,11 +188,11 @@ pub root-written : (nodes : List Node) (text text₁ text₂ : TextBuffer) → A
     → Appends text text₂ (entryLine nodes 0)
 root-written nodes text text₁ text₂ f g = appends-as (appends-join f g) (root_line nodes)
 
-pub entry-written : (nodes : List Node) (dirs : List ℕ) (d k : ℕ) (text text₁ text₂ text₃ text₄ : TextBuffer) → 0 < k → Around nodes dirs d k
-    → Appends text text₁ (entryFields k (get_or dirs (d - 1) 0) (get_or nodes k none)) → Appends text₁ text₂ (0x20 ∷ pathOf nodes (parent_of nodes k))
+pub entry-written : (nodes : List Node) (p k : ℕ) (text text₁ text₂ text₃ text₄ : TextBuffer) → 0 < k → p ≡ parent_of nodes k
+    → Appends text text₁ (entryFields k p (get_or nodes k none)) → Appends text₁ text₂ (0x20 ∷ pathOf nodes (parent_of nodes k))
     → Appends text₂ text₃ (name_of (get_or nodes k none) ++ ending (get_or nodes k none)) → Appends text₃ text₄ lineFeed → Appends text text₄ (entryLine nodes k)
-entry-written nodes dirs d k text text₁ text₂ text₃ text₄ some a f g h i =
-    appends-as (appends-join (rw (← a.last) at f) (appends-join g (appends-join h i))) (line-parts nodes k some)
+entry-written nodes p k text text₁ text₂ text₃ text₄ some e f g h i =
+    appends-as (appends-join (rw e at f) (appends-join g (appends-join h i))) (line-parts nodes k some)
 
 -- ---- the totals, the entries, the free regions
 

@@ -6,11 +6,11 @@ ghost use Rattle.text_buffer.specs.Inner.Writing.{Appends};
 
 use text_buffer::TextBuffer;
 
-/// The first byte of a line and two numbers.
-pub fn put_pair(text: &mut TextBuffer<'_>, kind: u8, a: u32, b: u32)
-    ensures { Appends text.old text.new (kind ∷ (field a ++ field b)) }
+/// The letter that begins a line, and two numbers.
+pub fn put_pair(text: &mut TextBuffer<'_>, letter: u8, a: u32, b: u32)
+    ensures { Appends text.old text.new (letter ∷ (field a ++ field b)) }
 {
-    text.push(kind);
+    text.push(letter);
     text.push_field(a);
     text.push_field(b);
 }

@@ -6,10 +6,10 @@ use Rattle.listing_text.proofs.LineParts.{walk_start, walk_turn, walk_end}
 use Rattle.listing_text.proofs.entries.put_entries.Goals as goal
 
 pub loop-k-init : goal.loop-k-init
-loop-k-init c = let r : Read c.args.table.now = read-held _ c.len-count.ensures.held in (chain-start _ r, climbs-start _, walk_start _ _)
+loop-k-init c = let r : Read c.args.table.now = read-held _ c.len-count.ensures.held in (rw c.root-around.ensures (chain-start _ r, climbs-start _), walk_start _ _)
 
 pub loop-k-preserved : goal.loop-k-preserved
-loop-k-preserved c = (c.enter-depth.ensures.chain, c.enter-depth.ensures.k_value, search walk_turn)
+loop-k-preserved c = (c.enter.ensures, search walk_turn)
 
 pub returns : goal.returns
-returns c = walk_end c.loop-k.invariant.2 _ _ c.len-count.ensures.len (omega (arith, c.len-count.ensures.some)) c.loop-k-test.false c.put_root.ensures
+returns c = walk_end c.loop-k.invariant.1 _ _ c.len-count.ensures.len (omega (arith, c.len-count.ensures.some)) c.loop-k-test.false c.put_root.ensures
