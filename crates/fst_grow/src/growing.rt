@@ -1,5 +1,6 @@
 // A written table that grows in lent bytes by one entry at a time.
 ghost use Rattle.std.specs.Prelude.{◌≡◌, ◌<◌, get_or, length, IfOk, OnOk, OnErr};
+ghost use Rattle.fst_measure.specs.Inner.Kind.{is_directory};
 ghost use Rattle.tree.specs.Table.{none, parent_of, limits};
 ghost use Rattle.tree.specs.Inner.WellFormed.{GoodName};
 ghost use Rattle.tree.specs.Inner.Depths.{depth_of};
@@ -8,6 +9,7 @@ ghost use Rattle.fst_grow.specs.Inner.Growth.{treeIn, Stands, IsDirectory, added
 ghost use Rattle.fst_grow.specs.Inner.Growing.{tree_of, IsTable, sizedAs};
 
 use fst::Table;
+use fst_measure::Kind;
 use refusal::{Refusal, Verdict};
 
 // No directory is in more than so many others, the root in none.
@@ -57,11 +59,11 @@ impl<'a> Growing<'a> {
     }
 
     // Whether an entry more in directory p is not too deep. Only directories can be.
-    fn is_shallow(&self, p: usize, is_directory: bool) -> bool
+    fn is_shallow(&self, p: usize, kind: Kind) -> bool
         requires { IsTable self.now × IsDirectory (tree_of self.now) p }
-        ensures { result ≡ depthAllows is_directory (depth_of (tree_of self.now) p) }
+        ensures { result ≡ depthAllows (is_directory kind) (depth_of (tree_of self.now) p) }
     {
-        if !is_directory {
+        if !kind.is_directory() {
             return true;
         }
         let mut around = p;
@@ -75,9 +77,9 @@ impl<'a> Growing<'a> {
     }
 
     // The limits of the tree with one entry more.
-    fn check_limits(&self, p: usize, is_directory: bool, name: &[u8]) -> Verdict
+    fn check_limits(&self, p: usize, kind: Kind, name: &[u8]) -> Verdict
         requires { IsTable self.now × IsDirectory (tree_of self.now) p × GoodName name.now }
-        ensures { result ≡ limits (added (tree_of self.now) is_directory p name.now) self.now.words }
+        ensures { result ≡ limits (added (tree_of self.now) (is_directory kind) p name.now) self.now.words }
     {
         let count = endian::read_u32(self.bytes, 8) as usize;
         if 16384 <= count {
@@ -90,7 +92,7 @@ impl<'a> Growing<'a> {
         if self.words < 4 * (count + 3) {
             return Err(Refusal::LimitOrMemory);
         }
-        if self.is_shallow(p, is_directory) {
+        if self.is_shallow(p, kind) {
             Ok(())
         } else {
             Err(Refusal::LimitOrMemory)
@@ -99,24 +101,24 @@ impl<'a> Growing<'a> {
 
     /// Puts an empty directory, or an empty file, in as last child of directory p, and returns its number; 9 if the tree then passes a limit,
     /// or the bytes are too few, and the table stays as it is.
-    pub fn grow(&mut self, p: usize, is_directory: bool, name: &[u8]) -> Result<usize, Refusal>
+    pub fn grow(&mut self, p: usize, kind: Kind, name: &[u8]) -> Result<usize, Refusal>
         requires { IsTable self.old × IsDirectory (tree_of self.old) p × GoodName name.now }
         ensures number { IfOk result (λ number. number ≡ next_of (get_or (tree_of self.old) p none)) }
         ensures table { OnOk result (IsTable self.new) }
-        ensures tree { OnOk result (tree_of self.new ≡ added (tree_of self.old) is_directory p name.now) }
-        ensures built { Built (added (tree_of self.old) is_directory p name.now) self.old.words self.old.bytes.now self.new.bytes.now (sizedAs result self.new.size) }
+        ensures tree { OnOk result (tree_of self.new ≡ added (tree_of self.old) (is_directory kind) p name.now) }
+        ensures built { Built (added (tree_of self.old) (is_directory kind) p name.now) self.old.words self.old.bytes.now self.new.bytes.now (sizedAs result self.new.size) }
         ensures err { OnErr result ((self.new.bytes.now ≡ self.old.bytes.now) × (self.new.size ≡ self.old.size)) }
 
         ensures words { self.new.words ≡ self.old.words }
         ensures length { length self.new.bytes.now ≡ length self.old.bytes.now }
         ensures same_reference { self.new.bytes.ghost_name ≡ self.old.bytes.ghost_name }
     {
-        self.check_limits(p, is_directory, name)?;
+        self.check_limits(p, kind, name)?;
         let grown = self.size + 12 + name.len() + 1;
         if self.bytes.len() < grown {
             return Err(Refusal::LimitOrMemory);
         }
-        let number = fst_patch::insert(self.bytes, self.size, p, is_directory, name);
+        let number = fst_patch::insert(self.bytes, self.size, p, kind, name);
         self.size = grown;
         Ok(number)
     }

@@ -3,5 +3,4 @@
 
 mod growing;
 
-
 pub use growing::Growing;

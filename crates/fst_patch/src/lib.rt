@@ -3,10 +3,12 @@
 
 ghost use Rattle.std.specs.Prelude.{◌≡◌, ◌++◌, ◌+◌, ◌-◌, ◌*◌, ◌≤◌, ◌<◌, length, take};
 ghost use Rattle.endian.specs.Bytes.{put, be32Bytes};
+ghost use Rattle.fst_measure.specs.Inner.Kind.{is_directory};
 ghost use Rattle.tree.specs.Table.{sizeOrNext};
 ghost use Rattle.tree.specs.Inner.Patch.{records, recordBefore, recordAfter, patchedRecord, insertPatch};
 ghost use Rattle.fst_raise.specs.Inner.Inserting.{newNode, EachRaisable, NamesGrow, Patchable, newTexts, start_in, Insertable};
 
+use fst_measure::Kind;
 use fst_raise::{NewEntry, Shift};
 
 // The entries behind the new one: all move at once, then each is raised where it stands.
@@ -40,7 +42,7 @@ fn patch_up_to(table: &mut [u8], p: usize)
 // stay.
 fn patch_records(table: &mut [u8], count: usize, entry: &NewEntry<'_>)
     requires { Patchable table.old count entry.now.parent entry.now.number entry.now.start (length entry.now.name.now + 1) }
-    ensures { table.new ≡ put table.old 0 (records (patchedRecord table.old entry.now.parent entry.now.number (newNode entry.now.is_directory entry.now.name.now entry.now.number) entry.now.start) 0 (count + 1)) }
+    ensures { table.new ≡ put table.old 0 (records (patchedRecord table.old entry.now.parent entry.now.number (newNode (is_directory entry.now.kind) entry.now.name.now entry.now.number) entry.now.start) 0 (count + 1)) }
 {
     let shift = Shift {
         number: entry.number,
@@ -78,17 +80,17 @@ fn new_start(table: &[u8], size: usize, count: usize, q: usize) -> usize
 
 /// Puts an empty directory or an empty file in as the last child of directory p of the table that stands in the first `size` bytes, and
 /// returns its number. The new table has 12 + name.len() + 1 bytes more.
-pub fn insert(table: &mut [u8], size: usize, p: usize, is_directory: bool, name: &[u8]) -> usize
+pub fn insert(table: &mut [u8], size: usize, p: usize, kind: Kind, name: &[u8]) -> usize
     requires { Insertable table.old size p (length name.now) }
     ensures value { result ≡ sizeOrNext table.old p }
-    ensures table_after { table.new ≡ put table.old 0 (insertPatch (take size table.old) (sizeOrNext table.old 0) p (newNode is_directory name.now (sizeOrNext table.old p))) }
+    ensures table_after { table.new ≡ put table.old 0 (insertPatch (take size table.old) (sizeOrNext table.old 0) p (newNode (is_directory kind) name.now (sizeOrNext table.old p))) }
 {
     let count = endian::read_u32(table, 8) as usize;
     let number = endian::read_u32(table, 12 * p + 8) as usize;
     let start = new_start(table, size, count, number);
     insert_text(table, size, count, start, name);
     let entry = NewEntry {
-        is_directory,
+        kind,
         name,
         parent: p,
         number,

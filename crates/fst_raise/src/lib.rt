@@ -3,6 +3,7 @@
 
 ghost use Rattle.std.specs.Prelude.{◌≡◌, [], ◌+◌, ◌*◌, ◌≤◌, ◌<◌, ◌^◌, length};
 ghost use Rattle.endian.specs.Bytes.{put};
+ghost use Rattle.fst_measure.specs.Inner.Kind.{is_directory};
 ghost use Rattle.tree.specs.Table.{nameOffset, nodeBytes};
 ghost use Rattle.tree.specs.Insert.{shifted};
 ghost use Rattle.tree.specs.Inner.Patch.{recordBefore, recordAfter};
@@ -67,7 +68,7 @@ pub fn patch_before(table: &mut [u8], k: usize, p: usize)
 /// An empty directory or an empty file that is put in.
 #[derive(Clone, Copy, PartialEq, Eq, Debug)]
 pub struct NewEntry<'n> {
-    pub is_directory: bool,
+    pub kind: Kind,
     pub name: &'n [u8],
     /// The directory that it is in.
     pub parent: usize,
@@ -81,30 +82,29 @@ impl<'n> NewEntry<'n> {
     // Its record.
     fn fields(&self) -> Record
         requires { (self.now.parent < self.now.number) × (self.now.number ≤ 16384) × (self.now.start < 2 ^ 24) }
-        ensures bytes { bytes_of result ≡ nodeBytes self.now.parent self.now.start (newNode self.now.is_directory [] self.now.number) }
+        ensures bytes { bytes_of result ≡ nodeBytes self.now.parent self.now.start (newNode (is_directory self.now.kind) [] self.now.number) }
         ensures name { result.name ≡ self.now.start }
     {
-        if self.is_directory {
-            Record {
-                kind: Kind::Directory,
-                name: self.start as u32,
-                place: self.parent as u32,
-                next: self.number as u32 + 1,
-            }
-        } else {
-            Record {
+        match self.kind {
+            Kind::File => Record {
                 kind: Kind::File,
                 name: self.start as u32,
                 place: 0,
                 next: 0,
-            }
+            },
+            Kind::Directory => Record {
+                kind: Kind::Directory,
+                name: self.start as u32,
+                place: self.parent as u32,
+                next: self.number as u32 + 1,
+            },
         }
     }
 
     /// Writes its record.
     pub fn write(&self, table: &mut [u8])
         requires { (12 * self.now.number + 12 ≤ length table.old) × (self.now.parent < self.now.number) × (self.now.number ≤ 16384) × (self.now.start < 2 ^ 24) }
-        ensures { table.new ≡ put table.old (12 * self.now.number) (nodeBytes self.now.parent self.now.start (newNode self.now.is_directory [] self.now.number)) }
+        ensures { table.new ≡ put table.old (12 * self.now.number) (nodeBytes self.now.parent self.now.start (newNode (is_directory self.now.kind) [] self.now.number)) }
     {
         self.fields().write(table, self.number);
     }

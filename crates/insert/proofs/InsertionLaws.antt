@@ -28,9 +28,10 @@ use Rattle.commit.proofs.Decisions.{behind-passed, behind-refused}
 use Rattle.fst_grow.specs.Inner.Growth.{IsDirectory, added, Built}
 use Rattle.fst_grow.proofs.GrowthLaws.{bigger-added}
 use Rattle.table_only.proofs.TableChanges.{unbuilt-decides}
-use Rattle.insert.specs.Inner.Insertion.{planInserted, ofDirectory}
-use Rattle.insert.specs.declared.new_entry.Kind.{Kind}
-use Rattle.insert.specs.declared.new_entry.Kind.TheVariants as kind
+use Rattle.fst_measure.specs.Inner.Kind.{is_directory}
+use Rattle.fst_measure.specs.declared.kind.Kind.{Kind}
+use Rattle.fst_measure.specs.declared.kind.Kind.TheVariants as kind
+use Rattle.insert.specs.Inner.Insertion.{planInserted}
 
 not-off : (t : Bool) → not t ≡ false → t ≡ true
 not-off true e = refl
@@ -55,10 +56,10 @@ number-small nodes words p w l dir =
 -- ---- the plan: what is added, behind the tests
 
 module _ (k : Kind) (d : Disc) (p : ℕ) (nm : List ℕ) (v : Verdict) (judged : v ≡ insertVerdict d.nodes p nm) where
-  plan-is : planInserted k d.nodes p nm ≡ planned (insertVerdict d.nodes p nm) (change (newNumber d.nodes p) (tableOnly (added d.nodes (ofDirectory k) p nm)))
+  plan-is : planInserted k d.nodes p nm ≡ planned (insertVerdict d.nodes p nm) (change (newNumber d.nodes p) (tableOnly (added d.nodes (is_directory k) p nm)))
   plan-is = go k
     where
-      go : (x : Kind) → planInserted x d.nodes p nm ≡ planned (insertVerdict d.nodes p nm) (change (newNumber d.nodes p) (tableOnly (added d.nodes (ofDirectory x) p nm)))
+      go : (x : Kind) → planInserted x d.nodes p nm ≡ planned (insertVerdict d.nodes p nm) (change (newNumber d.nodes p) (tableOnly (added d.nodes (is_directory x) p nm)))
       go kind.Directory = refl
       go kind.File = refl
 
@@ -67,7 +68,7 @@ module _ (k : Kind) (d : Disc) (p : ℕ) (nm : List ℕ) (v : Verdict) (judged :
 
   module _ (passed : v ≡ Ok tt) where
     abbrev N : List Node
-    N = added d.nodes (ofDirectory k) p nm
+    N = added d.nodes (is_directory k) p nm
 
     pub allowed : IsDirectory d.nodes p × GoodName nm
     allowed = insert-allows d.nodes p nm (sym judged ∙ passed)
@@ -80,11 +81,11 @@ module _ (k : Kind) (d : Disc) (p : ℕ) (nm : List ℕ) (v : Verdict) (judged :
       pub not-started : Built d.nodes d.words s s (Err c) → Decides (planInserted k d.nodes p nm) d room after (Err c)
       not-started b =
           rw (← held)
-          (tests-pass (length s) after (Err c) (unbuilt-decides d.nodes N d (newNumber d.nodes p) s after c (bigger-added d.nodes (ofDirectory k) p nm w allowed.0 allowed.1) b))
+          (tests-pass (length s) after (Err c) (unbuilt-decides d.nodes N d (newNumber d.nodes p) s after c (bigger-added d.nodes (is_directory k) p nm w allowed.0 allowed.1) b))
 
       -- nor with the new entry
-      pub not-grown : (T : List Node) (words : ℕ) → T ≡ d.nodes → words ≡ d.words → Built (added T (ofDirectory k) p nm) words s s (Err c) → Decides (planInserted k d.nodes p nm) d room after (Err c)
+      pub not-grown : (T : List Node) (words : ℕ) → T ≡ d.nodes → words ≡ d.words → Built (added T (is_directory k) p nm) words s s (Err c) → Decides (planInserted k d.nodes p nm) d room after (Err c)
       not-grown T words e l b =
           rw (← held)
           (tests-pass (length s) after (Err c)
-          (unbuilt-decides N N d (newNumber d.nodes p) s after c (bigger-same N (bigger-added d.nodes (ofDirectory k) p nm w allowed.0 allowed.1).well) (rw (e, l) at b)))
+          (unbuilt-decides N N d (newNumber d.nodes p) s after c (bigger-same N (bigger-added d.nodes (is_directory k) p nm w allowed.0 allowed.1).well) (rw (e, l) at b)))

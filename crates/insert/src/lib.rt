@@ -10,7 +10,8 @@ ghost use Rattle.insert.specs.Inner.Insertion.{planInserted};
 use commit::Decision;
 use fst::Table;
 use fst_grow::Growing;
-pub use new_entry::{Kind, NewEntry};
+pub use fst_measure::Kind;
+pub use new_entry::NewEntry;
 use opened::OpenDisc;
 use refusal::Refusal;
 
@@ -23,6 +24,6 @@ pub fn insert(disc: &OpenDisc<'_>, bytes: &mut [u8], new: NewEntry<'_>) -> Resul
     new.check(&Table::new(disc.table()))?;
     let size = table_only::start_table(disc, bytes)?;
     let mut table = Growing::new(bytes, size, table_only::lent_words(disc));
-    let number = table.grow(new.parent as usize, new.kind.is_directory(), new.name)?;
+    let number = table.grow(new.parent as usize, new.kind, new.name)?;
     table_only::place_table(disc, &table, number as u32)
 }

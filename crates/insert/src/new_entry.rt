@@ -3,35 +3,17 @@ ghost use Rattle.std.specs.Prelude.{◌≡◌, ◌<◌};
 ghost use Rattle.tree.specs.Table as table_of;
 ghost use Rattle.tree.specs.Table.{nodesOf};
 ghost use Rattle.edits.specs.Edits.{insertVerdict, childVerdict};
-ghost use Rattle.insert.specs.Inner.Insertion.{ofDirectory};
 
 use fst::Table;
+use fst_measure::Kind;
 use refusal::{Refusal, Verdict};
-
-/// What is inserted.
-#[derive(Clone, Copy, PartialEq, Eq, Debug)]
-pub enum Kind {
-    /// An empty file.
-    File,
-    /// An empty directory.
-    Directory,
-}
-
-impl Kind {
-    /// Whether it is a directory.
-    pub fn is_directory(self) -> bool
-        ensures { result ≡ ofDirectory self }
-    {
-        matches!(self, Kind::Directory)
-    }
-}
 
 /// An entry that is to be the last child of its parent.
 #[derive(Clone, Copy)]
 pub struct NewEntry<'a> {
     /// The number of the directory that it is inserted in.
     pub parent: u32,
-    /// Whether it is a file or a directory.
+    /// Whether it is an empty file or an empty directory.
     pub kind: Kind,
     /// Its name, in bytes.
     pub name: &'a [u8],

@@ -7,6 +7,7 @@ ghost use Rattle.fst_grow.specs.Inner.Growing.{tree_of, IsTable};
 ghost use Rattle.make_directories.specs.Inner.Making.{turn_of, CanTurn, Reaches};
 
 use fst_grow::Growing;
+use fst_measure::Kind;
 use fst_path::Components;
 use refusal::Refusal;
 
@@ -28,7 +29,7 @@ fn step(table: &mut Growing<'_>, entry: usize, name: &[u8]) -> Result<usize, Ref
     }
     match table.child(entry, name) {
         Ok(child) => Ok(child as usize),
-        Err(_) => table.grow(entry, true, name),
+        Err(_) => table.grow(entry, Kind::Directory, name),
     }
 }
 

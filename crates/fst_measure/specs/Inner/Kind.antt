@@ -1,4 +1,4 @@
--- The number that a table stores for what an entry is. Assumes nothing: these are definitions.
+-- What an entry is: the number that a table stores for it, and whether it is a directory. Assumes nothing: these are definitions.
 use Rattle.std.specs.Prelude.{ℕ, Bool, true, false}
 use Rattle.fst_measure.specs.declared.kind.Kind.{Kind}
 use Rattle.fst_measure.specs.declared.kind.Kind.TheVariants.{File, Directory}
@@ -7,7 +7,6 @@ abbrev pub number_of : Kind → ℕ
 number_of File = 0
 number_of Directory = 1
 
--- what an entry is, where it is said by whether it is a directory
-abbrev pub kind_of : Bool → Kind
-kind_of false = File
-kind_of true = Directory
+abbrev pub is_directory : Kind → Bool
+is_directory File = false
+is_directory Directory = true

@@ -1,5 +1,6 @@
 -- `fst_patch::patch_records` meets its contract: the records behind the new one, the new one and those up to its directory are the new ones, and
 -- those in between do not change.
+use Rattle.fst_measure.specs.Inner.Kind.{is_directory}
 use Rattle.fst_patch.proofs.Passes.{up-to-turn, all-patched}
 use borrow.Author.Rules.{rules}
 use Rattle.fst_patch.proofs.patch_records.Goals as goal
@@ -7,9 +8,9 @@ use Rattle.fst_patch.proofs.patch_records.Goals as goal
 pub patch_up_to-requires : goal.patch_up_to-requires
 patch_up_to-requires c =
     let e = c.args.entry.now in
-    up-to-turn c.args.table.now c.args.count e.parent e.number e.is_directory e.name.now e.start c.requires _ c.patch_behind.ensures _ c.write.ensures
+    up-to-turn c.args.table.now c.args.count e.parent e.number (is_directory e.kind) e.name.now e.start c.requires _ c.patch_behind.ensures _ c.write.ensures
 
 pub returns : goal.returns
 returns c =
     let e = c.args.entry.now in
-    all-patched c.args.table.now c.args.count e.parent e.number e.is_directory e.name.now e.start c.requires _ c.patch_behind.ensures _ c.write.ensures (search rules) _ c.patch_up_to.ensures
+    all-patched c.args.table.now c.args.count e.parent e.number (is_directory e.kind) e.name.now e.start c.requires _ c.patch_behind.ensures _ c.write.ensures (search rules) _ c.patch_up_to.ensures

@@ -33,7 +33,7 @@ returns-in_err-number c =
     let held = ap length c.new-table.ensures.bytes ∙ c.start_table.auto.bytes in
     rw (p.1, p.2)
     (not-grown c.args.new.kind d c.args.new.parent c.args.new.name.now _ judged c.in_ok-check.was (well-disc d _ c.table.ensures.of_image) _ _ _ held _ _ _ tree words
-    (rw (c.in_err-number.was, c.is_directory.ensures) at c.grow.ensures.built))
+    (rw c.in_err-number.was at c.grow.ensures.built))
 
 pub overflow_cast-number : goal.overflow_cast-number
 overflow_cast-number c =

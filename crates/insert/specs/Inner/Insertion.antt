@@ -1,11 +1,11 @@
 -- The two inserts as one. Assumes nothing: these are definitions.
-use Rattle.std.specs.Prelude.{ℕ, Bool, true, false, List}
+use Rattle.std.specs.Prelude.{ℕ, List}
 use Rattle.tree.specs.Table.{Node}
 use Rattle.tree.specs.Insert.{emptyFile, emptyDirectory}
 use Rattle.edits.specs.Change.{Plan}
 use Rattle.edits.specs.Edits.{Edit, insertFile, insertDirectory, planInsert}
-use Rattle.insert.specs.declared.new_entry.Kind.{Kind}
-use Rattle.insert.specs.declared.new_entry.Kind.TheVariants.{File, Directory}
+use Rattle.fst_measure.specs.declared.kind.Kind.{Kind}
+use Rattle.fst_measure.specs.declared.kind.Kind.TheVariants.{File, Directory}
 
 -- "an empty directory or an empty file"
 abbrev pub insertion : Kind → ℕ → List ℕ → Edit
@@ -15,7 +15,3 @@ insertion File p nm = insertFile p nm
 abbrev pub planInserted : Kind → List Node → ℕ → List ℕ → Plan
 planInserted Directory nodes p nm = planInsert (emptyDirectory nm) nodes p nm
 planInserted File nodes p nm = planInsert (λ q. emptyFile nm) nodes p nm
-
-abbrev pub ofDirectory : Kind → Bool
-ofDirectory Directory = true
-ofDirectory File = false

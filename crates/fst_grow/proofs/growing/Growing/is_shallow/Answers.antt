@@ -1,5 +1,6 @@
 -- `Growing::is_shallow` meets its contract. The invariant of its loop: so many directories around p were passed, and those around the one where
 -- it stands are left.
+use mathlib.Core.Path.{sym, ◌∙◌}
 use native.Mathlib.Omega.{arith}
 use Rattle.fst_grow.proofs.StandingTable.{counted-none, depth-turn, shallow, deep}
 use Rattle.fst_grow.proofs.growing.Growing.is_shallow.Goals as goal
@@ -18,4 +19,4 @@ loop-preserved c =
     depth-turn _ _ _ _ _ _ _ c.requires.0 c.loop.invariant (omega (arith, c.if-around-eq0.false)) c.parent-around.ensures
 
 pub returns : goal.returns
-returns c = search deep
+returns c = search (deep, sym c.is_directory.ensures ∙ c.if-not-is_directory.false)
