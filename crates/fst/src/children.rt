@@ -38,6 +38,7 @@ impl<'a> Table<'a> {
 
     // The first child of directory d with that name, which has no zero byte. A subdirectory is stepped over by its next. Of each 65,536 bytes of
     // texts the last text that differs is kept: only one that starts there can be longer than that.
+    // Kept: `while`, which counts no index: it goes from child to child; `successors` would have the same step, and the same stop, as closures.
     fn child_named(&self, d: usize, name: &[u8]) -> Result<u32, Refusal>
         requires within { d < table_of.count self.now }
         requires no_zero { hasZero name.now ≡ false }

@@ -1,4 +1,4 @@
-// The entries of an accepted file table, by number and by name (fst.rs).
+// The entries of an accepted file table, by number and by name.
 #![tactic(auto)]
 
 mod children;

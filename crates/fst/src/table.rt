@@ -123,7 +123,7 @@ impl<'a> Table<'a> {
         }
     }
 
-    /// Entry `k`, or 15 past the count.
+    /// Entry `k`; past the count `NoSuchEntry`.
     pub fn entry(&self, k: u32) -> Found
         ensures { result ≡ entryFound (nodesOf self.now) k }
     {

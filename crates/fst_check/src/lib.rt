@@ -1,4 +1,4 @@
-// Whether a file table is accepted (fst.rs): the tests 5 to 13.
+// Whether a file table is accepted.
 #![tactic(auto)]
 
 mod opening;

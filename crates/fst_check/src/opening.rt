@@ -1,4 +1,5 @@
-// Whether a table is accepted: the tests 5 to 13, in their order.
+// Whether a table is accepted: its root, then each entry's place and kind, then the limits, and then a walk over the names and over what nests in
+// what.
 ghost use Rattle.std.specs.Prelude.{◌≡◌, [], ◌∷◌, ◌-◌, ◌*◌, ◌≤◌, ◌<◌, length};
 ghost use Rattle.tree.specs.Table as table_of;
 ghost use Rattle.tree.specs.Table.{nameOffset, name_at, nodeAt, nodesFrom, entryVerdict, entriesVerdict, nameVerdict, nextVerdict};
@@ -70,6 +71,7 @@ fn clean_verdict(table: &[u8], at: usize) -> Verdict
 }
 
 // Shuts the directories that end at entry k or before it.
+// Kept: `while`, which counts no index; an iterator that takes off what it gives would also take off the directory that stays open.
 fn shut(dirs: &mut Stack, k: usize)
     ensures { dirs.new ≡ table_of.shut k dirs.old }
 {
@@ -90,8 +92,8 @@ struct Entries<'a> {
 }
 
 impl<'a> Entries<'a> {
-    // The name of entry k: 11, 12, 13. Where its text is fit, it is not looked at unit by unit. Elsewhere only a name that is refused, and so ends
-    // the walk, is looked at to its end.
+    // The name of entry k: its offset, whether its units are a name's, whether they are safe. Where its text is fit, it is not looked at unit by
+    // unit. Elsewhere only a name that is refused, and so ends the walk, is looked at to its end.
     fn name_verdict(&self, texts: &mut Survey<'_>, k: usize) -> Verdict
         requires within { k < self.now.count }
         requires texts_of { (texts.old.table ≡ self.now.table.now) × (texts.old.base ≡ 12 * self.now.count) }
@@ -109,7 +111,7 @@ impl<'a> Entries<'a> {
         units_verdict(self.table, at)
     }
 
-    // The next of entry k, if it is a directory, and its depth: 10, 9.
+    // The next of entry k, if it is a directory, and then its depth.
     fn next_verdict(&self, dirs: &Stack, k: usize) -> Verdict
         requires { k < self.now.count }
         ensures { result ≡ nextVerdict self.now.count dirs.now k (nodeAt self.now.table.now self.now.count k) }

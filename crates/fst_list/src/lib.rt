@@ -96,6 +96,7 @@ impl<'a> Ends<'a> {
 }
 
 // The directory that entry k is nested in: the entry before it, or one of those that this one is nested in, which the list has.
+// Kept: `while`, which counts no index: it climbs from parent to parent; `successors` would have the same step, as a closure.
 fn parent_in(table: &Table<'_>, list: &[u32], k: usize) -> usize
     requires within { (k < table_of.count table.now) × (6 * table_of.count table.now ≤ length list.now) }
     requires parents_in { ParentsIn table.now k list.now }

@@ -1,4 +1,4 @@
-// An entry by its path (`at_descendant`).
+// An entry by its path.
 #![tactic(auto)]
 
 ghost use Rattle.std.specs.Prelude.{◌≡◌, [], ◌∷◌, ◌<◌, ◌^◌, List, ℕ, IfOk, length};
@@ -31,8 +31,8 @@ pub fn goes_back(name: &[u8]) -> bool
     matches!(name, b"..")
 }
 
-// One component, and where it leads: from a file 17; empty and `.` stay, `..` goes back to the entry that the last named step left, any other is a
-// child's name. The trail has the entries that were left: 65 at most, since no directory is deeper than 64.
+// One component, and where it leads: a file is `ExpectedDirectory`; empty and `.` stay, `..` goes back to the entry that the last named step left,
+// any other is a child's name. The trail has the entries that were left: 65 at most, since no directory is deeper than 64.
 fn take_step(table: &Table<'_>, trail: &mut Stack, k: usize, name: &[u8]) -> Result<usize, Refusal>
     requires held { Held table.now }
     requires trail { Trail (nodesOf table.now) trail.old k }
@@ -71,7 +71,8 @@ fn follow(table: &Table<'_>, start: usize, path: &[u8]) -> Result<u32, Refusal>
     Ok(k as u32)
 }
 
-/// The entry that a path leads to from the entry `start`: 15, then along the path 17 and 18.
+/// The entry that a path leads to from the entry `start`: `NoSuchEntry` past the count, then along the path `ExpectedDirectory` at a file, and
+/// `NotFound`.
 pub fn lookup(table: &Table<'_>, start: u32, path: &[u8]) -> Result<u32, Refusal>
     requires { length path.now < 2 ^ 63 }
     ensures value { result ≡ lookup_of.lookup (nodesOf table.now) start path.now }

@@ -1,4 +1,4 @@
-// The texts of a file table (string_table.rs): the units that a name may have, and many names that share a text.
+// The texts of a file table: the units that a name may have, and many names that share a text.
 #![tactic(auto)]
 
 mod marks;

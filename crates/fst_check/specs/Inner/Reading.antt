@@ -39,6 +39,6 @@ textsVerdict tab c words =
 abbrev pub nodeVerdict : List ℕ → ℕ → List ℕ → ℕ → Verdict
 nodeVerdict tab c dirs k = first (nameVerdict tab c k (name_at tab c (nameOffset tab k))) (nextVerdict c dirs k (nodeAt tab c k))
 
--- the tests 12 and 13 of a name
+-- the tests of a name's units: whether each may stand in a name, then whether the name is safe
 abbrev pub textVerdict : List ℕ → Verdict
 textVerdict nm = refuse (not (plain nm)) InvalidNameByte (refuse (not (safe nm)) UnsafeName (Ok tt))
