@@ -2,7 +2,6 @@
 ghost use Rattle.std.specs.Prelude.{◌≡◌, ◌+◌, ◌*◌, ◌<◌};
 ghost use Rattle.tree.specs.Table as table_of;
 ghost use Rattle.tree.specs.Table.{nameOffset, offsetOrParent, sizeOrNext, name_at};
-ghost use Rattle.fst_measure.specs.Inner.Flat.{afterIn};
 ghost use Rattle.fst_measure.specs.Inner.Kind.{number_of};
 ghost use Rattle.fst_measure.specs.Inner.Measure.{measureOf};
 ghost use Rattle.fst_measure.specs.Inner.Valid.{Valid};
@@ -37,6 +36,16 @@ impl<'a> Source<'a> {
     {
         let count = endian::read_u32(bytes, 8) as usize;
         Source { bytes, count }
+    }
+
+    /// The same table again. A loop that writes holds one of its own, which no write can change.
+    pub fn reborrow(&self) -> Self
+        ensures { result ≡ self.now }
+    {
+        Source {
+            bytes: self.bytes,
+            count: self.count,
+        }
     }
 
     /// How many entries it has.
@@ -76,17 +85,6 @@ impl<'a> Source<'a> {
         ensures valid { Valid self.now (table_of.count self.now) }
     {
         endian::read_u32(self.bytes, 12 * k + 8)
-    }
-
-    /// The entry after k in its directory, where the writers go on.
-    pub fn after(&self, k: usize) -> usize
-        requires { k < table_of.count self.now }
-        ensures { result ≡ afterIn self.now k }
-    {
-        match self.kind(k) {
-            Kind::File => k + 1,
-            Kind::Directory => self.next(k) as usize,
-        }
     }
 
     /// The name of entry k, which is not the root, without its zero byte.

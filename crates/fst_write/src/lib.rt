@@ -36,8 +36,11 @@ impl<'o> Writer<'o> {
         ensures length { length self.new.out.now ≡ length self.old.out.now }
         ensures same_reference { self.new.out.ghost_name ≡ self.old.out.ghost_name }
     {
-        fst_record::write_record(source, self.out, k, parent, self.text);
-        self.text = fst_record::write_name(source, self.out, k, self.text);
+        // Locals: what stands behind `self` would be read again after each write.
+        let text = self.text;
+        let out = &mut *self.out;
+        fst_record::write_record(source, out, k, parent, text);
+        self.text = fst_record::write_name(source, out, k, text);
     }
 
     // Writes entry k, and if it is a directory all that is in it, and returns the entry after it in its directory.
@@ -73,10 +76,12 @@ impl<'o> Writer<'o> {
         ensures same_reference { self.new.out.ghost_name ≡ self.old.out.ghost_name }
     {
         let stop = source.next(k) as usize;
+        // One of its own, which no write can change: so it is not read again after each.
+        let source = source.reborrow();
         let mut c = k + 1;
-        // Kept: an iterator of the children would be one more type with a `next` of its own, for this loop alone.
+        // Kept: `write_entry` returns the next child; an iterator, a type of its own, would look it up a second time.
         while c < stop {
-            c = self.write_entry(source, c, k as u32);
+            c = self.write_entry(&source, c, k as u32);
         }
     }
 }

@@ -20,7 +20,7 @@ write_directory-write_entry-c-requires t c =
     let p = c.requires.directory in
     let w = c.args.self.now in
     let l = c.loop-c in
-    let u = turn tab (count tab) c.args.k w.text c.next-stop.ensures.valid p.0 p.1 w.out.now l.self.out.now l.self.text l.c l.invariant.written (rw c.next-stop.ensures.value at c.loop-c-test.true) in (
+    let u = turn tab (count tab) c.args.k w.text c.next-stop.ensures.valid p.0 p.1 w.out.now l.self.out.now l.self.text l.c l.invariant.written (rw c.next-stop.ensures.value at c.loop-c-test.true) in rw c.reborrow-source.ensures (
       omega (arith, c.decreases, l.invariant.written.low, u.inside),
       ((omega (arith, l.invariant.written.low), u.inside, u.parent), u.room c.requires.room),
     )
@@ -31,7 +31,7 @@ write_directory-loop-c-preserved t c =
     let p = c.requires.directory in
     let w = c.args.self.now in
     let l = c.loop-c in
-    let e = c.write_entry-c.ensures in
+    let e = rw c.reborrow-source.ensures at c.write_entry-c.ensures in
     let u = turn tab (count tab) c.args.k w.text c.next-stop.ensures.valid p.0 p.1 w.out.now l.self.out.now l.self.text l.c l.invariant.written (rw c.next-stop.ensures.value at c.loop-c-test.true) in
     record { written = u.again _ _ _ e.text e.out e.length e.next; same_reference = e.same_reference ∙ l.invariant.same_reference }
 
