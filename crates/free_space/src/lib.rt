@@ -2,7 +2,6 @@
 // allocation.
 #![tactic(auto)]
 
-
 mod allocation;
 mod free;
 mod growth;

@@ -3,5 +3,4 @@
 
 mod buffer;
 
-
 pub use buffer::TextBuffer;
