@@ -1,7 +1,9 @@
-// Fields of 1, 3 and 4 bytes, highest byte first, at an offset of a slice; and spans of bytes: copied, filled, compared.
+// Fields of 1, 3 and 4 bytes, highest byte first, at an offset of a slice;
+// and spans of bytes: copied, filled, compared.
 #![tactic(auto)]
 
-ghost use Rattle.std.specs.Prelude.{◌≡◌, [], ◌∷◌, ◌+◌, ◌-◌, ◌*◌, ◌≤◌, ◌<◌, ◌^◌, min, length, get_or, replicate};
+ghost use Rattle.std.specs.Prelude.{◌≡◌, [], ◌∷◌, ◌+◌, ◌-◌, ◌*◌, ◌≤◌, ◌<◌, ◌^◌};
+ghost use Rattle.std.specs.Prelude.{min, length, get_or, replicate};
 ghost use Rattle.endian.specs.Bytes.{be24, be32, be24Bytes, be32Bytes, put, span, sameBytes};
 
 /// The byte at `at`.
@@ -40,7 +42,8 @@ pub fn write_u8(s: &mut [u8], at: usize, v: u8)
 
 /// Writes the number into the 3 bytes at `at`, highest byte first.
 pub fn write_u24(s: &mut [u8], at: usize, v: u32)
-    requires { (at + 3 ≤ length s.old) × (v < 2 ^ 24) }
+    requires inside { at + 3 ≤ length s.old }
+    requires small { v < 2 ^ 24 }
     ensures { s.new ≡ put s.old at (be24Bytes v) }
 {
     let [_, high, middle, low] = v.to_be_bytes();
@@ -66,8 +69,8 @@ pub fn copy(source: &[u8], from: usize, s: &mut [u8], to: usize, n: usize)
 // How many bytes go at once where a span of one slice is copied within it.
 const PART: usize = 65536;
 
-// Part k of the n bytes, by way of an array, so it does not matter where the two spans lie. The compiler makes one memmove of it,
-// which a loop over one slice does not become.
+// Part k of the n bytes, by way of an array, so it does not matter where the two spans lie. The compiler makes one
+// memmove of it, which a loop over one slice does not become.
 fn copy_part(s: &mut [u8], from: usize, to: usize, n: usize, k: usize)
     requires source { from + n ≤ length s.old }
     requires target { to + n ≤ length s.old }
@@ -83,7 +86,8 @@ fn copy_part(s: &mut [u8], from: usize, to: usize, n: usize, k: usize)
 
 /// Copies n bytes from `from` to `to` of the same slice, whether or not the two spans overlap.
 pub fn copy_within(s: &mut [u8], from: usize, to: usize, n: usize)
-    requires { (from + n ≤ length s.old) × (to + n ≤ length s.old) }
+    requires source { from + n ≤ length s.old }
+    requires target { to + n ≤ length s.old }
     ensures { s.new ≡ put s.old to (span s.old from n) }
 {
     let parts = n.div_ceil(PART);
@@ -110,7 +114,8 @@ pub fn fill(s: &mut [u8], at: usize, n: usize, b: u8)
 
 /// Whether the n bytes from `at` of one slice are those from `start` of another.
 pub fn same(a: &[u8], at: usize, b: &[u8], start: usize, n: usize) -> bool
-    requires { (at + n ≤ length a.now) × (start + n ≤ length b.now) }
+    requires first { at + n ≤ length a.now }
+    requires second { start + n ≤ length b.now }
     ensures { result ≡ sameBytes (span a.now at n) (span b.now start n) }
 {
     a[at..at + n] == b[start..start + n]

@@ -4,7 +4,9 @@
 ghost use Rattle.std.specs.Prelude.{◌≡◌, ◌<◌, slice_index};
 ghost use Rattle.refusal.specs.Refusal.{first};
 ghost use Rattle.endian.specs.Bytes.{be32};
-ghost use Rattle.header.specs.Verdicts.{fieldVerdict, headerVerdict, dolOffset, fstOffset, fstSize, fstMaxSize, discEnd, table_end, boundsVerdict};
+ghost use Rattle.header.specs.Verdicts.{fieldVerdict, headerVerdict, boundsVerdict};
+ghost use Rattle.header.specs.Verdicts.{dolOffset, fstOffset, fstSize, fstMaxSize, discEnd, table_end};
+ghost use Rattle.header.specs.Inner.Bounds.{boundsWithin};
 ghost use Rattle.header.specs.Inner.Judged.{Judged};
 
 use refusal::{Refusal, Verdict};
@@ -67,6 +69,7 @@ impl Field {
 }
 
 // The table: the 21 fields in order, which tile 0x440 bytes (specs/Laws/Tiling).
+// Kept: an array, since a header has 21 fields, no more and no fewer, and nothing is allocated.
 const FIELDS: [Field; 21] = [
     Field::GAME_CODE,
     Field::MAKER_CODE,
@@ -109,8 +112,8 @@ fn check_field(image: &[u8], f: Field) -> Verdict
     Ok(())
 }
 
-/// The header's tests, field by field: `HeaderPastImage` at the first that the image does not hold, `WiiNotSupported` and
-/// `InvalidMagic` as soon as their magic is read.
+/// The header's tests, field by field: `HeaderPastImage` at the first that the image does not hold,
+/// `WiiNotSupported` and `InvalidMagic` as soon as their magic is read.
 pub fn check(image: &[u8]) -> Verdict
     ensures { result ≡ headerVerdict image.now }
 {
@@ -120,8 +123,8 @@ pub fn check(image: &[u8]) -> Verdict
     Ok(())
 }
 
-// ---- what the header of an image says of the disc, for the layers above: they ask once the header has passed. In an image too short for
-// a field a byte past the end reads as 0, so that the answer is settled there too.
+// ---- what the header of an image says of the disc, for the layers above: they ask once the header has passed. In an
+// image too short for a field a byte past the end reads as 0, so that the answer is settled there too.
 
 fn byte_at(image: &[u8], at: usize) -> u8
     ensures { result ≡ slice_index image.now at }
@@ -185,27 +188,35 @@ pub fn table_end(image: &[u8]) -> u64
     u64::from(fst_offset(image)) + u64::from(fst_size(image))
 }
 
-// The places that the header gives: `InvalidBounds`. The table is held to the disc end, and not to the image's.
-#[tactic(auto, using(std::proofs::lemmas::Bool::Decides::nat_tests), unfolding(crate::specs::Verdicts::boundsVerdict))]
-fn bounds(image: &[u8]) -> Verdict
-    ensures { result ≡ boundsVerdict image.now }
+// The places that the header gives. The table is held to the disc end, and not to the image's.
+#[tactic(auto, using(std::proofs::lemmas::Bool::Decides::nat_tests), unfolding(crate::specs::Inner::Bounds::boundsWithin))]
+fn bounds(header: &[u8], image_length: u64) -> Verdict
+    ensures { result ≡ boundsWithin header.now image_length }
 {
-    let end = disc_end(image);
-    if fst_offset(image) < 0x440
+    let end = disc_end(header);
+    if fst_offset(header) < 0x440
         || u64::from(u32::MAX) < end
-        || end < table_end(image)
-        || (image.len() as u64) < end
+        || end < table_end(header)
+        || image_length < end
     {
         return Err(Refusal::InvalidBounds);
     }
     Ok(())
 }
 
-/// The header's own tests, then the places that it gives: `InvalidBounds` if the table begins inside the header, or the disc
-/// ends past 2^32 - 1, before its table does or past the image's end.
+/// What `check_bounds` answers for an image of that length, from its header alone.
+pub fn check_bounds_within(header: &[u8], image_length: u64) -> Verdict
+    ensures { result ≡ first (headerVerdict header.now) (boundsWithin header.now image_length) }
+{
+    check(header)?;
+    bounds(header, image_length)
+}
+
+/// The header's own tests, then the places that it gives: `InvalidBounds` if the table begins inside the header, or
+/// the disc ends past 2^32 - 1, before its table does or past the image's end.
+#[tactic(auto, unfolding(crate::specs::Verdicts::boundsVerdict, crate::specs::Inner::Bounds::boundsWithin))]
 pub fn check_bounds(image: &[u8]) -> Verdict
     ensures { result ≡ first (headerVerdict image.now) (boundsVerdict image.now) }
 {
-    check(image)?;
-    bounds(image)
+    check_bounds_within(image, image.len() as u64)
 }

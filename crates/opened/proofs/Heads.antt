@@ -2,19 +2,20 @@
 use Rattle.std.specs.Prelude.{Result, Ok, Err}
 use Rattle.refusal.specs.Refusal.{Verdict, first}
 use Prim.Native.Nat.{ℕ, zero, suc, ◌+◌, ◌*◌, ◌≤◌, ◌<◌, min}
-use Rattle.std.specs.Prelude.{◌≡◌, Bool, true, false, ltb, List, length, take}
+use Rattle.std.specs.Prelude.{◌≡◌, Bool, true, false, ltb, List, [], length, take}
 use Rattle.std.proofs.Common.{refl, sym, ap, ◌∙◌, arith, add-zero, length-take, ltb-true, ltb-false, lt-ltb, le-ltb}
 use Rattle.std.proofs.Math.Seq.{get_or-take}
 use Rattle.endian.specs.Bytes.{be32, span}
 use Rattle.endian.specs.Laws.Stored.{be32-same, length-span}
 use Rattle.header.specs.Verdicts.{headerVerdict, boundsVerdict, dolOffset, fstOffset, fstSize, fstMaxSize, userSize, discSize, discEnd, table_end}
+use Rattle.header.specs.Inner.Bounds.{boundsWithin}
 use Rattle.header.specs.Laws.Order.{header-order}
 use Rattle.refusal.specs.declared.Refusal.{Refusal}
-use Rattle.refusal.specs.declared.Refusal.TheVariants.{InvalidDol}
-use Rattle.dol.specs.Dol.{wordsAt, dolHeaderOf, fileSizeOf, dolSizeOf}
+use Rattle.dol.specs.Dol.{wordsAt, dolHeaderOf, fileSizeOf}
 use Rattle.opening.specs.Laws.OpeningLaws.{be32-span}
 use Rattle.space.specs.declared.DiscRegion.{DiscRegion}
-use Rattle.program.specs.Program.{Program, programVerdict, nowhere}
+use Rattle.program.specs.Program.{Program, program_of, programVerdict, nowhere}
+use Rattle.program.specs.Inner.Reading.{programAt}
 use Rattle.opened.specs.Inner.Parts.{Heads, own_as}
 
 -- ---- a field of the header
@@ -67,11 +68,10 @@ module _ (image header : List ℕ) (long : ℕ) (h : Heads image header long) wh
   pub table_end_is : table_end header ≡ table_end image
   table_end_is = rw (start_is, size_is)
 
-  pub head-refused : (c : Refusal) → Err c ≡ headerVerdict header → Err c ≡ first (headerVerdict image) (boundsVerdict image)
-  head-refused c e = ap (λ (v : Verdict). first v (boundsVerdict image)) (e ∙ header_is)
-
-  pub head-passed : (r : Verdict) → Ok tt ≡ headerVerdict header → r ≡ boundsVerdict image → r ≡ first (headerVerdict image) (boundsVerdict image)
-  head-passed r e f = f ∙ ap (λ (v : Verdict). first v (boundsVerdict image)) (e ∙ header_is)
+  -- what the header's bytes and the image's length tell of the image
+  pub bounds_are : first (headerVerdict header) (boundsWithin header long) ≡ first (headerVerdict image) (boundsVerdict image)
+  unfolding boundsWithin boundsVerdict
+  bounds_are = rw (header_is, start_is, size_is, user_is, disc_is, h.long_is) refl
 
 -- ---- the executable's header
 
@@ -92,13 +92,16 @@ size-part image at =
       add-zero at,
     )
 
-pub size_past : (image : List ℕ) (at : ℕ) → length image < at + 0xE4 → Err InvalidDol ≡ dolSizeOf image at
-size_past image at h = rw (lt-ltb (length image) (at + 0xE4) h)
-
-pub size_inside : (image program : List ℕ) (at : ℕ) → at + 0xE4 ≤ length image → program ≡ span image at 0xE4 → dolSizeOf program 0 ≡ dolSizeOf image at
-size_inside image program at h e =
+-- the program of an image that holds the program's header, and of one that does not
+pub program_held : (image program : List ℕ) (at : ℕ) → at ≡ dolOffset image → at + 0xE4 ≤ length image → program ≡ span image (dolOffset image) 0xE4 → programAt at program 0 ≡ program_of image
+unfolding programAt program_of
+program_held image program at p h e =
     let l : 0 + 0xE4 ≤ length (span image at 0xE4) = omega (arith, length-span image at 0xE4 h) in
-    rw (e, le-ltb (length (span image at 0xE4)) (0 + 0xE4) l, le-ltb (length image) (at + 0xE4) h, size-part image at)
+    rw (e, ← p, le-ltb (length (span image at 0xE4)) (0 + 0xE4) l, le-ltb (length image) (at + 0xE4) h, size-part image at) refl
+
+pub program_past : (image : List ℕ) (at : ℕ) → at ≡ dolOffset image → length image < at + 0xE4 → programAt at [] 0 ≡ program_of image
+unfolding programAt program_of
+program_past image at p h = rw (← p, lt-ltb (length image) (at + 0xE4) h) refl
 
 -- ---- the program's own region
 

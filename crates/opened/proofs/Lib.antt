@@ -2,3 +2,4 @@
 pub mod Heads
 pub mod Opens
 pub mod Discs
+pub mod ByKind

@@ -1,19 +1,29 @@
 -- The parts of an image whose header passed. Assumes nothing.
-use Rattle.std.specs.Prelude.{Ok}
-use Rattle.std.specs.Prelude.{ℕ, ◌≤◌, ◌≡◌, List, length}
-use Rattle.std.proofs.Common.{refl, sym, ap, ◌∙◌, arith}
-use Rattle.endian.specs.Bytes.{be32}
+use Rattle.std.specs.Prelude.{Ok, Err}
+use Rattle.std.specs.Prelude.{ℕ, ◌≡◌, List}
+use Rattle.std.proofs.Common.{refl, sym, ap, ◌∙◌}
+use Rattle.refusal.specs.declared.Refusal.{Refusal}
 use Rattle.refusal.specs.Refusal.{Verdict, first}
+use Rattle.refusal.specs.Laws.Chains.{first-passed}
+use Rattle.fst_check.specs.Inner.Reading.{Opens}
 use Rattle.header.specs.Verdicts.{headerVerdict, boundsVerdict}
 use Rattle.header.specs.Laws.FieldTests.{header-passes, bounds-pass}
-use Rattle.tree.specs.Table.{count, check}
+use Rattle.tree.specs.Table.{check}
 use Rattle.opening.specs.Opening.{table_of}
 use Rattle.opening.specs.Inner.Prepared.{verdictBefore24, Readable}
-use Rattle.opening.specs.Laws.OpeningLaws.{went_on}
+use Rattle.opening.specs.Laws.OpeningLaws.{stopped, went_on}
 use Rattle.opened.specs.Inner.Parts.{HasTable}
 
 pub head_opens : (image : List ℕ) (words : ℕ) → Readable image words → first (headerVerdict image) (boundsVerdict image) ≡ Ok tt
 head_opens image words k = rw (header-passes image k.header, bounds-pass image k.bounds)
+
+-- the header is refused before the table is read
+pub refused_head : (image : List ℕ) (words : ℕ) (c : Refusal) → Err c ≡ first (headerVerdict image) (boundsVerdict image) → Err c ≡ verdictBefore24 image words
+refused_head image words c e = stopped (Err c) (headerVerdict image) (boundsVerdict image) (check (table_of image) words) e refl
+
+-- a table that passed is accepted
+pub accepted_table : (image : List ℕ) (words : ℕ) → verdictBefore24 image words ≡ Ok tt → check (table_of image) words ≡ Ok tt
+accepted_table image words e = (first-passed (boundsVerdict image) (check (table_of image) words) (first-passed (headerVerdict image) (first (boundsVerdict image) (check (table_of image) words)) e).1).1
 
 module _ (image table : List ℕ) (t : HasTable image table) where
   -- the table is there once the header passed
@@ -25,8 +35,5 @@ module _ (image table : List ℕ) (t : HasTable image table) where
     pub table_is : table ≡ table_of image
     table_is = t (head_opens image words k)
 
-    pub root-in-table : 12 ≤ length table
-    root-in-table = rw table_is (omega (arith, k.size, k.root))
-
-    pub count_in : (r : ℕ) → r ≡ be32 table 8 → r ≡ count (table_of image)
-    count_in r e = e ∙ ap (λ (l : List ℕ). be32 l 8) table_is ∙ k.table.root-next
+    pub opens_there : verdictBefore24 image words ≡ Ok tt → Opens table
+    opens_there e = record { words = words; passed = rw table_is (accepted_table image words e) }

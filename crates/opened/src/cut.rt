@@ -1,7 +1,7 @@
 // The parts of an image in memory.
 ghost use Rattle.std.specs.Prelude.{◌≡◌};
 ghost use Rattle.endian.specs.Bytes.{span};
-ghost use Rattle.opened.specs.Inner.Parts.{HasParts};
+ghost use Rattle.opened.specs.Inner.Parts.{PartsOf};
 
 use crate::Parts;
 
@@ -15,7 +15,7 @@ fn cut(image: &[u8], from: usize, size: usize) -> &[u8]
 }
 
 pub fn parts_of(image: &[u8]) -> Parts<'_>
-    ensures { HasParts image.now result.header.now result.table.now result.program.now result.length }
+    ensures { PartsOf image.now result }
 {
     let header = cut(image, 0, 0x440);
     let table = cut(

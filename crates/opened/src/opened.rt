@@ -10,7 +10,7 @@ ghost use Rattle.space.specs.Inner.Words.{SortedDisjoint};
 ghost use Rattle.free_space.specs.MaxRegionSize.{maxRegionSize};
 ghost use Rattle.free_space.specs.Allocate.{allocationOf};
 ghost use Rattle.opening.specs.Inner.Prepared.{IsOpen};
-ghost use Rattle.opened.specs.Inner.Parts.{HasParts};
+ghost use Rattle.opened.specs.Inner.Parts.{PartsOf};
 ghost use Rattle.opened.specs.Inner.Disc.{OpensAs, Means, TableOf, free_of};
 
 use crate::Parts;
@@ -55,7 +55,7 @@ fn open_shown<'a>(
     words: &'a mut [u32],
 ) -> Result<OpenDisc<'a>, Refusal>
     ghost shown: { List ℕ }
-    requires { (shown ≡ _image.now) × HasParts shown parts.header.now parts.table.now parts.program.now parts.length }
+    requires { (shown ≡ _image.now) × PartsOf shown parts }
     ensures { OpensAs shown (length words.old) result }
 {
     OpenDisc::open(parts, words)
@@ -65,7 +65,7 @@ impl<'a> OpenDisc<'a> {
     /// Opens the image that has these parts, whichever it is, or says why not.
     pub fn open(parts: Parts<'a>, words: &'a mut [u32]) -> Result<Self, Refusal>
         ghost image: { List ℕ }
-        requires { HasParts image parts.header.now parts.table.now parts.program.now parts.length }
+        requires { PartsOf image parts }
         ensures { OpensAs image (length words.old) result }
     {
         check_table(parts, words.len())?;
@@ -165,7 +165,8 @@ impl<'a> OpenDisc<'a> {
         self.used_regions().max_region_size(offset, size)
     }
 
-    /// The largest free place for `size` bytes at a multiple of `align`, the last among equals; refuses 22, then 21.
+    /// The largest free place for `size` bytes at a multiple of `align`, the last among equals; refuses 22, then
+    /// 21.
     pub fn allocate(&self, size: u32, align: u32) -> Result<DiscRegion, Refusal>
         ensures { result ≡ allocationOf align size (free_of self.now) }
     {

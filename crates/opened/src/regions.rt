@@ -1,87 +1,124 @@
-// The used regions collected from the table: as in `opening`, which takes the table alone here already.
-ghost use Rattle.std.specs.Prelude.{◌+◌, ◌-◌, ◌*◌, ◌≤◌, ◌<◌, length};
+// The used regions collected from the table, which was accepted.
+ghost use Rattle.std.specs.Prelude.{◌≡◌, ◌+◌, ◌-◌, ◌*◌, ◌≤◌, ◌<◌, length};
+ghost use Rattle.tree.specs.Table.{count};
+ghost use Rattle.space.specs.Inner.Words.{Added};
 ghost use Rattle.opening.specs.Inner.Prepared.{AddedEntry, CollectedTo, CollectedUsed};
+ghost use Rattle.opened.specs.Inner.Collecting.{RegionOf, InTurn};
 
+use fst::Table;
 use space::DiscRegion;
 
-// Entry k's region, after the m that the words hold, unless it is empty.
-fn add_entry(table: &[u8], words: &mut [u32], m: usize, k: usize) -> usize
-    requires { (12 * k + 12 ≤ length table.now) × (2 * m + 2 ≤ length words.old) }
-    ensures { AddedEntry table.now k words.old words.new m result }
+// Where the bytes of entry k stand. A directory has none.
+fn region_of(table: &Table<'_>, k: usize) -> Option<DiscRegion>
+    requires { k < count table.now }
+    ensures { RegionOf table.now k result }
 {
-    if endian::read_u8(table, 12 * k) == 0 {
-        let offset = endian::read_u32(table, 12 * k + 4);
-        let size = endian::read_u32(table, 12 * k + 8);
-        return space::add_region(words, m, offset, size);
+    let bytes = table.bytes();
+    if table.is_directory(k) {
+        return None;
     }
-    m
+    Some(DiscRegion {
+        offset: endian::read_u32(bytes, 12 * k + 4),
+        size: endian::read_u32(bytes, 12 * k + 8),
+    })
 }
 
-// Adds the regions of the entries from `from` up to `to`, after the m that the words hold.
-fn collect_entries(table: &[u8], words: &mut [u32], m: usize, from: usize, to: usize) -> usize
-    requires { (from ≤ to) × (12 * to ≤ length table.now) × (2 * (m + (to - from)) ≤ length words.old) }
-    ensures { CollectedTo table.now from m words.old words.new to result }
-{
-    let mut n = m;
-    for k in from..to {
-        n = add_entry(table, words, n, k);
-    }
-    n
+// The regions collected so far, in front of the lent words.
+#[derive(Drop)]
+struct Collected<'a> {
+    words: &'a mut [u32],
+    count: usize,
 }
 
-// The first file from entry k on that is not empty, or `end`.
-fn next_file(table: &[u8], k: usize, end: usize) -> usize
-    requires { (k ≤ end) × (12 * end ≤ length table.now) }
-    ensures { (k ≤ result) × (result ≤ end) }
-{
-    for i in k..end {
-        if endian::read_u8(table, 12 * i) == 0 && endian::read_u32(table, 12 * i + 8) != 0 {
-            return i;
+impl Collected<'_> {
+    // Adds a region, unless it is empty.
+    fn add(&mut self, region: DiscRegion)
+        requires { 2 * self.old.count + 2 ≤ length self.old.words.now }
+        ensures added { Added self.old.words.now self.new.words.now self.old.count region.offset region.size self.new.count }
+        ensures long { length self.new.words.now ≡ length self.old.words.now }
+        ensures same_reference { self.new.words.ghost_name ≡ self.old.words.ghost_name }
+    {
+        self.count = space::add_region(self.words, self.count, region.offset, region.size);
+    }
+
+    // Adds the region of entry k, unless it is empty.
+    fn add_entry(&mut self, table: &Table<'_>, k: usize)
+        requires inside { k < count table.now }
+        requires room { 2 * self.old.count + 2 ≤ length self.old.words.now }
+        ensures added { AddedEntry table.now k self.old.words.now self.new.words.now self.old.count self.new.count }
+        ensures long { length self.new.words.now ≡ length self.old.words.now }
+        ensures same_reference { self.new.words.ghost_name ≡ self.old.words.ghost_name }
+    {
+        if let Some(region) = region_of(table, k) {
+            self.add(region);
         }
     }
-    end
+
+    // Adds the regions of the entries from `from` up to `to`.
+    fn add_entries(&mut self, table: &Table<'_>, from: usize, to: usize)
+        requires order { from ≤ to }
+        requires inside { to ≤ count table.now }
+        requires room { 2 * (self.old.count + (to - from)) ≤ length self.old.words.now }
+        ensures added { CollectedTo table.now from self.old.count self.old.words.now self.new.words.now to self.new.count }
+        ensures long { length self.new.words.now ≡ length self.old.words.now }
+        ensures same_reference { self.new.words.ghost_name ≡ self.old.words.ghost_name }
+    {
+        for k in from..to {
+            self.add_entry(table, k);
+        }
+    }
 }
 
-// The entry before which the program has its turn: where the files are in order, the first that lies behind it. Any turn is right; with this
-// one, what is in order without the program is in order with it, and no sort is needed.
+// The first file from entry k on, and before `end`, that is not empty: its number, and where it stands.
+fn next_file(table: &Table<'_>, k: usize, end: usize) -> Option<(usize, DiscRegion)>
+    requires { end ≤ count table.now }
+    ensures { InTurn k end result }
+{
+    for i in k..end {
+        if let Some(region) = region_of(table, i)
+            && region.size != 0
+        {
+            return Some((i, region));
+        }
+    }
+    None
+}
+
+// The entry before which the program has its turn: where the files are in order, the first that lies behind it. Any
+// turn is right; with this one, what is in order without the program is in order with it, and no sort is needed.
 // Kept: no `partition_point`, since directories and empty files lie between the files and have no place in the order.
-fn turn_of(table: &[u8], count: usize, program: DiscRegion) -> usize
-    requires { (0 < count) × (12 * count ≤ length table.now) }
-    ensures { (1 ≤ result) × (result ≤ count) }
+fn turn_of(table: &Table<'_>, program: DiscRegion) -> usize
+    ensures from { 1 ≤ result }
+    ensures to { result ≤ count table.now }
 {
     if program.size == 0 {
         return 1;
     }
     let mut low = 1;
-    let mut high = count;
+    let mut high = table.len();
     while low < high {
         let middle = low + (high - low) / 2;
-        let k = next_file(table, middle, high);
-        if k == high {
-            high = middle;
-        } else if endian::read_u32(table, 12 * k + 4) < program.offset {
-            low = k + 1;
-        } else {
-            high = middle;
+        match next_file(table, middle, high) {
+            Some((k, file)) if file.offset < program.offset => low = k + 1,
+            _ => high = middle,
         }
     }
     low
 }
 
 // The used regions: the bytes up to the table's end, each file that is not empty, and the program.
-pub fn collect(
-    table: &[u8],
-    words: &mut [u32],
-    count: usize,
-    table_end: u32,
-    program: DiscRegion,
-) -> usize
-    requires { (0 < count) × (12 * count ≤ length table.now) × (2 * (count + 1) ≤ length words.old) }
-    ensures { CollectedUsed table.now count table_end program words.new result }
+pub fn collect(table: &Table<'_>, words: &mut [u32], table_end: u32, program: DiscRegion) -> usize
+    requires { 2 * (count table.now + 1) ≤ length words.old }
+    ensures { CollectedUsed table.now (count table.now) table_end program words.new result }
 {
-    let turn = turn_of(table, count, program);
-    let m = space::add_region(words, 0, 0, table_end);
-    let early = collect_entries(table, words, m, 1, turn);
-    let n = space::add_region(words, early, program.offset, program.size);
-    collect_entries(table, words, n, turn, count)
+    let turn = turn_of(table, program);
+    let mut used = Collected { words, count: 0 };
+    used.add(DiscRegion {
+        offset: 0,
+        size: table_end,
+    });
+    used.add_entries(table, 1, turn);
+    used.add(program);
+    used.add_entries(table, turn, table.len());
+    used.count
 }

@@ -2,38 +2,56 @@
 ghost use Rattle.std.specs.Prelude.{◌≡◌, List, ℕ, Ok, length};
 ghost use Rattle.program.specs.Program.{program_of, programVerdict, programBehind};
 ghost use Rattle.opening.specs.Inner.Prepared.{verdictBefore24, Prepares};
-ghost use Rattle.opened.specs.Inner.Parts.{HasParts, own_as};
+ghost use Rattle.opened.specs.Inner.Parts.{PartsOf, own_as};
 
 use crate::Parts;
-use crate::bounds::{check_bounds, read_program};
 use crate::regions::collect;
+use fst::Table;
+use program::Program;
 use refusal::{Refusal, Verdict};
 use space::DiscRegion;
+
+// Kept: each contract names the image as a ghost, and says that these are its parts. The image is no function of them,
+// since of its other bytes they say nothing; so no type that holds the parts can say which image it is.
 
 // The tests 1 to 13.
 pub fn check_table(parts: Parts<'_>, words: usize) -> Verdict
     ghost image: { List ℕ }
-    requires { HasParts image parts.header.now parts.table.now parts.program.now parts.length }
+    requires { PartsOf image parts }
     ensures { result ≡ verdictBefore24 image words }
 {
-    check_bounds(parts.header, parts.length)?;
+    header::check_bounds_within(parts.header, parts.length)?;
     fst_check::check(parts.table, words)
+}
+
+// The program, whose header the image may not hold.
+fn read_program(parts: Parts<'_>) -> Program
+    ghost image: { List ℕ }
+    requires { PartsOf image parts }
+    ensures { result ≡ program_of image }
+{
+    let offset = header::dol_offset(parts.header);
+    if u64::from(offset) + 0xE4 <= parts.length {
+        program::read_at(offset, parts.program, 0)
+    } else {
+        program::read_at(offset, &[], 0)
+    }
 }
 
 // Test 24: the region that the program takes behind the table.
 pub fn check_program(parts: Parts<'_>) -> Result<DiscRegion, Refusal>
     ghost image: { List ℕ }
-    requires { HasParts image parts.header.now parts.table.now parts.program.now parts.length }
+    requires { PartsOf image parts }
     ensures { result ≡ own_as (program_of image) (programBehind image) }
 {
-    let program = read_program(parts.header, parts.program, parts.length)?;
-    Ok(program::own_region(program, header::fst_offset(parts.header)))
+    let program = read_program(parts)?;
+    Ok(program::own_region(Ok(program), header::fst_offset(parts.header)))
 }
 
 // Test 14, which leaves the used regions in order.
 pub fn check_used(parts: Parts<'_>, words: &mut [u32], own: DiscRegion) -> Result<usize, Refusal>
     ghost image: { List ℕ }
-    requires parts_of { HasParts image parts.header.now parts.table.now parts.program.now parts.length }
+    requires parts_of { PartsOf image parts }
     requires before { verdictBefore24 image (length words.old) ≡ (Ok tt) }
     requires accepted { programVerdict (program_of image) ≡ (Ok tt) }
     requires own { own ≡ programBehind image }
@@ -41,8 +59,9 @@ pub fn check_used(parts: Parts<'_>, words: &mut [u32], own: DiscRegion) -> Resul
 {
     let to = header::table_end(parts.header);
     let end = header::disc_end(parts.header) as u32;
-    let count = endian::read_u32(parts.table, 8) as usize;
-    let m = collect(parts.table, words, count, to as u32, own);
+    let table = Table::new(parts.table);
+    let count = table.len();
+    let m = collect(&table, words, to as u32, own);
     space_check::check(words, count + 2, m, end)?;
     Ok(m)
 }

@@ -6,31 +6,29 @@ use mathlib.Core.Path.{◌≡◌, sym, ap, ◌∙◌}
 use mathlib.Core.List.{List}
 use borrow.Author.Tests.{eq-eqb, ne_eqb}
 use Rattle.refusal.specs.declared.Refusal.{Refusal}
-use Rattle.header.specs.Verdicts.{dolOffset}
 use Rattle.dol.specs.Laws.Facts.{size-passed, size-refused}
-use Rattle.dol.specs.Dol.{dolVerdictOf, dolSizeOf}
-use Rattle.program.specs.Program.{Program, programFrom, programAs, program_of}
+use Rattle.dol.specs.Dol.{dolHeaderOf, fileSizeOf, dolVerdictOf, dolSizeOf}
+use Rattle.program.specs.Program.{Program, programAs}
+use Rattle.program.specs.Inner.Reading.{programAt}
 
--- ---- read
+module _ (bytes : List ℕ) (offset at : ℕ) where
+  pub no_program : offset ≡ 0 → Ok None ≡ programAt offset bytes at
+  unfolding programAt
+  no_program z = rw (eq-eqb offset 0 z)
 
-module _ (image : List ℕ) (at : ℕ) (here : at ≡ dolOffset image) where
-  pub no_program : at ≡ 0 → Ok None ≡ program_of image
-  unfolding program_of
-  no_program z = rw (← here, eq-eqb at 0 z)
-
-  module _ (some : at ≡ 0 → ⊥) where
-    by-verdict : (v : Verdict) → dolVerdictOf image at ≡ v → program_of image ≡ programAs v (programFrom image at)
-    unfolding program_of
-    by-verdict v e = rw (← here, ne_eqb at 0 some, e)
-
+  module _ (some : offset ≡ 0 → ⊥) where
     -- a program as long as n bytes
     abbrev as_long_as : ℕ → Program
-    as_long_as n = Ok (Some (record { offset = at; size = n }))
+    as_long_as n = Ok (Some (record { offset = offset; size = n }))
 
-    pub a_program : (m n : ℕ) → Ok m ≡ dolSizeOf image at → n ≡ max m 0xE4 → as_long_as n ≡ program_of image
+    by-verdict : (v : Verdict) → dolVerdictOf bytes at ≡ v → programAt offset bytes at ≡ programAs v (record { offset = offset; size = max (fileSizeOf (dolHeaderOf bytes at)) 0xE4 })
+    unfolding programAt
+    by-verdict v e = rw (ne_eqb offset 0 some, e)
+
+    pub a_program : (m n : ℕ) → Ok m ≡ dolSizeOf bytes at → n ≡ max m 0xE4 → as_long_as n ≡ programAt offset bytes at
     a_program m n e f =
-        let t = size-passed image at m (sym e) in
+        let t = size-passed bytes at m (sym e) in
         sym (by-verdict (Ok tt) t.0 ∙ ap as_long_as (ap (λ (x : ℕ). max x 0xE4) (sym t.1) ∙ sym f))
 
-    pub no_header : (c : Refusal) → Err c ≡ dolSizeOf image at → Err c ≡ program_of image
-    no_header c e = sym (by-verdict (Err c) (size-refused image at c (sym e)))
+    pub no_header : (c : Refusal) → Err c ≡ dolSizeOf bytes at → Err c ≡ programAt offset bytes at
+    no_header c e = sym (by-verdict (Err c) (size-refused bytes at c (sym e)))

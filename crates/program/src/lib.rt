@@ -1,8 +1,9 @@
 // The program that a nonzero DOL offset means, and what it takes of the space behind the table.
 #![tactic(auto)]
 
-ghost use Rattle.std.specs.Prelude.{◌≡◌, unwrap_or};
-ghost use Rattle.program.specs.Program.{program_of, nowhere, beforeTable, ownRegion};
+ghost use Rattle.std.specs.Prelude.{◌≡◌};
+ghost use Rattle.program.specs.Program.{program_of, place_of, beforeTable, ownRegion};
+ghost use Rattle.program.specs.Inner.Reading.{programAt};
 
 use refusal::Refusal;
 use space::DiscRegion;
@@ -11,18 +12,32 @@ use space::DiscRegion;
 pub type Program = Result<Option<DiscRegion>, Refusal>;
 
 // A region without a byte.
+// Kept: no `Option`, which is no plainer: the definitions have such a region (`nowhere`), and who adds it to the used
+// ones passes it over as an empty file's.
 const NOWHERE: DiscRegion = DiscRegion { offset: 0, size: 0 };
 
-/// Where the program lies: from the DOL offset on, as long as its file, and at least its header.
+/// The program at that DOL offset: none at 0; elsewhere from there on, as long as its file, and at least its header,
+/// which stands at `at` in the bytes.
+pub fn read_at(dol_offset: u32, bytes: &[u8], at: usize) -> Program
+    ensures { result ≡ programAt dol_offset bytes.now at }
+{
+    if dol_offset == 0 {
+        return Ok(None);
+    }
+    let size = dol::size(bytes, at)?.max(0xE4);
+    Ok(Some(DiscRegion {
+        offset: dol_offset,
+        size,
+    }))
+}
+
+/// The program of an image.
+#[tactic(auto, unfolding(crate::specs::Program::program_of, crate::specs::Inner::Reading::programAt))]
 pub fn read(image: &[u8]) -> Program
     ensures { result ≡ program_of image.now }
 {
     let offset = header::dol_offset(image);
-    if offset == 0 {
-        return Ok(None);
-    }
-    let size = dol::size(image, offset as usize)?.max(0xE4);
-    Ok(Some(DiscRegion { offset, size }))
+    read_at(offset, image, offset as usize)
 }
 
 // Whether the region lies wholly between the header and the table.
@@ -35,11 +50,11 @@ fn is_before_table(region: DiscRegion, fst_offset: u32) -> bool
 
 /// What the program uses besides the bytes up to the table's end: nothing where it lies before the table.
 #[tactic(auto, unfolding(crate::specs::Program::ownRegion))]
-pub fn own_region(program: Option<DiscRegion>, fst_offset: u32) -> DiscRegion
-    ensures { result ≡ ownRegion fst_offset (unwrap_or program nowhere) }
+pub fn own_region(program: Program, fst_offset: u32) -> DiscRegion
+    ensures { result ≡ ownRegion fst_offset (place_of program) }
 {
     match program {
-        Some(region) if !is_before_table(region, fst_offset) => region,
+        Ok(Some(region)) if !is_before_table(region, fst_offset) => region,
         _ => NOWHERE,
     }
 }

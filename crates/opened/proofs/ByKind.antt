@@ -1,0 +1,20 @@
+-- Where the bytes of an entry of an accepted table stand, by its kind. Assumes nothing.
+use Rattle.std.specs.Prelude.{ℕ, ◌<◌, ◌≡◌, Bool, true, false, not, eqb, List, get_or}
+use Rattle.std.proofs.Common.{sym, ◌∙◌, arith}
+use borrow.Author.Tests.{eqb-true, not-false, eq-eqb}
+use Rattle.tree.specs.Table.{none, count, kind, nodesOf}
+use Rattle.tree.specs.Lookup.{isDirectory}
+use Rattle.fst.specs.Inner.Held.{Held}
+use Rattle.fst.proofs.Nodes.{opened, is-directory}
+
+module _ (tab : List ℕ) (h : Held tab) (k : ℕ) (inside : k < count tab) (t : Bool) (e : t ≡ isDirectory (get_or (nodesOf tab) k none)) where
+  by-kind : not (eqb (kind tab k) 0) ≡ t
+  by-kind = is-directory (opened tab h.bytes h.opens) k inside ∙ sym e
+
+  pub of-directory : t ≡ true → kind tab k ≡ 0 → ⊥
+  of-directory f z =
+      let q : false ≡ true = rw (eq-eqb (kind tab k) 0 z) at (by-kind ∙ f) in
+      let w : ◌≡◌ {A = ℕ} 0 1 = cc in omega arith
+
+  pub of-file : t ≡ false → kind tab k ≡ 0
+  of-file f = eqb-true (kind tab k) 0 (not-false (eqb (kind tab k) 0) (by-kind ∙ f))
