@@ -1,4 +1,4 @@
--- The answers of the calls on the disc and its space (document 01: after opening "result list short 9 .. allocation 22, 21").
+-- The answers of the calls on the disc and its space: after opening, 9 where a result list is short; of an allocation 22, then 21.
 -- Assumes nothing: these are definitions.
 use Rattle.std.specs.Prelude.{Result, Ok, Err}
 use Rattle.answers.specs.declared.Disc.{Disc}
@@ -26,7 +26,7 @@ unfoldable pub totalsAnswer : List ℕ → ℕ → Result DiscTotals Refusal
 totalsAnswer image words =
     behind (opening image words) Err (Ok (record { disc_end = discEnd image; used = usedOf image }))
 
--- document 02, Point 6: "used bytes, the largest free region's size (0 if none) and accepted edits", worked out afresh of an image, after n edits
+-- used bytes, the largest free region's size (0 if none) and accepted edits, worked out afresh of an image, after n edits
 abbrev pub totalsOf : List ℕ → ℕ → Totals
 totalsOf image n = record { used = usedOf image; largest = largestSize (freeOf image); edits = n }
 
@@ -34,7 +34,7 @@ totalsOf image n = record { used = usedOf image; largest = largestSize (freeOf i
 unfoldable pub recordAnswer : List ℕ → ℕ → Result Totals Refusal
 recordAnswer image words = behind (opening image words) Err (Ok (totalsOf image 0))
 
--- document 02, Point 2: "a nonzero DOL offset means a program from there"; wherever it lies
+-- a nonzero DOL offset means a program from there, wherever it lies
 unfoldable pub programAnswer : List ℕ → ℕ → Program
 programAnswer image words = behind (opening image words) Err (program_of image)
 
@@ -52,7 +52,7 @@ freeRegionsAnswer image words room = freeAnswer regionRow image words room
 abbrev pub freeRegionsList : List ℕ → ℕ → List ℕ → List ℕ
 freeRegionsList image words list = freeList regionRow image words list
 
--- document 02, Point 1: "For each free region give the bytes before its first multiple of 0x8000, the whole clusters, and the exact rest"
+-- for each free region the bytes before its first multiple of 0x8000, the whole clusters, and the exact rest
 abbrev pub freeClustersAnswer : List ℕ → ℕ → ℕ → Result ℕ Refusal
 freeClustersAnswer image words room = freeAnswer clusterRow image words room
 

@@ -1,4 +1,5 @@
-// Opening an image, and every call that reads it. Each call opens the image anew, and leaves the working words zero.
+// Opening an image, and every call that reads it. Each call opens the image anew, and leaves the working words
+// zero.
 #![tactic(auto)]
 
 mod regions;

@@ -1,9 +1,12 @@
-// What an image's header and its regions say: opening, totals, the totals record, the program, free regions, clusters, the largest size of a region, allocation.
+// What an image's header and its regions say: opening, totals, the totals record, the program, free regions, clusters,
+// the largest size of a region, allocation.
 ghost use Rattle.std.specs.Prelude.{◌≡◌, List, ℕ, length};
 ghost use Rattle.opening.specs.Opening.{zeros};
 ghost use Rattle.opened.specs.Inner.Disc.{Means};
 ghost use Rattle.answers.specs.Answers.{maxRegionSizeAnswer};
-ghost use Rattle.disc.specs.Calls.{opened_of, totalsAnswer, totalsOf, recordAnswer, programAnswer, freeRegionsAnswer, freeRegionsList, freeClustersAnswer, freeClustersList, allocateAnswer};
+ghost use Rattle.disc.specs.Calls.{opened_of, totalsAnswer, totalsOf, recordAnswer, programAnswer};
+ghost use Rattle.disc.specs.Calls.{freeRegionsAnswer, freeRegionsList, freeClustersAnswer, freeClustersList};
+ghost use Rattle.disc.specs.Calls.{allocateAnswer};
 
 use crate::DiscTotals;
 use answers::Disc;
@@ -45,6 +48,8 @@ fn record_of(disc: &OpenDisc<'_>) -> Totals
     let disc_end = disc.end();
     let used = UsedRegions::new(disc.words, disc.used, disc_end);
     let table_end = disc.start() + disc.room();
+    // Kept: a region without bytes, which is no plainer as an `Option`: the definition of the largest size takes one
+    // where no file is edited.
     let none = DiscRegion { offset: 0, size: 0 };
     Totals {
         used: disc.used_size(),
@@ -73,7 +78,8 @@ pub fn program(image: &[u8], words: &mut [u32]) -> Program
     program::read(image)
 }
 
-/// The free regions, an offset and a size each, into `list`; how many there are. Refuses 9, with nothing written, if the list is short.
+/// The free regions, an offset and a size each, into `list`; how many there are. Refuses 9, with nothing written, if
+/// the list is short.
 pub fn free_regions(image: &[u8], words: &mut [u32], list: &mut [u32]) -> Result<usize, Refusal>
     ensures answer { result ≡ freeRegionsAnswer image.now (length words.old) (length list.old) }
     ensures list_after { list.new ≡ freeRegionsList image.now (length words.old) list.old }
@@ -84,8 +90,8 @@ pub fn free_regions(image: &[u8], words: &mut [u32], list: &mut [u32]) -> Result
     disc.used_regions().list_free::<2, DiscRegion>(list)
 }
 
-/// The free regions in clusters of 0x8000 bytes into `list`: the bytes before the first multiple, the clusters and the rest of each.
-/// Refuses 9, with nothing written, if the list is short.
+/// The free regions in clusters of 0x8000 bytes into `list`: the bytes before the first multiple, the clusters and the
+/// rest of each. Refuses 9, with nothing written, if the list is short.
 pub fn free_clusters(image: &[u8], words: &mut [u32], list: &mut [u32]) -> Result<usize, Refusal>
     ensures answer { result ≡ freeClustersAnswer image.now (length words.old) (length list.old) }
     ensures list_after { list.new ≡ freeClustersList image.now (length words.old) list.old }
@@ -111,8 +117,8 @@ pub fn max_region_size(
     Ok(disc.max_region_size(offset, size))
 }
 
-/// The largest free place for `size` bytes at a multiple of `align`, the last among equals. Refuses 22 for an `align` that is no power of
-/// two, 21 if there is no such place.
+/// The largest free place for `size` bytes at a multiple of `align`, the last among equals. Refuses 22 for an `align`
+/// that is no power of two, 21 if there is no such place.
 pub fn allocate(
     image: &[u8],
     words: &mut [u32],

@@ -1,4 +1,4 @@
--- The header as it is read, made and written, from document 01, "The header". Assumes nothing: these are definitions.
+-- The header as it is read, made and written. Assumes nothing: these are definitions.
 use Rattle.refusal.specs.Refusal.{Verdict, refuse}
 use Rattle.std.specs.Prelude.{ℕ, List, [], ◌∷◌, ltb, length, get_or, replicate, Result, Ok, Err}
 use Rattle.endian.specs.Bytes.{be32Bytes, put, span}
@@ -7,7 +7,7 @@ use Rattle.refusal.specs.declared.Refusal.TheVariants.{HeaderPastImage}
 use Rattle.header.specs.declared.Field.{Field}
 use Rattle.disc_header.specs.declared.DiscHeader.{DiscHeader}
 use Rattle.header.specs.Fields.{fields, gameCodeField, makerCodeField, discIdField, versionField, audioStreamingField, streamBufferSizeField, unused00aField, wiiMagicField, gcnMagicField, gameNameField, debugMonitorOffsetField, debugMonitorAddrField, unused408Field, dolOffsetField, fstOffsetField, fstSizeField, fstMaxSizeField, userPositionField, userSizeField, discSizeField, unused43cField}
-use Rattle.header.specs.Verdicts.{word_of, headerVerdict}
+use Rattle.header.specs.Verdicts.{gcnMagic, word_of, headerVerdict}
 
 -- the bytes of a field, and the number in a field of 1 byte
 abbrev pub bytes_of : Field → List ℕ → List ℕ
@@ -42,9 +42,9 @@ headerOf image = record {
   unused_43c = word_of unused43cField image;
 }
 
--- a header with this GameCube magic, and 0 in every other field
-unfoldable pub blank : ℕ → DiscHeader
-blank magic = record {
+-- a header with the GameCube magic, and 0 in every other field
+unfoldable pub blank : DiscHeader
+blank = record {
   game_code = replicate 4 0;
   maker_code = replicate 2 0;
   disc_id = 0;
@@ -53,7 +53,7 @@ blank magic = record {
   stream_buffer_size = 0;
   unused_00a = replicate 14 0;
   wii_magic = 0;
-  gcn_magic = magic;
+  gcn_magic = gcnMagic;
   game_name = replicate 0x3E0 0;
   debug_monitor_offset = 0;
   debug_monitor_addr = 0;

@@ -5,12 +5,12 @@ ghost use Rattle.std.specs.Prelude.{◌≡◌, ◌+◌, ◌≤◌, ◌<◌, leng
 ghost use Rattle.endian.specs.Bytes.{put, span};
 ghost use Rattle.disc_header.specs.Header.{headerOf, blank, headerRead, writeVerdict, headerWritten};
 ghost use Rattle.disc_header.specs.Inner.Writing.{put_some};
-ghost use Rattle.header.specs.Verdicts.{gcnMagic};
 
 use header::Field;
 use refusal::{Refusal, Verdict};
 
 /// The 21 fields of the header, numbers in the order of this machine.
+// Kept: arrays, since these fields have so many bytes on every disc, and nothing is allocated.
 #[derive(Clone, Copy, PartialEq, Eq, Debug)]
 pub struct DiscHeader {
     pub game_code: [u8; 4],
@@ -39,12 +39,10 @@ pub struct DiscHeader {
 impl DiscHeader {
     pub const GCN_MAGIC: u32 = header::GCN_MAGIC;
 
-    pub const WII_MAGIC: u32 = header::WII_MAGIC;
-
     /// A header of a GameCube disc, with every other field 0.
     #[tactic(auto, unfolding(crate::specs::Header::blank))]
     pub fn new() -> Self
-        ensures { result ≡ blank gcnMagic }
+        ensures { result ≡ blank }
     {
         DiscHeader {
             game_code: [0; 4],
@@ -71,8 +69,8 @@ impl DiscHeader {
         }
     }
 
-    /// The header of an image, refused as `header::check` refuses it. The game name, the word at 0x18 and the unused runs are
-    /// kept as they are.
+    /// The header of an image, refused as `header::check` refuses it. The game name, the word at 0x18 and the
+    /// unused runs are kept as they are.
     pub fn read_from(image: &[u8]) -> Result<DiscHeader, Refusal>
         ensures { result ≡ headerRead image.now }
     {
@@ -130,7 +128,8 @@ fn write_all(image: &mut [u8], at: usize, bytes: &[u8])
     endian::copy(bytes, 0, image, at, bytes.len());
 }
 
-// The header written in three parts: the fields up to the magics, those up to the DOL offset, and the words from there on.
+// The header written in three parts: the fields up to the magics, those up to the DOL offset, and the words from
+// there on.
 impl DiscHeader {
     fn write_codes(self, image: &mut [u8])
         requires { 0x440 ≤ length image.old }
@@ -175,7 +174,8 @@ impl DiscHeader {
         endian::write_u32(image, Field::UNUSED_43C.at, self.unused_43c);
     }
 
-    /// Writes every field at its place. An image too short for the header is refused (`HeaderPastImage`) and left as it was.
+    /// Writes every field at its place. An image too short for the header is refused (`HeaderPastImage`) and left
+    /// as it was.
     pub fn write_to(self, image: &mut [u8]) -> Verdict
         ensures { (result ≡ writeVerdict image.old) × (image.new ≡ headerWritten self image.old) }
     {

@@ -1,6 +1,6 @@
--- The DOL header, as document 01 has it: "DOL header, 0xE4 bytes: 7 text and 11 data offsets, then addresses, then sizes in that order,
--- BSS address, BSS size, entry point. File size: largest offset + size of the 18." Refused 24: "DOL header past the image, or a sum above
--- 2^32 - 1". Fields are big-endian, of 4 bytes. Assumes nothing: these are definitions.
+-- The DOL header, 0xE4 bytes: 7 text and 11 data offsets, then addresses, then sizes in that order, BSS address, BSS size, entry point, each a
+-- big-endian field of 4 bytes. The file size is the largest offset + size of the 18. Refused 24: a header that passes the image's end, or a sum
+-- above 2^32 - 1. Assumes nothing: these are definitions.
 use Rattle.refusal.specs.Refusal.{Verdict, refuse}
 use Rattle.refusal.specs.declared.Refusal.{Refusal}
 use Rattle.std.specs.Prelude.{ℕ, zero, suc, ◌+◌, ◌-◌, ◌^◌, max, List, [], ◌∷◌, ltb, length, replicate, Result, Ok, Err}

@@ -69,13 +69,15 @@ pub fn copy(source: &[u8], from: usize, s: &mut [u8], to: usize, n: usize)
 // How many bytes go at once where a span of one slice is copied within it.
 const PART: usize = 65536;
 
-// Part k of the n bytes, by way of an array, so it does not matter where the two spans lie. The compiler makes one
-// memmove of it, which a loop over one slice does not become.
+// Part k of the n bytes, by way of an array, so it does not matter where the two spans lie.
+// Kept: parts of a fixed size by way of an array, and a loop over them, since nothing is allocated, and the compiler
+// makes one memmove of each part; std's `copy_within` goes byte by byte.
 fn copy_part(s: &mut [u8], from: usize, to: usize, n: usize, k: usize)
     requires source { from + n ≤ length s.old }
     requires target { to + n ≤ length s.old }
     requires part { PART * k < n }
-    ensures { s.new ≡ put s.old (to + PART * k) (span s.old (from + PART * k) (min (n - PART * k) PART)) }
+    ensures { let start = PART * k in
+        s.new ≡ put s.old (to + start) (span s.old (from + start) (min (n - start) PART)) }
 {
     let start = PART * k;
     let len = (n - start).min(PART);

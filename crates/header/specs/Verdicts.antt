@@ -1,4 +1,4 @@
--- The header's refusals, 1 to 3 field by field, and 4, from document 01. Assumes nothing: these are definitions.
+-- The header's refusals: 1 to 3 as its fields are read in order, and 4 for the places that it gives. Assumes nothing: these are definitions.
 use Rattle.std.specs.Prelude.{Ok}
 use Rattle.refusal.specs.Refusal.{Verdict}
 use Rattle.std.specs.Prelude.{ℕ, ◌+◌, ◌-◌, ◌^◌, ◌&&◌, not, List, [], ◌∷◌, eqb, ltb, length}
@@ -46,7 +46,7 @@ fstOffset image = word_of fstOffsetField image
 abbrev pub fstSize : List ℕ → ℕ
 fstSize image = word_of fstSizeField image
 
--- document 02, Point 7: "sized by header field 0x42C. YAGCD names it the FST maximum."
+-- the most bytes that the table may have, which YAGCD names the FST maximum
 abbrev pub fstMaxSize : List ℕ → ℕ
 fstMaxSize image = word_of fstMaxSizeField image
 

@@ -3,3 +3,4 @@ pub mod Heads
 pub mod Opens
 pub mod Discs
 pub mod ByKind
+pub mod Fewer

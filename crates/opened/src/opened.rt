@@ -165,8 +165,7 @@ impl<'a> OpenDisc<'a> {
         self.used_regions().max_region_size(offset, size)
     }
 
-    /// The largest free place for `size` bytes at a multiple of `align`, the last among equals; refuses 22, then
-    /// 21.
+    /// The largest free place for `size` bytes at a multiple of `align`, the last among equals. Refuses 22, then 21.
     pub fn allocate(&self, size: u32, align: u32) -> Result<DiscRegion, Refusal>
         ensures { result ≡ allocationOf align size (free_of self.now) }
     {

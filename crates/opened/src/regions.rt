@@ -1,9 +1,8 @@
 // The used regions collected from the table, which was accepted.
 ghost use Rattle.std.specs.Prelude.{◌≡◌, ◌+◌, ◌-◌, ◌*◌, ◌≤◌, ◌<◌, length};
 ghost use Rattle.tree.specs.Table.{count};
-ghost use Rattle.space.specs.Inner.Words.{Added};
-ghost use Rattle.opening.specs.Inner.Prepared.{AddedEntry, CollectedTo, CollectedUsed};
-ghost use Rattle.opened.specs.Inner.Collecting.{RegionOf, InTurn};
+ghost use Rattle.opening.specs.Inner.Prepared.{CollectedUsed};
+ghost use Rattle.opened.specs.Inner.Collecting.{RegionOf, InTurn, AddsRegion, AddsEntry, AddsEntries};
 
 use fst::Table;
 use space::DiscRegion;
@@ -34,7 +33,7 @@ impl Collected<'_> {
     // Adds a region, unless it is empty.
     fn add(&mut self, region: DiscRegion)
         requires { 2 * self.old.count + 2 ≤ length self.old.words.now }
-        ensures added { Added self.old.words.now self.new.words.now self.old.count region.offset region.size self.new.count }
+        ensures added { AddsRegion self.old self.new region }
         ensures long { length self.new.words.now ≡ length self.old.words.now }
         ensures same_reference { self.new.words.ghost_name ≡ self.old.words.ghost_name }
     {
@@ -45,7 +44,7 @@ impl Collected<'_> {
     fn add_entry(&mut self, table: &Table<'_>, k: usize)
         requires inside { k < count table.now }
         requires room { 2 * self.old.count + 2 ≤ length self.old.words.now }
-        ensures added { AddedEntry table.now k self.old.words.now self.new.words.now self.old.count self.new.count }
+        ensures added { AddsEntry self.old self.new table.now k }
         ensures long { length self.new.words.now ≡ length self.old.words.now }
         ensures same_reference { self.new.words.ghost_name ≡ self.old.words.ghost_name }
     {
@@ -55,11 +54,12 @@ impl Collected<'_> {
     }
 
     // Adds the regions of the entries from `from` up to `to`.
+    // Kept: over numbers, since the table gives its entries by their numbers.
     fn add_entries(&mut self, table: &Table<'_>, from: usize, to: usize)
         requires order { from ≤ to }
         requires inside { to ≤ count table.now }
         requires room { 2 * (self.old.count + (to - from)) ≤ length self.old.words.now }
-        ensures added { CollectedTo table.now from self.old.count self.old.words.now self.new.words.now to self.new.count }
+        ensures added { AddsEntries self.old self.new table.now from to }
         ensures long { length self.new.words.now ≡ length self.old.words.now }
         ensures same_reference { self.new.words.ghost_name ≡ self.old.words.ghost_name }
     {
@@ -70,6 +70,7 @@ impl Collected<'_> {
 }
 
 // The first file from entry k on, and before `end`, that is not empty: its number, and where it stands.
+// Kept: over numbers, since the table gives its entries by their numbers.
 fn next_file(table: &Table<'_>, k: usize, end: usize) -> Option<(usize, DiscRegion)>
     requires { end ≤ count table.now }
     ensures { InTurn k end result }
@@ -91,6 +92,7 @@ fn turn_of(table: &Table<'_>, program: DiscRegion) -> usize
     ensures from { 1 ≤ result }
     ensures to { result ≤ count table.now }
 {
+    // Kept: a region without bytes for none, as the definitions have it, which is passed over where it has its turn.
     if program.size == 0 {
         return 1;
     }

@@ -11,8 +11,8 @@ use program::Program;
 use refusal::{Refusal, Verdict};
 use space::DiscRegion;
 
-// Kept: each contract names the image as a ghost, and says that these are its parts. The image is no function of them,
-// since of its other bytes they say nothing; so no type that holds the parts can say which image it is.
+// Kept: each contract names the image as a ghost, and says that these are its parts. They say nothing of its other
+// bytes, so that the image is no function of them, and no type that holds them can say which image it is.
 
 // The tests 1 to 13.
 pub fn check_table(parts: Parts<'_>, words: usize) -> Verdict

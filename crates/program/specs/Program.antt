@@ -1,6 +1,6 @@
--- The program (document 02, Point 2): "From now a nonzero DOL offset means a program from there, as long as the DOL's file size and at least
--- 0xE4. It must lie wholly between 0x440 and the FST offset, as part of the used bytes 0 up to the table end, or wholly from the table end on,
--- as a used region of its own; otherwise, or where it overlaps a file or passes the disc end, 14. At opening 24 now comes just before 14."
+-- The program: a nonzero DOL offset means one from there, as long as the DOL's file size and at least 0xE4. It must lie wholly between 0x440 and
+-- the FST offset, as part of the used bytes 0 up to the table end, or wholly from the table end on, as a used region of its own; otherwise, or
+-- where it overlaps a file or passes the disc end, 14. A header that is refused is refused 24, just before 14.
 -- Assumes nothing: these are definitions.
 use Rattle.refusal.specs.declared.Refusal.{Refusal}
 use Rattle.refusal.specs.Refusal.{Verdict}

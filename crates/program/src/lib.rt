@@ -12,12 +12,12 @@ use space::DiscRegion;
 pub type Program = Result<Option<DiscRegion>, Refusal>;
 
 // A region without a byte.
-// Kept: no `Option`, which is no plainer: the definitions have such a region (`nowhere`), and who adds it to the used
-// ones passes it over as an empty file's.
+// Kept: no `Option`, which is no plainer: the definitions have such a region (`nowhere`), and it is passed over
+// among the used ones, as an empty file's is.
 const NOWHERE: DiscRegion = DiscRegion { offset: 0, size: 0 };
 
-/// The program at that DOL offset: none at 0; elsewhere from there on, as long as its file, and at least its header,
-/// which stands at `at` in the bytes.
+/// The program at that DOL offset: none at 0; elsewhere from there on, as long as its file, and at least its
+/// header, which stands at `at` in the bytes.
 pub fn read_at(dol_offset: u32, bytes: &[u8], at: usize) -> Program
     ensures { result ≡ programAt dol_offset bytes.now at }
 {
