@@ -1,17 +1,19 @@
 // An accepted file table as a type. Contracts see its bytes.
 ghost use Rattle.std.specs.Prelude.{◌≡◌, ◌+◌, ◌≤◌, ◌<◌, ◌^◌, length, get_or};
 ghost use Rattle.tree.specs.Table as table_of;
-ghost use Rattle.tree.specs.Table.{none, nodesOf, parent_of, namePlace};
+ghost use Rattle.tree.specs.Table.{none, nodesOf, name_of, parent_of, namePlace, offsetOrParent, sizeOrNext};
 ghost use Rattle.tree.specs.Lookup.{isDirectory, next_of, entry_of, entryFound};
 ghost use Rattle.fst_check.specs.Inner.Reading.{Opens};
 ghost use Rattle.fst_text.specs.Inner.Texts.{textAt};
 ghost use Rattle.fst.specs.Inner.Held.{Held};
 
+use crate::text;
 use refusal::Refusal;
 use std::marker::Model;
 use tree::{DirectoryEntry, Entry, FileEntry, Found};
 
 /// A file table that the checks accepted, so that its entries stand in it and nest, and each name ends in it.
+// Kept: no table is compared with another, so that derived equality would serve no one.
 #[derive(Drop)]
 pub struct Table<'a> {
     pub(crate) bytes: &'a [u8],
@@ -64,6 +66,22 @@ impl<'a> Table<'a> {
         table[12 * k] != 0
     }
 
+    /// A file's offset; of a directory the parent that is stored, which nothing has tested.
+    pub fn offset_or_parent(&self, k: usize) -> u32
+        requires { k < table_of.count self.now }
+        ensures { result ≡ offsetOrParent self.now k }
+    {
+        endian::read_u32(self.bytes, 12 * k + 4)
+    }
+
+    /// A file's size, or a directory's next.
+    pub fn size_or_next(&self, k: usize) -> u32
+        requires { k < table_of.count self.now }
+        ensures { result ≡ sizeOrNext self.now k }
+    {
+        endian::read_u32(self.bytes, 12 * k + 8)
+    }
+
     /// A directory's next, the number of the entry after its last one; 0 for a file.
     pub fn next(&self, k: usize) -> usize
         requires { k < table_of.count self.now }
@@ -73,7 +91,7 @@ impl<'a> Table<'a> {
         if table[12 * k] == 0 {
             return 0;
         }
-        endian::read_u32(table, 12 * k + 8) as usize
+        self.size_or_next(k) as usize
     }
 
     /// Where the name of entry `k`, which is not the root, stands in the table.
@@ -87,6 +105,19 @@ impl<'a> Table<'a> {
     {
         let table = self.bytes;
         12 * self.len() + endian::read_u24(table, 12 * k + 1) as usize
+    }
+
+    /// The name of entry `k`; the root has none.
+    pub fn name(&self, k: usize) -> &'a [u8]
+        requires { k < table_of.count self.now }
+        ensures { result.now ≡ name_of (get_or (nodesOf self.now) k none) }
+    {
+        let table = self.bytes;
+        if k == 0 {
+            return &[];
+        }
+        let place = self.name_place(k);
+        &table[place..place + text::text_length(table, place)]
     }
 
     /// The directory that entry `k` is nested in: the last one before it whose next is past it. The stored parent is not read.
@@ -109,16 +140,15 @@ impl<'a> Table<'a> {
         ensures { result ≡ entry_of (nodesOf self.now) k }
     {
         let table = self.bytes;
-        let last = endian::read_u32(table, 12 * k + 8);
         if table[12 * k] == 0 {
             Entry::File(FileEntry {
-                offset: endian::read_u32(table, 12 * k + 4),
-                size: last,
+                offset: self.offset_or_parent(k),
+                size: self.size_or_next(k),
             })
         } else {
             Entry::Directory(DirectoryEntry {
                 parent: self.parent(k) as u32,
-                next: last,
+                next: self.size_or_next(k),
             })
         }
     }
