@@ -1,10 +1,11 @@
 // An accepted file table as a type. Contracts see its bytes.
 ghost use Rattle.std.specs.Prelude.{◌≡◌, ◌+◌, ◌≤◌, ◌<◌, ◌^◌, length, get_or};
 ghost use Rattle.tree.specs.Table as table_of;
-ghost use Rattle.tree.specs.Table.{none, nodesOf, name_of, parent_of, namePlace, offsetOrParent, sizeOrNext};
+ghost use Rattle.tree.specs.Table.{none, nodesOf, name_of, parent_of, namePlace, sizeOrNext};
 ghost use Rattle.tree.specs.Lookup.{isDirectory, next_of, entry_of, entryFound};
 ghost use Rattle.fst_check.specs.Inner.Reading.{Opens};
 ghost use Rattle.fst_text.specs.Inner.Texts.{textAt};
+ghost use Rattle.fst.specs.Inner.Fields.{offset_of, last_of};
 ghost use Rattle.fst.specs.Inner.Held.{Held};
 
 use crate::text;
@@ -66,18 +67,23 @@ impl<'a> Table<'a> {
         table[12 * k] != 0
     }
 
-    /// A file's offset; of a directory the parent that is stored, which nothing has tested.
-    pub fn offset_or_parent(&self, k: usize) -> u32
+    /// A file's offset; 0 for a directory.
+    pub fn offset(&self, k: usize) -> u32
         requires { k < table_of.count self.now }
-        ensures { result ≡ offsetOrParent self.now k }
+        ensures { result ≡ offset_of (get_or (nodesOf self.now) k none) }
     {
-        endian::read_u32(self.bytes, 12 * k + 4)
+        let table = self.bytes;
+        if table[12 * k] != 0 {
+            return 0;
+        }
+        endian::read_u32(table, 12 * k + 4)
     }
 
-    /// A file's size, or a directory's next.
-    pub fn size_or_next(&self, k: usize) -> u32
+    /// The last field of an entry: a file's size, a directory's next.
+    pub fn last(&self, k: usize) -> u32
         requires { k < table_of.count self.now }
-        ensures { result ≡ sizeOrNext self.now k }
+        ensures stored { result ≡ sizeOrNext self.now k }
+        ensures last { result ≡ last_of (get_or (nodesOf self.now) k none) }
     {
         endian::read_u32(self.bytes, 12 * k + 8)
     }
@@ -91,7 +97,7 @@ impl<'a> Table<'a> {
         if table[12 * k] == 0 {
             return 0;
         }
-        self.size_or_next(k) as usize
+        self.last(k) as usize
     }
 
     /// Where the name of entry `k`, which is not the root, stands in the table.
@@ -140,15 +146,16 @@ impl<'a> Table<'a> {
         ensures { result ≡ entry_of (nodesOf self.now) k }
     {
         let table = self.bytes;
+        let last = self.last(k);
         if table[12 * k] == 0 {
             Entry::File(FileEntry {
-                offset: self.offset_or_parent(k),
-                size: self.size_or_next(k),
+                offset: self.offset(k),
+                size: last,
             })
         } else {
             Entry::Directory(DirectoryEntry {
                 parent: self.parent(k) as u32,
-                next: self.size_or_next(k),
+                next: last,
             })
         }
     }
