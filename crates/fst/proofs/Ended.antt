@@ -1,10 +1,10 @@
 -- The names of an accepted table as texts of it: each has its zero byte in the table. Assumes nothing.
-use Prim.Native.Nat.{ℕ, ◌+◌, ◌<◌}
-use mathlib.Core.Path.{◌≡◌}
-use mathlib.Core.List.{List}
+use Prim.Native.Nat.{ℕ, zero, suc, ◌+◌, ◌-◌, ◌<◌}
+use mathlib.Core.Path.{◌≡◌, refl, sym, ap, ◌∙◌}
+use mathlib.Core.List.{List, [], ◌∷◌}
 use native.Mathlib.Omega.{arith}
-use lib.ListN.{length, get_or}
-use Rattle.tree.specs.Table.{none, count, name_of, name_at, nodesOf, namePlace}
+use lib.ListN.{length, get_or, take, drop}
+use Rattle.tree.specs.Table.{none, count, name_of, name_at, nodesOf, namePlace, upTo0}
 use Rattle.tree.specs.Laws.Accepted.{Accepted}
 use Rattle.fst_text.specs.Inner.Texts.{textAt}
 use Rattle.fst_check.proofs.Walking.{count-some}
@@ -22,3 +22,17 @@ name-ended {tab} a k h l = rw (place_is tab k (λ e. omega arith)) (a.names k h 
 -- it does not stand at the table's start, where the root is
 pub place-some : (tab : List ℕ) (k : ℕ) → 0 < k → 0 < namePlace tab k
 place-some tab k h = rw (place_is tab k (λ e. omega arith)) (omega (arith, count-some tab))
+
+-- as many bytes as it has are the text
+text-taken : (s : List ℕ) → take (length (upTo0 s)) s ≡ upTo0 s
+text-taken [] = refl
+text-taken (zero ∷ s) = refl
+text-taken (suc b ∷ s) = ap (λ (t : List ℕ). suc b ∷ t) (text-taken s)
+
+-- the bytes of the table from the name's place on, as many as its text has
+pub name-cut : (tab : List ℕ) (k place n : ℕ) → 0 < k → k < count tab → place ≡ namePlace tab k → n ≡ length (textAt tab place)
+    → take (place + n - place) (drop place tab) ≡ name_of (get_or (nodesOf tab) k none)
+name-cut tab k place n h l p e =
+    let m : place + n - place ≡ length (upTo0 (drop place tab)) = omega (arith, e) in
+    let f : name_of (get_or (nodesOf tab) k none) ≡ textAt tab place = rw p (name-there tab k h l) in
+    rw m (text-taken (drop place tab) ∙ sym f)

@@ -17,6 +17,7 @@ use Rattle.tree.specs.Laws.WellNested.{root_is}
 use Rattle.tree.specs.Laws.Nesting.{parent-here, parent-lower, parent-before}
 use Rattle.fst_check.specs.Inner.Reading.{Inside, Opens}
 use Rattle.fst_text.specs.Inner.Texts.{textAt}
+use Rattle.fst.specs.Inner.Fields.{last_of}
 use Rattle.fst.specs.Inner.Held.{Held}
 use Rattle.fst_check.proofs.Walking.{node-file, node-directory, node-name, entries-inside, count-some}
 
@@ -55,6 +56,14 @@ module _ {tab : List ℕ} {words : ℕ} (a : Accepted tab words) (k : ℕ) (insi
       go : (t : Bool) → eqb (kind tab k) 0 ≡ t → not t ≡ isDirectory (get_or (nodesOf tab) k none)
       go true e = rw (file-is (eqb-true _ _ e))
       go false e = rw (directory-is (eqb-false _ _ e))
+
+-- the last field is that of the record
+pub last-is : {tab : List ℕ} {words : ℕ} → Accepted tab words → (k : ℕ) → k < count tab → {n : ℕ} → n ≡ sizeOrNext tab k → n ≡ last_of (get_or (nodesOf tab) k none)
+last-is {tab} a k h {n} e = go (eqb (kind tab k) 0) refl
+  where
+    go : (t : Bool) → eqb (kind tab k) 0 ≡ t → n ≡ last_of (get_or (nodesOf tab) k none)
+    go true q = e ∙ sym (ap last_of (file-is a k h (eqb-true _ _ q)))
+    go false q = e ∙ sym (ap last_of (directory-is a k h (eqb-false _ _ q)))
 
 -- an entry is inside a directory exactly if it is below its next
 pub encloses-next : (x : Node) (k : ℕ) → encloses x k ≡ ltb k (next_of x)

@@ -1,4 +1,5 @@
 -- Definitions that only inner contracts need.
 pub mod After
+pub mod Fields
 pub mod Held
 pub mod Zeros

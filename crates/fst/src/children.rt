@@ -15,8 +15,10 @@ use refusal::Refusal;
 // Whether the text at `place` has the bytes of `name`. The text at `differs` has not, unless this is 0, and is not compared again, since
 // entries can share a long text.
 fn has_name(table: &[u8], place: usize, differs: usize, name: &[u8]) -> bool
-    requires place_nonzero { (0 < place) × (place ≤ length table.now) × (hasZero name.now ≡ false) }
-    requires name_value { 0 < differs → sameBytes (textAt table.now differs) name.now ≡ false }
+    requires behind_root { 0 < place }
+    requires inside { place ≤ length table.now }
+    requires no_zero { hasZero name.now ≡ false }
+    requires unlike { 0 < differs → sameBytes (textAt table.now differs) name.now ≡ false }
     ensures { result ≡ sameBytes (textAt table.now place) name.now }
 {
     place != differs && text::text_is(table, place, name)
@@ -46,6 +48,7 @@ impl<'a> Table<'a> {
     {
         let table = self.bytes;
         let stop = self.next(d);
+        // Kept: nothing allocates, so that there is a place for each of the 32 pieces that texts can have.
         let mut differs = [0usize; 32];
         let mut k = d + 1;
         while k < stop {

@@ -1,17 +1,20 @@
 // An accepted file table as a type. Contracts see its bytes.
 ghost use Rattle.std.specs.Prelude.{◌≡◌, ◌+◌, ◌≤◌, ◌<◌, ◌^◌, length, get_or};
 ghost use Rattle.tree.specs.Table as table_of;
-ghost use Rattle.tree.specs.Table.{none, nodesOf, parent_of, namePlace};
+ghost use Rattle.tree.specs.Table.{none, nodesOf, name_of, parent_of, namePlace, sizeOrNext};
 ghost use Rattle.tree.specs.Lookup.{isDirectory, next_of, entry_of, entryFound};
 ghost use Rattle.fst_check.specs.Inner.Reading.{Opens};
 ghost use Rattle.fst_text.specs.Inner.Texts.{textAt};
+ghost use Rattle.fst.specs.Inner.Fields.{offset_of, last_of};
 ghost use Rattle.fst.specs.Inner.Held.{Held};
 
+use crate::text;
 use refusal::Refusal;
 use std::marker::Model;
 use tree::{DirectoryEntry, Entry, FileEntry, Found};
 
 /// A file table that the checks accepted, so that its entries stand in it and nest, and each name ends in it.
+// Kept: no table is compared with another, so that derived equality would serve no one.
 #[derive(Drop)]
 pub struct Table<'a> {
     pub(crate) bytes: &'a [u8],
@@ -64,6 +67,27 @@ impl<'a> Table<'a> {
         table[12 * k] != 0
     }
 
+    /// A file's offset; 0 for a directory.
+    pub fn offset(&self, k: usize) -> u32
+        requires { k < table_of.count self.now }
+        ensures { result ≡ offset_of (get_or (nodesOf self.now) k none) }
+    {
+        let table = self.bytes;
+        if table[12 * k] != 0 {
+            return 0;
+        }
+        endian::read_u32(table, 12 * k + 4)
+    }
+
+    /// The last field of an entry: a file's size, a directory's next.
+    pub fn last(&self, k: usize) -> u32
+        requires { k < table_of.count self.now }
+        ensures stored { result ≡ sizeOrNext self.now k }
+        ensures last { result ≡ last_of (get_or (nodesOf self.now) k none) }
+    {
+        endian::read_u32(self.bytes, 12 * k + 8)
+    }
+
     /// A directory's next, the number of the entry after its last one; 0 for a file.
     pub fn next(&self, k: usize) -> usize
         requires { k < table_of.count self.now }
@@ -73,7 +97,7 @@ impl<'a> Table<'a> {
         if table[12 * k] == 0 {
             return 0;
         }
-        endian::read_u32(table, 12 * k + 8) as usize
+        self.last(k) as usize
     }
 
     /// Where the name of entry `k`, which is not the root, stands in the table.
@@ -87,6 +111,19 @@ impl<'a> Table<'a> {
     {
         let table = self.bytes;
         12 * self.len() + endian::read_u24(table, 12 * k + 1) as usize
+    }
+
+    /// The name of entry `k`; the root has none.
+    pub fn name(&self, k: usize) -> &'a [u8]
+        requires { k < table_of.count self.now }
+        ensures { result.now ≡ name_of (get_or (nodesOf self.now) k none) }
+    {
+        let table = self.bytes;
+        if k == 0 {
+            return &[];
+        }
+        let place = self.name_place(k);
+        &table[place..place + text::text_length(table, place)]
     }
 
     /// The directory that entry `k` is nested in: the last one before it whose next is past it. The stored parent is not read.
@@ -109,10 +146,10 @@ impl<'a> Table<'a> {
         ensures { result ≡ entry_of (nodesOf self.now) k }
     {
         let table = self.bytes;
-        let last = endian::read_u32(table, 12 * k + 8);
+        let last = self.last(k);
         if table[12 * k] == 0 {
             Entry::File(FileEntry {
-                offset: endian::read_u32(table, 12 * k + 4),
+                offset: self.offset(k),
                 size: last,
             })
         } else {

@@ -5,8 +5,10 @@ ghost use Rattle.fst_text.specs.Inner.Texts.{textAt};
 ghost use Rattle.fst.specs.Inner.Zeros.{hasZero};
 
 // Whether the text at `at` has the bytes of `name`. One byte tells a text of another length apart.
+// Kept: it answers a question that stands in a condition, and refuses nothing.
 pub fn text_is(table: &[u8], at: usize, name: &[u8]) -> bool
-    requires { (at ≤ length table.now) × (hasZero name.now ≡ false) }
+    requires inside { at ≤ length table.now }
+    requires no_zero { hasZero name.now ≡ false }
     ensures { result ≡ sameBytes (textAt table.now at) name.now }
 {
     let n = name.len();

@@ -34,8 +34,10 @@ fn entry_verdict(table: &[u8], k: usize) -> Verdict
 }
 
 // Each entry after the root in turn.
+// Kept: the loop goes over the entries' numbers, which place their records in the bytes; `chunks_exact` would hide the entry that is cut off.
 fn entries_verdict(table: &[u8], count: usize) -> Verdict
-    requires { (1 ≤ count) × (count ≤ 16384) }
+    requires root { 1 ≤ count }
+    requires few { count ≤ 16384 }
     ensures { result ≡ entriesVerdict table.now 1 (count - 1) }
 {
     for k in 1..count {
@@ -96,7 +98,8 @@ impl<'a> Entries<'a> {
     // unit. Elsewhere only a name that is refused, and so ends the walk, is looked at to its end.
     fn name_verdict(&self, texts: &mut Survey<'_>, k: usize) -> Verdict
         requires within { k < self.now.count }
-        requires texts_of { (texts.old.table ≡ self.now.table.now) × (texts.old.base ≡ 12 * self.now.count) }
+        requires same_table { texts.old.table ≡ self.now.table.now }
+        requires behind_entries { texts.old.base ≡ 12 * self.now.count }
         ensures verdict { result ≡ nameVerdict self.now.table.now self.now.count k (name_at self.now.table.now self.now.count (nameOffset self.now.table.now k)) }
         ensures same { texts.new ≡ texts.old }
     {
@@ -138,7 +141,8 @@ impl<'a> Entries<'a> {
     // Entry k of the walk: its name, then its next.
     fn node_verdict(&self, texts: &mut Survey<'_>, dirs: &Stack, k: usize) -> Verdict
         requires within { k < self.now.count }
-        requires texts_of { (texts.old.table ≡ self.now.table.now) × (texts.old.base ≡ 12 * self.now.count) }
+        requires same_table { texts.old.table ≡ self.now.table.now }
+        requires behind_entries { texts.old.base ≡ 12 * self.now.count }
         ensures verdict { result ≡ nodeVerdict self.now.table.now self.now.count dirs.now k }
         ensures same { texts.new ≡ texts.old }
     {
@@ -158,6 +162,7 @@ impl<'a> Entries<'a> {
     }
 
     // The walk over the entries after the root.
+    // Kept: the number of an entry is what the directories that end are told by, and what its record is read at.
     fn walk(&self) -> Verdict
         ensures { result ≡ table_of.walk self.now.table.now self.now.count (self.now.count ∷ []) 1 (nodesFrom self.now.table.now self.now.count 1 (self.now.count - 1)) }
     {
@@ -173,6 +178,7 @@ impl<'a> Entries<'a> {
     }
 
     // Whether texts stand after the entries, and the last has no zero byte at its end.
+    // Kept: it answers a question that the one test asks; the refusal stands there, in the order of the tests.
     fn unended(&self) -> bool
         ensures { result ≡ table_of.unended self.now.table.now self.now.count }
     {

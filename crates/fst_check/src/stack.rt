@@ -5,6 +5,7 @@ ghost use Rattle.tree.specs.Table as table_of;
 use std::marker::Model;
 
 /// A stack of at most 65 numbers. Contracts see the list of them, the top one first.
+// Kept: nothing allocates, so that the words are an array with how many count; derived equality would compare those that no longer count.
 #[derive(Drop)]
 pub struct Stack {
     words: [u32; 65],
@@ -33,22 +34,22 @@ impl Stack {
         }
     }
 
-    /// How many there are.
-    pub fn len(&self) -> usize
+    // How many there are.
+    pub(crate) fn len(&self) -> usize
         ensures { result ≡ length self.now }
     {
         self.depth
     }
 
-    /// Whether there is none.
-    pub fn is_empty(&self) -> bool
+    // Whether there is none.
+    pub(crate) fn is_empty(&self) -> bool
         ensures { result ≡ eqb (length self.now) 0 }
     {
         self.depth == 0
     }
 
-    /// The one on top; 0 where there is none.
-    pub fn top(&self) -> u32
+    // The one on top; 0 where there is none.
+    pub(crate) fn top(&self) -> u32
         ensures { result ≡ table_of.top self.now }
     {
         if self.depth == 0 {

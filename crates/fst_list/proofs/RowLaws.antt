@@ -12,13 +12,13 @@ use lib.Seq.{get_or-append-add, take-append_seam, drop-append-add, drop-drop}
 use Rattle.endian.specs.Bytes.{put}
 use Rattle.endian.specs.Laws.Stored.{length-put, put-sets, put_in, put-none}
 use Rattle.refusal.specs.Laws.Tests.{lt-or-le}
-use Rattle.tree.specs.Table.{Node, file, directory, name_of, none, count, kind, offsetOrParent, sizeOrNext, nodesOf, encloses, parentBelow, parent_of}
-use Rattle.tree.specs.Lookup.{next_of}
-use Rattle.tree.specs.Laws.Accepted.{Accepted}
+use Rattle.tree.specs.Table.{Node, file, directory, name_of, none, count, nodesOf, encloses, parentBelow, parent_of}
+use Rattle.tree.specs.Lookup.{isDirectory, next_of}
 use Rattle.tree.specs.Laws.Nesting.{parent-here, parent-lower, parent-before}
 use Rattle.fst_list.specs.Rows.{rowWith, imagePlace, row_of, rowsBelow, listed}
 use Rattle.fst_list.specs.Inner.ParentsIn.{ParentsIn}
-use Rattle.fst.proofs.Nodes.{encloses-next, parent-whole, file-is, directory-is}
+use Rattle.fst.specs.Inner.Fields.{offset_of, last_of}
+use Rattle.fst.proofs.Nodes.{encloses-next, parent-whole}
 use Rattle.fst.proofs.ChildLaws.{parent-last}
 
 -- ---- six words stored
@@ -35,21 +35,24 @@ stores-6 s at a b c d e f h =
 
 -- ---- a row by the entry's kind
 
-module _ {tab : List ℕ} {words : ℕ} (a : Accepted tab words) (base k : ℕ) (inside : k < count tab) where
-  pub row-file : kind tab k ≡ 0 →
-      row_of base tab k ≡ 0 ∷ parent_of (nodesOf tab) k ∷ offsetOrParent tab k ∷ sizeOrNext tab k ∷ imagePlace base tab k ∷ length (name_of (get_or (nodesOf tab) k none)) ∷ []
-  unfolding row_of
-  row-file e = rw (file-is a k inside e)
+with-file : (parent place : ℕ) (x : Node) → isDirectory x ≡ false → rowWith parent place x ≡ 0 ∷ parent ∷ offset_of x ∷ last_of x ∷ place ∷ length (name_of x) ∷ []
+with-file parent place (file nm offset size) d = refl
+with-file parent place (directory nm next) d = let z : ◌≡◌ {A = ℕ} 0 1 = cc in absurd (omega arith)
 
-  pub row-directory : (kind tab k ≡ 0 → ⊥) →
-      row_of base tab k ≡ 1 ∷ parent_of (nodesOf tab) k ∷ 0 ∷ sizeOrNext tab k ∷ imagePlace base tab k ∷ length (name_of (get_or (nodesOf tab) k none)) ∷ []
+with-directory : (parent place : ℕ) (x : Node) → isDirectory x ≡ true → rowWith parent place x ≡ 1 ∷ parent ∷ 0 ∷ last_of x ∷ place ∷ length (name_of x) ∷ []
+with-directory parent place (file nm offset size) d = let z : ◌≡◌ {A = ℕ} 0 1 = cc in absurd (omega arith)
+with-directory parent place (directory nm next) d = refl
+
+module _ (base : ℕ) (tab : List ℕ) (k : ℕ) where
+  pub row-file : isDirectory (get_or (nodesOf tab) k none) ≡ false →
+      row_of base tab k ≡ 0 ∷ parent_of (nodesOf tab) k ∷ offset_of (get_or (nodesOf tab) k none) ∷ last_of (get_or (nodesOf tab) k none) ∷ imagePlace base tab k ∷ length (name_of (get_or (nodesOf tab) k none)) ∷ []
   unfolding row_of
-  row-directory e = go (get_or (nodesOf tab) k none) (directory-is a k inside e)
-    where
-      go : (x : Node) → x ≡ directory (name_of x) (sizeOrNext tab k) →
-          rowWith (parent_of (nodesOf tab) k) (imagePlace base tab k) x ≡ 1 ∷ parent_of (nodesOf tab) k ∷ 0 ∷ sizeOrNext tab k ∷ imagePlace base tab k ∷ length (name_of x) ∷ []
-      go (file nm offset size) q = let z : ◌≡◌ {A = ℕ} 0 1 = cc in absurd (omega arith)
-      go (directory nm next) q = let n : next ≡ sizeOrNext tab k = cc in rw n
+  row-file d = with-file (parent_of (nodesOf tab) k) (imagePlace base tab k) (get_or (nodesOf tab) k none) d
+
+  pub row-directory : isDirectory (get_or (nodesOf tab) k none) ≡ true →
+      row_of base tab k ≡ 1 ∷ parent_of (nodesOf tab) k ∷ 0 ∷ last_of (get_or (nodesOf tab) k none) ∷ imagePlace base tab k ∷ length (name_of (get_or (nodesOf tab) k none)) ∷ []
+  unfolding row_of
+  row-directory d = with-directory (parent_of (nodesOf tab) k) (imagePlace base tab k) (get_or (nodesOf tab) k none) d
 
 -- ---- rows one behind the other
 

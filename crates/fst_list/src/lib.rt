@@ -13,21 +13,11 @@ ghost use Rattle.fst_list.specs.Inner.Ends.{EndsIn};
 use fst::Table;
 use refusal::{Refusal, Verdict};
 
-// Where the name of entry k stands in an image that has the table at `base`; the root has none.
-fn image_place(table: &Table<'_>, base: u32, k: usize) -> u32
-    requires within { k < table_of.count table.now }
-    requires fits { base + length table.now < 2 ^ 32 }
-    ensures { result ≡ imagePlace base table.now k }
-{
-    if k == 0 {
-        return 0;
-    }
-    base + table.name_place(k) as u32
-}
-
 // The length of the text at `at`, where the text at `stop` behind it ends at `end`.
 fn length_before(table: &[u8], at: usize, stop: usize, end: usize) -> usize
-    requires { (at + length (textAt table.now at) < length table.now) × (at ≤ stop) × (end ≡ stop + length (textAt table.now stop)) }
+    requires inside { at + length (textAt table.now at) < length table.now }
+    requires before { at ≤ stop }
+    requires ends { end ≡ stop + length (textAt table.now stop) }
     ensures { result ≡ length (textAt table.now at) }
 {
     for i in at..stop {
@@ -42,14 +32,15 @@ fn length_before(table: &[u8], at: usize, stop: usize, end: usize) -> usize
 // tells it of the next ones. So many names that share a long text cost 4,096 bytes each, and the text a few times.
 #[derive(Drop)]
 struct Ends<'a> {
-    table: &'a [u8],
+    table: &'a Table<'a>,
+    // Kept: nothing allocates, so that there is a number for each 4,096 bytes of the longest table.
     ends: [u32; 320],
     ghost small: { length table.now < 2 ^ 32 },
     ghost ends_in: { EndsIn table.now ends },
 }
 
 impl<'a> Ends<'a> {
-    fn new(table: &'a [u8]) -> Self
+    fn new(table: &'a Table<'a>) -> Self
         requires { length table.now < 2 ^ 32 }
         ensures { result.table.now ≡ table.now }
     {
@@ -65,15 +56,16 @@ impl<'a> Ends<'a> {
         ensures value { result ≡ length (textAt self.old.table.now at) }
         ensures table { self.new.table ≡ self.old.table }
     {
+        let bytes = self.table.bytes();
         let next = at / 4096 + 1;
         if 320 <= next {
-            return fst::text_length(self.table, at);
+            return fst::text_length(bytes, at);
         }
         let end = self.ends[next] as usize;
         if 0 < end {
-            return length_before(self.table, at, 4096 * next, end);
+            return length_before(bytes, at, 4096 * next, end);
         }
-        let size = fst::text_length(self.table, at);
+        let size = fst::text_length(bytes, at);
         if 4096 < size {
             self.ends[next] = (at + size) as u32;
         }
@@ -81,42 +73,21 @@ impl<'a> Ends<'a> {
     }
 
     // The length of the name of entry k; the root has none.
-    fn name_length(&mut self, table: &Table<'_>, k: usize) -> usize
-        requires same { self.old.table.now ≡ table.now }
-        requires within { k < table_of.count table.now }
-        ensures value { result ≡ length (name_of (get_or (nodesOf table.now) k none)) }
+    fn name_length(&mut self, k: usize) -> usize
+        requires { k < table_of.count self.old.table.now }
+        ensures value { result ≡ length (name_of (get_or (nodesOf self.old.table.now) k none)) }
         ensures short { result ≤ 2 ^ 20 }
         ensures table { self.new.table ≡ self.old.table }
     {
         if k == 0 {
             return 0;
         }
-        self.text_length(table.name_place(k))
+        self.text_length(self.table.name_place(k))
     }
 }
 
-// The directory that entry k is nested in: the entry before it, or one of those that this one is nested in, which the list has.
-// Kept: `while`, which counts no index: it climbs from parent to parent; `successors` would have the same step, as a closure.
-fn parent_in(table: &Table<'_>, list: &[u32], k: usize) -> usize
-    requires within { (k < table_of.count table.now) × (6 * table_of.count table.now ≤ length list.now) }
-    requires parents_in { ParentsIn table.now k list.now }
-    ensures parent { result ≡ parent_of (nodesOf table.now) k }
-    ensures before { result ≤ k }
-{
-    if k == 0 {
-        return 0;
-    }
-    let mut p = k - 1;
-    while 0 < p {
-        if k < table.next(p) {
-            return p;
-        }
-        p = list[6 * p + 1] as usize;
-    }
-    0
-}
-
-// What the list has of an entry.
+// What the list has of an entry, in the order of its six words.
+// Kept: the list that is lent has words, and says 0 for a file and 1 for a directory.
 #[derive(Clone, Copy)]
 struct Row {
     kind: u32,
@@ -127,65 +98,110 @@ struct Row {
     size: u32,
 }
 
-// The six words of entry k.
-fn write_row(list: &mut [u32], k: usize, row: Row)
-    requires { (6 * k + 6 ≤ length list.old) × (k < 2 ^ 32) }
-    ensures { list.new ≡ put list.old (6 * k) (row.kind ∷ row.parent ∷ row.offset ∷ row.last ∷ row.place ∷ row.size ∷ []) }
-{
-    list[6 * k] = row.kind;
-    list[6 * k + 1] = row.parent;
-    list[6 * k + 2] = row.offset;
-    list[6 * k + 3] = row.last;
-    list[6 * k + 4] = row.place;
-    list[6 * k + 5] = row.size;
-}
-
-// What the list has of entry k, which is nested in `parent` and whose name has `size` bytes.
-fn read_row(table: &Table<'_>, base: u32, k: usize, parent: u32, size: u32) -> Row
-    requires within { k < table_of.count table.now }
-    requires fits { base + length table.now < 2 ^ 32 }
-    requires parent { parent ≡ parent_of (nodesOf table.now) k }
-    requires size { size ≡ length (name_of (get_or (nodesOf table.now) k none)) }
-    ensures { row_of base table.now k ≡ result.kind ∷ result.parent ∷ result.offset ∷ result.last ∷ result.place ∷ result.size ∷ [] }
-{
-    let place = image_place(table, base, k);
-    let bytes = table.bytes();
-    let last = endian::read_u32(bytes, 12 * k + 8);
-    if bytes[12 * k] == 0 {
-        Row {
-            kind: 0,
-            parent,
-            offset: endian::read_u32(bytes, 12 * k + 4),
-            last,
-            place,
-            size,
-        }
-    } else {
-        Row {
-            kind: 1,
-            parent,
-            offset: 0,
-            last,
-            place,
-            size,
-        }
+impl Row {
+    // The six words of entry k.
+    fn write(self, list: &mut [u32], k: usize)
+        requires { 6 * k + 6 ≤ length list.old }
+        ensures { list.new ≡ put list.old (6 * k) (self.kind ∷ self.parent ∷ self.offset ∷ self.last ∷ self.place ∷ self.size ∷ []) }
+    {
+        list[6 * k] = self.kind;
+        list[6 * k + 1] = self.parent;
+        list[6 * k + 2] = self.offset;
+        list[6 * k + 3] = self.last;
+        list[6 * k + 4] = self.place;
+        list[6 * k + 5] = self.size;
     }
 }
 
-// Adds entry k, whose name has `size` bytes, to the entries below it.
-fn add_entry(table: &Table<'_>, base: u32, list: &mut [u32], k: usize, size: u32)
-    requires within { (k < table_of.count table.now) × (6 * table_of.count table.now ≤ length list.old) × (k < 2 ^ 32) }
-    requires fits { base + length table.now < 2 ^ 32 }
-    requires parents_in { ParentsIn table.now k list.old }
-    requires size { size ≡ length (name_of (get_or (nodesOf table.now) k none)) }
-    ensures { list.new ≡ put list.old (6 * k) (row_of base table.now k) }
-{
-    let parent = parent_in(table, list, k) as u32;
-    write_row(list, k, read_row(table, base, k, parent, size));
+// The rows of a table that stands at `base` in an image.
+#[derive(Drop)]
+struct Rows<'a> {
+    table: &'a Table<'a>,
+    base: u32,
+    ghost fits: { base + length table.now < 2 ^ 32 },
+}
+
+impl Rows<'_> {
+    // Where the name of entry k stands in the image; the root has none.
+    fn image_place(&self, k: usize) -> u32
+        requires { k < table_of.count self.now.table.now }
+        ensures { result ≡ imagePlace self.now.base self.now.table.now k }
+    {
+        if k == 0 {
+            return 0;
+        }
+        self.base + self.table.name_place(k) as u32
+    }
+
+    // The directory that entry k is nested in: the entry before it, or one of those that this one is nested in, which the list has.
+    // Kept: `while`, which counts no index: it climbs from parent to parent; `successors` would have the same step, as a closure.
+    fn parent_in(&self, list: &[u32], k: usize) -> usize
+        requires within { k < table_of.count self.now.table.now }
+        requires room { 6 * table_of.count self.now.table.now ≤ length list.now }
+        requires parents_in { ParentsIn self.now.table.now k list.now }
+        ensures parent { result ≡ parent_of (nodesOf self.now.table.now) k }
+        ensures before { result ≤ k }
+    {
+        if k == 0 {
+            return 0;
+        }
+        let mut p = k - 1;
+        while 0 < p {
+            if k < self.table.next(p) {
+                return p;
+            }
+            p = list[6 * p + 1] as usize;
+        }
+        0
+    }
+
+    // The row of entry k, which is nested in `parent` and whose name has `size` bytes.
+    fn read(&self, k: usize, parent: u32, size: u32) -> Row
+        requires within { k < table_of.count self.now.table.now }
+        requires parent { parent ≡ parent_of (nodesOf self.now.table.now) k }
+        requires size { size ≡ length (name_of (get_or (nodesOf self.now.table.now) k none)) }
+        ensures { row_of self.now.base self.now.table.now k ≡ result.kind ∷ result.parent ∷ result.offset ∷ result.last ∷ result.place ∷ result.size ∷ [] }
+    {
+        let place = self.image_place(k);
+        let last = self.table.last(k);
+        if self.table.is_directory(k) {
+            Row {
+                kind: 1,
+                parent,
+                offset: 0,
+                last,
+                place,
+                size,
+            }
+        } else {
+            Row {
+                kind: 0,
+                parent,
+                offset: self.table.offset(k),
+                last,
+                place,
+                size,
+            }
+        }
+    }
+
+    // Adds entry k, whose name has `size` bytes, to the entries below it.
+    fn add(&self, list: &mut [u32], k: usize, size: u32)
+        requires within { k < table_of.count self.now.table.now }
+        requires few { k < 2 ^ 32 }
+        requires room { 6 * table_of.count self.now.table.now ≤ length list.old }
+        requires parents_in { ParentsIn self.now.table.now k list.old }
+        requires size { size ≡ length (name_of (get_or (nodesOf self.now.table.now) k none)) }
+        ensures { list.new ≡ put list.old (6 * k) (row_of self.now.base self.now.table.now k) }
+    {
+        let parent = self.parent_in(list, k) as u32;
+        self.read(k, parent, size).write(list, k);
+    }
 }
 
 /// All entries, six words each: kind (0 file, 1 directory), the directory it is nested in, offset (0 for a directory), size or next, and where its
 /// name stands in the image, which has the table at `base`, and how long it is. A list that is too short stays as it is: `LimitOrMemory`.
+// Kept: the loop goes over the entries' numbers, by which table and list are asked.
 pub fn list_entries(table: &Table<'_>, base: u32, list: &mut [u32]) -> Verdict
     requires { base + length table.now < 2 ^ 32 }
     ensures value { result ≡ listVerdict table.now (length list.old) }
@@ -195,10 +211,11 @@ pub fn list_entries(table: &Table<'_>, base: u32, list: &mut [u32]) -> Verdict
     if list.len() < 6 * count {
         return Err(Refusal::LimitOrMemory);
     }
-    let mut ends = Ends::new(table.bytes());
+    let rows = Rows { table, base };
+    let mut ends = Ends::new(table);
     for k in 0..count {
-        let size = ends.name_length(table, k);
-        add_entry(table, base, list, k, size as u32);
+        let size = ends.name_length(k);
+        rows.add(list, k, size as u32);
     }
     Ok(())
 }

@@ -1,5 +1,5 @@
--- The listing of an image: its text (document 01, "A small master": "The listing program reads up to 65,536 bytes from standard input
--- (more: 9), .. and prints lines"), and what the two calls answer. Assumes nothing: these are definitions.
+-- The listing of an image: its text (the listing program reads up to 65,536 bytes from standard input, refuses more with 9, and prints the
+-- lines), and what the two calls answer. Assumes nothing: these are definitions.
 use Rattle.std.specs.Prelude.{Result, Ok, Err}
 use Rattle.refusal.specs.Refusal.{Verdict}
 use Rattle.std.specs.Prelude.{ℕ, cond, List, [], ◌∷◌, ◌++◌, ltb, length}

@@ -1,6 +1,6 @@
--- The lines of a listing (document 01, "A small master": "prints lines, each ended by a line feed: disc end and used total; entries in table
--- order, a directory with number, the parent it is nested in (root 0), next and path ending in `/`, a file with number, offset, size, path;
--- free regions with offset, size, in base ten"). Assumes nothing: these are definitions.
+-- The lines of a listing, each ended by a line feed: disc end and used total; the entries in table order, a directory with its number, the
+-- parent it is nested in (root 0), its next and its path, which ends in `/`, a file with number, offset, size and path; the free regions with
+-- offset and size; all numbers in base ten. Assumes nothing: these are definitions.
 use Rattle.std.specs.Prelude.{ℕ, zero, suc, cond, List, [], ◌∷◌, ◌++◌, eqb, get_or}
 use Rattle.tree.specs.Table.{Node, file, directory, name_of, none, parent_of}
 use Rattle.space.specs.declared.DiscRegion.{DiscRegion}

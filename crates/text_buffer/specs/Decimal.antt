@@ -1,4 +1,4 @@
--- A number in a line (document 01, "A small master": ".. in base ten"). Assumes nothing: these are definitions.
+-- A number in a line of a listing: in base ten, without leading zeros. Assumes nothing: these are definitions.
 use Rattle.std.specs.Prelude.{ℕ, zero, suc, ◌+◌, ◌/◌, ◌%◌, cond, List, [], ◌∷◌, ◌++◌, ltb}
 
 -- the digits of n, where f of them are enough

@@ -32,15 +32,6 @@ impl<'a> TextBuffer<'a> {
         TextBuffer { bytes, len: 0 }
     }
 
-    /// The text that stands in the first `len` bytes.
-    pub fn behind(bytes: &'a mut [u8], len: usize) -> TextBuffer<'a>
-        ensures bytes { result.bytes.now ≡ bytes.old }
-        ensures len { result.len ≡ len }
-        ensures same_reference { result.bytes.ghost_name ≡ bytes.entry.ghost_name }
-    {
-        TextBuffer { bytes, len }
-    }
-
     /// One byte more.
     pub fn push(&mut self, byte: u8)
         ensures { Appends self.old self.new (byte ∷ []) }

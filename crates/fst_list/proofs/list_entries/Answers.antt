@@ -1,7 +1,7 @@
 -- `fst_list::list_entries` meets its contract. The invariant of its loop: the rows of the entries below k stand in the list, and the ends that are kept are of this table.
 use native.Mathlib.Omega.{arith}
 use Prim.Native.Nat.{◌*◌, ◌≤◌}
-use mathlib.Core.Path.{◌≡◌, ◌∙◌}
+use mathlib.Core.Path.{◌≡◌}
 use mathlib.Core.Bool.{true}
 use borrow.Author.Tests.{lt-ltb, le-ltb}
 use lib.ListN.{length}
@@ -22,11 +22,11 @@ returns-then-list-count c =
 pub loop-k-init : goal.loop-k-init
 loop-k-init c = record {
   rows = listing_start c.args.base c.args.table.now c.args.list.now;
-  same = c.new-ends.ensures ∙ c.bytes.ensures.bytes;
+  same = c.new-ends.ensures;
 }
 
-pub add_entry-requires-clause-parents_in : goal.add_entry-requires-clause-parents_in
-add_entry-requires-clause-parents_in c =
+pub add-requires-clause-parents_in : goal.add-requires-clause-parents_in
+add-requires-clause-parents_in c =
     let T = c.args.table.now in
     let L = c.args.list.now in
     let r : 6 * tab.count T ≤ length L = omega (arith, c.len-count.ensures.len, c.if-list-count.false) in
@@ -38,7 +38,7 @@ loop-k-preserved c =
     let L = c.args.list.now in
     let r : 6 * tab.count T ≤ length L = omega (arith, c.len-count.ensures.len, c.if-list-count.false) in
     record {
-      rows = listing-turn c.args.base T L c.loop-k.list c.loop-k.k r c.loop-k.invariant.rows (omega (arith, c.len-count.ensures.len, c.loop-k-test.true)) _ c.add_entry.ensures;
+      rows = listing-turn c.args.base T L c.loop-k.list c.loop-k.k r c.loop-k.invariant.rows (omega (arith, c.len-count.ensures.len, c.loop-k-test.true)) _ c.add.ensures;
       same = rw c.name_length-size.ensures.table c.loop-k.invariant.same;
     }
 

@@ -4,4 +4,4 @@ use Rattle.fst_list.proofs.RowLaws.{Listing}
 use Rattle.fst_list.proofs.list_entries.Given as goal
 
 abbrev pub invariant-loop-k : goal.invariant-loop-k
-invariant-loop-k l = record { rows : Listing l.base l.table l.initial.list l.list l.k; same : l.ends.table.now ≡ l.table }
+invariant-loop-k l = record { rows : Listing l.base l.fn.table l.initial.list l.list l.k; same : l.ends.table.now ≡ l.fn.table }

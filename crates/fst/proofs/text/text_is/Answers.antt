@@ -16,4 +16,4 @@ returns-then-byte_at-ne0 c =
 pub returns : goal.returns
 returns c =
     c.same.ensures
-    ∙ sym (text-exact c.args.table.now c.args.name.now c.args.at c.requires.1 (omega (arith, c.if-table-at.false)) (sym c.byte_at.ensures ∙ c.if-byte_at-ne0.false))
+    ∙ sym (text-exact c.args.table.now c.args.name.now c.args.at c.requires.no_zero (omega (arith, c.if-table-at.false)) (sym c.byte_at.ensures ∙ c.if-byte_at-ne0.false))

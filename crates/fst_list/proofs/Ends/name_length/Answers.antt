@@ -14,9 +14,9 @@ returns-then-k-eq0-clause-value c = search (root-name, rules)
 
 pub returns-clause-value : goal.returns-clause-value
 returns-clause-value c =
-    let T = c.args.table.now in
-    let n : name_of (get_or (nodesOf T) c.args.k none) ≡ textAt T (namePlace T c.args.k) = name-there T c.args.k (omega arith) c.requires.within in
-    rw n (rw (c.requires.same, c.name_place.ensures.place) at c.text_length.ensures.value)
+    let T = c.args.self.now.table.now in
+    let n : name_of (get_or (nodesOf T) c.args.k none) ≡ textAt T (namePlace T c.args.k) = name-there T c.args.k (omega arith) c.requires in
+    rw n (rw c.name_place.ensures.place at c.text_length.ensures.value)
 
 pub returns-clause-short : goal.returns-clause-short
-returns-clause-short c = omega (arith, rw c.requires.same at c.text_length.ensures.value, c.name_place.ensures.short)
+returns-clause-short c = omega (arith, c.text_length.ensures.value, c.name_place.ensures.short)

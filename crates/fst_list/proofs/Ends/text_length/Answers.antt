@@ -8,7 +8,7 @@ use Rattle.fst_list.proofs.Ends.text_length.Goals as goal
 
 pub invariant_of-self : goal.invariant_of-self
 invariant_of-self c =
-    let e = c.text_length-size.ensures in
+    let e = rw c.bytes-bytes.ensures.bytes at c.text_length-size.ensures in
     let s = c.args.self.now in
     record {
       small = s.small;

@@ -31,14 +31,18 @@ loop-k-init c =
       unlike = unlike-start T c.args.name.now;
     }
 
-pub has_name-requires-clause-place_nonzero : goal.has_name-requires-clause-place_nonzero
-has_name-requires-clause-place_nonzero c =
+pub has_name-requires-clause-behind_root : goal.has_name-requires-clause-behind_root
+has_name-requires-clause-behind_root c =
+    omega (arith, c.name_place-place.ensures.place, place-some c.args.self.now c.loop-k.k (omega (arith, c.loop-k.invariant.search.later)))
+
+pub has_name-requires-clause-inside : goal.has_name-requires-clause-inside
+has_name-requires-clause-inside c =
     let T = c.args.self.now in
     let k = c.loop-k.k in
     let a = held (rw c.self.view_is at c.self.invariant) in
     let b = c.loop-k.invariant in
     let p : c.name_place-place.result < length T = omega (arith, c.name_place-place.ensures.place, place_inside a k (omega (arith, b.search.later)) (omega (arith, b.within))) in
-    (omega (arith, c.name_place-place.ensures.place, place-some T k (omega (arith, b.search.later))), rw c.self.view_is (omega (arith, p)), c.requires.no_zero)
+    rw c.self.view_is (omega (arith, p))
 
 pub returns-then-has_name : goal.returns-then-has_name
 returns-then-has_name c =
@@ -47,13 +51,13 @@ returns-then-has_name c =
     let l = c.loop-k in
     let w = (held (rw c.self.view_is at c.self.invariant)).well in
     let e = named T nm l.k c.name_place-place.result c.has_name.result (omega (arith, l.invariant.search.later)) (omega (arith, l.invariant.within)) c.name_place-place.ensures.place (rw c.self.view_is at c.has_name.ensures) in
-    sym (search-found (nodesOf T) c.args.d nm c.next-stop.result w (rw (← length-nodesOf T) at c.requires.within) c.next-stop.ensures l.k l.invariant.search c.loop-k-test.true (e ∙ c.if-has_name.true))
+    sym (search-found (nodesOf T) c.args.d nm c.next-stop.result w (rw (← length-nodesOf T) at c.requires.within) c.next-stop.ensures l.k l.invariant.search (omega (arith, c.loop-k-test.true, l.invariant.search.later)) (e ∙ c.if-has_name.true))
 
 pub loop-k-smaller : goal.loop-k-smaller
 loop-k-smaller c =
     let T = c.args.self.now in
     let w = (held (rw c.self.view_is at c.self.invariant)).well in
-    omega (arith, c.after-k.ensures, c.loop-k-test.true, after-past (nodesOf T) c.loop-k.k w (rw (length-nodesOf T) (omega (arith, c.loop-k.invariant.within))))
+    omega (arith, c.after-k.ensures, c.loop-k-test.true, c.loop-k.invariant.search.later, after-past (nodesOf T) c.loop-k.k w (rw (length-nodesOf T) (omega (arith, c.loop-k.invariant.within))))
 
 pub loop-k-preserved : goal.loop-k-preserved
 loop-k-preserved c =
@@ -67,7 +71,7 @@ loop-k-preserved c =
     record {
       within = l.invariant.within;
       search =
-          rw c.after-k.ensures (search-turn (nodesOf T) c.args.d nm c.next-stop.result w (rw (← length-nodesOf T) at c.requires.within) c.next-stop.ensures l.k l.invariant.search c.loop-k-test.true (e ∙ c.if-has_name.false));
+          rw c.after-k.ensures (search-turn (nodesOf T) c.args.d nm c.next-stop.result w (rw (← length-nodesOf T) at c.requires.within) c.next-stop.ensures l.k l.invariant.search (omega (arith, c.loop-k-test.true, l.invariant.search.later)) (e ∙ c.if-has_name.false));
       unlike = unlike-turn T nm l.differs (p.result / 65536 % 32) p.result l.invariant.unlike (omega arith) (sym h ∙ c.if-has_name.false);
     }
 

@@ -12,4 +12,4 @@ returns-then-table-k-eq0 c =
 pub returns : goal.returns
 returns c =
     let h = c.self.invariant in
-    rw (← c.self.view_is) (c.read_u32.ensures ∙ sym (ap next_of (directory-is (opened c.self.inside.bytes.now h.bytes h.opens) c.args.k (rw c.self.view_is c.requires) c.if-table-k-eq0.false)))
+    rw (← c.self.view_is) ((rw (← c.self.view_is) at c.last.ensures.stored) ∙ sym (ap next_of (directory-is (opened c.self.inside.bytes.now h.bytes h.opens) c.args.k (rw c.self.view_is c.requires) c.if-table-k-eq0.false)))

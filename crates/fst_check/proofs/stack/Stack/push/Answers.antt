@@ -13,7 +13,7 @@ bounds-self-inside-self-inside c =
 pub invariant_of-self : goal.invariant_of-self
 invariant_of-self c =
     let s = c.self.inside in
-    record { long = length-set s.words s.depth c.args.number ∙ c.self.invariant.long; fits = omega (arith, ap length c.self.view_is, length-open s.words s.depth, c.requires) }
+    record { long = length-set _ _ _ ∙ c.self.invariant.long; fits = omega (arith, ap length c.self.view_is, length-open s.words s.depth, c.requires) }
 
 pub returns : goal.returns
 returns c =

@@ -1,11 +1,11 @@
--- `fst_list::write_row` meets its contract: six stores, one behind the other.
+-- `Row::write` meets its contract: six stores, one behind the other.
 use native.Mathlib.Omega.{arith}
 use Prim.Native.Nat.{◌*◌}
 use Rattle.fst_list.proofs.RowLaws.{stores-6}
-use Rattle.fst_list.proofs.write_row.Goals as goal
+use Rattle.fst_list.proofs.Row.write.Goals as goal
 
 pub returns : goal.returns
 returns c =
     let a = c.args in
-    let r = a.row in
+    let r = a.self in
     stores-6 a.list.now (6 * a.k) r.kind r.parent r.offset r.last r.place r.size (omega arith)

@@ -1,0 +1,13 @@
+-- The fields of an entry's record that its kind gives a meaning. Assumes nothing: these are definitions.
+use Rattle.std.specs.Prelude.{ℕ}
+use Rattle.tree.specs.Table.{Node, file, directory}
+
+-- a file's offset; a directory has none
+abbrev pub offset_of : Node → ℕ
+offset_of (file nm offset size) = offset
+offset_of (directory nm next) = 0
+
+-- the last field: a file's size, a directory's next
+abbrev pub last_of : Node → ℕ
+last_of (file nm offset size) = size
+last_of (directory nm next) = next
