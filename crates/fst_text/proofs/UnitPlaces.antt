@@ -1,15 +1,15 @@
 -- The places of a text's units: the bytes of those that are left tell where they stand. Assumes nothing.
-use Prim.Native.Nat.{ℕ, zero, suc, ◌+◌, ◌-◌, ◌<◌, ◌≤◌, min}
+use Prim.Native.Nat.{ℕ, suc, ◌+◌, ◌-◌, ◌<◌, ◌≤◌}
 use mathlib.Core.Path.{◌≡◌, refl, sym, ap, ◌∙◌}
 use mathlib.Core.Logic.{◌⊎◌, inl, inr, ⊎_elim}
-use mathlib.Core.Bool.{Bool, true, false, true≢false}
+use mathlib.Core.Bool.{Bool, true, false}
 use mathlib.Core.List.{List, [], ◌∷◌, ◌++◌, tail}
 use native.Mathlib.Omega.{arith}
 use lib.ListN.{length, get_or, drop, length-drop}
 use Rattle.refusal.specs.Laws.Tests.{lt-or-le}
-use Rattle.tree.specs.Units.{leadByte, trailByte, TextUnit, single, pair, unitBytes, units}
+use Rattle.tree.specs.Units.{TextUnit, single, pair, unitBytes, units}
 use Rattle.tree.specs.Inner.Pairs.{pair_at}
-use Rattle.tree.specs.Laws.UnitLaws.{by_units, units-pair, units-single, units-none, pair_inside}
+use Rattle.tree.specs.Laws.UnitLaws.{by_units, units-pair, units-single, units-none}
 
 -- ---- the bytes of units
 

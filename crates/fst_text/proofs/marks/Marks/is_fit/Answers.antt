@@ -1,9 +1,8 @@
 -- `Marks::is_fit` meets its contract. The invariant of its loop: the units that are left stand before the block's end, and if the text is fit from
 -- there, so is the whole.
-use Rattle.std.proofs.Common.{sym, ◌∙◌, refl, ◌+◌, ◌-◌, ◌*◌, ◌/◌, length, List, ℕ}
-use native.Mathlib.Omega.{arith}
+use Rattle.std.proofs.Common.{sym, ◌∙◌, refl, ◌+◌, ◌-◌, ◌*◌, ◌/◌, ℕ}
 use Rattle.fst_text.specs.Inner.Read.{unit_of}
-use Rattle.fst_text.proofs.BlockLaws.{Passed, stands-none, stands-end, stands-rest, stands-passed, stands-next, mark-tells}
+use Rattle.fst_text.proofs.BlockLaws.{stands-none, stands-end, stands-rest, stands-passed, stands-next, mark-tells}
 use Rattle.fst_text.proofs.marks.Marks.is_fit.Goals as goal
 
 pub returns-then-is_end : goal.returns-then-is_end
