@@ -1,5 +1,5 @@
 // The texts of a table, unit by unit: bytes up to a zero byte, or up to the table's end.
-ghost use Rattle.std.specs.Prelude.{◌≡◌, false, ◌+◌, length};
+ghost use Rattle.std.specs.Prelude.{◌≡◌, false, ◌+◌};
 ghost use Rattle.tree.specs.Table.{dots};
 ghost use Rattle.fst_text.specs.Inner.Texts.{textAt, cleanFrom, NoLead, CleanTo, nameless};
 
