@@ -2,34 +2,31 @@
 ghost use Rattle.std.specs.Prelude.{◌≡◌, ◌∷◌, ◌-◌, ◌≤◌, length, drop};
 ghost use Rattle.std.specs.Iterator.{YieldsFirstBy, item_count};
 ghost use Rattle.endian.specs.Bytes.{span};
-ghost use Rattle.tree.specs.Lookup.{separator, components};
+ghost use Rattle.tree.specs.Lookup.{separates, components};
+ghost use Rattle.fst_text.specs.Inner.Read.{unit_of};
 ghost use Rattle.fst_path.specs.Inner.Steps.{componentsAfter};
 
+use fst_text::{Unit, Units};
 use std::marker::Model;
 
-fn is_separator(b: u8) -> bool
-    ensures { result ≡ separator b }
+fn is_separator(unit: Unit) -> bool
+    ensures { result ≡ separates (unit_of unit) }
 {
-    matches!(b, b'/' | b'\\')
+    matches!(unit, Unit::Single(b'/' | b'\\'))
 }
 
-/// The end of the component that starts at `at`: the next separator that is a unit of its own, or the path's end.
-// Kept: by index, and not over `Units`: the answer is a place in the path, so that the place would be counted beside the units.
+/// The end of the component that starts at `at`: the next separator that is a unit of its own, or the path's
+/// end.
 pub fn component_end(path: &[u8], at: usize) -> usize
     requires { at ≤ length path.now }
     ensures { (at ≤ result) × (result ≤ length path.now) × (components (drop at path.now) ≡ span path.now at (result - at) ∷ componentsAfter path.now result) }
 {
-    let mut end = at;
-    while end < path.len() {
-        if fst_text::is_pair(path, end) {
-            end += 2;
-        } else if is_separator(path[end]) {
-            return end;
-        } else {
-            end += 1;
-        }
+    let mut units = Units::new(&path[at..]);
+    match units.find(|unit| is_separator(*unit)) {
+        // A separator is one byte.
+        Some(_) => path.len() - units.rest().len() - 1,
+        None => path.len(),
     }
-    end
 }
 
 /// The components of a path in turn; an empty path has one empty component. Contracts see the list of those that are left.

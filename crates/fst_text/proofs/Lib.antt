@@ -3,3 +3,4 @@ pub mod BlockLaws
 pub mod Chart
 pub mod Judging
 pub mod Texts
+pub mod UnitPlaces

@@ -17,7 +17,7 @@ use Rattle.tree.specs.Table.{every, dots, safe, plain_byte, safeByte, safeUnit, 
 use Rattle.tree.specs.Inner.Pairs.{pair_at}
 use Rattle.tree.specs.Laws.UnitLaws.{in_either, lead_is, trail_is, by_units, units-pair, units-single, units-none}
 use Rattle.refusal.specs.Laws.Tests.{lt-or-le, and_left, and_right, or_cases, is_false}
-use Rattle.fst_text.specs.Inner.Texts.{textAt, nameless, cleanByte, cleanUnit, cleanFrom, NoLead}
+use Rattle.fst_text.specs.Inner.Texts.{textAt, cleanByte, cleanUnit, cleanFrom, NoLead}
 
 pub text-end : (tab : List ℕ) (i : ℕ) → get_or tab i 0 ≡ 0 → textAt tab i ≡ []
 text-end [] zero h = refl
@@ -92,8 +92,8 @@ safe-more tab at d t h e f =
     let m : textAt tab at ≡ get_or tab at 0 ∷ textAt tab (at + 1) = text-more tab at h in
     rw (m, rw m at e, rw m at f)
 
--- empty, `.` or `..`: a text's first three bytes tell
-dots-head : (s : List ℕ) → nameless (upTo0 (take 3 s)) ≡ nameless (upTo0 s)
+-- `.` or `..`: a text's first three bytes tell
+dots-head : (s : List ℕ) → dots (upTo0 (take 3 s)) ≡ dots (upTo0 s)
 dots-head [] = refl
 dots-head (zero ∷ s) = refl
 dots-head (suc a ∷ []) = refl
@@ -109,8 +109,8 @@ take-min (suc n) (b ∷ tab) =
     let e : min (suc (length tab)) (suc n) ≡ suc (min (length tab) n) = omega arith in
     rw e (ap (λ (s : List ℕ). b ∷ s) (take-min n tab))
 
-pub nameless-head : (tab : List ℕ) (at m : ℕ) → m ≡ min (length tab) (at + 3) → nameless (textAt (take m tab) at) ≡ nameless (textAt tab at)
-nameless-head tab at m e = rw (e, take-min (at + 3) tab, drop-take at 3 tab) (dots-head (drop at tab))
+pub dots-three : (tab : List ℕ) (at m : ℕ) → m ≡ min (length tab) (at + 3) → dots (textAt (take m tab) at) ≡ dots (textAt tab at)
+dots-three tab at m e = rw (e, take-min (at + 3) tab, drop-take at 3 tab) (dots-head (drop at tab))
 
 -- the bytes of a text one by one
 pub text-passed : (tab : List ℕ) (at end : ℕ) → at ≤ end → end < length tab → (get_or tab end 0 ≡ 0 → ⊥) → textAt tab at ≡ take (end - at) (drop at tab) ++ textAt tab end →

@@ -8,5 +8,5 @@ mod units;
 
 pub use marks::Survey;
 pub use names::{is_plain, is_safe};
-pub use text::{is_nameless_at, text_at};
+pub use text::{is_dots, is_nameless_at, text_at};
 pub use units::{Unit, Units, byte_at, is_pair};

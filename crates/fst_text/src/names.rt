@@ -1,15 +1,22 @@
 // The tests of a name.
 ghost use Rattle.std.specs.Prelude.{◌≡◌};
-ghost use Rattle.tree.specs.Table.{plain, safe};
+ghost use Rattle.tree.specs.Table.{dots, plain, safe};
 ghost use Rattle.fst_text.specs.Inner.Texts.{nameless};
 
 use crate::units::Units;
 
-/// Whether the name is empty, `.` or `..`.
-pub fn is_nameless(name: &[u8]) -> bool
+/// Whether the name is `.` or `..`.
+pub fn is_dots(name: &[u8]) -> bool
+    ensures { result ≡ dots name.now }
+{
+    matches!(name, b"." | b"..")
+}
+
+// Whether the name is empty, `.` or `..`.
+fn is_nameless(name: &[u8]) -> bool
     ensures { result ≡ nameless name.now }
 {
-    matches!(name, b"" | b"." | b"..")
+    name.is_empty() || is_dots(name)
 }
 
 /// Whether each unit of the name is a pair, or a byte 0x20 to 0x7E or 0xA1 to 0xDF.

@@ -1,5 +1,6 @@
 // The texts of a table, unit by unit: bytes up to a zero byte, or up to the table's end.
-ghost use Rattle.std.specs.Prelude.{◌≡◌, false, ◌+◌, ◌<◌, length};
+ghost use Rattle.std.specs.Prelude.{◌≡◌, false, ◌+◌};
+ghost use Rattle.tree.specs.Table.{dots};
 ghost use Rattle.fst_text.specs.Inner.Texts.{textAt, cleanFrom, NoLead, CleanTo, nameless};
 
 use crate::units::Units;
@@ -86,22 +87,22 @@ pub fn clean_from(table: &[u8], from: usize) -> bool
     Units::new(&table[from.min(table.len())..]).all(|unit| unit.is_clean())
 }
 
-// The same of a text that starts with a point: three bytes tell.
+/// Whether the text at `at` is `.` or `..`: three bytes tell. No text is where nothing is.
 #[cold]
-fn is_nameless_point(table: &[u8], at: usize) -> bool
-    requires { at < length table.now }
-    ensures { result ≡ nameless (textAt table.now at) }
+pub fn is_dots(table: &[u8], at: usize) -> bool
+    ensures { result ≡ dots (textAt table.now at) }
 {
-    names::is_nameless(text_at(&table[..table.len().min(at + 3)], at))
+    let end = at.saturating_add(3).min(table.len());
+    names::is_dots(text_at(&table[..end], at))
 }
 
-/// Whether the text at `at` is empty, `.` or `..`. A byte tells most texts; else three do.
+/// Whether the text at `at` is empty, `.` or `..`. A byte tells most texts.
 pub fn is_nameless_at(table: &[u8], at: usize) -> bool
     ensures { result ≡ nameless (textAt table.now at) }
 {
     match units::byte_at(table, at) {
         0 => true,
-        b'.' => is_nameless_point(table, at),
+        b'.' => is_dots(table, at),
         _ => false,
     }
 }

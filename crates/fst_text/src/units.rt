@@ -1,10 +1,11 @@
-// The units of a text: a lead byte with its trail byte is one, and so is any other byte. A name is judged, and a path is cut, by units.
+// The units of a text: a lead byte with its trail byte is one, and so is any other byte.
+// A name is judged, and a path is cut, by units.
 ghost use Rattle.std.specs.Prelude.{◌≡◌, get_or};
 ghost use Rattle.std.specs.Iterator.{YieldsFirstBy, item_count};
 ghost use Rattle.tree.specs.Units.{leadByte, trailByte, units};
 ghost use Rattle.tree.specs.Table.{plain_byte, safeByte, plainUnit, safeUnit};
 ghost use Rattle.tree.specs.Inner.Pairs.{pair_at};
-ghost use Rattle.fst_text.specs.Inner.Texts.{cleanByte, cleanUnit};
+ghost use Rattle.fst_text.specs.Inner.Texts.{cleanByte, cleanUnit, endUnit};
 ghost use Rattle.fst_text.specs.Inner.Read.{unit_of};
 
 use std::marker::Model;
@@ -51,8 +52,8 @@ fn is_safe(b: u8) -> bool
     !matches!(b, b'/' | b'\\' | b':')
 }
 
-/// Whether no name is refused for this byte where it is a unit: the end of a text, or plain and safe. Most are below 0x7F, and are looked at
-/// first.
+/// Whether no name is refused for this byte where it is a unit: the end of a text, or plain and
+/// safe. Most are below 0x7F, and are looked at first.
 pub fn is_clean(b: u8) -> bool
     ensures { result ≡ cleanByte b }
 {
@@ -90,6 +91,13 @@ impl Unit {
         }
     }
 
+    /// Whether a text ends here: at a zero byte.
+    pub fn is_end(self) -> bool
+        ensures { result ≡ endUnit (unit_of self) }
+    {
+        matches!(self, Unit::Single(0))
+    }
+
     /// Whether no name is refused for this unit, nor a text's end.
     pub fn is_clean(self) -> bool
         ensures { result ≡ cleanUnit (unit_of self) }
@@ -109,12 +117,14 @@ pub struct Units<'a> {
 }
 
 impl<'a> Model for Units<'a> {
-    ghost use Rattle.std.specs.Prelude.{List, drop};
+    ghost use Rattle.std.specs.Prelude.{List, ◌≤◌, length, drop};
     ghost use Rattle.tree.specs.Units.{TextUnit, units};
 
     ghost Value = { List TextUnit };
 
     ghost view = { λ u. units (drop u.at u.text.now) };
+
+    ghost invariant = { λ u. u.at ≤ length u.text.now };
 }
 
 impl<'a> Units<'a> {
@@ -123,6 +133,13 @@ impl<'a> Units<'a> {
         ensures { result ≡ units text.now }
     {
         Units { text, at: 0 }
+    }
+
+    /// The bytes of the units that are left.
+    pub fn rest(&self) -> &'a [u8]
+        ensures { units result.now ≡ self.now }
+    {
+        &self.text[self.at..]
     }
 }
 

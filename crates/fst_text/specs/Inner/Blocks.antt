@@ -1,5 +1,5 @@
 -- The marks of the blocks of 1,024 bytes that the texts of a table are cut into. Assumes nothing: these are definitions.
-use Rattle.std.specs.Prelude.{ℕ, ◌+◌, ◌*◌, ◌/◌, ◌%◌, ◌≤◌, ◌≡◌, Bool, true, false, List, length, get_or}
+use Rattle.std.specs.Prelude.{Option, Some, None, ℕ, ◌+◌, ◌*◌, ◌/◌, ◌%◌, ◌≤◌, ◌≡◌, Bool, true, false, List, length, get_or}
 use Rattle.tree.specs.Units.{units}
 use Rattle.tree.specs.Table.{every, plainUnit, safeUnit}
 use Rattle.fst_text.specs.Inner.Texts.{textAt, cleanFrom, NoLead}
@@ -23,9 +23,14 @@ pub record TextsFrom : Type 0 where
   pub table : List ℕ
   pub base : ℕ
 
--- what is known of the texts: no lead byte stands before `first`, and they are clean, where that is said
-pub record Surveyed (tab : List ℕ) (base first : ℕ) (clean : Bool) (marks : List Bool) : Type 0 where
+-- what the marks of a table's texts keep
+pub record HasMarks (tab : List ℕ) (base : ℕ) (marks : List Bool) : Type 0 where
   pub near : base ≤ 196608
   pub marked : Marked tab base marks
-  pub all : clean ≡ true → cleanFrom tab base ≡ true
+
+-- what is known of the texts: no lead byte stands before `first`, and they are clean, or else these are their marks
+pub record Surveyed (tab : List ℕ) (base first : ℕ) (marks : Option TextsFrom) : Type 0 where
+  pub near : base ≤ 196608
   pub early : NoLead tab base first
+  pub clean : marks ≡ None → cleanFrom tab base ≡ true
+  pub same : (m : TextsFrom) → marks ≡ Some m → m ≡ record { table = tab; base = base }

@@ -20,6 +20,11 @@ abbrev pub cleanUnit : TextUnit → Bool
 cleanUnit (single b) = cleanByte b
 cleanUnit (pair a b) = true
 
+-- the end of a text: a zero byte
+abbrev pub endUnit : TextUnit → Bool
+endUnit (single b) = eqb b 0
+endUnit (pair a b) = false
+
 -- all bytes from `from` on, zero bytes too, cut into units from there
 unfoldable pub cleanFrom : List ℕ → ℕ → Bool
 cleanFrom tab from = every cleanUnit (units (drop from tab))

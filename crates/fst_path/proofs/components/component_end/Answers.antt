@@ -1,37 +1,33 @@
--- `fst_path::components::component_end` meets its contract. The invariant of its loop: the component reaches to the unit that is next.
-use native.Mathlib.Omega.{arith}
-use mathlib.Core.Path.{sym, ◌∙◌}
-use Rattle.tree.specs.Laws.UnitLaws.{pair_inside}
-use Rattle.fst_path.proofs.Cuts.{cut-start, cut-pair, cut-here, cut-single, cut-end}
+-- `fst_path::components::component_end` meets its contract: the first unit that parts two components ends this one.
+use Rattle.std.proofs.Common.{rules, ap, ◌∙◌, refl, arith}
+use Rattle.tree.specs.Units.{units}
+use Rattle.fst_text.specs.Inner.Read.{unit_of}
+use Rattle.fst_text.proofs.Judging.{whole-rest}
+use Rattle.fst_path.proofs.Cuts.{EndsBefore, walked, found-parts, ends-before, ends-last}
 use Rattle.fst_path.proofs.components.component_end.Goals as goal
 
-pub loop-end-init : goal.loop-end-init
-loop-end-init c = (omega arith, omega arith, cut-start c.args.path.now c.args.at)
+ends : (c : goal.After-rest) → EndsBefore c.args.path.now c.args.at c.rest.result.now
+ends c =
+    let path = c.args.path.now in
+    let at = c.args.at in
+    let ran = c.in-Some.ensures.ran in
+    let w = walked unit_of _ _ (λ x b q k. search rules) ran.0 c.new-units.result ran.2.0 ran.1 ran.2.1 ran.3 in
+    let p = found-parts unit_of _ _ (λ x b q k. search rules) c.in-Some.field-0 ran.1 ran.4.0 w.1 ran.4.1 in
+    ends-before path at c.requires c.new-units.result ran.2.0 (c.new-units.ensures ∙ ap units (whole-rest path at)) w.0 (unit_of c.in-Some.field-0) c.find.new.self ran.2.2 p c.rest.result.now c.rest.ensures
 
-pub loop-end-preserved-then-is_pair : goal.loop-end-preserved-then-is_pair
-loop-end-preserved-then-is_pair c =
-    let a = c.args in
-    let l = c.loop-end in
-    let p = c.is_pair in
-    (omega arith, omega (arith, pair_inside a.path.now l.end (sym p.ensures ∙ c.if-is_pair.true)), cut-pair a.path.now a.at l.end (omega arith) l.invariant.2 p.result p.ensures c.if-is_pair.true _ (omega arith))
+pub overflow_sub-result : goal.overflow_sub-result
+overflow_sub-result c = omega (arith, (ends c).long)
 
-pub returns-then-is_separator : goal.returns-then-is_separator
-returns-then-is_separator c =
-    let a = c.args in
-    let l = c.loop-end in
-    let p = c.is_pair in
-    let s = c.is_separator in
-    (omega arith, omega arith, cut-here a.path.now a.at l.end (omega arith) l.invariant.2 p.result p.ensures c.if-is_pair.false c.loop-end-test.true s.result s.ensures c.if-is_separator.true)
+pub overflow_sub-result-in-Some : goal.overflow_sub-result-in-Some
+overflow_sub-result-in-Some c = omega (arith, (ends c).long)
 
-pub loop-end-preserved : goal.loop-end-preserved
-loop-end-preserved c =
-    let a = c.args in
-    let l = c.loop-end in
-    let p = c.is_pair in
-    let s = c.is_separator in
-    (omega arith, omega arith, cut-single a.path.now a.at l.end (omega arith) l.invariant.2 p.result p.ensures c.if-is_pair.false c.loop-end-test.true s.result s.ensures c.if-is_separator.false)
+pub returns-in-Some : goal.returns-in-Some
+returns-in-Some c = (omega (arith, (ends c).long), omega arith, (ends c).cut _ refl)
 
-pub returns : goal.returns
-returns c =
-    let l = c.loop-end in
-    (omega arith, omega arith, cut-end c.args.path.now c.args.at l.end l.invariant.2 c.loop-end-test.false)
+pub returns-in-None : goal.returns-in-None
+returns-in-None c =
+    let path = c.args.path.now in
+    let at = c.args.at in
+    let ran = c.in-None.ensures.ran in
+    let w = walked unit_of _ _ (λ x b q k. search rules) ran.0 c.new-units.result ran.2.0 ran.1 ran.2.1 ran.3 in
+    (c.requires, omega arith, ends-last path at c.requires c.new-units.result ran.2.0 (c.new-units.ensures ∙ ap units (whole-rest path at)) w.0 ran.2.2.0)

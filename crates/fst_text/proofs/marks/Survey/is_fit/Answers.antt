@@ -8,7 +8,7 @@ returns-then-at-self-clause-fit c =
     let s = c.self.inside in
     let i = c.self.invariant in
     let h = rw (← c.self.view_is) at c.requires.from in
-    rw (← c.self.view_is) (λ e. fit-early s.table.now s.base s.first c.args.at (i.all c.if-self.true) i.early h c.if-at-self.true)
+    rw (← c.self.view_is) (λ e. fit-early s.table.now s.base s.first c.args.at (i.clean c.in_default.is) i.early h c.if-at-self.true)
 
 pub returns-then-not-is_lead-clause-fit : goal.returns-then-not-is_lead-clause-fit
 returns-then-not-is_lead-clause-fit c =
@@ -17,4 +17,4 @@ returns-then-not-is_lead-clause-fit c =
     let b = c.byte_at in
     let l = c.is_lead in
     rw (← c.self.view_is)
-    (λ e. fit-after s.table.now s.base c.args.at _ b.result l.result (i.all c.if-self.true) b.ensures (omega (arith, i.early.before, c.if-at-self.false)) (omega (arith, i.early.before, c.if-at-self.false)) l.ensures c.if-not-is_lead.true)
+    (λ e. fit-after s.table.now s.base c.args.at _ b.result l.result (i.clean c.in_default.is) b.ensures (omega (arith, i.early.before, c.if-at-self.false)) (omega (arith, i.early.before, c.if-at-self.false)) l.ensures c.if-not-is_lead.true)
