@@ -13,7 +13,8 @@ use Rattle.space.specs.declared.DiscRegion.{DiscRegion}
 use Rattle.refusal.specs.declared.Refusal.TheVariants.{NotEnoughSpace, InvalidAlignment}
 use Rattle.space.specs.Used.{end_of}
 use Rattle.free_space.specs.MaxRegionSize.{insideFree, besideFree, maxSizeFrom}
-use Rattle.free_space.specs.Allocate.{rest, fits, betterOf, noRegion, largest, powers, foundOrNone, allocationOf}
+use Rattle.free_space.specs.Allocate.{rest, fits, betterOf, noRegion, largest, powers, allocationOf}
+use Rattle.free_space.specs.Inner.Found.{foundOrNone}
 
 -- ---- the better of two
 

@@ -1,2 +1,3 @@
 -- What only inner contracts say.
+pub mod Found
 pub mod UsedSpace

@@ -3,9 +3,10 @@
 ghost use Rattle.std.specs.Prelude.{◌≡◌, ◌<◌, length};
 ghost use Rattle.space.specs.Used.{totalSize};
 ghost use Rattle.space.specs.Inner.Words.{SortedDisjoint};
+ghost use Rattle.free_space.specs.Inner.Found.{foundOrNone};
 ghost use Rattle.free_space.specs.Inner.UsedSpace.{used_in, free_in};
 ghost use Rattle.free_space.specs.MaxRegionSize.{maxRegionSize};
-ghost use Rattle.free_space.specs.Allocate.{noRegion, largest, foundOrNone, allocationOf};
+ghost use Rattle.free_space.specs.Allocate.{noRegion, largest, allocationOf};
 ghost use Rattle.free_space.specs.Listing.{listingOf, listAfter};
 
 use crate::free::FreeRegions;
