@@ -29,7 +29,10 @@ impl Kind {
         requires known { kind table.now k ≤ 1 }
         ensures { number_of result ≡ kind table.now k }
     {
-        Kind::from_number(table[12 * k]).unwrap()
+        match table[12 * k] {
+            0 => Kind::File,
+            _ => Kind::Directory,
+        }
     }
 
     /// The number that a table stores.

@@ -12,86 +12,82 @@ ghost use Rattle.fst_write.specs.Inner.Writing.{text_after, out_after, HasRoom};
 use fst_measure::{Kind, Source};
 use fst_record::Record;
 
-// A table, the lent bytes where it goes, and the place among them where the next name goes.
+// The lent bytes, where the table goes, and the place among them where the next name goes.
 #[derive(Drop)]
-struct Writer<'s, 't, 'o> {
-    source: &'s Source<'t>,
+struct Writer<'o> {
     out: &'o mut [u8],
     text: usize,
 }
 
-impl<'s, 't, 'o> Writer<'s, 't, 'o> {
-    fn new(source: &'s Source<'t>, out: &'o mut [u8], text: usize) -> Writer<'s, 't, 'o>
-        ensures source { result.source.now ≡ source.now }
+impl<'o> Writer<'o> {
+    fn new(out: &'o mut [u8], text: usize) -> Writer<'o>
         ensures out { result.out.now ≡ out.old }
         ensures text { result.text ≡ text }
         ensures same_reference { result.out.ghost_name ≡ out.entry.ghost_name }
     {
-        Writer { source, out, text }
+        Writer { out, text }
     }
 
     // Writes the record and the name of entry k, and nothing that is in it.
-    fn write_one(&mut self, k: usize, parent: u32)
+    fn write_one(&mut self, source: &Source<'_>, k: usize, parent: u32)
         requires further { 0 < k }
-        requires within { k < count self.old.source.now }
-        requires parent { parent ≡ parent_of (nodesOf self.old.source.now) k }
-        requires room { HasRoom self.old k (k + 1) }
-        ensures source { self.new.source.now ≡ self.old.source.now }
-        ensures text { self.new.text ≡ text_after self.old k (k + 1) }
-        ensures out { self.new.out.now ≡ out_after self.old k (k + 1) }
+        requires within { k < count source.now }
+        requires parent { parent ≡ parent_of (nodesOf source.now) k }
+        requires room { HasRoom self.old source.now k (k + 1) }
+        ensures text { self.new.text ≡ text_after self.old source.now k (k + 1) }
+        ensures out { self.new.out.now ≡ out_after self.old source.now k (k + 1) }
         ensures length { length self.new.out.now ≡ length self.old.out.now }
         ensures same_reference { self.new.out.ghost_name ≡ self.old.out.ghost_name }
     {
         // Locals: what stands behind `self` would be read again after each write.
-        let source = self.source.reborrow();
         let text = self.text;
         let out = &mut *self.out;
         fst_record::write_record(source.bytes(), out, source.count(), k, parent, text);
-        self.text = fst_record::write_name(&source, out, k, text);
+        self.text = fst_record::write_name(source, out, k, text);
     }
 
     // Writes entry k, and if it is a directory all that is in it, and returns the entry after it in its directory.
     #[cycle(write_directory_write_entry)]
-    fn write_entry(&mut self, k: usize, parent: u32) -> usize
+    fn write_entry(&mut self, source: &Source<'_>, k: usize, parent: u32) -> usize
         requires further { 0 < k }
-        requires within { k < count self.old.source.now }
-        requires parent { parent ≡ parent_of (nodesOf self.old.source.now) k }
-        requires room { HasRoom self.old k (afterIn self.old.source.now k) }
-        ensures next { result ≡ afterIn self.old.source.now k }
-        ensures source { self.new.source.now ≡ self.old.source.now }
-        ensures text { self.new.text ≡ text_after self.old k (afterIn self.old.source.now k) }
-        ensures out { self.new.out.now ≡ out_after self.old k (afterIn self.old.source.now k) }
+        requires within { k < count source.now }
+        requires parent { parent ≡ parent_of (nodesOf source.now) k }
+        requires room { HasRoom self.old source.now k (afterIn source.now k) }
+        ensures next { result ≡ afterIn source.now k }
+        ensures text { self.new.text ≡ text_after self.old source.now k (afterIn source.now k) }
+        ensures out { self.new.out.now ≡ out_after self.old source.now k (afterIn source.now k) }
         ensures length { length self.new.out.now ≡ length self.old.out.now }
         ensures same_reference { self.new.out.ghost_name ≡ self.old.out.ghost_name }
     {
-        let kind = self.source.kind(k);
-        self.write_one(k, parent);
+        let kind = source.kind(k);
+        self.write_one(source, k, parent);
         match kind {
             Kind::File => k + 1,
             Kind::Directory => {
-                self.write_directory(k);
-                self.source.next(k) as usize
+                self.write_directory(source, k);
+                source.next(k) as usize
             }
         }
     }
 
     // Writes all that is in directory k.
     #[cycle(write_directory_write_entry)]
-    fn write_directory(&mut self, k: usize)
-        requires within { k < count self.old.source.now }
-        requires directory { kind self.old.source.now k ≡ 1 }
-        requires room { HasRoom self.old (k + 1) (sizeOrNext self.old.source.now k) }
-        ensures source { self.new.source.now ≡ self.old.source.now }
-        ensures text { self.new.text ≡ text_after self.old (k + 1) (sizeOrNext self.old.source.now k) }
-        ensures out { self.new.out.now ≡ out_after self.old (k + 1) (sizeOrNext self.old.source.now k) }
+    fn write_directory(&mut self, source: &Source<'_>, k: usize)
+        requires within { k < count source.now }
+        requires directory { kind source.now k ≡ 1 }
+        requires room { HasRoom self.old source.now (k + 1) (sizeOrNext source.now k) }
+        ensures text { self.new.text ≡ text_after self.old source.now (k + 1) (sizeOrNext source.now k) }
+        ensures out { self.new.out.now ≡ out_after self.old source.now (k + 1) (sizeOrNext source.now k) }
         ensures length { length self.new.out.now ≡ length self.old.out.now }
         ensures same_reference { self.new.out.ghost_name ≡ self.old.out.ghost_name }
     {
-        let stop = self.source.next(k) as usize;
+        let stop = source.next(k) as usize;
+        // One of its own, which no write can change: so it is not read again after each.
+        let source = source.reborrow();
         let mut c = k + 1;
         // Kept: `write_entry` returns the next child; an iterator, a type of its own, would look it up a second time.
         while c < stop {
-            c = self.write_entry(c, k as u32);
+            c = self.write_entry(&source, c, k as u32);
         }
     }
 }
@@ -121,7 +117,7 @@ pub fn write_table(table: &[u8], out: &mut [u8]) -> usize
     let source = Source::new(table);
     let count = source.count();
     write_root(out, count);
-    let mut writer = Writer::new(&source, out, 12 * count);
-    writer.write_directory(0);
+    let mut writer = Writer::new(out, 12 * count);
+    writer.write_directory(&source, 0);
     writer.text
 }

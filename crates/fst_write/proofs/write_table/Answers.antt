@@ -18,15 +18,15 @@ write_root-requires c =
 pub write_directory-requires-clause-room : goal.write_directory-requires-clause-room
 write_directory-requires-clause-room c =
     let w = c.new-writer.ensures in
-    rw w.source (written-room _ _ c.args.out.now _ _ _ c.requires.valid c.new-source.ensures c.count-count.ensures.value w.text (length c.args.out.now) (ap length w.out ∙ c.write_root.auto.out) c.requires.table_in_bounds.0 c.requires.table_in_bounds.1)
+    written-room _ _ c.args.out.now _ _ _ c.requires.valid c.new-source.ensures c.count-count.ensures.value w.text (length c.args.out.now) (ap length w.out ∙ c.write_root.auto.out) c.requires.table_in_bounds.0 c.requires.table_in_bounds.1
 
 pub returns-clause-value : goal.returns-clause-value
 returns-clause-value c =
-    written-size _ _ c.args.out.now c.new-writer.result.out.now _ _ c.requires.valid c.new-source.ensures c.count-count.ensures.value c.new-writer.ensures.text _ (rw c.new-writer.ensures.source at c.write_directory.ensures.text)
+    written-size _ _ c.args.out.now c.new-writer.result.out.now _ _ c.requires.valid c.new-source.ensures c.count-count.ensures.value c.new-writer.ensures.text _ c.write_directory.ensures.text
 
 pub returns-clause-out_after : goal.returns-clause-out_after
 returns-clause-out_after c =
     let w = c.new-writer.ensures in
-    let d = rw w.source at c.write_directory.ensures in
+    let d = c.write_directory.ensures in
     let e = written-whole _ _ _ _ _ _ c.requires.valid c.new-source.ensures c.count-count.ensures.value w.text _ c.requires.table_in_bounds.0 (w.out ∙ c.write_root.ensures) d.out in
     grind (arith, e)

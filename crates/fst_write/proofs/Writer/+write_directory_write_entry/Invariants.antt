@@ -6,18 +6,13 @@ use Rattle.fst_write.proofs.Turn.{Upto}
 use Rattle.fst_write.proofs.Writer.+write_directory_write_entry.Given as goal
 
 abbrev pub decreases-write_directory : goal.decreases-write_directory
-decreases-write_directory l = 2 * (count l.self.now.source.now - l.k)
+decreases-write_directory l = 2 * (count l.source.now - l.k)
 
 abbrev pub decreases-write_entry : goal.decreases-write_entry
-decreases-write_entry l = 2 * (count l.self.now.source.now - l.k) + 1
+decreases-write_entry l = 2 * (count l.source.now - l.k) + 1
 
 abbrev pub invariant-write_directory-loop-c : goal.invariant-write_directory-loop-c
-invariant-write_directory-loop-c l =
-    record {
-      source : l.self.source.now ≡ l.fn.self.source.now;
-      written : Upto l.fn.self.source.now l.fn.self.out.now (count l.fn.self.source.now) l.k l.fn.self.text l.self.out.now l.self.text l.c;
-      same_reference : l.self.out.ghost_name ≡ l.fn.self.out.ghost_name
-    }
+invariant-write_directory-loop-c l = record { written : Upto l.fn.source l.fn.self.out.now (count l.fn.source) l.k l.fn.self.text l.self.out.now l.self.text l.c; same_reference : l.self.out.ghost_name ≡ l.fn.self.out.ghost_name }
 
 abbrev pub decreases-write_directory-loop-c : goal.decreases-write_directory-loop-c
 decreases-write_directory-loop-c l = l.stop - l.c
