@@ -60,13 +60,14 @@ impl<'o> Writer<'o> {
         ensures same_reference { self.new.out.ghost_name ≡ self.old.out.ghost_name }
     {
         let kind = source.kind(k);
-        let next = fst_measure::after(source.bytes(), k);
         self.write_one(source, k, parent);
         match kind {
-            Kind::File => {}
-            Kind::Directory => self.write_directory(source, k),
+            Kind::File => k + 1,
+            Kind::Directory => {
+                self.write_directory(source, k);
+                fst_measure::after(source.bytes(), k)
+            }
         }
-        next
     }
 
     // Writes all that is in directory k.
