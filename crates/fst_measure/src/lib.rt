@@ -4,8 +4,9 @@
 mod kind;
 mod source;
 
-ghost use Rattle.std.specs.Prelude.{◌≡◌};
+ghost use Rattle.std.specs.Prelude.{◌≡◌, ◌+◌, ◌*◌, ◌≤◌, length};
 ghost use Rattle.tree.specs.Table.{count};
+ghost use Rattle.fst_measure.specs.Inner.Flat.{afterIn};
 ghost use Rattle.fst_measure.specs.Inner.Valid.{Valid};
 ghost use Rattle.fst_measure.specs.Inner.Measure.{measureOf};
 
@@ -13,8 +14,19 @@ pub use kind::Kind;
 use refusal::Refusal;
 pub use source::Source;
 
-/// More bytes of texts than this are refused (document 01: "texts over 1,048,576 bytes (9)").
+/// A table with more bytes of texts than this is refused, with 9.
 pub const TEXTS_LIMIT: usize = 1048576;
+
+/// The entry after k in its directory, where a writer goes on. What is no directory is one entry long.
+pub fn after(table: &[u8], k: usize) -> usize
+    requires { 12 * k + 12 ≤ length table.now }
+    ensures { result ≡ afterIn table.now k }
+{
+    match Kind::from_number(table[12 * k]) {
+        Some(Kind::Directory) => endian::read_u32(table, 12 * k + 8) as usize,
+        _ => k + 1,
+    }
+}
 
 /// The size in bytes of what `write_table` writes; 9 if its texts pass the limit.
 pub fn measure(table: &[u8]) -> Result<usize, Refusal>

@@ -48,6 +48,14 @@ impl<'a> Source<'a> {
         }
     }
 
+    /// Its bytes, the names with them.
+    pub fn bytes(&self) -> &'a [u8]
+        ensures bytes { result.now ≡ self.now }
+        ensures valid { Valid self.now (table_of.count self.now) }
+    {
+        self.bytes
+    }
+
     /// How many entries it has.
     pub fn count(&self) -> usize
         ensures value { result ≡ table_of.count self.now }
@@ -62,12 +70,7 @@ impl<'a> Source<'a> {
         ensures value { number_of result ≡ table_of.kind self.now k }
         ensures valid { Valid self.now (table_of.count self.now) }
     {
-        let bytes = self.bytes;
-        if bytes[12 * k] == Kind::File.number() {
-            Kind::File
-        } else {
-            Kind::Directory
-        }
+        Kind::of(self.bytes, k)
     }
 
     /// The third field of entry k: the offset of a file, the parent that a directory stores.

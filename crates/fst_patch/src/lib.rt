@@ -1,20 +1,24 @@
-// A written table changed in place: the place of a file, and one entry put in. For that: the texts make room for the new name, then the records behind it move up.
+// A written table changed in place: the place of a file, and one entry put in. For that: the texts make room for the
+// new name, then the records behind it move up.
 #![tactic(auto)]
 
-ghost use Rattle.std.specs.Prelude.{◌≡◌, ◌++◌, ◌+◌, ◌-◌, ◌*◌, ◌≤◌, ◌<◌, length, take};
+ghost use Rattle.std.specs.Prelude.{◌≡◌, ◌++◌, ◌+◌, ◌*◌, ◌≤◌, length};
 ghost use Rattle.endian.specs.Bytes.{put, be32Bytes};
-ghost use Rattle.fst_measure.specs.Inner.Kind.{is_directory};
 ghost use Rattle.tree.specs.Table.{sizeOrNext};
-ghost use Rattle.tree.specs.Inner.Patch.{records, recordBefore, recordAfter, patchedRecord, insertPatch};
-ghost use Rattle.fst_raise.specs.Inner.Inserting.{newNode, EachRaisable, NamesGrow, Patchable, newTexts, start_in, Insertable};
+ghost use Rattle.tree.specs.Inner.Patch.{records, recordBefore};
+ghost use Rattle.fst_raise.specs.Inner.Inserting.{EachRaisable, NamesGrow, newTexts, start_in, Insertable};
+ghost use Rattle.fst_patch.specs.Inner.Patching.{behind_of, CanTake, records_with, table_with};
 
 use fst_measure::Kind;
 use fst_raise::{NewEntry, Shift};
 
 // The entries behind the new one: all move at once, then each is raised where it stands.
 fn patch_behind(table: &mut [u8], count: usize, shift: Shift)
-    requires { (12 * count + 12 ≤ length table.old) × (shift.number ≤ count) × EachRaisable table.old count × NamesGrow table.old count shift.text }
-    ensures { table.new ≡ put table.old (12 * (shift.number + 1)) (records (recordAfter table.old shift.number shift.text) shift.number (count - shift.number)) }
+    requires within { 12 * count + 12 ≤ length table.old }
+    requires number { shift.number ≤ count }
+    requires raisable { EachRaisable table.old count }
+    requires names { NamesGrow table.old count shift.text }
+    ensures { table.new ≡ put table.old (12 * (shift.number + 1)) (behind_of table.old shift count) }
 {
     let first = shift.number + 1;
     endian::copy_within(
@@ -23,6 +27,7 @@ fn patch_behind(table: &mut [u8], count: usize, shift: Shift)
         12 * first,
         12 * (count - shift.number),
     );
+    // Kept: a range of numbers: a record is known by its number, and is 12 of the table's bytes.
     for k in (first..count + 1).rev() {
         shift.raise(table, k);
     }
@@ -30,19 +35,21 @@ fn patch_behind(table: &mut [u8], count: usize, shift: Shift)
 
 // The entries up to directory p.
 fn patch_up_to(table: &mut [u8], p: usize)
-    requires { (12 * (p + 1) ≤ length table.old) × EachRaisable table.old (p + 1) }
+    requires within { 12 * (p + 1) ≤ length table.old }
+    requires raisable { EachRaisable table.old (p + 1) }
     ensures { table.new ≡ put table.old 0 (records (recordBefore table.old p) 0 (p + 1)) }
 {
+    // Kept: a range of numbers, as above.
     for k in (0..p + 1).rev() {
         fst_raise::patch_before(table, k, p);
     }
 }
 
-// All records of the new table. Those behind the new one move before it is written over the first of them; those between its directory and it
-// stay.
+// All records of the new table. Those behind the new one move before it is written over the first of them; those
+// between its directory and it stay.
 fn patch_records(table: &mut [u8], count: usize, entry: &NewEntry<'_>)
-    requires { Patchable table.old count entry.now.parent entry.now.number entry.now.start (length entry.now.name.now + 1) }
-    ensures { table.new ≡ put table.old 0 (records (patchedRecord table.old entry.now.parent entry.now.number (newNode (is_directory entry.now.kind) entry.now.name.now entry.now.number) entry.now.start) 0 (count + 1)) }
+    requires { CanTake table.old count entry.now }
+    ensures { table.new ≡ put table.old 0 (records_with table.old count entry.now) }
 {
     let shift = Shift {
         number: entry.number,
@@ -55,7 +62,8 @@ fn patch_records(table: &mut [u8], count: usize, entry: &NewEntry<'_>)
 
 // The texts of `count` entries, from 12 bytes further on, with the new name where `start` bytes of them are passed.
 fn insert_text(table: &mut [u8], size: usize, count: usize, start: usize, name: &[u8])
-    requires { (12 * count + start ≤ size) × (size + 12 + length name.now + 1 ≤ length table.old) }
+    requires start { 12 * count + start ≤ size }
+    requires room { size + 12 + length name.now + 1 ≤ length table.old }
     ensures { table.new ≡ put table.old (12 * count + 12) (newTexts table.old size count start name.now) }
 {
     let text = 12 * count + start;
@@ -68,7 +76,9 @@ fn insert_text(table: &mut [u8], size: usize, count: usize, start: usize, name: 
 
 // Where the new text starts among the texts: where that of entry q did, or behind all of them.
 fn new_start(table: &[u8], size: usize, count: usize, q: usize) -> usize
-    requires { (q ≤ count) × (12 * count ≤ size) × (size ≤ length table.now) }
+    requires number { q ≤ count }
+    requires records { 12 * count ≤ size }
+    requires within { size ≤ length table.now }
     ensures { result ≡ start_in table.now size count q }
 {
     if q < count {
@@ -78,12 +88,12 @@ fn new_start(table: &[u8], size: usize, count: usize, q: usize) -> usize
     }
 }
 
-/// Puts an empty directory or an empty file in as the last child of directory p of the table that stands in the first `size` bytes, and
-/// returns its number. The new table has 12 + name.len() + 1 bytes more.
+/// Puts an empty directory or an empty file in as the last child of directory p of the table that stands in the first
+/// `size` bytes, and returns its number. The new table has 12 + name.len() + 1 bytes more.
 pub fn insert(table: &mut [u8], size: usize, p: usize, kind: Kind, name: &[u8]) -> usize
     requires { Insertable table.old size p (length name.now) }
     ensures value { result ≡ sizeOrNext table.old p }
-    ensures table_after { table.new ≡ put table.old 0 (insertPatch (take size table.old) (sizeOrNext table.old 0) p (newNode (is_directory kind) name.now (sizeOrNext table.old p))) }
+    ensures table_after { table.new ≡ put table.old 0 (table_with table.old size p kind name.now) }
 {
     let count = endian::read_u32(table, 8) as usize;
     let number = endian::read_u32(table, 12 * p + 8) as usize;

@@ -22,6 +22,18 @@ use Rattle.fst_measure.specs.Inner.Flat.{recordBytes}
 use Rattle.fst_raise.specs.Inner.Inserting.{newNode, nextBefore, Raisable}
 use Rattle.fst_measure.proofs.Puts.{put-fields}
 use Rattle.fst_raise.proofs.Stays.{byte-stays, name-stays, word-stays}
+use Rattle.fst_measure.specs.declared.kind.Kind.{Kind}
+use Rattle.fst_measure.specs.declared.kind.Kind.TheVariants.{File, Directory}
+use Rattle.fst_measure.specs.Inner.Kind.{number_of, is_directory}
+
+-- what was read as a directory is stored as 1, and what was not is not
+pub directory-one : (x : Kind) (n : ℕ) → number_of x ≡ n → is_directory x ≡ true → n ≡ 1
+directory-one File n e h = absurd (cc h)
+directory-one Directory n e h = sym e
+
+pub file-not-one : (x : Kind) (n : ℕ) → number_of x ≡ n → is_directory x ≡ false → n ≡ 1 → ⊥
+file-not-one File n e h o = omega arith
+file-not-one Directory n e h o = absurd (cc h)
 
 -- ---- one record
 

@@ -1,14 +1,14 @@
 // One record of a written table changed in place, for an entry that is put in: before it, behind it, and its own.
 #![tactic(auto)]
 
-ghost use Rattle.std.specs.Prelude.{◌≡◌, [], ◌+◌, ◌*◌, ◌≤◌, ◌<◌, ◌^◌, length};
+ghost use Rattle.std.specs.Prelude.{◌≡◌, ◌+◌, ◌*◌, ◌≤◌, ◌<◌, ◌^◌, length};
 ghost use Rattle.endian.specs.Bytes.{put};
-ghost use Rattle.fst_measure.specs.Inner.Kind.{is_directory};
-ghost use Rattle.tree.specs.Table.{nameOffset, nodeBytes};
+ghost use Rattle.tree.specs.Table.{nameOffset};
 ghost use Rattle.tree.specs.Insert.{shifted};
 ghost use Rattle.tree.specs.Inner.Patch.{recordBefore, recordAfter};
 ghost use Rattle.fst_record.specs.Inner.Record.{bytes_of};
-ghost use Rattle.fst_raise.specs.Inner.Inserting.{newNode, Raisable};
+ghost use Rattle.fst_raise.specs.Inner.Inserting.{Raisable};
+ghost use Rattle.fst_raise.specs.Inner.Entering.{new_bytes};
 
 use fst_measure::Kind;
 use fst_record::Record;
@@ -35,10 +35,13 @@ impl Shift {
         }
     }
 
-    /// Entry k, which has moved behind the new one: the name offset grows by the new text, and a directory ends one later, and its parent may
-    /// have moved too. Each field is read and written back as one word, and the first holds the kind above the name offset.
+    /// Entry k, which has moved behind the new one: the name offset grows by the new text, and a directory ends one
+    /// later, and its parent may have moved too. Each field is read and written back as one word, and the first holds
+    /// the kind above the name offset.
     pub fn raise(self, table: &mut [u8], k: usize)
-        requires { (12 * k + 12 ≤ length table.old) × Raisable table.old k × (nameOffset table.old k + self.text < 2 ^ 24) }
+        requires within { 12 * k + 12 ≤ length table.old }
+        requires raisable { Raisable table.old k }
+        requires names { nameOffset table.old k + self.text < 2 ^ 24 }
         ensures { table.new ≡ put table.old (12 * k) (recordAfter table.old self.number self.text k) }
     {
         let first = endian::read_u32(table, 12 * k) + self.text as u32;
@@ -54,10 +57,12 @@ impl Shift {
 
 /// Entry k, which stays before the new one: directory p and those around it end one later, and nothing else changes.
 pub fn patch_before(table: &mut [u8], k: usize, p: usize)
-    requires { (k ≤ p) × (12 * k + 12 ≤ length table.old) × Raisable table.old k }
+    requires before { k ≤ p }
+    requires within { 12 * k + 12 ≤ length table.old }
+    requires raisable { Raisable table.old k }
     ensures { table.new ≡ put table.old (12 * k) (recordBefore table.old p k) }
 {
-    if endian::read_u8(table, 12 * k) == Kind::Directory.number() {
+    if Kind::of(table, k).is_directory() {
         let next = endian::read_u32(table, 12 * k + 8);
         if p < next as usize {
             endian::write_u32(table, 12 * k + 8, next + 1);
@@ -81,8 +86,10 @@ pub struct NewEntry<'n> {
 impl<'n> NewEntry<'n> {
     // Its record.
     fn fields(&self) -> Record
-        requires { (self.now.parent < self.now.number) × (self.now.number ≤ 16384) × (self.now.start < 2 ^ 24) }
-        ensures bytes { bytes_of result ≡ nodeBytes self.now.parent self.now.start (newNode (is_directory self.now.kind) [] self.now.number) }
+        requires behind { self.now.parent < self.now.number }
+        requires few { self.now.number ≤ 16384 }
+        requires small { self.now.start < 2 ^ 24 }
+        ensures bytes { bytes_of result ≡ new_bytes self.now }
         ensures name { result.name ≡ self.now.start }
     {
         match self.kind {
@@ -103,8 +110,11 @@ impl<'n> NewEntry<'n> {
 
     /// Writes its record.
     pub fn write(&self, table: &mut [u8])
-        requires { (12 * self.now.number + 12 ≤ length table.old) × (self.now.parent < self.now.number) × (self.now.number ≤ 16384) × (self.now.start < 2 ^ 24) }
-        ensures { table.new ≡ put table.old (12 * self.now.number) (nodeBytes self.now.parent self.now.start (newNode (is_directory self.now.kind) [] self.now.number)) }
+        requires within { 12 * self.now.number + 12 ≤ length table.old }
+        requires behind { self.now.parent < self.now.number }
+        requires few { self.now.number ≤ 16384 }
+        requires small { self.now.start < 2 ^ 24 }
+        ensures { table.new ≡ put table.old (12 * self.now.number) (new_bytes self.now) }
     {
         self.fields().write(table, self.number);
     }

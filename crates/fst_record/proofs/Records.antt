@@ -34,9 +34,9 @@ record_is tab n parent k name x place next e p q =
     let known : kind tab k ≤ 1 = omega (arith, few-kinds x) in
     rw (e, p, q) (fields-of (kind tab k) (name_at tab n (nameOffset tab k)) (offsetOrParent tab k) (sizeOrNext tab k) parent name known)
 
-pub record-at : (tab : List ℕ) (n parent k text c : ℕ) (bytes out out' : List ℕ) → c ≡ n → bytes ≡ nodeBytes parent (text - 12 * c) (nodeAt tab n k) → out' ≡ put out (12 * k) bytes → out' ≡ recordAt tab n parent k text out
+pub record-at : (tab : List ℕ) (n parent k text : ℕ) (bytes out out' : List ℕ) → bytes ≡ nodeBytes parent (text - 12 * n) (nodeAt tab n k) → out' ≡ put out (12 * k) bytes → out' ≡ recordAt tab n parent k text out
 unfolding recordAt
-record-at tab n parent k text c bytes out out' e b w = w ∙ rw (b, e)
+record-at tab n parent k text bytes out out' b w = w ∙ rw b refl
 
 -- a name that was read, and its zero byte
 module _ (tab : List ℕ) (n k text : ℕ) (out name : List ℕ) (read : name ≡ name_at tab n (nameOffset tab k)) (h : text + nameSize tab n k + 1 ≤ length out) where

@@ -2,11 +2,12 @@
 // The table is in preorder, so what is written is what `writeFlat` writes, entry by entry, and that is `encode` of the table's entries.
 #![tactic(auto)]
 
-ghost use Rattle.std.specs.Prelude.{◌≡◌, ◌+◌, ◌*◌, ◌≤◌, ◌<◌, ◌^◌, length};
+ghost use Rattle.std.specs.Prelude.{◌≡◌, ◌+◌, ◌≤◌, ◌<◌, ◌^◌, length};
 ghost use Rattle.endian.specs.Bytes.{put};
 ghost use Rattle.tree.specs.Table.{kind, sizeOrNext, count, nodesOf, parent_of, encode};
 ghost use Rattle.fst_measure.specs.Inner.Valid.{Valid};
-ghost use Rattle.fst_measure.specs.Inner.Flat.{afterIn, textTo, writeTo, rootAt, Room};
+ghost use Rattle.fst_measure.specs.Inner.Flat.{afterIn, rootAt};
+ghost use Rattle.fst_write.specs.Inner.Writing.{text_after, out_after, HasRoom};
 
 use fst_measure::{Kind, Source};
 use fst_record::Record;
@@ -29,28 +30,32 @@ impl<'o> Writer<'o> {
 
     // Writes the record and the name of entry k, and nothing that is in it.
     fn write_one(&mut self, source: &Source<'_>, k: usize, parent: u32)
-        requires entry { (0 < k) × (k < count source.now) × (parent ≡ parent_of (nodesOf source.now) k) }
-        requires room { Room (count source.now) self.old.text (textTo source.now (count source.now) k (k + 1) self.old.text) (length self.old.out.now) }
-        ensures text { self.new.text ≡ textTo source.now (count source.now) k (k + 1) self.old.text }
-        ensures out { self.new.out.now ≡ writeTo source.now (count source.now) k (k + 1) self.old.text self.old.out.now }
+        requires further { 0 < k }
+        requires within { k < count source.now }
+        requires parent { parent ≡ parent_of (nodesOf source.now) k }
+        requires room { HasRoom self.old source.now k (k + 1) }
+        ensures text { self.new.text ≡ text_after self.old source.now k (k + 1) }
+        ensures out { self.new.out.now ≡ out_after self.old source.now k (k + 1) }
         ensures length { length self.new.out.now ≡ length self.old.out.now }
         ensures same_reference { self.new.out.ghost_name ≡ self.old.out.ghost_name }
     {
         // Locals: what stands behind `self` would be read again after each write.
         let text = self.text;
         let out = &mut *self.out;
-        fst_record::write_record(source, out, k, parent, text);
+        fst_record::write_record(source.bytes(), out, source.count(), k, parent, text);
         self.text = fst_record::write_name(source, out, k, text);
     }
 
     // Writes entry k, and if it is a directory all that is in it, and returns the entry after it in its directory.
     #[cycle(write_directory_write_entry)]
     fn write_entry(&mut self, source: &Source<'_>, k: usize, parent: u32) -> usize
-        requires entry { (0 < k) × (k < count source.now) × (parent ≡ parent_of (nodesOf source.now) k) }
-        requires room { Room (count source.now) self.old.text (textTo source.now (count source.now) k (afterIn source.now k) self.old.text) (length self.old.out.now) }
+        requires further { 0 < k }
+        requires within { k < count source.now }
+        requires parent { parent ≡ parent_of (nodesOf source.now) k }
+        requires room { HasRoom self.old source.now k (afterIn source.now k) }
         ensures next { result ≡ afterIn source.now k }
-        ensures text { self.new.text ≡ textTo source.now (count source.now) k (afterIn source.now k) self.old.text }
-        ensures out { self.new.out.now ≡ writeTo source.now (count source.now) k (afterIn source.now k) self.old.text self.old.out.now }
+        ensures text { self.new.text ≡ text_after self.old source.now k (afterIn source.now k) }
+        ensures out { self.new.out.now ≡ out_after self.old source.now k (afterIn source.now k) }
         ensures length { length self.new.out.now ≡ length self.old.out.now }
         ensures same_reference { self.new.out.ghost_name ≡ self.old.out.ghost_name }
     {
@@ -60,7 +65,7 @@ impl<'o> Writer<'o> {
             Kind::File => k + 1,
             Kind::Directory => {
                 self.write_directory(source, k);
-                source.next(k) as usize
+                fst_measure::after(source.bytes(), k)
             }
         }
     }
@@ -68,10 +73,11 @@ impl<'o> Writer<'o> {
     // Writes all that is in directory k.
     #[cycle(write_directory_write_entry)]
     fn write_directory(&mut self, source: &Source<'_>, k: usize)
-        requires directory { (k < count source.now) × (kind source.now k ≡ 1) }
-        requires room { Room (count source.now) self.old.text (textTo source.now (count source.now) (k + 1) (sizeOrNext source.now k) self.old.text) (length self.old.out.now) }
-        ensures text { self.new.text ≡ textTo source.now (count source.now) (k + 1) (sizeOrNext source.now k) self.old.text }
-        ensures out { self.new.out.now ≡ writeTo source.now (count source.now) (k + 1) (sizeOrNext source.now k) self.old.text self.old.out.now }
+        requires within { k < count source.now }
+        requires directory { kind source.now k ≡ 1 }
+        requires room { HasRoom self.old source.now (k + 1) (sizeOrNext source.now k) }
+        ensures text { self.new.text ≡ text_after self.old source.now (k + 1) (sizeOrNext source.now k) }
+        ensures out { self.new.out.now ≡ out_after self.old source.now (k + 1) (sizeOrNext source.now k) }
         ensures length { length self.new.out.now ≡ length self.old.out.now }
         ensures same_reference { self.new.out.ghost_name ≡ self.old.out.ghost_name }
     {
@@ -88,7 +94,8 @@ impl<'o> Writer<'o> {
 
 // Writes the root's record: a directory with no name, with parent 0, that reaches to the end of the table.
 fn write_root(out: &mut [u8], count: usize)
-    requires { (12 ≤ length out.old) × (count ≤ 16384) }
+    requires room { 12 ≤ length out.old }
+    requires few { count ≤ 16384 }
     ensures { out.new ≡ rootAt count out.old }
 {
     let root = Record {

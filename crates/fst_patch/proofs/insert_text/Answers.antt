@@ -5,4 +5,4 @@ use Rattle.fst_patch.proofs.insert_text.Goals as goal
 pub returns : goal.returns
 returns c =
     let s = c in
-    cc (texts-moved s.args.table.now s.args.size s.args.count s.args.start s.args.name.now s.requires.0 s.requires.1)
+    cc (texts-moved s.args.table.now s.args.size s.args.count s.args.start s.args.name.now s.requires.start s.requires.room)

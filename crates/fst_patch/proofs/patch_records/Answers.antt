@@ -8,7 +8,8 @@ use Rattle.fst_patch.proofs.patch_records.Goals as goal
 pub patch_up_to-requires : goal.patch_up_to-requires
 patch_up_to-requires c =
     let e = c.args.entry.now in
-    up-to-turn c.args.table.now c.args.count e.parent e.number (is_directory e.kind) e.name.now e.start c.requires _ c.patch_behind.ensures _ c.write.ensures
+    let r = up-to-turn c.args.table.now c.args.count e.parent e.number (is_directory e.kind) e.name.now e.start c.requires _ c.patch_behind.ensures _ c.write.ensures in
+    record { within = r.0; raisable = r.1 }
 
 pub returns : goal.returns
 returns c =

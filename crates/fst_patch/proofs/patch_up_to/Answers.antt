@@ -8,17 +8,18 @@ use Rattle.fst_patch.proofs.patch_up_to.Goals as goal
 pub loop-k-init : goal.loop-k-init
 loop-k-init c =
     let s = c in
-    fill_start s.args.table.now (recordBefore s.args.table.now s.args.p) (before-twelve s.args.table.now s.args.p) (s.args.p + 1) s.requires.0
+    fill_start s.args.table.now (recordBefore s.args.table.now s.args.p) (before-twelve s.args.table.now s.args.p) (s.args.p + 1) s.requires.within
 
 pub patch_before-requires : goal.patch_before-requires
 patch_before-requires c =
     let s = c in
     let l = c.loop-k in
-    before-turn s.args.table.now s.args.p s.requires.0 l.table l.k l.invariant c.loop-k-test.true s.requires.1
+    let r = before-turn s.args.table.now s.args.p s.requires.within l.table l.k l.invariant c.loop-k-test.true s.requires.raisable in
+    record { before = r.0; within = r.1; raisable = r.2 }
 
 pub loop-k-preserved : goal.loop-k-preserved
 loop-k-preserved c =
     let s = c in
     let l = c.loop-k in
     let w = c.patch_before in
-    before-again s.args.table.now s.args.p s.requires.0 l.table l.k l.invariant c.loop-k-test.true _ w.ensures w.auto.table
+    before-again s.args.table.now s.args.p s.requires.within l.table l.k l.invariant c.loop-k-test.true _ w.ensures w.auto.table

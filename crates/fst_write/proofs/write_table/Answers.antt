@@ -13,7 +13,7 @@ write_root-requires c =
     let tab = c.args.table.now in
     let v = c.requires.valid in
     let z = encode-size tab (count tab) v in
-    rw c.count-count.ensures.value (rw c.new-source.ensures (omega (arith, v.some, c.requires.table_in_bounds), omega (arith, v.few)))
+    rw c.count-count.ensures.value (rw c.new-source.ensures record { room = omega (arith, v.some, c.requires.table_in_bounds); few = omega (arith, v.few) })
 
 pub write_directory-requires-clause-room : goal.write_directory-requires-clause-room
 write_directory-requires-clause-room c =
