@@ -17,7 +17,7 @@ use Rattle.opened.specs.Inner.Disc.{Disc, Means}
 -- ---- the numbers of a change
 
 abbrev pub changeWith : List Node → Writing → Change
-changeWith nodes w = record { nodes = nodes; old = w.old; place = w.place; kept = w.kept; lost = w.lost }
+changeWith nodes w = record { nodes = nodes; old = w.old; place = w.place; kept = w.kept; lost = record { offset = w.lost.offset; size = w.lost.size } }
 
 -- a change with a place, for the tests of its table
 abbrev pub placing : List Node → DiscRegion → Change
