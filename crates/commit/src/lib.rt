@@ -5,13 +5,20 @@ mod table;
 mod written;
 
 ghost use Rattle.std.specs.Prelude.{◌≡◌, length};
-ghost use Rattle.commit.specs.Inner.Decision.{CanCarry, number_of, carriedImage};
+ghost use Rattle.commit.specs.Inner.Decision.{CanCarry, number_of, carriedAnswer, carriedImage};
 
+use refusal::Refusal;
 use space::DiscRegion;
 pub use table::{check_place, check_table, write_table};
 
-/// What an edit does to the image besides the table. In a region of no bytes nothing is done, wherever it lies.
-// Kept: a region of no bytes, and no `Option`, which is no plainer: an empty file's place is such a region too.
+/// Bytes of an image: from `offset` on, `size` of them.
+#[derive(Clone, Copy, Debug, PartialEq, Eq)]
+pub struct Span {
+    pub offset: usize,
+    pub size: usize,
+}
+
+/// What an edit does to the image besides the table. Where there are no bytes nothing is done, wherever that lies.
 #[derive(Clone, Copy, Debug, PartialEq, Eq)]
 pub struct Writing {
     /// Where the edited file lies before.
@@ -19,18 +26,19 @@ pub struct Writing {
     /// Where it lies afterwards.
     pub place: DiscRegion,
     /// How many bytes are copied from the old place to the new one, before the table is written.
-    pub kept: u32,
+    pub kept: usize,
     /// What is zeroed after the table is written.
-    pub lost: DiscRegion,
+    pub lost: Span,
 }
 
 impl Writing {
     /// No byte but the table's.
+    // Kept: places without bytes, and no `Option` (N): an empty file's place is one too, and is written by no branch of its own.
     pub const NOTHING: Writing = Writing {
         old: DiscRegion { offset: 0, size: 0 },
         place: DiscRegion { offset: 0, size: 0 },
         kept: 0,
-        lost: DiscRegion { offset: 0, size: 0 },
+        lost: Span { offset: 0, size: 0 },
     };
 }
 
@@ -78,4 +86,18 @@ impl Decision {
             }
         }
     }
+}
+
+/// Carries a decision out and gives the entry's number, or hands the refusal back with the image as it was.
+pub fn finish(
+    image: &mut [u8],
+    bytes: &[u8],
+    clip: &[u8],
+    decided: Result<Decision, Refusal>,
+) -> Result<u32, Refusal>
+    requires { CanCarry image.old (length bytes.now) clip.now decided }
+    ensures answer { result ≡ carriedAnswer decided }
+    ensures image_after { image.new ≡ carriedImage decided bytes.now clip.now image.old }
+{
+    Ok(decided?.carry_out(image, bytes, clip))
 }

@@ -1,5 +1,5 @@
 // The new table: whether it can be written, and the tree of an open disc written anew into the working bytes.
-ghost use Rattle.std.specs.Prelude.{◌≡◌, ◌&&◌, ◌+◌, ◌≤◌, ◌^◌, ltb, length, IfOk};
+ghost use Rattle.std.specs.Prelude.{◌≡◌, ◌≤◌, ◌^◌, length, IfOk};
 ghost use Rattle.endian.specs.Bytes.{put};
 ghost use Rattle.tree.specs.Table.{encode};
 ghost use Rattle.commit.specs.Inner.Judged.{place_verdict, judged_size};
@@ -8,40 +8,27 @@ use opened::OpenDisc;
 use refusal::{Refusal, Verdict};
 use space::DiscRegion;
 
-// Whether a place that is not empty starts before `end`.
-fn reaches(place: DiscRegion, end: usize) -> bool
-    ensures { result ≡ (ltb 0 place.size && ltb place.offset end) }
-{
-    place.size != 0 && (place.offset as usize) < end
-}
-
-// Whether the header states a maximum, and a table of that size is above it.
-fn above_maximum(disc: &OpenDisc<'_>, size: usize) -> bool
-    ensures { result ≡ (ltb 0 disc.now.maximum && ltb disc.now.maximum size) }
-{
-    let maximum = disc.maximum();
-    maximum != 0 && (maximum as usize) < size
-}
-
 /// The tests of a table of `size` bytes, where `room` working bytes are lent: 9 if these are too few, 26 if it is
 /// above the stated maximum, 21 if there is no room for it behind the old table, or before the edited file's new
 /// place.
-#[tactic(auto, using(std::proofs::lemmas::Bool::Decides::nat_tests), unfolding(crate::specs::Inner::Judged::place_verdict))]
+#[tactic(auto, unfolding(crate::specs::Inner::Judged::place_verdict))]
 pub fn check_place(disc: &OpenDisc<'_>, room: usize, size: usize, place: DiscRegion) -> Verdict
     ensures { result ≡ place_verdict disc.now room size place }
 {
     if room < size {
         return Err(Refusal::LimitOrMemory);
     }
-    if above_maximum(disc, size) {
+    let maximum = disc.maximum() as usize;
+    if maximum != 0 && maximum < size {
         return Err(Refusal::TableAboveMaximum);
     }
     let start = disc.start();
-    let most = disc.max_region_size(start, disc.room());
-    if (most as usize) < size {
+    let most = disc.max_region_size(start, disc.room()) as usize;
+    if most < size {
         return Err(Refusal::NotEnoughSpace);
     }
-    if reaches(place, start as usize + size) {
+    let table_end = start as usize + size;
+    if place.size != 0 && (place.offset as usize) < table_end {
         return Err(Refusal::NotEnoughSpace);
     }
     Ok(())
@@ -61,7 +48,8 @@ pub fn check_table(disc: &OpenDisc<'_>, room: usize, place: DiscRegion) -> Resul
 
 /// The tree as it is, written anew.
 pub fn write_table(disc: &OpenDisc<'_>, bytes: &mut [u8])
-    requires { (length (encode disc.now.nodes) ≤ length bytes.old) × (length (encode disc.now.nodes) ≤ 2 ^ 24) }
+    requires held { length (encode disc.now.nodes) ≤ length bytes.old }
+    requires small { length (encode disc.now.nodes) ≤ 2 ^ 24 }
     ensures { bytes.new ≡ put bytes.old 0 (encode disc.now.nodes) }
 {
     fst_write::write_table(disc.table(), bytes);

@@ -54,14 +54,9 @@ pub(crate) fn write_change(image: &mut [u8], bytes: &[u8], size: usize, writing:
     } = writing;
     let fst_offset = header::fst_offset(image) as usize;
     let fst_size = header::fst_size(image) as usize;
-    copy_kept(
-        image,
-        old.offset as usize,
-        place.offset as usize,
-        kept as usize,
-    );
+    copy_kept(image, old.offset as usize, place.offset as usize, kept);
     commit(image, bytes, fst_offset, fst_size, size);
-    zero_lost(image, lost.offset as usize, lost.size as usize);
+    zero_lost(image, lost.offset, lost.size);
 }
 
 // No byte may be asked for at a place past the image: an empty file may lie anywhere.

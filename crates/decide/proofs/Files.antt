@@ -1,7 +1,7 @@
 -- A file of a disc: found by its number, given another place, and what that place asks. Assumes nothing.
 use Rattle.std.specs.Prelude.{Result, Ok, Err, IfOk}
 use Rattle.refusal.specs.Refusal.{Verdict, refuse, first}
-use Prim.Native.Nat.{ℕ, ◌+◌, ◌-◌, ◌*◌, ◌≤◌, ◌<◌, min}
+use Prim.Native.Nat.{ℕ, ◌+◌, ◌-◌, ◌*◌, ◌≤◌, ◌<◌}
 use mathlib.Core.Path.{◌≡◌, refl, sym, ap, ◌∙◌}
 use mathlib.Core.Bool.{Bool, true, false, cond}
 use mathlib.Core.List.{List, ◌++◌}
@@ -29,7 +29,7 @@ use Rattle.commit.specs.declared.Decision.TheVariants as decision
 use Rattle.edits.specs.Change.{change}
 use Rattle.edits.specs.Edits.{fileVerdict, relocateVerdict, relocated, planned, planMove, planResize, planSized}
 use Rattle.decide.specs.declared.File.{File}
-use Rattle.decide.specs.Inner.Files.{IsFile, file_in, fileOf, IsFileOf}
+use Rattle.decide.specs.Inner.Files.{IsFile, file_in, fileOf, IsFileOf, relocation_of}
 use Rattle.commit.specs.Inner.Decision.{InImage, Decided, behind_tests}
 use Rattle.commit.proofs.Puts.{put-inside}
 use Rattle.commit.proofs.Decisions.{tests-passed, tests-refused, planned-first, behind-passed, behind-refused}
@@ -112,9 +112,8 @@ module _ (image : List ℕ) (words : ℕ) (known : OpenImage image words) (k : �
   ends : 0 < old.size → old.offset + old.size ≤ length image
   ends z = omega (arith, (rw here at (file-lies image words known k (rw here z))).1, end-in-image image words known)
 
-  pub relocate-inside : (new : DiscRegion) (kept : ℕ) → relocateVerdict (freeOf image) old new ≡ Ok tt → kept ≡ min old.size new.size →
-      InImage (length image) (record { old = old; place = new; kept = kept; lost = old })
-  relocate-inside new kept p e = record {
+  pub relocate-inside : (new : DiscRegion) → relocateVerdict (freeOf image) old new ≡ Ok tt → InImage (length image) (relocation_of old new)
+  relocate-inside new p = record {
     copied = record {
       from = λ z. omega (arith, ends (omega arith));
       into = λ z. omega (arith, (new-place image words known old new p (omega arith)).1, end-in-image image words known);

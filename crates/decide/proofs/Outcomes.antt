@@ -1,6 +1,6 @@
 -- What each function that decides found, as the decision that its plan comes to on an image that means the disc. Assumes nothing.
 use Rattle.std.specs.Prelude.{Result, Ok, Err}
-use Prim.Native.Nat.{ℕ, ◌+◌, ◌-◌, ◌*◌, ◌≤◌, min}
+use Prim.Native.Nat.{ℕ, ◌+◌, ◌-◌, ◌*◌, ◌≤◌}
 use mathlib.Core.Path.{◌≡◌, sym, ◌∙◌}
 use mathlib.Core.List.{List, ◌++◌}
 use native.Mathlib.Omega.{arith}
@@ -18,13 +18,13 @@ use Rattle.edits.specs.Edits.{noPlace, tableOnly, relocateVerdict}
 use Rattle.opened.specs.Inner.Disc.{Disc, free_of, Means}
 use Rattle.commit.specs.declared.Writing.{Writing}
 use Rattle.commit.specs.declared.Decision.TheVariants as decision
-use Rattle.commit.specs.Inner.Decision.{InImage, Decided, placing, changeWith}
+use Rattle.commit.specs.Inner.Decision.{InImage, Decided, placing, changeWith, nothing_besides}
 use Rattle.commit.specs.Inner.Judged.{judged_size}
 use Rattle.commit.proofs.Puts.{span-start}
 use Rattle.commit.proofs.Decisions.{tests-refused, refused-decided, write-decided, same_tests, length-encode-setPlace}
 use Rattle.commit.proofs.Discs.{nodes_are, free_is, judged_is, new_table}
 use Rattle.decide.specs.declared.File.{File}
-use Rattle.decide.specs.Inner.Files.{IsFile, IsFileOf}
+use Rattle.decide.specs.Inner.Files.{IsFile, IsFileOf, relocation_of}
 use Rattle.decide.proofs.Files.{placed-table, relocate-inside, resize-inside}
 
 -- a table that holds the tree has the file's entry
@@ -43,10 +43,10 @@ module _ (image : List ℕ) (d : Disc) (m : Means image d) where
     rewrite-refused c after e = refused-decided image d.words (length bytes) after (change 0 (tableOnly d.nodes)) c (past bytes noPlace r judged c e)
 
     pub rewrite-decided : (size : ℕ) (after : List ℕ) → r ≡ Ok size → after ≡ put bytes 0 (encode d.nodes) →
-        Decided (change 0 (tableOnly d.nodes)) image d.words (length bytes) after (Ok (decision.Write 0 size (record { old = noPlace; place = noPlace; kept = 0; lost = noPlace })))
+        Decided (change 0 (tableOnly d.nodes)) image d.words (length bytes) after (Ok (decision.Write 0 size nothing_besides))
     rewrite-decided size after e h =
         let n = new_table image d m (length bytes) noPlace r judged size e in
-        write-decided image d.words (length bytes) after 0 d.nodes size (record { old = noPlace; place = noPlace; kept = 0; lost = noPlace })
+        write-decided image d.words (length bytes) after 0 d.nodes size nothing_besides
         (record { table = n.fits; inside = record { copied = record { from = λ z. omega arith; into = λ z. omega arith }; zeroed = record { into = λ z. omega arith } } }) n.passed
         (span-start bytes (encode d.nodes) after size h n.held n.length-is)
 
@@ -73,10 +73,9 @@ module _ (image : List ℕ) (d : Disc) (m : Means image d) where
     here : regionOf (get_or d.nodes f.number none) ≡ f.place
     here = h.place
 
-    pub relocated-in-image : (new : DiscRegion) (kept : ℕ) (v : Verdict) → v ≡ relocateVerdict (free_of d) f.place new → v ≡ Ok tt → kept ≡ min f.place.size new.size →
-        InImage (length image) (record { old = f.place; place = new; kept = kept; lost = f.place })
-    relocated-in-image new kept v judged passed e =
-        relocate-inside image d.words m.known f.number f.place (rw (nodes_are image d m) here) new kept (rw (free_is image d m) (sym judged ∙ passed)) e
+    pub relocated-in-image : (new : DiscRegion) (v : Verdict) → v ≡ relocateVerdict (free_of d) f.place new → v ≡ Ok tt → InImage (length image) (relocation_of f.place new)
+    relocated-in-image new v judged passed =
+        relocate-inside image d.words m.known f.number f.place (rw (nodes_are image d m) here) new (rw (free_is image d m) (sym judged ∙ passed))
 
     pub resized-in-image : (n lost : ℕ) → lost ≡ f.place.size - n →
         InImage (length image) (record { old = f.place; place = record { offset = f.place.offset; size = n }; kept = 0; lost = record { offset = f.place.offset + n; size = lost } })

@@ -1,5 +1,5 @@
 -- Where a file that keeps its place ends. Assumes nothing.
-use Prim.Native.Nat.{ℕ, ◌+◌, ◌<◌, ◌≤◌, ◌^◌, max}
+use Prim.Native.Nat.{ℕ, ◌+◌, ◌<◌, ◌≤◌, max}
 use mathlib.Core.Path.{◌≡◌}
 use mathlib.Core.Logic.{inr, ⊎_elim}
 use mathlib.Core.Bool.{true, ◌||◌}
@@ -19,11 +19,8 @@ use Rattle.free_space.specs.Laws.GrowthLaws.{file-largest}
 use Rattle.opening.specs.Opening.{nodesIn, regionOf, behindTable, usedIn, freeOf}
 use Rattle.opening.specs.Inner.Prepared.{OpenImage}
 use Rattle.edits.specs.Laws.PlaceTests.{in-region}
-use Rattle.opened.specs.Inner.Disc.{Disc, free_of}
-use Rattle.commit.proofs.Images.{file-lies, place-lies, end-small}
-use Rattle.commit.proofs.Discs.{nodes_are, free_is}
-use Rattle.decide.specs.declared.File.{File}
-use Rattle.decide.specs.Inner.Files.{IsFile, IsFileOf}
+use Rattle.commit.proofs.Images.{file-lies, place-lies}
+use Rattle.decide.specs.Inner.Files.{IsFile}
 
 -- a file's region is one of its table's
 in-files : (xs : List Node) (k : ℕ) → k < length xs → In (regionOf (get_or xs k none)) (map regionOf xs)
@@ -52,17 +49,3 @@ module _ (image : List ℕ) (words : ℕ) (known : OpenImage image words) (k : �
           let e : old.size ≡ 0 = omega arith in
           ⊎_elim (λ a. absurd (omega (arith, leb-true n old.size a)))
           (λ a. place-lies image words known old.offset n (rw e at (leb-true n (maxRegionSize old.offset old.size (freeOf image)) a)) z) (or_cases (leb n old.size) _ t)
-
--- so the number of the byte behind it has 32 bits
-pub stays-small : (d : Disc) (f : File) (n : ℕ) → IsFileOf d f → (leb n f.place.size || leb n (maxRegionSize f.place.offset f.place.size (free_of d))) ≡ true → f.place.offset < 2 ^ 32 → f.place.offset + n < 2 ^ 32
-stays-small d f n h t small = ⊎_elim some no-byte (lt-or-le 0 n)
-  where
-    some : 0 < n → f.place.offset + n < 2 ^ 32
-    some z =
-        let nodes = nodes_are h.image d h.means in
-        let here : regionOf (get_or (nodesIn h.image) f.number none) ≡ f.place = rw nodes h.place in
-        let l = stays-on-disc h.image d.words h.means.known f.number (rw nodes h.is) f.place here n (rw (free_is h.image d h.means) t) z in
-        omega (arith, l.1, end-small h.image d.words h.means.known)
-
-    no-byte : n ≤ 0 → f.place.offset + n < 2 ^ 32
-    no-byte z = omega arith

@@ -5,11 +5,11 @@ ghost use Rattle.edits.specs.Change.{change};
 ghost use Rattle.edits.specs.Edits.{tableOnly, planned, overlapsItself, relocateVerdict, relocated, planMove};
 ghost use Rattle.opened.specs.Inner.Disc.{free_of, Means};
 ghost use Rattle.commit.specs.Inner.Decision.{InImage, changeWith, Decides};
-ghost use Rattle.decide.specs.Inner.Files.{IsFile, IsFileOf};
+ghost use Rattle.decide.specs.Inner.Files.{IsFile, IsFileOf, relocation_of};
 
 use crate::File;
 use crate::finding::file_at;
-use commit::{Decision, Writing};
+use commit::{Decision, Span, Writing};
 use opened::OpenDisc;
 use refusal::{Refusal, Verdict};
 use space::DiscRegion;
@@ -70,7 +70,22 @@ fn check_relocate(disc: &OpenDisc<'_>, old: DiscRegion, new: DiscRegion) -> Verd
     Ok(())
 }
 
-// The file goes from one place to another: the smaller of both sizes is copied, and the old place is zeroed.
+// What a move writes besides the table: the smaller of both sizes is copied, and the old place is zeroed.
+fn relocation(old: DiscRegion, new: DiscRegion) -> Writing
+    ensures { result ≡ relocation_of old new }
+{
+    Writing {
+        old,
+        place: new,
+        kept: old.size.min(new.size) as usize,
+        lost: Span {
+            offset: old.offset as usize,
+            size: old.size as usize,
+        },
+    }
+}
+
+// The file goes from one place to another.
 pub(crate) fn relocate(
     disc: &OpenDisc<'_>,
     bytes: &mut [u8],
@@ -82,15 +97,8 @@ pub(crate) fn relocate(
         let plan = planned (relocateVerdict (free_of disc.now) file.place new) moved in
         Decides plan disc.now (length bytes.old) bytes.new result }
 {
-    let old = file.place;
-    check_relocate(disc, old, new)?;
-    let writing = Writing {
-        old,
-        place: new,
-        kept: old.size.min(new.size),
-        lost: old,
-    };
-    set_place(disc, bytes, file.number, writing)
+    check_relocate(disc, file.place, new)?;
+    set_place(disc, bytes, file.number, relocation(file.place, new))
 }
 
 /// The file of that number goes to another offset: 15, 16, 20 if it would overlap itself, 21 if its new place is not

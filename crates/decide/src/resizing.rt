@@ -1,5 +1,5 @@
 // What a resize decides on, for every image that means the disc.
-ghost use Rattle.std.specs.Prelude.{◌≡◌, ◌||◌, ◌+◌, ◌^◌, ◌<◌, leb, length};
+ghost use Rattle.std.specs.Prelude.{◌≡◌, ◌||◌, leb, length};
 ghost use Rattle.free_space.specs.MaxRegionSize.{maxRegionSize};
 ghost use Rattle.free_space.specs.Allocate.{allocationOf};
 ghost use Rattle.edits.specs.Change.{change};
@@ -11,7 +11,7 @@ ghost use Rattle.decide.specs.Inner.Files.{IsFileOf};
 use crate::File;
 use crate::finding::file_at;
 use crate::moving::{relocate, set_place};
-use commit::{Decision, Writing};
+use commit::{Decision, Span, Writing};
 use opened::OpenDisc;
 use refusal::Refusal;
 use space::DiscRegion;
@@ -31,8 +31,7 @@ fn resize_in_place(
     file: File,
     new_size: u32,
 ) -> Result<Decision, Refusal>
-    requires file { IsFileOf disc.now file }
-    requires ends { file.place.offset + new_size < 2 ^ 32 }
+    requires { IsFileOf disc.now file }
     ensures { let plan = change file.number (resized disc.now.nodes file.number file.place new_size) in
         Decides plan disc.now (length bytes.old) bytes.new result }
 {
@@ -44,9 +43,9 @@ fn resize_in_place(
             size: new_size,
         },
         kept: 0,
-        lost: DiscRegion {
-            offset: old.offset + new_size,
-            size: old.size.saturating_sub(new_size),
+        lost: Span {
+            offset: old.offset as usize + new_size as usize,
+            size: old.size.saturating_sub(new_size) as usize,
         },
     };
     set_place(disc, bytes, file.number, writing)

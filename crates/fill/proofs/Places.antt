@@ -64,7 +64,7 @@ unfolding tableVerdict
 clear image c n words room size bytes w l v t s e =
     let p : c.place ≡ w.place = ap (λ (x : Change). x.place) e in
     let q : c.kept ≡ w.kept = ap (λ (x : Change). x.kept) e in
-    let o : c.lost ≡ w.lost = ap (λ (x : Change). x.lost) e in
+    let o : c.lost ≡ record { offset = w.lost.offset; size = w.lost.size } = ap (λ (x : Change). x.lost) e in
     let long : length (encode c.nodes) ≡ size = ap length (sym t) ∙ length-span bytes 0 size (omega arith) in
     let tests = place-passed image room (length (encode c.nodes)) c.place (first-passed (limits c.nodes words) _ v).1 in
     record {
@@ -72,7 +72,7 @@ clear image c n words room size bytes w l v t s e =
       old-table = λ y. rw (← p) (l.behind y).0;
       new-table = λ y. rw (← p, ← long) (tests.before (omega (arith, l.size)));
       covers = rw (← q) l.covers;
-      apart = λ y. rw (← p, ← o) (l.apart y);
+      apart = λ y. rw (p, o) at (l.apart y);
     }
 
 module _ (image : List ℕ) (words : ℕ) (known : OpenImage image words) (k : ℕ) (f : IsFile (nodesIn image) k) (old : DiscRegion) (here : regionOf (get_or (nodesIn image) k none) ≡ old) (n : ℕ) where

@@ -9,7 +9,7 @@ use fst_measure::Kind;
 use refusal::{Refusal, Verdict};
 
 /// An entry that is to be the last child of its parent.
-#[derive(Clone, Copy)]
+#[derive(Clone, Copy, Debug, PartialEq, Eq)]
 pub struct NewEntry<'a> {
     /// The number of the directory that it is inserted in.
     pub parent: u32,

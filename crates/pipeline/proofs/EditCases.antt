@@ -4,7 +4,6 @@ use Rattle.std.proofs.Common.{refl, ap, ◌∙◌}
 use Rattle.refusal.specs.Refusal.{Verdict}
 use Rattle.refusal.specs.declared.Refusal.{Refusal}
 use Rattle.totals.specs.declared.Totals.{Totals}
-use Rattle.totals.specs.Inner.Scan.{moved}
 use Rattle.opening.specs.Opening.{opening, nodesIn, behindTable, usedIn, freeOf}
 use Rattle.edits.specs.Edits as edits
 use Rattle.edits.specs.Edits.{planned, plan_of, planVerdict, numberedAs}
@@ -12,9 +11,9 @@ use Rattle.edits.specs.Promise.{Lent, onlyVerdict, Edited}
 use Rattle.opened.specs.Inner.Disc.{Disc, disc_of, Means}
 use Rattle.commit.specs.declared.Decision.{Decision}
 use Rattle.commit.specs.Inner.Decision.{DecidedAs, verdictIn}
-use Rattle.totals_after.specs.Inner.Accounting.{OnDisc, OfUsed, accounted, unless, enteredFor, AccountedFor}
+use Rattle.totals_after.specs.Inner.Accounting.{OnDisc, OfUsed, Accounted, accountOf, AccountedFor}
 use Rattle.totals_after.specs.Laws.AccountLaws.{on-disc}
-use Rattle.totals_after.proofs.Edited.{refused-decision, open-accounted}
+use Rattle.totals_after.proofs.Edited.{open-accounted}
 use Rattle.pipeline.specs.Inner.Decides.{plan_on, EditDecided}
 
 -- the plan of an edit is that of the disc which the image means
@@ -34,18 +33,13 @@ module _ (ed : edits.Edit) (image : List ℕ) (words : ℕ) (d : Disc) (o : Mean
   pub decided_as : (r : Result Decision Refusal) → EditDecided ed d room bytes clip r → DecidedAs (planVerdict (plan_of ed image) image d.words room) (plan_of ed image) image room bytes clip r
   decided_as r h = rw (plan_same ed image d.words ∙ ap (plan_on ed) o.0.is) (h.decided image o.0)
 
-  -- refused by its own tests
-  pub edit-refused : (c : Refusal) (t : Totals) → EditDecided ed d room bytes clip (Err c) → length bytes ≡ room →
-      AccountedFor (planned (opening image words) (plan_of ed image)) image words room bytes clip t (accounted (Err c) t)
-  edit-refused c t h long = rw o.1 at (refused-decision ed h.passable image d o.0 room bytes clip long c t (decided_as (Err c) h))
+  pub on_disc : (r : Result Decision Refusal) → EditDecided ed d room bytes clip r → length bytes ≡ room → OnDisc d r
+  on_disc r h long = on-disc d image o.0 room bytes clip long (plan_of ed image) r (decided_as r h)
 
-  pub on_disc : (r : Decision) → EditDecided ed d room bytes clip (Ok r) → length bytes ≡ room → OnDisc d r
-  on_disc r h long = on-disc d image o.0 room bytes clip long (plan_of ed image) r (decided_as (Ok r) h)
-
-  -- entered in the record, by the answer
-  pub edit-accounted : (r : Decision) → EditDecided ed d room bytes clip (Ok r) → (v : Verdict) (t t' : Totals) → OfUsed d (λ image' behind. moved v t' ≡ enteredFor image' behind r t) → length bytes ≡ room →
-      AccountedFor (planned (opening image words) (plan_of ed image)) image words room bytes clip t (accounted (unless v r) t')
-  edit-accounted r h v t t' q long = rw o.1 at (open-accounted ed h.passable image d o.0 room bytes clip long r (decided_as (Ok r) h) v t t' q)
+  -- entered in the record
+  pub edit-accounted : (r : Result Decision Refusal) → EditDecided ed d room bytes clip r → (a : Accounted) (t : Totals) → OfUsed d (λ image' behind. a ≡ accountOf image' behind r t) → length bytes ≡ room →
+      AccountedFor (planned (opening image words) (plan_of ed image)) image words room bytes clip t a
+  edit-accounted r h a t q long = rw o.1 at (open-accounted ed h.passable image d o.0 room bytes clip long r (decided_as r h) a t q)
 
 -- ---- an edit that gives only that it is done
 

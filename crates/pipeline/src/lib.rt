@@ -52,7 +52,8 @@ fn fill_file(
     file: u32,
     clip: &[u8],
 ) -> Result<Decision, Refusal>
-    ensures { EditDecided (edits.fillFile file clip.now) disc.now (length bytes.old) bytes.new clip.now result }
+    ensures { let asked = edits.fillFile file clip.now in
+        EditDecided asked disc.now (length bytes.old) bytes.new clip.now result }
 {
     fill::fill(disc, bytes, file, clip)
 }
@@ -63,7 +64,8 @@ pub fn decide_open(
     bytes: &mut [u8],
     edit: Edit<'_>,
 ) -> Result<Decision, Refusal>
-    ensures { EditDecided (editOf edit.entry) disc.now (length bytes.old) bytes.new (clipOf edit.entry) result }
+    ensures { let clip = clipOf edit.entry in
+        EditDecided (editOf edit.entry) disc.now (length bytes.old) bytes.new clip result }
 {
     match edit {
         Edit::Rewrite => decide::rewrite(disc, bytes),
@@ -85,12 +87,15 @@ fn decide(
     totals: &mut Totals,
     edit: Edit<'_>,
 ) -> Result<Decision, Refusal>
-    ensures { AccountedFor (planned (opening image.now (length words.old)) (plan_of (editOf edit.entry) image.now)) image.now (length words.old) (length bytes.old) bytes.new (clipOf edit.entry) totals.old (accounted result totals.new) }
+    ensures { let opened = opening image.now (length words.old) in
+        let plan = planned opened (plan_of (editOf edit.entry) image.now) in
+        let clip = clipOf edit.entry in
+        AccountedFor plan image.now (length words.old) (length bytes.old) bytes.new clip
+        totals.old (accounted result totals.new) }
 {
     let disc = OpenDisc::of_image(image, words)?;
-    let decision = decide_open(&disc, bytes, edit)?;
-    totals_after::account(&disc, decision, totals)?;
-    Ok(decision)
+    let decided = decide_open(&disc, bytes, edit);
+    totals_after::account(&disc, decided, totals)
 }
 
 /// The whole edit: opens the image, makes every test, builds the new table in the working bytes, and only then writes the image. Gives the
@@ -102,12 +107,14 @@ pub fn run(
     totals: &mut Totals,
     edit: Edit<'_>,
 ) -> Result<u32, Refusal>
-    ensures { Edited numberedAs (editOf edit.entry) (lent image.old words.old bytes.old totals.old) (lent image.new words.new bytes.new totals.new) result }
+    ensures { let before = lent image.old words.old bytes.old totals.old in
+        let after = lent image.new words.new bytes.new totals.new in
+        Edited numberedAs (editOf edit.entry) before after result }
 {
     let words = Lent::new(words);
     let bytes = Lent::new(bytes);
-    let decision = decide(image, words.memory, bytes.memory, totals, edit)?;
-    Ok(decision.carry_out(image, bytes.memory, edit.clip()))
+    let decided = decide(image, words.memory, bytes.memory, totals, edit);
+    commit::finish(image, bytes.memory, edit.clip(), decided)
 }
 
 /// The whole edit, of one that gives only that it is done.
@@ -118,7 +125,9 @@ pub fn done(
     totals: &mut Totals,
     edit: Edit<'_>,
 ) -> Verdict
-    ensures { Edited onlyVerdict (editOf edit.entry) (lent image.old words.old bytes.old totals.old) (lent image.new words.new bytes.new totals.new) result }
+    ensures { let before = lent image.old words.old bytes.old totals.old in
+        let after = lent image.new words.new bytes.new totals.new in
+        Edited onlyVerdict (editOf edit.entry) before after result }
 {
     run(image, words, bytes, totals, edit)?;
     Ok(())

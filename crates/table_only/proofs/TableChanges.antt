@@ -17,10 +17,9 @@ use Rattle.fst_grow.proofs.StandingTable.{size_is, front}
 use Rattle.edits.specs.Change.{change, placeVerdict}
 use Rattle.edits.specs.Edits.{tableOnly, noPlace, planVerdict}
 use Rattle.opened.specs.Inner.Disc.{Disc, Means}
-use Rattle.commit.specs.declared.Writing.{Writing}
 use Rattle.commit.specs.declared.Decision.{Decision}
 use Rattle.commit.specs.declared.Decision.TheVariants as decision
-use Rattle.commit.specs.Inner.Decision.{Decides}
+use Rattle.commit.specs.Inner.Decision.{Decides, nothing_besides}
 use Rattle.commit.specs.Inner.Judged.{place_verdict}
 use Rattle.commit.proofs.Puts.{span-start}
 use Rattle.commit.proofs.Decisions.{refused-decided, write-decided}
@@ -44,10 +43,6 @@ unbuilt-decides M F d k s after c g b image m = refused-decided image d.words (l
 
 -- ---- a table that stands in the bytes: its place on the disc
 
--- no byte but the table's is written
-abbrev nothing_else : Writing
-nothing_else = record { old = noPlace; place = noPlace; kept = 0; lost = noPlace }
-
 module _ (s : List ℕ) (size k : ℕ) (d : Disc) (st : Stands s size d.words) (v : Verdict) (judged : v ≡ place_verdict d (length s) size noPlace) where
   place-only : (image : List ℕ) → Means image d → planVerdict (change k (tableOnly (treeIn s size))) image d.words (length s) ≡ v
   place-only image m =
@@ -57,9 +52,9 @@ module _ (s : List ℕ) (size k : ℕ) (d : Disc) (st : Stands s size d.words) (
   pub place-refuses : (c : Refusal) → v ≡ Err c → Decides (change k (tableOnly (treeIn s size))) d (length s) s (Err c)
   place-refuses c e image m = refused-decided image d.words (length s) s (change k (tableOnly (treeIn s size))) c (place-only image m ∙ e)
 
-  pub place-writes : v ≡ Ok tt → Decides (change k (tableOnly (treeIn s size))) d (length s) s (Ok (decision.Write k size nothing_else))
+  pub place-writes : v ≡ Ok tt → Decides (change k (tableOnly (treeIn s size))) d (length s) s (Ok (decision.Write k size nothing_besides))
   place-writes e image m =
-      write-decided image d.words (length s) s k (treeIn s size) size nothing_else
+      write-decided image d.words (length s) s k (treeIn s size) size nothing_besides
       (record {
         table = place-fits image d.words m.known (length s) size noPlace (place_shown image d.words (length s) size noPlace d m.is ∙ sym judged ∙ e);
         inside = record { copied = record { from = λ z. omega arith; into = λ z. omega arith }; zeroed = record { into = λ z. omega arith } };

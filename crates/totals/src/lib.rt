@@ -71,7 +71,7 @@ fn longer(best: u32, a: u64, b: u32, region: DiscRegion) -> u32
 }
 
 // Where the old place starts; 0, where no file can, if there is none.
-// Kept: a number and no Option, which is no plainer: the loop would test each region twice, and the definition says 0 too.
+// Kept: a number (N): since no file lies at 0, `gone != Some(region.offset)` would say no more than `gone != region.offset`.
 fn gone_of(old: DiscRegion) -> u32
     ensures { result ≡ goneOf old }
 {

@@ -2,17 +2,15 @@
 -- Assumes nothing.
 use Rattle.std.specs.Prelude.{Result, Ok, Err}
 use Rattle.refusal.specs.Refusal.{Verdict, first, is_refused}
-use Prim.Native.Nat.{ℕ, ◌-◌}
-use mathlib.Core.Path.{◌≡◌, refl, sym, ap, ◌∙◌}
+use Prim.Native.Nat.{ℕ}
+use mathlib.Core.Path.{◌≡◌, refl, sym, ◌∙◌}
 use mathlib.Core.Bool.{cond}
 use mathlib.Core.List.{List}
 use lib.ListN.{length}
 use Rattle.refusal.specs.declared.Refusal.{Refusal}
 use Rattle.refusal.specs.Laws.Chains.{first-passed}
-use Rattle.space.specs.Inner.Sort.{regionsIn}
 use Rattle.totals.specs.declared.Totals.{Totals}
 use Rattle.totals.specs.Totals.{totalsVerdict}
-use Rattle.totals.specs.Inner.Scan.{moved}
 use Rattle.opening.specs.Opening.{opening, usedOf, zeros}
 use Rattle.opened.specs.Inner.Disc.{Disc, Means}
 use Rattle.edits.specs.Change.{Plan, refused}
@@ -25,7 +23,7 @@ use Rattle.ledger.proofs.Laws.TreeAfter.{arrives}
 use Rattle.commit.specs.declared.Decision.{Decision}
 use Rattle.commit.specs.Inner.Decision.{CanCarry, carriedAnswer, carriedImage, DecidedAs}
 use Rattle.commit.proofs.Decisions.{answered}
-use Rattle.totals_after.specs.Inner.Accounting.{OfUsed, Accounted, accounted, unless, settledAs, enteredFor, accountOf, AccountedFor}
+use Rattle.totals_after.specs.Inner.Accounting.{OfUsed, Accounted, accounted, accountOf, AccountedFor}
 use Rattle.totals_after.specs.Laws.AccountLaws as laws
 
 -- ---- a plan, of an open image
@@ -63,25 +61,16 @@ counted p image words room d a b t t' e n = rw e n
 -- ---- an edit: opening, then its plan
 
 module _ (ed : Edit) (h : Passable ed) (image : List ℕ) (d : Disc) (m : Means image d) (room : ℕ) (bytes clip : List ℕ) (long : length bytes ≡ room) where
-  -- refused by its own tests
-  pub refused-decision : (c : Refusal) (t : Totals) → DecidedAs (planVerdict (plan_of ed image) image d.words room) (plan_of ed image) image room bytes clip (Err c) →
-      AccountedFor (planned (opening image d.words) (plan_of ed image)) image d.words room bytes clip t (accounted (Err c) t)
-  refused-decision c t k =
-      rw (behind-passed (opening image d.words) (plan_of ed image) m.known.passed)
-      (refused-accounted (plan_of ed image) image d.words room bytes clip t c _ (unfold countedVerdict in rw (← k.answer)) refl)
-
-  module _ (r : Decision) (decided : DecidedAs (planVerdict (plan_of ed image) image d.words room) (plan_of ed image) image room bytes clip (Ok r)) where
+  module _ (r : Result Decision Refusal) (decided : DecidedAs (planVerdict (plan_of ed image) image d.words room) (plan_of ed image) image room bytes clip r) where
     lays : planVerdict (plan_of ed image) image d.words room ≡ Ok tt → Lays (plan_of ed image) image (planImage (plan_of ed image) image)
     lays v = (arrives image d.words room m.known.bytes m.known.passed ed h v).2
 
     -- entered in the record
-    pub open-accounted : (v : Verdict) (t t' : Totals) → OfUsed d (λ image' behind. moved v t' ≡ enteredFor image' behind r t) →
-        AccountedFor (planned (opening image d.words) (plan_of ed image)) image d.words room bytes clip t (accounted (unless v r) t')
-    open-accounted v t t' q =
-        let a : Accounted = accounted (unless v r) t' in
-        let e : a ≡ accountOf image (regionsIn q.words 1 (q.count - 1)) (Ok r) t = ap (settledAs r) (q.is image m) in
-        let n = laws.entered image q.words q.count room bytes long t (q.held image m) (planImage (plan_of ed image) image) (plan_of ed image) clip (Ok r) (rw (← q.long) at decided) (rw (← q.long) at lays) in
-        let f = entered-accounted (plan_of ed image) image d.words room bytes clip t (Ok r) a decided (counted (plan_of ed image) image d.words room (Ok r) a _ t _ e (rw q.long at n)) in
+    pub open-accounted : (a : Accounted) (t : Totals) → OfUsed d (λ image' behind. a ≡ accountOf image' behind r t) →
+        AccountedFor (planned (opening image d.words) (plan_of ed image)) image d.words room bytes clip t a
+    open-accounted a t q =
+        let n = laws.entered image q.words q.count room bytes long t (q.held image m) (planImage (plan_of ed image) image) (plan_of ed image) clip r (rw (← q.long) at decided) (rw (← q.long) at lays) in
+        let f = entered-accounted (plan_of ed image) image d.words room bytes clip t r a decided (counted (plan_of ed image) image d.words room r a _ t _ (q.is image m) (rw q.long at n)) in
         rw (behind-passed (opening image d.words) (plan_of ed image) m.known.passed) f
 
 pub unopened-accounted : (p : Plan) (image : List ℕ) (words : ℕ) (c : Refusal) (room : ℕ) (bytes clip : List ℕ) (t : Totals) (a : Accounted) → opening image words ≡ Err c → a ≡ accounted (Err c) t →
@@ -90,10 +79,6 @@ unopened-accounted p image words c room bytes clip t a q e =
     rw (behind-refused (opening image words) p c q) (refused-accounted (refused (Err c)) image words room bytes clip t c a (unfold countedVerdict in refl) e)
 
 -- ---- the whole edit
-
--- with as many working bytes as when it was decided on
-pub still-carries : (p : Plan) (image : List ℕ) (words room : ℕ) (bytes clip x : List ℕ) (t t' : Totals) (d : Result Decision Refusal) → AccountedFor p image words room bytes clip t (accounted d t') → length bytes ≡ room → x ≡ clip → CanCarry image (length bytes) x d
-still-carries p image words room bytes clip x t t' d f l e = rw (l, e) f.decided.fits
 
 module _ (ed : Edit) (image : List ℕ) (words room : ℕ) (bytes clip : List ℕ) (t t' : Totals) (d : Result Decision Refusal) where
   -- opening and the plan are the whole edit

@@ -1,19 +1,19 @@
-// The totals record after what an edit decides on: its test, which comes last, and the record that is lent moved on.
+// The totals record after what an edit decides on: its test, which comes last, and the record moved on.
 #![tactic(auto)]
 
-ghost use Rattle.std.specs.Prelude.{◌≡◌, ◌+◌, ◌≤◌};
+ghost use Rattle.std.specs.Prelude.{◌≡◌, Ok, ◌+◌, ◌≤◌};
 ghost use Rattle.totals.specs.Inner.Scan.{moved};
-ghost use Rattle.totals_after.specs.Inner.Accounting.{OnDisc, OfUsed, enteredAs, enteredFor};
+ghost use Rattle.totals_after.specs.Inner.Accounting.{OnDisc, OfUsed, enteredAs, enteredFor, accounted, accountOf};
 
 use commit::{Decision, Writing};
 use free_space::UsedRegions;
 use opened::OpenDisc;
-use refusal::Verdict;
+use refusal::{Refusal, Verdict};
 use space::DiscRegion;
 use totals::Totals;
 
-// The record after an edit whose new table has `size` bytes, and whose file goes from `old` to `new`: used bytes move by what the table and
-// the file gain and lose, and the largest free region comes from the used regions in the words.
+// The record after an edit whose new table has `size` bytes, and whose file goes from `old` to `new`: used bytes move
+// by what the table and the file gain and lose, and the largest free region comes from the used regions in the words.
 fn enter(
     disc: &OpenDisc<'_>,
     totals: &mut Totals,
@@ -22,7 +22,8 @@ fn enter(
     new: DiscRegion,
 ) -> Verdict
     requires { disc.now.start + size ≤ disc.now.end }
-    ensures { OfUsed disc.now (λ image behind. moved result totals.new ≡ enteredAs image behind totals.old size old new) }
+    ensures { OfUsed disc.now (λ image behind.
+        moved result totals.new ≡ enteredAs image behind totals.old size old new) }
 {
     let disc_end = disc.end();
     let size = size as u32;
@@ -34,10 +35,12 @@ fn enter(
     totals.move_on(before, after, largest)
 }
 
-/// Moves the record on by what an edit decides on, or says 25 and leaves it as it is.
-pub fn account(disc: &OpenDisc<'_>, decision: Decision, totals: &mut Totals) -> Verdict
-    requires { OnDisc disc.now decision }
-    ensures { OfUsed disc.now (λ image behind. moved result totals.new ≡ enteredFor image behind decision totals.old) }
+// The record after an edit that decides on this; where the table stays and no file moves, largest free region and used
+// bytes are as they were.
+fn enter_decision(disc: &OpenDisc<'_>, decision: Decision, totals: &mut Totals) -> Verdict
+    requires { OnDisc disc.now (Ok decision) }
+    ensures { OfUsed disc.now (λ image behind.
+        moved result totals.new ≡ enteredFor image behind decision totals.old) }
 {
     // An open disc has room for its own table.
     let _ = &disc.table;
@@ -50,4 +53,21 @@ pub fn account(disc: &OpenDisc<'_>, decision: Decision, totals: &mut Totals) -> 
             enter(disc, totals, size, writing.old, writing.place)
         }
     }
+}
+
+/// What is decided on, once the record is tested too: 25 comes last. A refused edit leaves the record as it is.
+pub fn account(
+    disc: &OpenDisc<'_>,
+    decided: Result<Decision, Refusal>,
+    totals: &mut Totals,
+) -> Result<Decision, Refusal>
+    requires { OnDisc disc.now decided }
+    ensures { OfUsed disc.now (λ image behind.
+        accounted result totals.new ≡ accountOf image behind decided totals.old) }
+{
+    // Its used regions are known of an edit that is refused, too.
+    let _ = &disc.words;
+    let decision = decided?;
+    enter_decision(disc, decision, totals)?;
+    Ok(decision)
 }

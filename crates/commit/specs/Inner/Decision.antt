@@ -17,7 +17,11 @@ use Rattle.opened.specs.Inner.Disc.{Disc, Means}
 -- ---- the numbers of a change
 
 abbrev pub changeWith : List Node → Writing → Change
-changeWith nodes w = record { nodes = nodes; old = w.old; place = w.place; kept = w.kept; lost = w.lost }
+changeWith nodes w = record { nodes = nodes; old = w.old; place = w.place; kept = w.kept; lost = record { offset = w.lost.offset; size = w.lost.size } }
+
+-- no byte but the table's
+abbrev pub nothing_besides : Writing
+nothing_besides = record { old = noPlace; place = noPlace; kept = 0; lost = record { offset = 0; size = 0 } }
 
 -- a change with a place, for the tests of its table
 abbrev pub placing : List Node → DiscRegion → Change

@@ -1,13 +1,15 @@
 -- A file and its place, as the edits of a place ask for them. Assumes nothing: these are definitions.
-use Rattle.std.specs.Prelude.{Result, Ok, Err, ℕ, ◌<◌, ◌≡◌, false, List, length, get_or}
+use Rattle.std.specs.Prelude.{Result, Ok, Err, ℕ, ◌<◌, ◌≡◌, false, min, List, length, get_or}
 use Rattle.refusal.specs.declared.Refusal.{Refusal}
 use Rattle.refusal.specs.declared.Refusal.TheVariants.{ExpectedFile}
 use Rattle.tree.specs.Table.{Node, none}
 use Rattle.tree.specs.Lookup.{isDirectory}
 use Rattle.tree.specs.declared.Entry.{Entry}
 use Rattle.tree.specs.declared.Entry.TheVariants as entry
+use Rattle.space.specs.declared.DiscRegion.{DiscRegion}
 use Rattle.opening.specs.Opening.{regionOf}
 use Rattle.opened.specs.Inner.Disc.{Disc, Means}
+use Rattle.commit.specs.declared.Writing.{Writing}
 use Rattle.decide.specs.declared.File.{File}
 
 pub record IsFile (nodes : List Node) (k : ℕ) : Type 0 where
@@ -28,3 +30,12 @@ pub record IsFileOf (d : Disc) (f : File) : Type 0 where
   pub means : Means image d
   pub is : IsFile d.nodes f.number
   pub place : regionOf (get_or d.nodes f.number none) ≡ f.place
+
+-- what a move writes besides the table: the smaller of both sizes is copied, and the old place is zeroed
+abbrev pub relocation_of : DiscRegion → DiscRegion → Writing
+relocation_of old new = record {
+  old = old;
+  place = new;
+  kept = min old.size new.size;
+  lost = record { offset = old.offset; size = old.size };
+}

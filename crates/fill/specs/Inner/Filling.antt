@@ -1,7 +1,6 @@
 -- What a fill decides on before it writes: what its resize decides on, with the clip. Assumes nothing: these are definitions.
 use Rattle.std.specs.Prelude.{ℕ, ◌+◌, ◌<◌, ◌≤◌, ◌⊎◌, List, length}
 use Rattle.header.specs.Verdicts.{fstOffset, table_end}
-use Rattle.space.specs.Used.{end_of}
 use Rattle.commit.specs.declared.Writing.{Writing}
 use Rattle.commit.specs.declared.Decision.{Decision}
 use Rattle.commit.specs.declared.Decision.TheVariants as decision
@@ -25,4 +24,4 @@ pub record Clear (image : List ℕ) (size : ℕ) (w : Writing) (n : ℕ) : Type 
   pub old-table : 0 < n → table_end image ≤ w.place.offset
   pub new-table : 0 < n → fstOffset image + size ≤ w.place.offset
   pub covers : w.kept ≤ n
-  pub apart : 0 < n → 0 < w.lost.size → (w.place.offset + n ≤ w.lost.offset) ⊎ (end_of w.lost ≤ w.place.offset)
+  pub apart : 0 < n → 0 < w.lost.size → (w.place.offset + n ≤ w.lost.offset) ⊎ (w.lost.offset + w.lost.size ≤ w.place.offset)

@@ -22,7 +22,7 @@ returns-then-bytes-size-clause-built c =
 pub write_table-requires : goal.write_table-requires
 write_table-requires c =
     let n = size-measured _ _ c.table.ensures.of_image _ c.measure.ensures _ c.in_ok-size.was in
-    (omega (arith, n), table-small _ _ c.table.ensures.of_image _ c.measure.ensures _ c.in_ok-size.was)
+    record { held = omega (arith, n); small = table-small _ _ c.table.ensures.of_image _ c.measure.ensures _ c.in_ok-size.was }
 
 pub returns-clause-built : goal.returns-clause-built
 returns-clause-built c =

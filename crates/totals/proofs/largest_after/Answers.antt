@@ -1,19 +1,19 @@
 -- `totals::largest_after` meets its contract: the best so far, carried on over the regions that are left, is the best of all.
-use Rattle.std.proofs.Common.{◌∙◌, arith, eq-eqb, ne_eqb}
+use Rattle.std.proofs.Common.{sym, ◌∙◌, arith}
 use Rattle.totals.specs.Inner.Scan.{longestFrom}
+use Rattle.totals.proofs.Behind.{past-gone, past-used}
 use Rattle.totals.proofs.largest_after.Goals as goal
 
 pub loop-region-preserved-then-region-gone : goal.loop-region-preserved-then-region-gone
-unfolding longestFrom
 loop-region-preserved-then-region-gone c =
     let i = rw c.in-Some.ensures.steps at c.loop-region.invariant in
-    rw (c.end-at.ensures, c.longer-best.ensures) (tt, tt, omega arith, rw (ne_eqb _ _ c.if-region-gone.true) at i.3)
+    rw (c.end-at.ensures, c.longer-best.ensures)
+    (tt, tt, omega arith, sym (past-used _ _ _ _ _ _ _ (omega arith)) ∙ i.3)
 
 pub loop-region-preserved : goal.loop-region-preserved
-unfolding longestFrom
 loop-region-preserved c =
     let i = rw c.in-Some.ensures.steps at c.loop-region.invariant in
-    (tt, tt, i.2, rw (eq-eqb _ _ c.if-region-gone.false) at i.3)
+    (tt, tt, i.2, sym (past-gone _ _ _ _ _ _ _ (omega arith)) ∙ i.3)
 
 pub returns : goal.returns
 unfolding longestFrom

@@ -16,11 +16,12 @@ use Rattle.commit.specs.declared.Decision.{Decision}
 use Rattle.commit.specs.declared.Decision.TheVariants as decision
 use Rattle.commit.specs.Inner.Decision.{DecidedAs}
 
--- a table that is to be written ends on the disc
-abbrev pub OnDisc : Disc → Decision → Type 0
-OnDisc d decision.Nothing = Unit {0}
-OnDisc d (decision.Clip n at) = Unit {0}
-OnDisc d (decision.Write n size w) = d.start + size ≤ d.end
+-- a table that is to be written ends on the disc; nothing is asked of an edit that is refused
+abbrev pub OnDisc : Disc → Result Decision Refusal → Type 0
+OnDisc d (Err c) = Unit {0}
+OnDisc d (Ok decision.Nothing) = Unit {0}
+OnDisc d (Ok (decision.Clip n at)) = Unit {0}
+OnDisc d (Ok (decision.Write n size w)) = d.start + size ≤ d.end
 
 -- P of each image that means the disc, and of its used regions behind the table, in the order in which lent words hold them
 pub record OfUsed (d : Disc) (P : List ℕ → List DiscRegion → Type 0) : Type 0 where

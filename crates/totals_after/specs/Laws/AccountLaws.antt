@@ -153,13 +153,14 @@ module _ (d : Disc) (image : List ℕ) (m : Means image d) (room : ℕ) (bytes c
       let end : discEnd image ≡ d.end = ap (λ (x : Disc). x.end) m.is in
       rw (start, end, table-size bytes (encode c.nodes) room size long held e) at (room-law.room c image d.words room (opened image d.words m.known.passed m.known.bytes) v).end
 
-  pub on-disc : (p : Plan) (r : Decision) → DecidedAs (planVerdict p image d.words room) p image room bytes clip (Ok r) → OnDisc d r
-  on-disc p decision.Nothing h = tt
-  on-disc p (decision.Clip n at) h = tt
-  on-disc (refused v) (decision.Write n size w) h = absurd h.carries
-  on-disc nothing (decision.Write n size w) h = absurd h.carries
-  on-disc (change k c) (decision.Write n size w) h = table-ends c size (sym h.answer) h.fits.1.table.held h.carries.table
-  on-disc (filled k y (change j c)) (decision.Write n size w) h = table-ends c size (sym h.answer) h.fits.1.table.held h.carries.table
-  on-disc (filled k y nothing) (decision.Write n size w) h = absurd h.carries
-  on-disc (filled k y (refused v)) (decision.Write n size w) h = absurd h.carries
-  on-disc (filled k y (filled j z p)) (decision.Write n size w) h = absurd h.carries
+  pub on-disc : (p : Plan) (r : Result Decision Refusal) → DecidedAs (planVerdict p image d.words room) p image room bytes clip r → OnDisc d r
+  on-disc p (Err c) h = tt
+  on-disc p (Ok decision.Nothing) h = tt
+  on-disc p (Ok (decision.Clip n at)) h = tt
+  on-disc (refused v) (Ok (decision.Write n size w)) h = absurd h.carries
+  on-disc nothing (Ok (decision.Write n size w)) h = absurd h.carries
+  on-disc (change k c) (Ok (decision.Write n size w)) h = table-ends c size (sym h.answer) h.fits.1.table.held h.carries.table
+  on-disc (filled k y (change j c)) (Ok (decision.Write n size w)) h = table-ends c size (sym h.answer) h.fits.1.table.held h.carries.table
+  on-disc (filled k y nothing) (Ok (decision.Write n size w)) h = absurd h.carries
+  on-disc (filled k y (refused v)) (Ok (decision.Write n size w)) h = absurd h.carries
+  on-disc (filled k y (filled j z p)) (Ok (decision.Write n size w)) h = absurd h.carries

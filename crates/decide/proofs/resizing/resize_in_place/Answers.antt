@@ -3,4 +3,4 @@ use Rattle.decide.proofs.Outcomes.{resized-in-image}
 use Rattle.decide.proofs.resizing.resize_in_place.Goals as goal
 
 pub set_place-requires-clause-inside : goal.set_place-requires-clause-inside
-set_place-requires-clause-inside c = λ image m. resized-in-image image c.args.disc.now m c.args.file c.requires.file c.args.new_size _ c.saturating_sub.ensures
+set_place-requires-clause-inside c = λ image m. resized-in-image image c.args.disc.now m c.args.file c.requires c.args.new_size _ c.saturating_sub.ensures
