@@ -19,7 +19,8 @@ fn is_separator(unit: Unit) -> bool
 /// end.
 pub fn component_end(path: &[u8], at: usize) -> usize
     requires { at ≤ length path.now }
-    ensures { (at ≤ result) × (result ≤ length path.now) × (components (drop at path.now) ≡ span path.now at (result - at) ∷ componentsAfter path.now result) }
+    ensures { (at ≤ result) × (result ≤ length path.now)
+        × (components (drop at path.now) ≡ span path.now at (result - at) ∷ componentsAfter path.now result) }
 {
     let mut units = Units::new(&path[at..]);
     match units.find(|unit| is_separator(*unit)) {
@@ -29,7 +30,9 @@ pub fn component_end(path: &[u8], at: usize) -> usize
     }
 }
 
-/// The components of a path in turn; an empty path has one empty component. Contracts see the list of those that are left.
+/// The components of a path in turn; an empty path has one empty component. Contracts see the list of those
+/// that are left.
+// Kept: no derived equality (N): it would compare where the bytes lie too, and what contracts see is the list.
 #[derive(Drop)]
 pub struct Components<'a> {
     rest: Option<&'a [u8]>,

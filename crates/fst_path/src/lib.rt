@@ -25,18 +25,21 @@ pub fn stays(name: &[u8]) -> bool
 }
 
 /// `..` goes back over the last named step.
+// Kept: a `bool` (N): it answers a question, asked in an `if`, and its name is public.
 pub fn goes_back(name: &[u8]) -> bool
     ensures { result ≡ goesBack name.now }
 {
     matches!(name, b"..")
 }
 
-// One component, and where it leads: a file is `ExpectedDirectory`; empty and `.` stay, `..` goes back to the entry that the last named step left,
-// any other is a child's name. The trail has the entries that were left: 65 at most, since no directory is deeper than 64.
+// One component, and where it leads: a file is `ExpectedDirectory`; empty and `.` stay, `..` goes back to the
+// entry that the last named step left, any other is a child's name. The trail has the entries that were left:
+// 65 at most, since no directory is deeper than 64.
 fn take_step(table: &Table<'_>, trail: &mut Stack, k: usize, name: &[u8]) -> Result<usize, Refusal>
     requires held { Held table.now }
     requires trail { Trail (nodesOf table.now) trail.old k }
-    ensures onward { (cs : List (List ℕ)) → lookup_of.follow (nodesOf table.now) trail.old k (name.now ∷ cs) ≡ onward (nodesOf table.now) trail.new cs result }
+    ensures onward { (cs : List (List ℕ)) → lookup_of.follow (nodesOf table.now) trail.old k (name.now ∷ cs)
+        ≡ onward (nodesOf table.now) trail.new cs result }
     ensures trail { IfOk result (λ j. Trail (nodesOf table.now) trail.new j) }
 {
     if !table.is_directory(k) {
@@ -71,8 +74,8 @@ fn follow(table: &Table<'_>, start: usize, path: &[u8]) -> Result<u32, Refusal>
     Ok(k as u32)
 }
 
-/// The entry that a path leads to from the entry `start`: `NoSuchEntry` past the count, then along the path `ExpectedDirectory` at a file, and
-/// `NotFound`.
+/// The entry that a path leads to from the entry `start`: `NoSuchEntry` past the count, then along the path
+/// `ExpectedDirectory` at a file, and `NotFound`.
 pub fn lookup(table: &Table<'_>, start: u32, path: &[u8]) -> Result<u32, Refusal>
     requires { length path.now < 2 ^ 63 }
     ensures value { result ≡ lookup_of.lookup (nodesOf table.now) start path.now }

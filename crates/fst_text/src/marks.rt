@@ -14,6 +14,7 @@ use std::marker::Model;
 struct Marks<'a> {
     table: &'a [u8],
     base: usize,
+    // Kept: of a fixed size (C): nothing allocates, and the texts of 1 MiB have 1,024 blocks.
     set: [bool; 2048],
 }
 
@@ -40,6 +41,8 @@ impl<'a> Marks<'a> {
             base,
             set: [false; 2048],
         };
+        // Kept: by number (N): each turn asks the marks behind, so that they cannot be lent one by one, and the
+        // place that a mark is about is reckoned from its number.
         for mark in (0..2048).rev() {
             let fit = marks.is_fit(base + (1024 * (mark / 2) + mark % 2));
             marks.set[mark] = fit;
@@ -77,6 +80,7 @@ impl<'a> Marks<'a> {
 
 /// The texts of a table, which stand in it from `base` on, with what is known of them: that all their units
 /// are clean, or else the marks. Contracts see the table, and where they start.
+// Kept: no derived equality (N): it would compare what is known so far, and contracts see only the texts.
 #[derive(Drop)]
 pub struct Survey<'a> {
     table: &'a [u8],
@@ -105,7 +109,7 @@ impl<'a> Survey<'a> {
         ensures base { result.base ≡ base }
     {
         let first = text::clean_end(table, base);
-        let marks = if text::clean_from(table, first) {
+        let marks = if text::is_clean_from(table, first) {
             None
         } else {
             Some(Marks::new(table, base))

@@ -18,7 +18,9 @@ pub fn text_at(table: &[u8], at: usize) -> &[u8]
     &table[at.min(table.len())..]
 }
 
-// The bytes, 16 to a line: `c` for those that are clean. Opening has every byte of the texts passed, so each is looked up.
+// The bytes, 16 to a line: `c` for those that are clean. Opening has every byte of the texts passed, so each is
+// looked up.
+// Kept: of a fixed size (N): a byte has 256 values.
 const CHART: [u8; 256] = *b"\
     c---------------\
     ----------------\
@@ -39,7 +41,8 @@ const CHART: [u8; 256] = *b"\
     ";
 
 // Passes clean bytes from `from` on, two at a time. Where it stops costs only time.
-// Kept: two bytes a turn, by index; a `for` over one at a time took a fifth longer for a table of ASCII names of 40 bytes.
+// Kept: two bytes a turn, by index (S): a `for` over one at a time took a fifth longer for a table of ASCII
+// names of 40 bytes.
 fn pass_clean(table: &[u8], from: usize) -> usize
     ensures { NoLead table.now from result × (cleanFrom table.now from ≡ cleanFrom table.now result) }
 {
@@ -80,8 +83,9 @@ pub fn clean_end(table: &[u8], from: usize) -> usize
     clean_to(table, pass_clean(table, from))
 }
 
-// Whether each unit from `from` on is 0, or plain and safe: then so are those of each text that does not start inside a pair.
-pub fn clean_from(table: &[u8], from: usize) -> bool
+// Whether each unit from `from` on is 0, or plain and safe: then so are those of each text that does not start
+// inside a pair.
+pub fn is_clean_from(table: &[u8], from: usize) -> bool
     ensures { result ≡ cleanFrom table.now from }
 {
     Units::new(&table[from.min(table.len())..]).all(|unit| unit.is_clean())

@@ -110,6 +110,7 @@ impl Unit {
 }
 
 /// A text unit by unit, from its start. Contracts see the list of those that are left.
+// Kept: no derived equality (N): it would compare the units passed too, and contracts see the list.
 #[derive(Drop)]
 pub struct Units<'a> {
     text: &'a [u8],

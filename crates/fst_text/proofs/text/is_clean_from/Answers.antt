@@ -1,4 +1,4 @@
--- `fst_text::text::clean_from` meets its contract: each unit is.
+-- `fst_text::text::is_clean_from` meets its contract: each unit is.
 use Rattle.std.proofs.Common.{rules, ap, ◌∙◌}
 use Rattle.std.proofs.lemmas.Iterator.Consumers.{YieldsList-from_first}
 use Rattle.std.proofs.lemmas.Iterator.Search.{all_from_yields_List}
@@ -7,7 +7,7 @@ use Rattle.tree.specs.Units.{units}
 use Rattle.fst_text.specs.Inner.Texts.{cleanUnit}
 use Rattle.fst_text.specs.Inner.Read.{unit_of}
 use Rattle.fst_text.proofs.Judging.{clean-is, whole-rest}
-use Rattle.fst_text.proofs.text.clean_from.Goals as goal
+use Rattle.fst_text.proofs.text.is_clean_from.Goals as goal
 
 pub returns : goal.returns
 returns c =
