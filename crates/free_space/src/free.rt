@@ -9,6 +9,7 @@ use std::marker::Model;
 
 /// The free regions, rising: the longest runs of bytes below the disc's end that no used region has.
 // The used regions that are still to come, and where the one before them ends: what the next turn needs.
+// Kept: no derived equality, which would compare the words that the used regions stand in.
 #[derive(Drop)]
 pub struct FreeRegions<'a> {
     used: Regions<'a>,
@@ -31,6 +32,7 @@ impl<'a> Model for FreeRegions<'a> {
 
 impl<'a> FreeRegions<'a> {
     // What used regions in order leave free below the disc's end.
+    // Kept: both facts are what `UsedRegions` carries, and its `free_regions` is the one caller.
     pub(crate) fn new(used: Regions<'a>, disc_end: u32) -> Self
         requires nonempty { AllNonempty used }
         requires in_order { inSequence 0 disc_end used ≡ true }

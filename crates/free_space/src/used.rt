@@ -17,6 +17,7 @@ use space::{DiscRegion, Regions};
 use std::marker::Model;
 
 /// The used regions of a disc, in order, none empty and none over another, and where the disc ends.
+// Kept: no derived equality, which would compare the words behind the last region, too.
 #[derive(Drop)]
 pub struct UsedRegions<'a> {
     words: &'a [u32],
@@ -25,15 +26,13 @@ pub struct UsedRegions<'a> {
 }
 
 impl<'a> Model for UsedRegions<'a> {
-    ghost use Rattle.std.specs.Prelude.{◌<◌, ◌^◌};
-    ghost use Rattle.space.specs.Inner.Words.{SortedDisjoint};
-    ghost use Rattle.free_space.specs.Inner.UsedSpace.{UsedSpace, used_in};
+    ghost use Rattle.free_space.specs.Inner.UsedSpace.{UsedSpace, InWords, used_in};
 
     ghost Value = { UsedSpace };
 
     ghost view = { λ u. used_in u.words.now u.count u.disc_end };
 
-    ghost invariant = { λ u. SortedDisjoint u.words.now u.count u.disc_end × (u.disc_end < 2 ^ 32) };
+    ghost invariant = { λ u. InWords u.words.now u.count u.disc_end };
 }
 
 impl<'a> UsedRegions<'a> {

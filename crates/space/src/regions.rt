@@ -7,6 +7,7 @@ use crate::DiscRegion;
 use std::marker::Model;
 
 /// The regions in words, an offset and a size each, one after the other.
+// Kept: no derived equality, which would compare the words behind the last region and the place, too.
 #[derive(Drop)]
 pub struct Regions<'a> {
     words: &'a [u32],
@@ -15,15 +16,16 @@ pub struct Regions<'a> {
 }
 
 impl<'a> Model for Regions<'a> {
-    ghost use Rattle.std.specs.Prelude.{◌-◌, ◌*◌, ◌≤◌, List, length};
+    ghost use Rattle.std.specs.Prelude.{◌-◌, List};
     ghost use Rattle.space.specs.declared.DiscRegion.{DiscRegion};
     ghost use Rattle.space.specs.Inner.Sort.{regionsIn};
+    ghost use Rattle.space.specs.Inner.Words.{Standing};
 
     ghost Value = { List DiscRegion };
 
     ghost view = { λ r. regionsIn r.words.now r.next (r.count - r.next) };
 
-    ghost invariant = { λ r. (2 * r.count ≤ length r.words.now) × (r.next ≤ r.count) };
+    ghost invariant = { λ r. Standing r.words.now r.next r.count };
 }
 
 impl<'a> Regions<'a> {

@@ -1,13 +1,19 @@
 -- What stands on a disc: its used regions, and where it ends.
 -- Assumes nothing: these are definitions.
-use Rattle.std.specs.Prelude.{ℕ, List}
+use Rattle.std.specs.Prelude.{ℕ, ◌^◌, ◌<◌, List}
 use Rattle.space.specs.declared.DiscRegion.{DiscRegion}
 use Rattle.space.specs.Free.{freeRegions}
 use Rattle.space.specs.Inner.Sort.{regionsIn}
+use Rattle.space.specs.Inner.Words.{SortedDisjoint}
 
 pub record UsedSpace : Type 0 where
   pub regions : List DiscRegion
   pub disc_end : ℕ
+
+-- m used regions stand in words, on a disc that ends at e, a number of 32 bits
+pub record InWords (w : List ℕ) (m e : ℕ) : Type 0 where
+  pub sorted : SortedDisjoint w m e
+  pub small : e < 2 ^ 32
 
 -- the first m regions in words, on a disc that ends at e
 abbrev pub used_in : List ℕ → ℕ → ℕ → UsedSpace

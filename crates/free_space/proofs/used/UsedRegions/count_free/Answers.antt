@@ -4,4 +4,4 @@ use Rattle.free_space.proofs.Kept.{free-few}
 use Rattle.free_space.proofs.used.UsedRegions.count_free.Goals as goal
 
 pub count-requires-clause-fits : goal.count-requires-clause-fits
-count-requires-clause-fits c = inl (rw c.free_regions.ensures (omega (arith, free-few _ _ _ c.self.invariant.0 _ c.self.view_is, c.self.invariant.0.held)))
+count-requires-clause-fits c = inl (rw c.free_regions.ensures (omega (arith, free-few _ _ _ c.self.invariant.sorted _ c.self.view_is, c.self.invariant.sorted.held)))

@@ -10,7 +10,7 @@ pub loop-region-init : goal.loop-region-init
 loop-region-init c = rw (c.into_iter-region-iterator.ensures.into_iter_gives, c.free_regions-region-items.ensures) (tt, tt, free-end _ _, search rules, refl)
 
 pub better-best-requires-clause-gap_end : goal.better-best-requires-clause-gap_end
-better-best-requires-clause-gap_end c = let i = rw c.in-Some.ensures.steps at c.loop-region.invariant in omega (arith, i.2.0, c.self.invariant.1, ap (λ (u : UsedSpace). u.disc_end) c.self.view_is)
+better-best-requires-clause-gap_end c = let i = rw c.in-Some.ensures.steps at c.loop-region.invariant in omega (arith, i.2.0, c.self.invariant.small, ap (λ (u : UsedSpace). u.disc_end) c.self.view_is)
 
 pub loop-region-preserved : goal.loop-region-preserved
 unfolding largest

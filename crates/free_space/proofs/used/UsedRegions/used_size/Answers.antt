@@ -6,7 +6,7 @@ use Rattle.free_space.proofs.used.UsedRegions.used_size.Goals as goal
 
 pub overflow_add-used : goal.overflow_add-used
 unfolding totalSize
-overflow_add-used c = omega (arith, (rw c.in-Some.ensures.steps at c.loop-region.invariant).2, used-fits _ _ _ c.self.invariant.0 _ c.self.view_is, c.self.invariant.1)
+overflow_add-used c = omega (arith, (rw c.in-Some.ensures.steps at c.loop-region.invariant).2, used-fits _ _ _ c.self.invariant.sorted _ c.self.view_is, c.self.invariant.small)
 
 pub loop-region-preserved : goal.loop-region-preserved
 unfolding totalSize
