@@ -1,3 +1,4 @@
 -- Definitions that only inner contracts need.
 pub mod Growing
 pub mod Growth
+pub mod Standing

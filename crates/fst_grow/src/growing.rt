@@ -1,12 +1,13 @@
 // A written table that grows in lent bytes by one entry at a time.
 ghost use Rattle.std.specs.Prelude.{◌≡◌, ◌<◌, get_or, length, IfOk, OnOk, OnErr};
+ghost use Rattle.std.proofs.Props.{props};
 ghost use Rattle.fst_measure.specs.Inner.Kind.{is_directory};
 ghost use Rattle.tree.specs.Table.{none, parent_of, limits};
 ghost use Rattle.tree.specs.Inner.WellFormed.{GoodName};
 ghost use Rattle.tree.specs.Inner.Depths.{depth_of};
 ghost use Rattle.tree.specs.Lookup.{childOf, next_of};
-ghost use Rattle.fst_grow.specs.Inner.Growth.{treeIn, Stands, IsDirectory, added, depthAllows, Built};
-ghost use Rattle.fst_grow.specs.Inner.Growing.{tree_of, IsTable, sizedAs};
+ghost use Rattle.fst_grow.specs.Inner.Growth.{treeIn, Stands, IsDirectory, depthAllows};
+ghost use Rattle.fst_grow.specs.Inner.Standing.{sound-prop};
 
 use fst::Table;
 use fst_measure::Kind;
@@ -16,8 +17,8 @@ use refusal::{Refusal, Verdict};
 const MOST_AROUND: usize = 64;
 
 /// A written table in front of lent bytes, which grows there by one entry at a time.
-// Kept: what is true of it stands in the contracts. With an `impl Model` or a ghost field on it, a caller that lends the bytes knew nothing
-// of what they hold when the loan ends: its proof didn't close.
+// Kept: its fields are public, and no `impl Model`: with one, a caller that lends the bytes knew nothing of what they
+// hold when the loan ends, and its proof didn't close. What is true of each is the ghost field.
 #[derive(Drop)]
 pub struct Growing<'a> {
     /// The lent bytes, the table in front.
@@ -26,9 +27,13 @@ pub struct Growing<'a> {
     pub size: usize,
     /// How many words are lent, which limits the number of entries.
     pub words: usize,
+    /// What stands in front is a table written anew, and passes no limit.
+    pub ghost stands: { Stands bytes.now size words } by { Prim.hlevel (props, sound-prop) },
 }
 
 impl<'a> Growing<'a> {
+    ghost use Rattle.fst_grow.specs.Inner.Growing.{tree_of, IsTable, added_to, HasBuilt};
+
     /// The table that was written into the first `size` bytes, where so many words are lent.
     pub fn new(bytes: &'a mut [u8], size: usize, words: usize) -> Growing<'a>
         requires { Stands bytes.old size words }
@@ -44,7 +49,7 @@ impl<'a> Growing<'a> {
 
     /// The directory that directory k is nested in. A table written anew stores it.
     pub fn parent(&self, k: usize) -> usize
-        requires { IsTable self.now × IsDirectory (tree_of self.now) k }
+        requires { IsDirectory (tree_of self.now) k }
         ensures { result ≡ parent_of (tree_of self.now) k }
     {
         endian::read_u32(self.bytes, 12 * k + 4) as usize
@@ -52,7 +57,7 @@ impl<'a> Growing<'a> {
 
     /// The first child of entry k with that name; 17 if k is no directory, 18 if none has it.
     pub fn child(&self, k: usize, name: &[u8]) -> Result<u32, Refusal>
-        requires { IsTable self.now × (k < length (tree_of self.now)) }
+        requires { k < length (tree_of self.now) }
         ensures { result ≡ childOf (tree_of self.now) k name.now }
     {
         Table::new(&self.bytes[..self.size]).child(k, name)
@@ -60,7 +65,7 @@ impl<'a> Growing<'a> {
 
     // Whether an entry more in directory p is not too deep. Only directories can be.
     fn is_shallow(&self, p: usize, kind: Kind) -> bool
-        requires { IsTable self.now × IsDirectory (tree_of self.now) p }
+        requires { IsDirectory (tree_of self.now) p }
         ensures { result ≡ depthAllows (is_directory kind) (depth_of (tree_of self.now) p) }
     {
         if !kind.is_directory() {
@@ -78,8 +83,9 @@ impl<'a> Growing<'a> {
 
     // The limits of the tree with one entry more.
     fn check_limits(&self, p: usize, kind: Kind, name: &[u8]) -> Verdict
-        requires { IsTable self.now × IsDirectory (tree_of self.now) p × GoodName name.now }
-        ensures { result ≡ limits (added (tree_of self.now) (is_directory kind) p name.now) self.now.words }
+        requires directory { IsDirectory (tree_of self.now) p }
+        requires name { GoodName name.now }
+        ensures { result ≡ limits (added_to self.now kind p name.now) self.now.words }
     {
         let count = endian::read_u32(self.bytes, 8) as usize;
         if 16384 <= count {
@@ -99,16 +105,15 @@ impl<'a> Growing<'a> {
         }
     }
 
-    /// Puts an empty directory, or an empty file, in as last child of directory p, and returns its number; 9 if the tree then passes a limit,
-    /// or the bytes are too few, and the table stays as it is.
+    /// Puts an empty directory, or an empty file, in as last child of directory p, and returns its number; 9 if the
+    /// tree then passes a limit, or the bytes are too few, and the table stays as it is.
     pub fn grow(&mut self, p: usize, kind: Kind, name: &[u8]) -> Result<usize, Refusal>
         requires { IsTable self.old × IsDirectory (tree_of self.old) p × GoodName name.now }
         ensures number { IfOk result (λ number. number ≡ next_of (get_or (tree_of self.old) p none)) }
         ensures table { OnOk result (IsTable self.new) }
-        ensures tree { OnOk result (tree_of self.new ≡ added (tree_of self.old) (is_directory kind) p name.now) }
-        ensures built { Built (added (tree_of self.old) (is_directory kind) p name.now) self.old.words self.old.bytes.now self.new.bytes.now (sizedAs result self.new.size) }
+        ensures tree { OnOk result (tree_of self.new ≡ added_to self.old kind p name.now) }
+        ensures built { HasBuilt self.old self.new (added_to self.old kind p name.now) result }
         ensures err { OnErr result ((self.new.bytes.now ≡ self.old.bytes.now) × (self.new.size ≡ self.old.size)) }
-
         ensures words { self.new.words ≡ self.old.words }
         ensures length { length self.new.bytes.now ≡ length self.old.bytes.now }
         ensures same_reference { self.new.bytes.ghost_name ≡ self.old.bytes.ghost_name }

@@ -1,9 +1,11 @@
 -- A table that grows, by what stands in its bytes. Assumes nothing: these are definitions.
 use Rattle.std.specs.Prelude.{ℕ, List, Result, Ok, Err}
+use Rattle.fst_measure.specs.declared.kind.Kind.{Kind}
+use Rattle.fst_measure.specs.Inner.Kind.{is_directory}
 use Rattle.refusal.specs.declared.Refusal.{Refusal}
 use Rattle.tree.specs.Table.{Node}
 use Rattle.fst_grow.specs.declared.growing.Growing.{Growing}
-use Rattle.fst_grow.specs.Inner.Growth.{treeIn, Stands}
+use Rattle.fst_grow.specs.Inner.Growth.{treeIn, Stands, added, Built}
 
 -- its entries
 abbrev pub tree_of : Growing → List Node
@@ -17,3 +19,11 @@ IsTable g = Stands g.bytes.now g.size g.words
 abbrev pub sizedAs : Result ℕ Refusal → ℕ → Result ℕ Refusal
 sizedAs (Ok number) size = Ok size
 sizedAs (Err cause) size = Err cause
+
+-- its entries with an empty directory, or an empty file, as last child of p
+abbrev pub added_to : Growing → Kind → ℕ → List ℕ → List Node
+added_to g kind p nm = added (tree_of g) (is_directory kind) p nm
+
+-- the tree F stands in it afterwards, or cannot
+abbrev pub HasBuilt : Growing → Growing → List Node → Result ℕ Refusal → Type 0
+HasBuilt old new F result = Built F old.words old.bytes.now new.bytes.now (sizedAs result new.size)

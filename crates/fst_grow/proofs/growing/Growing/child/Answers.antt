@@ -4,10 +4,10 @@ use Rattle.fst_grow.specs.Inner.Growth.{treeIn}
 use Rattle.fst_grow.proofs.growing.Growing.child.Goals as goal
 
 pub new-requires : goal.new-requires
-new-requires c = (opens-held _ _ c.args.self.now.words c.requires.0 c.args.k c.requires.1).0
+new-requires c = (opens-held _ _ c.args.self.now.words c.args.self.now.stands c.args.k c.requires).0
 
 pub child-requires : goal.child-requires
-child-requires c = rw c.new.ensures (opens-held _ _ c.args.self.now.words c.requires.0 c.args.k c.requires.1).1
+child-requires c = rw c.new.ensures (opens-held _ _ c.args.self.now.words c.args.self.now.stands c.args.k c.requires).1
 
 pub returns : goal.returns
 unfolding treeIn

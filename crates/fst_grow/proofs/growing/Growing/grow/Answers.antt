@@ -26,8 +26,8 @@ returns-clause-built c = search (inserted-built, c.in_ok-check_limits.ensures)
 pub returns-clause-number : goal.returns-clause-number
 returns-clause-number c = search (inserted-number, c.in_ok-check_limits.ensures)
 
-pub returns-clause-table : goal.returns-clause-table
-returns-clause-table c = search (inserted-stands, c.in_ok-check_limits.ensures)
+pub invariant_of-self : goal.invariant_of-self
+invariant_of-self c = record { stands = search (inserted-stands, c.in_ok-check_limits.ensures) }
 
 pub returns-clause-tree : goal.returns-clause-tree
 returns-clause-tree c = search (inserted-tree, c.in_ok-check_limits.ensures)

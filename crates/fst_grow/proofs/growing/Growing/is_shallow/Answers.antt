@@ -12,11 +12,11 @@ pub returns-then-around-eq0 : goal.returns-then-around-eq0
 returns-then-around-eq0 c = search shallow
 
 pub parent-around-requires : goal.parent-around-requires
-parent-around-requires c = (search, c.loop.invariant.is)
+parent-around-requires c = c.loop.invariant.is
 
 pub loop-preserved : goal.loop-preserved
 loop-preserved c =
-    depth-turn _ _ _ _ _ _ _ c.requires.0 c.loop.invariant (omega (arith, c.if-around-eq0.false)) c.parent-around.ensures
+    depth-turn _ _ _ _ _ _ _ c.args.self.now.stands c.loop.invariant (omega (arith, c.if-around-eq0.false)) c.parent-around.ensures
 
 pub returns : goal.returns
 returns c = search (deep, sym c.is_directory.ensures ∙ c.if-not-is_directory.false)

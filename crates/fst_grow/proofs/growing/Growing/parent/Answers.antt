@@ -10,7 +10,7 @@ pub overflow_add-k : goal.overflow_add-k
 overflow_add-k c = omega (arith, few-entries)
 
 pub read_u32-requires : goal.read_u32-requires
-read_u32-requires c = omega (arith, entry-held c.args.self.now.bytes.now c.args.self.now.size c.args.self.now.words c.requires.0 c.args.k c.requires.1.inside)
+read_u32-requires c = omega (arith, entry-held c.args.self.now.bytes.now c.args.self.now.size c.args.self.now.words c.args.self.now.stands c.args.k c.requires.inside)
 
 pub returns : goal.returns
 returns c = search parent-read

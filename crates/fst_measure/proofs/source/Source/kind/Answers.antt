@@ -1,5 +1,4 @@
 -- `Source::kind` meets its contract: entry k stands in the table, and is one of the two kinds.
-use native.Mathlib.Omega.{arith}
 use Rattle.fst_measure.proofs.Sources.{held, valid-seen}
 use Rattle.fst_measure.proofs.source.Source.kind.Goals as goal
 
