@@ -2,24 +2,21 @@
 -- Assumes nothing.
 use Prim.Native.Nat.{ℕ, ◌+◌, ◌-◌, ◌<◌, ◌≤◌}
 use mathlib.Core.Path.{◌≡◌, refl, sym, ap, ◌∙◌}
-use mathlib.Core.Bool.{Bool, true, false}
+use mathlib.Core.Bool.{true, false}
 use mathlib.Core.List.{List, [], ◌∷◌, ◌++◌, append-nil, append_assoc}
 use native.Mathlib.Omega.{arith}
 use lib.ListN.{length, get_or, take, drop, length-drop}
 use lib.Seq.{get_or-take, get_or-drop, length-take-le}
-use Rattle.tree.specs.Table.{Node, file, directory, name_of, none, count, kind, namePlace, offsetOrParent, sizeOrNext, nodesOf, parent_of}
+use Rattle.tree.specs.Table.{Node, file, directory, name_of, none, count, upTo0, nodesOf, parent_of}
 use Rattle.tree.specs.Lookup.{isDirectory}
-use Rattle.tree.specs.Laws.Accepted.{Accepted}
-use Rattle.fst_text.specs.Inner.Texts.{textAt}
-use Rattle.fst.proofs.Nodes.{file-is, directory-is}
-use Rattle.fst.proofs.Ended.{name-there}
+use Rattle.fst.specs.Inner.Fields.{offset_of, last_of}
 use Rattle.listing_text.specs.Lines.{totalsLine, ending, entryFields, lineFeed, pathOf, entryLine, entryLines}
 use Rattle.text_buffer.specs.Decimal.{field}
 use Rattle.listing_text.specs.Inner.Around.{Ends}
 use Rattle.text_buffer.specs.Inner.Writing.{Appends}
 use Rattle.text_buffer.specs.declared.buffer.TextBuffer.{TextBuffer}
 use Rattle.text_buffer.proofs.Joining.{appends-none, appends-join, appends-as}
-use Rattle.listing_text.proofs.Tables.{Read}
+use Rattle.listing_text.proofs.Tables.{whole-name}
 use Rattle.listing_text.proofs.Paths.{path-root, path-step, first-line, one-line-more, root_line, line-parts}
 
 -- a first byte and two numbers, and what follows
@@ -28,65 +25,45 @@ pair-more kind a b c = rw (append_assoc a b c)
 
 -- ---- the numbers, by the entry's kind
 
-module _ {tab : List ℕ} {words : ℕ} (a : Accepted tab words) (k p : ℕ) (inside : k < count tab) (l : ℕ) (last : l ≡ sizeOrNext tab k) where
-  file-fields : kind tab k ≡ 0 → (o : ℕ) → o ≡ offsetOrParent tab k → (0x66 ∷ (field k ++ field o)) ++ field l ≡ entryFields k p (get_or (nodesOf tab) k none)
-  file-fields e o q = rw (file-is a k inside e, last, q) (pair-more 0x66 (field k) (field (offsetOrParent tab k)) (field (sizeOrNext tab k)))
+file-fields : (k p l o : ℕ) (x : Node) → isDirectory x ≡ false → l ≡ last_of x → o ≡ offset_of x → (0x66 ∷ (field k ++ field o)) ++ field l ≡ entryFields k p x
+file-fields k p l o (file nm offset size) d e q = rw (e, q) (pair-more 0x66 (field k) (field offset) (field size))
+file-fields k p l o (directory nm next) d e q = let z : ◌≡◌ {A = ℕ} 0 1 = cc in absurd (omega arith)
 
-  directory-fields : (kind tab k ≡ 0 → ⊥) → (0x64 ∷ (field k ++ field p)) ++ field l ≡ entryFields k p (get_or (nodesOf tab) k none)
-  directory-fields e = rw last (go (get_or (nodesOf tab) k none) (directory-is a k inside e))
-    where
-      go : (x : Node) → x ≡ directory (name_of x) (sizeOrNext tab k) → (0x64 ∷ (field k ++ field p)) ++ field (sizeOrNext tab k) ≡ entryFields k p x
-      go (file nm offset size) q = let z : ◌≡◌ {A = ℕ} 0 1 = cc in absurd (omega arith)
-      go (directory nm next) q = let n : next ≡ sizeOrNext tab k = cc in rw n (pair-more 0x64 (field k) (field p) (field (sizeOrNext tab k)))
+directory-fields : (k p l : ℕ) (x : Node) → isDirectory x ≡ true → l ≡ last_of x → (0x64 ∷ (field k ++ field p)) ++ field l ≡ entryFields k p x
+directory-fields k p l (file nm offset size) d e = let z : ◌≡◌ {A = ℕ} 0 1 = cc in absurd (omega arith)
+directory-fields k p l (directory nm next) d e = rw e (pair-more 0x64 (field k) (field p) (field next))
 
 -- the same, written in two parts
-module _ (tab : List ℕ) (k p l : ℕ) (text text₁ text₂ : TextBuffer) (r : Read tab) (inside : k < count tab) (last : l ≡ sizeOrNext tab k) where
-  file-written : (o : ℕ) → kind tab k ≡ 0 → o ≡ offsetOrParent tab k → Appends text text₁ (0x66 ∷ (field k ++ field o)) → Appends text₁ text₂ (field l)
-      → Appends text text₂ (entryFields k p (get_or (nodesOf tab) k none))
-  file-written o e q f g = appends-as (appends-join f g) (file-fields r.is k p inside l last e o q)
+module _ (x : Node) (k p l : ℕ) (text text₁ text₂ : TextBuffer) where
+  pub file-written : isDirectory x ≡ false → l ≡ last_of x → (o : ℕ) → o ≡ offset_of x → Appends text text₁ (0x66 ∷ (field k ++ field o)) → Appends text₁ text₂ (field l)
+      → Appends text text₂ (entryFields k p x)
+  file-written d e o q f g = appends-as (appends-join f g) (file-fields k p l o x d e q)
 
-  directory-written : (kind tab k ≡ 0 → ⊥) → Appends text text₁ (0x64 ∷ (field k ++ field p)) → Appends text₁ text₂ (field l)
-      → Appends text text₂ (entryFields k p (get_or (nodesOf tab) k none))
-  directory-written e f g = appends-as (appends-join f g) (directory-fields r.is k p inside l last e)
-
--- the same, read of the table's bytes
-module _ (bytes tab : List ℕ) (seen : bytes ≡ tab) (k p l : ℕ) (text text₁ text₂ : TextBuffer) (r : Read tab) (inside : k < count tab) (last : l ≡ sizeOrNext bytes k) where
-  pub file-seen : (o : ℕ) → kind bytes k ≡ 0 → o ≡ offsetOrParent bytes k → Appends text text₁ (0x66 ∷ (field k ++ field o)) → Appends text₁ text₂ (field l)
-      → Appends text text₂ (entryFields k p (get_or (nodesOf tab) k none))
-  file-seen o e q f g = file-written tab k p l text text₁ text₂ r inside (rw seen at last) o (rw seen at e) (rw seen at q) f g
-
-  pub directory-seen : (kind bytes k ≡ 0 → ⊥) → Appends text text₁ (0x64 ∷ (field k ++ field p)) → Appends text₁ text₂ (field l)
-      → Appends text text₂ (entryFields k p (get_or (nodesOf tab) k none))
-  directory-seen e f g = directory-written tab k p l text text₁ text₂ r inside (rw seen at last) (λ z. e (rw seen z)) f g
+  pub directory-written : isDirectory x ≡ true → l ≡ last_of x → Appends text text₁ (0x64 ∷ (field k ++ field p)) → Appends text₁ text₂ (field l)
+      → Appends text text₂ (entryFields k p x)
+  directory-written d e f g = appends-as (appends-join f g) (directory-fields k p l x d e)
 
 -- ---- the last part of a path
 
-module _ (tab : List ℕ) (k : ℕ) (some : 0 < k) (inside : k < count tab) (place : ℕ) (place≡ : place ≡ namePlace tab k) where
-  text-is-name : textAt tab place ≡ name_of (get_or (nodesOf tab) k none)
-  text-is-name = rw place≡ (sym (name-there tab k some inside))
+directory-name : (x : Node) → isDirectory x ≡ true → name_of x ++ (0x2F ∷ []) ≡ name_of x ++ ending x
+directory-name (file nm offset size) d = let z : ◌≡◌ {A = ℕ} 0 1 = cc in absurd (omega arith)
+directory-name (directory nm next) d = refl
 
-  directory-name : isDirectory (get_or (nodesOf tab) k none) ≡ true →
-      textAt tab place ++ (0x2F ∷ []) ≡ name_of (get_or (nodesOf tab) k none) ++ ending (get_or (nodesOf tab) k none)
-  directory-name d = rw text-is-name (go (get_or (nodesOf tab) k none) d)
-    where
-      go : (x : Node) → isDirectory x ≡ true → name_of x ++ (0x2F ∷ []) ≡ name_of x ++ ending x
-      go (file nm offset size) q = let z : ◌≡◌ {A = ℕ} 0 1 = cc in absurd (omega arith)
-      go (directory nm next) q = refl
+file-name : (x : Node) → isDirectory x ≡ false → name_of x ≡ name_of x ++ ending x
+file-name (file nm offset size) d = sym (append-nil nm)
+file-name (directory nm next) d = let z : ◌≡◌ {A = ℕ} 0 1 = cc in absurd (omega arith)
 
-  file-name : isDirectory (get_or (nodesOf tab) k none) ≡ false → textAt tab place ≡ name_of (get_or (nodesOf tab) k none) ++ ending (get_or (nodesOf tab) k none)
-  file-name d = rw text-is-name (go (get_or (nodesOf tab) k none) d)
-    where
-      go : (x : Node) → isDirectory x ≡ false → name_of x ≡ name_of x ++ ending x
-      go (file nm offset size) q = sym (append-nil nm)
-      go (directory nm next) q = let z : ◌≡◌ {A = ℕ} 0 1 = cc in absurd (omega arith)
+-- the name written, and what is behind it by the kind that was read
+module _ (tab : List ℕ) (k : ℕ) (text text₁ : TextBuffer) (inside : k < count tab) {nm : List ℕ} (is : nm ≡ name_of (get_or (nodesOf tab) k none)) (f : Appends text text₁ (upTo0 nm)) where
+  name-written : Appends text text₁ (name_of (get_or (nodesOf tab) k none))
+  name-written = appends-as f (ap upTo0 is ∙ whole-name tab k inside)
 
-  -- written, by the kind that was read
-  module _ (b : Bool) (asked : b ≡ isDirectory (get_or (nodesOf tab) k none)) (text text₁ : TextBuffer) (f : Appends text text₁ (textAt tab place)) where
-    pub directory-named : (text₂ : TextBuffer) → b ≡ true → Appends text₁ text₂ (0x2F ∷ []) → Appends text text₂ (name_of (get_or (nodesOf tab) k none) ++ ending (get_or (nodesOf tab) k none))
-    directory-named text₂ h g = appends-as (appends-join f g) (directory-name (sym asked ∙ h))
+  pub directory-named : (text₂ : TextBuffer) → isDirectory (get_or (nodesOf tab) k none) ≡ true → Appends text₁ text₂ (0x2F ∷ [])
+      → Appends text text₂ (name_of (get_or (nodesOf tab) k none) ++ ending (get_or (nodesOf tab) k none))
+  directory-named text₂ d g = appends-as (appends-join name-written g) (directory-name (get_or (nodesOf tab) k none) d)
 
-    pub file-named : b ≡ false → Appends text text₁ (name_of (get_or (nodesOf tab) k none) ++ ending (get_or (nodesOf tab) k none))
-    file-named h = appends-as f (file-name (sym asked ∙ h))
+  pub file-named : isDirectory (get_or (nodesOf tab) k none) ≡ false → Appends text text₁ (name_of (get_or (nodesOf tab) k none) ++ ending (get_or (nodesOf tab) k none))
+  file-named d = appends-as name-written (file-name (get_or (nodesOf tab) k none) d)
 
 -- ---- a path, directory by directory
 

@@ -1,4 +1,4 @@
-// The lines of a listing written into a buffer (document 01, "A small master"), for `listing`.
+// The lines of a listing written into a buffer, for `listing`.
 #![tactic(auto)]
 
 mod entries;

@@ -4,10 +4,10 @@ use Rattle.listing_text.proofs.Chains.{entered-room, entered, passed}
 use Rattle.listing_text.proofs.entries.Directories.enter.Goals as goal
 
 pub bounds-self-self : goal.bounds-self-self
-bounds-self-self c = entered-room _ _ _ _ _ c.requires.2 (read-held _ c.len.ensures.held) c.requires.0 c.requires.1 c.is_directory.ensures c.if-is_directory.true
+bounds-self-self c = entered-room _ _ _ _ _ c.requires.nested (read-held _ c.len.ensures.held) c.requires.not_root c.requires.within c.is_directory.ensures c.if-is_directory.true
 
 pub returns-then-is_directory : goal.returns-then-is_directory
-returns-then-is_directory c = entered _ _ _ _ _ c.requires.2 (read-held _ c.len.ensures.held) c.requires.0 c.requires.1 c.is_directory.ensures c.if-is_directory.true
+returns-then-is_directory c = entered _ _ _ _ _ c.requires.nested (read-held _ c.len.ensures.held) c.requires.not_root c.requires.within c.is_directory.ensures c.if-is_directory.true
 
 pub returns-else-is_directory : goal.returns-else-is_directory
-returns-else-is_directory c = passed _ _ _ _ _ c.requires.2 (read-held _ c.len.ensures.held) c.requires.0 c.requires.1 c.is_directory.ensures c.if-is_directory.false
+returns-else-is_directory c = passed _ _ _ _ _ c.requires.nested (read-held _ c.len.ensures.held) c.requires.not_root c.requires.within c.is_directory.ensures c.if-is_directory.false

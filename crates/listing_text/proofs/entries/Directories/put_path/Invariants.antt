@@ -1,8 +1,0 @@
--- `Directories::put_path` meets its contract. The invariant of its loop: behind the space stands the path of a directory.
-use Prim.Native.Nat.{◌+◌}
-use Rattle.tree.specs.Table.{nodesOf}
-use Rattle.listing_text.proofs.LineParts.{Stepping}
-use Rattle.listing_text.proofs.entries.Directories.put_path.Given as goal
-
-abbrev pub invariant-loop-directory : goal.invariant-loop-directory
-invariant-loop-directory l = Stepping (nodesOf l.table) l.self.numbers l.self.depth l.initial.text l.text (l.directory-index + 1)
