@@ -18,7 +18,8 @@ pub struct Span {
     pub size: usize,
 }
 
-/// What an edit does to the image besides the table. Where there are no bytes nothing is done, wherever that lies.
+/// What an edit does to the image besides the table. Where there are no bytes nothing is done, wherever that
+/// lies.
 #[derive(Clone, Copy, Debug, PartialEq, Eq)]
 pub struct Writing {
     /// Where the edited file lies before.
@@ -33,7 +34,7 @@ pub struct Writing {
 
 impl Writing {
     /// No byte but the table's.
-    // Kept: places without bytes, and no `Option` (N): an empty file's place is one too, and is written by no branch of its own.
+    // Kept: places without bytes, and no `Option` (N): an empty file has such a place too, and `None` would mean the same.
     pub const NOTHING: Writing = Writing {
         old: DiscRegion { offset: 0, size: 0 },
         place: DiscRegion { offset: 0, size: 0 },
@@ -52,8 +53,8 @@ pub enum Decision {
         number: u32,
         at: u32,
     },
-    /// The clip if there is one, the table, whose `size` bytes stand in the working bytes, and what goes with it, for
-    /// the entry of that number.
+    /// The clip if there is one, the table, whose `size` bytes stand in the working bytes, and what goes with
+    /// it, for the entry of that number.
     Write {
         number: u32,
         size: usize,
@@ -62,8 +63,9 @@ pub enum Decision {
 }
 
 impl Decision {
-    /// Writes what is decided on, the table from the working bytes, and gives the entry's number, 0 where there is none.
-    /// The clip comes before the table, so a table with the new place or size has the whole clip.
+    /// Writes what is decided on, the table from the working bytes, and gives the entry's number, 0 where
+    /// there is none. The clip comes before the table, so a table with the new place or size has the whole
+    /// clip.
     pub fn carry_out(self, image: &mut [u8], bytes: &[u8], clip: &[u8]) -> u32
         requires { CanCarry image.old (length bytes.now) clip.now (Ok self) }
         ensures number { result ≡ number_of self }

@@ -8,9 +8,9 @@ use opened::OpenDisc;
 use refusal::{Refusal, Verdict};
 use space::DiscRegion;
 
-/// The tests of a table of `size` bytes, where `room` working bytes are lent: 9 if these are too few, 26 if it is
-/// above the stated maximum, 21 if there is no room for it behind the old table, or before the edited file's new
-/// place.
+/// The tests of a table of `size` bytes, where `room` working bytes are lent: 9 if these are too few, 26 if
+/// it is above the stated maximum, 21 if there is no room for it behind the old table, or before the edited
+/// file's new place.
 #[tactic(auto, unfolding(crate::specs::Inner::Judged::place_verdict))]
 pub fn check_place(disc: &OpenDisc<'_>, room: usize, size: usize, place: DiscRegion) -> Verdict
     ensures { result ≡ place_verdict disc.now room size place }
@@ -28,14 +28,15 @@ pub fn check_place(disc: &OpenDisc<'_>, room: usize, size: usize, place: DiscReg
         return Err(Refusal::NotEnoughSpace);
     }
     let table_end = start as usize + size;
+    // Kept: the size is asked, and no `Option` (N): an empty file has a place too, and it may lie anywhere.
     if place.size != 0 && (place.offset as usize) < table_end {
         return Err(Refusal::NotEnoughSpace);
     }
     Ok(())
 }
 
-/// The tests that an edit ends with, for the tree as it is, and how many bytes its table takes. A tree that differs
-/// in a file's place only has the same size and the same answer.
+/// The tests that an edit ends with, for the tree as it is, and how many bytes its table takes. A tree that
+/// differs in a file's place only has the same size and the same answer.
 pub fn check_table(disc: &OpenDisc<'_>, room: usize, place: DiscRegion) -> Result<usize, Refusal>
     ensures answer { result ≡ judged_size disc.now room place }
     ensures held { IfOk result (λ _. length (encode disc.now.nodes) ≤ room) }

@@ -2,7 +2,8 @@
 ghost use Rattle.std.specs.Prelude.{◌≡◌, ◌+◌, length, replicate};
 ghost use Rattle.endian.specs.Bytes.{put, span};
 ghost use Rattle.edits.specs.Change.{withTable};
-ghost use Rattle.commit.specs.Inner.Decision.{Into, clipped, CopyFits, ZeroFits, TableFits, Fits, writtenWith};
+ghost use Rattle.commit.specs.Inner.Decision.{CopyFits, ZeroFits, TableFits, Fits, writtenWith};
+ghost use Rattle.commit.specs.Inner.Decision.{Into, clipped};
 
 use crate::Writing;
 use header::Field;
@@ -18,8 +19,8 @@ fn commit(image: &mut [u8], bytes: &[u8], fst_offset: usize, fst_size: usize, si
     endian::write_u32(image, Field::FST_SIZE.at, size as u32);
 }
 
-// The bytes of a file to its new place. No byte may be asked for at a place past the image: an empty file may go
-// anywhere.
+// The bytes of a file to its new place. No byte may be asked for at a place past the image: an empty file may
+// go anywhere.
 fn copy_kept(image: &mut [u8], source: usize, to: usize, n: usize)
     requires { CopyFits (length image.old) source to n }
     ensures { image.new ≡ put image.old to (span image.old source n) }

@@ -28,7 +28,8 @@ fn file_of(number: u32, entry: Entry) -> Result<File, Refusal>
 
 /// The file of that number: 15 if there is no such entry, 16 if it is a directory.
 pub fn file_at(disc: &OpenDisc<'_>, number: u32) -> Result<File, Refusal>
-    ensures answer { result ≡ behind_tests (fileVerdict disc.now.nodes number) (file_in disc.now.nodes number) }
+    ensures answer { let nodes = disc.now.nodes in
+        result ≡ behind_tests (fileVerdict nodes number) (file_in nodes number) }
     ensures file { IfOk result (IsFileOf disc.now) }
 {
     match Table::new(disc.table()).entry(number) {

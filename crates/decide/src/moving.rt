@@ -101,8 +101,8 @@ pub(crate) fn relocate(
     set_place(disc, bytes, file.number, relocation(file.place, new))
 }
 
-/// The file of that number goes to another offset: 15, 16, 20 if it would overlap itself, 21 if its new place is not
-/// free, then the table's tests.
+/// The file of that number goes to another offset: 15, 16, 20 if it would overlap itself, 21 if its new place
+/// is not free, then the table's tests.
 pub fn move_file(
     disc: &OpenDisc<'_>,
     bytes: &mut [u8],

@@ -72,8 +72,8 @@ fn grow_elsewhere(
     relocate(disc, bytes, file, new)
 }
 
-/// A file gets another size: nothing is done where it has that size; it keeps its place if it can, else it goes where
-/// there is room, or 21; then the table's tests.
+/// A file gets another size: nothing is done where it has that size; it keeps its place if it can, else it
+/// goes where there is room, or 21; then the table's tests.
 pub fn resize(
     disc: &OpenDisc<'_>,
     bytes: &mut [u8],

@@ -10,6 +10,7 @@ use pipeline::Edit;
 use refusal::{Refusal, Verdict};
 use totals::Totals;
 
+// Kept: `image`, `words`, `bytes`, `totals` in each call (C): the memory that a call of the library is lent.
 /// A bare table rewrite.
 pub fn rewrite(
     image: &mut [u8],
@@ -17,7 +18,9 @@ pub fn rewrite(
     bytes: &mut [u8],
     totals: &mut Totals,
 ) -> Verdict
-    ensures { Edited onlyVerdict edits.rewrite (lent image.old words.old bytes.old totals.old) (lent image.new words.new bytes.new totals.new) result }
+    ensures { let before = lent image.old words.old bytes.old totals.old in
+        let after = lent image.new words.new bytes.new totals.new in
+        Edited onlyVerdict edits.rewrite before after result }
 {
     pipeline::done(image, words, bytes, totals, Edit::Rewrite)
 }
@@ -31,7 +34,9 @@ pub fn move_file(
     file: u32,
     offset: u32,
 ) -> Verdict
-    ensures { Edited onlyVerdict (edits.moveFile file offset) (lent image.old words.old bytes.old totals.old) (lent image.new words.new bytes.new totals.new) result }
+    ensures { let before = lent image.old words.old bytes.old totals.old in
+        let after = lent image.new words.new bytes.new totals.new in
+        Edited onlyVerdict (edits.moveFile file offset) before after result }
 {
     pipeline::done(image, words, bytes, totals, Edit::Move { file, offset })
 }
@@ -45,7 +50,9 @@ pub fn resize_file(
     file: u32,
     size: u32,
 ) -> Verdict
-    ensures { Edited onlyVerdict (edits.resizeFile file size) (lent image.old words.old bytes.old totals.old) (lent image.new words.new bytes.new totals.new) result }
+    ensures { let before = lent image.old words.old bytes.old totals.old in
+        let after = lent image.new words.new bytes.new totals.new in
+        Edited onlyVerdict (edits.resizeFile file size) before after result }
 {
     pipeline::done(image, words, bytes, totals, Edit::Resize { file, size })
 }
@@ -59,11 +66,14 @@ pub fn fill_file(
     file: u32,
     clip: &[u8],
 ) -> Verdict
-    ensures { Edited onlyVerdict (edits.fillFile file clip.now) (lent image.old words.old bytes.old totals.old) (lent image.new words.new bytes.new totals.new) result }
+    ensures { let before = lent image.old words.old bytes.old totals.old in
+        let after = lent image.new words.new bytes.new totals.new in
+        Edited onlyVerdict (edits.fillFile file clip.now) before after result }
 {
     pipeline::done(image, words, bytes, totals, Edit::Fill { file, clip })
 }
 
+// Kept: two inserts of one shape (C): each is a call of the library, with a promise of its own.
 /// An empty file, with offset 0, as last child of a directory; its number.
 pub fn insert_file(
     image: &mut [u8],
@@ -73,7 +83,9 @@ pub fn insert_file(
     parent: u32,
     name: &[u8],
 ) -> Result<u32, Refusal>
-    ensures { Edited numberedAs (edits.insertFile parent name.now) (lent image.old words.old bytes.old totals.old) (lent image.new words.new bytes.new totals.new) result }
+    ensures { let before = lent image.old words.old bytes.old totals.old in
+        let after = lent image.new words.new bytes.new totals.new in
+        Edited numberedAs (edits.insertFile parent name.now) before after result }
 {
     let kind = Kind::File;
     let new = NewEntry { parent, kind, name };
@@ -89,15 +101,17 @@ pub fn insert_directory(
     parent: u32,
     name: &[u8],
 ) -> Result<u32, Refusal>
-    ensures { Edited numberedAs (edits.insertDirectory parent name.now) (lent image.old words.old bytes.old totals.old) (lent image.new words.new bytes.new totals.new) result }
+    ensures { let before = lent image.old words.old bytes.old totals.old in
+        let after = lent image.new words.new bytes.new totals.new in
+        Edited numberedAs (edits.insertDirectory parent name.now) before after result }
 {
     let kind = Kind::Directory;
     let new = NewEntry { parent, kind, name };
     pipeline::run(image, words, bytes, totals, Edit::Insert(new))
 }
 
-/// Makes each directory of the path that is missing, from the entry `start`: all of them or none. The number, in the new table, of the entry
-/// where the path leads.
+/// Makes each directory of the path that is missing, from the entry `start`: all of them or none. The number,
+/// in the new table, of the entry where the path leads.
 pub fn make_directories(
     image: &mut [u8],
     words: &mut [u32],
@@ -106,7 +120,9 @@ pub fn make_directories(
     start: u32,
     path: &[u8],
 ) -> Result<u32, Refusal>
-    ensures { Edited numberedAs (edits.makeDirectories start path.now) (lent image.old words.old bytes.old totals.old) (lent image.new words.new bytes.new totals.new) result }
+    ensures { let before = lent image.old words.old bytes.old totals.old in
+        let after = lent image.new words.new bytes.new totals.new in
+        Edited numberedAs (edits.makeDirectories start path.now) before after result }
 {
     pipeline::run(
         image,

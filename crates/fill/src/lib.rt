@@ -12,8 +12,8 @@ use decide::File;
 use opened::OpenDisc;
 use refusal::Refusal;
 
-// A resize's decision with the clip: a file of the clip's size stays where it is, and only the clip is written. No
-// byte of the old file is copied, since the clip covers what a resize would copy.
+// A resize's decision with the clip: a file of the clip's size stays where it is, and only the clip is
+// written. No byte of the old file is copied, since the clip covers what a resize would copy.
 fn with_clip(decision: Decision, file: File) -> Decision
     ensures { result ≡ withClip decision file }
 {
@@ -31,8 +31,8 @@ fn with_clip(decision: Decision, file: File) -> Decision
     }
 }
 
-/// The file of that number becomes the clip: 15, 16, 21 for a clip that no place can hold, then as a resize to the
-/// clip's length. The clip stands beside the decision when that is carried out.
+/// The file of that number becomes the clip: 15, 16, 21 for a clip that no place can hold, then as a resize
+/// to the clip's length. The clip stands beside the decision when that is carried out.
 pub fn fill(
     disc: &OpenDisc<'_>,
     bytes: &mut [u8],

@@ -15,8 +15,8 @@ pub use new_entry::NewEntry;
 use opened::OpenDisc;
 use refusal::Refusal;
 
-/// An empty file or an empty directory as the last child of a directory: 15, 13, 17, 19, 12, then the tests of the new table, which stands in
-/// the bytes where it is decided on.
+/// An empty file or an empty directory as the last child of a directory: 15, 13, 17, 19, 12, then the tests
+/// of the new table, which stands in the bytes where it is decided on.
 pub fn insert(disc: &OpenDisc<'_>, bytes: &mut [u8], new: NewEntry<'_>) -> Result<Decision, Refusal>
     ensures { Decides (planInserted new.entry.kind disc.now.nodes new.entry.parent new.entry.name.now)
         disc.now (length bytes.old) bytes.new result }

@@ -39,6 +39,7 @@ impl NewEntry<'_> {
     }
 
     /// Whether it may be inserted into the table: 15, 13, 17, 19, 12.
+    #[tactic(auto, using(crate::proofs::Counts::entry_count), unfolding(edits::specs::Edits::insertVerdict))]
     pub fn check(&self, table: &Table<'_>) -> Verdict
         ensures { result ≡ insertVerdict (nodesOf table.now) self.now.parent self.now.name.now }
     {

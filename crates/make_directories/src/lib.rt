@@ -1,5 +1,5 @@
-// Make-directories (`make_directories_from`): the troubles along the path, then the table with the directories that are missing, and only
-// then the image is written. All of them or none.
+// Make-directories (`make_directories_from`): the troubles along the path, then the table with the
+// directories that are missing, and only then the image is written. All of them or none.
 #![tactic(auto)]
 
 mod making;
@@ -19,7 +19,9 @@ use refusal::{Refusal, Verdict};
 // How many bytes a path may have.
 const PATH_LIMIT: usize = 1024;
 
-// The tests that need no memory: a path over the limit 9, then 15, and the troubles along the path 13, 17, 18, 12.
+// The tests that need no memory: a path over the limit 9, then 15, and the troubles along the path 13, 17,
+// 18, 12.
+#[tactic(auto, unfolding(make_walk::specs::Inner::Walk::pathVerdict))]
 fn check_path(disc: &OpenDisc<'_>, start: u32, path: &[u8]) -> Verdict
     ensures answer { result ≡ pathVerdict disc.now.nodes start path.now }
     ensures well_formed { WellFormed disc.now.nodes }
@@ -31,8 +33,9 @@ fn check_path(disc: &OpenDisc<'_>, start: u32, path: &[u8]) -> Verdict
     make_walk::trouble(table, start as usize, path)
 }
 
-/// The directories that are missing along the path from the entry `start`, each the last child of the one before: the tests of the path, then
-/// those of the new table, which stands in the bytes where it is decided on. The number is the entry's that the path leads to.
+/// The directories that are missing along the path from the entry `start`, each the last child of the one
+/// before: the tests of the path, then those of the new table, which stands in the bytes where it is decided
+/// on. The number is the entry's that the path leads to.
 pub fn make_directories(
     disc: &OpenDisc<'_>,
     bytes: &mut [u8],

@@ -1,4 +1,5 @@
-// The table that grows by the directories of a path. No trouble stands on the path, so that what is missing may be made.
+// The table that grows by the directories of a path. No trouble stands on the path, so that what is missing
+// may be made.
 ghost use Rattle.std.specs.Prelude.{◌≡◌, Ok, false, [], ◌<◌, length};
 ghost use Rattle.tree.specs.Lookup.{components};
 ghost use Rattle.edits.specs.Edits.{make};
@@ -11,14 +12,17 @@ use fst_measure::Kind;
 use fst_path::Components;
 use refusal::Refusal;
 
-// From a directory along one component: empty and `.` stay, `..` goes back, any other leads to the child with that name, or into a directory
-// that is made for it; 9 if there is no room for one.
+// From a directory along one component: empty and `.` stay, `..` goes back, any other leads to the child with
+// that name, or into a directory that is made for it; 9 if there is no room for one.
+// Kept: that the bytes hold a table is asked (P): `Growing` says which forms of it as an invariant did not close.
 #[tactic(auto, unfolding(crate::specs::Inner::Making::turn_of))]
 fn step(table: &mut Growing<'_>, entry: usize, name: &[u8]) -> Result<usize, Refusal>
-    requires { IsTable table.old × CanTurn (tree_of table.old) entry name.now }
-    ensures reaches { Reaches (turn_of (tree_of table.old) entry name.now) (length table.old.bytes.now) table.new result }
-    ensures words { table.new.words ≡ table.old.words }
-    ensures length { length table.new.bytes.now ≡ length table.old.bytes.now }
+    requires is_table { IsTable table.old }
+    requires can_turn { CanTurn (tree_of table.old) entry name.now }
+    ensures reaches { let room = length table.old.bytes.now in
+        Reaches (turn_of (tree_of table.old) entry name.now) room table.new result }
+    ensures same_words { table.new.words ≡ table.old.words }
+    ensures same_length { length table.new.bytes.now ≡ length table.old.bytes.now }
     ensures same_reference { table.new.bytes.ghost_name ≡ table.old.bytes.ghost_name }
 {
     if fst_path::stays(name) {
@@ -33,15 +37,17 @@ fn step(table: &mut Growing<'_>, entry: usize, name: &[u8]) -> Result<usize, Ref
     }
 }
 
-/// Along the components of a path from the entry `start`, to the entry where it ends; 9 once there is no room for a directory, since there is
-/// none for the whole then.
+/// Along the components of a path from the entry `start`, to the entry where it ends; 9 once there is no room
+/// for a directory, since there is none for the whole then.
 pub fn make_along(table: &mut Growing<'_>, start: usize, path: &[u8]) -> Result<usize, Refusal>
-    requires { IsTable table.old × (start < length (tree_of table.old))
-        × (madeVerdict (make (tree_of table.old) [] start false (components path.now)) ≡ (Ok tt)) }
-    ensures reaches { Reaches (make (tree_of table.old) [] start false (components path.now))
-        (length table.old.bytes.now) table.new result }
-    ensures words { table.new.words ≡ table.old.words }
-    ensures length { length table.new.bytes.now ≡ length table.old.bytes.now }
+    requires is_table { IsTable table.old }
+    requires start_inside { start < length (tree_of table.old) }
+    requires untroubled { let whole = make (tree_of table.old) [] start false (components path.now) in
+        madeVerdict whole ≡ Ok tt }
+    ensures reaches { let room = length table.old.bytes.now in
+        Reaches (make (tree_of table.old) [] start false (components path.now)) room table.new result }
+    ensures same_words { table.new.words ≡ table.old.words }
+    ensures same_length { length table.new.bytes.now ≡ length table.old.bytes.now }
     ensures same_reference { table.new.bytes.ghost_name ≡ table.old.bytes.ghost_name }
 {
     let mut entry = start;

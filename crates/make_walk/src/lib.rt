@@ -1,5 +1,5 @@
-// The troubles along a path: 13, 17, 18, and 12 last. They need no memory: below the tree as it is only the number of new levels counts,
-// since each directory there is one that the walk made.
+// The troubles along a path: 13, 17, 18, and 12 last. They need no memory: below the tree as it is only the
+// number of new levels counts, since each directory there is one that the walk made.
 #![tactic(auto)]
 
 ghost use Rattle.std.specs.Prelude.{◌≡◌, ◌<◌, ◌^◌, length};

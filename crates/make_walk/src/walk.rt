@@ -2,14 +2,16 @@
 ghost use Rattle.std.specs.Prelude.{◌≡◌, Ok, ◌<◌, ◌^◌};
 ghost use Rattle.tree.specs.Table as table_of;
 ghost use Rattle.tree.specs.Table.{nodesOf};
-ghost use Rattle.make_walk.specs.Inner.Walk.{plainVerdict, walk_from, directoryVerdict, backStep, intoStep, step_of, lastVerdict};
+ghost use Rattle.make_walk.specs.Inner.Walk.{walk_from, step_of, backStep, intoStep};
+ghost use Rattle.make_walk.specs.Inner.Walk.{plainVerdict, directoryVerdict, lastVerdict};
 
 use fst::Table;
 use refusal::{Refusal, Verdict};
 use std::marker::Model;
 
-/// Where a walk from the entry `start` stands: at an entry of the table, so many new directories below it, and what the new names come to:
-/// 12 once one has a unit that no name may have.
+/// Where a walk from the entry `start` stands: at an entry of the table, so many new directories below it,
+/// and what the new names come to: 12 once one has a unit that no name may have.
+// Kept: not compared (N): a walk shows a place in a tree, and derived equality would compare the lent bytes.
 #[derive(Drop)]
 pub struct Walk<'a> {
     table: Table<'a>,
@@ -113,8 +115,8 @@ impl<'a> Walk<'a> {
         })
     }
 
-    #[tactic(auto, unfolding(crate::specs::Inner::Walk::step_of))]
     /// Along one component: empty and `.` stay, `..` goes back, any other is a name.
+    #[tactic(auto, unfolding(crate::specs::Inner::Walk::step_of))]
     pub fn step(self, name: &[u8]) -> Result<Self, Refusal>
         requires { self.level < 2 ^ 63 }
         ensures { result ≡ step_of self.entry name.now }

@@ -15,9 +15,9 @@ use opened::{Lent, OpenDisc};
 use refusal::{Refusal, Verdict};
 use totals::Totals;
 
-/// An edit, with all that it needs besides the image, the working memory and the record. Entries go by their numbers; offsets and sizes are
-/// in bytes.
-#[derive(Clone, Copy)]
+/// An edit, with all that it needs besides the image, the working memory and the record. Entries go by their
+/// numbers; offsets and sizes are in bytes.
+#[derive(Clone, Copy, Debug, PartialEq, Eq)]
 pub enum Edit<'a> {
     /// The table is written anew, with no name shared.
     Rewrite,
@@ -58,7 +58,8 @@ fn fill_file(
     fill::fill(disc, bytes, file, clip)
 }
 
-/// What an edit decides on, on an open disc: all its tests but the last, and the new table in the working bytes.
+/// What an edit decides on, on an open disc: all its tests but the last, and the new table in the working
+/// bytes.
 pub fn decide_open(
     disc: &OpenDisc<'_>,
     bytes: &mut [u8],
@@ -80,6 +81,7 @@ pub fn decide_open(
 }
 
 // What is decided on, entered in the record: 25 comes last.
+// Kept: `image`, `words`, `bytes`, `totals` here and below (C): the memory that a call of the library is lent.
 fn decide(
     image: &[u8],
     words: &mut [u32],
@@ -98,8 +100,9 @@ fn decide(
     totals_after::account(&disc, decided, totals)
 }
 
-/// The whole edit: opens the image, makes every test, builds the new table in the working bytes, and only then writes the image. Gives the
-/// number of the entry that it makes, moves or fills, 0 where there is none; or why it is refused, with image and record as they were.
+/// The whole edit: opens the image, makes every test, builds the new table in the working bytes, and only
+/// then writes the image. Gives the number of the entry that it makes, moves or fills, 0 where there is none;
+/// or why it is refused, with image and record as they were.
 pub fn run(
     image: &mut [u8],
     words: &mut [u32],

@@ -1,4 +1,5 @@
-// Edits that write the table alone: the tree of the disc, from which the new table grows, and the new table judged and decided on.
+// Edits that write the table alone: the tree of the disc, from which the new table grows, and the new table
+// judged and decided on.
 #![tactic(auto)]
 
 ghost use Rattle.std.specs.Prelude.{◌≡◌, length, IfOk};
@@ -20,7 +21,8 @@ pub fn lent_words(disc: &OpenDisc<'_>) -> usize
     disc.words.len()
 }
 
-/// Writes the tree of the disc anew into the bytes, and gives the size of its table; 9 if its texts pass the limit or the bytes are too few.
+/// Writes the tree of the disc anew into the bytes, and gives the size of its table; 9 if its texts pass the
+/// limit or the bytes are too few.
 pub fn start_table(disc: &OpenDisc<'_>, bytes: &mut [u8]) -> Result<usize, Refusal>
     ensures built { Built disc.now.nodes disc.now.words bytes.old bytes.new result }
     ensures table { IfOk result (λ size. Stands bytes.new size disc.now.words) }
@@ -34,14 +36,15 @@ pub fn start_table(disc: &OpenDisc<'_>, bytes: &mut [u8]) -> Result<usize, Refus
     Ok(size)
 }
 
-/// Judges the size of a table that grew and its place on the disc, and decides to write it, for the entry of that number.
+/// Judges the size of a table that grew and its place on the disc, and decides to write it, for the entry of
+/// that number.
 pub fn place_table(
     disc: &OpenDisc<'_>,
     table: &Growing<'_>,
     number: u32,
 ) -> Result<Decision, Refusal>
-    requires table { IsTable table.now }
-    requires words { table.now.words ≡ disc.now.words }
+    requires is_table { IsTable table.now }
+    requires same_words { table.now.words ≡ disc.now.words }
     ensures { Decides (change number (tableOnly (tree_of table.now)))
         disc.now (length table.now.bytes.now) table.now.bytes.now result }
 {

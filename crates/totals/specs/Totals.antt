@@ -1,4 +1,4 @@
--- The totals record (document 02, Point 6): "Keep these three in a record that goes into an edit and comes back". Whatever the record holds
+-- The totals record: used bytes, the largest free region and the count of edits, which go into an edit and come back. Whatever the record holds
 -- joins here. Assumes nothing: these are definitions.
 use Rattle.refusal.specs.Refusal.{Verdict, refuse}
 use Rattle.std.specs.Prelude.{ℕ, ◌+◌, ◌-◌, ◌^◌, List, ltb, get_or, Ok}

@@ -22,8 +22,9 @@ pub struct Totals {
 }
 
 impl Totals {
-    /// Moves the record on by an edit that uses `after` bytes where `before` were used, in any two numbers with that difference, and that
-    /// leaves `largest` bytes as the largest free region. 25 if used bytes or edits would leave 32 bits: then the record stays.
+    /// Moves the record on by an edit that uses `after` bytes where `before` were used, in any two numbers
+    /// with that difference, and that leaves `largest` bytes as the largest free region. 25 if used bytes or
+    /// edits would leave 32 bits: then the record stays.
     #[tactic(auto, unfolding(crate::specs::Totals::totalsVerdict, crate::specs::Totals::totalsMoved))]
     pub fn move_on(&mut self, before: u64, after: u64, largest: u32) -> Verdict
         requires before_fits { before < 2 ^ 34 }
@@ -52,6 +53,7 @@ fn longest_beside(a: u64, b: u32, region: DiscRegion) -> u32
 {
     let b = u64::from(b);
     let start = u64::from(region.offset);
+    // Kept: the size is asked, and no `Option` (N): an empty file has a place too, with no bytes to cut out.
     if region.size == 0 || region.end() <= a || b <= start {
         return b.saturating_sub(a) as u32;
     }
@@ -71,15 +73,16 @@ fn longer(best: u32, a: u64, b: u32, region: DiscRegion) -> u32
 }
 
 // Where the old place starts; 0, where no file can, if there is none.
-// Kept: a number (N): since no file lies at 0, `gone != Some(region.offset)` would say no more than `gone != region.offset`.
+// Kept: a number (N): as no file lies at 0, `gone != Some(region.offset)` says no more than `gone != region.offset`.
 fn gone_of(old: DiscRegion) -> u32
     ensures { result ≡ goneOf old }
 {
     if old.size == 0 { 0 } else { old.offset }
 }
 
-/// The size in bytes of the largest free region after an edit, by the used regions before it, of which the table is the first: the table then
-/// ends at `table_end`, and the edited file, if there is one, lies no longer at `old` but at `new`.
+/// The size in bytes of the largest free region after an edit, by the used regions before it, of which the
+/// table is the first: the table then ends at `table_end`, and the edited file, if there is one, lies no
+/// longer at `old` but at `new`.
 pub fn largest_after(
     used: &UsedRegions<'_>,
     disc_end: u32,

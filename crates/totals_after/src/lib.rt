@@ -3,7 +3,8 @@
 
 ghost use Rattle.std.specs.Prelude.{◌≡◌, Ok, ◌+◌, ◌≤◌};
 ghost use Rattle.totals.specs.Inner.Scan.{moved};
-ghost use Rattle.totals_after.specs.Inner.Accounting.{OnDisc, OfUsed, enteredAs, enteredFor, accounted, accountOf};
+ghost use Rattle.totals_after.specs.Inner.Accounting.{OnDisc, OfUsed, enteredAs, enteredFor};
+ghost use Rattle.totals_after.specs.Inner.Accounting.{accounted, accountOf};
 
 use commit::{Decision, Writing};
 use free_space::UsedRegions;
@@ -12,8 +13,9 @@ use refusal::{Refusal, Verdict};
 use space::DiscRegion;
 use totals::Totals;
 
-// The record after an edit whose new table has `size` bytes, and whose file goes from `old` to `new`: used bytes move
-// by what the table and the file gain and lose, and the largest free region comes from the used regions in the words.
+// The record after an edit whose new table has `size` bytes, and whose file goes from `old` to `new`: used
+// bytes move by what the table and the file gain and lose, and the largest free region comes from the used
+// regions in the words.
 fn enter(
     disc: &OpenDisc<'_>,
     totals: &mut Totals,
@@ -35,8 +37,8 @@ fn enter(
     totals.move_on(before, after, largest)
 }
 
-// The record after an edit that decides on this; where the table stays and no file moves, largest free region and used
-// bytes are as they were.
+// The record after an edit that decides on this; where the table stays and no file moves, largest free region
+// and used bytes are as they were.
 fn enter_decision(disc: &OpenDisc<'_>, decision: Decision, totals: &mut Totals) -> Verdict
     requires { OnDisc disc.now (Ok decision) }
     ensures { OfUsed disc.now (λ image behind.
@@ -55,7 +57,8 @@ fn enter_decision(disc: &OpenDisc<'_>, decision: Decision, totals: &mut Totals) 
     }
 }
 
-/// What is decided on, once the record is tested too: 25 comes last. A refused edit leaves the record as it is.
+/// What is decided on, once the record is tested too: 25 comes last. A refused edit leaves the record as it
+/// is.
 pub fn account(
     disc: &OpenDisc<'_>,
     decided: Result<Decision, Refusal>,

@@ -1,14 +1,8 @@
 -- `make_directories::check_path` meets its contract: the troubles along the path are what make-directories would meet.
 use Rattle.std.proofs.Common.{arith, ◌∙◌}
-use Rattle.std.proofs.lemmas.Grind.{common_steps}
-use Rattle.make_walk.specs.Inner.Walk.{pathVerdict}
 use Rattle.table_only.proofs.BuiltTable.{well-disc}
 use Rattle.make_directories.proofs.Plans.{path-short}
 use Rattle.make_directories.proofs.check_path.Goals as goal
-
-pub returns-then-path-gt-PATH_LIMIT-clause-answer : goal.returns-then-path-gt-PATH_LIMIT-clause-answer
-unfolding pathVerdict
-returns-then-path-gt-PATH_LIMIT-clause-answer c = grind (arith, common_steps)
 
 pub returns-then-path-gt-PATH_LIMIT-clause-well_formed : goal.returns-then-path-gt-PATH_LIMIT-clause-well_formed
 returns-then-path-gt-PATH_LIMIT-clause-well_formed c = well-disc c.args.disc.now _ c.table.ensures.of_image

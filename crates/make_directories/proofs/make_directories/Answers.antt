@@ -21,7 +21,11 @@ pub make_along-requires : goal.make_along-requires
 make_along-requires c =
     let passed = sym c.check_path.ensures.answer ∙ c.in_ok-check_path.was in
     let tree = c.new-table.ensures.tree ∙ c.in_ok-size.ensures.tree in
-    (c.new-table.ensures.table, rw tree (starts-inside c.args.disc.now c.args.start c.args.path.now passed), rw tree (makes-all c.args.disc.now c.args.start c.args.path.now passed))
+    record {
+      is_table = c.new-table.ensures.table;
+      start_inside = rw tree (starts-inside c.args.disc.now c.args.start c.args.path.now passed);
+      untroubled = rw tree (makes-all c.args.disc.now c.args.start c.args.path.now passed);
+    }
 
 pub returns-in_err-entry : goal.returns-in_err-entry
 returns-in_err-entry c =
@@ -29,7 +33,7 @@ returns-in_err-entry c =
     let p = err_from_is_err_and e.result e.ensures.1 in
     let passed = sym c.check_path.ensures.answer ∙ c.in_ok-check_path.was in
     let tree = c.new-table.ensures.tree ∙ c.in_ok-size.ensures.tree in
-    let words = c.make_along.ensures.words ∙ c.new-table.ensures.words ∙ c.lent_words.ensures in
+    let words = c.make_along.ensures.same_words ∙ c.new-table.ensures.words ∙ c.lent_words.ensures in
     let long = ap length c.new-table.ensures.bytes ∙ c.start_table.auto.bytes in
     rw (p.1, p.2)
     (made-refused c.args.disc.now c.args.start c.args.path.now passed c.check_path.ensures.well_formed _ _ _ tree _ long c.make_along.new.table words c.args.bytes.now refl _ (rw c.in_err-entry.was at c.make_along.ensures.reaches))
@@ -38,14 +42,14 @@ pub overflow_cast-entry : goal.overflow_cast-entry
 overflow_cast-entry c =
     let passed = sym c.check_path.ensures.answer ∙ c.in_ok-check_path.was in
     let tree = c.new-table.ensures.tree ∙ c.in_ok-size.ensures.tree in
-    let words = c.make_along.ensures.words ∙ c.new-table.ensures.words ∙ c.lent_words.ensures in
+    let words = c.make_along.ensures.same_words ∙ c.new-table.ensures.words ∙ c.lent_words.ensures in
     record { fits = made-small c.args.disc.now c.args.start c.args.path.now passed c.check_path.ensures.well_formed (length c.new-table.result.bytes.now) c.args.bytes.now _ tree _ refl c.make_along.new.table words _ (rw c.in_ok-entry.was at c.make_along.ensures.reaches) }
 
 pub returns : goal.returns
 returns c =
     let passed = sym c.check_path.ensures.answer ∙ c.in_ok-check_path.was in
     let tree = c.new-table.ensures.tree ∙ c.in_ok-size.ensures.tree in
-    let words = c.make_along.ensures.words ∙ c.new-table.ensures.words ∙ c.lent_words.ensures in
+    let words = c.make_along.ensures.same_words ∙ c.new-table.ensures.words ∙ c.lent_words.ensures in
     let long = ap length c.new-table.ensures.bytes ∙ c.start_table.auto.bytes in
-    let done = made-placed c.args.disc.now c.args.start c.args.path.now passed c.check_path.ensures.well_formed _ _ _ tree _ long c.make_along.new.table words _ (rw c.in_ok-entry.was at c.make_along.ensures.reaches) _ _ (c.make_along.ensures.length ∙ long) c.place_table.ensures in
+    let done = made-placed c.args.disc.now c.args.start c.args.path.now passed c.check_path.ensures.well_formed _ _ _ tree _ long c.make_along.new.table words _ (rw c.in_ok-entry.was at c.make_along.ensures.reaches) _ _ (c.make_along.ensures.same_length ∙ long) c.place_table.ensures in
     search (done, rules)

@@ -7,24 +7,24 @@ use Rattle.make_directories.proofs.making.make_along.Goals as goal
 pub loop-name-init : goal.loop-name-init
 loop-name-init c =
     rw (c.into_iter-name-iterator.ensures.into_iter_gives, c.new-name-items.ensures)
-    (tt, tt, making-start c.args.table.now c.args.start _ c.requires.0 c.requires.1 c.requires.2, refl)
+    (tt, tt, making-start c.args.table.now c.args.start _ c.requires.is_table c.requires.start_inside c.requires.untroubled, refl)
 
 pub step-requires : goal.step-requires
 step-requires c =
     let i = rw c.in-Some.ensures.steps at c.loop-name.invariant in
-    (i.2.table, making-can i.2)
+    record { is_table = i.2.table; can_turn = making-can i.2 }
 
 pub returns-in_err-entry-clause-reaches : goal.returns-in_err-entry-clause-reaches
 returns-in_err-entry-clause-reaches c =
     let i = rw c.in-Some.ensures.steps at c.loop-name.invariant in
     let p = err_from_is_err_and c.from_residual.result c.from_residual.ensures.1 in
-    let s = making-stops i.2 c.step.new.table c.step.ensures.words _ _ c.step.ensures.reaches c.in_err-entry.was in
-    rw (p.1, p.2, c.step.ensures.words, i.2.lent) s
+    let s = making-stops i.2 c.step.new.table c.step.ensures.same_words _ _ c.step.ensures.reaches c.in_err-entry.was in
+    rw (p.1, p.2, c.step.ensures.same_words, i.2.lent) s
 
 pub loop-name-preserved : goal.loop-name-preserved
 loop-name-preserved c =
     let i = rw c.in-Some.ensures.steps at c.loop-name.invariant in
-    (tt, tt, making-turn i.2 c.step.new.table c.step.ensures.words _ c.step.ensures.length (rw c.in_ok-entry.was at c.step.ensures.reaches), c.step.ensures.same_reference ∙ i.3)
+    (tt, tt, making-turn i.2 c.step.new.table c.step.ensures.same_words _ c.step.ensures.same_length (rw c.in_ok-entry.was at c.step.ensures.reaches), c.step.ensures.same_reference ∙ i.3)
 
 pub returns-clause-reaches : goal.returns-clause-reaches
 returns-clause-reaches c =
