@@ -44,9 +44,14 @@ impl Image {
             return Ok(Image { name: BUILT_IN.into(), path: None, bytes });
         };
         let image = Image::map(path, Access::Read)?;
-        match image.is_cut() && !AS_IS.load(Ordering::SeqCst) {
-            true => Err(unfinished(image.path().unwrap_or(path))),
-            false => Ok(image),
+        if AS_IS.load(Ordering::SeqCst) {
+            return Ok(image);
+        }
+        let place = image.path().unwrap_or(path);
+        match journal::untold(place) {
+            Some(why) => Err(untold(place, &why)),
+            None if image.is_cut() => Err(unfinished(place)),
+            None => Ok(image),
         }
     }
 
@@ -144,6 +149,17 @@ fn mapped(path: &Path, file: &File, access: Access) -> Outcome<Mapping> {
         .map_err(io::Error::other)
         .and_then(|len| Mapping::new(file, len, access))
         .map_err(|e| Failure::file(INPUT_OUTPUT, path, &e))
+}
+
+/// Nobody knows whether there is a journal: nothing is to be taken away.
+pub fn untold(path: &Path, why: &io::Error) -> Failure {
+    let text = format!(
+        "{}: {}: it cannot be told whether there is a journal, and so whether an edit of the image was cut. Nothing \
+         was done; a command that only reads takes the image as it is with --as-is",
+        names::file(journal::beside(path)),
+        disk::reason(why)
+    );
+    Failure::error(INPUT_OUTPUT, text)
 }
 
 /// For a command that does not edit.

@@ -125,19 +125,30 @@ pub fn words(image: &Path) -> Option<String> {
     decode(&bytes).map(|(plan, _)| plan.change.words)
 }
 
-/// The journal's bytes: None, or what keeps it from being one.
-fn read(path: &Path) -> io::Result<Option<Result<Vec<u8>, &'static str>>> {
-    let told = match fs::symlink_metadata(path) {
+/// What the disk tells of the journal's name. An error says that nobody knows whether there is one.
+fn told(path: &Path) -> io::Result<Option<Metadata>> {
+    match fs::symlink_metadata(path) {
         // A name too long for a journal has none.
         Err(e) if matches!(e.kind(), io::ErrorKind::NotFound | io::ErrorKind::InvalidFilename) => {
-            return Ok(None);
+            Ok(None)
         }
-        told => told?,
-    };
+        told => told.map(Some),
+    }
+}
+
+/// Why nobody knows whether an edit of the image was cut, where the disk does not tell. A folder that may not be
+/// looked into holds an image that was reached by other ways, and no edit of it could begin.
+pub fn untold(image: &Path) -> Option<io::Error> {
+    told(&beside(image)).err().filter(|e| e.kind() != io::ErrorKind::PermissionDenied)
+}
+
+/// The journal's bytes: None, or what keeps it from being one.
+fn read(path: &Path) -> io::Result<Option<Result<Vec<u8>, String>>> {
+    let Some(told) = told(path)? else { return Ok(None) };
     Ok(Some(match told.is_file() {
-        false => Err("it is no file"),
-        true if told.len() > LONGEST => Err("it is too long"),
-        true => Ok(fs::read(path)?),
+        false => Err("it is no file".into()),
+        true if told.len() > LONGEST => Err("it is too long".into()),
+        true => fs::read(path).map_err(|e| disk::reason(&e)),
     }))
 }
 
@@ -165,9 +176,9 @@ impl Journal {
         Ok(Journal { image, path, file, end, plan, copied: None, spoiled: false, clip })
     }
 
-    /// The journal beside the image: None, a whole one, or what is wrong with it. For whoever has the
-    /// image alone.
-    pub fn find(image: &Path) -> io::Result<Option<Result<Journal, &'static str>>> {
+    /// The journal beside the image: None, a whole one, or what is wrong with it; an error where the disk does not
+    /// tell whether there is one. For whoever has the image alone.
+    pub fn find(image: &Path) -> io::Result<Option<Result<Journal, String>>> {
         let path = beside(image);
         // One that was cut before it had its name: the image was not touched then.
         let _ = fs::remove_file(with(&path, ".new"));
@@ -180,9 +191,12 @@ impl Journal {
             }
         };
         let Some((plan, end)) = decode(&bytes) else {
-            return Ok(Some(Err(unfit(&bytes))));
+            return Ok(Some(Err(unfit(&bytes).into())));
         };
-        let file = File::options().read(true).write(true).open(&path)?;
+        let file = match File::options().read(true).write(true).open(&path) {
+            Ok(file) => file,
+            Err(e) => return Ok(Some(Err(disk::reason(&e)))),
+        };
         let copied = decode_copied(&bytes, end);
         let clip = if plan.change.clip { clip_of(image) } else { None };
         let (image, end) = (image.to_path_buf(), end as u64);

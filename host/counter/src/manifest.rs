@@ -12,7 +12,7 @@ use crate::out::say;
 use crate::program::Program;
 use crate::progress::Progress;
 use crate::save::{save, vacant};
-use crate::sha256::{Sha256, Sum, hex};
+use crate::sha256::{self, Sha256, Sum, hex};
 use crate::text::{counted, one_line};
 use counter_sys::{HEADER_SIZE, Region};
 use std::fs::{self, File};
@@ -122,45 +122,42 @@ pub fn hash(args: &Args) -> Outcome<()> {
 
 // Sums ------------------------------------------------------------------------------------
 
-const STEP: usize = 1 << 20;
-
 /// The sum of each span, offset and size, by as many threads as there are processors.
 pub fn sums(bytes: &[u8], spans: &[(u64, u64)], progress: &Progress) -> Vec<Sum> {
     let mut order: Vec<usize> = (0..spans.len()).collect();
     order.sort_by_key(|&i| u64::MAX - spans[i].1);
+    // The first is most often the whole image, as long as all others together: it goes alone.
+    let (first, others) = order.split_at(order.len().min(1));
     let next = AtomicUsize::new(0);
-    let work = || {
+    let message = |i: usize| match spans[i] {
+        // An empty file's place may be anything.
+        (_, 0) => (i, &[][..]),
+        (offset, size) => (i, &bytes[offset as usize..][..size as usize]),
+    };
+    let work = |first: &[usize]| {
         let mut found = Vec::new();
-        while let Some(&i) = order.get(next.fetch_add(1, Ordering::Relaxed)) {
-            found.push((i, sum_of(bytes, spans[i], progress)));
-        }
+        let mut first = first.iter();
+        let mut sums = |next: &mut dyn FnMut() -> Option<usize>| {
+            let told = |i, sum| found.push((i, sum));
+            sha256::sums(|| next().map(message), told, |count| progress.advance(count as u64));
+        };
+        sums(&mut || first.next().copied());
+        sums(&mut || others.get(next.fetch_add(1, Ordering::Relaxed)).copied());
         found
     };
     let threads = thread::available_parallelism().map_or(1, |n| n.get()).min(16);
     let mut sums = vec![[0; 32]; spans.len()];
     thread::scope(|scope| {
         // Where no thread can be had, this one does it all.
-        let worker = |_| thread::Builder::new().spawn_scoped(scope, work).ok();
+        let worker = |_| thread::Builder::new().spawn_scoped(scope, || work(&[])).ok();
         let workers: Vec<_> = (1..threads).map_while(worker).collect();
-        let own = work();
+        let own = work(first);
         let others = workers.into_iter().map(|worker| worker.join().expect("a sum"));
         for (i, sum) in others.flatten().chain(own) {
             sums[i] = sum;
         }
     });
     sums
-}
-
-fn sum_of(bytes: &[u8], (offset, size): (u64, u64), progress: &Progress) -> Sum {
-    let mut sha = Sha256::new();
-    // An empty file's place may be anything.
-    if size > 0 {
-        for part in bytes[offset as usize..][..size as usize].chunks(STEP) {
-            sha.update(part);
-            progress.advance(part.len() as u64);
-        }
-    }
-    sha.finish()
 }
 
 // Written ---------------------------------------------------------------------------------

@@ -3,7 +3,7 @@
 use crate::args::Args;
 use crate::disk::{self, reason};
 use crate::failure::{CANNOT_CREATE, CUT, Failure, INPUT_OUTPUT, Outcome, UNSAID};
-use crate::image::{Desk, Image};
+use crate::image::{Desk, Image, untold};
 use crate::journal::{self, Journal, Totals};
 use crate::json::Json;
 use crate::kept;
@@ -99,10 +99,10 @@ pub fn put_right(image: &Image, how: &How) -> Outcome<Option<Finished>> {
     if journal::has_no_place(path) {
         return Err(in_the_way(path));
     }
-    let found = Journal::find(path).map_err(|e| useless(path, &reason(&e)))?;
+    let found = Journal::find(path).map_err(|e| untold(path, &e))?;
     let mut journal = match found {
         None => return Ok(None),
-        Some(Err(why)) => return Err(useless(path, why)),
+        Some(Err(why)) => return Err(useless(path, &why)),
         Some(Ok(journal)) => journal,
     };
     let totals = journal.plan.totals.clone();

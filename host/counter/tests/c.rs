@@ -20,23 +20,24 @@ fn library() -> PathBuf {
     }
 }
 
-/// Runs a compiler with every warning an error; None if there is none.
-fn compile(compiler: &str, args: &[&str]) -> Option<()> {
+/// Runs a compiler with every warning an error; false if there is none. A C compiler has to be there.
+fn compile(compiler: &str, args: &[&str]) -> bool {
     let run = Command::new(compiler)
         .args(["-Wall", "-Wextra", "-Werror", "-pedantic", "-I"])
         .arg(include())
         .args(args)
         .output();
     let Ok(run) = run else {
-        println!("not tried: there is no {compiler}");
-        return None;
+        assert_ne!(compiler, "cc", "there is no cc");
+        not_tried(&format!("counter.h as C++: there is no {compiler}"));
+        return false;
     };
     assert!(run.status.success(), "{}", String::from_utf8_lossy(&run.stderr));
-    Some(())
+    true
 }
 
-/// A program over the library; None if there is no compiler.
-fn over_library(source: &Path, temp: &Temp) -> Option<PathBuf> {
+/// A program over the library.
+fn over_library(source: &Path, temp: &Temp) -> PathBuf {
     let out = temp.at("program");
     let folder = library();
     let args = [
@@ -48,16 +49,14 @@ fn over_library(source: &Path, temp: &Temp) -> Option<PathBuf> {
         "-o",
         out.to_str().unwrap(),
     ];
-    compile("cc", &args)?;
-    Some(out)
+    compile("cc", &args);
+    out
 }
 
 #[test]
 fn the_worked_example_does_what_the_program_does() {
     let temp = Temp::new();
-    let Some(example) = over_library(&include().join("example.c"), &temp) else {
-        return;
-    };
+    let example = over_library(&include().join("example.c"), &temp);
     let image = temp.write("disc.iso", &filled_master());
     let moved = temp.at("moved.iso");
     let run: Run = Command::new(&example)
@@ -117,9 +116,7 @@ int main(void)
     return (int)number;
 }
 "#;
-    let Some(program) = over_library(&temp.write("clusters.c", text.as_bytes()), &temp) else {
-        return;
-    };
+    let program = over_library(&temp.write("clusters.c", text.as_bytes()), &temp);
     // The small master with a longer disc: its second region is 0x600 to 0x18123.
     let mut bytes = small_master();
     bytes.resize(0x1_8123, 0);
@@ -157,9 +154,7 @@ int main(void)
     return (int)number;
 }
 "#;
-    let Some(program) = over_library(&temp.write("program.c", text.as_bytes()), &temp) else {
-        return;
-    };
+    let program = over_library(&temp.write("program.c", text.as_bytes()), &temp);
     let told = |bytes: &[u8]| -> (i32, String) {
         let image = fs::File::open(temp.write("disc.iso", bytes)).unwrap();
         let run: Run = Command::new(&program).stdin(image).output().unwrap().into();
@@ -192,7 +187,7 @@ fn the_header_compiles_alone_as_c_and_as_c_plus_plus() {
         let source = temp.write(name, text.as_bytes());
         let out = temp.at("alone");
         let args = [standard, source.to_str().unwrap(), "-o", out.to_str().unwrap()];
-        if compile(compiler, &args).is_some() {
+        if compile(compiler, &args) {
             assert!(Command::new(&out).status().unwrap().success(), "{standard}");
         }
     }

@@ -690,7 +690,7 @@ fn a_table_that_no_rewrite_writes_passes_as_it_was() {
         assert!(run.out.contains("\nunchanged        (table)\n"), "{}", run.out);
     }
     // A manifest of the first version cannot tell whether it is as it was, unless the image is the same.
-    let Some(old) = pair.version_1(&manifest) else { return };
+    let old = pair.version_1(&manifest);
     let run = pair.against(&old, &[]);
     assert_eq!(run.status, 0, "{}{}", run.out, run.err);
     assert!(run.out.contains("it is of version 1, which has no sum of the table"), "{}", run.out);
@@ -718,7 +718,7 @@ fn a_table_that_no_rewrite_writes_passes_as_it_was() {
 
 impl Pair {
     /// The manifest as the first version wrote it; None where there is no sha256sum.
-    fn version_1(&self, manifest: &Path) -> Option<PathBuf> {
+    fn version_1(&self, manifest: &Path) -> PathBuf {
         let text = fs::read_to_string(manifest).unwrap();
         let mut lines: Vec<String> = Vec::new();
         for line in text.lines() {
@@ -732,7 +732,7 @@ impl Pair {
                         ("header up to the table's size", 0, 0x428),
                         ("header behind the table's size", 0x42C, 0x440),
                     ] {
-                        let (sum, size) = (sha256(&bytes[at..end])?, end - at);
+                        let (sum, size) = (sha256(&bytes[at..end]), end - at);
                         lines.push(format!("# part {sum} {at:#x} {size} {name}"));
                     }
                 }
@@ -745,10 +745,10 @@ impl Pair {
     }
 
     /// Lines with a last one that is their sum.
-    fn with_sum(&self, name: &str, lines: &[impl AsRef<str>]) -> Option<PathBuf> {
+    fn with_sum(&self, name: &str, lines: &[impl AsRef<str>]) -> PathBuf {
         let lines: String = lines.iter().map(|line| format!("{}\n", line.as_ref())).collect();
-        let sum = sha256(lines.as_bytes())?;
-        Some(self.temp.write(name, format!("{lines}# sum of the lines above {sum}\n").as_bytes()))
+        let sum = sha256(lines.as_bytes());
+        self.temp.write(name, format!("{lines}# sum of the lines above {sum}\n").as_bytes())
     }
 }
 
@@ -892,16 +892,13 @@ fn a_manifest_is_one_of_sha256sum_too() {
     let files = pair.temp.at("files");
     done("extract", &pair.before, &["--all", files.to_str().unwrap()]);
     let sha256sum = |args: &[&str]| {
-        std::process::Command::new("sha256sum").args(args).current_dir(&files).output()
+        let mut command = std::process::Command::new("sha256sum");
+        Run::from(command.args(args).current_dir(&files).output().expect("sha256sum"))
     };
-    let Ok(held) = sha256sum(&["--check", "--strict", manifest.to_str().unwrap()]) else {
-        println!("not tried: there is no sha256sum");
-        return;
-    };
-    let held: Run = held.into();
+    let held = sha256sum(&["--check", "--strict", manifest.to_str().unwrap()]);
     assert_eq!(held.status, 0, "{}{}", held.out, held.err);
     assert_eq!(held.out.lines().filter(|line| line.ends_with(": OK")).count(), 8);
-    let whole: Run = sha256sum(&[pair.before.to_str().unwrap()]).unwrap().into();
+    let whole = sha256sum(&[pair.before.to_str().unwrap()]);
     let text = fs::read_to_string(&manifest).unwrap();
     assert!(text.contains(&format!("# image {} ", &whole.out[..64])), "{text}");
     // One byte of an extracted file.
@@ -973,13 +970,10 @@ fn a_manifest_with_lines_left_out_is_none_and_its_own_sum_is_told() {
     let manifest = pair.manifest();
     let text = fs::read_to_string(&manifest).unwrap();
     let lines: Vec<&str> = text.lines().filter(|line| !line.starts_with("# sum of ")).collect();
-    let Some(own) = sha256(text.as_bytes()) else {
-        println!("not tried: there is no sha256sum");
-        return;
-    };
-    let whole = sha256(&fs::read(&pair.before).unwrap()).unwrap();
+    let own = sha256(text.as_bytes());
+    let whole = sha256(&fs::read(&pair.before).unwrap());
     pair.edit(&["move", "audio/theme.adp", "0x190000"]);
-    let now = sha256(&fs::read(&pair.after).unwrap()).unwrap();
+    let now = sha256(&fs::read(&pair.after).unwrap());
     let run = pair.against(&manifest, &[]);
     for words in [
         format!(
@@ -1006,14 +1000,14 @@ fn a_manifest_with_lines_left_out_is_none_and_its_own_sum_is_told() {
         [&lines[..at - 1], &lines[at + 1..]].concat()
     };
     for path in ["audio/theme.adp", "audio/se/se000.dsp", "text/fr/msg.bin"] {
-        let spoiled = pair.with_sum("spoiled.sums", &left_out(path)).unwrap();
+        let spoiled = pair.with_sum("spoiled.sums", &left_out(path));
         let run = pair.against(&spoiled, &[]);
         assert_eq!(run.status, 65, "{path}: {}{}", run.out, run.err);
         assert!(run.err.contains("the manifest lacks what lies at 0x"), "{path}: {}", run.err);
     }
     for (i, line) in lines.iter().enumerate().skip(1) {
         let spoiled = pair.with_sum("spoiled.sums", &[&lines[..i], &lines[i + 1..]].concat());
-        let run = pair.against(&spoiled.unwrap(), &[]);
+        let run = pair.against(&spoiled, &[]);
         let told = ["# game", "# folder empty/"];
         let told = told.iter().any(|word| line.starts_with(word)) || line.ends_with(" program");
         let wanted = if told { 1 } else { 65 };
@@ -1025,7 +1019,7 @@ fn a_manifest_with_lines_left_out_is_none_and_its_own_sum_is_told() {
             None => left_out(path),
             Some(_) => lines.iter().copied().filter(|line| *line != path).collect(),
         };
-        let spoiled = pair.with_sum("spoiled.sums", &lines).unwrap();
+        let spoiled = pair.with_sum("spoiled.sums", &lines);
         let run = on("compare", &spoiled, &[pair.before.to_str().unwrap()]);
         assert_eq!(run.status, 65, "{path}: {}{}", run.out, run.err);
         let words = "names the sum of ";
@@ -1034,7 +1028,7 @@ fn a_manifest_with_lines_left_out_is_none_and_its_own_sum_is_told() {
     // What it says of the image's name goes to a terminal.
     let odd: Vec<String> =
         lines.iter().map(|line| line.replace(" before.iso", " \x1b[2J")).collect();
-    let odd = pair.with_sum("odd.sums", &odd).unwrap();
+    let odd = pair.with_sum("odd.sums", &odd);
     let run = pair.against(&odd, &[]);
     assert!(run.out.contains("it says that it is of ") && !run.out.contains('\x1b'), "{}", run.out);
     // A file's place taken for free space, with its sum: the image at hand tells.
@@ -1044,7 +1038,7 @@ fn a_manifest_with_lines_left_out_is_none_and_its_own_sum_is_told() {
     assert!(free.starts_with(sum));
     let free = format!("# part {sum} 0xa8000 {} free", 0x1235);
     spoiled[at - 1] = &free;
-    let spoiled = pair.with_sum("spoiled.sums", &spoiled).unwrap();
+    let spoiled = pair.with_sum("spoiled.sums", &spoiled);
     let run = on("compare", &spoiled, &[pair.before.to_str().unwrap()]);
     assert_eq!(run.status, 65, "{}{}", run.out, run.err);
     assert!(run.err.contains("lacks /text/fr/msg.bin"), "{}", run.err);
@@ -1117,15 +1111,15 @@ fn lists_and_manifests_have_an_end() {
     assert!(run.err.contains("no list has more than 100,000 lines"), "{}", run.err);
 }
 
-/// SHA-256 by another program, where there is one.
-fn sha256(bytes: &[u8]) -> Option<String> {
+/// SHA-256 by another program.
+fn sha256(bytes: &[u8]) -> String {
     use std::io::Write;
     let piped = std::process::Stdio::piped;
     let mut child =
-        std::process::Command::new("sha256sum").stdin(piped()).stdout(piped()).spawn().ok()?;
+        std::process::Command::new("sha256sum").stdin(piped()).stdout(piped()).spawn().unwrap();
     child.stdin.take().unwrap().write_all(bytes).unwrap();
     let out = child.wait_with_output().unwrap().stdout;
-    Some(String::from_utf8_lossy(&out)[..64].to_string())
+    String::from_utf8_lossy(&out)[..64].to_string()
 }
 
 #[test]
@@ -1173,10 +1167,7 @@ fn no_manifest_makes_the_program_fall_over() {
             }
         }
         let spoiled = lines.join("\n") + "\n";
-        let Some(sum) = sha256(spoiled.as_bytes()) else {
-            println!("not tried: there is no sha256sum");
-            return;
-        };
+        let sum = sha256(spoiled.as_bytes());
         let spoiled = format!("{spoiled}# sum of the lines above {sum}\n");
         let manifest = pair.temp.write("spoiled.sums", spoiled.as_bytes());
         let page = pair.temp.at(&format!("page{turn}.html"));

@@ -416,7 +416,7 @@ fn an_edit_shows_its_progress_on_a_terminal() {
     let stage = Stage::new();
     let image = stage.reset();
     let Some((mut shows, writes)) = terminal() else {
-        println!("not tried: no terminal to be had");
+        not_tried("progress: no terminal to be had");
         return;
     };
     let pipe = stage.temp.at("log");
@@ -531,7 +531,7 @@ fn sums_and_edits_are_done_where_no_thread_can_be_had() {
         fs::set_permissions(path, Permissions::from_mode(mode)).unwrap();
     }
     let Some((_shows, writes)) = terminal() else {
-        println!("not tried: no terminal to be had");
+        not_tried("progress: no terminal to be had");
         return;
     };
     let limited = |program: &Path| {
@@ -551,7 +551,7 @@ fn sums_and_edits_are_done_where_no_thread_can_be_had() {
     // It holds: a shell cannot start another program.
     let held = limited(Path::new("/bin/sh")).args(["-c", "/bin/true; exit 0"]).output();
     if held.is_ok_and(|held| held.stderr.is_empty()) {
-        println!("not tried: nothing keeps threads back here");
+        not_tried("sums without threads: nothing keeps threads back here");
         return;
     }
     for rest in [&[][..], &["--all"]] {
@@ -601,12 +601,12 @@ fn a_full_disk_is_told_before_anything_is_written() {
         .arg(&given)
         .output();
     let Ok(output) = output else {
-        println!("not tried: no unshare here");
+        not_tried("a disk without room: no unshare here");
         return;
     };
     let run = Run::from(output);
     if run.status != 0 && (run.err.contains("mount:") || run.err.contains("unshare")) {
-        println!("not tried: {}", run.err);
+        not_tried(&format!("a disk without room: {}", run.err.trim_end()));
         return;
     }
     assert_eq!(run.status, 0, "{}{}", run.out, run.err);

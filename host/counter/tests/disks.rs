@@ -65,13 +65,13 @@ cd /; umount "$dir/$fs"
 fn tried(command: &mut Command, fs: &str) -> Option<Run> {
     let path = std::env::var("PATH").unwrap_or_default();
     let Ok(output) = command.env("PATH", format!("{path}:/usr/sbin:/sbin")).output() else {
-        println!("NOT TRIED on {fs}: no unshare here");
+        not_tried(&format!("on {fs}: no unshare here"));
         return None;
     };
     let run = Run::from(output);
     let missing = ["mkfs", "mount:", "unshare:", "not permitted", "loop"];
     if run.out.is_empty() && run.status != 0 && missing.iter().any(|word| run.err.contains(word)) {
-        println!("NOT TRIED on {fs}: {}", run.err.lines().next().unwrap_or_default());
+        not_tried(&format!("on {fs}: {}", run.err.lines().next().unwrap_or_default()));
         return None;
     }
     Some(run)

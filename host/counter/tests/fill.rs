@@ -531,7 +531,7 @@ fn a_clip_that_cannot_be_kept_ends_the_edit_before_it_begins() {
     // A file of the system that says it has 4,096 bytes, and has fewer.
     let short = Path::new("/sys/kernel/mm/transparent_hugepage/enabled");
     if !short.exists() {
-        println!("not tried: a clip that becomes shorter");
+        not_tried("a clip that becomes shorter: no file of the system is shorter than it says");
         return;
     }
     let run = on("fill", &image, &["opening.bnr", short.to_str().unwrap()]);

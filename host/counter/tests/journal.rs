@@ -665,6 +665,55 @@ fn a_journal_that_cannot_be_written_ends_the_edit_before_it_begins() {
     done("check", &image, &[]);
 }
 
+/// A disk that fails when it is asked for the journal's name: the error is told (74), nothing is said of a journal
+/// that may not be there, and nothing is written.
+#[test]
+fn a_disk_that_does_not_tell_of_a_journal_is_an_error() {
+    let temp = Temp::in_memory();
+    let image = temp.write("disc.iso", &master());
+    let source = temp.write("fails.c", FAILS.as_bytes());
+    let fails = temp.at("fails.so");
+    let mut compiler = Command::new("cc");
+    compiler.args(["-shared", "-fPIC", "-o"]).args([&fails, &source]).arg("-ldl");
+    assert!(compiler.status().unwrap().success());
+    let before = State::of(&image);
+    for args in [&["check"][..], &["recover"], &["mkdir", "x"], &["move", "film", "0x20000"]] {
+        let mut command = program();
+        command.env("LD_PRELOAD", &fails).arg(args[0]).arg(&image).args(&args[1..]);
+        let run = Run::from(command.output().unwrap());
+        assert_eq!(run.status, 74, "{args:?}: {}", run.err);
+        let name = journal_of(&image);
+        let start = format!("counter: {}: Input/output error", name.display());
+        assert!(run.err.starts_with(&start), "{args:?}: {}", run.err);
+        assert!(!run.err.contains("away"), "{args:?}: {}", run.err);
+        assert_eq!(State::of(&image), before);
+        assert!(!name.exists());
+    }
+    let mut command = program();
+    command.env("LD_PRELOAD", &fails).arg("check").arg(&image).arg("--as-is");
+    assert_eq!(Run::from(command.output().unwrap()).status, 0);
+}
+
+/// `statx` of a journal's name fails.
+const FAILS: &str = r#"
+#define _GNU_SOURCE
+#include <dlfcn.h>
+#include <errno.h>
+#include <string.h>
+struct statx;
+int statx(int folder, const char *path, int flags, unsigned mask, struct statx *told)
+{
+    int (*real)(int, const char *, int, unsigned, struct statx *);
+    size_t len = strlen(path), end = strlen(".counter-journal");
+    if (len >= end && strcmp(path + len - end, ".counter-journal") == 0) {
+        errno = EIO;
+        return -1;
+    }
+    real = (int (*)(int, const char *, int, unsigned, struct statx *))dlsym(RTLD_NEXT, "statx");
+    return real(folder, path, flags, mask, told);
+}
+"#;
+
 /// `ulimit -f` ends a program by a signal, unless it minds it.
 #[test]
 fn a_limit_of_a_files_size_is_an_error_like_others() {
@@ -675,11 +724,7 @@ fn a_limit_of_a_files_size_is_an_error_like_others() {
         let script = "ulimit -f \"$1\"; exec \"$2\" move \"$3\" film 0x20000 2>&1";
         let mut command = Command::new("bash");
         command.args(["-c", script, "bash", kilobytes, env!("CARGO_BIN_EXE_counter")]).arg(&image);
-        let Ok(output) = command.output() else {
-            println!("NOT TRIED: no bash here");
-            return;
-        };
-        let run = Run::from(output);
+        let run = Run::from(command.output().expect("bash"));
         seen.push(run.status);
         let now = fs::read(&image).unwrap();
         match run.status {

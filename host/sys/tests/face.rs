@@ -105,6 +105,78 @@ fn the_calls_on_slices() {
     assert!(words == [0; 28] && bytes == [0; 68]);
 }
 
+/// Functions of one C signature answer differently here, and so do two arguments of one type in the other order: no
+/// linker and no compiler sees one taken for the other, and a proof only sees that each does what it says of itself.
+#[test]
+fn no_name_and_no_argument_is_taken_for_another() {
+    let image = small_master();
+    let (mut words, mut bytes) = ([9; 28], [9; 100]);
+    let mut memory = Memory { words: &mut words, bytes: &mut bytes };
+    let m = &mut memory;
+    // From the start, from where it is, from the end.
+    let at = |sought: fn(&mut Window) -> Result<(), u32>| {
+        let mut window = Window { start: 0x500, length: 0x100, position: 7 };
+        sought(&mut window).map(|()| window.position)
+    };
+    assert_eq!(at(|window| window.seek_start(3)), Ok(3));
+    assert_eq!(at(|window| window.seek_current(3)), Ok(10));
+    assert_eq!(at(|window| window.seek_end(3)), Ok(0x103));
+    // Answers of as many slots.
+    assert_eq!(counter_sys::totals(&image, m), Ok((0x2000, 1370)));
+    assert_eq!(counter_sys::program(&image, m), Ok(None));
+    assert_eq!(counter_sys::max_file_size(&image, m, 1), Ok(0x1b00));
+    let (mut regions, mut clusters) = ([0; 6], [0; 6]);
+    assert_eq!(counter_sys::free_regions(&image, m, &mut regions), Ok(2));
+    assert_eq!(counter_sys::free_clusters(&image, m, &mut clusters), Ok(2));
+    assert_eq!((regions[2], clusters[2]), (0x600, 0));
+    let mut text = [0; LISTING.len()];
+    assert_eq!(counter_sys::list(&image[..0x1fff], m, &mut text), Err(4));
+    assert_eq!(counter_sys::report(&image[..0x1fff], m, &mut text), Ok(10));
+    // Offset and size, size and alignment.
+    assert_eq!(counter_sys::max_region_size(&image, m, 0x600, 2), Ok(0x1a00));
+    assert_eq!(counter_sys::max_region_size(&image, m, 2, 0x600), Ok(0x600));
+    let place = Region { offset: 0x800, size: 0x1800 };
+    assert_eq!(counter_sys::allocate(&image, m, 3, 0x400), Ok(place));
+    assert_eq!(counter_sys::allocate(&image, m, 0x400, 3), Err(22));
+    // Number and offset, number and size: 1 is a number, and no place that is free.
+    let edited = |edit: &mut dyn FnMut(&mut [u8], &mut Record) -> Result<(), u32>| {
+        let (mut edited, mut record) = (image.clone(), Record { used: 1370, largest: 0, edits: 0 });
+        edit(&mut edited, &mut record).map(|()| edited)
+    };
+    let word = |edited: &[u8], at: usize| edited[at..at + 4].to_vec();
+    let moved = edited(&mut |image, record| counter_sys::move_file(image, m, record, 1, 0x800));
+    assert_eq!(word(&moved.unwrap(), 0x450), [0, 0, 8, 0]);
+    let moved = edited(&mut |image, record| counter_sys::move_file(image, m, record, 0x800, 1));
+    assert_eq!(moved, Err(15));
+    let sized = edited(&mut |image, record| counter_sys::resize_file(image, m, record, 1, 0x80));
+    assert_eq!(word(&sized.unwrap(), 0x454), [0, 0, 0, 0x80]);
+    let sized = edited(&mut |image, record| counter_sys::resize_file(image, m, record, 0x80, 1));
+    assert_eq!(sized, Err(15));
+    // A file, a directory, a path.
+    let number =
+        |given: Result<u32, u32>, wanted: u32| given.map(|found| assert_eq!(found, wanted));
+    let file =
+        edited(&mut |image, r| number(counter_sys::insert_file(image, m, r, 0, b"b"), 2)).unwrap();
+    assert_eq!(word(&file, 0x458), [0, 0, 0, 2]);
+    let directory =
+        edited(&mut |image, r| number(counter_sys::insert_directory(image, m, r, 0, b"b"), 2));
+    assert_eq!(word(&directory.unwrap(), 0x458), [1, 0, 0, 2]);
+    let path = b"b/c";
+    let refused = [
+        edited(&mut |image, r| number(counter_sys::insert_file(image, m, r, 0, path), 0)),
+        edited(&mut |image, r| number(counter_sys::insert_directory(image, m, r, 0, path), 0)),
+    ];
+    assert_eq!(refused, [Err(13), Err(13)]);
+    let path =
+        edited(&mut |image, r| number(counter_sys::make_directories(image, m, r, 0, path), 3));
+    let path = path.unwrap();
+    assert_eq!((word(&path, 0x458), word(&path, 0x464)), (vec![1, 0, 0, 2], vec![1, 0, 0, 4]));
+    // A rewrite, and a clip as long as the file.
+    assert_eq!(edited(&mut |image, r| counter_sys::rewrite(image, m, r)), Ok(image.clone()));
+    let filled = edited(&mut |image, r| counter_sys::fill_file(image, m, r, 1, &[7; 0x100]));
+    assert_eq!(filled.unwrap()[0x500..0x600], [7; 0x100]);
+}
+
 /// The file is the clip afterwards, and what it loses is zero. A clip of its own size wants no bytes.
 #[test]
 fn a_file_filled_with_a_clip() {

@@ -6,6 +6,7 @@
 use std::collections::BTreeMap;
 use std::ffi::{CStr, OsStr, c_char};
 use std::fs::{self, File, OpenOptions};
+use std::io::Write as _;
 use std::os::fd::FromRawFd;
 use std::os::unix::fs::{FileExt, MetadataExt};
 use std::os::unix::process::CommandExt;
@@ -53,6 +54,12 @@ impl Drop for Temp {
     fn drop(&mut self) {
         let _ = fs::remove_dir_all(&self.0);
     }
+}
+
+/// Says what this machine has not, past the test runner, which keeps what a test that passes prints. Only for what
+/// README names: what else is not there fails its test.
+pub fn not_tried(what: &str) {
+    let _ = writeln!(std::io::stderr(), "not tried: {what}");
 }
 
 // Runs ------------------------------------------------------------------------------------
