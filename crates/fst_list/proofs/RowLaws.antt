@@ -14,8 +14,8 @@ use Rattle.endian.specs.Laws.Stored.{length-put, put-sets, put_in, put-none}
 use Rattle.refusal.specs.Laws.Tests.{lt-or-le}
 use Rattle.tree.specs.Table.{Node, file, directory, name_of, none, count, kind, offsetOrParent, sizeOrNext, nodesOf, encloses, parentBelow, parent_of}
 use Rattle.tree.specs.Lookup.{next_of}
-use Rattle.tree.specs.Laws.Accepted.{Accepted}
-use Rattle.tree.specs.Laws.Nesting.{parent-here, parent-lower, parent-before}
+use Rattle.tree.specs.Inner.Accepted.{Accepted}
+use Rattle.tree.proofs.Laws.Nesting.{parent-here, parent-lower, parent-before}
 use Rattle.fst_list.specs.Rows.{rowWith, imagePlace, row_of, rowsBelow, listed}
 use Rattle.fst_list.specs.Inner.ParentsIn.{ParentsIn}
 use Rattle.fst.proofs.Nodes.{encloses-next, parent-whole, file-is, directory-is}

@@ -11,7 +11,7 @@ use Rattle.endian.specs.Laws.Stored.{span-snoc}
 use Rattle.tree.specs.Units.{TextUnit, single, pair, unitBytes, units}
 use Rattle.tree.specs.Lookup.{separator, separates, longer, componentsOf, components}
 use Rattle.tree.specs.Inner.Pairs.{pair_at}
-use Rattle.tree.specs.Laws.UnitLaws.{units-pair, units-single, units-none, pair_inside}
+use Rattle.tree.proofs.Laws.UnitLaws.{units-pair, units-single, units-none, pair_inside}
 use Rattle.fst_path.specs.Inner.Steps.{componentsAfter}
 
 -- ---- components

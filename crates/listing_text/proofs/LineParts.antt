@@ -9,7 +9,7 @@ use lib.ListN.{length, get_or, take, drop, length-drop}
 use lib.Seq.{get_or-take, get_or-drop, length-take-le}
 use Rattle.tree.specs.Table.{Node, file, directory, name_of, none, count, kind, namePlace, offsetOrParent, sizeOrNext, nodesOf, parent_of}
 use Rattle.tree.specs.Lookup.{isDirectory}
-use Rattle.tree.specs.Laws.Accepted.{Accepted}
+use Rattle.tree.specs.Inner.Accepted.{Accepted}
 use Rattle.fst_text.specs.Inner.Texts.{textAt}
 use Rattle.fst.proofs.Nodes.{file-is, directory-is}
 use Rattle.fst.proofs.Ended.{name-there}

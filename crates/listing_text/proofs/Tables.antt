@@ -7,7 +7,7 @@ use lib.Seq.{take_all}
 use native.Mathlib.Omega.{arith}
 use Rattle.endian.specs.Bytes.{AllBytes}
 use Rattle.tree.specs.Table.{count, upTo0, namePlace}
-use Rattle.tree.specs.Laws.Accepted.{Accepted}
+use Rattle.tree.specs.Inner.Accepted.{Accepted}
 use Rattle.fst_text.specs.Inner.Texts.{textAt}
 use Rattle.fst_check.specs.Inner.Reading.{Opens}
 use Rattle.fst.proofs.Nodes.{opened, opens-inside}

@@ -12,7 +12,7 @@ use Rattle.header.specs.Laws.Order.{header-order}
 use Rattle.refusal.specs.declared.Refusal.{Refusal}
 use Rattle.refusal.specs.declared.Refusal.TheVariants.{InvalidDol}
 use Rattle.dol.specs.Dol.{wordsAt, dolHeaderOf, fileSizeOf, dolSizeOf}
-use Rattle.opening.specs.Laws.OpeningLaws.{be32-span}
+use Rattle.opening.proofs.Laws.OpeningLaws.{be32-span}
 use Rattle.space.specs.declared.DiscRegion.{DiscRegion}
 use Rattle.program.specs.Program.{Program, programVerdict, nowhere}
 use Rattle.opened.specs.Inner.Parts.{Heads, own_as}

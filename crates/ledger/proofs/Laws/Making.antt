@@ -13,8 +13,8 @@ use Rattle.tree.specs.Table.{Node, file, directory, none, plain, safe}
 use Rattle.tree.specs.Inner.WellFormed.{WellFormed}
 use Rattle.tree.specs.Lookup.{isDirectory, next_of, stays, goesBack, childNamed, firstChild, childOf}
 use Rattle.tree.specs.Insert.{insertAt, emptyDirectory}
-use Rattle.tree.specs.Laws.WellNested.{next-bounds}
-use Rattle.tree.specs.Laws.InsertLaws.{length-insert, insert-sound}
+use Rattle.tree.proofs.Laws.WellNested.{next-bounds}
+use Rattle.tree.proofs.Laws.InsertLaws.{length-insert, insert-sound}
 use Rattle.edits.specs.Edits.{newNumber, Made, stopped, made, madeBack, ifFound, make}
 use Rattle.ledger.specs.Ledger.{madeNodes}
 use Rattle.ledger.specs.Inner.Files.{pick}

@@ -13,7 +13,7 @@ use Rattle.tree.specs.Table.{Node, name_of, none, plain, safe}
 use Rattle.tree.specs.Inner.WellFormed.{WellFormed}
 use Rattle.tree.specs.Lookup.{isDirectory, components, childOf}
 use Rattle.tree.specs.Insert.{insertAt, emptyFile, emptyDirectory}
-use Rattle.tree.specs.Laws.InsertLaws.{Fresh, insert-sound}
+use Rattle.tree.proofs.Laws.InsertLaws.{Fresh, insert-sound}
 use Rattle.space.specs.Used.{usedRegions}
 use Rattle.program.specs.Program.{programBehind}
 use Rattle.opening.specs.Opening.{nodesIn}

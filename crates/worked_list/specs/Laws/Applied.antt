@@ -21,7 +21,7 @@ use Rattle.disc.specs.Calls.{totalsAnswer, programAnswer, freeRegionsAnswer, fre
 use Rattle.files.specs.Files.{openFileAnswer}
 use Rattle.edits.specs.Change.{nothing}
 use Rattle.edits.specs.Edits.{Edit, noPlace, rewrite, resizeFile, planResize, plan_of, imageAfter}
-use Rattle.edits.specs.Laws.Accepted.{accepted}
+use Rattle.edits.proofs.Laws.Accepted.{accepted}
 use Rattle.ledger.specs.Ledger.{bare, filesBefore, put_in, firstLedger}
 use Rattle.ledger.specs.Runs.{Call, imageAfterAll, acceptedIn, AllWithin}
 use Rattle.ledger.specs.Spared.{numberAfter, Spared}

@@ -1,7 +1,7 @@
 -- `fst_path::components::component_end` meets its contract. The invariant of its loop: the component reaches to the unit that is next.
 use native.Mathlib.Omega.{arith}
 use mathlib.Core.Path.{sym, ◌∙◌}
-use Rattle.tree.specs.Laws.UnitLaws.{pair_inside}
+use Rattle.tree.proofs.Laws.UnitLaws.{pair_inside}
 use Rattle.fst_path.proofs.Cuts.{cut-start, cut-pair, cut-here, cut-single, cut-end}
 use Rattle.fst_path.proofs.components.component_end.Goals as goal
 

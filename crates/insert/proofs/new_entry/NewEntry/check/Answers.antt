@@ -1,7 +1,7 @@
 -- `NewEntry::check` meets its contract: 15, 13, then the rest.
 use Rattle.std.proofs.Common.{arith}
 use Rattle.std.proofs.lemmas.Grind.{common_steps}
-use Rattle.tree.specs.Laws.Accepted.{length-nodesOf}
+use Rattle.tree.proofs.Laws.Accepted.{length-nodesOf}
 use Rattle.edits.specs.Edits.{insertVerdict}
 use Rattle.insert.proofs.new_entry.NewEntry.check.Goals as goal
 
