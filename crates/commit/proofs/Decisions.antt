@@ -12,14 +12,14 @@ use Rattle.endian.specs.Bytes.{span}
 use Rattle.refusal.specs.declared.Refusal.{Refusal}
 use Rattle.tree.specs.Table.{Node, encode}
 use Rattle.tree.specs.Insert.{setPlace}
-use Rattle.tree.specs.Laws.PlaceLaws.{length-setPlace, texts-setPlace, limits-setPlace}
-use Rattle.tree.specs.Laws.WrittenEntries.{length-encode}
+use Rattle.tree.proofs.Laws.PlaceLaws.{length-setPlace, texts-setPlace, limits-setPlace}
+use Rattle.tree.proofs.Laws.WrittenEntries.{length-encode}
 use Rattle.commit.specs.declared.Writing.{Writing}
 use Rattle.commit.specs.declared.Decision.{Decision}
 use Rattle.commit.specs.declared.Decision.TheVariants as decision
 use Rattle.edits.specs.Change.{written, tableVerdict, Plan, refused, nothing, change, filled, placeVerdict}
 use Rattle.edits.specs.Edits.{planned, planVerdict, planImage, planNumber, numberedAs}
-use Rattle.edits.specs.Laws.Behind as behind
+use Rattle.edits.proofs.Laws.Behind as behind
 use Rattle.commit.specs.Inner.Decision.{changeWith, placing, writtenWith, Fits, behind_tests, carriedAnswer, Decided, DecidedAs}
 
 pub planned-first : (a b : Verdict) (p : Plan) → planned (first a b) p ≡ planned a (planned b p)

@@ -15,9 +15,9 @@ use Rattle.refusal.specs.declared.Refusal.TheVariants.{LimitOrMemory, NotEnoughS
 use Rattle.refusal.specs.Laws.Chains.{refuse-passed, first-passed}
 use Rattle.header.specs.Verdicts.{fstOffset, fstSize, discEnd, table_end}
 use Rattle.tree.specs.Table.{Node, none, count, nodesOf, textsOf, encode, limits}
-use Rattle.tree.specs.Laws.Accepted.{length-nodesOf}
-use Rattle.tree.specs.Laws.WrittenEntries.{length-encode}
-use Rattle.tree.specs.Laws.RoundTrip.{Within, within-limits, limits-within}
+use Rattle.tree.proofs.Laws.Accepted.{length-nodesOf}
+use Rattle.tree.proofs.Laws.WrittenEntries.{length-encode}
+use Rattle.tree.proofs.Laws.RoundTrip.{Within, within-limits, limits-within}
 use Rattle.fst_measure.specs.Inner.Measure.{measureOf}
 use Rattle.space.specs.declared.DiscRegion.{DiscRegion}
 use Rattle.space.specs.Used.{end_of, usedRegions}
@@ -30,7 +30,7 @@ use Rattle.free_space.specs.Laws.PassedLayout.{passes}
 use Rattle.opening.specs.Opening.{table_of, nodesIn, regionOf, behindTable, usedIn, freeOf}
 use Rattle.edits.specs.Change.{tableVerdict, placeVerdict}
 use Rattle.edits.specs.Edits.{overlapsItself, relocateVerdict}
-use Rattle.edits.specs.Laws.PlaceTests.{place-passed, free-byte}
+use Rattle.edits.proofs.Laws.PlaceTests.{place-passed, free-byte}
 use Rattle.opening.specs.Inner.Prepared.{OpenImage}
 use Rattle.commit.specs.Inner.Decision.{TableFits, placing, behind_tests}
 use Rattle.commit.proofs.Decisions.{tests-passed}

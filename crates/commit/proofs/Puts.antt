@@ -7,7 +7,7 @@ use lib.ListN.{length, drop, replicate, length-replicate}
 use Rattle.endian.specs.Bytes.{put, span, be32Bytes}
 use Rattle.endian.specs.Laws.Stored.{length-put, length-span, span-put, put-none}
 use Rattle.header.specs.Fields.{fstSizeField}
-use Rattle.tree.specs.Laws.Records.{put-middle}
+use Rattle.tree.proofs.Laws.Records.{put-middle}
 use Rattle.fst_measure.proofs.Puts.{put-start, put-append}
 use Rattle.edits.specs.Change.{withTable}
 

@@ -18,8 +18,8 @@ use Rattle.tree.specs.Lookup.{isDirectory, entryWith, entry_of, entryFound, foun
 use Rattle.tree.specs.declared.Entry.{Entry}
 use Rattle.tree.specs.declared.Found.TheVariants as found
 use Rattle.tree.specs.Insert.{setPlace}
-use Rattle.tree.specs.Laws.PatchLaws.{place-patched}
-use Rattle.tree.specs.Laws.WrittenEntries.{length-encode}
+use Rattle.tree.proofs.Laws.PatchLaws.{place-patched}
+use Rattle.tree.proofs.Laws.WrittenEntries.{length-encode}
 use Rattle.space.specs.declared.DiscRegion.{DiscRegion}
 use Rattle.opening.specs.Opening.{nodesIn, regionOf, freeOf}
 use Rattle.opening.specs.Inner.Prepared.{OpenImage}

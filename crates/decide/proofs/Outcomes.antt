@@ -10,7 +10,7 @@ use Rattle.refusal.specs.Refusal.{Verdict}
 use Rattle.refusal.specs.declared.Refusal.{Refusal}
 use Rattle.tree.specs.Table.{Node, none, encode}
 use Rattle.tree.specs.Insert.{setPlace}
-use Rattle.tree.specs.Laws.WrittenEntries.{length-encode}
+use Rattle.tree.proofs.Laws.WrittenEntries.{length-encode}
 use Rattle.space.specs.declared.DiscRegion.{DiscRegion}
 use Rattle.opening.specs.Opening.{regionOf}
 use Rattle.edits.specs.Change.{tableVerdict, change}

@@ -18,7 +18,7 @@ use Rattle.free_space.specs.MaxRegionSize.{maxRegionSize}
 use Rattle.free_space.specs.Laws.GrowthLaws.{file-largest}
 use Rattle.opening.specs.Opening.{nodesIn, regionOf, behindTable, usedIn, freeOf}
 use Rattle.opening.specs.Inner.Prepared.{OpenImage}
-use Rattle.edits.specs.Laws.PlaceTests.{in-region}
+use Rattle.edits.proofs.Laws.PlaceTests.{in-region}
 use Rattle.commit.proofs.Images.{file-lies, place-lies}
 use Rattle.decide.specs.Inner.Files.{IsFile}
 

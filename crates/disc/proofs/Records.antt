@@ -10,7 +10,7 @@ use Rattle.totals.specs.Inner.Scan.{longestFrom}
 use Rattle.totals.specs.Laws.LargestLaws.{largest-now}
 use Rattle.opening.specs.Opening.{usedIn, behindTable, freeOf}
 use Rattle.opening.specs.Inner.Prepared.{IsOpen}
-use Rattle.opening.specs.Laws.OpeningLaws.{used-regions}
+use Rattle.opening.proofs.Laws.OpeningLaws.{used-regions}
 use Rattle.opened.specs.Inner.Disc.{Disc, Means}
 use Rattle.opened.specs.Laws.Meant.{start_meant, room_meant, end_meant, total_meant}
 use Rattle.disc.specs.Calls.{totalsOf}

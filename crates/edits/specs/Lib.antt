@@ -2,4 +2,3 @@ pub mod Change
 pub mod Edits
 pub mod Promise
 pub mod Inner
-pub mod Laws

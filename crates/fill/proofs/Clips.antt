@@ -10,7 +10,7 @@ use Rattle.endian.specs.Bytes.{put, span, be32, be32Bytes}
 use Rattle.endian.specs.Laws.Stored.{length-put, drop-put, put-none}
 use Rattle.header.specs.Verdicts.{fstOffset, fstSize}
 use Rattle.edits.specs.Change.{padded, withTable}
-use Rattle.edits.specs.Laws.Puts.{put-length, field_below}
+use Rattle.edits.proofs.Laws.Puts.{put-length, field_below}
 use Rattle.fst_measure.proofs.Puts.{put-swap}
 use Rattle.commit.specs.declared.Writing.{Writing}
 use Rattle.commit.specs.Inner.Decision.{clipped, writtenWith, Fits}

@@ -16,7 +16,7 @@ use Rattle.opening.specs.Opening.{nodesIn, freeOf, regionOf}
 use Rattle.opening.specs.Inner.Prepared.{OpenImage}
 use Rattle.edits.specs.Change.{Plan, filled}
 use Rattle.edits.specs.Edits.{fileVerdict, clipVerdict, planSized, planResize, planFill, planVerdict, planImage}
-use Rattle.edits.specs.Laws.Puts.{put-length}
+use Rattle.edits.proofs.Laws.Puts.{put-length}
 use Rattle.opened.specs.Inner.Disc.{Disc, free_of, Means}
 use Rattle.decide.specs.declared.File.{File}
 use Rattle.decide.specs.Inner.Files.{IsFile, file_in}

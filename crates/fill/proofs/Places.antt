@@ -20,7 +20,7 @@ use Rattle.header.specs.Verdicts.{table_end}
 use Rattle.tree.specs.Table.{Node, file, directory, none, encode, limits}
 use Rattle.tree.specs.Lookup.{isDirectory}
 use Rattle.tree.specs.Insert.{placed, setPlace}
-use Rattle.tree.specs.Laws.PlaceLaws.{setPlace-at}
+use Rattle.tree.proofs.Laws.PlaceLaws.{setPlace-at}
 use Rattle.space.specs.declared.DiscRegion.{DiscRegion}
 use Rattle.space.specs.Used.{end_of}
 use Rattle.free_space.specs.MaxRegionSize.{maxRegionSize}
@@ -29,7 +29,7 @@ use Rattle.opening.specs.Opening.{nodesIn, regionOf, freeOf}
 use Rattle.opening.specs.Inner.Prepared.{OpenImage}
 use Rattle.edits.specs.Change.{Change, tableVerdict, Plan, refused, nothing, change, filled}
 use Rattle.edits.specs.Edits.{overlapsItself, relocateVerdict, relocated, resized, planned, planElsewhere, planSized, planVerdict, planTree}
-use Rattle.edits.specs.Laws.PlaceTests.{place-passed}
+use Rattle.edits.proofs.Laws.PlaceTests.{place-passed}
 use Rattle.decide.specs.Inner.Files.{IsFile}
 use Rattle.commit.specs.declared.Writing.{Writing}
 use Rattle.commit.specs.declared.Decision.TheVariants as decision

@@ -17,8 +17,8 @@ use Rattle.refusal.specs.declared.Refusal.TheVariants.{NotFound}
 use Rattle.tree.specs.Table.{Node, file, directory, name_of, none, encloses, parentBelow, parent_of}
 use Rattle.tree.specs.Inner.WellFormed.{WellFormed}
 use Rattle.tree.specs.Lookup.{isDirectory, next_of, childNamed, firstChild, childOf}
-use Rattle.tree.specs.Laws.Nesting.{parent-here, parent-lower, parent_is}
-use Rattle.tree.specs.Laws.WellNested.{next-bounds, nests}
+use Rattle.tree.proofs.Laws.Nesting.{parent-here, parent-lower, parent_is}
+use Rattle.tree.proofs.Laws.WellNested.{next-bounds, nests}
 use Rattle.fst.specs.Inner.After.{after_of}
 use Rattle.fst.proofs.Nodes.{encloses-next, parent-whole}
 

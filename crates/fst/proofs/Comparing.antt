@@ -17,7 +17,7 @@ use Rattle.refusal.specs.Laws.Tests.{lt-or-le}
 use Rattle.refusal.specs.declared.Refusal.TheVariants.{NotFound}
 use Rattle.tree.specs.Table.{Node, name_of, none, count, nodesOf, upTo0, namePlace}
 use Rattle.tree.specs.Lookup.{firstChild, childOf}
-use Rattle.tree.specs.Laws.Accepted.{length-nodesOf}
+use Rattle.tree.proofs.Laws.Accepted.{length-nodesOf}
 use Rattle.fst_text.specs.Inner.Texts.{textAt}
 use Rattle.fst.specs.Inner.Zeros.{hasZero}
 use Rattle.fst.proofs.Nodes.{root-name}

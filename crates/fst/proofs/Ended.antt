@@ -5,7 +5,7 @@ use mathlib.Core.List.{List, [], ◌∷◌}
 use native.Mathlib.Omega.{arith}
 use lib.ListN.{length, get_or, take, drop}
 use Rattle.tree.specs.Table.{none, count, name_of, name_at, nodesOf, namePlace, upTo0}
-use Rattle.tree.specs.Laws.Accepted.{Accepted}
+use Rattle.tree.specs.Inner.Accepted.{Accepted}
 use Rattle.fst_text.specs.Inner.Texts.{textAt}
 use Rattle.fst_check.proofs.Walking.{count-some}
 use Rattle.fst.proofs.Nodes.{name-is}

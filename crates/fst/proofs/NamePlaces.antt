@@ -5,7 +5,7 @@ use mathlib.Core.List.{List}
 use native.Mathlib.Omega.{arith}
 use lib.ListN.{length}
 use Rattle.tree.specs.Table.{count, nameOffset, namePlace}
-use Rattle.tree.specs.Laws.Accepted.{Accepted}
+use Rattle.tree.specs.Inner.Accepted.{Accepted}
 
 pub place_is : (tab : List ℕ) (k : ℕ) → (k ≡ 0 → ⊥) → namePlace tab k ≡ 12 * count tab + nameOffset tab k
 place_is tab zero h = absurd (h refl)

@@ -12,9 +12,10 @@ use Rattle.refusal.specs.declared.Refusal.TheVariants.{EntryPastTable, Unrecogni
 use Rattle.refusal.specs.Laws.Chains.{refuse-passed, first-passed}
 use Rattle.tree.specs.Table.{Node, file, directory, name_of, none, count, kind, nameOffset, offsetOrParent, sizeOrNext, name_at, nodesOf, entriesVerdict, check, encloses, parentBelow, parent_of}
 use Rattle.tree.specs.Lookup.{isDirectory, next_of}
-use Rattle.tree.specs.Laws.Accepted.{Accepted, accepted, length-nodesOf, getD-nodesOf}
-use Rattle.tree.specs.Laws.WellNested.{root_is}
-use Rattle.tree.specs.Laws.Nesting.{parent-here, parent-lower, parent-before}
+use Rattle.tree.specs.Inner.Accepted.{Accepted}
+use Rattle.tree.proofs.Laws.Accepted.{accepted, length-nodesOf, getD-nodesOf}
+use Rattle.tree.proofs.Laws.WellNested.{root_is}
+use Rattle.tree.proofs.Laws.Nesting.{parent-here, parent-lower, parent-before}
 use Rattle.fst_check.specs.Inner.Reading.{Inside, Opens}
 use Rattle.fst_text.specs.Inner.Texts.{textAt}
 use Rattle.fst.specs.Inner.Fields.{last_of}

@@ -15,7 +15,7 @@ use Rattle.refusal.specs.declared.Refusal.TheVariants.{EntryPastTable, Unrecogni
 use Rattle.refusal.specs.Refusal.{refuse, is_refused}
 use Rattle.refusal.specs.Laws.Chains.{refuse-passed, first-passed}
 use Rattle.tree.specs.Table.{file, directory, name_of, count, kind, nameOffset, offsetOrParent, sizeOrNext, name_at, nodeWith, nodeAt, nodesFrom, entryVerdict, entriesVerdict, top, shut, enter, nextVerdict, walk}
-use Rattle.tree.specs.Laws.Steps.{walkEntry, walk-stop, walk-go, walk_end}
+use Rattle.tree.proofs.Laws.Steps.{walkEntry, walk-stop, walk-go, walk_end}
 use Rattle.fst_check.specs.Inner.Reading.{Inside, open_in, nodeVerdict}
 
 -- entries that pass stand in the table

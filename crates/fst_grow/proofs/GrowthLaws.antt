@@ -18,15 +18,15 @@ use Rattle.refusal.specs.Refusal.{refuse}
 use Rattle.tree.specs.Table.{Node, name_of, none, sizeOrNext, textsOf, encode, limits}
 use Rattle.tree.specs.Inner.WellFormed.{GoodName, WellFormed}
 use Rattle.tree.specs.Lookup.{next_of}
-use Rattle.tree.specs.Laws.InsertWalk.{depthOk}
+use Rattle.tree.proofs.Laws.InsertWalk.{depthOk}
 use Rattle.tree.specs.Inner.Depths.{depth_of}
 use Rattle.tree.specs.Inner.Patch.{insertPatch}
-use Rattle.tree.specs.Laws.Depth.{limits-insert}
-use Rattle.tree.specs.Laws.Renumbered.{directory-is}
-use Rattle.tree.specs.Laws.Growing.{Bigger, bigger-insert, limits-either}
-use Rattle.tree.specs.Laws.Size.{size-insert}
-use Rattle.tree.specs.Laws.RoundTrip.{Within, within-limits}
-use Rattle.tree.specs.Laws.WrittenEntries.{length-encode}
+use Rattle.tree.proofs.Laws.Depth.{limits-insert}
+use Rattle.tree.proofs.Laws.Renumbered.{directory-is}
+use Rattle.tree.proofs.Laws.Growing.{Bigger, bigger-insert, limits-either}
+use Rattle.tree.proofs.Laws.Size.{size-insert}
+use Rattle.tree.proofs.Laws.RoundTrip.{Within, within-limits}
+use Rattle.tree.proofs.Laws.WrittenEntries.{length-encode}
 use Rattle.fst_raise.specs.Inner.Inserting.{newNode, Insertable}
 use Rattle.fst_raise.proofs.Patches.{new-name}
 use Rattle.fst_patch.proofs.Written.{fresh-new, insertable, insert-written}

@@ -13,8 +13,8 @@ use Rattle.refusal.specs.Refusal.{refuse}
 use Rattle.tree.specs.Table.{limits}
 use Rattle.tree.specs.Inner.WellFormed.{GoodName}
 use Rattle.tree.specs.Inner.Depths.{depth_of}
-use Rattle.tree.specs.Laws.WellNested.{not-empty}
-use Rattle.tree.specs.Laws.WrittenEntries.{length-encode}
+use Rattle.tree.proofs.Laws.WellNested.{not-empty}
+use Rattle.tree.proofs.Laws.WrittenEntries.{length-encode}
 use Rattle.fst_grow.specs.Inner.Growth.{treeIn, Stands, IsDirectory, added, depthAllows}
 use Rattle.fst_grow.proofs.StandingTable.{inside, entry-held, size_is, count-is, texts-are}
 use Rattle.fst_grow.proofs.GrowthLaws.{too_many, too_long, too_few, depth-decides}

@@ -13,17 +13,17 @@ use Rattle.endian.specs.Bytes.{be32, put}
 use Rattle.endian.specs.Laws.Stored.{length-put, put_in}
 use Rattle.tree.specs.Table.{Node, file, directory, none, count, sizeOrNext, offsetOrParent, nodesOf, encloses, parent_of, textsOf, encode}
 use Rattle.tree.specs.Inner.WellFormed.{WellFormed}
-use Rattle.tree.specs.Laws.WellNested.{root_is, not-empty, parent-inside}
-use Rattle.tree.specs.Laws.Nesting.{parent-before}
-use Rattle.tree.specs.Laws.Renumbered.{directory-is}
+use Rattle.tree.proofs.Laws.WellNested.{root_is, not-empty, parent-inside}
+use Rattle.tree.proofs.Laws.Nesting.{parent-before}
+use Rattle.tree.proofs.Laws.Renumbered.{directory-is}
 use Rattle.tree.specs.Inner.Depths.{depth_of}
 use Rattle.tree.specs.Lookup.{next_of}
-use Rattle.tree.specs.Laws.Depth.{depth-root, depth-parent}
-use Rattle.tree.specs.Laws.RoundTrip.{Within, within-limits, written-reads, written-accepted}
-use Rattle.tree.specs.Laws.WrittenEntries.{length-encode}
-use Rattle.tree.specs.Laws.Writing.{Fields, textStart, written-fields}
+use Rattle.tree.proofs.Laws.Depth.{depth-root, depth-parent}
+use Rattle.tree.proofs.Laws.RoundTrip.{Within, within-limits, written-reads, written-accepted}
+use Rattle.tree.proofs.Laws.WrittenEntries.{length-encode}
+use Rattle.tree.proofs.Laws.Writing.{Fields, textStart, written-fields}
 use borrow.Author.Tests.{lt-ltb, le-ltb}
-use Rattle.tree.specs.Laws.Accepted.{length-nodesOf}
+use Rattle.tree.proofs.Laws.Accepted.{length-nodesOf}
 use Rattle.fst_check.specs.Inner.Reading.{Opens}
 use Rattle.fst_raise.proofs.Patches.{SameEntry, same-entry}
 use Rattle.fst_measure.proofs.Puts.{put-start}

@@ -14,7 +14,7 @@ use Rattle.endian.specs.Laws.Stored.{length-put, put-sets, put_in, put-none}
 use Rattle.refusal.specs.Laws.Tests.{lt-or-le}
 use Rattle.tree.specs.Table.{Node, file, directory, name_of, none, count, nodesOf, encloses, parentBelow, parent_of}
 use Rattle.tree.specs.Lookup.{isDirectory, next_of}
-use Rattle.tree.specs.Laws.Nesting.{parent-here, parent-lower, parent-before}
+use Rattle.tree.proofs.Laws.Nesting.{parent-here, parent-lower, parent-before}
 use Rattle.fst_list.specs.Rows.{rowWith, imagePlace, row_of, rowsBelow, listed}
 use Rattle.fst_list.specs.Inner.ParentsIn.{ParentsIn}
 use Rattle.fst.specs.Inner.Fields.{offset_of, last_of}

@@ -6,9 +6,9 @@ use native.Mathlib.Omega.{arith}
 use borrow.Author.Tests.{lt-ltb, le-ltb}
 use lib.ListN.{length, get_or}
 use Rattle.tree.specs.Table.{name_of, none, count, nameOffset, name_at, nodesOf, textsOf}
-use Rattle.tree.specs.Laws.Accepted.{length-nodesOf}
-use Rattle.tree.specs.Laws.Size.{sizeTo, size-root, size-next, size-whole}
-use Rattle.tree.specs.Laws.Writing.{start-inside, start-end}
+use Rattle.tree.proofs.Laws.Accepted.{length-nodesOf}
+use Rattle.tree.proofs.Laws.Size.{sizeTo, size-root, size-next, size-whole}
+use Rattle.tree.proofs.Laws.Writing.{start-inside, start-end}
 use Rattle.std.specs.Prelude.{Ok, Err}
 use Rattle.refusal.specs.declared.Refusal.TheVariants.{LimitOrMemory}
 use Rattle.fst_measure.specs.Inner.Valid.{Valid, nameSize}

@@ -10,8 +10,8 @@ use lib.Seq.{append_snoc}
 use Rattle.endian.specs.Bytes.{put}
 use Rattle.endian.specs.Laws.Stored.{length-put, put-none}
 use Rattle.tree.specs.Table.{Node, directory, name_of, kind, nameOffset, sizeOrNext, name_at, nodeWith, nodeAt, nodesFrom, nodesOf, parent_of, nodeBytes, entriesBytes, textsOf, encode}
-use Rattle.tree.specs.Laws.Accepted.{length-nodesFrom, length-nodesOf}
-use Rattle.tree.specs.Laws.WrittenEntries.{length-nodeBytes, length-entriesBytes, length-encode}
+use Rattle.tree.proofs.Laws.Accepted.{length-nodesFrom, length-nodesOf}
+use Rattle.tree.proofs.Laws.WrittenEntries.{length-nodeBytes, length-entriesBytes, length-encode}
 use Rattle.fst_measure.specs.Inner.Valid.{Valid, nameSize}
 use Rattle.fst_measure.specs.Inner.Flat.{recordAt, putText, textFlat, writeFlat, textTo, writeTo, rootAt, Room}
 use Rattle.fst_measure.proofs.Puts.{put-append, put-swap}

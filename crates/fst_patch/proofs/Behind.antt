@@ -11,7 +11,7 @@ use Rattle.endian.specs.Bytes.{put, span, be24, be32}
 use Rattle.endian.specs.Laws.Stored.{length-put, put_in, drop-put, length-span, getD-span, be24-drop, be32-drop, be24-same, be32-same}
 use Rattle.tree.specs.Table.{nameOffset}
 use Rattle.tree.specs.Inner.Patch.{records, recordAfter}
-use Rattle.tree.specs.Laws.Records.{length-records}
+use Rattle.tree.proofs.Laws.Records.{length-records}
 use Rattle.fst_raise.specs.Inner.Inserting.{Raisable, EachRaisable, NamesGrow}
 use Rattle.fst_raise.proofs.Patches.{MovedEntry, SameEntry, moved-after, raisable-moved, after-twelve}
 use Rattle.fst_patch.proofs.Passes.{Filled, fill_start, fill-same, fill-again, records-shift}

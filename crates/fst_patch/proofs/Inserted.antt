@@ -14,7 +14,7 @@ use Rattle.endian.specs.Bytes.{put, span}
 use Rattle.endian.specs.Laws.Stored.{length-put, put-before, length-span, span_ext}
 use Rattle.tree.specs.Table.{Node, nameOffset, sizeOrNext}
 use Rattle.tree.specs.Inner.Patch.{records, patchedRecord, newStart, insertPatch}
-use Rattle.tree.specs.Laws.Records.{records-ext, length-records}
+use Rattle.tree.proofs.Laws.Records.{records-ext, length-records}
 use Rattle.fst_raise.specs.Inner.Inserting.{newNode, Patchable, newTexts, start_in, Insertable}
 use Rattle.fst_measure.proofs.Puts.{put-append, put-prepend}
 use Rattle.fst_raise.proofs.Patches.{new-name, patched_same, patched-twelve, SameEntry, same-entry, raisable-same}

@@ -12,9 +12,9 @@ use lib.ListN.{length}
 use Rattle.endian.specs.Bytes.{put, AllBytes}
 use Rattle.endian.specs.Laws.Stored.{length-put, put-before, put-none}
 use Rattle.tree.specs.Table.{Node, nodeBytes}
-use Rattle.tree.specs.Laws.WrittenEntries.{length-nodeBytes}
+use Rattle.tree.proofs.Laws.WrittenEntries.{length-nodeBytes}
 use Rattle.tree.specs.Inner.Patch.{records, recordBefore, recordAfter, patchedRecord}
-use Rattle.tree.specs.Laws.Records.{Twelve, length-records, records-ext, records-split}
+use Rattle.tree.proofs.Laws.Records.{Twelve, length-records, records-ext, records-split}
 use Rattle.fst_raise.specs.Inner.Inserting.{newNode, Raisable, EachRaisable, Patchable}
 use Rattle.fst_measure.proofs.Puts.{put-prepend}
 use Rattle.fst_raise.proofs.Patches.{SameEntry, same-entry, same-before, raisable-same, before-twelve, patched-twelve, patched-before, patched-new, patched-after, new_is, new-name, between_stays}

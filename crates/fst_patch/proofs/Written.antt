@@ -12,15 +12,15 @@ use Rattle.endian.specs.Bytes.{put, be32Bytes}
 use Rattle.endian.specs.Laws.Stored.{length-put, put_in, drop-put}
 use Rattle.tree.specs.Table.{Node, file, directory, none, nameOffset, sizeOrNext, parentBelow, parent_of, textsOf, encode}
 use Rattle.tree.specs.Inner.WellFormed.{WellFormed}
-use Rattle.tree.specs.Laws.WrittenEntries.{length-encode}
-use Rattle.tree.specs.Laws.Nesting.{parent-before}
-use Rattle.tree.specs.Laws.WellNested.{root_is, next-bounds}
+use Rattle.tree.proofs.Laws.WrittenEntries.{length-encode}
+use Rattle.tree.proofs.Laws.Nesting.{parent-before}
+use Rattle.tree.proofs.Laws.WellNested.{root_is, next-bounds}
 use Rattle.tree.specs.Insert.{insertAt, setPlace}
-use Rattle.tree.specs.Laws.InsertLaws.{Fresh}
-use Rattle.tree.specs.Laws.Writing.{textStart, start-most, Fields, written-fields}
+use Rattle.tree.proofs.Laws.InsertLaws.{Fresh}
+use Rattle.tree.proofs.Laws.Writing.{textStart, start-most, Fields, written-fields}
 use Rattle.tree.specs.Inner.Patch.{insertPatch}
-use Rattle.tree.specs.Laws.PatchLaws.{place-patched, insert-patched}
-use Rattle.tree.specs.Laws.Size.{size-insert}
+use Rattle.tree.proofs.Laws.PatchLaws.{place-patched, insert-patched}
+use Rattle.tree.proofs.Laws.Size.{size-insert}
 use Rattle.fst_raise.specs.Inner.Inserting.{newNode, Raisable, Insertable}
 use Rattle.fst_measure.proofs.Puts.{take_put}
 use Rattle.fst_raise.proofs.Patches.{SameEntry, same-entry, raisable-same, new-name}

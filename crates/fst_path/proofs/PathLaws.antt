@@ -12,10 +12,10 @@ use Rattle.refusal.specs.declared.Refusal.TheVariants.{ExpectedDirectory}
 use Rattle.tree.specs.Table.{Node, file, directory, none, shut, enter, shallowEntry, shallowFrom, shallow}
 use Rattle.tree.specs.Inner.WellFormed.{WellFormed}
 use Rattle.tree.specs.Lookup.{isDirectory, childOf, stays, goesBack, and_then, stepBack, follow}
-use Rattle.tree.specs.Laws.Children.{child-is}
-use Rattle.tree.specs.Laws.OpenDirectories.{open_at, stack_is}
+use Rattle.tree.proofs.Laws.Children.{child-is}
+use Rattle.tree.proofs.Laws.OpenDirectories.{open_at, stack_is}
 use Rattle.tree.specs.Inner.Depths.{depth_of}
-use Rattle.tree.specs.Laws.Depth.{depth-root, depth-parent}
+use Rattle.tree.proofs.Laws.Depth.{depth-root, depth-parent}
 use Rattle.fst_path.specs.Inner.Steps.{Behind, Trail}
 use Rattle.fst.proofs.ChildLaws.{child-found}
 

@@ -14,9 +14,9 @@ use Rattle.endian.specs.Bytes.{put, be32Bytes, AllBytes}
 use Rattle.endian.specs.Laws.Stored.{be24-same, be32-same}
 use Rattle.refusal.specs.Laws.Tests.{lt-or-le}
 use Rattle.tree.specs.Table.{Node, name_of, kind, nameOffset, offsetOrParent, sizeOrNext, nodeWith, nodeBytes}
-use Rattle.tree.specs.Laws.WrittenEntries.{length-nodeBytes}
+use Rattle.tree.proofs.Laws.WrittenEntries.{length-nodeBytes}
 use Rattle.tree.specs.Insert.{bump, earlier, later, shifted}
-use Rattle.tree.specs.Laws.Records.{Twelve}
+use Rattle.tree.proofs.Laws.Records.{Twelve}
 use Rattle.tree.specs.Inner.Patch.{stored, recordBefore, recordAfter, patchedRecord}
 use Rattle.fst_measure.specs.Inner.Flat.{recordBytes}
 use Rattle.fst_raise.specs.Inner.Inserting.{newNode, nextBefore, Raisable}

@@ -11,7 +11,7 @@ use lib.Dec.{eqb}
 use Rattle.tree.specs.Units.{leadByte, TextUnit, units}
 use Rattle.tree.specs.Table.{plain_byte, safeByte, plainUnit, safeUnit}
 use Rattle.tree.specs.Inner.Pairs.{pair_at}
-use Rattle.tree.specs.Laws.UnitLaws.{pair_inside}
+use Rattle.tree.proofs.Laws.UnitLaws.{pair_inside}
 use Rattle.refusal.specs.Laws.Tests.{lt-or-le, and_left, and_right}
 use Rattle.fst_text.specs.Inner.Texts.{cleanByte, cleanUnit, endUnit, cleanFrom, NoLead}
 use Rattle.fst_text.specs.Inner.Blocks.{Fit, markPlace, Marked}

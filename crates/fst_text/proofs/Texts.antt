@@ -15,7 +15,7 @@ use lib.Dec.{eqb}
 use Rattle.tree.specs.Units.{leadByte, trailByte, TextUnit, single, pair, units}
 use Rattle.tree.specs.Table.{every, dots, safe, plain_byte, safeByte, safeUnit, upTo0}
 use Rattle.tree.specs.Inner.Pairs.{pair_at}
-use Rattle.tree.specs.Laws.UnitLaws.{in_either, lead_is, trail_is, by_units, units-pair, units-single, units-none}
+use Rattle.tree.proofs.Laws.UnitLaws.{in_either, lead_is, trail_is, by_units, units-pair, units-single, units-none}
 use Rattle.refusal.specs.Laws.Tests.{lt-or-le, and_left, and_right, or_cases, is_false}
 use Rattle.fst_text.specs.Inner.Texts.{textAt, cleanByte, cleanUnit, cleanFrom, NoLead}
 

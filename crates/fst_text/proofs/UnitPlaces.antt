@@ -9,7 +9,7 @@ use lib.ListN.{length, get_or, drop, length-drop}
 use Rattle.refusal.specs.Laws.Tests.{lt-or-le}
 use Rattle.tree.specs.Units.{TextUnit, single, pair, unitBytes, units}
 use Rattle.tree.specs.Inner.Pairs.{pair_at}
-use Rattle.tree.specs.Laws.UnitLaws.{by_units, units-pair, units-single, units-none}
+use Rattle.tree.proofs.Laws.UnitLaws.{by_units, units-pair, units-single, units-none}
 
 -- ---- the bytes of units
 

@@ -1,4 +1,4 @@
 -- How many entries a table has, for a test of a number against it. Assumes nothing.
-use Rattle.tree.specs.Laws.Accepted.{length-nodesOf}
+use Rattle.tree.proofs.Laws.Accepted.{length-nodesOf}
 
 pub ruleset entry_count = (length-nodesOf)

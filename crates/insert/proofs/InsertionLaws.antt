@@ -15,10 +15,10 @@ use Rattle.refusal.specs.Laws.Chains.{refuse-passed}
 use Rattle.tree.specs.Table.{Node, none, plain, safe, limits}
 use Rattle.tree.specs.Inner.WellFormed.{GoodName, WellFormed}
 use Rattle.tree.specs.Lookup.{isDirectory, childOf}
-use Rattle.tree.specs.Laws.Growing.{bigger-same}
-use Rattle.tree.specs.Laws.Renumbered.{directory-is}
-use Rattle.tree.specs.Laws.RoundTrip.{within-limits}
-use Rattle.tree.specs.Laws.WellNested.{next-bounds}
+use Rattle.tree.proofs.Laws.Growing.{bigger-same}
+use Rattle.tree.proofs.Laws.Renumbered.{directory-is}
+use Rattle.tree.proofs.Laws.RoundTrip.{within-limits}
+use Rattle.tree.proofs.Laws.WellNested.{next-bounds}
 use Rattle.edits.specs.Change.{change}
 use Rattle.edits.specs.Edits.{tableOnly, newNumber, isFound, insertVerdict, planned}
 use Rattle.opened.specs.Inner.Disc.{Disc}

@@ -12,14 +12,14 @@ use lib.Seq.{get_or-set_same, get_or-set_other}
 use Rattle.tree.specs.Table.{Node, file, directory, none, parentBelow, parent_of, shallow, count, nodesOf}
 use Rattle.tree.specs.Inner.WellFormed.{WellFormed}
 use Rattle.tree.specs.Lookup.{isDirectory, next_of}
-use Rattle.tree.specs.Laws.WellNested.{root_is}
+use Rattle.tree.proofs.Laws.WellNested.{root_is}
 use Rattle.tree.specs.Inner.Depths.{depth_of}
-use Rattle.tree.specs.Laws.Depth.{depth-root, depth-parent}
+use Rattle.tree.proofs.Laws.Depth.{depth-root, depth-parent}
 use Rattle.refusal.specs.Laws.Tests.{lt-or-le}
 use Rattle.fst.proofs.Nodes.{parent-whole}
 use Rattle.fst_path.proofs.PathLaws.{directory-depth}
 use Rattle.fst_list.proofs.RowLaws.{climb-found, climb-turn, climb-end}
-use Rattle.tree.specs.Laws.Accepted.{length-nodesOf}
+use Rattle.tree.proofs.Laws.Accepted.{length-nodesOf}
 use Rattle.listing_text.proofs.Tables.{Read}
 use Rattle.listing_text.specs.Inner.Around.{Chain, Climbs, Ends}
 

@@ -8,7 +8,7 @@ use native.Mathlib.Numerals.{add-one}
 use borrow.Author.Tests.{ne_eqb}
 use lib.ListN.{get_or}
 use Rattle.tree.specs.Table.{Node, name_of, none, parent_of}
-use Rattle.tree.specs.Laws.Nesting.{parent-before, parent-root}
+use Rattle.tree.proofs.Laws.Nesting.{parent-before, parent-root}
 use Rattle.listing_text.specs.Lines.{ending, entryFields, lineFeed, pathWithin, pathOf, entryLine, entryLines}
 
 pub path-root : (f : ℕ) (nodes : List Node) (k : ℕ) → k ≡ 0 → pathWithin f nodes k ≡ 0x2F ∷ []

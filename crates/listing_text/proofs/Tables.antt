@@ -5,7 +5,7 @@ use mathlib.Core.List.{List, [], ◌∷◌}
 use lib.ListN.{get_or, drop}
 use native.Mathlib.Omega.{arith}
 use Rattle.tree.specs.Table.{count, none, name_of, nodesOf, namePlace, upTo0}
-use Rattle.tree.specs.Laws.Accepted.{Accepted}
+use Rattle.tree.specs.Inner.Accepted.{Accepted}
 use Rattle.fst.proofs.Nodes.{opened, root-name}
 use Rattle.fst.proofs.Ended.{name-there}
 use Rattle.fst.specs.Inner.Held.{Held}

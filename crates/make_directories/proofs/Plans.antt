@@ -16,14 +16,14 @@ use Rattle.refusal.specs.Laws.Chains.{refuse-passed}
 use Rattle.tree.specs.Table.{Node}
 use Rattle.tree.specs.Inner.WellFormed.{WellFormed}
 use Rattle.tree.specs.Lookup.{components}
-use Rattle.tree.specs.Laws.InsertedList.{well-nested}
-use Rattle.tree.specs.Laws.Growing.{Bigger, bigger-same}
-use Rattle.tree.specs.Laws.RoundTrip.{within-limits}
+use Rattle.tree.proofs.Laws.InsertedList.{well-nested}
+use Rattle.tree.proofs.Laws.Growing.{Bigger, bigger-same}
+use Rattle.tree.proofs.Laws.RoundTrip.{within-limits}
 use Rattle.edits.specs.Change.{Plan, change}
 use Rattle.edits.specs.Edits.{Made, stopped, made, make, tableOnly, planned, planMade, planMakeDirectories, planVerdict}
 use Rattle.edits.specs.Inner.Troubles.{madeVerdict, troubleOf}
-use Rattle.edits.specs.Laws.Troubles.{make-trouble}
-use Rattle.edits.specs.Laws.MadeTree.{make-grows}
+use Rattle.edits.proofs.Laws.Troubles.{make-trouble}
+use Rattle.edits.proofs.Laws.MadeTree.{make-grows}
 use Rattle.opened.specs.Inner.Disc.{Disc}
 use Rattle.commit.specs.declared.Decision.{Decision}
 use Rattle.commit.specs.Inner.Decision.{Decides}

@@ -12,17 +12,17 @@ use Rattle.refusal.specs.declared.Refusal.TheVariants.{UnsafeName, ExpectedDirec
 use Rattle.tree.specs.Table.{Node, none, plain, safe, parent_of, encode, limits}
 use Rattle.tree.specs.Inner.WellFormed.{GoodName, WellFormed}
 use Rattle.tree.specs.Lookup.{isDirectory, childOf, stays, goesBack}
-use Rattle.tree.specs.Laws.Children.{child-is}
-use Rattle.tree.specs.Laws.LookupLaws.{child-inside}
-use Rattle.tree.specs.Laws.Nesting.{parent-most}
-use Rattle.tree.specs.Laws.Renumbered.{directory-is}
-use Rattle.tree.specs.Laws.WellNested.{next-bounds}
+use Rattle.tree.proofs.Laws.Children.{child-is}
+use Rattle.tree.proofs.Laws.LookupLaws.{child-inside}
+use Rattle.tree.proofs.Laws.Nesting.{parent-most}
+use Rattle.tree.proofs.Laws.Renumbered.{directory-is}
+use Rattle.tree.proofs.Laws.WellNested.{next-bounds}
 use Rattle.tree.specs.Insert.{insertAt, emptyDirectory}
-use Rattle.tree.specs.Laws.InsertLaws.{length-insert, parent-insert-before, parent-insert-at}
-use Rattle.tree.specs.Laws.Growing.{Bigger, bigger-insert, bigger-limits, bigger-encode}
+use Rattle.tree.proofs.Laws.InsertLaws.{length-insert, parent-insert-before, parent-insert-at}
+use Rattle.tree.proofs.Laws.Growing.{Bigger, bigger-insert, bigger-limits, bigger-encode}
 use Rattle.edits.specs.Edits.{newNumber, Made, stopped, made, madeBack, ifFound, make}
 use Rattle.edits.specs.Inner.Troubles.{madeVerdict}
-use Rattle.edits.specs.Laws.MadeTree.{bad-stays, AllLt, make-grows}
+use Rattle.edits.proofs.Laws.MadeTree.{bad-stays, AllLt, make-grows}
 use Rattle.fst_grow.specs.declared.growing.Growing.{Growing}
 use Rattle.fst_grow.specs.Inner.Growing.{tree_of, IsTable}
 use Rattle.make_directories.specs.Inner.Making.{madeTree, madeEntry, turn_of, CanTurn, Reaches}

@@ -7,7 +7,7 @@ use native.Mathlib.Omega.{arith}
 use lib.ListN.{length}
 use Rattle.tree.specs.Units.{TextUnit, single, pair, leadByte, trailByte, units}
 use Rattle.tree.specs.Lookup.{separates, longer, componentsOf, components}
-use Rattle.tree.specs.Laws.UnitLaws.{by_units}
+use Rattle.tree.proofs.Laws.UnitLaws.{by_units}
 
 one-more : (u : TextUnit) (us : List TextUnit) → length (componentsOf (u ∷ us)) ≤ length (componentsOf us) + 1
 unfolding componentsOf

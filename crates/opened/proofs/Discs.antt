@@ -11,12 +11,12 @@ use Rattle.space.specs.Inner.Sort.{SameSums, regionsIn}
 use Rattle.space.specs.Inner.Words.{SortedDisjoint}
 use Rattle.space.specs.Laws.SortLaws.{same_total}
 use Rattle.tree.specs.Table.{nodesOf}
-use Rattle.tree.specs.Laws.Accepted.{length-nodesOf}
+use Rattle.tree.proofs.Laws.Accepted.{length-nodesOf}
 use Rattle.fst_check.specs.Inner.Reading.{Opens}
 use Rattle.program.specs.Program.{programBehind}
 use Rattle.opening.specs.Opening.{table_of, usedIn, freeOf}
 use Rattle.opening.specs.Inner.Prepared.{IsOpen}
-use Rattle.opening.specs.Laws.OpeningLaws.{table-accepted}
+use Rattle.opening.proofs.Laws.OpeningLaws.{table-accepted}
 use Rattle.opening.proofs.Words.{free-below, sorted-below}
 use Rattle.opened.specs.Inner.Parts.{HasParts}
 use Rattle.opened.specs.Inner.Disc.{Disc, disc_in, disc_of, free_of, Means, TableOf}

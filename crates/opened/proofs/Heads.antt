@@ -12,7 +12,7 @@ use Rattle.header.specs.Inner.Bounds.{boundsWithin}
 use Rattle.header.specs.Laws.Order.{header-order}
 use Rattle.refusal.specs.declared.Refusal.{Refusal}
 use Rattle.dol.specs.Dol.{wordsAt, dolHeaderOf, fileSizeOf}
-use Rattle.opening.specs.Laws.OpeningLaws.{be32-span}
+use Rattle.opening.proofs.Laws.OpeningLaws.{be32-span}
 use Rattle.space.specs.declared.DiscRegion.{DiscRegion}
 use Rattle.program.specs.Program.{Program, program_of, programVerdict, nowhere}
 use Rattle.program.specs.Inner.Reading.{programAt}

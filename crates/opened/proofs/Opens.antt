@@ -11,7 +11,7 @@ use Rattle.header.specs.Laws.FieldTests.{header-passes, bounds-pass}
 use Rattle.tree.specs.Table.{check}
 use Rattle.opening.specs.Opening.{table_of}
 use Rattle.opening.specs.Inner.Prepared.{verdictBefore24, Readable}
-use Rattle.opening.specs.Laws.OpeningLaws.{stopped, went_on}
+use Rattle.opening.proofs.Laws.OpeningLaws.{stopped, went_on}
 use Rattle.opened.specs.Inner.Parts.{HasTable}
 
 pub head_opens : (image : List ℕ) (words : ℕ) → Readable image words → first (headerVerdict image) (boundsVerdict image) ≡ Ok tt

@@ -4,5 +4,6 @@ pub mod MasterListing
 pub mod Maximum
 pub mod Worked
 pub mod Fills
+pub mod Places
 pub mod Programs
 pub mod Records

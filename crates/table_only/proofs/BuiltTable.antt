@@ -9,8 +9,8 @@ use Rattle.refusal.specs.declared.Refusal.{Refusal}
 use Rattle.refusal.specs.declared.Refusal.TheVariants.{LimitOrMemory}
 use Rattle.tree.specs.Table.{encode, limits}
 use Rattle.tree.specs.Inner.WellFormed.{WellFormed}
-use Rattle.tree.specs.Laws.WrittenEntries.{length-encode}
-use Rattle.tree.specs.Laws.RoundTrip.{within-limits}
+use Rattle.tree.proofs.Laws.WrittenEntries.{length-encode}
+use Rattle.tree.proofs.Laws.RoundTrip.{within-limits}
 use Rattle.fst_measure.specs.Inner.Measure.{measureOf}
 use Rattle.opening.specs.Opening.{nodesIn}
 use Rattle.opening.specs.Inner.Prepared.{OpenImage}

@@ -11,7 +11,7 @@ use lib.ListN.{length}
 use Rattle.refusal.specs.declared.Refusal.{Refusal}
 use Rattle.refusal.specs.declared.Refusal.TheVariants.{LimitOrMemory}
 use Rattle.tree.specs.Table.{Node, encode, limits}
-use Rattle.tree.specs.Laws.Growing.{Bigger, bigger-limits, bigger-encode, limits-either}
+use Rattle.tree.proofs.Laws.Growing.{Bigger, bigger-limits, bigger-encode, limits-either}
 use Rattle.fst_grow.specs.Inner.Growth.{treeIn, Stands, Built}
 use Rattle.fst_grow.proofs.StandingTable.{size_is, front}
 use Rattle.edits.specs.Change.{change, placeVerdict}

@@ -16,7 +16,7 @@ use Rattle.opened.specs.Inner.Disc.{Disc, Means}
 use Rattle.edits.specs.Change.{Plan, refused}
 use Rattle.edits.specs.Edits.{Edit, planned, plan_of, planVerdict, planImage, planNumber, numberedAs, countedVerdict, verdictOf, imageAfter, totalsTo, totalsAfter}
 use Rattle.edits.specs.Promise.{lent, Edited}
-use Rattle.edits.specs.Laws.Behind.{behind-passed, behind-refused}
+use Rattle.edits.proofs.Laws.Behind.{behind-passed, behind-refused}
 use Rattle.ledger.specs.Runs.{Passable}
 use Rattle.ledger.proofs.Laws.Layout.{Lays}
 use Rattle.ledger.proofs.Laws.TreeAfter.{arrives}

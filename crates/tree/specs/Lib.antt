@@ -3,4 +3,3 @@ pub mod Table
 pub mod Lookup
 pub mod Insert
 pub mod Inner
-pub mod Laws

@@ -7,9 +7,9 @@ use borrow.Author.Tests.{lt-ltb, le-ltb}
 use Rattle.endian.specs.Bytes.{be24, be32}
 use Rattle.tree.specs.Table.{Node, count, name_at, nodeAt, nodesFrom, nodesOf, parentBelow, parent_of, entriesBytes, textsOf, encode}
 use Rattle.tree.specs.Inner.WellFormed.{WellFormed}
-use Rattle.tree.specs.Laws.RoundTrip.{round_trip}
-use Rattle.tree.specs.Laws.Vectors.{master, shared, deepBytes}
-use Rattle.tree.specs.Laws.WrittenEntries.{length-encode}
+use Rattle.tree.proofs.Laws.RoundTrip.{round_trip}
+use Rattle.tree.proofs.Laws.Vectors.{master, shared, deepBytes}
+use Rattle.tree.proofs.Laws.WrittenEntries.{length-encode}
 use Rattle.refusal.specs.declared.Refusal.TheVariants.{LimitOrMemory}
 use Rattle.fst_measure.specs.Inner.Measure.{measureOf}
 

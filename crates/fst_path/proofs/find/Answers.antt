@@ -4,7 +4,7 @@ use mathlib.Core.Path.{◌∙◌}
 use borrow.Author.Tests.{lt-ltb}
 use lib.ListN.{length}
 use Rattle.tree.specs.Table.{nodesOf}
-use Rattle.tree.specs.Laws.Accepted.{length-nodesOf}
+use Rattle.tree.proofs.Laws.Accepted.{length-nodesOf}
 use Rattle.fst_path.proofs.find.Goals as goal
 
 pub returns-in-Ok : goal.returns-in-Ok

@@ -2,7 +2,7 @@
 use native.Mathlib.Omega.{arith}
 use mathlib.Core.Path.{refl, sym, ◌∙◌}
 use Rattle.tree.specs.Table.{nodesOf}
-use Rattle.tree.specs.Laws.Accepted.{length-nodesOf}
+use Rattle.tree.proofs.Laws.Accepted.{length-nodesOf}
 use Rattle.fst_path.proofs.PathLaws.{trail-start, follow-done}
 use Rattle.fst_path.proofs.follow.Goals as goal
 

@@ -3,7 +3,7 @@ use native.Mathlib.Omega.{arith}
 use borrow.Author.Tests.{lt-ltb, le-ltb}
 use Rattle.tree.specs.Table.{count}
 use Rattle.tree.specs.Lookup.{lookup}
-use Rattle.tree.specs.Laws.Accepted.{length-nodesOf}
+use Rattle.tree.proofs.Laws.Accepted.{length-nodesOf}
 use Rattle.fst_path.proofs.lookup.Goals as goal
 
 pub returns-then-len-place-clause-value : goal.returns-then-len-place-clause-value

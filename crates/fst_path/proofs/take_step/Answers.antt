@@ -3,7 +3,7 @@ use native.Mathlib.Omega.{arith}
 use mathlib.Core.Path.{sym, ◌∙◌}
 use Rattle.std.proofs.lemmas.Result.{err_from_is_err_and}
 use Rattle.tree.specs.Table.{nodesOf}
-use Rattle.tree.specs.Laws.Accepted.{length-nodesOf}
+use Rattle.tree.proofs.Laws.Accepted.{length-nodesOf}
 use Rattle.fst.proofs.Nodes.{held}
 use Rattle.fst_path.proofs.PathLaws.{room, step-file, step-stay, step_back, step-into, back-some, back-none, trail-back, trail-into}
 use Rattle.fst_path.proofs.take_step.Goals as goal

@@ -1,17 +1,24 @@
 -- The edges of the header's refusals, by computing. Assumes nothing.
 use Rattle.std.specs.Prelude.{Ok, Err}
-use Rattle.std.specs.Prelude.{ℕ, ◌≡◌, refl, List, ◌++◌, replicate, take}
+use Rattle.std.specs.Prelude.{ℕ, ◌≡◌, refl, List, [], ◌∷◌, ◌++◌, replicate, take}
 use Rattle.endian.specs.Bytes.{be32, be32Bytes}
 use Rattle.refusal.specs.declared.Refusal.TheVariants.{HeaderPastImage, WiiNotSupported, InvalidMagic, InvalidBounds}
 use Rattle.header.specs.Fields.{fields}
-use Rattle.header.specs.Verdicts.{gcnMagic, wiiMagic, fieldVerdict, fieldsVerdict, headerVerdict, boundsVerdict}
+use Rattle.header.specs.Verdicts.{fieldVerdict, fieldsVerdict, headerVerdict, boundsVerdict, userSize, discSize}
 
 abbrev zeros : ℕ → List ℕ
 zeros n = replicate n 0
 
+-- the two magics, byte for byte
+abbrev gamecube : List ℕ
+gamecube = 0xC2 ∷ 0x33 ∷ 0x9F ∷ 0x3D ∷ []
+
+abbrev wii : List ℕ
+wii = 0x5D ∷ 0x1C ∷ 0x9E ∷ 0xA3 ∷ []
+
 -- 0x440 bytes that pass: the GameCube magic, and zeros
 abbrev good : List ℕ
-good = zeros 0x1C ++ (be32Bytes gcnMagic ++ zeros 0x420)
+good = zeros 0x1C ++ (gamecube ++ zeros 0x420)
 
 -- ---- 1, 2 and 3, field by field
 
@@ -19,7 +26,7 @@ bytes-1B : headerVerdict (zeros 0x1B) ≡ Err HeaderPastImage
 unfolding fields fieldVerdict fieldsVerdict headerVerdict be32
 bytes-1B = refl
 
-bytes-1C-wii : headerVerdict (zeros 0x18 ++ be32Bytes wiiMagic) ≡ Err WiiNotSupported
+bytes-1C-wii : headerVerdict (zeros 0x18 ++ wii) ≡ Err WiiNotSupported
 unfolding fields fieldVerdict fieldsVerdict headerVerdict be32
 bytes-1C-wii = refl
 
@@ -43,6 +50,11 @@ bytes-440 = refl
 
 disc : ℕ → ℕ → ℕ → ℕ → List ℕ
 disc offset size user rest = zeros 0x424 ++ (be32Bytes offset ++ (be32Bytes size ++ (zeros 8 ++ (be32Bytes user ++ (be32Bytes rest ++ zeros 5)))))
+
+-- which of the two sizes is which
+sizes : (userSize (disc 0x440 0 0x400 0x40) ≡ 0x400) × (discSize (disc 0x440 0 0x400 0x40) ≡ 0x40)
+unfolding be32 disc
+sizes = (refl, refl)
 
 -- an image longer than the disc end is fine
 shorter-disc : boundsVerdict (disc 0x440 0 0x400 0x40) ≡ Ok tt

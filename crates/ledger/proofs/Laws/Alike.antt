@@ -10,7 +10,7 @@ use Rattle.header.specs.Verdicts.{fstOffset, fstSize, userSize, discSize, discEn
 use Rattle.header.specs.Laws.FieldTests.{GoodHeader, bounds-same, header-passes, bounds-pass}
 use Rattle.program.specs.Program.{program_of, programIn}
 use Rattle.opening.specs.Opening.{table_of, nodesIn, behindTable, usedIn, layoutVerdict, freeOf, usedOf, opening}
-use Rattle.opening.specs.Laws.OpeningLaws.{table-accepted}
+use Rattle.opening.proofs.Laws.OpeningLaws.{table-accepted}
 use Rattle.ledger.proofs.Laws.Opened.{Opened}
 
 pub record Alike (image image' : List ℕ) : Type 0 where

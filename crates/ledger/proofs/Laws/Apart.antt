@@ -11,7 +11,7 @@ use Rattle.refusal.specs.Laws.Tests.{lt-or-le, and_left, and_right, and_both, or
 use Rattle.space.specs.Laws.UsedLaws.{inside-in, liesWithin, filesWithin, disjoint-below-used}
 use Rattle.space.specs.Laws.LayoutLaws.{inside-from, inside-to, from-all-free, free-from-all}
 use Rattle.edits.specs.Edits.{noPlace}
-use Rattle.edits.specs.Laws.PlaceTests.{free-byte}
+use Rattle.edits.proofs.Laws.PlaceTests.{free-byte}
 
 -- byte i is one of the region's
 abbrev pub Has : DiscRegion → ℕ → Type 0

@@ -13,7 +13,7 @@ use Rattle.space.specs.declared.DiscRegion.{DiscRegion}
 use Rattle.totals.specs.declared.Totals.{Totals}
 use Rattle.opening.specs.Opening.{nodesIn, freeOf, opening}
 use Rattle.edits.specs.Edits.{Edit, insertFile, insertDirectory, makeDirectories, moveFile, resizeFile, fillFile, rewrite, fileVerdict, relocateVerdict, clipVerdict, planMove, planResize, planFill, verdictOf, imageAfter}
-use Rattle.edits.specs.Laws.Accepted.{accepted}
+use Rattle.edits.proofs.Laws.Accepted.{accepted}
 use Rattle.ledger.specs.Ledger.{Ledger, filesBefore, firstLedger, entered, Report, ledgerAfter}
 use Rattle.ledger.specs.Runs.{Call, reportsOf, AllWithin}
 use Rattle.ledger.proofs.Laws.Bare.{kind-bare}

@@ -12,7 +12,7 @@ use Rattle.opening.specs.Opening.{nodesIn, freeOf, usedOf}
 use Rattle.edits.specs.Change.{Plan}
 use Rattle.edits.specs.Edits.{noPlace}
 use Rattle.ledger.specs.Ledger.{History, Ledger, refilled}
-use Rattle.edits.specs.Laws.Puts.{Fits, put-length, put_all, put-else, put-below, field_below}
+use Rattle.edits.proofs.Laws.Puts.{Fits, put-length, put_all, put-else, put-below, field_below}
 use Rattle.ledger.proofs.Laws.Files.{filesIn, placesIn}
 use Rattle.ledger.proofs.Laws.Apart.{Has, region}
 use Rattle.ledger.proofs.Laws.Histories.{True, SameIn, trues-set}

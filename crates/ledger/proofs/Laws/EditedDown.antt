@@ -9,18 +9,18 @@ use Rattle.std.proofs.Math.ListN.{length}
 use Rattle.endian.specs.Bytes.{AllBytes}
 use Rattle.header.specs.Verdicts.{fstOffset, fstSize, fstMaxSize, discEnd, table_end}
 use Rattle.tree.specs.Table.{encode, limits}
-use Rattle.tree.specs.Laws.Accepted.{length-nodesOf}
-use Rattle.tree.specs.Laws.RoundTrip.{limits-within}
-use Rattle.tree.specs.Laws.WrittenEntries.{length-encode}
+use Rattle.tree.proofs.Laws.Accepted.{length-nodesOf}
+use Rattle.tree.proofs.Laws.RoundTrip.{limits-within}
+use Rattle.tree.proofs.Laws.WrittenEntries.{length-encode}
 use Rattle.free_space.specs.MaxRegionSize.{maxRegionSize}
 use Rattle.free_space.specs.Laws.GrowthLaws.{table-largest}
 use Rattle.opening.specs.Opening.{table_of, nodesIn, freeOf, opening}
 use Rattle.opening.specs.Inner.Prepared.{OpenImage}
-use Rattle.opening.specs.Laws.OpeningLaws.{opens}
+use Rattle.opening.proofs.Laws.OpeningLaws.{opens}
 use Rattle.disc.specs.Calls.{totalsOf}
 use Rattle.edits.specs.Change.{tableVerdict}
 use Rattle.edits.specs.Edits.{noPlace, rewrite, plan_of, planVerdict, verdictOf, imageAfter}
-use Rattle.edits.specs.Laws.PlaceTests.{stated-apart}
+use Rattle.edits.proofs.Laws.PlaceTests.{stated-apart}
 use Rattle.ledger.proofs.Laws.Files.{placesIn}
 use Rattle.ledger.proofs.Laws.RecordTells.{own-record}
 use Rattle.ledger.proofs.Laws.Room.{free-places}

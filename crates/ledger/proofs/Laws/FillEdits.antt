@@ -10,7 +10,7 @@ use Rattle.refusal.specs.Laws.Chains.{refuse-passed, first-passed}
 use Rattle.tree.specs.Table.{Node, file, directory, none}
 use Rattle.tree.specs.Lookup.{isDirectory}
 use Rattle.tree.specs.Insert.{placed, setPlace}
-use Rattle.tree.specs.Laws.PlaceLaws.{setPlace-at}
+use Rattle.tree.proofs.Laws.PlaceLaws.{setPlace-at}
 use Rattle.opening.specs.Opening.{nodesIn, freeOf, usedOf, regionOf}
 use Rattle.edits.specs.Change.{Plan, filled}
 use Rattle.edits.specs.Edits.{resizeFile, fillFile, fileVerdict, clipVerdict, planResize, planFill, planVerdict, planTree, planImage}

@@ -15,7 +15,7 @@ use Rattle.files.specs.Files.{openFileAnswer, entryAnswer}
 use Rattle.opening.specs.Opening.{nodesIn, freeOf, opening}
 use Rattle.edits.specs.Change.{filled}
 use Rattle.edits.specs.Edits.{fillFile, clipVerdict, planResize, planFill, planImage, verdictOf, imageAfter}
-use Rattle.edits.specs.Laws.Accepted.{accepted}
+use Rattle.edits.proofs.Laws.Accepted.{accepted}
 use Rattle.ledger.specs.Ledger.{Ledger, firstLedger}
 use Rattle.ledger.specs.Theorem.{ShowsClip, FillReads}
 use Rattle.ledger.proofs.Laws.Kept.{Kept}

@@ -11,7 +11,7 @@ use Rattle.opening.specs.Opening.{nodesIn, freeOf, usedOf, regionOf, opening}
 use Rattle.disc.specs.Calls.{totalsOf}
 use Rattle.edits.specs.Change.{filled}
 use Rattle.edits.specs.Edits.{resizeFile, fillFile, fileVerdict, clipVerdict, planResize, planFill, plan_of, planVerdict, planImage, countedVerdict, verdictOf, imageAfter, totalsAfter}
-use Rattle.edits.specs.Laws.Fills.{fill-verdict, own-size}
+use Rattle.edits.proofs.Laws.Fills.{fill-verdict, own-size}
 use Rattle.ledger.specs.Ledger.{Ledger, firstLedger}
 use Rattle.ledger.proofs.Laws.Kept.{Kept}
 use Rattle.ledger.proofs.Laws.FillEdits.{fill-used, fill-free}

@@ -7,7 +7,7 @@ use Rattle.tree.specs.Table.{Node, file, directory}
 use Rattle.space.specs.declared.DiscRegion.{DiscRegion}
 use Rattle.edits.specs.Edits.{noPlace}
 use Rattle.ledger.specs.Ledger.{History, newHistory, lowered, put_in, firstHistories}
-use Rattle.edits.specs.Laws.Puts.{span-length}
+use Rattle.edits.proofs.Laws.Puts.{span-length}
 use Rattle.ledger.specs.Inner.Files.{pick, files_of}
 use Rattle.ledger.proofs.Laws.Apart.{Has, region}
 

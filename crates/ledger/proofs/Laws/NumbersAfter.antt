@@ -14,18 +14,18 @@ use Rattle.refusal.specs.Laws.Chains.{refuse-passed}
 use Rattle.tree.specs.Table.{Node, name_of, none}
 use Rattle.tree.specs.Lookup.{isDirectory, components, lookup}
 use Rattle.tree.specs.Insert.{insertAt, emptyFile, emptyDirectory}
-use Rattle.tree.specs.Laws.InsertedList.{Nested, Fresh, well-nested}
+use Rattle.tree.proofs.Laws.InsertedList.{Nested, Fresh, well-nested}
 use Rattle.totals.specs.declared.Totals.{Totals}
 use Rattle.opening.specs.Opening.{nodesIn, opening}
 use Rattle.edits.specs.Change.{Plan, change}
 use Rattle.edits.specs.Edits.{insertFile, insertDirectory, makeDirectories, tableOnly, newNumber, insertVerdict, Made, stopped, made, make, planMade, planMakeDirectories, planVerdict, planTree, verdictOf, imageAfter, planNumber, plan_of, numberedAs, Edit}
-use Rattle.edits.specs.Laws.Accepted.{accepted}
+use Rattle.edits.proofs.Laws.Accepted.{accepted}
 use Rattle.ledger.specs.Ledger.{madeNodes}
 use Rattle.ledger.proofs.Laws.Opened.{opened}
 use Rattle.ledger.proofs.Laws.TreeAfter.{tree-after}
 use Rattle.ledger.proofs.Laws.PlacesAfter.{passed-plan}
-use Rattle.edits.specs.Laws.MakeNumber.{made_found}
-use Rattle.edits.specs.Laws.InsertNumber.{new-entry, new-found, new-from-root}
+use Rattle.edits.proofs.Laws.MakeNumber.{made_found}
+use Rattle.edits.proofs.Laws.InsertNumber.{new-entry, new-found, new-from-root}
 
 -- what the edits that give an entry's number answer
 abbrev answer_of : Edit → Totals → List ℕ → ℕ → ℕ → Result ℕ Refusal

@@ -10,7 +10,7 @@ use Rattle.header.specs.Verdicts.{discEnd, table_end}
 use Rattle.tree.specs.Table.{none, encode}
 use Rattle.tree.specs.Lookup.{isDirectory}
 use Rattle.tree.specs.Insert.{setPlace}
-use Rattle.tree.specs.Laws.PlaceLaws.{setPlace-sound}
+use Rattle.tree.proofs.Laws.PlaceLaws.{setPlace-sound}
 use Rattle.space.specs.declared.DiscRegion.{DiscRegion}
 use Rattle.opening.specs.Opening.{nodesIn, opening, regionOf}
 use Rattle.edits.specs.Change.{Change, written}

@@ -18,7 +18,7 @@ use Rattle.refusal.specs.Laws.Chains.{refuse-passed, first-passed}
 use Rattle.refusal.specs.Laws.Tests.{or_cases, or-false}
 use Rattle.tree.specs.Table.{Node, file, none}
 use Rattle.tree.specs.Insert.{setPlace}
-use Rattle.tree.specs.Laws.PlaceLaws.{setPlace-at, setPlace-other}
+use Rattle.tree.proofs.Laws.PlaceLaws.{setPlace-at, setPlace-other}
 use Rattle.space.specs.declared.DiscRegion.{DiscRegion}
 use Rattle.free_space.specs.MaxRegionSize.{maxRegionSize}
 use Rattle.free_space.specs.Allocate.{allocationOf}
@@ -28,7 +28,7 @@ use Rattle.totals.specs.declared.Totals.{Totals}
 use Rattle.opening.specs.Opening.{nodesIn, usedIn, freeOf, regionOf}
 use Rattle.edits.specs.Change.{Plan, nothing, change, filled}
 use Rattle.edits.specs.Edits.{moveFile, resizeFile, fillFile, planned, fileVerdict, relocated, relocateVerdict, planMove, resized, planElsewhere, clipVerdict, planResize, planFill, planVerdict, planTree, verdictOf, imageAfter}
-use Rattle.edits.specs.Laws.Accepted.{accepted}
+use Rattle.edits.proofs.Laws.Accepted.{accepted}
 use Rattle.ledger.proofs.Laws.TreeAfter.{tree-after}
 
 -- entry k of the tree afterwards is a file at this place, and every other entry is as it was

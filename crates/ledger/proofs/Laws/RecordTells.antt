@@ -11,7 +11,7 @@ use Rattle.refusal.specs.Refusal.{first, is_refused}
 use Rattle.totals.specs.declared.Totals.{Totals}
 use Rattle.totals.specs.Totals.{totalsVerdict, totalsMoved}
 use Rattle.opening.specs.Opening.{opening, usedOf}
-use Rattle.opening.specs.Laws.OpeningLaws.{disc-filled}
+use Rattle.opening.proofs.Laws.OpeningLaws.{disc-filled}
 use Rattle.disc.specs.Calls.{totalsOf, recordAnswer}
 use Rattle.edits.specs.Edits.{Edit, plan_of, planVerdict, planImage, countedVerdict, totalsTo, verdictOf, imageAfter, totalsAfter}
 use Rattle.ledger.specs.Ledger.{firstLedger}

@@ -17,7 +17,7 @@ use Rattle.program.specs.Program.{programBehind}
 use Rattle.opening.specs.Opening.{nodesIn, behindTable, usedIn, freeOf}
 use Rattle.edits.specs.Change.{Change, tableVerdict}
 use Rattle.edits.specs.Edits.{relocateVerdict, overlapsItself}
-use Rattle.edits.specs.Laws.PlaceTests.{PlacePassed, place-passed, in-region}
+use Rattle.edits.proofs.Laws.PlaceTests.{PlacePassed, place-passed, in-region}
 use Rattle.ledger.proofs.Laws.Written.{newEnd}
 use Rattle.ledger.proofs.Laws.Files.{placesIn, used-files}
 use Rattle.ledger.proofs.Laws.Apart.{Has, region, free-clear}

@@ -18,12 +18,12 @@ use Rattle.space.specs.Laws.LayoutLaws.{inside-from, inside-to}
 use Rattle.free_space.specs.Listing.{regionRow, listingOf, listAfter}
 use Rattle.program.specs.Program.{programBehind}
 use Rattle.opening.specs.Opening.{nodesIn, regionOf, behindTable, usedIn, usedOf, freeOf, opening}
-use Rattle.opening.specs.Laws.OpeningLaws.{disc-filled}
+use Rattle.opening.proofs.Laws.OpeningLaws.{disc-filled}
 use Rattle.disc.specs.Calls.{totalsAnswer, freeAnswer, freeList, freeRegionsAnswer, freeRegionsList}
 use Rattle.edits.specs.Edits.{imageAfter, verdictOf}
 use Rattle.ledger.specs.Ledger.{History, Ledger, filesBefore, newHistory, historyOf, firstLedger, entered, ledgerAfter}
 use Rattle.ledger.specs.Runs.{Call, imageAfterAll, reportsOf, AllWithin}
-use Rattle.edits.specs.Laws.Puts.{Fits, span-length}
+use Rattle.edits.proofs.Laws.Puts.{Fits, span-length}
 use Rattle.ledger.specs.Inner.Files.{names_of}
 use Rattle.ledger.proofs.Laws.Files.{filesIn, names-bare, files-at, files-count, entry_of}
 use Rattle.ledger.proofs.Laws.Apart.{region, apart_of}

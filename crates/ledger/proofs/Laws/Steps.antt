@@ -6,7 +6,7 @@ use Rattle.std.proofs.Math.Path.{refl}
 use Rattle.refusal.specs.Refusal.{is_refused}
 use Rattle.totals.specs.declared.Totals.{Totals}
 use Rattle.edits.specs.Edits.{Edit, insertFile, insertDirectory, makeDirectories, moveFile, resizeFile, fillFile, rewrite, plan_of, verdictOf, planImage, imageAfter}
-use Rattle.edits.specs.Laws.Accepted.{accepted}
+use Rattle.edits.proofs.Laws.Accepted.{accepted}
 use Rattle.ledger.specs.Ledger.{Ledger, entered}
 use Rattle.ledger.specs.Runs.{Passable}
 use Rattle.ledger.proofs.Laws.Kept.{Kept}

@@ -10,7 +10,7 @@ use Rattle.refusal.specs.Refusal.{is_refused}
 use Rattle.totals.specs.declared.Totals.{Totals}
 use Rattle.opening.specs.Opening.{nodesIn, opening}
 use Rattle.edits.specs.Edits.{Edit, insertFile, insertDirectory, makeDirectories, moveFile, resizeFile, fillFile, rewrite, plan_of, verdictOf, planTree, planImage, imageAfter}
-use Rattle.edits.specs.Laws.Accepted.{accepted}
+use Rattle.edits.proofs.Laws.Accepted.{accepted}
 use Rattle.ledger.specs.Ledger.{firstLedger}
 use Rattle.ledger.specs.Runs.{Passable}
 use Rattle.ledger.proofs.Laws.Opened.{opened}

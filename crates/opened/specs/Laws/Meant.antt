@@ -3,7 +3,7 @@ use Rattle.std.specs.Prelude.{ℕ, ◌≡◌, List, length}
 use Rattle.std.proofs.Common.{refl, sym, ap, ◌∙◌}
 use Rattle.header.specs.Verdicts.{fstOffset, fstSize, fstMaxSize, discEnd, table_end}
 use Rattle.tree.specs.Table.{count}
-use Rattle.tree.specs.Laws.Accepted.{length-nodesOf}
+use Rattle.tree.proofs.Laws.Accepted.{length-nodesOf}
 use Rattle.space.specs.Used.{totalSize}
 use Rattle.space.specs.Laws.TotalLaws.{total-used}
 use Rattle.opening.specs.Opening.{table_of, nodesIn, behindTable, usedIn, freeOf, usedOf}

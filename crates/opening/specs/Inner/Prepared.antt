@@ -8,7 +8,7 @@ use Rattle.refusal.specs.Refusal.{first}
 use Rattle.header.specs.Verdicts.{headerVerdict, boundsVerdict, fstOffset, fstSize, discEnd}
 use Rattle.header.specs.Laws.FieldTests.{GoodHeader, Bounded}
 use Rattle.tree.specs.Table.{nodeWith, kind, offsetOrParent, sizeOrNext, count, check}
-use Rattle.tree.specs.Laws.Accepted.{Accepted}
+use Rattle.tree.specs.Inner.Accepted.{Accepted}
 use Rattle.space.specs.declared.DiscRegion.{DiscRegion}
 use Rattle.space.specs.Used.{nonempty, usedRegions}
 use Rattle.space.specs.Layout.{disjointBelow}

@@ -1,10 +1,13 @@
--- Document 01's listing of the small master, its five lines byte for byte: by computing. Assumes nothing.
+-- The listing of the small master, its five lines byte for byte, and what is written of an image that is refused: by computing. Assumes nothing.
 use Rattle.std.specs.Prelude.{Ok}
 use Rattle.std.specs.Prelude.{ℕ, ◌≡◌, refl, List, [], ◌∷◌, ◌++◌, length}
 use Rattle.std.proofs.Common.{◌∙◌}
 use Rattle.endian.specs.Bytes.{put}
+use Rattle.header.specs.Fields.{fields}
+use Rattle.header.specs.Verdicts.{fieldVerdict, fieldsVerdict, headerVerdict}
 use Rattle.tree.specs.Table.{Node, file, directory, parentBelow, parent_of}
 use Rattle.space.specs.declared.DiscRegion.{DiscRegion}
+use Rattle.opening.specs.Opening.{opening}
 use Rattle.listing_text.specs.Lines.{totalsLine, pathWithin, entryLine, entryLines, regionLines}
 use Rattle.text_buffer.specs.Decimal.{digits}
 use Rattle.listing.specs.Listing.{listingText, listingVerdict, listAnswer, reportVerdict, reportText, reportAnswer}
@@ -65,3 +68,12 @@ pub record Listing : Type 0 where
 pub master-listed : Listing
 unfolding listAnswer listingVerdict reportAnswer reportText reportVerdict
 master-listed = record { lines = text; answer = rw (opens, text); report = (rw (size, opens, text), rw (size, opens, text)) }
+
+-- of no bytes at all the first header field is past the image, 1: `refused 1`
+
+abbrev refused1 : List ℕ
+refused1 = 0x72 ∷ 0x65 ∷ 0x66 ∷ 0x75 ∷ 0x73 ∷ 0x65 ∷ 0x64 ∷ 0x20 ∷ 0x31 ∷ 0x0A ∷ []
+
+pub nothing-listed : (reportText [] masterWords 70 ≡ refused1) × (reportAnswer [] masterWords 70 ≡ 10)
+unfolding reportAnswer reportText reportVerdict listingVerdict opening headerVerdict fieldsVerdict fieldVerdict fields digits
+nothing-listed = (refl, refl)

@@ -19,7 +19,7 @@ use Rattle.totals.specs.Laws.LargestLaws.{largest-after}
 use Rattle.totals.specs.Laws.TotalsLaws.{same-verdict, same-moved}
 use Rattle.program.specs.Program.{programBehind}
 use Rattle.opening.specs.Opening.{nodesIn, behindTable, usedIn, usedOf, freeOf}
-use Rattle.opening.specs.Laws.OpeningLaws.{used-regions}
+use Rattle.opening.proofs.Laws.OpeningLaws.{used-regions}
 use Rattle.opening.specs.Inner.Prepared.{IsOpen}
 use Rattle.opened.specs.Inner.Disc.{Disc, Means}
 use Rattle.edits.specs.Change.{Change, tableVerdict, Plan, refused, nothing, change, filled}

@@ -1,7 +1,8 @@
--- Each theorem about lists of calls, applied to the worked list: its hypotheses hold there, and what it says is read off in numbers. Nothing of the
--- last image is computed for that but what a theorem's words are held against. Assumes nothing.
+-- Each theorem about lists of calls, applied to the worked list: its hypotheses hold there, with as many words as the first opening was lent and
+-- with any number that is larger, and what it says is read off in numbers. Nothing of the last image is computed for that but what a theorem's words
+-- are held against. Assumes nothing.
 use Rattle.std.specs.Prelude.{Some, Ok}
-use Rattle.std.specs.Prelude.{ℕ, zero, suc, ◌≤◌, ◌≡◌, refl, Bool, true, ◌&&◌, List, [], ◌∷◌, ◌++◌, map, ltb, length, get_or, replicate}
+use Rattle.std.specs.Prelude.{ℕ, zero, suc, ◌≤◌, ◌≡◌, refl, Bool, true, false, ◌&&◌, List, [], ◌∷◌, ◌++◌, map, ltb, length, get_or, take, replicate}
 use Rattle.std.proofs.Common.{sym, ap, ◌∙◌, arith, ltb-true}
 use Rattle.std.proofs.lemmas.Bool.{false≢true}
 use Rattle.endian.specs.Bytes.{be24, be32, be32Bytes, put, span, AllBytes}
@@ -21,8 +22,8 @@ use Rattle.disc.specs.Calls.{totalsAnswer, programAnswer, freeRegionsAnswer, fre
 use Rattle.files.specs.Files.{openFileAnswer}
 use Rattle.edits.specs.Change.{nothing}
 use Rattle.edits.specs.Edits.{Edit, noPlace, rewrite, resizeFile, planResize, plan_of, imageAfter}
-use Rattle.edits.specs.Laws.Accepted.{accepted}
-use Rattle.ledger.specs.Ledger.{bare, filesBefore, put_in, firstLedger}
+use Rattle.edits.proofs.Laws.Accepted.{accepted}
+use Rattle.ledger.specs.Ledger.{History, Ledger, bare, filesBefore, historyOf, put_in, firstLedger}
 use Rattle.ledger.specs.Runs.{Call, imageAfterAll, acceptedIn, AllWithin}
 use Rattle.ledger.specs.Spared.{numberAfter, Spared}
 use Rattle.ledger.specs.Theorem.{Demand3, StillThere, ShowsClip, Tells, WithinMaximum}
@@ -65,9 +66,9 @@ unfolding bytesOnly
 clip-bytes = bytes-only clip refl
 
 -- no call is lent more words than the first opening
-within : AllWithin masterWords list
+within : (w : ℕ) → masterWords ≤ w → AllWithin w list
 unfolding list
-within = (omega arith, tt, (omega arith, tt, (omega arith, omega arith, (omega arith, omega arith, (omega arith, clip-bytes, (omega arith, omega arith, (omega arith, tt, tt)))))))
+within w h = (omega arith, tt, (omega arith, tt, (omega arith, omega arith, (omega arith, omega arith, (omega arith, clip-bytes, (omega arith, omega arith, (omega arith, tt, tt)))))))
 
 -- no accepted call names `a`: the one that does is refused
 spared : Spared reports (firstLedger first) 0
@@ -76,20 +77,27 @@ spared = rw at_first.tree (λ e. refl, (λ e. refl, (λ e. absurd (false≢true 
 
 -- ---- demand 3
 
-claim : Demand3 masterWords first last ledger
-claim = rw (worked.image, worked.told, worked.entered) at (demand-3 first masterWords masterWords list bytes at_first.opens (omega arith) within)
+-- what the claim comes to for the file with entry number k, whichever that is
+any_file : {w : ℕ} {first image : List ℕ} {l : Ledger} → Demand3 w first image l →
+    (k : ℕ) (nm : List ℕ) (offset size : ℕ) → get_or (nodesIn image) k none ≡ file nm offset size → (h : History) → historyOf l k ≡ h →
+    (h.m ≤ size) × (h.m ≤ length h.bytes) × (span image offset h.m ≡ take h.m h.bytes)
+    × (h.named ≡ false → (offset ≡ h.place) × (size ≡ length h.bytes) × (span image offset size ≡ h.bytes))
+any_file d k nm offset size e h is = let f = d.files k nm offset size e in (rw is at f.m-size, rw is at f.m-bytes, rw is at f.first-bytes, rw is at f.unnamed)
 
-pub record Demanded : Type 0 where
-  pub opens : opening last masterWords ≡ Ok tt
+claim : (w : ℕ) → masterWords ≤ w → Demand3 w first last ledger
+claim w h = rw (worked.image, worked.told, worked.entered) at (demand-3 first masterWords w list bytes at_first.opens h (within w h))
+
+pub record Demanded (w : ℕ) : Type 0 where
+  pub opens : opening last w ≡ Ok tt
   pub tree : map bare (nodesIn last) ≡ directory [] 3 ∷ file (0x61 ∷ []) 0 0x100 ∷ file (0x62 ∷ []) 0 5 ∷ []
   -- byte 0x500 is `a`'s, the third used region's, and no other's
   pub apart : (j : ℕ) → inside (get_or (usedIn last) j noPlace) 0x500 ≡ true → j ≡ 2
   pub sum : totalSize (freeOf last) ≡ 6543
-  pub used : totalsAnswer last masterWords ≡ Ok (record { disc_end = 8192; used = 1649 })
-  pub free : freeRegionsAnswer last masterWords 8 ≡ Ok 4
-  pub listed : freeRegionsList last masterWords (replicate 9 7) ≡ 1128 ∷ 152 ∷ 1536 ∷ 256 ∷ 2052 ∷ 252 ∷ 2309 ∷ 5883 ∷ 7 ∷ []
+  pub used : totalsAnswer last w ≡ Ok (record { disc_end = 8192; used = 1649 })
+  pub free : freeRegionsAnswer last w 8 ≡ Ok 4
+  pub listed : freeRegionsList last w (replicate 9 7) ≡ 1128 ∷ 152 ∷ 1536 ∷ 256 ∷ 2052 ∷ 252 ∷ 2309 ∷ 5883 ∷ 7 ∷ []
   pub program-stays : (dolOffset last ≡ 0x700) × (programIn last ≡ program) × (span last 0x700 0x104 ≡ programBytes) × (0x804 ≤ length last)
-  pub program-told : programAnswer last masterWords ≡ Ok (Some program)
+  pub program-told : programAnswer last w ≡ Ok (Some program)
   -- entry 1, `a`, is unnamed; entry 2, `b`, begins with the clip
   pub of-a : (nm : List ℕ) (offset size : ℕ) → get_or (nodesIn last) 1 none ≡ file nm offset size → (offset ≡ 0x500) × (size ≡ 0x100) × (span last offset size ≡ ofA ++ replicate 0xF8 0)
   pub of-b : (nm : List ℕ) (offset size : ℕ) → get_or (nodesIn last) 2 none ≡ file nm offset size → (3 ≤ size) × (3 ≤ length clip) × (span last offset 3 ≡ clip)
@@ -98,30 +106,35 @@ first-program : (dolOffset first ≡ 0x700) × (span first 0x700 0x104 ≡ progr
 unfolding first stating master put be32
 first-program = (refl, refl)
 
-pub demanded : Demanded
+pub demanded : (w : ℕ) → masterWords ≤ w → Demanded w
 unfolding put rows_of nonempty programIn ownRegion totalSize filesBefore
-demanded = record {
-  opens = claim.opens;
-  tree = claim.tree;
-  apart = λ j h. claim.apart j 2 0x500 h (rw (used-regions at_last));
-  sum = let s = rw (at_last.tree, at_last.runs, at_last.header.0, at_last.header.1, at_last.header.3) at claim.sum in omega (arith, s);
-  used = claim.used-reported ∙ rw (at_last.tree, at_last.runs, at_last.header.0, at_last.header.1, at_last.header.3);
-  free = claim.free-reported 8 ∙ rw (space at_last);
-  listed = claim.free-listed (replicate 9 7) ∙ rw (space at_last);
-  program-stays = let p = claim.program in (p.offset ∙ first-program.0, p.region ∙ rw at_first.runs, (rw at_first.runs at p.bytes) ∙ first-program.1, rw at_first.runs at p.whole);
-  program-told = claim.program-reported ∙ at_first.runs;
-  of-a = λ nm offset size e. (claim.files 1 nm offset size e).unnamed refl;
-  of-b = λ nm offset size e. let f = claim.files 2 nm offset size e in (f.m-size, f.m-bytes, f.first-bytes);
-}
+demanded w h =
+    let d = claim w h in
+    record {
+      opens = d.opens;
+      tree = d.tree;
+      apart = λ j i. d.apart j 2 0x500 i (rw (used-regions at_last));
+      sum = let s = rw (at_last.tree, at_last.runs, at_last.header.0, at_last.header.1, at_last.header.3) at d.sum in omega (arith, s);
+      used = d.used-reported ∙ rw (at_last.tree, at_last.runs, at_last.header.0, at_last.header.1, at_last.header.3);
+      free = d.free-reported 8 ∙ rw (space at_last);
+      listed = d.free-listed (replicate 9 7) ∙ rw (space at_last);
+      program-stays = let p = d.program in (p.offset ∙ first-program.0, p.region ∙ rw at_first.runs, (rw at_first.runs at p.bytes) ∙ first-program.1, rw at_first.runs at p.whole);
+      program-told = d.program-reported ∙ at_first.runs;
+      of-a = λ nm offset size e. (any_file d 1 nm offset size e _ refl).3 refl;
+      of-b = λ nm offset size e. let f = any_file d 2 nm offset size e _ refl in (f.0, f.1, f.2);
+    }
 
 -- ---- `a`, which no accepted call named: it lies where it lay, as the first file of them
 
-pub still : StillThere first last 0 (0x61 ∷ []) 0x500 0x100
+found-still : (w : ℕ) → masterWords ≤ w → StillThere first last 0 (0x61 ∷ []) 0x500 0x100
 unfolding filesBefore numberAfter put_in insertAt splice bump setPlace shifted
-still =
+found-still w h =
     let a : get_or (nodesIn first) 1 none ≡ file (0x61 ∷ []) 0x500 0x100 = rw at_first.tree in
     let k : filesBefore 1 (nodesIn first) ≡ 0 = rw at_first.tree in
-    rw (worked.image, worked.told, k, at_first.tree) at (unnamed-stays first masterWords masterWords list bytes at_first.opens (omega arith) within 1 (0x61 ∷ []) 0x500 0x100 a (rw (worked.told, k) spared))
+    rw (worked.image, worked.told, k, at_first.tree) at (unnamed-stays first masterWords w list bytes at_first.opens h (within w h) 1 (0x61 ∷ []) 0x500 0x100 a (rw (worked.told, k) spared))
+
+pub still : StillThere first last 0 (0x61 ∷ []) 0x500 0x100
+still = found-still masterWords (omega arith)
 
 pub record Stays : Type 0 where
   pub entry : still.entry ≡ 1
@@ -140,25 +153,26 @@ stays = record { entry = entry-a still.entry (rw at_last.tree at still.lies); nu
 
 -- ---- the record that was handed on, after five accepted calls
 
-tells : Tells last masterWords 5 (totals 1649 5883 5)
+tells : (w : ℕ) → masterWords ≤ w → Tells last w 5 (totals 1649 5883 5)
 unfolding acceptedIn
-tells = rw (worked.image, worked.told, worked.handed-back) at (record-tells first masterWords masterWords fresh list bytes worked.made (omega arith) within worked.handed-on)
+tells w h = rw (worked.image, worked.told, worked.handed-back) at (record-tells first masterWords w fresh list bytes worked.made h (within w h) worked.handed-on)
 
-pub record Told : Type 0 where
+pub record Told (w : ℕ) : Type 0 where
   pub used : usedOf last ≡ 1649
   pub largest : largestSize (freeOf last) ≡ 5883
-  pub afresh : recordAnswer last masterWords ≡ Ok (totals 1649 5883 0)
+  pub afresh : recordAnswer last w ≡ Ok (totals 1649 5883 0)
 
-pub told : Told
-told =
-    let u : usedOf last ≡ 1649 = sym (ap (λ (t : Totals). t.used) tells.totals) in
-    let l : largestSize (freeOf last) ≡ 5883 = sym (ap (λ (t : Totals). t.largest) tells.totals) in
-    record { used = u; largest = l; afresh = tells.afresh ∙ rw (u, l) }
+pub told : (w : ℕ) → masterWords ≤ w → Told w
+told w h =
+    let t = tells w h in
+    let u : usedOf last ≡ 1649 = sym (ap (λ (t : Totals). t.used) t.totals) in
+    let l : largestSize (freeOf last) ≡ 5883 = sym (ap (λ (t : Totals). t.largest) t.totals) in
+    record { used = u; largest = l; afresh = t.afresh ∙ rw (u, l) }
 
 -- ---- the stated maximum, which the last table just meets
 
-kept : WithinMaximum first last
-kept = rw worked.image at (maximum-kept first masterWords masterWords list bytes at_first.opens (omega arith) within)
+kept : (w : ℕ) → masterWords ≤ w → WithinMaximum first last
+kept w h = rw worked.image at (maximum-kept first masterWords w list bytes at_first.opens h (within w h))
 
 pub record Maximum : Type 0 where
   pub field : fstMaxSize last ≡ 0x28
@@ -167,7 +181,8 @@ pub record Maximum : Type 0 where
 pub maximum : Maximum
 maximum =
     let m : fstMaxSize first ≡ 0x28 = at_first.header.2 in
-    record { field = kept.field ∙ m; within = rw m at (kept.within (rw m (omega arith)) (rw (m, at_first.header.1) (omega arith))) }
+    let k = kept masterWords (omega arith) in
+    record { field = k.field ∙ m; within = rw m at (k.within (rw m (omega arith)) (rw (m, at_first.header.1) (omega arith))) }
 
 -- an image whose table is above its maximum: a rewrite, which is refused (26), and a resize to the present size, which writes no table
 

@@ -17,7 +17,7 @@ use Rattle.totals.specs.declared.Totals.{Totals}
 use Rattle.totals.specs.Totals.{totalsVerdict, totalsMoved}
 use Rattle.edits.specs.Change.{Change, Plan, change, filled, withTable, written, tableVerdict, placeVerdict}
 use Rattle.edits.specs.Edits.{Edit, insertFile, moveFile, resizeFile, fillFile, rewrite, noPlace, tableOnly, relocated, resized, insertVerdict, planMove, planResize, planFill, plan_of, planVerdict, planImage, countedVerdict, verdictOf, imageAfter, totalsAfter}
-use Rattle.edits.specs.Laws.Accepted.{refused-back}
+use Rattle.edits.proofs.Laws.Accepted.{refused-back}
 use Rattle.small_master.specs.Image.{master, masterWords}
 use Rattle.small_master.specs.Laws.Marked.{at}
 use Rattle.small_master.specs.Laws.Maximum.{stating}

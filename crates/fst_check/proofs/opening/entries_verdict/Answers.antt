@@ -1,7 +1,7 @@
 -- `fst_check::opening::entries_verdict` meets its contract. The invariant of its loop: what is left has the answer of the whole.
 use mathlib.Core.Path.{refl, sym, ◌∙◌}
 use Rattle.std.proofs.lemmas.Result.{err_from_is_err_and}
-use Rattle.tree.specs.Laws.Steps.{entries-stop, entries-go, entries-end}
+use Rattle.tree.proofs.Laws.Steps.{entries-stop, entries-go, entries-end}
 use Rattle.fst_check.proofs.opening.entries_verdict.Goals as goal
 
 pub returns-in_err-entry_verdict : goal.returns-in_err-entry_verdict

@@ -2,7 +2,7 @@
 use native.Mathlib.Omega.{arith}
 use mathlib.Core.Path.{refl, sym, ◌∙◌}
 use Rattle.tree.specs.Table.{nodesOf}
-use Rattle.tree.specs.Laws.Nesting.{parent-before}
+use Rattle.tree.proofs.Laws.Nesting.{parent-before}
 use Rattle.fst.proofs.Nodes.{parent-whole, parent-none}
 use Rattle.fst_list.proofs.RowLaws.{climb-start, climb-found, climb-turn, climb-end}
 use Rattle.fst_list.proofs.Rows.parent_in.Goals as goal

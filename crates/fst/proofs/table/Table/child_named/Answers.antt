@@ -8,7 +8,7 @@ use mathlib.Core.List.{List}
 use lib.ListN.{length, get_or}
 use Rattle.endian.specs.Bytes.{sameBytes}
 use Rattle.tree.specs.Table.{none, count, name_of, nodesOf, namePlace}
-use Rattle.tree.specs.Laws.Accepted.{length-nodesOf}
+use Rattle.tree.proofs.Laws.Accepted.{length-nodesOf}
 use Rattle.fst_text.specs.Inner.Texts.{textAt}
 use Rattle.fst.proofs.Nodes.{held}
 use Rattle.fst.proofs.NamePlaces.{place_inside}

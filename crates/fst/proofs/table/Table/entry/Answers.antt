@@ -2,7 +2,7 @@
 use native.Mathlib.Omega.{arith}
 use borrow.Author.Tests.{lt-ltb, le-ltb}
 use Rattle.tree.specs.Table.{count}
-use Rattle.tree.specs.Laws.Accepted.{length-nodesOf}
+use Rattle.tree.proofs.Laws.Accepted.{length-nodesOf}
 use Rattle.fst.proofs.table.Table.entry.Goals as goal
 
 pub returns-then-len-place : goal.returns-then-len-place

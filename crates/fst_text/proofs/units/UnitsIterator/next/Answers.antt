@@ -1,6 +1,6 @@
 -- `Units::next` meets its contract: the unit that stands at the place, and those behind it are left.
 use Rattle.std.proofs.Common.{length, sym, ap, ◌∙◌, arith}
-use Rattle.tree.specs.Laws.UnitLaws.{units-none, units-pair, units-single}
+use Rattle.tree.proofs.Laws.UnitLaws.{units-none, units-pair, units-single}
 use Rattle.fst_text.proofs.units.UnitsIterator.next.Goals as goal
 
 pub returns-then-text-at-clause-steps : goal.returns-then-text-at-clause-steps

@@ -1,8 +1,8 @@
 -- `Walk::into` meets its contract: a child is an entry of the table.
 use Rattle.std.proofs.Common.{arith, sym, ◌∙◌}
 use Rattle.tree.specs.Table.{nodesOf}
-use Rattle.tree.specs.Laws.Accepted.{length-nodesOf}
-use Rattle.tree.specs.Laws.LookupLaws.{child-inside}
+use Rattle.tree.proofs.Laws.Accepted.{length-nodesOf}
+use Rattle.tree.proofs.Laws.LookupLaws.{child-inside}
 use Rattle.fst.proofs.Nodes.{opened}
 use Rattle.make_walk.proofs.walk.Walk.into.Goals as goal
 

@@ -1,7 +1,7 @@
 -- `Walk::new` meets its contract: the table's length is the number of entries.
 use Rattle.std.proofs.Common.{arith}
 use Rattle.std.proofs.lemmas.Grind.{common_steps}
-use Rattle.tree.specs.Laws.Accepted.{length-nodesOf}
+use Rattle.tree.proofs.Laws.Accepted.{length-nodesOf}
 use Rattle.make_walk.proofs.walk.Walk.new.Goals as goal
 
 pub returns-then-len-start : goal.returns-then-len-start

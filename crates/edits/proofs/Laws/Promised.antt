@@ -1,0 +1,35 @@
+-- What the one promise of every edit comes to: where the edit is refused, image and record are as they were; where it is accepted, they are the
+-- planned ones; and the working memory is zero either way. Assumes nothing.
+use Rattle.std.specs.Prelude.{Ok, Err}
+use Rattle.refusal.specs.Refusal.{Verdict}
+use Rattle.std.specs.Prelude.{ℕ, ◌≡◌, List, length}
+use Rattle.std.proofs.Common.{◌∙◌}
+use Rattle.refusal.specs.declared.Refusal.{Refusal}
+use Rattle.opening.specs.Opening.{zeros}
+use Rattle.edits.specs.Edits.{Edit, plan_of, planNumber, planImage, totalsTo, verdictOf, imageAfter, totalsAfter}
+use Rattle.edits.specs.Promise.{Lent, Edited}
+use Rattle.edits.proofs.Laws.Accepted.{refused-back}
+
+module _ {A : Type 0} (answer : Verdict → ℕ → A) (ed : Edit) (before after : Lent) (r : A) (p : Edited answer ed before after r) where
+  -- the verdict on it, and the number of the entry
+  abbrev verdict : Verdict
+  verdict = verdictOf ed before.totals before.image (length before.words) (length before.bytes)
+
+  abbrev number : ℕ
+  number = planNumber (plan_of ed before.image)
+
+  abbrev new : List ℕ
+  new = planImage (plan_of ed before.image) before.image
+
+  -- THEOREM: "A refusal returns one of document 01's numbers, with image .. unchanged and working memory zero", and the record
+  pub edit-refused : (c : Refusal) → verdict ≡ Err c →
+      (r ≡ answer (Err c) number) × (after.image ≡ before.image) × (after.totals ≡ before.totals) × (after.words ≡ zeros before.words) × (after.bytes ≡ zeros before.bytes)
+  edit-refused c e =
+      let b = refused-back ed before.totals before.image (length before.words) (length before.bytes) c e in
+      (p.answered ∙ rw e, p.image ∙ b.1, p.totals ∙ b.0, p.words, p.bytes)
+
+  -- THEOREM: an accepted edit
+  pub edit-accepted : verdict ≡ Ok tt →
+      (r ≡ answer (Ok tt) number) × (after.image ≡ new) × (after.totals ≡ totalsTo before.totals before.image new) × (after.words ≡ zeros before.words) × (after.bytes ≡ zeros before.bytes)
+  unfolding imageAfter totalsAfter
+  edit-accepted e = (p.answered ∙ rw e, p.image ∙ rw e, p.totals ∙ rw e, p.words, p.bytes)

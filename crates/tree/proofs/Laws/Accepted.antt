@@ -1,0 +1,174 @@
+-- What acceptance gives: the entries of an accepted table are a well-formed tree within the limits, and every place that its entries
+-- name lies in the table. Assumes nothing.
+use Rattle.std.specs.Prelude.{Ok}
+use Rattle.std.specs.Prelude.{ℕ, zero, suc, ◌+◌, ◌-◌, ◌*◌, ◌^◌, ◌<◌, ◌≤◌, ◌≡◌, refl, Bool, true, false, not, ◌&&◌, List, [], ◌∷◌, length, get_or, leb, ltb, eqb}
+use Rattle.std.proofs.Common.{ap, ◌∙◌, arith, add-zero, ltb-false, leb-false, lt-ltb, eqb-true, le-leb}
+use Rattle.std.proofs.lemmas.Bool.{eqb-false, not-false}
+use Rattle.endian.specs.Bytes.{AllBytes}
+use Rattle.endian.specs.Laws.Stored.{be32-small}
+use Rattle.refusal.specs.declared.Refusal.TheVariants.{EntryPastTable, UnrecognizedKind, RootIsNotDirectory, MissingNullTerminator, LimitOrMemory, InvalidNextIndex}
+use Rattle.refusal.specs.Laws.Chains.{refuse-passed, first-passed}
+use Rattle.tree.specs.Table.{Node, file, directory, name_of, none, plain, safe, kind, nameOffset, offsetOrParent, sizeOrNext, count, name_at, nodeWith, nodeAt, nodesFrom, nodesOf, entryVerdict, entriesVerdict, unended, top, shut, enter, nameVerdict, nextVerdict, walk, check, shallowEntry, shallowFrom, shallow}
+use Rattle.tree.specs.Inner.Accepted.{Accepted}
+use Rattle.tree.specs.Inner.WellFormed.{GoodName, GoodEntry, Sound}
+use Rattle.refusal.specs.Laws.Tests.{and_both}
+use Rattle.tree.proofs.Laws.Texts.{name-ends}
+
+-- ---- each test
+
+name-passed : (tab : List ℕ) (c k : ℕ) (nm : List ℕ) → nameVerdict tab c k nm ≡ Ok tt → (nameOffset tab k < length tab - 12 * c) × GoodName nm
+unfolding nameVerdict
+name-passed tab c k nm e = go (leb (length tab - 12 * c) (nameOffset tab k)) refl (plain nm) refl (safe nm) refl
+  where
+    go : (a : Bool) → leb (length tab - 12 * c) (nameOffset tab k) ≡ a → (p : Bool) → plain nm ≡ p → (s : Bool) → safe nm ≡ s → (nameOffset tab k < length tab - 12 * c) × GoodName nm
+    go true a≡ p p≡ s s≡ = let e' = simp a≡ at e in let z : ◌≡◌ {A = ℕ} 0 1 = cc in absurd (omega arith)
+    go false a≡ true p≡ true s≡ = (leb-false _ _ a≡, (p≡, s≡))
+    go false a≡ true p≡ false s≡ = let e' = simp (a≡, p≡, s≡) at e in let z : ◌≡◌ {A = ℕ} 0 1 = cc in absurd (omega arith)
+    go false a≡ false p≡ true s≡ = let e' = simp (a≡, p≡, s≡) at e in let z : ◌≡◌ {A = ℕ} 0 1 = cc in absurd (omega arith)
+    go false a≡ false p≡ false s≡ = let e' = simp (a≡, p≡, s≡) at e in let z : ◌≡◌ {A = ℕ} 0 1 = cc in absurd (omega arith)
+
+next-passed : (c k : ℕ) (dirs : List ℕ) (kd : ℕ) (nm : List ℕ) (a b : ℕ) → a < 2 ^ 32 → b < 2 ^ 32 →
+    nextVerdict c dirs k (nodeWith kd nm a b) ≡ Ok tt → GoodEntry c dirs k (nodeWith kd nm a b)
+unfolding nextVerdict
+next-passed c k dirs zero nm a b ha hb e = (ha, hb)
+next-passed c k dirs (suc kd) nm a next ha hb e =
+    let e₁ = refuse-passed (leb next k) InvalidNextIndex _ e in
+    let e₂ = refuse-passed (ltb c next) InvalidNextIndex _ e₁.1 in
+    let e₃ = refuse-passed (ltb (top dirs) next) InvalidNextIndex _ e₂.1 in
+    (leb-false _ _ e₁.0, ltb-false _ _ e₂.0, ltb-false _ _ e₃.0)
+
+depth-passed : (c k : ℕ) (dirs : List ℕ) (x : Node) → nextVerdict c dirs k x ≡ Ok tt → shallowEntry dirs x ≡ true
+unfolding nextVerdict
+depth-passed c k dirs (file nm offset size) e = refl
+depth-passed c k dirs (directory nm next) e =
+    let e₁ = refuse-passed (leb next k) InvalidNextIndex _ e in
+    let e₂ = refuse-passed (ltb c next) InvalidNextIndex _ e₁.1 in
+    let e₃ = refuse-passed (ltb (top dirs) next) InvalidNextIndex _ e₂.1 in
+    let e₄ = refuse-passed (ltb 64 (length dirs)) LimitOrMemory _ e₃.1 in
+    le-leb (length dirs) 64 (ltb-false _ _ e₄.0)
+
+entry-passed : (tab : List ℕ) (k : ℕ) → entryVerdict tab k ≡ Ok tt → (12 * k + 12 ≤ length tab) × (kind tab k ≤ 1)
+unfolding entryVerdict
+entry-passed tab k e =
+    let e₁ = refuse-passed (ltb (length tab) (12 * k + 12)) EntryPastTable _ e in
+    let e₂ = refuse-passed (ltb 1 (kind tab k)) UnrecognizedKind _ e₁.1 in
+    (ltb-false _ _ e₁.0, ltb-false _ _ e₂.0)
+
+-- ---- along the entries
+
+entries-passed : (tab : List ℕ) (k n : ℕ) → entriesVerdict tab k n ≡ Ok tt → (i : ℕ) → i < n → (12 * (k + i) + 12 ≤ length tab) × (kind tab (k + i) ≤ 1)
+unfolding entriesVerdict
+entries-passed tab k zero e i h = absurd (omega arith)
+entries-passed tab k (suc n) e zero h = rw (add-zero k) (entry-passed tab k (first-passed (entryVerdict tab k) _ e).0)
+entries-passed tab k (suc n) e (suc i) h =
+    let m : k + suc i ≡ suc k + i = omega arith in
+    rw m (entries-passed tab (suc k) n (first-passed (entryVerdict tab k) _ e).1 i (omega arith))
+
+walk-offset : (tab : List ℕ) (c k : ℕ) (dirs : List ℕ) (xs : List Node) → walk tab c dirs k xs ≡ Ok tt → (i : ℕ) → i < length xs → nameOffset tab (k + i) < length tab - 12 * c
+unfolding walk
+walk-offset tab c k dirs [] e i h = absurd (omega arith)
+walk-offset tab c k dirs (x ∷ xs) e zero h = rw (add-zero k) (name-passed tab c k (name_of x) (first-passed (nameVerdict tab c k (name_of x)) _ e).0).0
+walk-offset tab c k dirs (x ∷ xs) e (suc i) h =
+    let e₁ = first-passed (nameVerdict tab c k (name_of x)) _ e in
+    let e₂ = first-passed (nextVerdict c (shut k dirs) k x) _ e₁.1 in
+    let m : k + suc i ≡ suc k + i = omega arith in
+    rw m (walk-offset tab c (suc k) (enter (shut k dirs) x) xs e₂.1 i (omega arith))
+
+walk-shallow : (tab : List ℕ) (c k : ℕ) (dirs : List ℕ) (xs : List Node) → walk tab c dirs k xs ≡ Ok tt → shallowFrom dirs k xs ≡ true
+unfolding walk shallowFrom
+walk-shallow tab c k dirs [] e = refl
+walk-shallow tab c k dirs (x ∷ xs) e =
+    let e₁ = first-passed (nameVerdict tab c k (name_of x)) _ e in
+    let e₂ = first-passed (nextVerdict c (shut k dirs) k x) _ e₁.1 in
+    and_both (shallowEntry (shut k dirs) x) _ (depth-passed c k (shut k dirs) x e₂.0) (walk-shallow tab c (suc k) (enter (shut k dirs) x) xs e₂.1)
+
+walk-sound : (tab : List ℕ) → AllBytes tab → (c k n : ℕ) (dirs : List ℕ) → walk tab c dirs k (nodesFrom tab c k n) ≡ Ok tt → Sound c dirs k (nodesFrom tab c k n)
+unfolding nodesFrom walk nodeAt
+walk-sound tab bytes c k zero dirs e = tt
+walk-sound tab bytes c k (suc n) dirs e =
+    let e₁ = first-passed _ _ e in
+    let e₂ = first-passed _ _ e₁.1 in (
+      (name-passed tab c k _ e₁.0).1,
+      next-passed c k (shut k dirs) (kind tab k) _ (offsetOrParent tab k) (sizeOrNext tab k) (be32-small tab _ bytes) (be32-small tab _ bytes) e₂.0,
+      walk-sound tab bytes c (suc k) n _ e₂.1,
+    )
+
+pub length-nodesFrom : (tab : List ℕ) (c k n : ℕ) → length (nodesFrom tab c k n) ≡ n
+unfolding nodesFrom
+length-nodesFrom tab c k zero = refl
+length-nodesFrom tab c k (suc n) = ap suc (length-nodesFrom tab c (suc k) n)
+
+pub length-nodesOf : (tab : List ℕ) → length (nodesOf tab) ≡ count tab
+unfolding nodesOf count
+length-nodesOf tab = omega (arith, length-nodesFrom tab (count tab) 1 (count tab - 1))
+
+getD-nodesFrom : (tab : List ℕ) (c k n i : ℕ) → i < n → get_or (nodesFrom tab c k n) i none ≡ nodeAt tab c (k + i)
+unfolding nodesFrom
+getD-nodesFrom tab c k zero i h = absurd (omega arith)
+getD-nodesFrom tab c k (suc n) zero h = rw add-zero
+getD-nodesFrom tab c k (suc n) (suc i) h =
+    let m : k + suc i ≡ suc k + i = omega arith in
+    rw m (getD-nodesFrom tab c (suc k) n i (omega arith))
+
+-- entry k, past the root
+pub getD-nodesOf : (tab : List ℕ) (k : ℕ) → 0 < k → k < count tab → get_or (nodesOf tab) k none ≡ nodeAt tab (count tab) k
+unfolding nodesOf
+getD-nodesOf tab zero h l = absurd (omega arith)
+getD-nodesOf tab (suc i) h l = getD-nodesFrom tab (count tab) 1 (count tab - 1) i (omega arith) ∙ ap (nodeAt tab (count tab)) (omega arith)
+
+-- ---- the whole
+
+not-unended : (tab : List ℕ) (c : ℕ) → unended tab c ≡ false → 12 * c < length tab → get_or tab (length tab - 1) 0 ≡ 0
+unfolding unended
+not-unended tab c e h =
+    let e' : (true && not (eqb (get_or tab (length tab - 1) 0) 0)) ≡ false = rw (lt-ltb (12 * c) (length tab) h) at e in
+    eqb-true _ _ (not-false (eqb (get_or tab (length tab - 1) 0) 0) e')
+
+pub accepted : (tab : List ℕ) (words : ℕ) → AllBytes tab → check tab words ≡ Ok tt → Accepted tab words
+unfolding check nodesOf count shallow
+accepted tab words bytes e =
+    let c : ℕ = count tab in
+    let e₁ = refuse-passed (ltb (length tab) 12) EntryPastTable _ e in
+    let e₂ = refuse-passed (ltb 1 (kind tab 0)) UnrecognizedKind _ e₁.1 in
+    let e₃ = refuse-passed (eqb (kind tab 0) 0) RootIsNotDirectory _ e₂.1 in
+    let e₄ = refuse-passed (ltb 16384 c) LimitOrMemory _ e₃.1 in
+    let e₅ = first-passed (entriesVerdict tab 1 (c - 1)) _ e₄.1 in
+    let e₆ = refuse-passed (unended tab c) MissingNullTerminator _ e₅.1 in
+    let e₇ = refuse-passed (ltb 1048576 (length tab - 12 * c)) LimitOrMemory _ e₆.1 in
+    let e₈ = refuse-passed (ltb words (4 * (c + 2))) LimitOrMemory _ e₇.1 in
+    let e₉ = refuse-passed (leb (sizeOrNext tab 0) 0) InvalidNextIndex _ e₈.1 in
+    let len : length (nodesOf tab) ≡ c = length-nodesOf tab in
+    let long : 12 ≤ length tab = ltb-false _ _ e₁.0 in
+    let most : kind tab 0 ≤ 1 = ltb-false _ _ e₂.0 in
+    let one : kind tab 0 ≡ 1 = omega (arith, most, eqb-false (kind tab 0) 0 e₃.0) in
+    let each = entries-passed tab 1 (c - 1) e₅.0 in
+    let end : 12 * c < length tab → get_or tab (length tab - 1) 0 ≡ 0 = not-unended tab c e₆.0 in
+    let off = walk-offset tab c 1 (c ∷ []) (nodesFrom tab c 1 (c - 1)) e₉.1 in
+    let here : (k : ℕ) → 0 < k → k < c → 12 * c + nameOffset tab k < length tab =
+    λ k h l. let m : 1 + (k - 1) ≡ k = omega arith in omega (arith, rw m at (off (k - 1) (rw (length-nodesFrom tab c 1 (c - 1)) (omega arith)))) in
+    let ends : (k : ℕ) → 0 < k → k < c → (12 * c + nameOffset tab k + length (name_at tab c (nameOffset tab k)) < length tab) × (get_or tab (12 * c + nameOffset tab k + length (name_at tab c (nameOffset tab k))) 0 ≡ 0) =
+    λ k h l. name-ends tab c (nameOffset tab k) (here k h l) (end (omega (arith, here k h l))) in
+    record {
+      well = record { root = rw len; sound = rw len (walk-sound tab bytes c 1 (c - 1) (c ∷ []) e₉.1) };
+      depth = rw len (walk-shallow tab c 1 (c ∷ []) (nodesFrom tab c 1 (c - 1)) e₉.1);
+      root-kind = one;
+      root-next = omega (arith, leb-false (sizeOrNext tab 0) 0 e₉.0);
+      few = ltb-false _ _ e₄.0;
+      room = ltb-false _ _ e₈.0;
+      fits = within c long (λ i h. (each i h).0);
+      kinds = kinds c (rw one (omega arith)) (λ i h. (each i h).1);
+      texts = ltb-false _ _ e₇.0;
+      ended = end;
+      offsets = here;
+      names = λ k h l. (ends k h l).0;
+      zeros = λ k h l. (ends k h l).1;
+    }
+  where
+    within : (c : ℕ) → 12 ≤ length tab → ((i : ℕ) → i < c - 1 → 12 * (1 + i) + 12 ≤ length tab) → 12 * c ≤ length tab
+    within zero h f = omega arith
+    within (suc zero) h f = omega arith
+    within (suc (suc n)) h f = omega (arith, f n (omega arith))
+
+    kinds : (c : ℕ) → kind tab 0 ≤ 1 → ((i : ℕ) → i < c - 1 → kind tab (1 + i) ≤ 1) → (k : ℕ) → k < c → kind tab k ≤ 1
+    kinds c h f zero l = h
+    kinds c h f (suc k) l = let m : 1 + k ≡ suc k = omega arith in rw m at (f k (omega arith))

@@ -1,0 +1,100 @@
+-- An entry put in as the last child of a directory: the tree stays well-formed, and only the new entry can be too deep. Assumes nothing.
+use Rattle.std.specs.Prelude.{ℕ, zero, suc, ◌+◌, ◌-◌, ◌<◌, ◌≤◌, ◌≡◌, refl, ◌&&◌, length, get_or}
+use Rattle.std.proofs.Common.{zero-le, sym, ap, ◌∙◌, arith, le-leb}
+use mathlib.Core.List.{List, [], ◌∷◌, tail}
+use Rattle.tree.specs.Table.{Node, directory, name_of, none, parent_of, shallowFrom, shallow}
+use Rattle.tree.specs.Inner.WellFormed.{GoodName, GoodEntry, Sound, WellFormed}
+use Rattle.tree.specs.Lookup.{next_of}
+use Rattle.tree.specs.Insert.{bump, earlier, later, splice, insertAt, shifted}
+pub use Rattle.tree.proofs.Laws.InsertedList.{Fresh, bump-min, shifted-min, name-earlier, name-later}
+use Rattle.tree.proofs.Laws.InsertedList.{well-nested, length-splice, length_inserted, inserted-before, inserted-at, inserted-after}
+use Rattle.tree.proofs.Laws.InsertedParents.{parent-inserted-before, parent-inserted-at, parent-inserted-after}
+use Rattle.tree.proofs.Laws.OpenDirectories.{open_at, sound-at, stack_is}
+use Rattle.tree.specs.Inner.Depths.{openDirs, depth_of}
+use Rattle.tree.proofs.Laws.InsertWalk.{sound-between, sound-before, depthOk}
+
+-- ---- the tree stays well-formed, and only the new entry can be too deep
+
+-- the depth of entry p by the walk's stack, where the entries past the root are xs
+abbrev stackDepth : ℕ → List Node → ℕ → ℕ
+stackDepth c xs zero = 0
+stackDepth c xs (suc i) = length (open_at (c ∷ []) 1 xs i)
+
+record Kept (c p q : ℕ) (new : Node) (xs : List Node) : Type 0 where
+  j : ℕ
+  next : q ≡ suc j
+  inside : j ≤ length xs
+  raised : bump p c ≡ suc c
+  sound : Sound (suc c) (suc c ∷ []) 1 (splice p new 1 j xs)
+  depth : shallowFrom (suc c ∷ []) 1 (splice p new 1 j xs) ≡ (depthOk (suc (stackDepth c xs p)) new && shallowFrom (c ∷ []) 1 xs)
+
+kept : (c p q : ℕ) (nm : List ℕ) (new : Node) (xs : List Node) → c ≡ suc (length xs) →
+    Sound c (c ∷ []) 1 xs → get_or (directory [] c ∷ xs) p none ≡ directory nm q → p < c → GoodName (name_of new) → Fresh q new → Kept c p q new xs
+kept c zero q nm new xs l g e h named f =
+    let q≡ : q ≡ c = sym (ap next_of e) in
+    let f' : Fresh c new = rw q≡ at f in
+    let s = sound-between zero c c new [] h (omega arith) named f' (length xs) 1 [] xs (omega arith) (omega arith) (omega arith) tt g in
+    record { j = length xs; next = q≡ ∙ l; inside = omega arith; raised = omega (arith, bump-min zero c); sound = s.0; depth = s.1 }
+kept c (suc i) q nm new xs l g e h named f =
+    let at : GoodEntry c (open_at (c ∷ []) 1 xs i) (1 + i) (directory nm q) = rw e at (sound-at c 1 (c ∷ []) xs i g (omega arith)).1 in
+    let b : bump (suc i) c ≡ suc c = omega (arith, bump-min (suc i) c) in
+    let s = sound-before (suc i) c q nm new (omega arith) (omega arith) named f i (q - 1) 1 (c ∷ []) xs (omega arith) (omega arith) (omega arith) e (omega arith) g in
+    record { j = q - 1; next = omega arith; inside = omega arith; raised = b; sound = rw b at s.0; depth = rw b at s.1 }
+
+kept_whole : (c p q : ℕ) (nm : List ℕ) (new : Node) (xs : List Node) → c ≡ suc (length xs) → get_or (directory [] c ∷ xs) p none ≡ directory nm q → Kept c p q new xs →
+    WellFormed (insertAt p new (directory [] c ∷ xs)) × (shallow (insertAt p new (directory [] c ∷ xs)) ≡ (depthOk (suc (stackDepth c xs p)) new && shallow (directory [] c ∷ xs)))
+unfolding insertAt splice shallow
+kept_whole c p q nm new xs l e s =
+    let len : suc (length (splice p new 1 s.j xs)) ≡ suc c = rw (length-splice p new 1 s.j xs s.inside, ← l) in
+    rw (e, s.next) (
+      record { root = rw (le-leb 0 p zero-le, s.raised, len); sound = rw len s.sound },
+      rw (len, ← l) s.depth,
+    )
+
+depth_is : (nodes : List Node) (p : ℕ) → WellFormed nodes → p < length nodes → depth_of nodes p ≡ stackDepth (length nodes) (tail nodes) p
+unfolding openDirs
+depth_is nodes zero w h = refl
+depth_is nodes (suc i) w h = ap length (stack_is nodes w i h)
+
+insert-whole : (nodes : List Node) (p q : ℕ) (nm : List ℕ) (new : Node) → WellFormed nodes → get_or nodes p none ≡ directory nm q → p < length nodes → GoodName (name_of new) → Fresh q new →
+    WellFormed (insertAt p new nodes) × (shallow (insertAt p new nodes) ≡ (depthOk (suc (depth_of nodes p)) new && shallow nodes))
+insert-whole [] p q nm new w e h named f = absurd (omega arith)
+insert-whole (r ∷ xs) p q nm new w e h named f =
+    let c : ℕ = suc (length xs) in
+    let r≡ : r ∷ xs ≡ directory [] c ∷ xs = w.root in
+    let e' : get_or (directory [] c ∷ xs) p none ≡ directory nm q = rw r≡ at e in
+    rw (depth_is (r ∷ xs) p w h, r≡) (kept_whole c p q nm new xs refl e' (kept c p q nm new xs refl w.sound e' h named f))
+
+pub insert-sound : (nodes : List Node) (p q : ℕ) (nm : List ℕ) (new : Node) → WellFormed nodes → get_or nodes p none ≡ directory nm q → p < length nodes → GoodName (name_of new) → Fresh q new →
+    WellFormed (insertAt p new nodes)
+insert-sound nodes p q nm new w e h named f = (insert-whole nodes p q nm new w e h named f).0
+
+pub insert-shallow : (nodes : List Node) (p q : ℕ) (nm : List ℕ) (new : Node) → WellFormed nodes → get_or nodes p none ≡ directory nm q → p < length nodes → GoodName (name_of new) → Fresh q new →
+    shallow (insertAt p new nodes) ≡ (depthOk (suc (depth_of nodes p)) new && shallow nodes)
+insert-shallow nodes p q nm new w e h named f = (insert-whole nodes p q nm new w e h named f).1
+
+-- ---- the new list by numbers; p is a directory with next q
+
+module _ (nodes : List Node) (p q : ℕ) (nm : List ℕ) (new : Node) (w : WellFormed nodes) (here : get_or nodes p none ≡ directory nm q) (p<n : p < length nodes) where
+  pub length-insert : length (insertAt p new nodes) ≡ suc (length nodes)
+  length-insert = length_inserted nodes p q nm new (well-nested nodes w) here p<n
+
+  -- entry k, before the new one; the new one; and entry k, which comes after it
+  pub insert-before : (k : ℕ) → k < q → get_or (insertAt p new nodes) k none ≡ earlier p k (get_or nodes k none)
+  insert-before = inserted-before nodes p q nm new (well-nested nodes w) here p<n
+
+  pub insert-at : get_or (insertAt p new nodes) q none ≡ new
+  insert-at = inserted-at nodes p q nm new (well-nested nodes w) here p<n
+
+  pub insert-after : (k : ℕ) → q ≤ k → k < length nodes → get_or (insertAt p new nodes) (suc k) none ≡ later (get_or nodes k none)
+  insert-after = inserted-after nodes p q nm new (well-nested nodes w) here p<n
+
+  -- their parents
+  pub parent-insert-before : (k : ℕ) → k < q → parent_of (insertAt p new nodes) k ≡ parent_of nodes k
+  parent-insert-before = parent-inserted-before nodes p q nm new (well-nested nodes w) here p<n
+
+  pub parent-insert-at : parent_of (insertAt p new nodes) q ≡ p
+  parent-insert-at = parent-inserted-at nodes p q nm new (well-nested nodes w) here p<n
+
+  pub parent-insert-after : Fresh q new → (k : ℕ) → q ≤ k → k < length nodes → parent_of (insertAt p new nodes) (suc k) ≡ shifted q (parent_of nodes k)
+  parent-insert-after = parent-inserted-after nodes p q nm new (well-nested nodes w) here p<n

@@ -1,0 +1,124 @@
+-- An entry put in as the last child of a directory: every other entry keeps its parent. Assumes nothing.
+use Rattle.std.specs.Prelude.{ℕ, zero, suc, ◌<◌, ◌≤◌, ◌≡◌, refl, Bool, true, false, cond, List, length, get_or, leb, ltb}
+use Rattle.std.proofs.Common.{sym, ap, ◌∙◌, arith, ltb-true, leb-true, leb-false, ltb-false, le-leb, lt-ltb, le-ltb}
+use Rattle.std.proofs.Math.Dec.{leb-suc-suc}
+use Rattle.std.proofs.lemmas.Bool.{lt-leb}
+use Rattle.tree.specs.Table.{Node, file, directory, none, encloses, parentBelow, parent_of}
+use Rattle.tree.specs.Lookup.{next_of}
+use Rattle.tree.specs.Insert.{bump, earlier, later, insertAt, shifted}
+use Rattle.tree.proofs.Laws.Nesting.{parent-step, parent-lower, below-lt, parent_is, ended}
+use Rattle.tree.proofs.Laws.InsertedList.{Nested, encloses-is, Fresh, bump-min, shifted-min, q≤n, p<q, inserted-before, inserted-at, inserted-after}
+
+-- ---- every other entry keeps its parent
+
+below-same : (a b : List Node) (k m i : ℕ) → ((j : ℕ) → j < i → encloses (get_or a j none) k ≡ encloses (get_or b j none) m) → parentBelow a k i ≡ parentBelow b m i
+unfolding parentBelow
+below-same a b k m zero f = refl
+below-same a b k m (suc i) f = rw (f i (omega arith), below-same a b k m i (λ j h. f j (omega arith)))
+
+-- an entry j up to p, seen from entry k before the new one: a directory that ends past p ends at q or later
+up-before : (p q j k : ℕ) (x : Node) → j ≤ p → k < q → (p < next_of x → q ≤ next_of x) → encloses (earlier p j x) k ≡ encloses x k
+unfolding bump
+up-before p q j k (file nm offset size) h l f = refl
+up-before p q j k (directory nm n) h l f = rw (le-leb j p h) (go (ltb p n) refl)
+  where
+    go : (t : Bool) → ltb p n ≡ t → ltb k (cond t (suc n) n) ≡ ltb k n
+    go true e =
+        let g : q ≤ n = f (ltb-true p n e) in
+        lt-ltb k (suc n) (omega arith) ∙ sym (lt-ltb k n (omega arith))
+    go false e = refl
+
+-- seen from entry k, which comes after the new one
+up-after : (p j k : ℕ) (x : Node) → j ≤ p → p < k → encloses (earlier p j x) (suc k) ≡ encloses x k
+unfolding bump
+up-after p j k (file nm offset size) h l = refl
+up-after p j k (directory nm n) h l = rw (le-leb j p h) (go (ltb p n) refl)
+  where
+    go : (t : Bool) → ltb p n ≡ t → ltb (suc k) (cond t (suc n) n) ≡ ltb k n
+    go true e = leb-suc-suc (suc k) n
+    go false e =
+        let g : n ≤ p = ltb-false p n e in
+        le-ltb (suc k) n (omega arith) ∙ sym (le-ltb k n (omega arith))
+
+-- an entry j between p and the new one
+between-same : (p j k : ℕ) (x : Node) → p < j → encloses (earlier p j x) k ≡ encloses x k
+between-same p j k (file nm offset size) h = refl
+between-same p j k (directory nm n) h = rw (lt-leb j p h)
+
+pub later_same : (k : ℕ) (x : Node) → encloses (later x) (suc k) ≡ encloses x k
+later_same k (file nm offset size) = refl
+later_same k (directory nm n) = leb-suc-suc (suc k) n
+
+pub new-ended : (q k : ℕ) (x : Node) → Fresh q x → q ≤ k → encloses x (suc k) ≡ false
+new-ended q k (file nm offset size) f h = refl
+new-ended q k (directory nm n) f h = le-ltb (suc k) n (omega arith)
+
+module _ (nodes : List Node) (p q : ℕ) (nm : List ℕ) (new : Node) (w : Nested nodes) (here : get_or nodes p none ≡ directory nm q) (p<n : p < length nodes) where
+  -- a directory up to p that ends past p ends at q or later
+  pub around : (j : ℕ) → j ≤ p → p < next_of (get_or nodes j none) → q ≤ next_of (get_or nodes j none)
+  around j h l = go (ltb j p) refl
+    where
+      go : (t : Bool) → ltb j p ≡ t → q ≤ next_of (get_or nodes j none)
+      go true e = rw here at (w.inside j p (ltb-true j p e, encloses-is (get_or nodes j none) p ∙ lt-ltb p _ l) p<n)
+      go false e =
+          let j≡ : j ≡ p = omega (arith, ltb-false j p e) in
+          rw (j≡, here) (omega arith)
+
+  -- an entry between p and q ends at q or before
+  pub between : (j : ℕ) → p < j → j < q → next_of (get_or nodes j none) ≤ q
+  between j h l = rw here at (w.inside p j (h, rw here (lt-ltb j q l)) (omega (arith, q≤n nodes p q nm new w here p<n)))
+
+  pub encl-before : (k : ℕ) → k < q → (j : ℕ) → j < k → encloses (get_or (insertAt p new nodes) j none) k ≡ encloses (get_or nodes j none) k
+  encl-before k h j l = rw (inserted-before nodes p q nm new w here p<n j (omega arith)) (go (leb j p) refl)
+    where
+      go : (t : Bool) → leb j p ≡ t → encloses (earlier p j (get_or nodes j none)) k ≡ encloses (get_or nodes j none) k
+      go true e = up-before p q j k (get_or nodes j none) (leb-true j p e) h (around j (leb-true j p e))
+      go false e = between-same p j k (get_or nodes j none) (leb-false j p e)
+
+  pub encl-after : (k : ℕ) → q ≤ k → (j : ℕ) → j < q → encloses (get_or (insertAt p new nodes) j none) (suc k) ≡ encloses (get_or nodes j none) k
+  encl-after k h j l = rw (inserted-before nodes p q nm new w here p<n j l) (go (leb j p) refl)
+    where
+      go : (t : Bool) → leb j p ≡ t → encloses (earlier p j (get_or nodes j none)) (suc k) ≡ encloses (get_or nodes j none) k
+      go true e = up-after p j k (get_or nodes j none) (leb-true j p e) (omega (arith, p<q nodes p q nm new w here p<n))
+      go false e =
+          let b : next_of (get_or nodes j none) ≤ q = between j (leb-false j p e) l in
+          between-same p j (suc k) (get_or nodes j none) (leb-false j p e) ∙ ended (suc k) (get_or nodes j none) (omega arith) ∙ sym (ended k (get_or nodes j none) (omega arith))
+
+  pub parent-inserted-before : (k : ℕ) → k < q → parent_of (insertAt p new nodes) k ≡ parent_of nodes k
+  unfolding parent_of
+  parent-inserted-before k h = below-same (insertAt p new nodes) nodes k k k (encl-before k h)
+
+  pub parent-inserted-at : parent_of (insertAt p new nodes) q ≡ p
+  parent-inserted-at =
+      let h : p < q = p<q nodes p q nm new w here p<n in
+      let b : bump p q ≡ suc q = omega (arith, bump-min p q) in
+      parent_is (insertAt p new nodes) q p
+      (h, rw (inserted-before nodes p q nm new w here p<n p h, here, le-leb p p (omega arith), b) (lt-ltb q (suc q) (omega arith)))
+      (λ j a l. rw (inserted-before nodes p q nm new w here p<n j l) (between-same p j q (get_or nodes j none) a ∙ ended q (get_or nodes j none) (between j a l)))
+
+  module _ (fresh : Fresh q new) where
+    below-after : (k : ℕ) → q ≤ k → k < length nodes → (m : ℕ) → q ≤ m → m ≤ k → parentBelow (insertAt p new nodes) (suc k) (suc m) ≡ shifted q (parentBelow nodes k m)
+    below-after k h l zero a b = absurd (omega (arith, p<q nodes p q nm new w here p<n))
+    below-after k h l (suc m) a b = go (leb q m) refl (λ e. below-after k h l m e (omega arith))
+      where
+        step : (t : Bool) (d : ℕ) → q ≤ m → cond t (suc m) (shifted q d) ≡ shifted q (cond t m d)
+        step true d e = omega (arith, shifted-min q m)
+        step false d e = refl
+
+        go : (t : Bool) → leb q m ≡ t → (q ≤ m → parentBelow (insertAt p new nodes) (suc k) (suc m) ≡ shifted q (parentBelow nodes k m)) →
+            parentBelow (insertAt p new nodes) (suc k) (suc (suc m)) ≡ shifted q (parentBelow nodes k (suc m))
+        go true e ih =
+            let r : q ≤ m = leb-true q m e in
+            parent-step (insertAt p new nodes) (suc k) (suc m)
+            ∙ rw (inserted-after nodes p q nm new w here p<n m r (omega arith), later_same k (get_or nodes m none), ih r) (step (encloses (get_or nodes m none) k) (parentBelow nodes k m) r)
+            ∙ ap (shifted q) (sym (parent-step nodes k m))
+        go false e ih =
+            let m≡ : suc m ≡ q = omega (arith, leb-false q m e) in
+            let v : parentBelow nodes k (suc m) < suc m = below-lt nodes k (suc m) (omega arith) in
+            parent-lower (insertAt p new nodes) (suc k) (suc m) (rw (m≡, inserted-at nodes p q nm new w here p<n) (new-ended q k new fresh h))
+            ∙ below-same (insertAt p new nodes) nodes (suc k) k (suc m) (λ j l. encl-after k h j (omega arith))
+            ∙ omega (arith, shifted-min q (parentBelow nodes k (suc m)))
+
+    pub parent-inserted-after : (k : ℕ) → q ≤ k → k < length nodes → parent_of (insertAt p new nodes) (suc k) ≡ shifted q (parent_of nodes k)
+    unfolding parent_of
+    parent-inserted-after k h l = below-after k h l k h (omega arith)

@@ -1,0 +1,79 @@
+-- The rules of bytes are a special case of those of units: in a text without lead bytes each byte is a unit, so names are judged and paths are cut byte by
+-- byte; and below 0x80 a name has the bytes that it had. Assumes nothing.
+use Rattle.std.specs.Prelude.{ℕ, ◌≡◌, refl, Bool, true, false, cond, not, ◌&&◌, List, [], ◌∷◌, map}
+use Rattle.std.proofs.Common.{ap, ◌∙◌, arith}
+use Rattle.std.proofs.Math.Bool.{or-false}
+use Rattle.std.proofs.lemmas.Bool.{not-true}
+use Rattle.refusal.specs.Laws.Tests.{and_left, and_right, is_false}
+use Rattle.tree.specs.Units.{within, leadByte, TextUnit, single, units}
+use Rattle.tree.specs.Table.{every, plain_byte, safeByte, plainUnit, safeUnit, plain, dots, safe}
+use Rattle.tree.specs.Lookup.{separator, longer, componentsOf, components}
+use Rattle.tree.proofs.Laws.UnitLaws.{within-is, lead_is}
+
+abbrev pub leadless : List ℕ → Bool
+leadless s = every (λ (b : ℕ). not (leadByte b)) s
+
+-- LAW: each byte is a unit
+pub each-single : (s : List ℕ) → leadless s ≡ true → units s ≡ map single s
+unfolding units
+each-single [] e = refl
+each-single (a ∷ []) e = refl
+each-single (a ∷ b ∷ s) e =
+    rw (not-true (leadByte a) (and_left (not (leadByte a)) _ e)) (ap (λ (l : List TextUnit). single a ∷ l) (each-single (b ∷ s) (and_right (not (leadByte a)) _ e)))
+
+every-single : (p : TextUnit → Bool) (s : List ℕ) → every p (map single s) ≡ every (λ (b : ℕ). p (single b)) s
+every-single p [] = refl
+every-single p (b ∷ s) = rw (every-single p s)
+
+-- LAW: a name is judged byte by byte
+pub plain-leadless : (nm : List ℕ) → leadless nm ≡ true → plain nm ≡ every plain_byte nm
+unfolding plain
+plain-leadless nm e = rw (each-single nm e) (every-single plainUnit nm)
+
+pub safe-leadless : (a : ℕ) (nm : List ℕ) → leadless (a ∷ nm) ≡ true → safe (a ∷ nm) ≡ (not (dots (a ∷ nm)) && every safeByte (a ∷ nm))
+unfolding safe
+safe-leadless a nm e = rw (each-single (a ∷ nm) e, every-single safeUnit (a ∷ nm))
+
+-- ---- "the path is cut at `/` and `\`", byte by byte
+
+abbrev before : ℕ → List (List ℕ) → List (List ℕ)
+before b [] = (b ∷ []) ∷ []
+before b (c ∷ cs) = (b ∷ c) ∷ cs
+
+abbrev pub cutBytes : List ℕ → List (List ℕ)
+cutBytes [] = [] ∷ []
+cutBytes (b ∷ path) = cond (separator b) ([] ∷ cutBytes path) (before b (cutBytes path))
+
+cut-single : (s : List ℕ) → componentsOf (map single s) ≡ cutBytes s
+unfolding componentsOf
+cut-single [] = refl
+cut-single (b ∷ s) = rw (cut-single s) (go (separator b) (cutBytes s))
+  where
+    go : (t : Bool) (cs : List (List ℕ)) → cond t ([] ∷ cs) (longer (single b) cs) ≡ cond t ([] ∷ cs) (before b cs)
+    go true cs = refl
+    go false [] = refl
+    go false (c ∷ cs) = refl
+
+-- LAW: a path is cut byte by byte
+pub components-leadless : (path : List ℕ) → leadless path ≡ true → components path ≡ cutBytes path
+unfolding components
+components-leadless path e = rw (each-single path e) (cut-single path)
+
+-- ---- bytes below 0x80
+
+below-leadless : (s : List ℕ) → every (within 0 0x7F) s ≡ true → leadless s ≡ true
+below-leadless [] e = refl
+below-leadless (b ∷ s) e =
+    let r = within-is 0 0x7F b (and_left (within 0 0x7F b) _ e) in
+    rw (is_false (leadByte b) (λ t. omega (arith, r.1, (lead_is b t).0))) (below-leadless s (and_right (within 0 0x7F b) _ e))
+
+below_plain : (s : List ℕ) → every (within 0 0x7F) s ≡ true → every plain_byte s ≡ every (within 0x20 0x7E) s
+below_plain [] e = refl
+below_plain (b ∷ s) e =
+    let r = within-is 0 0x7F b (and_left (within 0 0x7F b) _ e) in
+    let n : within 0xA1 0xDF b ≡ false = is_false (within 0xA1 0xDF b) (λ t. omega (arith, r.1, (within-is 0xA1 0xDF b t).0)) in
+    rw (n, or-false (within 0x20 0x7E b), below_plain s (and_right (within 0 0x7F b) _ e))
+
+-- LAW: "one or more bytes 0x20 to 0x7E"
+pub plain-below : (nm : List ℕ) → every (within 0 0x7F) nm ≡ true → plain nm ≡ every (within 0x20 0x7E) nm
+plain-below nm e = plain-leadless nm (below-leadless nm e) ∙ below_plain nm e

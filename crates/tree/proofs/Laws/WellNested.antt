@@ -1,0 +1,79 @@
+-- Every entry of a well-formed tree: its name, its next, its parent, and that directories nest. Assumes nothing.
+use Rattle.std.specs.Prelude.{ℕ, zero, suc, ◌<◌, ◌≤◌, ◌≡◌, refl, Bool, true, false, cond, length, get_or, ltb}
+use Rattle.std.proofs.Common.{sym, ap, ◌∙◌, arith, one-add, ltb-true, ltb-false, lt-ltb}
+use mathlib.Core.List.{List, [], ◌∷◌, tail, head-eq_of_cons-eq, nil≢cons}
+use Rattle.tree.specs.Table.{Node, directory, name_of, none, top, encloses, parent_of}
+use Rattle.tree.specs.Inner.WellFormed.{GoodName, GoodEntry, WellFormed}
+use Rattle.tree.specs.Lookup.{next_of}
+use Rattle.tree.specs.Inner.Depths.{openDirs}
+use Rattle.tree.proofs.Laws.OpenDirectories.{open_at, sound-at, AllGe, Sorted, stack}
+use Rattle.tree.proofs.Laws.Nesting.{Inside, below-lt, below-encloses}
+
+-- ---- every entry of a well-formed tree
+
+pub root_is : (nodes : List Node) → WellFormed nodes → get_or nodes 0 none ≡ directory [] (length nodes)
+root_is [] w = absurd (nil≢cons w.root)
+root_is (r ∷ xs) w = head-eq_of_cons-eq w.root
+
+pub not-empty : (nodes : List Node) → WellFormed nodes → 0 < length nodes
+not-empty [] w = absurd (nil≢cons w.root)
+not-empty (r ∷ xs) w = omega arith
+
+-- entry i + 1, with the directories open there
+pub entry_at : (nodes : List Node) (i : ℕ) → WellFormed nodes → suc i < length nodes →
+    GoodName (name_of (get_or nodes (suc i) none)) × GoodEntry (length nodes) (open_at (length nodes ∷ []) 1 (tail nodes) i) (suc i) (get_or nodes (suc i) none)
+entry_at [] i w h = absurd (omega arith)
+entry_at (r ∷ xs) i w h = rw one-add at (sound-at (suc (length xs)) 1 (suc (length xs) ∷ []) xs i w.sound (omega arith))
+
+pub name-good : (nodes : List Node) (k : ℕ) → WellFormed nodes → 0 < k → k < length nodes → GoodName (name_of (get_or nodes k none))
+name-good nodes zero w h l = absurd (omega arith)
+name-good nodes (suc i) w h l = (entry_at nodes i w l).0
+
+-- a directory's next is past it, and at most the number of entries
+pub next-bounds : (nodes : List Node) (k n : ℕ) (nm : List ℕ) → WellFormed nodes → get_or nodes k none ≡ directory nm n → k < length nodes → (k < n) × (n ≤ length nodes)
+next-bounds nodes zero n nm w e h =
+    let n≡ : length nodes ≡ n = ap next_of (sym (root_is nodes w) ∙ e) in
+    (omega arith, omega arith)
+next-bounds nodes (suc i) n nm w e h =
+    let g : GoodEntry (length nodes) (open_at (length nodes ∷ []) 1 (tail nodes) i) (suc i) (directory nm n) = rw e at (entry_at nodes i w h).1 in
+    (g.0, g.1)
+
+-- the parent is a directory around the entry
+pub parent-inside : (nodes : List Node) (k : ℕ) → WellFormed nodes → 0 < k → k < length nodes → Inside nodes (parent_of nodes k) k
+unfolding parent_of
+parent-inside nodes k w h l =
+    let e : encloses (get_or nodes 0 none) k ≡ true = rw (root_is nodes w) (lt-ltb k (length nodes) l) in
+    (below-lt nodes k k h, below-encloses nodes k k h e)
+
+-- what is open at an entry has in it each directory around the entry
+open-has : (nodes : List Node) (d k i m : ℕ) → d < i → encloses (get_or nodes d none) k ≡ true → AllGe m (openDirs nodes k i) → m ≤ next_of (get_or nodes d none)
+unfolding openDirs
+open-has nodes d k zero m h e g = absurd (omega arith)
+open-has nodes d k (suc i) m h e g = go (encloses (get_or nodes i none) k) refl (ltb d i) refl (λ q. open-has nodes d k i m q e) g
+  where
+    go : (t : Bool) → encloses (get_or nodes i none) k ≡ t → (u : Bool) → ltb d i ≡ u → (d < i → AllGe m (openDirs nodes k i) → m ≤ next_of (get_or nodes d none)) →
+        AllGe m (cond t (next_of (get_or nodes i none) ∷ openDirs nodes k i) (openDirs nodes k i)) → m ≤ next_of (get_or nodes d none)
+    go true p true q ih g = ih (ltb-true d i q) g.1
+    go true p false q ih g =
+        let i≡ : i ≡ d = omega (arith, ltb-false d i q) in
+        rw i≡ at g.0
+    go false p true q ih g = ih (ltb-true d i q) g
+    go false p false q ih g =
+        let i≡ : i ≡ d = omega (arith, ltb-false d i q) in
+        let z : true ≡ false = sym e ∙ (rw i≡ at p) in
+        let n : ◌≡◌ {A = ℕ} 0 1 = cc in
+        absurd (omega arith)
+
+top_least : (dirs : List ℕ) → Sorted dirs → AllGe (top dirs) dirs
+top_least [] s = tt
+top_least (n ∷ dirs) s = (omega arith, s.0)
+
+-- directories nest: one that starts among another's entries ends among them
+pub nests : (nodes : List Node) (d k n : ℕ) (nm : List ℕ) → WellFormed nodes → Inside nodes d k → k < length nodes → get_or nodes k none ≡ directory nm n → n ≤ next_of (get_or nodes d none)
+nests nodes d zero n nm w h l e = absurd (omega (arith, h.0))
+nests nodes d (suc i) n nm w h l e =
+    let s = stack nodes w i l in
+    let g : GoodEntry (length nodes) (open_at (length nodes ∷ []) 1 (tail nodes) i) (suc i) (directory nm n) = rw e at (entry_at nodes i w l).1 in
+    let t : top (open_at (length nodes ∷ []) 1 (tail nodes) i) ≤ next_of (get_or nodes d none) =
+    open-has nodes d (suc i) (suc i) _ h.0 h.1 (rw s.0 (top_least (open_at (length nodes ∷ []) 1 (tail nodes) i) s.1)) in
+    omega (arith, g.2)
