@@ -1,15 +1,14 @@
 -- A text read byte by byte and unit by unit: it ends at a zero byte or at the table's end. Assumes nothing.
-use Prim.Native.Nat.{ℕ, zero, suc, ◌+◌, ◌-◌, ◌<◌, ◌≤◌, min}
+use Prim.Native.Nat.{ℕ, zero, suc, ◌+◌, ◌<◌, ◌≤◌, min}
 use mathlib.Core.Path.{◌≡◌, refl, sym, ap, ◌∙◌}
 use mathlib.Core.Logic.{⊎_elim}
 use mathlib.Core.Bool.{Bool, true, false, true≢false, not, ◌&&◌}
-use mathlib.Core.List.{List, [], ◌∷◌, ◌++◌}
+use mathlib.Core.List.{List, [], ◌∷◌}
 use native.Mathlib.Omega.{arith}
 use native.Mathlib.Numerals.{add-one}
 use borrow.Author.Tests.{eqb-true, eqb-false}
-use lib.ListN.{length, get_or, drop, take, length-drop}
-use lib.Seq.{drop-drop, get_or-drop, take-suc}
-use Rattle.std.proofs.Common.{append_assoc}
+use lib.ListN.{length, get_or, drop, take}
+use lib.Seq.{drop-drop, get_or-drop}
 use Rattle.std.proofs.lemmas.List.{drop-take}
 use lib.Dec.{eqb}
 use Rattle.tree.specs.Units.{leadByte, trailByte, TextUnit, single, pair, units}
@@ -111,16 +110,6 @@ take-min (suc n) (b ∷ tab) =
 
 pub dots-three : (tab : List ℕ) (at m : ℕ) → m ≡ min (length tab) (at + 3) → dots (textAt (take m tab) at) ≡ dots (textAt tab at)
 dots-three tab at m e = rw (e, take-min (at + 3) tab, drop-take at 3 tab) (dots-head (drop at tab))
-
--- the bytes of a text one by one
-pub text-passed : (tab : List ℕ) (at end : ℕ) → at ≤ end → end < length tab → (get_or tab end 0 ≡ 0 → ⊥) → textAt tab at ≡ take (end - at) (drop at tab) ++ textAt tab end →
-    textAt tab at ≡ take (end + 1 - at) (drop at tab) ++ textAt tab (end + 1)
-text-passed tab at end p q h e =
-    let m : end + 1 - at ≡ suc (end - at) = omega arith in
-    let n : at + (end - at) ≡ end = omega arith in
-    let l : end - at < length (drop at tab) = rw (length-drop at tab) (omega arith) in
-    let g : get_or (drop at tab) (end - at) 0 ≡ get_or tab end 0 = get_or-drop at tab (end - at) 0 ∙ ap (λ (i : ℕ). get_or tab i 0) n in
-    rw (m, take-suc (drop at tab) (end - at) 0 l, g, append_assoc) (e ∙ ap (λ (t : List ℕ). take (end - at) (drop at tab) ++ t) (text-more tab end h))
 
 -- ---- the length of a text
 
