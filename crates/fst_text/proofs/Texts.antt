@@ -2,7 +2,7 @@
 use Prim.Native.Nat.{ℕ, zero, suc, ◌+◌, ◌<◌, ◌≤◌, min}
 use mathlib.Core.Path.{◌≡◌, refl, sym, ap, ◌∙◌}
 use mathlib.Core.Logic.{⊎_elim}
-use mathlib.Core.Bool.{Bool, true, false, true≢false, not, ◌&&◌}
+use mathlib.Core.Bool.{Bool, true, false, true≢false, ◌&&◌}
 use mathlib.Core.List.{List, [], ◌∷◌}
 use native.Mathlib.Omega.{arith}
 use native.Mathlib.Numerals.{add-one}
@@ -12,9 +12,9 @@ use lib.Seq.{drop-drop, get_or-drop}
 use Rattle.std.proofs.lemmas.List.{drop-take}
 use lib.Dec.{eqb}
 use Rattle.tree.specs.Units.{leadByte, trailByte, TextUnit, single, pair, units}
-use Rattle.tree.specs.Table.{every, dots, safe, plain_byte, safeByte, safeUnit, upTo0}
+use Rattle.tree.specs.Table.{every, dots, plain_byte, safeByte, upTo0}
 use Rattle.tree.specs.Inner.Pairs.{pair_at}
-use Rattle.tree.specs.Laws.UnitLaws.{in_either, lead_is, trail_is, by_units, units-pair, units-single, units-none}
+use Rattle.tree.specs.Laws.UnitLaws.{in_either, lead_is, trail_is, by_units, units-pair, units-single}
 use Rattle.refusal.specs.Laws.Tests.{lt-or-le, and_left, and_right, or_cases, is_false}
 use Rattle.fst_text.specs.Inner.Texts.{textAt, cleanByte, cleanUnit, cleanFrom, NoLead}
 
@@ -79,18 +79,6 @@ pub every-single : (p : TextUnit → Bool) (tab : List ℕ) (i : ℕ) (t : Bool)
     every p (units (textAt tab i)) ≡ (t && every p (units (textAt tab (i + 1))))
 every-single p tab i t h n e = rw (text-single tab i h n, e)
 
--- ---- a safe name
-
-pub safe-none : (tab : List ℕ) (at : ℕ) → get_or tab at 0 ≡ 0 → safe (textAt tab at) ≡ false
-unfolding safe
-safe-none tab at h = rw (text-end tab at h)
-
-pub safe-more : (tab : List ℕ) (at : ℕ) (d t : Bool) → (get_or tab at 0 ≡ 0 → ⊥) → dots (textAt tab at) ≡ d → every safeUnit (units (textAt tab at)) ≡ t → safe (textAt tab at) ≡ (not d && t)
-unfolding safe
-safe-more tab at d t h e f =
-    let m : textAt tab at ≡ get_or tab at 0 ∷ textAt tab (at + 1) = text-more tab at h in
-    rw (m, rw m at e, rw m at f)
-
 -- `.` or `..`: a text's first three bytes tell
 dots-head : (s : List ℕ) → dots (upTo0 (take 3 s)) ≡ dots (upTo0 s)
 dots-head [] = refl
@@ -134,10 +122,6 @@ pub clean-no-pair : (tab : List ℕ) (i : ℕ) → cleanByte (get_or tab i 0) �
 clean-no-pair tab i e = rw (clean-no-lead (get_or tab i 0) e)
 
 module _ (tab : List ℕ) (i : ℕ) where
-  pub clean-past : length tab ≤ i → cleanFrom tab i ≡ true
-  unfolding cleanFrom
-  clean-past h = rw (units-none tab i h)
-
   pub clean-pair : pair_at tab i ≡ true → cleanFrom tab i ≡ cleanFrom tab (i + 2)
   unfolding cleanFrom
   clean-pair e = rw (units-pair tab i e)
