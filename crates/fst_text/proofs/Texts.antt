@@ -1,21 +1,20 @@
 -- A text read byte by byte and unit by unit: it ends at a zero byte or at the table's end. Assumes nothing.
-use Prim.Native.Nat.{ℕ, zero, suc, ◌+◌, ◌-◌, ◌<◌, ◌≤◌, min}
+use Prim.Native.Nat.{ℕ, zero, suc, ◌+◌, ◌<◌, ◌≤◌, min}
 use mathlib.Core.Path.{◌≡◌, refl, sym, ap, ◌∙◌}
 use mathlib.Core.Logic.{⊎_elim}
-use mathlib.Core.Bool.{Bool, true, false, true≢false, not, ◌&&◌}
-use mathlib.Core.List.{List, [], ◌∷◌, ◌++◌}
+use mathlib.Core.Bool.{Bool, true, false, true≢false, ◌&&◌}
+use mathlib.Core.List.{List, [], ◌∷◌}
 use native.Mathlib.Omega.{arith}
 use native.Mathlib.Numerals.{add-one}
 use borrow.Author.Tests.{eqb-true, eqb-false}
-use lib.ListN.{length, get_or, drop, take, length-drop}
-use lib.Seq.{drop-drop, get_or-drop, take-suc}
-use Rattle.std.proofs.Common.{append_assoc}
+use lib.ListN.{length, get_or, drop, take}
+use lib.Seq.{drop-drop, get_or-drop}
 use Rattle.std.proofs.lemmas.List.{drop-take}
 use lib.Dec.{eqb}
 use Rattle.tree.specs.Units.{leadByte, trailByte, TextUnit, single, pair, units}
-use Rattle.tree.specs.Table.{every, dots, safe, plain_byte, safeByte, safeUnit, upTo0}
+use Rattle.tree.specs.Table.{every, dots, plain_byte, safeByte, upTo0}
 use Rattle.tree.specs.Inner.Pairs.{pair_at}
-use Rattle.tree.proofs.Laws.UnitLaws.{in_either, lead_is, trail_is, by_units, units-pair, units-single, units-none}
+use Rattle.tree.proofs.Laws.UnitLaws.{in_either, lead_is, trail_is, by_units, units-pair, units-single}
 use Rattle.refusal.specs.Laws.Tests.{lt-or-le, and_left, and_right, or_cases, is_false}
 use Rattle.fst_text.specs.Inner.Texts.{textAt, cleanByte, cleanUnit, cleanFrom, NoLead}
 
@@ -80,18 +79,6 @@ pub every-single : (p : TextUnit → Bool) (tab : List ℕ) (i : ℕ) (t : Bool)
     every p (units (textAt tab i)) ≡ (t && every p (units (textAt tab (i + 1))))
 every-single p tab i t h n e = rw (text-single tab i h n, e)
 
--- ---- a safe name
-
-pub safe-none : (tab : List ℕ) (at : ℕ) → get_or tab at 0 ≡ 0 → safe (textAt tab at) ≡ false
-unfolding safe
-safe-none tab at h = rw (text-end tab at h)
-
-pub safe-more : (tab : List ℕ) (at : ℕ) (d t : Bool) → (get_or tab at 0 ≡ 0 → ⊥) → dots (textAt tab at) ≡ d → every safeUnit (units (textAt tab at)) ≡ t → safe (textAt tab at) ≡ (not d && t)
-unfolding safe
-safe-more tab at d t h e f =
-    let m : textAt tab at ≡ get_or tab at 0 ∷ textAt tab (at + 1) = text-more tab at h in
-    rw (m, rw m at e, rw m at f)
-
 -- `.` or `..`: a text's first three bytes tell
 dots-head : (s : List ℕ) → dots (upTo0 (take 3 s)) ≡ dots (upTo0 s)
 dots-head [] = refl
@@ -111,16 +98,6 @@ take-min (suc n) (b ∷ tab) =
 
 pub dots-three : (tab : List ℕ) (at m : ℕ) → m ≡ min (length tab) (at + 3) → dots (textAt (take m tab) at) ≡ dots (textAt tab at)
 dots-three tab at m e = rw (e, take-min (at + 3) tab, drop-take at 3 tab) (dots-head (drop at tab))
-
--- the bytes of a text one by one
-pub text-passed : (tab : List ℕ) (at end : ℕ) → at ≤ end → end < length tab → (get_or tab end 0 ≡ 0 → ⊥) → textAt tab at ≡ take (end - at) (drop at tab) ++ textAt tab end →
-    textAt tab at ≡ take (end + 1 - at) (drop at tab) ++ textAt tab (end + 1)
-text-passed tab at end p q h e =
-    let m : end + 1 - at ≡ suc (end - at) = omega arith in
-    let n : at + (end - at) ≡ end = omega arith in
-    let l : end - at < length (drop at tab) = rw (length-drop at tab) (omega arith) in
-    let g : get_or (drop at tab) (end - at) 0 ≡ get_or tab end 0 = get_or-drop at tab (end - at) 0 ∙ ap (λ (i : ℕ). get_or tab i 0) n in
-    rw (m, take-suc (drop at tab) (end - at) 0 l, g, append_assoc) (e ∙ ap (λ (t : List ℕ). take (end - at) (drop at tab) ++ t) (text-more tab end h))
 
 -- ---- the length of a text
 
@@ -145,10 +122,6 @@ pub clean-no-pair : (tab : List ℕ) (i : ℕ) → cleanByte (get_or tab i 0) �
 clean-no-pair tab i e = rw (clean-no-lead (get_or tab i 0) e)
 
 module _ (tab : List ℕ) (i : ℕ) where
-  pub clean-past : length tab ≤ i → cleanFrom tab i ≡ true
-  unfolding cleanFrom
-  clean-past h = rw (units-none tab i h)
-
   pub clean-pair : pair_at tab i ≡ true → cleanFrom tab i ≡ cleanFrom tab (i + 2)
   unfolding cleanFrom
   clean-pair e = rw (units-pair tab i e)

@@ -10,12 +10,11 @@ use crate::{names, units};
 pub fn text_at(table: &[u8], at: usize) -> &[u8]
     ensures { result.now ≡ textAt table.now at }
 {
-    for end in at..table.len() {
-        if table[end] == 0 {
-            return &table[at..end];
-        }
+    let rest = &table[at.min(table.len())..];
+    match rest.iter().position(|byte| *byte == 0) {
+        Some(len) => &rest[..len],
+        None => rest,
     }
-    &table[at.min(table.len())..]
 }
 
 // The bytes, 16 to a line: `c` for those that are clean. Opening has every byte of the texts passed, so each is
@@ -65,6 +64,8 @@ fn pass_clean(table: &[u8], from: usize) -> usize
 }
 
 // The first byte from `from` on that is not clean by itself, or the table's end.
+// Kept: over places (N): the answer is a place of the table. Over a slice from `from` on, its start would be
+// added to the answer, and a start past the table's end told apart first.
 fn clean_to(table: &[u8], from: usize) -> usize
     ensures { CleanTo table.now from result }
 {

@@ -1,8 +1,23 @@
--- `fst_text::text::text_at` meets its contract. The invariant of its loop: the bytes passed and the rest make the whole.
-use Rattle.fst_text.proofs.Texts.{text-passed}
-use native.Mathlib.Omega.{arith}
+-- `fst_text::text::text_at` meets its contract: the first zero byte ends the text.
+use Rattle.std.proofs.Common.{rules, ap, ◌∙◌, length, ◌-◌, take, drop, List, ℕ}
+use borrow.Author.Tests.{tests}
+use Rattle.std.proofs.lemmas.Iterator.{YieldsList-from_slice}
+use Rattle.std.proofs.lemmas.Iterator.Search.{position_from_yields_List}
+use Rattle.std.specs.Prelude.{Some, None}
+use Rattle.tree.specs.Table.{upTo0}
+use Rattle.fst_text.proofs.Judging.{is_zero, cut-some, cut-none, drop-min, whole-rest}
 use Rattle.fst_text.proofs.text.text_at.Goals as goal
 
-pub loop-end-preserved : goal.loop-end-preserved
-loop-end-preserved c =
-    text-passed c.args.table.now c.args.at c.loop-end.end (omega arith) (omega (arith, c.loop-end-test.true)) c.if-table-end-eq0.false c.loop-end.invariant
+pub returns-in-Some : goal.returns-in-Some
+returns-in-Some c =
+    let tab = c.args.table.now in
+    let rest : List ℕ = take (length tab - c.min.result) (drop c.min.result tab) in
+    let found = position_from_yields_List is_zero _ _ (Some c.in-Some.len) c.in-Some.ensures.ran (YieldsList-from_slice rest (cc)) (λ x b q k. search (rules, tests)) in
+    cut-some rest c.in-Some.len found ∙ ap upTo0 (whole-rest tab c.min.result ∙ rw c.min.ensures (drop-min c.args.at tab))
+
+pub returns-in-None : goal.returns-in-None
+returns-in-None c =
+    let tab = c.args.table.now in
+    let rest : List ℕ = take (length tab - c.min.result) (drop c.min.result tab) in
+    let found = position_from_yields_List is_zero _ _ None c.in-None.ensures.ran (YieldsList-from_slice rest (cc)) (λ x b q k. search (rules, tests)) in
+    cut-none rest found ∙ ap upTo0 (whole-rest tab c.min.result ∙ rw c.min.ensures (drop-min c.args.at tab))
