@@ -1,16 +1,12 @@
 -- `UsedRegions::find_largest` meets its contract: the best so far, carried on over the free regions that are left, is the best of all.
-use Rattle.std.proofs.Common.{rules, refl, ap, arith}
+use Rattle.std.proofs.Common.{rules, refl}
 use Rattle.space.specs.Laws.FreeLaws.{free-end}
 use Rattle.free_space.specs.Allocate.{largest}
-use Rattle.free_space.specs.Inner.UsedSpace.{UsedSpace}
 use Rattle.free_space.proofs.Choice.{found-is}
 use Rattle.free_space.proofs.used.UsedRegions.find_largest.Goals as goal
 
 pub loop-region-init : goal.loop-region-init
 loop-region-init c = rw (c.into_iter-region-iterator.ensures.into_iter_gives, c.free_regions-region-items.ensures) (tt, tt, free-end _ _, search rules, refl)
-
-pub better-best-requires-clause-gap_end : goal.better-best-requires-clause-gap_end
-better-best-requires-clause-gap_end c = let i = rw c.in-Some.ensures.steps at c.loop-region.invariant in omega (arith, i.2.0, c.self.invariant.small, ap (λ (u : UsedSpace). u.disc_end) c.self.view_is)
 
 pub loop-region-preserved : goal.loop-region-preserved
 unfolding largest
