@@ -48,6 +48,7 @@ impl<'a> Growing<'a> {
     }
 
     /// The directory that directory k is nested in. A table written anew stores it.
+    // Kept: `IsDirectory` in four contracts: it is a fact about the number that is passed, another one in each call.
     pub fn parent(&self, k: usize) -> usize
         requires { IsDirectory (tree_of self.now) k }
         ensures { result ≡ parent_of (tree_of self.now) k }
@@ -72,6 +73,7 @@ impl<'a> Growing<'a> {
             return true;
         }
         let mut around = p;
+        // Kept: a range of numbers: it counts turns, and no number is used.
         for _ in 0..MOST_AROUND {
             if around == 0 {
                 return true;
@@ -107,13 +109,16 @@ impl<'a> Growing<'a> {
 
     /// Puts an empty directory, or an empty file, in as last child of directory p, and returns its number; 9 if the
     /// tree then passes a limit, or the bytes are too few, and the table stays as it is.
+    // Kept: the directory, the kind and the name are no struct, as in `fst_patch::insert`. `IsTable` is said by the type,
+    // and asked for here since the proof of `insert` hands it over.
     pub fn grow(&mut self, p: usize, kind: Kind, name: &[u8]) -> Result<usize, Refusal>
         requires { IsTable self.old × IsDirectory (tree_of self.old) p × GoodName name.now }
         ensures number { IfOk result (λ number. number ≡ next_of (get_or (tree_of self.old) p none)) }
         ensures table { OnOk result (IsTable self.new) }
         ensures tree { OnOk result (tree_of self.new ≡ added_to self.old kind p name.now) }
         ensures built { HasBuilt self.old self.new (added_to self.old kind p name.now) result }
-        ensures err { OnErr result ((self.new.bytes.now ≡ self.old.bytes.now) × (self.new.size ≡ self.old.size)) }
+        ensures err_bytes { OnErr result (self.new.bytes.now ≡ self.old.bytes.now) }
+        ensures err_size { OnErr result (self.new.size ≡ self.old.size) }
         ensures words { self.new.words ≡ self.old.words }
         ensures length { length self.new.bytes.now ≡ length self.old.bytes.now }
         ensures same_reference { self.new.bytes.ghost_name ≡ self.old.bytes.ghost_name }

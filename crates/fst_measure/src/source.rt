@@ -11,6 +11,8 @@ use refusal::Refusal;
 use std::marker::Model;
 
 /// A table that can be written anew: its directories nest, and its names end within it. Contracts see its bytes.
+// Kept: beside `fst::Table`, which asks that opening accepts the table: what is measured and written is any `Valid` one.
+// No derived equality: nothing compares two tables, and a type with a `Model` takes no derived one.
 #[derive(Drop)]
 pub struct Source<'a> {
     bytes: &'a [u8],
@@ -29,7 +31,8 @@ impl<'a> Model for Source<'a> {
 }
 
 impl<'a> Source<'a> {
-    /// A table that the checks accepted.
+    /// A table that the checks accepted, or any other that is `Valid`.
+    // Kept: `Valid` in three contracts: here bytes become a `Source`, and the two public calls take bytes.
     pub fn new(bytes: &'a [u8]) -> Self
         requires { Valid bytes.now (table_of.count bytes.now) }
         ensures { result ≡ bytes.now }
@@ -92,7 +95,8 @@ impl<'a> Source<'a> {
 
     /// The name of entry k, which is not the root, without its zero byte.
     pub fn name(&self, k: usize) -> &'a [u8]
-        requires { (0 < k) × (k < table_of.count self.now) }
+        requires further { 0 < k }
+        requires within { k < table_of.count self.now }
         ensures { result.now ≡ name_at self.now (table_of.count self.now) (nameOffset self.now k) }
     {
         let from = 12 * self.count + endian::read_u24(self.bytes, 12 * k + 1) as usize;
@@ -106,6 +110,7 @@ impl<'a> Source<'a> {
     {
         let count = self.count();
         let mut size = 12;
+        // Kept: a range of numbers: an entry is known by its number, and there is no slice of entries.
         for k in 1..count {
             let name = self.name(k).len();
             // The texts so far are what is measured but for k records.

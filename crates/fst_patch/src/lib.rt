@@ -90,6 +90,7 @@ fn new_start(table: &[u8], size: usize, count: usize, q: usize) -> usize
 
 /// Puts an empty directory or an empty file in as the last child of directory p of the table that stands in the first
 /// `size` bytes, and returns its number. The new table has 12 + name.len() + 1 bytes more.
+// Kept: the directory, the kind and the name are no struct: `NewEntry` has the number and the start too, which are read here.
 pub fn insert(table: &mut [u8], size: usize, p: usize, kind: Kind, name: &[u8]) -> usize
     requires { Insertable table.old size p (length name.now) }
     ensures value { result ≡ sizeOrNext table.old p }

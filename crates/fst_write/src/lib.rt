@@ -1,5 +1,6 @@
-// The file table written anew, with no name shared: an entry that is a directory writes that directory, and a directory writes its entries.
-// The table is in preorder, so what is written is what `writeFlat` writes, entry by entry, and that is `encode` of the table's entries.
+// The file table written anew, with no name shared: an entry that is a directory writes that directory, and a directory
+// writes its entries. The table is in preorder, so what is written is what `writeFlat` writes, entry by entry, and that
+// is `encode` of the table's entries.
 #![tactic(auto)]
 
 ghost use Rattle.std.specs.Prelude.{◌≡◌, ◌+◌, ◌≤◌, ◌<◌, ◌^◌, length};
@@ -13,6 +14,10 @@ use fst_measure::{Kind, Source};
 use fst_record::Record;
 
 // The lent bytes, where the table goes, and the place among them where the next name goes.
+// Kept: the table is handed on, and no field: behind a `source: &Source` here an entry took 97 instructions in place of 89,
+// and 16,384 of them 175 and 180 microseconds in place of 170 and 174. With the `Source` itself as a field,
+// `write_table` knew only the length of the lent bytes in the end, and its proof did not close.
+// Kept: `HasRoom` in three contracts: each is about other entries: one, one with all in it, all in a directory.
 #[derive(Drop)]
 struct Writer<'o> {
     out: &'o mut [u8],
@@ -47,6 +52,7 @@ impl<'o> Writer<'o> {
     }
 
     // Writes entry k, and if it is a directory all that is in it, and returns the entry after it in its directory.
+    // Its kind is read once: only a directory's is looked at again, for the entry after it.
     #[cycle(write_directory_write_entry)]
     fn write_entry(&mut self, source: &Source<'_>, k: usize, parent: u32) -> usize
         requires further { 0 < k }
@@ -85,7 +91,7 @@ impl<'o> Writer<'o> {
         // One of its own, which no write can change: so it is not read again after each.
         let source = source.reborrow();
         let mut c = k + 1;
-        // Kept: `write_entry` returns the next child; an iterator, a type of its own, would look it up a second time.
+        // Kept: `write_entry` returns the next child; an iterator, a type of its own, would look it up again.
         while c < stop {
             c = self.write_entry(&source, c, k as u32);
         }
@@ -110,7 +116,8 @@ fn write_root(out: &mut [u8], count: usize)
 /// Writes the whole table, and returns its size in bytes.
 pub fn write_table(table: &[u8], out: &mut [u8]) -> usize
     requires valid { Valid table.now (count table.now) }
-    requires table_in_bounds { (length (encode (nodesOf table.now)) ≤ length out.old) × (length (encode (nodesOf table.now)) ≤ 2 ^ 24) }
+    requires table_in_bounds { (length (encode (nodesOf table.now)) ≤ length out.old)
+        × (length (encode (nodesOf table.now)) ≤ 2 ^ 24) }
     ensures value { result ≡ length (encode (nodesOf table.now)) }
     ensures out_after { out.new ≡ put out.old 0 (encode (nodesOf table.now)) }
 {

@@ -1,5 +1,5 @@
--- The size of a table as it will be written, no name shared: its length, which is "12 for the root, and for each further entry 12, its name and
--- one" (document 02; the law is `Size` of tree), or that its texts pass the limit (document 01: "texts over 1,048,576 bytes (9)").
+-- The size of a table as it will be written, no name shared: its length, which is 12 for the root, and for each further
+-- entry 12, its name and one (the law is `Size` of tree), or 9, since its texts are over 1,048,576 bytes.
 -- Assumes nothing: these are definitions.
 use Rattle.std.specs.Prelude.{ℕ, cond, length, ltb, Result, Ok, Err}
 use mathlib.Core.List.{List, tail}
