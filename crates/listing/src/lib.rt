@@ -5,7 +5,7 @@ ghost use Rattle.std.specs.Prelude.{◌≡◌, ℕ, List, cond, ltb, length};
 ghost use Rattle.endian.specs.Bytes.{put};
 ghost use Rattle.opening.specs.Opening.{zeros};
 ghost use Rattle.answers.specs.Answers.{behind};
-ghost use Rattle.text_buffer.specs.Inner.Writing.{Wrote, Appends};
+ghost use Rattle.text_buffer.specs.Inner.Writing.{Appends};
 ghost use Rattle.listing.specs.Inner.Fits.{Laid, listed_or, laid_or, text_of};
 ghost use Rattle.listing.specs.Listing.{listingText, listAnswer, listBuffer, refusedText, reportVerdict, reportAnswer, reportBuffer};
 
