@@ -1,12 +1,18 @@
 -- The lengths of texts that share their ends.
 -- Assumes nothing.
 use Prim.Native.Nat.{ℕ, zero, suc, ◌+◌, ◌-◌, ◌*◌, ◌<◌, ◌≤◌, ◌^◌}
-use mathlib.Core.Path.{◌≡◌, ◌∙◌}
+use mathlib.Core.Path.{◌≡◌, refl, sym, ap, ◌∙◌}
 use mathlib.Core.Logic.{⊎_elim}
-use mathlib.Core.List.{List}
+use mathlib.Core.Bool.{Bool, true, false, cond}
+use mathlib.Core.List.{List, [], ◌∷◌}
 use native.Mathlib.Omega.{arith}
-use lib.ListN.{length, get_or, set, replicate, length-set, length-replicate, get_or-replicate}
-use lib.Seq.{get_or-set_same, get_or-set_other}
+use borrow.Author.Tests.{ltb-true, ltb-false, ne_eqb}
+use lib.ListN.{length, get_or, set, replicate, take, drop, length-set, length-replicate, get_or-replicate, length-drop}
+use lib.Seq.{get_or-set_same, get_or-set_other, drop-drop}
+use lib.Dec.{ltb, eqb}
+use Rattle.std.specs.Prelude.{Some, None, unwrap_or}
+use Rattle.std.specs.List.{position, position_or_len}
+use Rattle.tree.specs.Table.{upTo0}
 use Rattle.refusal.specs.Laws.Tests.{lt-or-le}
 use Rattle.fst_text.specs.Inner.Texts.{textAt}
 use Rattle.fst_text.proofs.Texts.{length-end, length-turn}
@@ -45,3 +51,34 @@ ends-turn tab ends at b v e l p q is low = record {
 
     other : (j : ℕ) → j < 320 → (j ≡ b → ⊥) → 0 < get_or (set ends b v) j 0 → get_or (set ends b v) j 0 ≡ 4096 * j + length (textAt tab (4096 * j))
     other j m n = rw (get_or-set_other ends b j v 0 n) (e.each j m)
+
+-- ---- a text that another stands behind: it ends before that one, or with it
+
+found-before : (s : List ℕ) (n : ℕ) → position_or_len (λ b. eqb b 0) (take n s) < length (take n s) → length (upTo0 s) ≡ position_or_len (λ b. eqb b 0) (take n s)
+found-before [] zero h = absurd (omega arith)
+found-before [] (suc n) h = absurd (omega arith)
+found-before (b ∷ s) zero h = absurd (omega arith)
+found-before (zero ∷ s) (suc n) h = refl
+found-before (suc b ∷ s) (suc n) h =
+    let z : eqb (suc b) 0 ≡ false = ne_eqb (suc b) 0 (λ e. omega arith) in
+    let q : position_or_len (λ b. eqb b 0) (take (suc n) (suc b ∷ s)) ≡ 1 + position_or_len (λ b. eqb b 0) (take n s) = rw z in omega (arith, q, found-before s n (omega (arith, q)))
+
+none-before : (s : List ℕ) (n : ℕ) → length (upTo0 s) < length s → length (take n s) ≤ position_or_len (λ b. eqb b 0) (take n s) → length (upTo0 s) ≡ n + length (upTo0 (drop n s))
+none-before [] n h l = absurd (omega arith)
+none-before (b ∷ s) zero h l = omega arith
+none-before (zero ∷ s) (suc n) h l = absurd (omega arith)
+none-before (suc b ∷ s) (suc n) h l =
+    let z : eqb (suc b) 0 ≡ false = ne_eqb (suc b) 0 (λ e. omega arith) in
+    let q : position_or_len (λ b. eqb b 0) (take (suc n) (suc b ∷ s)) ≡ 1 + position_or_len (λ b. eqb b 0) (take n s) = rw z in omega (arith, none-before s n (omega arith) (omega (arith, q)))
+
+module _ (tab : List ℕ) (at stop end : ℕ) (inside : at + length (textAt tab at) < length tab) (before : at ≤ stop) (ends : end ≡ stop + length (textAt tab stop)) where
+  pub before-or-with : unwrap_or (position (λ b. eqb b 0) (take (stop - at) (drop at tab))) (end - at) ≡ length (textAt tab at)
+  before-or-with = go (ltb (position_or_len (λ b. eqb b 0) (take (stop - at) (drop at tab))) (length (take (stop - at) (drop at tab)))) refl
+    where
+      go : (t : Bool) → ltb (position_or_len (λ b. eqb b 0) (take (stop - at) (drop at tab))) (length (take (stop - at) (drop at tab))) ≡ t
+          → unwrap_or (cond t (Some (position_or_len (λ b. eqb b 0) (take (stop - at) (drop at tab)))) None) (end - at) ≡ length (textAt tab at)
+      go true e = sym (found-before (drop at tab) (stop - at) (ltb-true _ _ e))
+      go false e =
+          let n : at + (stop - at) ≡ stop = omega arith in
+          let d : drop (stop - at) (drop at tab) ≡ drop stop tab = drop-drop (stop - at) at tab ∙ ap (λ (i : ℕ). drop i tab) n in
+          omega (arith, none-before (drop at tab) (stop - at) (omega (arith, length-drop at tab)) (ltb-false _ _ e), ap (λ (s : List ℕ). length (upTo0 s)) d)

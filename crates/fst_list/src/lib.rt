@@ -1,7 +1,8 @@
 // All entries of an accepted table at once.
 #![tactic(auto)]
 
-ghost use Rattle.std.specs.Prelude.{◌≡◌, [], ◌∷◌, ◌+◌, ◌*◌, ◌≤◌, ◌<◌, ◌^◌, length, get_or};
+ghost use Rattle.std.specs.Prelude.{◌≡◌, [], ◌∷◌, ◌+◌, ◌*◌, ◌≤◌, ◌<◌, ◌^◌, eqb, length, take, get_or};
+ghost use Rattle.std.specs.List.{position};
 ghost use Rattle.endian.specs.Bytes.{put};
 ghost use Rattle.tree.specs.Table as table_of;
 ghost use Rattle.tree.specs.Table.{none, nodesOf, name_of, parent_of};
@@ -13,6 +14,13 @@ ghost use Rattle.fst_list.specs.Inner.Ends.{EndsIn};
 use fst::Table;
 use refusal::{Refusal, Verdict};
 
+// Where the first zero byte is, if it is one of so many bytes.
+fn zero_within(text: &[u8], most: usize) -> Option<usize>
+    ensures { result ≡ position (λ byte. eqb byte 0) (take most text.now) }
+{
+    text.iter().take(most).position(|&byte| byte == 0)
+}
+
 // The length of the text at `at`, where the text at `stop` behind it ends at `end`.
 fn length_before(table: &[u8], at: usize, stop: usize, end: usize) -> usize
     requires inside { at + length (textAt table.now at) < length table.now }
@@ -20,12 +28,7 @@ fn length_before(table: &[u8], at: usize, stop: usize, end: usize) -> usize
     requires ends { end ≡ stop + length (textAt table.now stop) }
     ensures { result ≡ length (textAt table.now at) }
 {
-    for i in at..stop {
-        if table[i] == 0 {
-            return i - at;
-        }
-    }
-    end - at
+    zero_within(&table[at..], stop - at).unwrap_or(end - at)
 }
 
 // Where long texts of a table end. Of each 4,096 bytes `ends` has where the text that stands at their start ends, or 0; a text longer than that

@@ -1,5 +1,5 @@
 -- The answers and the buffers of `list` and `report` by what was measured and written. Assumes nothing.
-use Rattle.std.specs.Prelude.{Result, Ok, Err}
+use Rattle.std.specs.Prelude.{Option, Some, None, unwrap_or, Result, Ok, Err}
 use Rattle.refusal.specs.Refusal.{Verdict}
 use Prim.Native.Nat.{ℕ, ◌<◌, ◌≤◌, ◌^◌}
 use mathlib.Core.Path.{◌≡◌, refl, ap}
@@ -23,7 +23,7 @@ use Rattle.free_space.specs.Inner.UsedSpace.{UsedSpace, free_in}
 use Rattle.opening.specs.Opening.{opening}
 use Rattle.opened.specs.Inner.Disc.{Disc, free_of, Means}
 use Rattle.opened.specs.Laws.Meant.{end_meant, nodes_meant, total_meant, free_meant}
-use Rattle.listing.specs.Inner.Fits.{listed_or, laid_or, text_of}
+use Rattle.listing.specs.Inner.Fits.{size_or, listed_or, laid_or, text_of}
 use Rattle.answers.specs.Answers.{behind}
 use Rattle.listing_text.specs.Lines.{totalsLine, entryLines, regionLines}
 use Rattle.listing.specs.Listing.{listingText, listingVerdict, listAnswer, listBuffer, refusedText, reportVerdict, reportText, reportAnswer, reportBuffer}
@@ -52,14 +52,19 @@ module _ (text : List ℕ) {none none' bs : List ℕ} {size : ℕ} (w : Wrote no
   written : {text' : List ℕ} {r : ℕ} → size ≤ length text → Wrote text text' 0 bs r → (r ≡ length bs) × (text' ≡ put text 0 bs)
   written h v = let s = short h in (omega (arith, v.stop, s.0, s.1), v.laid (omega (arith, s.1)) (omega (arith, s.1)))
 
-  module _ (whole : List ℕ) (is : bs ≡ whole) where
-    pub fits-short : length text < size → (Err LimitOrMemory ≡ listed_or (length text) whole) × (text ≡ laid_or text whole)
-    fits-short h = let t = rw is at (lt-ltb (length text) (length bs) (too_long h)) in (rw t, rw t)
+  pub fits-short : length text < size → (None ≡ size_or (length text) bs) × (text ≡ laid_or text bs)
+  fits-short h = let t = lt-ltb (length text) (length bs) (too_long h) in (rw t, rw t)
 
-    pub fits-whole : {text' : List ℕ} {r : ℕ} → size ≤ length text → Wrote text text' 0 bs r → (Ok size ≡ listed_or (length text) whole) × (text' ≡ laid_or text whole)
-    fits-whole h v =
-        let t = rw is at (le-ltb (length text) (length bs) (short h).1) in
-        (rw t (ap Ok (rw is at (short h).0)), rw t (rw is at (written h v).1))
+  pub fits-whole : {text' : List ℕ} {r : ℕ} → size ≤ length text → Wrote text text' 0 bs r → (Some size ≡ size_or (length text) bs) × (text' ≡ laid_or text bs)
+  fits-whole h v = let t = le-ltb (length text) (length bs) (short h).1 in (rw t (ap Some (short h).0), rw t (written h v).1)
+
+-- 0 where there is no room
+pub size-told : (room : ℕ) (bs : List ℕ) (r : Option ℕ) → r ≡ size_or room bs → unwrap_or r 0 ≡ cond (ltb room (length bs)) 0 (length bs)
+size-told room bs r e = rw e (go (ltb room (length bs)))
+  where
+    go : (t : Bool) → unwrap_or (cond t None (Some (length bs))) 0 ≡ cond t 0 (length bs)
+    go true = refl
+    go false = refl
 
 -- ---- behind opening
 

@@ -1,12 +1,12 @@
 // The listing of an image as text, and what the listing program writes.
 #![tactic(auto)]
 
-ghost use Rattle.std.specs.Prelude.{◌≡◌, cond, ltb, length};
+ghost use Rattle.std.specs.Prelude.{◌≡◌, ℕ, List, cond, ltb, length};
 ghost use Rattle.endian.specs.Bytes.{put};
 ghost use Rattle.opening.specs.Opening.{zeros};
 ghost use Rattle.answers.specs.Answers.{behind};
-ghost use Rattle.text_buffer.specs.Inner.Writing.{Wrote, Appends};
-ghost use Rattle.listing.specs.Inner.Fits.{listed_or, laid_or, text_of};
+ghost use Rattle.text_buffer.specs.Inner.Writing.{Appends};
+ghost use Rattle.listing.specs.Inner.Fits.{Laid, listed_or, laid_or, text_of};
 ghost use Rattle.listing.specs.Listing.{listingText, listAnswer, listBuffer, refusedText, reportVerdict, reportAnswer, reportBuffer};
 
 use fst::Table;
@@ -23,29 +23,35 @@ fn push_disc(text: &mut TextBuffer<'_>, disc: &OpenDisc<'_>)
     listing_text::put_lines(&table, disc.end(), &used, text);
 }
 
-// The same in front of a text, as far as it reaches; gives their length.
-fn put_disc(text: &mut [u8], disc: &OpenDisc<'_>) -> usize
-    ensures { Wrote text.old text.new 0 (text_of disc.now) result }
+// What `put` appends, in front of a text that has room for it: its length. It is measured first, so that a text that is too short stays as it
+// is.
+fn put_whole<F: Fn(&mut TextBuffer<'_>)>(text: &mut [u8], put: F) -> Option<usize>
+    requires { F.IsAlwaysCallable put }
+    ensures { (bs : List ℕ) → ((t t' : _) → F.post put t tt t' → Appends t.now t'.now bs) → Laid text.old text.new result bs }
 {
-    let mut buffer = TextBuffer::new(text);
-    push_disc(&mut buffer, disc);
-    buffer.len
+    // Kept: a single byte is lent, in which nothing but the length is told.
+    let mut byte = [0; 1];
+    let mut measured = TextBuffer::new(&mut byte);
+    put(&mut measured);
+    let size = measured.len;
+    if text.len() < size {
+        return None;
+    }
+    let mut whole = TextBuffer::new(text);
+    put(&mut whole);
+    Some(size)
 }
 
-// The listing of an open disc: measured first, so that a short buffer stays as it is.
+// The listing of an open disc.
 fn list_disc(disc: &OpenDisc<'_>, text: &mut [u8]) -> Result<usize, Refusal>
     ensures answer { result ≡ listed_or (length text.old) (text_of disc.now) }
     ensures text_after { text.new ≡ laid_or text.old (text_of disc.now) }
 {
-    let size = put_disc(&mut [0; 1], disc);
-    if text.len() < size {
-        return Err(Refusal::LimitOrMemory);
-    }
-    put_disc(text, disc);
-    Ok(size)
+    put_whole(text, |buffer| push_disc(buffer, disc)).ok_or(Refusal::LimitOrMemory)
 }
 
 // The listing of an image, the words left as opening leaves them.
+// Kept: image, words and text are what each call of the library is lent, here and in the three functions below that have them.
 fn list_image(image: &[u8], words: &mut [u32], text: &mut [u8]) -> Result<usize, Refusal>
     ensures answer { result ≡ listAnswer image.now (length words.old) (length text.old) }
     ensures text_after { text.new ≡ listBuffer image.now (length words.old) text.old }
@@ -75,25 +81,12 @@ fn push_refused(text: &mut TextBuffer<'_>, cause: Refusal)
     text.push(b'\n');
 }
 
-// The same in front of a text, as far as it reaches; gives its length.
-fn put_refused(text: &mut [u8], cause: Refusal) -> usize
-    ensures { Wrote text.old text.new 0 (refusedText cause) result }
-{
-    let mut buffer = TextBuffer::new(text);
-    push_refused(&mut buffer, cause);
-    buffer.len
-}
-
 // The same for a buffer that has room for it; otherwise nothing.
 fn write_refused(text: &mut [u8], cause: Refusal) -> usize
     ensures answer { result ≡ cond (ltb (length text.old) (length (refusedText cause))) 0 (length (refusedText cause)) }
     ensures text_after { text.new ≡ laid_or text.old (refusedText cause) }
 {
-    let size = put_refused(&mut [0; 1], cause);
-    if text.len() < size {
-        return 0;
-    }
-    put_refused(text, cause)
+    put_whole(text, |buffer| push_refused(buffer, cause)).unwrap_or(0)
 }
 
 // The listing of an image of at most so many bytes.

@@ -1,11 +1,15 @@
 -- A text in front of a buffer, if the buffer has room for it; and the text of a disc. Assumes nothing: these are definitions.
-use Rattle.std.specs.Prelude.{Result, Ok, Err, ℕ, cond, List, ◌++◌, ltb, length}
+use Rattle.std.specs.Prelude.{Option, Some, None, Result, Ok, Err, ℕ, cond, List, ◌++◌, ltb, length, ◌≡◌}
 use Rattle.endian.specs.Bytes.{put}
 use Rattle.refusal.specs.declared.Refusal.{Refusal}
 use Rattle.refusal.specs.declared.Refusal.TheVariants.{LimitOrMemory}
 use Rattle.space.specs.Used.{totalSize}
 use Rattle.opened.specs.Inner.Disc.{Disc, free_of}
 use Rattle.listing_text.specs.Lines.{totalsLine, entryLines, regionLines}
+
+-- how long it is, if there is room for it
+abbrev pub size_or : ℕ → List ℕ → Option ℕ
+size_or room bs = cond (ltb room (length bs)) None (Some (length bs))
 
 -- how long it is, or 9
 abbrev pub listed_or : ℕ → List ℕ → Result ℕ Refusal
@@ -14,6 +18,10 @@ listed_or room bs = cond (ltb room (length bs)) (Err LimitOrMemory) (Ok (length 
 -- the buffer with the text in front, or as it was
 abbrev pub laid_or : List ℕ → List ℕ → List ℕ
 laid_or text bs = cond (ltb (length text) (length bs)) text (put text 0 bs)
+
+-- the length that is given, and the buffer afterwards
+abbrev pub Laid : List ℕ → List ℕ → Option ℕ → List ℕ → Type 0
+Laid text text' size bs = (size ≡ size_or (length text) bs) × (text' ≡ laid_or text bs)
 
 -- the lines of a disc
 unfoldable pub text_of : Disc → List ℕ
