@@ -78,6 +78,7 @@ pub fn program(image: &[u8], words: &mut [u32]) -> Program
     program::read(image)
 }
 
+// Kept: image, words and list are what a caller lends to each call, as C does.
 /// The free regions, an offset and a size each, into `list`; how many there are. Refuses 9, with nothing written, if
 /// the list is short.
 pub fn free_regions(image: &[u8], words: &mut [u32], list: &mut [u32]) -> Result<usize, Refusal>

@@ -59,6 +59,7 @@ pub fn write_u32(s: &mut [u8], at: usize, v: u32)
 }
 
 /// Copies n bytes from `from` of one slice to `to` of another.
+// Kept: here and below two places and a length; a struct of them would be made for one call each.
 pub fn copy(source: &[u8], from: usize, s: &mut [u8], to: usize, n: usize)
     requires { (from + n ≤ length source.now) × (to + n ≤ length s.old) }
     ensures { s.new ≡ put s.old to (span source.now from n) }

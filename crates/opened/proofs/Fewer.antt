@@ -1,6 +1,6 @@
 -- The first of the regions that stand in words in order: they stand in order too. Assumes nothing.
 use Prim.Native.Nat.{ℕ, zero, suc, ◌≤◌}
-use Rattle.std.specs.Prelude.{◌≡◌, true, ◌&&◌, List, leb}
+use Rattle.std.specs.Prelude.{◌≡◌, true, List, leb}
 use Rattle.std.proofs.Common.{arith}
 use borrow.Author.Tests.{le-leb}
 use Rattle.refusal.specs.Laws.Tests.{and_left, and_right}

@@ -27,6 +27,7 @@ impl Zero for u32 {
 }
 
 /// Words or bytes that are zero again when this is dropped, on every way out.
+// Kept: no derived equality, which would ask whether two callers' memory holds the same.
 pub struct Lent<'a, T: Zero> {
     pub memory: &'a mut [T],
 }

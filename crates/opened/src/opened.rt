@@ -22,6 +22,7 @@ use space::DiscRegion;
 use std::marker::Model;
 
 /// A disc that passed every test, with its used regions in order in the words that were lent.
+// Kept: no derived equality, which would compare all lent words, those behind the used regions too.
 #[derive(Drop)]
 pub struct OpenDisc<'a> {
     /// The first 0x440 bytes of the image.
@@ -29,6 +30,7 @@ pub struct OpenDisc<'a> {
     /// The file table's bytes.
     pub table: &'a [u8],
     /// The region of the program where it lies behind the table, of size 0 elsewhere.
+    // Kept: no `Option`, which is no plainer: the definitions have a region without bytes there too (`ownRegion`).
     pub own: DiscRegion,
     /// The lent words: first the used regions, an offset and a size each.
     pub words: &'a [u32],
