@@ -21,7 +21,7 @@ use Rattle.ledger.specs.Runs.{Passable}
 use Rattle.ledger.proofs.Laws.Layout.{Lays}
 use Rattle.ledger.proofs.Laws.TreeAfter.{arrives}
 use Rattle.commit.specs.declared.Decision.{Decision}
-use Rattle.commit.specs.Inner.Decision.{CanCarry, carriedAnswer, carriedImage, DecidedAs}
+use Rattle.commit.specs.Inner.Decision.{carriedAnswer, carriedImage, DecidedAs}
 use Rattle.commit.proofs.Decisions.{answered}
 use Rattle.totals_after.specs.Inner.Accounting.{OfUsed, Accounted, accounted, accountOf, AccountedFor}
 use Rattle.totals_after.specs.Laws.AccountLaws as laws
