@@ -1,6 +1,7 @@
 // A value or a refusal in C: 0 and the value in the memory that the caller lends, or the refusal's number and that memory as it was.
 ghost use Rattle.std.specs.Prelude.{◌≡◌, ℕ, List, []};
-ghost use Rattle.counter.specs.Replies.{numberTold, slotsTold, discWords, discTotalsWords, regionWords, one, windowWords, totalsWords};
+ghost use Rattle.counter.specs.Replies.{numberTold, slotsTold, discWords, discTotalsWords, regionWords, one};
+ghost use Rattle.counter.specs.Replies.{windowWords, totalsWords};
 
 use answers::Disc;
 use disc::DiscTotals;
@@ -64,7 +65,8 @@ impl Value for Totals {
     ghost words = { totalsWords };
 }
 
-// What has no struct of its own.
+// An entry, which is a file or a directory.
+// Kept: the four words that counter.h lends; an enum has no such form in C (C).
 impl Value for [u32; 4] {
     ghost words = { λ ws. ws };
 }

@@ -9,6 +9,8 @@ use insert::{Kind, NewEntry};
 use pipeline::Edit;
 use totals::Totals;
 
+// Kept: image, words, bytes and record go one by one, since C lends each by itself (C).
+
 // An edit that gives only that it is done.
 fn give_done(
     image: &mut [u8],
@@ -17,7 +19,8 @@ fn give_done(
     totals: &mut Totals,
     edit: Edit<'_>,
 ) -> u32
-    ensures { Edited done (editOf edit.entry) (lent image.old words.old bytes.old totals.old) (lent image.new words.new bytes.new totals.new) result }
+    ensures { Edited done (editOf edit.entry) (lent image.old words.old bytes.old totals.old)
+        (lent image.new words.new bytes.new totals.new) result }
 {
     give(&mut (), pipeline::done(image, words, bytes, totals, edit))
 }
@@ -31,7 +34,8 @@ pub extern "C" fn counter_move_file(
     file: u32,
     offset: u32,
 ) -> u32
-    ensures { Edited done (edits.moveFile file offset) (lent image.old words.old bytes.old totals.old) (lent image.new words.new bytes.new totals.new) result }
+    ensures { Edited done (edits.moveFile file offset) (lent image.old words.old bytes.old totals.old)
+        (lent image.new words.new bytes.new totals.new) result }
 {
     give_done(image, words, bytes, totals, Edit::Move { file, offset })
 }
@@ -45,7 +49,8 @@ pub extern "C" fn counter_resize_file(
     file: u32,
     size: u32,
 ) -> u32
-    ensures { Edited done (edits.resizeFile file size) (lent image.old words.old bytes.old totals.old) (lent image.new words.new bytes.new totals.new) result }
+    ensures { Edited done (edits.resizeFile file size) (lent image.old words.old bytes.old totals.old)
+        (lent image.new words.new bytes.new totals.new) result }
 {
     give_done(image, words, bytes, totals, Edit::Resize { file, size })
 }
@@ -59,7 +64,8 @@ pub extern "C" fn counter_fill_file(
     file: u32,
     clip: &[u8],
 ) -> u32
-    ensures { Edited done (edits.fillFile file clip.now) (lent image.old words.old bytes.old totals.old) (lent image.new words.new bytes.new totals.new) result }
+    ensures { Edited done (edits.fillFile file clip.now) (lent image.old words.old bytes.old totals.old)
+        (lent image.new words.new bytes.new totals.new) result }
 {
     give_done(image, words, bytes, totals, Edit::Fill { file, clip })
 }
@@ -71,7 +77,8 @@ pub extern "C" fn counter_rewrite(
     bytes: &mut [u8],
     totals: &mut Totals,
 ) -> u32
-    ensures { Edited done edits.rewrite (lent image.old words.old bytes.old totals.old) (lent image.new words.new bytes.new totals.new) result }
+    ensures { Edited done edits.rewrite (lent image.old words.old bytes.old totals.old)
+        (lent image.new words.new bytes.new totals.new) result }
 {
     give_done(image, words, bytes, totals, Edit::Rewrite)
 }
@@ -86,7 +93,9 @@ fn give_entry(
     edit: Edit<'_>,
     answer: &mut u32,
 ) -> u32
-    ensures { Edited (numbered (one answer.old)) (editOf edit.entry) (lent image.old words.old bytes.old totals.old) (lent image.new words.new bytes.new totals.new) (reply result (one answer.new)) }
+    ensures { Edited (numbered (one answer.old)) (editOf edit.entry)
+        (lent image.old words.old bytes.old totals.old) (lent image.new words.new bytes.new totals.new)
+        (reply result (one answer.new)) }
 {
     give(answer, pipeline::run(image, words, bytes, totals, edit))
 }
@@ -101,7 +110,9 @@ pub extern "C" fn counter_insert_file(
     name: &[u8],
     answer: &mut u32,
 ) -> u32
-    ensures { Edited (numbered (one answer.old)) (edits.insertFile parent name.now) (lent image.old words.old bytes.old totals.old) (lent image.new words.new bytes.new totals.new) (reply result (one answer.new)) }
+    ensures { Edited (numbered (one answer.old)) (edits.insertFile parent name.now)
+        (lent image.old words.old bytes.old totals.old) (lent image.new words.new bytes.new totals.new)
+        (reply result (one answer.new)) }
 {
     let kind = Kind::File;
     let new = NewEntry { parent, kind, name };
@@ -118,7 +129,9 @@ pub extern "C" fn counter_insert_directory(
     name: &[u8],
     answer: &mut u32,
 ) -> u32
-    ensures { Edited (numbered (one answer.old)) (edits.insertDirectory parent name.now) (lent image.old words.old bytes.old totals.old) (lent image.new words.new bytes.new totals.new) (reply result (one answer.new)) }
+    ensures { Edited (numbered (one answer.old)) (edits.insertDirectory parent name.now)
+        (lent image.old words.old bytes.old totals.old) (lent image.new words.new bytes.new totals.new)
+        (reply result (one answer.new)) }
 {
     let kind = Kind::Directory;
     let new = NewEntry { parent, kind, name };
@@ -135,7 +148,9 @@ pub extern "C" fn counter_make_directories(
     path: &[u8],
     answer: &mut u32,
 ) -> u32
-    ensures { Edited (numbered (one answer.old)) (edits.makeDirectories start path.now) (lent image.old words.old bytes.old totals.old) (lent image.new words.new bytes.new totals.new) (reply result (one answer.new)) }
+    ensures { Edited (numbered (one answer.old)) (edits.makeDirectories start path.now)
+        (lent image.old words.old bytes.old totals.old) (lent image.new words.new bytes.new totals.new)
+        (reply result (one answer.new)) }
 {
     give_entry(
         image,

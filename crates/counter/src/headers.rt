@@ -2,7 +2,8 @@
 ghost use Rattle.std.specs.Prelude.{◌≡◌, length, take};
 ghost use Rattle.header.specs.Verdicts.{headerVerdict};
 ghost use Rattle.files.specs.Files.{openDolAnswer};
-ghost use Rattle.counter.specs.Replies.{Read, reply, verdictReply, dolWords, dolReply, windowWords, dolWindowReply};
+ghost use Rattle.counter.specs.Replies.{Read, reply, verdictReply, dolWords, dolReply, windowWords};
+ghost use Rattle.counter.specs.Replies.{dolWindowReply};
 
 use crate::answer::give;
 use disc_header::DiscHeader;
@@ -10,9 +11,11 @@ use dol::DolHeader;
 use window::Window;
 
 // The header is read field by field, and written back: the image's first 0x440 bytes.
+// Kept: an array, since the header of a disc has that many bytes, and C lends them (C).
 #[unsafe(no_mangle)]
 pub extern "C" fn counter_header(image: &[u8], fields: &mut [u8; 0x440]) -> u32
-    ensures { reply result fields.new ≡ verdictReply fields.old (headerVerdict image.now) (take 0x440 image.now) }
+    ensures { reply result fields.new
+        ≡ verdictReply fields.old (headerVerdict image.now) (take 0x440 image.now) }
 {
     match DiscHeader::read_from(image) {
         Ok(header) => give(&mut (), header.write_to(fields)),
@@ -29,8 +32,10 @@ pub extern "C" fn counter_open_dol(
     header: &mut DolHeader,
     window: &mut Window,
 ) -> u32
-    ensures answer { Read (dolReply (dolWords header.old) (openDolAnswer image.now (length words.old))) (reply result (dolWords header.new)) words.old words.new }
-    ensures window_after { reply result (windowWords window.new) ≡ dolWindowReply (windowWords window.old) (openDolAnswer image.now (length words.old)) }
+    ensures answer { Read (dolReply (dolWords header.old) (openDolAnswer image.now (length words.old)))
+        (reply result (dolWords header.new)) words.old words.new }
+    ensures window_after { reply result (windowWords window.new)
+        ≡ dolWindowReply (windowWords window.old) (openDolAnswer image.now (length words.old)) }
 {
     match files::open_dol(image, words) {
         Ok(file) => {

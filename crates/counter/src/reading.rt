@@ -2,7 +2,8 @@
 ghost use Rattle.std.specs.Prelude.{◌≡◌, length};
 ghost use Rattle.disc.specs.Calls.{opened_of, totalsAnswer, recordAnswer, programAnswer};
 ghost use Rattle.files.specs.Files.{entryAnswer, lookupAnswer, entriesAnswer, entriesList};
-ghost use Rattle.counter.specs.Replies.{Read, reply, replied, discWords, discTotalsWords, totalsWords, regionWords, foundReply, programReply};
+ghost use Rattle.counter.specs.Replies.{Read, reply, replied, discWords, discTotalsWords, totalsWords};
+ghost use Rattle.counter.specs.Replies.{regionWords, foundReply, programReply};
 
 use crate::answer::give;
 use answers::Disc;
@@ -13,6 +14,7 @@ use tree::{Entry, Found};
 
 // ---- an answer that two calls give
 
+// Kept: four words, since what the last two mean goes by the second, which C reads as a number (C).
 #[tactic(auto, unfolding(crate::specs::Replies::foundReply))]
 fn give_found(answer: &mut [u32; 4], found: Found) -> u32
     ensures { reply result answer.new ≡ foundReply answer.old found }
@@ -33,14 +35,17 @@ fn give_found(answer: &mut [u32; 4], found: Found) -> u32
 
 #[unsafe(no_mangle)]
 pub extern "C" fn counter_open(image: &[u8], words: &mut [u32], answer: &mut Disc) -> u32
-    ensures { Read (replied discWords (discWords answer.old) (opened_of image.now (length words.old))) (reply result (discWords answer.new)) words.old words.new }
+    ensures { Read (replied discWords (discWords answer.old) (opened_of image.now (length words.old)))
+        (reply result (discWords answer.new)) words.old words.new }
 {
     give(answer, disc::open(image, words))
 }
 
 #[unsafe(no_mangle)]
 pub extern "C" fn counter_totals(image: &[u8], words: &mut [u32], answer: &mut DiscTotals) -> u32
-    ensures { Read (replied discTotalsWords (discTotalsWords answer.old) (totalsAnswer image.now (length words.old))) (reply result (discTotalsWords answer.new)) words.old words.new }
+    ensures { Read (replied discTotalsWords (discTotalsWords answer.old)
+        (totalsAnswer image.now (length words.old))) (reply result (discTotalsWords answer.new)) words.old
+        words.new }
 {
     give(answer, disc::totals(image, words))
 }
@@ -48,16 +53,19 @@ pub extern "C" fn counter_totals(image: &[u8], words: &mut [u32], answer: &mut D
 // A totals record of the image, its count 0: used bytes, the largest free region's size, accepted edits.
 #[unsafe(no_mangle)]
 pub extern "C" fn counter_make_record(image: &[u8], words: &mut [u32], totals: &mut Totals) -> u32
-    ensures { Read (replied totalsWords (totalsWords totals.old) (recordAnswer image.now (length words.old))) (reply result (totalsWords totals.new)) words.old words.new }
+    ensures { Read (replied totalsWords (totalsWords totals.old) (recordAnswer image.now (length words.old)))
+        (reply result (totalsWords totals.new)) words.old words.new }
 {
     give(totals, disc::make_record(image, words))
 }
 
 // Where the program lies; 0 and 0 where there is none.
+// Kept: 0 and 0 for none, since the two slots of counter.h say so (C).
 #[tactic(auto, unfolding(crate::specs::Replies::programReply))]
 #[unsafe(no_mangle)]
 pub extern "C" fn counter_program(image: &[u8], words: &mut [u32], answer: &mut DiscRegion) -> u32
-    ensures { Read (programReply (regionWords answer.old) (programAnswer image.now (length words.old))) (reply result (regionWords answer.new)) words.old words.new }
+    ensures { Read (programReply (regionWords answer.old) (programAnswer image.now (length words.old)))
+        (reply result (regionWords answer.new)) words.old words.new }
 {
     match disc::program(image, words) {
         Ok(Some(region)) => give(answer, Ok(region)),
@@ -73,7 +81,8 @@ pub extern "C" fn counter_entry(
     number: u32,
     answer: &mut [u32; 4],
 ) -> u32
-    ensures { Read (foundReply answer.old (entryAnswer image.now (length words.old) number)) (reply result answer.new) words.old words.new }
+    ensures { Read (foundReply answer.old (entryAnswer image.now (length words.old) number))
+        (reply result answer.new) words.old words.new }
 {
     give_found(answer, files::entry(image, words, number))
 }
@@ -86,7 +95,8 @@ pub extern "C" fn counter_lookup(
     path: &[u8],
     answer: &mut [u32; 4],
 ) -> u32
-    ensures { Read (foundReply answer.old (lookupAnswer image.now (length words.old) start path.now)) (reply result answer.new) words.old words.new }
+    ensures { Read (foundReply answer.old (lookupAnswer image.now (length words.old) start path.now))
+        (reply result answer.new) words.old words.new }
 {
     give_found(answer, files::lookup(image, words, start, path))
 }
@@ -98,7 +108,9 @@ pub extern "C" fn counter_entries(
     list: &mut [u32],
     answer: &mut Disc,
 ) -> u32
-    ensures { Read (replied discWords (discWords answer.old) (entriesAnswer image.now (length words.old) (length list.old))) (reply result (discWords answer.new)) words.old words.new × (list.new ≡ entriesList image.now (length words.old) list.old) }
+    ensures { Read (replied discWords (discWords answer.old)
+        (entriesAnswer image.now (length words.old) (length list.old))) (reply result (discWords answer.new))
+        words.old words.new × (list.new ≡ entriesList image.now (length words.old) list.old) }
 {
     give(answer, files::entries(image, words, list))
 }

@@ -1,6 +1,7 @@
 // The calls on an image's free regions.
 ghost use Rattle.std.specs.Prelude.{◌≡◌, ℕ, ◌^◌, ◌<◌, length};
-ghost use Rattle.disc.specs.Calls.{freeRegionsAnswer, freeRegionsList, freeClustersAnswer, freeClustersList, allocateAnswer};
+ghost use Rattle.disc.specs.Calls.{freeRegionsAnswer, freeRegionsList, freeClustersAnswer, freeClustersList};
+ghost use Rattle.disc.specs.Calls.{allocateAnswer};
 ghost use Rattle.answers.specs.Answers.{maxRegionSizeAnswer};
 ghost use Rattle.files.specs.Files.{maxFileSizeAnswer};
 ghost use Rattle.counter.specs.Replies.{Read, reply, replied, one, regionWords};
@@ -27,7 +28,9 @@ pub extern "C" fn counter_free_regions(
     list: &mut [u32],
     answer: &mut u32,
 ) -> u32
-    ensures { Read (replied one (one answer.old) (freeRegionsAnswer image.now (length words.old) (length list.old))) (reply result (one answer.new)) words.old words.new × (list.new ≡ freeRegionsList image.now (length words.old) list.old) }
+    ensures { Read (replied one (one answer.old)
+        (freeRegionsAnswer image.now (length words.old) (length list.old))) (reply result (one answer.new))
+        words.old words.new × (list.new ≡ freeRegionsList image.now (length words.old) list.old) }
 {
     give_count(answer, disc::free_regions(image, words, list))
 }
@@ -39,7 +42,9 @@ pub extern "C" fn counter_free_clusters(
     list: &mut [u32],
     answer: &mut u32,
 ) -> u32
-    ensures { Read (replied one (one answer.old) (freeClustersAnswer image.now (length words.old) (length list.old))) (reply result (one answer.new)) words.old words.new × (list.new ≡ freeClustersList image.now (length words.old) list.old) }
+    ensures { Read (replied one (one answer.old)
+        (freeClustersAnswer image.now (length words.old) (length list.old))) (reply result (one answer.new))
+        words.old words.new × (list.new ≡ freeClustersList image.now (length words.old) list.old) }
 {
     give_count(answer, disc::free_clusters(image, words, list))
 }
@@ -52,7 +57,9 @@ pub extern "C" fn counter_max_region_size(
     size: u32,
     answer: &mut u32,
 ) -> u32
-    ensures { Read (replied one (one answer.old) (maxRegionSizeAnswer image.now (length words.old) offset size)) (reply result (one answer.new)) words.old words.new }
+    ensures { Read (replied one (one answer.old)
+        (maxRegionSizeAnswer image.now (length words.old) offset size)) (reply result (one answer.new))
+        words.old words.new }
 {
     give(answer, disc::max_region_size(image, words, offset, size))
 }
@@ -64,7 +71,8 @@ pub extern "C" fn counter_max_file_size(
     number: u32,
     answer: &mut u32,
 ) -> u32
-    ensures { Read (replied one (one answer.old) (maxFileSizeAnswer image.now (length words.old) number)) (reply result (one answer.new)) words.old words.new }
+    ensures { Read (replied one (one answer.old) (maxFileSizeAnswer image.now (length words.old) number))
+        (reply result (one answer.new)) words.old words.new }
 {
     give(answer, files::max_file_size(image, words, number))
 }
@@ -77,7 +85,9 @@ pub extern "C" fn counter_allocate(
     align: u32,
     answer: &mut DiscRegion,
 ) -> u32
-    ensures { Read (replied regionWords (regionWords answer.old) (allocateAnswer image.now (length words.old) size align)) (reply result (regionWords answer.new)) words.old words.new }
+    ensures { Read (replied regionWords (regionWords answer.old)
+        (allocateAnswer image.now (length words.old) size align)) (reply result (regionWords answer.new))
+        words.old words.new }
 {
     give(answer, disc::allocate(image, words, size, align))
 }

@@ -12,7 +12,9 @@ pub extern "C" fn counter_list(
     text: &mut [u8],
     answer: &mut u64,
 ) -> u32
-    ensures { Read (replied one (one answer.old) (listAnswer image.now (length words.old) (length text.old))) (reply result (one answer.new)) words.old words.new × (text.new ≡ listBuffer image.now (length words.old) text.old) }
+    ensures { Read (replied one (one answer.old) (listAnswer image.now (length words.old) (length text.old)))
+        (reply result (one answer.new)) words.old words.new
+        × (text.new ≡ listBuffer image.now (length words.old) text.old) }
 {
     match listing::list(image, words, text) {
         Ok(length) => give(answer, Ok(length as u64)),
@@ -28,7 +30,9 @@ pub extern "C" fn counter_report(
     text: &mut [u8],
     answer: &mut u64,
 ) -> u32
-    ensures { Read (accepts (reportAnswer image.now (length words.old) (length text.old) ∷ [])) (reply result (one answer.new)) words.old words.new × (text.new ≡ reportBuffer image.now (length words.old) text.old) }
+    ensures { Read (accepts (reportAnswer image.now (length words.old) (length text.old) ∷ []))
+        (reply result (one answer.new)) words.old words.new
+        × (text.new ≡ reportBuffer image.now (length words.old) text.old) }
 {
     let length = listing::report(image, words, text);
     give(answer, Ok(length as u64))

@@ -15,13 +15,16 @@ pub extern "C" fn counter_open_file(
     number: u32,
     window: &mut Window,
 ) -> u32
-    ensures { Read (replied windowWords (windowWords window.old) (openFileAnswer image.now (length words.old) number)) (reply result (windowWords window.new)) words.old words.new }
+    ensures { Read (replied windowWords (windowWords window.old)
+        (openFileAnswer image.now (length words.old) number)) (reply result (windowWords window.new))
+        words.old words.new }
 {
     give(window, files::open_file(image, words, number))
 }
 
 fn seek(window: &mut Window, to: SeekFrom) -> u32
-    ensures { reply result (windowWords window.new) ≡ replied windowWords (windowWords window.old) (seekOf window.old to) }
+    ensures { reply result (windowWords window.new)
+        ≡ replied windowWords (windowWords window.old) (seekOf window.old to) }
 {
     let sought = window.seek(to);
     give(window, sought)
@@ -29,21 +32,24 @@ fn seek(window: &mut Window, to: SeekFrom) -> u32
 
 #[unsafe(no_mangle)]
 pub extern "C" fn counter_seek_start(window: &mut Window, position: u64) -> u32
-    ensures { reply result (windowWords window.new) ≡ replied windowWords (windowWords window.old) (seekOf window.old (Start position)) }
+    ensures { reply result (windowWords window.new)
+        ≡ replied windowWords (windowWords window.old) (seekOf window.old (Start position)) }
 {
     seek(window, SeekFrom::Start(position))
 }
 
 #[unsafe(no_mangle)]
 pub extern "C" fn counter_seek_current(window: &mut Window, distance: i64) -> u32
-    ensures { reply result (windowWords window.new) ≡ replied windowWords (windowWords window.old) (seekOf window.old (Current distance)) }
+    ensures { reply result (windowWords window.new)
+        ≡ replied windowWords (windowWords window.old) (seekOf window.old (Current distance)) }
 {
     seek(window, SeekFrom::Current(distance))
 }
 
 #[unsafe(no_mangle)]
 pub extern "C" fn counter_seek_end(window: &mut Window, distance: i64) -> u32
-    ensures { reply result (windowWords window.new) ≡ replied windowWords (windowWords window.old) (seekOf window.old (End distance)) }
+    ensures { reply result (windowWords window.new)
+        ≡ replied windowWords (windowWords window.old) (seekOf window.old (End distance)) }
 {
     seek(window, SeekFrom::End(distance))
 }
@@ -58,7 +64,8 @@ pub extern "C" fn counter_read(
 ) -> u32
     ensures number { result ≡ 0 }
     ensures count { answer.new ≡ count_of window.old (length image.now) (length buf.old) }
-    ensures moved_on { window.new ≡ movedOn window.old (count_of window.old (length image.now) (length buf.old)) }
+    ensures moved_on { window.new ≡ movedOn window.old
+        (count_of window.old (length image.now) (length buf.old)) }
     ensures buffer { buf.new ≡ bufferOf window.old image.now buf.old }
 {
     let read = window.read(image, buf);

@@ -12,12 +12,7 @@ const WORDS: usize = 16384;
 const TEXT: usize = 1048576;
 
 // Lends the words, and a buffer: a text that does not fit it is refused 9.
-fn list<P: Print>(
-    rt: &P,
-    image: &[u8],
-    words: &mut [u32; WORDS],
-    text: &mut [u8; TEXT],
-) -> io::Result<()> {
+fn list<P: Print>(rt: &P, image: &[u8], words: &mut [u32], text: &mut [u8]) -> io::Result<()> {
     let size = listing::report(image, words, text);
     match text.get(..size) {
         Some(report) => io::writer(rt).write_all(report),
@@ -28,8 +23,8 @@ fn list<P: Print>(
 // One byte more than is accepted tells whether there are more.
 fn main(rt: HostRuntime) -> io::Result<()> {
     let mut image = Vec::new(rt.alloc());
-    let mut words = [0; WORDS];
-    let mut text = [0; TEXT];
+    let mut words = vec![in rt.alloc(); 0u32; WORDS]?;
+    let mut text = vec![in rt.alloc(); 0u8; TEXT]?;
     rt.reader().take(MOST_BYTES + 1).read_to_end(&mut image)?;
     list(&rt, &image, &mut words, &mut text)
 }

@@ -3,7 +3,8 @@
 #![tactic(auto)]
 
 ghost use Rattle.std.specs.Prelude.{◌≡◌, length};
-ghost use Rattle.window.specs.Window.{newWindow, judged, seekOf, settled_of, count_of, movedOn, read_of, bufferOf, seekReadOf};
+ghost use Rattle.window.specs.Window.{newWindow, judged, seekOf, settled_of, count_of, movedOn, read_of};
+ghost use Rattle.window.specs.Window.{bufferOf, seekReadOf};
 
 use refusal::Refusal;
 pub use std::io::SeekFrom;

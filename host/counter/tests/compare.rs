@@ -903,7 +903,7 @@ fn a_manifest_is_one_of_sha256sum_too() {
     assert!(text.contains(&format!("# image {} ", &whole.out[..64])), "{text}");
     // One byte of an extracted file.
     fs::write(files.join("opening.bnr"), b"x").unwrap();
-    let held: Run = sha256sum(&["--check", manifest.to_str().unwrap()]).unwrap().into();
+    let held = sha256sum(&["--check", manifest.to_str().unwrap()]);
     assert_eq!(held.status, 1);
 }
 

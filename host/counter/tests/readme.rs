@@ -51,6 +51,13 @@ fn follows(page: &str) {
             .unwrap();
         assert_eq!(String::from_utf8_lossy(&run.stdout), *wanted, "{command}");
     }
+    // Whoever tries them in a checkout leaves nothing that git would take for a part of it.
+    let ignored = fs::read_to_string(root.join(".gitignore")).unwrap();
+    for entry in fs::read_dir(temp.at("")).unwrap() {
+        let name = entry.unwrap().file_name().into_string().unwrap();
+        let line = format!("/{name}");
+        assert!(name == "crates" || ignored.lines().any(|it| it == line), "{name}");
+    }
     assert!(example.len() > 8);
     println!("{} commands", example.len());
 }
