@@ -14,6 +14,8 @@ use opened::OpenDisc;
 use refusal::{Refusal, Verdict};
 use space::DiscRegion;
 
+// Kept: the disc, which is read, and the bytes, which are written, go side by side here and in `resizing`: each contract names the two, and a
+// value that held both would say nothing more.
 /// The tree as it is, written anew; refused by the tests of its table alone.
 pub fn rewrite(disc: &OpenDisc<'_>, bytes: &mut [u8]) -> Result<Decision, Refusal>
     ensures { Decides (change 0 (tableOnly disc.now.nodes)) disc.now (length bytes.old) bytes.new result }

@@ -10,6 +10,7 @@ use refusal::Refusal;
 use tree::{Entry, FileEntry, Found};
 use window::Window;
 
+// Kept: image and words, here and in `listing`, are what a caller lends to each call, as C does.
 // Entry `number` of a disc.
 fn entry_in(disc: &OpenDisc<'_>, number: u32) -> Found
     ensures { result ≡ entryFound disc.now.nodes number }

@@ -31,6 +31,7 @@ fn with_clip(decision: Decision, file: File) -> Decision
     }
 }
 
+// Kept: the disc and the bytes side by side, as in `decide`.
 /// The file of that number becomes the clip: 15, 16, 21 for a clip that no place can hold, then as a resize
 /// to the clip's length. The clip stands beside the decision when that is carried out.
 pub fn fill(
