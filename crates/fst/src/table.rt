@@ -127,7 +127,7 @@ impl<'a> Table<'a> {
     }
 
     /// The directory that entry `k` is nested in: the last one before it whose next is past it. The stored parent is not read.
-    // Kept: a loop. `(0..k).rev().find(..)` was tried; its proof didn't close, since std's laws of `rev` are about slices.
+    // Kept: `(0..k).rev().find(..)` was tried: the check did not prove what it finds, and std has no lemma on `rev` of a range.
     pub fn parent(&self, k: usize) -> usize
         requires { k < table_of.count self.now }
         ensures parent { result ≡ parent_of (nodesOf self.now) k }
