@@ -1,35 +1,32 @@
 -- A file of a disc: found by its number, given another place, and what that place asks. Assumes nothing.
-use Rattle.std.specs.Prelude.{Result, Ok, Err, IfOk}
-use Rattle.refusal.specs.Refusal.{Verdict, refuse, first}
+use Rattle.std.specs.Prelude.{Result, Ok, Err}
+use Rattle.refusal.specs.Refusal.{Verdict, first}
 use Prim.Native.Nat.{ℕ, ◌+◌, ◌-◌, ◌*◌, ◌≤◌, ◌<◌}
 use mathlib.Core.Path.{◌≡◌, refl, sym, ap, ◌∙◌}
-use mathlib.Core.Bool.{Bool, true, false, cond}
+use mathlib.Core.Bool.{false}
 use mathlib.Core.List.{List, ◌++◌}
 use native.Mathlib.Omega.{arith}
-use borrow.Author.Tests.{ltb-true, ltb-false, leb-false, le-leb, lt-leb, eq-eqb}
-use lib.Dec.{ltb, leb}
+use borrow.Author.Tests.{leb-false, eq-eqb}
+use lib.Dec.{leb}
 use lib.ListN.{length, get_or}
 use Rattle.endian.specs.Bytes.{put, be32Bytes}
 use Rattle.refusal.specs.declared.Refusal.{Refusal}
 use Rattle.refusal.specs.declared.Refusal.TheVariants.{NoSuchEntry, ExpectedFile}
 use Rattle.refusal.specs.Laws.Chains.{refuse-passed}
-use Rattle.tree.specs.Table.{Node, file, directory, none, parent_of, encode}
-use Rattle.tree.specs.Lookup.{isDirectory, entryWith, entry_of, entryFound, found_at}
-use Rattle.tree.specs.declared.Entry.{Entry}
-use Rattle.tree.specs.declared.Found.TheVariants as found
+use Rattle.tree.specs.Table.{Node, file, directory, none, encode}
+use Rattle.tree.specs.Lookup.{isDirectory}
 use Rattle.tree.specs.Insert.{setPlace}
 use Rattle.tree.proofs.Laws.PatchLaws.{place-patched}
 use Rattle.tree.proofs.Laws.WrittenEntries.{length-encode}
 use Rattle.space.specs.declared.DiscRegion.{DiscRegion}
 use Rattle.opening.specs.Opening.{nodesIn, regionOf, freeOf}
 use Rattle.opening.specs.Inner.Prepared.{OpenImage}
-use Rattle.opened.specs.Inner.Disc.{Disc, TableOf}
 use Rattle.commit.specs.declared.Decision.{Decision}
 use Rattle.commit.specs.declared.Decision.TheVariants as decision
 use Rattle.edits.specs.Change.{change}
 use Rattle.edits.specs.Edits.{fileVerdict, relocateVerdict, relocated, planned, planMove, planResize, planSized}
 use Rattle.decide.specs.declared.File.{File}
-use Rattle.decide.specs.Inner.Files.{IsFile, file_in, fileOf, IsFileOf, relocation_of}
+use Rattle.decide.specs.Inner.Files.{IsFile, file_in, relocation_of}
 use Rattle.commit.specs.Inner.Decision.{InImage, Decided, behind_tests}
 use Rattle.commit.proofs.Puts.{put-inside}
 use Rattle.commit.proofs.Decisions.{tests-passed, tests-refused, planned-first, behind-passed, behind-refused}
@@ -37,31 +34,9 @@ use Rattle.commit.proofs.Images.{file-lies, new-place, end-in-image}
 
 -- ---- found by its number
 
-file-case : (parent k : ℕ) (x : Node) → fileOf k (entryWith parent x) ≡ behind_tests (refuse (isDirectory x) ExpectedFile (Ok tt)) (record { number = k; place = regionOf x })
-file-case parent k (file nm a b) = refl
-file-case parent k (directory nm n) = refl
-
 module _ (nodes : List Node) (k : ℕ) where
   abbrev node : Node
   node = get_or nodes k none
-
-  pub entry-refused : (c : Refusal) → entryFound nodes k ≡ found.Refused c → Err c ≡ behind_tests (fileVerdict nodes k) (file_in nodes k)
-  entry-refused c e = go (ltb k (length nodes)) refl e
-    where
-      go : (t : Bool) → ltb k (length nodes) ≡ t → found_at nodes (cond t (Ok k) (Err NoSuchEntry)) ≡ found.Refused c → Err c ≡ behind_tests (fileVerdict nodes k) (file_in nodes k)
-      go true a q = let z : ◌≡◌ {A = ℕ} 0 1 = cc in absurd (omega arith)
-      go false a q =
-          let r : c ≡ NoSuchEntry = cc in
-          rw (le-leb (length nodes) k (ltb-false k (length nodes) a), r)
-
-  pub entry-file : (j : ℕ) (x : Entry) (r : Result File Refusal) → entryFound nodes k ≡ found.At j x → r ≡ fileOf k x → r ≡ behind_tests (fileVerdict nodes k) (file_in nodes k)
-  entry-file j x r e f = go (ltb k (length nodes)) refl e
-    where
-      go : (t : Bool) → ltb k (length nodes) ≡ t → found_at nodes (cond t (Ok k) (Err NoSuchEntry)) ≡ found.At j x → r ≡ behind_tests (fileVerdict nodes k) (file_in nodes k)
-      go true a q =
-          let y : x ≡ entry_of nodes k = cc in
-          rw (lt-leb (length nodes) k (ltb-true k (length nodes) a)) (f ∙ ap (fileOf k) y ∙ file-case (parent_of nodes k) k node)
-      go false a q = let z : ◌≡◌ {A = ℕ} 0 1 = cc in absurd (omega arith)
 
   -- a file that was found
   pub record FoundFile (f : File) : Type 0 where
@@ -84,13 +59,6 @@ module _ (nodes : List Node) (k : ℕ) where
 
   pub file-refused : (r : Result File Refusal) (c : Refusal) → r ≡ behind_tests (fileVerdict nodes k) (file_in nodes k) → r ≡ Err c → fileVerdict nodes k ≡ Err c
   file-refused r c e f = tests-refused (fileVerdict nodes k) (file_in nodes k) c (sym e ∙ f)
-
--- what was found is a file of the disc
-pub is-file : (d : Disc) (table : List ℕ) (t : TableOf d table) (k : ℕ) (r : Result File Refusal) → r ≡ behind_tests (fileVerdict d.nodes k) (file_in d.nodes k) → IfOk r (IsFileOf d)
-is-file d table t k (Err c) e = tt
-is-file d table t k (Ok f) e =
-    let h = file-found d.nodes k (Ok f) f e refl in
-    record { image = t.image; means = t.means; is = rw h.number h.is; place = rw h.number h.place }
 
 -- ---- the table with another place for it
 
