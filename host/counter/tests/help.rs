@@ -256,7 +256,7 @@ fn zsh_and_fish_read_their_completions() {
         temp.write(name, text.as_bytes());
         let run = shell(&temp, &format!("command -v {name} >/dev/null || exit 42; {check} {name}"));
         match run.status {
-            42 if name != "bash" => not_tried(&format!("its completions: there is no {name}")),
+            42 if name != "bash" => not_tried(&format!("completions: there is no {name}")),
             status => assert_eq!((status, run.err.as_str()), (0, ""), "{name}"),
         }
     }
