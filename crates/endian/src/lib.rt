@@ -71,8 +71,8 @@ pub fn copy(source: &[u8], from: usize, s: &mut [u8], to: usize, n: usize)
 const PART: usize = 65536;
 
 // Part k of the n bytes, by way of an array, so it does not matter where the two spans lie.
-// Kept: parts of a fixed size by way of an array, and a loop over them, since nothing is allocated, and the compiler
-// makes one memmove of each part; std's `copy_within` goes byte by byte.
+// Kept: parts of a fixed size by way of an array, and a loop over them: the compiler makes one memmove of each part.
+// Std's `copy_within` is a loop over elements; it took 1.04 to 1.7 times as long for 1 MiB, 0.86 to 1.15 for 64.
 fn copy_part(s: &mut [u8], from: usize, to: usize, n: usize, k: usize)
     requires source { from + n ≤ length s.old }
     requires target { to + n ≤ length s.old }
