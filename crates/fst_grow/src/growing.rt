@@ -17,8 +17,8 @@ use refusal::{Refusal, Verdict};
 const MOST_AROUND: usize = 64;
 
 /// A written table in front of lent bytes, which grows there by one entry at a time.
-// Kept: its fields are public, and no `impl Model`: with one, a caller that lends the bytes knew nothing of what they
-// hold when the loan ends, and its proof didn't close. What is true of each is the ghost field.
+// Kept: its fields are public, and no `impl Model`: with one, a caller that lends the bytes knew nothing of
+// what they hold when the loan ends, and its proof didn't close. What is true of each is the ghost field.
 #[derive(Drop)]
 pub struct Growing<'a> {
     /// The lent bytes, the table in front.
@@ -32,12 +32,11 @@ pub struct Growing<'a> {
 }
 
 impl<'a> Growing<'a> {
-    ghost use Rattle.fst_grow.specs.Inner.Growing.{tree_of, IsTable, added_to, HasBuilt};
+    ghost use Rattle.fst_grow.specs.Inner.Growing.{tree_of, added_to, HasBuilt};
 
     /// The table that was written into the first `size` bytes, where so many words are lent.
     pub fn new(bytes: &'a mut [u8], size: usize, words: usize) -> Growing<'a>
         requires { Stands bytes.old size words }
-        ensures table { IsTable result }
         ensures tree { tree_of result ≡ treeIn bytes.old size }
         ensures bytes { result.bytes.now ≡ bytes.old }
         ensures size { result.size ≡ size }
@@ -48,7 +47,8 @@ impl<'a> Growing<'a> {
     }
 
     /// The directory that directory k is nested in. A table written anew stores it.
-    // Kept: `IsDirectory` in four contracts: it is a fact about the number that is passed, another one in each call.
+    // Kept: `IsDirectory` in four contracts: it is a fact about the number that is passed, another one in
+    // each call.
     pub fn parent(&self, k: usize) -> usize
         requires { IsDirectory (tree_of self.now) k }
         ensures { result ≡ parent_of (tree_of self.now) k }
@@ -107,14 +107,13 @@ impl<'a> Growing<'a> {
         }
     }
 
-    /// Puts an empty directory, or an empty file, in as last child of directory p, and returns its number; 9 if the
-    /// tree then passes a limit, or the bytes are too few, and the table stays as it is.
-    // Kept: the directory, the kind and the name are no struct, as in `fst_patch::insert`. `IsTable` is said by the type,
-    // and asked for here since the proof of `insert` hands it over.
+    /// Puts an empty directory, or an empty file, in as last child of directory p, and returns its number; 9
+    /// if the tree then passes a limit, or the bytes are too few, and the table stays as it is.
+    // Kept: the directory, the kind and the name are no struct, as in `fst_patch::insert`.
     pub fn grow(&mut self, p: usize, kind: Kind, name: &[u8]) -> Result<usize, Refusal>
-        requires { IsTable self.old × IsDirectory (tree_of self.old) p × GoodName name.now }
+        requires directory { IsDirectory (tree_of self.old) p }
+        requires name { GoodName name.now }
         ensures number { IfOk result (λ number. number ≡ next_of (get_or (tree_of self.old) p none)) }
-        ensures table { OnOk result (IsTable self.new) }
         ensures tree { OnOk result (tree_of self.new ≡ added_to self.old kind p name.now) }
         ensures built { HasBuilt self.old self.new (added_to self.old kind p name.now) result }
         ensures err_bytes { OnErr result (self.new.bytes.now ≡ self.old.bytes.now) }

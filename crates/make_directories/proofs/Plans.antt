@@ -118,10 +118,10 @@ module _ (d : Disc) (start : ℕ) (path : List ℕ) where
           pub made-small : k < 2 ^ 32
           made-small =
               let a = made_at in
-              let i = within-limits (tree_of g) g.words a.1.within in
-              omega (arith, a.0, (grows w).1, i.few, ap length a.2)
+              let i = within-limits (tree_of g) g.words g.stands.within in
+              omega (arith, a.0, (grows w).1, i.few, ap length a.1)
 
           pub made-placed : (n : ℕ) (r : Result Decision Refusal) → n ≡ room → Decides (change k (tableOnly (tree_of g))) d n after r → Decides plan d room after r
           made-placed n r l h =
               let a = made_at in
-              rw plan-is (same-decides (tree_of g) (madeTree whole) d k (madeEntry whole) n room after r a.2 a.0 l h)
+              rw plan-is (same-decides (tree_of g) (madeTree whole) d k (madeEntry whole) n room after r a.1 a.0 l h)

@@ -24,7 +24,7 @@ use Rattle.edits.specs.Edits.{newNumber, Made, stopped, made, madeBack, ifFound,
 use Rattle.edits.specs.Inner.Troubles.{madeVerdict}
 use Rattle.edits.proofs.Laws.MadeTree.{bad-stays, AllLt, make-grows}
 use Rattle.fst_grow.specs.declared.growing.Growing.{Growing}
-use Rattle.fst_grow.specs.Inner.Growing.{tree_of, IsTable}
+use Rattle.fst_grow.specs.Inner.Growing.{tree_of}
 use Rattle.make_directories.specs.Inner.Making.{madeTree, madeEntry, turn_of, CanTurn, Reaches}
 
 -- ---- the entries left behind are the directories that the entry is nested in
@@ -129,7 +129,6 @@ module _ (M : List Node) (k n : ℕ) (nm : List ℕ) (cs : List (List ℕ)) (F :
 -- ---- the loop along the path: what is left of the walk makes what the whole makes; F is the tree at its end, and j the entry
 
 pub record Making (F : List Node) (j words room : ℕ) (g : Growing) (k : ℕ) (rest : List (List ℕ)) : Type 0 where
-  pub table : IsTable g
   pub lent : g.words ≡ words
   pub long : length g.bytes.now ≡ room
   pub inside : k < length (tree_of g)
@@ -142,17 +141,17 @@ all_made (stopped c) e = let z : ◌≡◌ {A = ℕ} 0 1 = cc in absurd (omega a
 all_made (made nodes k true) e = let z : ◌≡◌ {A = ℕ} 0 1 = cc in absurd (omega arith)
 all_made (made nodes k false) e = refl
 
-pub making-start : (g : Growing) (start : ℕ) (cs : List (List ℕ)) → IsTable g → start < length (tree_of g) → madeVerdict (make (tree_of g) [] start false cs) ≡ Ok tt →
+pub making-start : (g : Growing) (start : ℕ) (cs : List (List ℕ)) → start < length (tree_of g) → madeVerdict (make (tree_of g) [] start false cs) ≡ Ok tt →
     Making (madeTree (make (tree_of g) [] start false cs)) (madeEntry (make (tree_of g) [] start false cs)) g.words (length g.bytes.now) g start cs
 unfolding ups
-making-start g start cs t h e = record { table = t; lent = refl; long = refl; inside = h; steps = 0; left = all_made (make (tree_of g) [] start false cs) e }
+making-start g start cs h e = record { lent = refl; long = refl; inside = h; steps = 0; left = all_made (make (tree_of g) [] start false cs) e }
 
 module _ {F : List Node} {j words room : ℕ} {g : Growing} {k : ℕ} {nm : List ℕ} {cs : List (List ℕ)} (v : Making F j words room g k (nm ∷ cs)) where
   pub making-can : CanTurn (tree_of g) k nm
-  making-can = can-turn (tree_of g) k v.steps nm cs F j v.table.well v.inside v.left
+  making-can = can-turn (tree_of g) k v.steps nm cs F j g.stands.well v.inside v.left
 
   next : Onward (turn_of (tree_of g) k nm) cs F j
-  next = onward-turn (tree_of g) k v.steps nm cs F j v.table.well v.inside v.left
+  next = onward-turn (tree_of g) k v.steps nm cs F j g.stands.well v.inside v.left
 
   module _ (h : Growing) (lent : h.words ≡ g.words) where
     -- what there is no room for on the way there is none for at the end
@@ -168,11 +167,11 @@ module _ {F : List Node} {j words room : ℕ} {g : Growing} {k : ℕ} {nm : List
     pub making-turn : (q : ℕ) → length h.bytes.now ≡ length g.bytes.now → Reaches (turn_of (tree_of g) k nm) (length g.bytes.now) h (Ok q) → Making F j words room h q cs
     making-turn q same r =
         let o = next in
-        record { table = r.1; lent = lent ∙ v.lent; long = same ∙ v.long; inside = rw (r.2, r.0) o.inside; steps = o.steps; left = rw (r.2, r.0) o.left }
+        record { lent = lent ∙ v.lent; long = same ∙ v.long; inside = rw (r.1, r.0) o.inside; steps = o.steps; left = rw (r.1, r.0) o.left }
 
 -- the path is at its end
-pub making-end : (F : List Node) (j words room : ℕ) (g : Growing) (k : ℕ) → Making F j words room g k [] → (k ≡ j) × IsTable g × (tree_of g ≡ F)
+pub making-end : (F : List Node) (j words room : ℕ) (g : Growing) (k : ℕ) → Making F j words room g k [] → (k ≡ j) × (tree_of g ≡ F)
 unfolding make
 making-end F j words room g k v =
     let d = must (isDirectory (get_or (tree_of g) k none)) (made (tree_of g) k false) ExpectedDirectory F j v.left in
-    (ap madeEntry d.1, v.table, ap madeTree d.1)
+    (ap madeEntry d.1, ap madeTree d.1)

@@ -4,7 +4,7 @@ ghost use Rattle.std.specs.Prelude.{◌≡◌, Ok, false, [], ◌<◌, length};
 ghost use Rattle.tree.specs.Lookup.{components};
 ghost use Rattle.edits.specs.Edits.{make};
 ghost use Rattle.edits.specs.Inner.Troubles.{madeVerdict};
-ghost use Rattle.fst_grow.specs.Inner.Growing.{tree_of, IsTable};
+ghost use Rattle.fst_grow.specs.Inner.Growing.{tree_of};
 ghost use Rattle.make_directories.specs.Inner.Making.{turn_of, CanTurn, Reaches};
 
 use fst_grow::Growing;
@@ -14,11 +14,9 @@ use refusal::Refusal;
 
 // From a directory along one component: empty and `.` stay, `..` goes back, any other leads to the child with
 // that name, or into a directory that is made for it; 9 if there is no room for one.
-// Kept: that the bytes hold a table is asked (P): `Growing` says which forms of it as an invariant did not close.
 #[tactic(auto, unfolding(crate::specs::Inner::Making::turn_of))]
 fn step(table: &mut Growing<'_>, entry: usize, name: &[u8]) -> Result<usize, Refusal>
-    requires is_table { IsTable table.old }
-    requires can_turn { CanTurn (tree_of table.old) entry name.now }
+    requires { CanTurn (tree_of table.old) entry name.now }
     ensures reaches { let room = length table.old.bytes.now in
         Reaches (turn_of (tree_of table.old) entry name.now) room table.new result }
     ensures same_words { table.new.words ≡ table.old.words }
@@ -40,7 +38,6 @@ fn step(table: &mut Growing<'_>, entry: usize, name: &[u8]) -> Result<usize, Ref
 /// Along the components of a path from the entry `start`, to the entry where it ends; 9 once there is no room
 /// for a directory, since there is none for the whole then.
 pub fn make_along(table: &mut Growing<'_>, start: usize, path: &[u8]) -> Result<usize, Refusal>
-    requires is_table { IsTable table.old }
     requires start_inside { start < length (tree_of table.old) }
     requires untroubled { let whole = make (tree_of table.old) [] start false (components path.now) in
         madeVerdict whole ≡ Ok tt }

@@ -4,7 +4,7 @@
 
 ghost use Rattle.std.specs.Prelude.{◌≡◌, length, IfOk};
 ghost use Rattle.fst_grow.specs.Inner.Growth.{treeIn, Stands, Built};
-ghost use Rattle.fst_grow.specs.Inner.Growing.{tree_of, IsTable};
+ghost use Rattle.fst_grow.specs.Inner.Growing.{tree_of};
 ghost use Rattle.edits.specs.Change.{change};
 ghost use Rattle.edits.specs.Edits.{tableOnly};
 ghost use Rattle.commit.specs.Inner.Decision.{Decides};
@@ -43,8 +43,7 @@ pub fn place_table(
     table: &Growing<'_>,
     number: u32,
 ) -> Result<Decision, Refusal>
-    requires is_table { IsTable table.now }
-    requires same_words { table.now.words ≡ disc.now.words }
+    requires { table.now.words ≡ disc.now.words }
     ensures { Decides (change number (tableOnly (tree_of table.now)))
         disc.now (length table.now.bytes.now) table.now.bytes.now result }
 {

@@ -20,7 +20,7 @@ grow-requires c =
     let judged = rw (c.new.ensures, c.table.ensures.nodes) at c.check.ensures in
     let a = allowed c.args.new.kind d c.args.new.parent c.args.new.name.now _ judged c.in_ok-check.was in
     let tree = c.new-table.ensures.tree ∙ c.in_ok-size.ensures.tree in
-    (c.new-table.ensures.table, rw tree a.0, a.1)
+    record { directory = rw tree a.0; name = a.1 }
 
 pub returns-in_err-number : goal.returns-in_err-number
 returns-in_err-number c =

@@ -22,7 +22,6 @@ make_along-requires c =
     let passed = sym c.check_path.ensures.answer ∙ c.in_ok-check_path.was in
     let tree = c.new-table.ensures.tree ∙ c.in_ok-size.ensures.tree in
     record {
-      is_table = c.new-table.ensures.table;
       start_inside = rw tree (starts-inside c.args.disc.now c.args.start c.args.path.now passed);
       untroubled = rw tree (makes-all c.args.disc.now c.args.start c.args.path.now passed);
     }

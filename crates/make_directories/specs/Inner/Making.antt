@@ -9,7 +9,7 @@ use Rattle.tree.specs.Insert.{insertAt, emptyDirectory}
 use Rattle.edits.specs.Edits.{newNumber, Made, stopped, made, ifFound}
 use Rattle.fst_grow.specs.declared.growing.Growing.{Growing}
 use Rattle.fst_grow.specs.Inner.Growth.{IsDirectory}
-use Rattle.fst_grow.specs.Inner.Growing.{tree_of, IsTable}
+use Rattle.fst_grow.specs.Inner.Growing.{tree_of}
 
 -- the tree that a walk made, and the entry where it ended
 abbrev pub madeTree : Made → List Node
@@ -44,7 +44,7 @@ pub record CanTurn (nodes : List Node) (k : ℕ) (nm : List ℕ) : Type 0 where
   pub directory : IsDirectory nodes k
   pub named : stays nm ≡ false → goesBack nm ≡ false → MayName nodes k nm
 
--- the table of a walk stands there, or there is no room for it (9)
+-- the tree of a walk stands there, or there is no room for it (9)
 abbrev pub Reaches : Made → ℕ → Growing → Result ℕ Refusal → Type 0
-Reaches m room table (Ok k) = (k ≡ madeEntry m) × IsTable table × (tree_of table ≡ madeTree m)
+Reaches m room table (Ok k) = (k ≡ madeEntry m) × (tree_of table ≡ madeTree m)
 Reaches m room table (Err c) = (c ≡ LimitOrMemory) × (limits (madeTree m) table.words ≡ Ok tt → room < length (encode (madeTree m)))

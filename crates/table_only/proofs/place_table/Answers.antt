@@ -7,7 +7,7 @@ use Rattle.table_only.proofs.place_table.Goals as goal
 pub returns-in_err-check_place : goal.returns-in_err-check_place
 returns-in_err-check_place c =
     let p = err_from_is_err_and c.from_residual.result c.from_residual.ensures.1 in
-    rw (p.1, p.2) (place-refuses _ _ c.args.number c.args.disc.now (rw c.requires.same_words at c.requires.is_table) _ c.in_err-check_place.ensures _ refl)
+    rw (p.1, p.2) (place-refuses _ _ c.args.number c.args.disc.now (rw c.requires at c.args.table.now.stands) _ c.in_err-check_place.ensures _ refl)
 
 pub returns : goal.returns
-returns c = place-writes _ _ c.args.number c.args.disc.now (rw c.requires.same_words at c.requires.is_table) _ c.in_ok-check_place.ensures refl
+returns c = place-writes _ _ c.args.number c.args.disc.now (rw c.requires at c.args.table.now.stands) _ c.in_ok-check_place.ensures refl

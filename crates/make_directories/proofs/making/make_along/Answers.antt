@@ -7,12 +7,12 @@ use Rattle.make_directories.proofs.making.make_along.Goals as goal
 pub loop-name-init : goal.loop-name-init
 loop-name-init c =
     rw (c.into_iter-name-iterator.ensures.into_iter_gives, c.new-name-items.ensures)
-    (tt, tt, making-start c.args.table.now c.args.start _ c.requires.is_table c.requires.start_inside c.requires.untroubled, refl)
+    (tt, tt, making-start c.args.table.now c.args.start _ c.requires.start_inside c.requires.untroubled, refl)
 
 pub step-requires : goal.step-requires
 step-requires c =
     let i = rw c.in-Some.ensures.steps at c.loop-name.invariant in
-    record { is_table = i.2.table; can_turn = making-can i.2 }
+    making-can i.2
 
 pub returns-in_err-entry-clause-reaches : goal.returns-in_err-entry-clause-reaches
 returns-in_err-entry-clause-reaches c =
