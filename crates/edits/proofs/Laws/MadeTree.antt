@@ -13,7 +13,7 @@ use Rattle.tree.proofs.Laws.WellNested.{next-bounds}
 use Rattle.tree.proofs.Laws.InsertLaws.{length-insert}
 use Rattle.tree.proofs.Laws.Growing.{Bigger, bigger-same, bigger-trans, bigger-insert}
 use Rattle.edits.specs.Edits.{newNumber, stopped, made, madeBack, ifFound, make}
-use Rattle.tree.proofs.Laws.Renumbered.{directory-is}
+use Rattle.edits.proofs.Laws.Troubles.{directory-is}
 use Rattle.edits.proofs.Laws.Making.{or-not}
 
 -- ---- the tree that is made is one that the tree grew into

@@ -6,11 +6,10 @@ use Rattle.std.specs.Prelude.{ℕ, zero, suc, ◌<◌, ◌≤◌, ◌≡◌, ref
 use Rattle.std.proofs.Common.{sym, ap, ◌∙◌, inl, inr, arith, eq-eqb, ne_eqb}
 use Rattle.refusal.specs.declared.Refusal.TheVariants.{InvalidNameByte, UnsafeName, ExpectedDirectory, NotFound}
 use Rattle.refusal.specs.Refusal.{refuse}
-use Rattle.tree.specs.Table.{Node, directory, none, plain, safe, parent_of}
+use Rattle.tree.specs.Table.{Node, file, directory, none, plain, safe, parent_of}
 use Rattle.tree.specs.Lookup.{isDirectory, next_of, stays, goesBack, childOf}
 use Rattle.tree.specs.Insert.{insertAt, emptyDirectory, shifted}
 use Rattle.tree.proofs.Laws.InsertedList.{Nested}
-use Rattle.tree.proofs.Laws.Renumbered.{directory-is}
 use Rattle.tree.proofs.Laws.Children.{Child, child-is, child-missing}
 use Rattle.edits.specs.Edits.{newNumber, stopped, made, madeBack, ifFound, make}
 use Rattle.edits.specs.Inner.Troubles.{ifChild, troubleOf, madeVerdict}
@@ -21,6 +20,10 @@ use Rattle.edits.proofs.Laws.Making.{Where, Grown, Trail, State, trail-from, mar
 abbrev Same : List Node → ℕ → List (List ℕ) → Type 0
 Same nodes start cs = (M : List Node) (φ : ℕ → ℕ) (ν : ℕ → Bool) (bad : Bool) (level : ℕ) (trail : List ℕ) (m k : ℕ) → Grown nodes M φ ν bad →
     State nodes start φ ν level trail m k → m < length M → madeVerdict (make M trail m bad cs) ≡ troubleOf nodes start k level bad cs
+
+pub directory-is : (x : Node) → isDirectory x ≡ true → (nm : List ℕ) × (x ≡ directory nm (next_of x))
+directory-is (file nm a b) e = let z : ◌≡◌ {A = ℕ} 0 1 = cc in absurd (omega arith)
+directory-is (directory nm n) e = (nm, refl)
 
 module _ (nodes : List Node) (start : ℕ) (c : List ℕ) (cs : List (List ℕ)) (ih : Same nodes start cs) (M : List Node) (φ : ℕ → ℕ) (ν : ℕ → Bool) (bad : Bool) (trail : List ℕ) (m k : ℕ)
     (g : Grown nodes M φ ν bad) (m<n : m < length M) (dir : isDirectory (get_or M m none) ≡ true) where

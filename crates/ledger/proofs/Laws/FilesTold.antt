@@ -3,7 +3,6 @@
 -- given since, its size the last of them all; and it is named exactly if an accepted edit named it. Assumes nothing.
 use Rattle.std.specs.Prelude.{ℕ, zero, suc, ◌<◌, ◌≡◌, refl, Bool, true, false, cond, ◌&&◌, ◌||◌, List, [], ◌∷◌, map, length, get_or}
 use Rattle.std.proofs.Common.{sym, ap, ◌∙◌, arith}
-use Rattle.std.proofs.Math.Bool.{or-false as or-none}
 use Rattle.std.proofs.Math.ListN.{get_or-map}
 use Rattle.endian.specs.Bytes.{span}
 use Rattle.tree.specs.Table.{Node, file, directory, none}
@@ -19,7 +18,7 @@ use Rattle.ledger.proofs.Laws.Bare.{before-bare}
 use Rattle.ledger.specs.Spared.{names, ledgerNext, numberNext, numberAfter}
 use Rattle.ledger.proofs.Laws.SparedLaws.{begins}
 use Rattle.ledger.specs.Inner.Told.{named_in, Given, given, givenIn, leastOf, last_of, start_of, historyAt, name_at, size_at, OfFiles}
-use Rattle.ledger.proofs.Laws.ToldLaws.{Exists, goes}
+use Rattle.ledger.proofs.Laws.ToldLaws.{or-none, Exists, goes}
 
 -- file f of a ledger has this name, size and history
 pub record FileIs (l : Ledger) (f : ℕ) (nm : List ℕ) (size : ℕ) (h : History) : Type 0 where

@@ -9,17 +9,20 @@ use Rattle.std.proofs.lemmas.Bool.{false≢true}
 use mathlib.Core.List.{List, [], ◌∷◌}
 use Rattle.refusal.specs.declared.Refusal.{Refusal}
 use Rattle.refusal.specs.declared.Refusal.TheVariants.{NotFound, ExpectedDirectory, UnsafeName}
-use Rattle.tree.specs.Table.{Node, none, plain, safe}
+use Rattle.tree.specs.Table.{Node, file, directory, none, plain, safe}
 use Rattle.tree.specs.Inner.WellFormed.{WellFormed}
-use Rattle.tree.specs.Lookup.{isDirectory, stays, goesBack, childNamed, firstChild, childOf}
+use Rattle.tree.specs.Lookup.{isDirectory, next_of, stays, goesBack, childNamed, firstChild, childOf}
 use Rattle.tree.specs.Insert.{insertAt, emptyDirectory}
-use Rattle.tree.proofs.Laws.Renumbered.{directory-is}
 use Rattle.tree.proofs.Laws.WellNested.{next-bounds}
 use Rattle.tree.proofs.Laws.InsertLaws.{length-insert, insert-sound}
 use Rattle.edits.specs.Edits.{newNumber, Made, stopped, made, madeBack, ifFound, make}
 use Rattle.ledger.specs.Ledger.{madeNodes}
 use Rattle.ledger.specs.Inner.Files.{pick}
 use Rattle.ledger.proofs.Laws.Files.{insert-directory}
+
+pub directory-of : (x : Node) → isDirectory x ≡ true → (nm : List ℕ) × (x ≡ directory nm (next_of x))
+directory-of (file nm offset size) e = ([], absurd (false≢true e))
+directory-of (directory nm next) e = (nm, refl)
 
 -- ---- what a step of the walk that comes to an end was
 
@@ -62,7 +65,7 @@ first_below nodes d nm k (suc n) j e = go (childNamed nodes d nm k) e (first_bel
 
 module _ (nodes : List Node) (w : WellFormed nodes) (k : ℕ) (l : k < length nodes) (d : isDirectory (get_or nodes k none) ≡ true) where
   next-in : (k < newNumber nodes k) × (newNumber nodes k ≤ length nodes)
-  next-in = let x = directory-is (get_or nodes k none) d in next-bounds nodes k (newNumber nodes k) x.0 w x.1 l
+  next-in = let x = directory-of (get_or nodes k none) d in next-bounds nodes k (newNumber nodes k) x.0 w x.1 l
 
   child-in : (nm : List ℕ) (j : ℕ) → childOf nodes k nm ≡ Ok j → j < length nodes
   unfolding childOf
@@ -70,12 +73,12 @@ module _ (nodes : List Node) (w : WellFormed nodes) (k : ℕ) (l : k < length no
 
   made-well : (nm : List ℕ) → plain nm ≡ true → safe nm ≡ true → WellFormed (insertAt k (emptyDirectory nm (newNumber nodes k)) nodes)
   made-well nm p s =
-      let x = directory-is (get_or nodes k none) d in
+      let x = directory-of (get_or nodes k none) d in
       insert-sound nodes k (newNumber nodes k) x.0 (emptyDirectory nm (newNumber nodes k)) w x.1 l (p, s) refl
 
   made-length : (nm : List ℕ) → length (insertAt k (emptyDirectory nm (newNumber nodes k)) nodes) ≡ suc (length nodes)
   made-length nm =
-      let x = directory-is (get_or nodes k none) d in
+      let x = directory-of (get_or nodes k none) d in
       length-insert nodes k (newNumber nodes k) x.0 (emptyDirectory nm (newNumber nodes k)) w x.1 l
 
 -- ---- the walk

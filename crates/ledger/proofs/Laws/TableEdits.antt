@@ -13,7 +13,6 @@ use Rattle.tree.specs.Table.{Node, name_of, none, plain, safe}
 use Rattle.tree.specs.Inner.WellFormed.{WellFormed}
 use Rattle.tree.specs.Lookup.{isDirectory, components, childOf}
 use Rattle.tree.specs.Insert.{insertAt, emptyFile, emptyDirectory}
-use Rattle.tree.proofs.Laws.Renumbered.{directory-is}
 use Rattle.tree.proofs.Laws.InsertLaws.{Fresh, insert-sound}
 use Rattle.space.specs.Used.{usedRegions}
 use Rattle.program.specs.Program.{programBehind}
@@ -26,7 +25,7 @@ use Rattle.ledger.specs.Inner.Files.{place_of, files_of}
 use Rattle.ledger.proofs.Laws.Files.{filesIn, placesIn, used-put-in, insert-directory, insert-file}
 use Rattle.ledger.proofs.Laws.Histories.{trues-put-in, true-new}
 use Rattle.ledger.proofs.Laws.Bare.{before-bare, next-bare, insert-bare, made-bare}
-use Rattle.ledger.proofs.Laws.Making.{made-same, made-good}
+use Rattle.ledger.proofs.Laws.Making.{directory-of, made-same, made-good}
 use Rattle.ledger.proofs.Laws.Opened.{Opened}
 use Rattle.ledger.proofs.Laws.Room.{room}
 use Rattle.ledger.proofs.Laws.Kept.{Kept, opened-kept, Tabled, tabled}
@@ -57,7 +56,7 @@ insertable nodes p nm v =
 
 pub inserted-well : (nodes : List Node) (p : ℕ) (nm : List ℕ) → WellFormed nodes → Insertable nodes p nm → (new : Node) → Fresh (newNumber nodes p) new → name_of new ≡ nm → WellFormed (insertAt p new nodes)
 inserted-well nodes p nm w i new f e =
-    let x = directory-is (get_or nodes p none) i.parent in
+    let x = directory-of (get_or nodes p none) i.parent in
     insert-sound nodes p (newNumber nodes p) x.0 new w x.1 i.number (rw e (i.bytes, i.good)) f
 
 module _ (w : ℕ) (image : List ℕ) (l : Ledger) (K : Kept w image l) (words bytes : ℕ) (lent : words ≤ w) where

@@ -1,7 +1,6 @@
 -- A file followed through any list of reports: what each does to its history, name and size. Assumes nothing.
 use Rattle.std.specs.Prelude.{ℕ, suc, ◌<◌, min, ◌≡◌, refl, Bool, true, false, cond, ◌&&◌, ◌||◌, List, [], ◌∷◌, ◌++◌, length, get_or, set, eqb}
 use Rattle.std.proofs.Common.{ap, ◌∙◌, eqb-true, length-set, get_or-set_same, get_or-set_other}
-use Rattle.std.proofs.Math.Bool.{or-false, or-true, or_assoc}
 use Rattle.std.proofs.lemmas.Bool.{eqb-false}
 use Rattle.tree.specs.Table.{none}
 use Rattle.tree.specs.Lookup.{components, isDirectory}
@@ -21,6 +20,18 @@ use Rattle.ledger.specs.Inner.Told.{named_in, Given, sized, clipped, given, give
 -- a history, once the file was named so and given these sizes and clips
 abbrev pub changed : Bool → List Given → History → History
 changed named gs h = record { place = h.place; bytes = start_of h.bytes gs; m = leastOf h.m gs; named = h.named || named }
+
+pub or-none : (a : Bool) → (a || false) ≡ a
+or-none true = refl
+or-none false = refl
+
+or_some : (a : Bool) → (a || true) ≡ true
+or_some true = refl
+or_some false = refl
+
+or-then : (a b c : Bool) → ((a || b) || c) ≡ (a || (b || c))
+or-then true b c = refl
+or-then false b c = refl
 
 least-then : (m : ℕ) (xs ys : List Given) → leastOf (leastOf m xs) ys ≡ leastOf m (xs ++ ys)
 unfolding leastOf
@@ -42,10 +53,10 @@ start-then bs (clipped clip ∷ xs) ys = start-then clip xs ys
 
 changed-none : (h : History) → h ≡ changed false [] h
 unfolding leastOf start_of
-changed-none h = rw (or-false h.named)
+changed-none h = rw (or-none h.named)
 
 changed_then : (a b : Bool) (xs ys : List Given) (h : History) → changed b ys (changed a xs h) ≡ changed (a || b) (xs ++ ys) h
-changed_then a b xs ys h = rw (least-then h.m xs ys, start-then h.bytes xs ys, or_assoc h.named a b)
+changed_then a b xs ys h = rw (least-then h.m xs ys, start-then h.bytes xs ys, or-then h.named a b)
 
 -- one history is set: that of file f, or another
 set_same : (hs : List History) (f k : ℕ) (x y : History) → f < length hs → f ≡ k → x ≡ y → Holds newHistory (set hs k x) f y
@@ -63,7 +74,7 @@ history-entered (makeDirectories start path) l f h = (h, changed-none (historyAt
 history-entered (moveFile k to) l f h = go (eqb f (filesBefore k l.nodes)) refl
   where
     same : f ≡ filesBefore k l.nodes → marked (historyAt l (filesBefore k l.nodes)) ≡ changed true [] (historyAt l f)
-    same e = unfold leastOf start_of in rw (← e, or-true (historyAt l f).named)
+    same e = unfold leastOf start_of in rw (← e, or_some (historyAt l f).named)
 
     go : (t : Bool) → eqb f (filesBefore k l.nodes) ≡ t →
         Holds newHistory (set l.histories (filesBefore k l.nodes) (marked (historyAt l (filesBefore k l.nodes)))) f (changed t [] (historyAt l f))
@@ -72,7 +83,7 @@ history-entered (moveFile k to) l f h = go (eqb f (filesBefore k l.nodes)) refl
 history-entered (resizeFile k n) l f h = go (eqb f (filesBefore k l.nodes)) refl
   where
     same : f ≡ filesBefore k l.nodes → lowered n (historyAt l (filesBefore k l.nodes)) ≡ changed true (sized n ∷ []) (historyAt l f)
-    same e = unfold leastOf start_of in rw (← e, or-true (historyAt l f).named)
+    same e = unfold leastOf start_of in rw (← e, or_some (historyAt l f).named)
 
     go : (t : Bool) → eqb f (filesBefore k l.nodes) ≡ t →
         Holds newHistory (set l.histories (filesBefore k l.nodes) (lowered n (historyAt l (filesBefore k l.nodes)))) f (changed t (cond t (sized n ∷ []) []) (historyAt l f))
@@ -81,7 +92,7 @@ history-entered (resizeFile k n) l f h = go (eqb f (filesBefore k l.nodes)) refl
 history-entered (fillFile k clip) l f h = go (eqb f (filesBefore k l.nodes)) refl
   where
     same : f ≡ filesBefore k l.nodes → refilled clip (historyAt l (filesBefore k l.nodes)) ≡ changed true (clipped clip ∷ []) (historyAt l f)
-    same e = unfold leastOf start_of in rw (← e, or-true (historyAt l f).named)
+    same e = unfold leastOf start_of in rw (← e, or_some (historyAt l f).named)
 
     go : (t : Bool) → eqb f (filesBefore k l.nodes) ≡ t →
         Holds newHistory (set l.histories (filesBefore k l.nodes) (refilled clip (historyAt l (filesBefore k l.nodes)))) f (changed t (cond t (clipped clip ∷ []) []) (historyAt l f))

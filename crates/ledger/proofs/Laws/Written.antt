@@ -11,11 +11,11 @@ use Rattle.header.specs.Verdicts.{fstOffset, fstSize, fstMaxSize, discEnd, table
 use Rattle.header.specs.Laws.FieldTests.{GoodHeader, Bounded}
 use Rattle.tree.specs.Table.{encode}
 use Rattle.tree.specs.Inner.WellFormed.{WellFormed}
-use Rattle.tree.proofs.Laws.WrittenBytes.{all_append, encode-all, be32-all}
+use Rattle.tree.proofs.Laws.WrittenBytes.{encode-all, be32-all}
 use Rattle.opening.specs.Opening.{table_of}
 use Rattle.opening.proofs.Laws.OpeningLaws.{span-bytes}
 use Rattle.edits.specs.Change.{Change, padded, withTable, written}
-use Rattle.edits.proofs.Laws.Puts.{Fits, put-length, put_all, put-else, span-length, zeros-all}
+use Rattle.edits.proofs.Laws.Puts.{Fits, put-length, put_all, put-else, span-length, zeros-all, append-all}
 
 -- the new table's end
 abbrev pub newEnd : Change → List ℕ → ℕ
@@ -73,7 +73,7 @@ module _ (c : Change) (image : List ℕ) (s : Safe c image) where
 
   all₂ : AllBytes (image₂ c image)
   all₂ = put-bytes (image₁ c image) (fstOffset image) (padded (encode c.nodes) (fstSize image)) fits₂ all₁
-      (all_append (encode c.nodes) (replicate (fstSize image - length (encode c.nodes)) 0) (encode-all c.nodes s.well) (zeros-all (fstSize image - length (encode c.nodes))))
+      (append-all (encode c.nodes) (replicate (fstSize image - length (encode c.nodes)) 0) (encode-all c.nodes s.well) (zeros-all (fstSize image - length (encode c.nodes))))
 
   fits₃ : 0x428 + 4 ≤ length (image₂ c image)
   fits₃ = rw length₂ (omega (arith, s.header.whole))

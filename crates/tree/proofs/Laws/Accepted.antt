@@ -140,7 +140,7 @@ accepted tab words bytes e =
     let len : length (nodesOf tab) ≡ c = length-nodesOf tab in
     let long : 12 ≤ length tab = ltb-false _ _ e₁.0 in
     let most : kind tab 0 ≤ 1 = ltb-false _ _ e₂.0 in
-    let one : kind tab 0 ≡ 1 = omega (arith, most, eqb-false (kind tab 0) 0 e₃.0) in
+    let one : kind tab 0 ≡ 1 = go (kind tab 0) most (eqb-false (kind tab 0) 0 e₃.0) in
     let each = entries-passed tab 1 (c - 1) e₅.0 in
     let end : 12 * c < length tab → get_or tab (length tab - 1) 0 ≡ 0 = not-unended tab c e₆.0 in
     let off = walk-offset tab c 1 (c ∷ []) (nodesFrom tab c 1 (c - 1)) e₉.1 in
@@ -172,3 +172,8 @@ accepted tab words bytes e =
     kinds : (c : ℕ) → kind tab 0 ≤ 1 → ((i : ℕ) → i < c - 1 → kind tab (1 + i) ≤ 1) → (k : ℕ) → k < c → kind tab k ≤ 1
     kinds c h f zero l = h
     kinds c h f (suc k) l = let m : 1 + k ≡ suc k = omega arith in rw m at (f k (omega arith))
+
+    go : (n : ℕ) → n ≤ 1 → (n ≡ 0 → ⊥) → n ≡ 1
+    go zero h f = absurd (f refl)
+    go (suc zero) h f = refl
+    go (suc (suc n)) h f = absurd (omega arith)

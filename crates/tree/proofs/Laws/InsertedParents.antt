@@ -1,13 +1,12 @@
 -- An entry put in as the last child of a directory: every other entry keeps its parent. Assumes nothing.
 use Rattle.std.specs.Prelude.{ℕ, zero, suc, ◌<◌, ◌≤◌, ◌≡◌, refl, Bool, true, false, cond, List, length, get_or, leb, ltb}
 use Rattle.std.proofs.Common.{sym, ap, ◌∙◌, arith, ltb-true, leb-true, leb-false, ltb-false, le-leb, lt-ltb, le-ltb}
-use Rattle.std.proofs.Math.Dec.{leb-suc-suc}
 use Rattle.std.proofs.lemmas.Bool.{lt-leb}
 use Rattle.tree.specs.Table.{Node, file, directory, none, encloses, parentBelow, parent_of}
 use Rattle.tree.specs.Lookup.{next_of}
 use Rattle.tree.specs.Insert.{bump, earlier, later, insertAt, shifted}
 use Rattle.tree.proofs.Laws.Nesting.{parent-step, parent-lower, below-lt, parent_is, ended}
-use Rattle.tree.proofs.Laws.InsertedList.{Nested, encloses-is, Fresh, bump-min, shifted-min, q≤n, p<q, inserted-before, inserted-at, inserted-after}
+use Rattle.tree.proofs.Laws.InsertedList.{Nested, encloses-is, Fresh, bump-min, shifted-min, ltb-suc, q≤n, p<q, inserted-before, inserted-at, inserted-after}
 
 -- ---- every other entry keeps its parent
 
@@ -35,7 +34,7 @@ up-after p j k (file nm offset size) h l = refl
 up-after p j k (directory nm n) h l = rw (le-leb j p h) (go (ltb p n) refl)
   where
     go : (t : Bool) → ltb p n ≡ t → ltb (suc k) (cond t (suc n) n) ≡ ltb k n
-    go true e = leb-suc-suc (suc k) n
+    go true e = ltb-suc k n
     go false e =
         let g : n ≤ p = ltb-false p n e in
         le-ltb (suc k) n (omega arith) ∙ sym (le-ltb k n (omega arith))
@@ -47,7 +46,7 @@ between-same p j k (directory nm n) h = rw (lt-leb j p h)
 
 pub later_same : (k : ℕ) (x : Node) → encloses (later x) (suc k) ≡ encloses x k
 later_same k (file nm offset size) = refl
-later_same k (directory nm n) = leb-suc-suc (suc k) n
+later_same k (directory nm n) = ltb-suc k n
 
 pub new-ended : (q k : ℕ) (x : Node) → Fresh q x → q ≤ k → encloses x (suc k) ≡ false
 new-ended q k (file nm offset size) f h = refl

@@ -1,8 +1,7 @@
--- The rules of bytes are a special case of those of units: in a text without lead bytes each byte is a unit, so names are judged and paths are cut byte by
+-- Document 01's rules are a special case of 02's: in a text without lead bytes each byte is a unit, so names are judged and paths are cut byte by
 -- byte; and below 0x80 a name has the bytes that it had. Assumes nothing.
-use Rattle.std.specs.Prelude.{ℕ, ◌≡◌, refl, Bool, true, false, cond, not, ◌&&◌, List, [], ◌∷◌, map}
+use Rattle.std.specs.Prelude.{ℕ, ◌≡◌, refl, Bool, true, false, cond, not, ◌&&◌, ◌||◌, List, [], ◌∷◌, map}
 use Rattle.std.proofs.Common.{ap, ◌∙◌, arith}
-use Rattle.std.proofs.Math.Bool.{or-false}
 use Rattle.std.proofs.lemmas.Bool.{not-true}
 use Rattle.refusal.specs.Laws.Tests.{and_left, and_right, is_false}
 use Rattle.tree.specs.Units.{within, leadByte, TextUnit, single, units}
@@ -72,7 +71,11 @@ below_plain [] e = refl
 below_plain (b ∷ s) e =
     let r = within-is 0 0x7F b (and_left (within 0 0x7F b) _ e) in
     let n : within 0xA1 0xDF b ≡ false = is_false (within 0xA1 0xDF b) (λ t. omega (arith, r.1, (within-is 0xA1 0xDF b t).0)) in
-    rw (n, or-false (within 0x20 0x7E b), below_plain s (and_right (within 0 0x7F b) _ e))
+    rw (n, or-none (within 0x20 0x7E b), below_plain s (and_right (within 0 0x7F b) _ e))
+  where
+    or-none : (t : Bool) → (t || false) ≡ t
+    or-none true = refl
+    or-none false = refl
 
 -- LAW: "one or more bytes 0x20 to 0x7E"
 pub plain-below : (nm : List ℕ) → every (within 0 0x7F) nm ≡ true → plain nm ≡ every (within 0x20 0x7E) nm
