@@ -1,21 +1,21 @@
 -- Fit texts unit by unit, and the marks that say where one starts. Assumes nothing.
-use Prim.Native.Nat.{ℕ, zero, suc, ◌+◌, ◌-◌, ◌*◌, ◌/◌, ◌%◌, ◌<◌, ◌≤◌, min}
+use Prim.Native.Nat.{ℕ, zero, suc, ◌+◌, ◌-◌, ◌<◌, ◌≤◌}
 use mathlib.Core.Path.{◌≡◌, refl, sym, ◌∙◌}
-use mathlib.Core.Logic.{◌⊎◌, inl, inr, ⊎_elim}
-use mathlib.Core.Bool.{Bool, true, false, true≢false, ◌&&◌}
-use mathlib.Core.List.{List, [], ◌∷◌}
+use mathlib.Core.Logic.{⊎_elim}
+use mathlib.Core.Bool.{Bool, true, false, true≢false, not, ◌&&◌}
+use mathlib.Core.List.{List}
 use native.Mathlib.Omega.{arith}
+use native.Mathlib.Numerals.{add-one}
 use borrow.Author.Tests.{ne_eqb, eqb-true, eqb-false}
-use lib.ListN.{get_or, drop, replicate, length, length-replicate, get_or-eq_default}
+use lib.ListN.{get_or, replicate, length, length-replicate, get_or-eq_default}
 use lib.Dec.{eqb}
-use Rattle.tree.specs.Units.{leadByte, TextUnit, units}
+use Rattle.tree.specs.Units.{leadByte, trailByte}
 use Rattle.tree.specs.Table.{plain_byte, safeByte, plainUnit, safeUnit}
 use Rattle.tree.specs.Inner.Pairs.{pair_at}
-use Rattle.tree.proofs.Laws.UnitLaws.{pair_inside}
 use Rattle.refusal.specs.Laws.Tests.{lt-or-le, and_left, and_right}
-use Rattle.fst_text.specs.Inner.Texts.{cleanByte, cleanUnit, endUnit, cleanFrom, NoLead}
-use Rattle.fst_text.specs.Inner.Blocks.{Fit, markPlace, Marked}
-use Rattle.fst_text.proofs.UnitPlaces.{PairFirst, SingleFirst, unit-first, none-left, rest-place, rest-inside}
+use Rattle.fst_text.specs.Inner.Texts.{cleanByte, cleanFrom, NoLead}
+use Rattle.fst_text.specs.Inner.Blocks.{Fit, Marked}
+use Rattle.fst_text.proofs.Chart.{Kinds}
 use Rattle.fst_text.proofs.Texts.{inside, every-end, every-pair, every-single, clean-no-pair, clean-pair, clean-single, clean-behind}
 
 -- ---- fit texts
@@ -68,71 +68,29 @@ fit-early tab from first at e g h l = ⊎_elim later (λ (k : at ≤ from). let 
 
 -- ---- the units of a text in a block
 
--- these units are left, from a place before `end` on; if the text is fit from there, so is the whole
-pub record Stands (tab : List ℕ) (at end : ℕ) (us : List TextUnit) : Type 0 where
-  pub place : ℕ
-  pub near : place < end
-  pub inside : place ≤ length tab
-  pub left : us ≡ units (drop place tab)
-  pub fit : Fit tab place → Fit tab at
+module _ (tab : List ℕ) (at : ℕ) (kinds trails : List ℕ) (k : Kinds kinds trails) (below : get_or tab at 0 < 256) where
+  pub fit-clean-byte : get_or kinds (get_or tab at 0) 0 ≡ 99 → Fit tab (at + 1) → Fit tab at
+  fit-clean-byte e f =
+      let g = k.clean (get_or tab at 0) below e in
+      fit-single tab at (λ z. absurd (true≢false (sym (and_left (not (eqb (get_or tab at 0) 0)) _ g) ∙ rw (z)))) (and_right (not (eqb (get_or tab at 0) 0)) _ g) f
 
--- they are left behind a unit that is clean, and its place may be a byte behind `end`
-pub record Passed (tab : List ℕ) (at end : ℕ) (us : List TextUnit) (place : ℕ) : Type 0 where
-  pub near : place ≤ end + 1
-  pub inside : place ≤ length tab
-  pub left : us ≡ units (drop place tab)
-  pub fit : Fit tab place → Fit tab at
+  pub clean-byte : get_or kinds (get_or tab at 0) 0 ≡ 99 → cleanByte (get_or tab at 0) ≡ true
+  clean-byte e = and_right (not (eqb (get_or tab at 0) 0)) _ (k.clean (get_or tab at 0) below e)
 
-module _ (tab : List ℕ) (at end : ℕ) where
-  pub stands-first : (from : ℕ) (us : List TextUnit) → from ≡ min at (length tab) → us ≡ units (drop from tab) → at < end → Stands tab at end us
-  stands-first from us e l h =
-      record { place = from; near = omega arith; inside = omega arith; left = l; fit = go (lt-or-le at (length tab)) }
-    where
-      go : (at < length tab) ⊎ (length tab ≤ at) → Fit tab from → Fit tab at
-      go (inl k) f = let q : at ≡ from = omega arith in rw q f
-      go (inr k) f = fit-end tab at (get_or-eq_default tab 0 k)
+  pub clean-goes-on : at < length tab → cleanByte (get_or tab at 0) ≡ true → cleanFrom tab at ≡ cleanFrom tab (at + 1)
+  clean-goes-on h e = clean-single tab at true h (clean-no-pair tab at e) e
 
-  module _ (us : List TextUnit) (s : Stands tab at end us) where
-    pub stands-none : us ≡ [] → Fit tab at
-    stands-none e = s.fit (fit-end tab s.place (get_or-eq_default tab 0 (none-left tab s.place (sym s.left ∙ e))))
+  is-pair : get_or kinds (get_or tab at 0) 0 ≡ 108 → get_or tab (at + 1) 0 < 256 → get_or trails (get_or tab (at + 1) 0) 0 ≡ 116 → pair_at tab at ≡ true
+  is-pair e l t =
+      let a : leadByte (get_or tab at 0) ≡ true = k.lead (get_or tab at 0) below e in
+      let b : trailByte (get_or tab (suc at) 0) ≡ true = rw (add-one at) at (k.trail (get_or tab (at + 1) 0) l t) in
+      rw (a, b)
 
-    module _ (u : TextUnit) (ws : List TextUnit) (e : us ≡ u ∷ ws) where
-      first : PairFirst tab s.place u ws ⊎ SingleFirst tab s.place u ws
-      first = unit-first tab s.place u ws (sym s.left ∙ e)
+  pub clean-lead-byte : get_or kinds (get_or tab at 0) 0 ≡ 108 → get_or tab (at + 1) 0 < 256 → get_or trails (get_or tab (at + 1) 0) 0 ≡ 116 → cleanFrom tab at ≡ cleanFrom tab (at + 2)
+  clean-lead-byte e l t = clean-pair tab at (is-pair e l t)
 
-      pub stands-end : endUnit u ≡ true → Fit tab at
-      stands-end h = ⊎_elim (λ (p : PairFirst tab s.place u ws). absurd (true≢false (sym (rw p.unit at h)))) (λ (p : SingleFirst tab s.place u ws). s.fit (fit-end tab s.place (eqb-true _ _ (rw p.unit at h)))) first
-
-      pub stands-rest : (rest : List ℕ) → units rest ≡ ws → length rest ≤ length tab
-      stands-rest rest r = ⊎_elim (λ (p : PairFirst tab s.place u ws). rest-inside tab rest (s.place + 2) (r ∙ p.others)) (λ (p : SingleFirst tab s.place u ws). rest-inside tab rest (s.place + 1) (r ∙ p.others)) first
-
-      pub stands-passed : endUnit u ≡ false → cleanUnit u ≡ true → (rest : List ℕ) → units rest ≡ ws → Passed tab at end ws (length tab - length rest)
-      stands-passed n c rest r = ⊎_elim two one first
-        where
-          two : PairFirst tab s.place u ws → Passed tab at end ws (length tab - length rest)
-          two p =
-              let h : s.place + 2 ≤ length tab = omega (arith, pair_inside tab s.place p.is_pair) in
-              rw (rest-place tab rest (s.place + 2) h (r ∙ p.others))
-              (record { near = omega (arith, s.near); inside = h; left = p.others; fit = λ f. s.fit (fit-pair tab s.place p.is_pair f) })
-
-          one : SingleFirst tab s.place u ws → Passed tab at end ws (length tab - length rest)
-          one p =
-              let h : s.place + 1 ≤ length tab = omega (arith, p.inside) in
-              let z : eqb (get_or tab s.place 0) 0 ≡ false = rw p.unit at n in
-              let q : cleanByte (get_or tab s.place 0) ≡ true = rw p.unit at c in
-              rw (rest-place tab rest (s.place + 1) h (r ∙ p.others))
-              (record { near = omega (arith, s.near); inside = h; left = p.others; fit = λ f. s.fit (fit-single tab s.place (eqb-false _ _ z) q f) })
-
-  pub stands-next : (us : List TextUnit) (place : ℕ) → Passed tab at end us place → place < end → Stands tab at end us
-  stands-next us place p h = record { place = place; near = h; inside = p.inside; left = p.left; fit = p.fit }
-
--- behind the block a mark of the next tells
-pub mark-tells : (tab : List ℕ) (at base next end place : ℕ) (us : List TextUnit) → end ≡ base + 1024 * next → Passed tab at end us place → end ≤ place →
-    (mark : ℕ) → mark ≡ 2 * next + (place - end) → Fit tab (base + markPlace mark) → Fit tab at
-mark-tells tab at base next end place us e p h mark m f =
-    let k = p.near in
-    let q : base + (1024 * (mark / 2) + mark % 2) ≡ place = omega arith in
-    p.fit (rw q at f)
+  pub fit-lead-byte : get_or kinds (get_or tab at 0) 0 ≡ 108 → get_or tab (at + 1) 0 < 256 → get_or trails (get_or tab (at + 1) 0) 0 ≡ 116 → Fit tab (at + 2) → Fit tab at
+  fit-lead-byte e l t f = fit-pair tab at (is-pair e l t) f
 
 -- ---- marks
 

@@ -3,6 +3,7 @@
 
 mod marks;
 mod names;
+mod passing;
 mod text;
 mod units;
 

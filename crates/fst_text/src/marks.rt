@@ -4,8 +4,7 @@
 ghost use Rattle.std.specs.Prelude.{◌≡◌, true, ◌≤◌};
 ghost use Rattle.fst_text.specs.Inner.Blocks.{Fit};
 
-use crate::units::{Unit, Units};
-use crate::{text, units};
+use crate::{passing, text, units};
 use std::marker::Model;
 
 // The marks of the texts of a table that stand in it from `base` on. Contracts see the table, and where they
@@ -57,24 +56,14 @@ impl<'a> Marks<'a> {
         requires near { at ≤ 33554432 }
         ensures { (result ≡ true) → Fit self.now.table at }
     {
-        let table = self.table;
         let next = (at - self.base) / 1024 + 1;
         let end = self.base + 1024 * next;
-        let mut text = Units::new(&table[at.min(table.len())..]);
-        while let Some(unit) = text.next() {
-            if unit.is_end() {
-                return true;
-            }
-            if !unit.is_clean() {
-                return false;
-            }
-            let place = table.len() - text.rest().len();
-            if end <= place {
-                let mark = 2 * next + (place - end);
-                return mark < 2048 && self.set[mark];
-            }
+        let place = passing::pass_units(self.table, at, end);
+        if end <= place {
+            let mark = 2 * next + (place - end);
+            return mark < 2048 && self.set[mark];
         }
-        true
+        units::byte_at(self.table, place) == 0
     }
 }
 

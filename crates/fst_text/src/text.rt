@@ -4,7 +4,7 @@ ghost use Rattle.tree.specs.Table.{dots};
 ghost use Rattle.fst_text.specs.Inner.Texts.{textAt, cleanFrom, NoLead, CleanTo, nameless};
 
 use crate::units::Units;
-use crate::{names, units};
+use crate::{names, passing, units};
 
 /// The text that starts at `at`, up to its zero byte or the table's end.
 pub fn text_at(table: &[u8], at: usize) -> &[u8]
@@ -89,6 +89,7 @@ pub fn clean_end(table: &[u8], from: usize) -> usize
 pub fn is_clean_from(table: &[u8], from: usize) -> bool
     ensures { result ≡ cleanFrom table.now from }
 {
+    let from = passing::pass_clean_units(table, from);
     Units::new(&table[from.min(table.len())..]).all(|unit| unit.is_clean())
 }
 

@@ -1,5 +1,5 @@
 -- `fst_text::text::is_clean_from` meets its contract: each unit is.
-use Rattle.std.proofs.Common.{rules, ap, ◌∙◌}
+use Rattle.std.proofs.Common.{rules, sym, ap, ◌∙◌}
 use Rattle.std.proofs.lemmas.Iterator.Consumers.{YieldsList-from_first}
 use Rattle.std.proofs.lemmas.Iterator.Search.{all_from_yields_List}
 use lib.ListN.{drop}
@@ -13,4 +13,4 @@ pub returns : goal.returns
 returns c =
     let T = c.args.table.now in
     all_from_yields_List cleanUnit _ _ _ c.all.ensures.ran (YieldsList-from_first unit_of (λ rest. rest) (units (drop c.min.result T)) (c.new.ensures ∙ ap units (whole-rest T c.min.result))) (λ x b q k. search rules)
-    ∙ clean-is T c.args.from c.min.result c.min.ensures
+    ∙ clean-is T c.pass_clean_units-from.result c.min.result c.min.ensures ∙ sym c.pass_clean_units-from.ensures
