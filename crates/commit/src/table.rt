@@ -1,7 +1,8 @@
-// The new table: whether it can be written, and the tree of an open disc written anew into the working bytes.
+// The new table: whether it can be written, and the tree as it is written anew into the working bytes.
 ghost use Rattle.std.specs.Prelude.{◌≡◌, ◌≤◌, ◌^◌, length, IfOk};
 ghost use Rattle.endian.specs.Bytes.{put};
-ghost use Rattle.tree.specs.Table.{encode};
+ghost use Rattle.tree.specs.Table.{count, nodesOf, encode};
+ghost use Rattle.fst_measure.specs.Inner.Valid.{Valid};
 ghost use Rattle.commit.specs.Inner.Judged.{place_verdict, judged_size};
 
 use opened::OpenDisc;
@@ -47,11 +48,12 @@ pub fn check_table(disc: &OpenDisc<'_>, room: usize, place: DiscRegion) -> Resul
     Ok(size)
 }
 
-/// The tree as it is, written anew.
-pub fn write_table(disc: &OpenDisc<'_>, bytes: &mut [u8])
-    requires held { length (encode disc.now.nodes) ≤ length bytes.old }
-    requires small { length (encode disc.now.nodes) ≤ 2 ^ 24 }
-    ensures { bytes.new ≡ put bytes.old 0 (encode disc.now.nodes) }
+/// The tree of a valid table, as that of an open disc is, written anew.
+pub fn write_table(table: &[u8], bytes: &mut [u8])
+    requires valid { Valid table.now (count table.now) }
+    requires held { length (encode (nodesOf table.now)) ≤ length bytes.old }
+    requires small { length (encode (nodesOf table.now)) ≤ 2 ^ 24 }
+    ensures { bytes.new ≡ put bytes.old 0 (encode (nodesOf table.now)) }
 {
-    fst_write::write_table(disc.table(), bytes);
+    fst_write::write_table(table, bytes);
 }

@@ -5,7 +5,7 @@ mod finding;
 mod moving;
 mod resizing;
 
-pub use finding::file_at;
+pub use finding::{file_at, file_on_disc};
 pub use moving::{move_file, rewrite};
 pub use resizing::{resize, resize_file};
 use space::DiscRegion;

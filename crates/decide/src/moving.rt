@@ -8,7 +8,7 @@ ghost use Rattle.commit.specs.Inner.Decision.{InImage, changeWith, Decides};
 ghost use Rattle.decide.specs.Inner.Files.{IsFile, IsFileOf, relocation_of};
 
 use crate::File;
-use crate::finding::file_at;
+use crate::finding::file_on_disc;
 use commit::{Decision, Span, Writing};
 use opened::OpenDisc;
 use refusal::{Refusal, Verdict};
@@ -21,7 +21,7 @@ pub fn rewrite(disc: &OpenDisc<'_>, bytes: &mut [u8]) -> Result<Decision, Refusa
     ensures { Decides (change 0 (tableOnly disc.now.nodes)) disc.now (length bytes.old) bytes.new result }
 {
     let size = commit::check_table(disc, bytes.len(), Writing::NOTHING.place)?;
-    commit::write_table(disc, bytes);
+    commit::write_table(disc.table(), bytes);
     Ok(Decision::Write {
         number: 0,
         size,
@@ -43,7 +43,7 @@ pub(crate) fn set_place(
 {
     let place = writing.place;
     let size = commit::check_table(disc, bytes.len(), place)?;
-    commit::write_table(disc, bytes);
+    commit::write_table(disc.table(), bytes);
     fst_patch::set_place(bytes, number as usize, place.offset, place.size);
     Ok(Decision::Write {
         number,
@@ -114,7 +114,7 @@ pub fn move_file(
     ensures { let plan = planMove (free_of disc.now) disc.now.nodes number offset in
         Decides plan disc.now (length bytes.old) bytes.new result }
 {
-    let file = file_at(disc, number)?;
+    let file = file_on_disc(disc, number)?;
     let new = DiscRegion {
         offset,
         size: file.place.size,

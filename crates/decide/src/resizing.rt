@@ -9,7 +9,7 @@ ghost use Rattle.commit.specs.Inner.Decision.{Decides};
 ghost use Rattle.decide.specs.Inner.Files.{IsFileOf};
 
 use crate::File;
-use crate::finding::file_at;
+use crate::finding::file_on_disc;
 use crate::moving::{relocate, set_place};
 use commit::{Decision, Span, Writing};
 use opened::OpenDisc;
@@ -103,6 +103,6 @@ pub fn resize_file(
     ensures { let plan = planResize (free_of disc.now) disc.now.nodes number new_size in
         Decides plan disc.now (length bytes.old) bytes.new result }
 {
-    let file = file_at(disc, number)?;
+    let file = file_on_disc(disc, number)?;
     resize(disc, bytes, file, new_size)
 }

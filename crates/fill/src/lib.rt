@@ -43,7 +43,7 @@ pub fn fill(
     ensures { let plan = planFill (free_of disc.now) disc.now.nodes number clip.now in
         DecidesWith clip.now plan disc.now (length bytes.old) bytes.new result }
 {
-    let file = decide::file_at(disc, number)?;
+    let file = decide::file_on_disc(disc, number)?;
     let Ok(new_size) = u32::try_from(clip.len()) else {
         return Err(Refusal::NotEnoughSpace);
     };

@@ -32,7 +32,7 @@ pub fn start_table(disc: &OpenDisc<'_>, bytes: &mut [u8]) -> Result<usize, Refus
     if bytes.len() < size {
         return Err(Refusal::LimitOrMemory);
     }
-    commit::write_table(disc, bytes);
+    commit::write_table(disc.table(), bytes);
     Ok(size)
 }
 

@@ -9,13 +9,13 @@ pub returns-in_err-file : goal.returns-in_err-file
 returns-in_err-file c =
     let a = c.args in
     let p = err_from_is_err_and c.from_residual.result c.from_residual.ensures.1 in
-    rw (p.1, p.2) (λ image m. no-file-to-fill image a.disc.now m a.bytes.now _ a.clip.now a.number _ c.file_at.ensures.answer _ c.in_err-file.was)
+    rw (p.1, p.2) (λ image m. no-file-to-fill image a.disc.now m a.bytes.now _ a.clip.now a.number _ c.file_on_disc.ensures.answer _ c.in_err-file.was)
 
 pub returns-in_default : goal.returns-in_default
 returns-in_default c =
     let a = c.args in
     let past : 0xFFFFFFFF < length a.clip.now = omega (arith, c.in_default.ensures) in
-    λ image m. clip-too-long image a.disc.now m a.bytes.now _ a.clip.now a.number _ c.file_at.ensures.answer _ c.in_ok-file.was past
+    λ image m. clip-too-long image a.disc.now m a.bytes.now _ a.clip.now a.number _ c.file_on_disc.ensures.answer _ c.in_ok-file.was past
 
 pub returns-in_err-decision : goal.returns-in_err-decision
 returns-in_err-decision c =
@@ -24,10 +24,10 @@ returns-in_err-decision c =
     let p = err_from_is_err_and e.result e.ensures.1 in
     let n = c.in-Ok.ensures in
     rw (p.1, p.2)
-    (λ image m. not-resized image a.disc.now m a.bytes.now _ a.clip.now a.number _ c.file_at.ensures.answer _ c.in_ok-file.was c.resize.auto.bytes _ (omega (arith, n.0)) n.1 _ (search c.in_err-decision.ensures))
+    (λ image m. not-resized image a.disc.now m a.bytes.now _ a.clip.now a.number _ c.file_on_disc.ensures.answer _ c.in_ok-file.was c.resize.auto.bytes _ (omega (arith, n.0)) n.1 _ (search c.in_err-decision.ensures))
 
 pub returns : goal.returns
 returns c =
     let a = c.args in
     let n = c.in-Ok.ensures in
-    λ image m. filled-by image a.disc.now m a.bytes.now _ a.clip.now a.number _ c.file_at.ensures.answer _ c.in_ok-file.was c.resize.auto.bytes _ (omega (arith, n.0)) n.1 _ _ (search c.in_ok-decision.ensures) c.with_clip.ensures
+    λ image m. filled-by image a.disc.now m a.bytes.now _ a.clip.now a.number _ c.file_on_disc.ensures.answer _ c.in_ok-file.was c.resize.auto.bytes _ (omega (arith, n.0)) n.1 _ _ (search c.in_ok-decision.ensures) c.with_clip.ensures

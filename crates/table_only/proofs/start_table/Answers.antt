@@ -22,12 +22,16 @@ returns-then-bytes-size-clause-built c =
 pub write_table-requires : goal.write_table-requires
 write_table-requires c =
     let n = size-measured _ _ c.table.ensures.of_image _ c.measure.ensures _ c.in_ok-size.was in
-    record { held = omega (arith, n); small = table-small _ _ c.table.ensures.of_image _ c.measure.ensures _ c.in_ok-size.was }
+    record {
+      valid = opens-valid _ c.table.ensures.opens;
+      held = rw c.table.ensures.nodes (omega (arith, n));
+      small = rw c.table.ensures.nodes (table-small _ _ c.table.ensures.of_image _ c.measure.ensures _ c.in_ok-size.was);
+    }
 
 pub returns-clause-built : goal.returns-clause-built
 returns-clause-built c =
     let t = c.table.ensures.of_image in
-    (within-limit _ _ t _ c.measure.ensures _ c.in_ok-size.was, size-measured _ _ t _ c.measure.ensures _ c.in_ok-size.was, omega arith, c.write_table.ensures)
+    (within-limit _ _ t _ c.measure.ensures _ c.in_ok-size.was, size-measured _ _ t _ c.measure.ensures _ c.in_ok-size.was, omega arith, rw c.table.ensures.nodes at c.write_table.ensures)
 
 pub returns-clause-table : goal.returns-clause-table
 returns-clause-table c = (started _ _ c.table.ensures.of_image _ _ _ (returns-clause-built c)).0

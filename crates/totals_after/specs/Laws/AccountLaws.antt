@@ -21,7 +21,7 @@ use Rattle.program.specs.Program.{programBehind}
 use Rattle.opening.specs.Opening.{nodesIn, behindTable, usedIn, usedOf, freeOf}
 use Rattle.opening.proofs.Laws.OpeningLaws.{used-regions}
 use Rattle.opening.specs.Inner.Prepared.{IsOpen}
-use Rattle.opened.specs.Inner.Disc.{Disc, Means}
+use Rattle.opened.specs.Inner.Disc.{Disc, Means, disc_of}
 use Rattle.edits.specs.Change.{Change, tableVerdict, Plan, refused, nothing, change, filled}
 use Rattle.edits.specs.Edits.{noPlace, planVerdict, totalsTo}
 use Rattle.ledger.proofs.Laws.Files.{placesIn, used-files}
@@ -164,3 +164,9 @@ module _ (d : Disc) (image : List ℕ) (m : Means image d) (room : ℕ) (bytes c
   on-disc (filled k y nothing) (Ok (decision.Write n size w)) h = absurd h.carries
   on-disc (filled k y (refused v)) (Ok (decision.Write n size w)) h = absurd h.carries
   on-disc (filled k y (filled j z p)) (Ok (decision.Write n size w)) h = absurd h.carries
+
+-- LAW: what is decided on may be entered in the record
+pub may-account : (p : Plan) (image w : List ℕ) (m room : ℕ) (bytes clip : List ℕ) (d : Result Decision Refusal) → DecidedAs (planVerdict p image (length w) room) p image room bytes clip d → IsOpen image w m → length bytes ≡ room →
+    IsOpen image w m × OnDisc (disc_of image (length w)) d
+may-account p image w m room bytes clip d h o long =
+    (o, on-disc (disc_of image (length w)) image (record { known = o.known; is = refl }) room bytes clip long p d h)
