@@ -90,7 +90,6 @@ impl<'a> Ends<'a> {
 }
 
 // What the list has of an entry, in the order of its six words.
-// Kept: the list that is lent has words, and says 0 for a file and 1 for a directory.
 #[derive(Clone, Copy)]
 struct Row {
     kind: u32,
@@ -165,26 +164,13 @@ impl Rows<'_> {
         requires size { size ≡ length (name_of (get_or (nodesOf self.now.table.now) k none)) }
         ensures { row_of self.now.base self.now.table.now k ≡ result.kind ∷ result.parent ∷ result.offset ∷ result.last ∷ result.place ∷ result.size ∷ [] }
     {
-        let place = self.image_place(k);
-        let last = self.table.last(k);
-        if self.table.is_directory(k) {
-            Row {
-                kind: 1,
-                parent,
-                offset: 0,
-                last,
-                place,
-                size,
-            }
-        } else {
-            Row {
-                kind: 0,
-                parent,
-                offset: self.table.offset(k),
-                last,
-                place,
-                size,
-            }
+        Row {
+            kind: u32::from(self.table.is_directory(k)),
+            parent,
+            offset: self.table.offset(k),
+            last: self.table.last(k),
+            place: self.image_place(k),
+            size,
         }
     }
 
