@@ -31,13 +31,13 @@ fn length_before(table: &[u8], at: usize, stop: usize, end: usize) -> usize
     zero_within(&table[at..], stop - at).unwrap_or(end - at)
 }
 
-// Where long texts of a table end. Of each 4,096 bytes `ends` has where the text that stands at their start ends, or 0; a text longer than that
-// tells it of the next ones. So many names that share a long text cost 4,096 bytes each, and the text a few times.
+// Where long texts of a table end. Of each 4,096 bytes `ends` has where the text that stands at their start ends, if it is known; a text longer
+// than that tells it of the next ones. So many names that share a long text cost 4,096 bytes each, and the text a few times.
 #[derive(Drop)]
 struct Ends<'a> {
     table: &'a Table<'a>,
     // Kept: nothing allocates, so that there is a number for each 4,096 bytes of the longest table.
-    ends: [u32; 320],
+    ends: [Option<u32>; 320],
     ghost small: { length table.now < 2 ^ 32 },
     ghost ends_in: { EndsIn table.now ends },
 }
@@ -49,7 +49,7 @@ impl<'a> Ends<'a> {
     {
         Ends {
             table,
-            ends: [0; 320],
+            ends: [None; 320],
         }
     }
 
@@ -64,13 +64,12 @@ impl<'a> Ends<'a> {
         if 320 <= next {
             return fst::text_length(bytes, at);
         }
-        let end = self.ends[next] as usize;
-        if 0 < end {
-            return length_before(bytes, at, 4096 * next, end);
+        if let Some(end) = self.ends[next] {
+            return length_before(bytes, at, 4096 * next, end as usize);
         }
         let size = fst::text_length(bytes, at);
         if 4096 < size {
-            self.ends[next] = (at + size) as u32;
+            self.ends[next] = Some((at + size) as u32);
         }
         size
     }
