@@ -14,7 +14,7 @@ use std::marker::Model;
 use tree::{DirectoryEntry, Entry, FileEntry, Found};
 
 /// A file table that the checks accepted, so that its entries stand in it and nest, and each name ends in it.
-// Kept: no table is compared with another, so that derived equality would serve no one.
+// Kept: no derived equality, which would ask for an `inverse`: the view is the bytes, and forgets where they lie.
 #[derive(Drop)]
 pub struct Table<'a> {
     pub(crate) bytes: &'a [u8],
@@ -84,6 +84,7 @@ impl<'a> Table<'a> {
         requires { k < table_of.count self.now }
         ensures stored { result ≡ sizeOrNext self.now k }
         ensures last { result ≡ last_of (get_or (nodesOf self.now) k none) }
+        ensures held { Held self.now }
     {
         endian::read_u32(self.bytes, 12 * k + 8)
     }
@@ -127,18 +128,12 @@ impl<'a> Table<'a> {
     }
 
     /// The directory that entry `k` is nested in: the last one before it whose next is past it. The stored parent is not read.
-    // Kept: `(0..k).rev().find(..)` was tried: the check did not prove what it finds, and std has no lemma on `rev` of a range.
     pub fn parent(&self, k: usize) -> usize
         requires { k < table_of.count self.now }
         ensures parent { result ≡ parent_of (nodesOf self.now) k }
         ensures before { result ≤ k }
     {
-        for i in (0..k).rev() {
-            if k < self.next(i) {
-                return i;
-            }
-        }
-        0
+        (0..k).rfind(|&i| k < self.next(i)).unwrap_or(0)
     }
 
     // Entry `k`, a file with offset and size or a directory with parent and next.

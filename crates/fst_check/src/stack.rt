@@ -49,6 +49,7 @@ impl Stack {
     }
 
     // The one on top; 0 where there is none.
+    // Kept: no `Option`, which is no plainer: the definition `top` has 0 there, and an entry's next is compared with it.
     pub(crate) fn top(&self) -> u32
         ensures { result ≡ table_of.top self.now }
     {

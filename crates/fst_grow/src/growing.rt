@@ -19,6 +19,7 @@ const MOST_AROUND: usize = 64;
 /// A written table in front of lent bytes, which grows there by one entry at a time.
 // Kept: its fields are public, and no `impl Model`: with one, a caller that lends the bytes knew nothing of
 // what they hold when the loan ends, and its proof didn't close. What is true of each is the ghost field.
+// Kept: no derived equality, which would compare all lent bytes, those behind the table too.
 #[derive(Drop)]
 pub struct Growing<'a> {
     /// The lent bytes, the table in front.

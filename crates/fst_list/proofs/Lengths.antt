@@ -10,7 +10,7 @@ use borrow.Author.Tests.{ltb-true, ltb-false, ne_eqb}
 use lib.ListN.{length, get_or, set, replicate, take, drop, length-set, length-replicate, get_or-replicate, length-drop}
 use lib.Seq.{get_or-set_same, get_or-set_other, drop-drop}
 use lib.Dec.{ltb, eqb}
-use Rattle.std.specs.Prelude.{Some, None, unwrap_or}
+use Rattle.std.specs.Prelude.{Option, Some, None, unwrap_or}
 use Rattle.std.specs.List.{position, position_or_len}
 use Rattle.tree.specs.Table.{upTo0}
 use Rattle.refusal.specs.Laws.Tests.{lt-or-le}
@@ -27,15 +27,24 @@ length-inside tab at (suc d) h =
     rw e (⊎_elim (λ (l : 0 < get_or tab (at + d) 0). omega (arith, i, length-turn tab (at + d) (λ z. omega arith)))
     (λ (l : get_or tab (at + d) 0 ≤ 0). absurd (omega (arith, i, length-end tab (at + d) (omega arith)))) (lt-or-le 0 (get_or tab (at + d) 0)))
 
-pub ends-start : (tab : List ℕ) → EndsIn tab (replicate 320 0)
-ends-start tab = record { blocks = length-replicate {A = ℕ} 320 0; small = λ b l. omega (arith, get_or-replicate {A = ℕ} 320 b 0 0 l); each = λ b l h. absurd (omega (arith, get_or-replicate {A = ℕ} 320 b 0 0 l)) }
+abbrev option_number : Option ℕ → ℕ
+option_number None = 0
+option_number (Some n) = 1
+
+some-is : {a b : ℕ} → Some a ≡ Some b → a ≡ b
+some-is {a} e = ap (λ o. unwrap_or o a) e
+
+no-end : {n : ℕ} → ◌≡◌ {A = Option ℕ} None (Some n) → ⊥
+no-end e = let z : ◌≡◌ {A = ℕ} 0 1 = ap (λ (o : Option ℕ). option_number o) e in absurd (omega arith)
+
+pub ends-start : (tab : List ℕ) → EndsIn tab (replicate 320 None)
+ends-start tab = record { blocks = length-replicate {A = Option ℕ} 320 None; each = λ b end l h. absurd (no-end (sym (get_or-replicate {A = Option ℕ} 320 b None None l) ∙ h)) }
 
 -- the end of a long text is told to the next block
-pub ends-turn : (tab ends : List ℕ) (at b v : ℕ) → EndsIn tab ends → b < 320 → at ≤ 4096 * b → 4096 * b ≤ at + length (textAt tab at) → v ≡ at + length (textAt tab at) → v < 2 ^ 32 → EndsIn tab (set ends b v)
-ends-turn tab ends at b v e l p q is low = record {
-  blocks = length-set ends b v ∙ e.blocks;
-  small = λ j m. ⊎_elim (λ jb. below j m (λ r. omega arith)) (λ bj. ⊎_elim (λ r. below j m (λ s. omega arith)) (λ r. let f : j ≡ b = omega arith in rw f (omega (arith, low, get_or-set_same ends b v 0 (omega (arith, e.blocks))))) (lt-or-le b j)) (lt-or-le j b);
-  each = λ j m. ⊎_elim (λ jb. other j m (λ r. omega arith)) (λ bj. ⊎_elim (λ r. other j m (λ s. omega arith)) (λ r. let f : j ≡ b = omega arith in rw f here) (lt-or-le b j)) (lt-or-le j b);
+pub ends-turn : (tab : List ℕ) (ends : List (Option ℕ)) (at b v : ℕ) → EndsIn tab ends → b < 320 → at ≤ 4096 * b → 4096 * b ≤ at + length (textAt tab at) → v ≡ at + length (textAt tab at) → EndsIn tab (set ends b (Some v))
+ends-turn tab ends at b v e l p q is = record {
+  blocks = length-set ends b (Some v) ∙ e.blocks;
+  each = λ j end m. ⊎_elim (λ jb. other j end m (λ r. omega arith)) (λ bj. ⊎_elim (λ r. other j end m (λ s. omega arith)) (λ r. let f : j ≡ b = omega arith in rw f (here end)) (lt-or-le b j)) (lt-or-le j b);
 }
   where
     whole : v ≡ 4096 * b + length (textAt tab (4096 * b))
@@ -43,14 +52,11 @@ ends-turn tab ends at b v e l p q is low = record {
         let f : at + (4096 * b - at) ≡ 4096 * b = omega arith in
         let i = length-inside tab at (4096 * b - at) (omega arith) in omega (arith, is, rw f at i)
 
-    below : (j : ℕ) → j < 320 → (j ≡ b → ⊥) → get_or (set ends b v) j 0 < 2 ^ 32
-    below j m n = rw (get_or-set_other ends b j v 0 n) (e.small j m)
+    here : (end : ℕ) → get_or (set ends b (Some v)) b None ≡ Some end → end ≡ 4096 * b + length (textAt tab (4096 * b))
+    here end h = sym (some-is (sym (get_or-set_same ends b (Some v) None (omega (arith, e.blocks))) ∙ h)) ∙ whole
 
-    here : 0 < get_or (set ends b v) b 0 → get_or (set ends b v) b 0 ≡ 4096 * b + length (textAt tab (4096 * b))
-    here h = get_or-set_same ends b v 0 (omega (arith, e.blocks)) ∙ whole
-
-    other : (j : ℕ) → j < 320 → (j ≡ b → ⊥) → 0 < get_or (set ends b v) j 0 → get_or (set ends b v) j 0 ≡ 4096 * j + length (textAt tab (4096 * j))
-    other j m n = rw (get_or-set_other ends b j v 0 n) (e.each j m)
+    other : (j end : ℕ) → j < 320 → (j ≡ b → ⊥) → get_or (set ends b (Some v)) j None ≡ Some end → end ≡ 4096 * j + length (textAt tab (4096 * j))
+    other j end m n = rw (get_or-set_other ends b j (Some v) None n) (e.each j end m)
 
 -- ---- a text that another stands behind: it ends before that one, or with it
 

@@ -8,6 +8,7 @@ use native.Mathlib.Omega.{arith}
 use native.Mathlib.Numerals.{add-one}
 use borrow.Author.Tests.{lt-ltb, le-ltb}
 use lib.ListN.{length, get_or, drop, set, length-append, get_or-append}
+use mir.Val.{bool_byte}
 use lib.Seq.{get_or-append-add, take-append_seam, drop-append-add, drop-drop}
 use Rattle.endian.specs.Bytes.{put}
 use Rattle.endian.specs.Laws.Stored.{length-put, put-sets, put_in, put-none}
@@ -35,24 +36,14 @@ stores-6 s at a b c d e f h =
 
 -- ---- a row by the entry's kind
 
-with-file : (parent place : ℕ) (x : Node) → isDirectory x ≡ false → rowWith parent place x ≡ 0 ∷ parent ∷ offset_of x ∷ last_of x ∷ place ∷ length (name_of x) ∷ []
-with-file parent place (file nm offset size) d = refl
-with-file parent place (directory nm next) d = let z : ◌≡◌ {A = ℕ} 0 1 = cc in absurd (omega arith)
+with-node : (parent place : ℕ) (x : Node) → rowWith parent place x ≡ bool_byte (isDirectory x) ∷ parent ∷ offset_of x ∷ last_of x ∷ place ∷ length (name_of x) ∷ []
+with-node parent place (file nm offset size) = refl
+with-node parent place (directory nm next) = refl
 
-with-directory : (parent place : ℕ) (x : Node) → isDirectory x ≡ true → rowWith parent place x ≡ 1 ∷ parent ∷ 0 ∷ last_of x ∷ place ∷ length (name_of x) ∷ []
-with-directory parent place (file nm offset size) d = let z : ◌≡◌ {A = ℕ} 0 1 = cc in absurd (omega arith)
-with-directory parent place (directory nm next) d = refl
-
-module _ (base : ℕ) (tab : List ℕ) (k : ℕ) where
-  pub row-file : isDirectory (get_or (nodesOf tab) k none) ≡ false →
-      row_of base tab k ≡ 0 ∷ parent_of (nodesOf tab) k ∷ offset_of (get_or (nodesOf tab) k none) ∷ last_of (get_or (nodesOf tab) k none) ∷ imagePlace base tab k ∷ length (name_of (get_or (nodesOf tab) k none)) ∷ []
-  unfolding row_of
-  row-file d = with-file (parent_of (nodesOf tab) k) (imagePlace base tab k) (get_or (nodesOf tab) k none) d
-
-  pub row-directory : isDirectory (get_or (nodesOf tab) k none) ≡ true →
-      row_of base tab k ≡ 1 ∷ parent_of (nodesOf tab) k ∷ 0 ∷ last_of (get_or (nodesOf tab) k none) ∷ imagePlace base tab k ∷ length (name_of (get_or (nodesOf tab) k none)) ∷ []
-  unfolding row_of
-  row-directory d = with-directory (parent_of (nodesOf tab) k) (imagePlace base tab k) (get_or (nodesOf tab) k none) d
+pub row-is : (base : ℕ) (tab : List ℕ) (k : ℕ) → let x = get_or (nodesOf tab) k none in
+    row_of base tab k ≡ bool_byte (isDirectory x) ∷ parent_of (nodesOf tab) k ∷ offset_of x ∷ last_of x ∷ imagePlace base tab k ∷ length (name_of x) ∷ []
+unfolding row_of
+row-is base tab k = with-node (parent_of (nodesOf tab) k) (imagePlace base tab k) (get_or (nodesOf tab) k none)
 
 -- ---- rows one behind the other
 

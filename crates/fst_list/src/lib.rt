@@ -66,13 +66,13 @@ fn length_before(table: &[u8], at: usize, stop: usize, end: usize) -> usize
     near - at + zero_within(&table[near..], stop - near).unwrap_or(end - near)
 }
 
-// Where long texts of a table end. Of each 4,096 bytes `ends` has where the text that stands at their start ends, or 0; a text longer than that
-// tells it of the next ones. So many names that share a long text cost 4,096 bytes each, and the text a few times.
+// Where long texts of a table end. Of each 4,096 bytes `ends` has where the text that stands at their start ends, if it is known; a text longer
+// than that tells it of the next ones. So many names that share a long text cost 4,096 bytes each, and the text a few times.
 #[derive(Drop)]
 struct Ends<'a> {
     table: &'a Table<'a>,
     // Kept: nothing allocates, so that there is a number for each 4,096 bytes of the longest table.
-    ends: [u32; 320],
+    ends: [Option<u32>; 320],
     ghost small: { length table.now < 2 ^ 32 },
     ghost ends_in: { EndsIn table.now ends },
 }
@@ -84,7 +84,7 @@ impl<'a> Ends<'a> {
     {
         Ends {
             table,
-            ends: [0; 320],
+            ends: [None; 320],
         }
     }
 
@@ -99,13 +99,12 @@ impl<'a> Ends<'a> {
         if 320 <= next {
             return fst::text_length(bytes, at);
         }
-        let end = self.ends[next] as usize;
-        if 0 < end {
-            return length_before(bytes, at, 4096 * next, end);
+        if let Some(end) = self.ends[next] {
+            return length_before(bytes, at, 4096 * next, end as usize);
         }
         let size = fst::text_length(bytes, at);
         if 4096 < size {
-            self.ends[next] = (at + size) as u32;
+            self.ends[next] = Some((at + size) as u32);
         }
         size
     }
@@ -125,7 +124,6 @@ impl<'a> Ends<'a> {
 }
 
 // What the list has of an entry, in the order of its six words.
-// Kept: the list that is lent has words, and says 0 for a file and 1 for a directory.
 #[derive(Clone, Copy)]
 struct Row {
     kind: u32,
@@ -200,26 +198,13 @@ impl Rows<'_> {
         requires size { size ≡ length (name_of (get_or (nodesOf self.now.table.now) k none)) }
         ensures { row_of self.now.base self.now.table.now k ≡ result.kind ∷ result.parent ∷ result.offset ∷ result.last ∷ result.place ∷ result.size ∷ [] }
     {
-        let place = self.image_place(k);
-        let last = self.table.last(k);
-        if self.table.is_directory(k) {
-            Row {
-                kind: 1,
-                parent,
-                offset: 0,
-                last,
-                place,
-                size,
-            }
-        } else {
-            Row {
-                kind: 0,
-                parent,
-                offset: self.table.offset(k),
-                last,
-                place,
-                size,
-            }
+        Row {
+            kind: u32::from(self.table.is_directory(k)),
+            parent,
+            offset: self.table.offset(k),
+            last: self.table.last(k),
+            place: self.image_place(k),
+            size,
         }
     }
 

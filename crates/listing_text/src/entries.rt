@@ -14,7 +14,8 @@ use text_buffer::TextBuffer;
 // The directories around an entry, the root first.
 #[derive(Drop)]
 struct Directories {
-    // Kept: nothing allocates, so that there is room for as many as can be.
+    // Kept: nothing allocates, so that there is room for as many as can be. `fst_check::Stack` shows its top alone, and a path is put from the
+    // root on.
     numbers: [usize; 65],
     depth: usize,
 }

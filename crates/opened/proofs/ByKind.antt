@@ -1,11 +1,12 @@
 -- Where the bytes of an entry of an accepted table stand, by its kind. Assumes nothing.
 use Rattle.std.specs.Prelude.{ℕ, ◌<◌, ◌≡◌, Bool, true, false, not, eqb, List, get_or}
-use Rattle.std.proofs.Common.{sym, ◌∙◌, arith}
+use Rattle.std.proofs.Common.{sym, ap, ◌∙◌, arith}
 use borrow.Author.Tests.{eqb-true, not-false, eq-eqb}
-use Rattle.tree.specs.Table.{none, count, kind, nodesOf}
+use Rattle.tree.specs.Table.{none, count, kind, offsetOrParent, nodesOf}
 use Rattle.tree.specs.Lookup.{isDirectory}
 use Rattle.fst.specs.Inner.Held.{Held}
-use Rattle.fst.proofs.Nodes.{opened, is-directory}
+use Rattle.fst.specs.Inner.Fields.{offset_of}
+use Rattle.fst.proofs.Nodes.{opened, file-is, is-directory}
 
 module _ (tab : List ℕ) (h : Held tab) (k : ℕ) (inside : k < count tab) (t : Bool) (e : t ≡ isDirectory (get_or (nodesOf tab) k none)) where
   by-kind : not (eqb (kind tab k) 0) ≡ t
@@ -18,3 +19,7 @@ module _ (tab : List ℕ) (h : Held tab) (k : ℕ) (inside : k < count tab) (t :
 
   pub of-file : t ≡ false → kind tab k ≡ 0
   of-file f = eqb-true (kind tab k) 0 (not-false (eqb (kind tab k) 0) (by-kind ∙ f))
+
+  -- its offset is the field of the record
+  pub file-offset : t ≡ false → offset_of (get_or (nodesOf tab) k none) ≡ offsetOrParent tab k
+  file-offset f = ap offset_of (file-is (opened tab h.bytes h.opens) k inside (of-file f))

@@ -12,14 +12,15 @@ fn region_of(table: &Table<'_>, k: usize) -> Option<DiscRegion>
     requires { k < count table.now }
     ensures { RegionOf table.now k result }
 {
-    let bytes = table.bytes();
+    let region = DiscRegion {
+        offset: table.offset(k),
+        size: table.last(k),
+    };
     if table.is_directory(k) {
-        return None;
+        None
+    } else {
+        Some(region)
     }
-    Some(DiscRegion {
-        offset: endian::read_u32(bytes, 12 * k + 4),
-        size: endian::read_u32(bytes, 12 * k + 8),
-    })
 }
 
 // The regions collected so far, in front of the lent words.
@@ -70,19 +71,14 @@ impl Collected<'_> {
 }
 
 // The first file from entry k on, and before `end`, that is not empty: its number, and where it stands.
-// Kept: over numbers, since the table gives its entries by their numbers.
 fn next_file(table: &Table<'_>, k: usize, end: usize) -> Option<(usize, DiscRegion)>
     requires { end ≤ count table.now }
     ensures { InTurn k end result }
 {
-    for i in k..end {
-        if let Some(region) = region_of(table, i)
-            && region.size != 0
-        {
-            return Some((i, region));
-        }
-    }
-    None
+    (k..end).find_map(|i| {
+        let region = region_of(table, i).filter(|region| region.size != 0)?;
+        Some((i, region))
+    })
 }
 
 // The entry before which the program has its turn: where the files are in order, the first that lies behind it. Any

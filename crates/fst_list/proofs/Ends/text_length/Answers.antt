@@ -12,5 +12,5 @@ invariant_of-self c =
     let s = c.args.self.now in
     record {
       small = s.small;
-      ends_in = ends-turn _ _ c.args.at (c.args.at / 4096 + 1) _ s.ends_in (omega arith) (omega arith) (omega arith) (ap (λ (n : ℕ). c.args.at + n) e) (omega (arith, e, c.requires, s.small));
+      ends_in = ends-turn _ _ c.args.at (c.args.at / 4096 + 1) _ s.ends_in (omega arith) (omega arith) (omega arith) (ap (λ (n : ℕ). c.args.at + n) e);
     }

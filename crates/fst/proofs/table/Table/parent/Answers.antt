@@ -1,18 +1,13 @@
--- `Table::parent` meets its contract. The invariant of its loop: no directory from i on encloses the entry.
-use native.Mathlib.Omega.{arith}
-use mathlib.Core.Path.{sym, ◌∙◌}
+-- `Table::parent` meets its contract: the last directory before the entry whose next is past it.
+use Rattle.std.proofs.Common.{rules, tests, sym, refl, ◌∙◌, arith}
 use Rattle.tree.specs.Table.{nodesOf}
-use Rattle.fst.proofs.Nodes.{parent-found, parent-on, parent-whole, parent-none}
+use Rattle.fst.proofs.Nodes.{parent-whole}
+use Rattle.fst.proofs.Backward.{parent-back}
 use Rattle.fst.proofs.table.Table.parent.Goals as goal
 
-pub loop-i-init : goal.loop-i-init
-loop-i-init c = parent-whole (nodesOf c.args.self.now) c.args.k
-
-pub returns-then-k-next-clause-parent : goal.returns-then-k-next-clause-parent
-returns-then-k-next-clause-parent c = sym (c.loop-i.invariant ∙ parent-found (nodesOf c.args.self.now) c.args.k c.loop-i.i (omega arith) (omega arith))
-
-pub loop-i-preserved : goal.loop-i-preserved
-loop-i-preserved c = c.loop-i.invariant ∙ parent-on (nodesOf c.args.self.now) c.args.k c.loop-i.i (omega arith) (omega arith)
-
 pub returns-clause-parent : goal.returns-clause-parent
-returns-clause-parent c = sym (c.loop-i.invariant ∙ parent-none (nodesOf c.args.self.now) c.args.k c.loop-i.i (omega arith))
+returns-clause-parent c =
+    let nodes = nodesOf c.args.self.now in
+    let k = c.args.k in
+    let ran = c.rfind.ensures.ran in
+    sym (parent-whole nodes k ∙ parent-back _ (λ r. r.start) (λ r. r.end) (λ s t r d. d) nodes k _ (λ x q h. grind (arith, tests)) (λ x q h. (search rules, grind (arith, tests))) ran.0 _ _ c.rfind.result _ ran.1 refl refl ran.2 ran.3 ran.4 ∙ sym c.unwrap_or.ensures)
