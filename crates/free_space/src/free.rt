@@ -9,7 +9,8 @@ use std::marker::Model;
 
 /// The free regions, rising: the longest runs of bytes below the disc's end that no used region has.
 // The used regions that are still to come, and where the one before them ends: what the next turn needs.
-// Kept: no derived equality, which would compare the words that the used regions stand in.
+// Kept: no derived equality: contracts see the free regions alone, so it would need an `inverse` from those to the
+// fields, and there is none.
 #[derive(Drop)]
 pub struct FreeRegions<'a> {
     used: Regions<'a>,

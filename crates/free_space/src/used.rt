@@ -17,7 +17,8 @@ use space::{DiscRegion, Regions};
 use std::marker::Model;
 
 /// The used regions of a disc, in order, none empty and none over another, and where the disc ends.
-// Kept: no derived equality, which would compare the words behind the last region, too.
+// Kept: no derived equality: contracts see the regions alone, and not the words behind the last, so it would need an
+// `inverse` from those to the fields, and there is none.
 #[derive(Drop)]
 pub struct UsedRegions<'a> {
     words: &'a [u32],
@@ -135,8 +136,8 @@ impl<'a> UsedRegions<'a> {
         if list.len() / N < found {
             return Err(Refusal::LimitOrMemory);
         }
-        // Kept: where the row of a number stands is `i * N..(i + 1) * N` under `enumerate`, which is no plainer than
-        // `at`.
+        // Kept: tried without `at`, by `zip(list.chunks_mut(N))`: what the list holds once the chunks are given back is
+        // not known, its length alone, so what the call leaves there stays open.
         let mut at = 0;
         for region in self.free_regions() {
             R::put(region, &mut list[at..at + N]);
