@@ -9,7 +9,9 @@ use insert::{Kind, NewEntry};
 use pipeline::Edit;
 use totals::Totals;
 
-// Kept: image, words, bytes and record go one by one, since C lends each by itself (C).
+// Kept: image, words, bytes and record one by one: in the exported functions C lends each by itself (C). In `give_done` and `give_entry`,
+// which C does not call, each is written or zeroed apart from the others, and a struct of four `&mut` would have each contract name the
+// loan of each field (N).
 
 // An edit that gives only that it is done.
 fn give_done(

@@ -51,7 +51,8 @@ fn list_disc(disc: &OpenDisc<'_>, text: &mut [u8]) -> Result<usize, Refusal>
 }
 
 // The listing of an image, the words left as opening leaves them.
-// Kept: image, words and text are what each call of the library is lent, here and in the three functions below that have them.
+// Kept: image, words and text one by one, here and in the three functions below that have them (N): the image is only read, the words are
+// zeroed and the text is written, each apart, and a struct of three loans would have each contract name the loan of each field.
 fn list_image(image: &[u8], words: &mut [u32], text: &mut [u8]) -> Result<usize, Refusal>
     ensures answer { result ≡ listAnswer image.now (length words.old) (length text.old) }
     ensures text_after { text.new ≡ listBuffer image.now (length words.old) text.old }

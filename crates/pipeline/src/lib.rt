@@ -81,7 +81,8 @@ pub fn decide_open(
 }
 
 // What is decided on, entered in the record: 25 comes last.
-// Kept: `image`, `words`, `bytes`, `totals` here and below (C): the memory that a call of the library is lent.
+// Kept: `image`, `words`, `bytes`, `totals` one by one, here and below (N): each is written or zeroed apart from the others, and a
+// struct of four `&mut` would have each contract name the loan of each field.
 fn decide(
     image: &[u8],
     words: &mut [u32],

@@ -28,11 +28,12 @@ pub fn start_table(disc: &OpenDisc<'_>, bytes: &mut [u8]) -> Result<usize, Refus
     ensures table { IfOk result (λ size. Stands bytes.new size disc.now.words) }
     ensures tree { IfOk result (λ size. treeIn bytes.new size ≡ disc.now.nodes) }
 {
-    let size = fst_measure::measure(disc.table())?;
+    let table = disc.table();
+    let size = fst_measure::measure(table)?;
     if bytes.len() < size {
         return Err(Refusal::LimitOrMemory);
     }
-    commit::write_table(disc.table(), bytes);
+    commit::write_table(table, bytes);
     Ok(size)
 }
 
