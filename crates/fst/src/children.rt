@@ -1,5 +1,5 @@
 // The entries of a directory, by name.
-ghost use Rattle.std.specs.Prelude.{◌≡◌, false, ◌≤◌, ◌<◌, length};
+ghost use Rattle.std.specs.Prelude.{ℕ, ◌≡◌, false, ◌≤◌, ◌<◌, length, Some};
 ghost use Rattle.endian.specs.Bytes.{sameBytes};
 ghost use Rattle.tree.specs.Table as table_of;
 ghost use Rattle.tree.specs.Table.{nodesOf};
@@ -12,16 +12,15 @@ use crate::table::Table;
 use crate::text;
 use refusal::Refusal;
 
-// Whether the text at `place` has the bytes of `name`. The text at `differs` has not, unless this is 0, and is not compared again, since
+// Whether the text at `place` has the bytes of `name`. The text at `differs`, if there is one, has not, and is not compared again, since
 // entries can share a long text.
-fn has_name(table: &[u8], place: usize, differs: usize, name: &[u8]) -> bool
-    requires behind_root { 0 < place }
+fn has_name(table: &[u8], place: usize, differs: Option<usize>, name: &[u8]) -> bool
     requires inside { place ≤ length table.now }
     requires no_zero { hasZero name.now ≡ false }
-    requires unlike { 0 < differs → sameBytes (textAt table.now differs) name.now ≡ false }
+    requires unlike { (at : ℕ) → differs ≡ Some at → sameBytes (textAt table.now at) name.now ≡ false }
     ensures { result ≡ sameBytes (textAt table.now place) name.now }
 {
-    place != differs && text::text_is(table, place, name)
+    differs != Some(place) && text::text_is(table, place, name)
 }
 
 impl<'a> Table<'a> {
@@ -49,7 +48,7 @@ impl<'a> Table<'a> {
         let table = self.bytes;
         let stop = self.next(d);
         // Kept: nothing allocates, so that there is a place for each of the 32 pieces that texts can have.
-        let mut differs = [0usize; 32];
+        let mut differs = [None; 32];
         let mut k = d + 1;
         while k < stop {
             let place = self.name_place(k);
@@ -57,7 +56,7 @@ impl<'a> Table<'a> {
             if has_name(table, place, differs[slot], name) {
                 return Ok(k as u32);
             }
-            differs[slot] = place;
+            differs[slot] = Some(place);
             k = self.after(k);
         }
         Err(Refusal::NotFound)

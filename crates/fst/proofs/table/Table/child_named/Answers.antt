@@ -12,7 +12,7 @@ use Rattle.tree.proofs.Laws.Accepted.{length-nodesOf}
 use Rattle.fst_text.specs.Inner.Texts.{textAt}
 use Rattle.fst.proofs.Nodes.{held}
 use Rattle.fst.proofs.NamePlaces.{place_inside}
-use Rattle.fst.proofs.Ended.{name-there, place-some}
+use Rattle.fst.proofs.Ended.{name-there}
 use Rattle.fst.proofs.ChildLaws.{search-start, search-found, search-turn, search-end, next_le, after-past}
 use Rattle.fst.proofs.Unlike.{unlike-start, unlike-turn}
 use Rattle.fst.proofs.table.Table.child_named.Goals as goal
@@ -30,10 +30,6 @@ loop-k-init c =
       search = search-start (nodesOf T) c.args.d c.args.name.now c.next-stop.result w d c.next-stop.ensures;
       unlike = unlike-start T c.args.name.now;
     }
-
-pub has_name-requires-clause-behind_root : goal.has_name-requires-clause-behind_root
-has_name-requires-clause-behind_root c =
-    omega (arith, c.name_place-place.ensures.place, place-some c.args.self.now c.loop-k.k (omega (arith, c.loop-k.invariant.search.later)))
 
 pub has_name-requires-clause-inside : goal.has_name-requires-clause-inside
 has_name-requires-clause-inside c =
