@@ -18,7 +18,7 @@ fn say_sought<P: Print>(rt: &P, sought: Result<Window, Refusal>) -> io::Result<(
 
 // Seeks, reads up to four bytes into a buffer of dots, and prints the answers. Gives back the window that both left.
 fn step<P: Print>(rt: &P, window: Window, to: SeekFrom, image: &[u8]) -> io::Result<Window> {
-    // Kept: four bytes are read at a time, into an array of four: a slice would need one too.
+    // Kept: four bytes are read at a time, and a slice of them would need an array of four too.
     let mut buf = [b'.'; 4];
     let answer = window::seek_and_read(window, to, image, &mut buf);
     let after = answer.read.window;
