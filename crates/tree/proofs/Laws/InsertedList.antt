@@ -1,6 +1,6 @@
 -- An entry put in as the last child of a directory, by numbers: what stands at each place of the new list. Assumes nothing.
 use Rattle.std.specs.Prelude.{ℕ, zero, suc, ◌+◌, ◌-◌, ◌^◌, ◌<◌, ◌≤◌, min, ◌≡◌, refl, Bool, true, false, cond, List, [], ◌∷◌, map, length, get_or, leb, ltb}
-use Rattle.std.proofs.Common.{sym, ap, arith, add-zero, ltb-true, leb-true, leb-false, ltb-false, le-ltb}
+use Rattle.std.proofs.Common.{sym, ap, arith, add-zero, ltb-true, leb-true, leb-false, ltb-false, lt-ltb, le-ltb}
 use Rattle.std.proofs.lemmas.List.{length-map}
 use Rattle.tree.specs.Table.{Node, file, directory, name_of, none, encloses}
 use Rattle.tree.specs.Inner.WellFormed.{WellFormed}
@@ -49,6 +49,13 @@ shifted-min q k = go (leb q k) refl
     go : (t : Bool) → leb q k ≡ t → cond t (suc k) k ≡ k + min 1 (suc k - q)
     go true e = omega (arith, leb-true q k e)
     go false e = omega (arith, leb-false q k e)
+
+pub ltb-suc : (a b : ℕ) → ltb (suc a) (suc b) ≡ ltb a b
+ltb-suc a b = go (ltb a b) refl
+  where
+    go : (t : Bool) → ltb a b ≡ t → ltb (suc a) (suc b) ≡ t
+    go true e = lt-ltb (suc a) (suc b) (omega (arith, ltb-true a b e))
+    go false e = le-ltb (suc a) (suc b) (omega (arith, ltb-false a b e))
 
 pub name-earlier : (p k : ℕ) (x : Node) → name_of (earlier p k x) ≡ name_of x
 name-earlier p k (file nm offset size) = refl

@@ -2,13 +2,14 @@
 use Prim.Native.Nat.{ℕ, zero, suc, ◌+◌, ◌-◌, ◌*◌, ◌^◌, ◌<◌, ◌≤◌}
 use Rattle.std.specs.Prelude.{◌≡◌, Bool, get_or, set}
 use Rattle.std.proofs.Math.Path.{refl, ap}
-use Rattle.std.proofs.Common.{sym, ◌∙◌, arith, take-append-drop, take_at, drop_at}
+use Rattle.std.proofs.Common.{sym, ◌∙◌, ⊎_elim, arith, take-append-drop, take_at, drop_at}
 use Rattle.std.proofs.Math.Bool.{true, false, cond}
 use mathlib.Core.List.{List, [], ◌∷◌, ◌++◌, map, tail, append_assoc}
 use borrow.Author.Tests.{ltb-true, ltb-false, eqb-true, eqb-false}
 use Rattle.std.proofs.Math.ListN.{length, take, drop, length-append}
 use Rattle.std.proofs.Math.Dec.{ltb, eqb}
 use Rattle.endian.specs.Bytes.{be32Bytes, put}
+use Rattle.refusal.specs.Laws.Tests.{lt-or-le}
 use Rattle.tree.specs.Table.{Node, file, directory, name_of, none, nameOffset, sizeOrNext, nodeBytes, parent_of, textsOf, encode}
 use Rattle.tree.specs.Inner.WellFormed.{WellFormed}
 use Rattle.tree.specs.Lookup.{next_of}
@@ -114,6 +115,9 @@ tail-splice p new (suc j) (r ∷ xs) h l =
 pub length-tail : (nodes : List Node) → 0 < length nodes → suc (length (tail nodes)) ≡ length nodes
 length-tail [] h = absurd (omega arith)
 length-tail (r ∷ xs) h = refl
+
+other : (k q : ℕ) → q ≤ k → (k ≡ q → ⊥) → q < k
+other k q h f = ⊎_elim (λ e. e) (λ e. absurd (f (omega arith))) (lt-or-le q k)
 
 -- a record made from the fields that stand in the table
 before-read : (tab : List ℕ) (p k par o : ℕ) (x : Node) → Fields tab k par o x → recordBefore tab p k ≡ nodeBytes par o (earlier p k x)
