@@ -124,6 +124,7 @@ impl<'a> Ends<'a> {
 }
 
 // What the list has of an entry, in the order of its six words.
+// Kept: the kind is a number: these are the six words as the list has them, and C reads them so.
 #[derive(Clone, Copy)]
 struct Row {
     kind: u32,
