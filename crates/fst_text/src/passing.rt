@@ -48,7 +48,7 @@ const TRAILS: [u8; 256] = *b"\
 
 // Passes the units of the text at `from` that start before `end`, up to the text's end or one that is not clean.
 // Where it stops costs only time.
-// Kept: by index, and each byte looked up (S): `Units` and `is_clean` took 2.5 times as long for texts of pairs.
+// Kept: by index, and each byte looked up (S): `Units` and `is_clean` took 3 times as long for names that share texts of pairs.
 pub fn pass_units(table: &[u8], from: usize, end: usize) -> usize
     requires { from ≤ end }
     ensures near { result ≤ end + 1 }
@@ -79,7 +79,7 @@ pub fn pass_units(table: &[u8], from: usize, end: usize) -> usize
 }
 
 // Passes clean units from `from` on, the ends of texts too. Where it stops costs only time.
-// Kept: as above (S): `Units` and `is_clean` took 1.6 times as long to open 16,384 names of pairs.
+// Kept: as above (S): `Units` and `is_clean` took 1.4 times as long to open 16,384 names of pairs.
 #[inline(never)]
 fn pass_looked_up(table: &[u8], from: usize) -> usize
     ensures { cleanFrom table.now from ≡ cleanFrom table.now result }
