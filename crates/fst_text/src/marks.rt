@@ -111,6 +111,22 @@ impl<'a> Survey<'a> {
         }
     }
 
+    // The blocks are marked: until then all texts were clean. In a function of its own, since the marks are zeroed where a function that makes
+    // them begins.
+    #[cold]
+    #[inline(never)]
+    fn mark(&mut self, at: usize) -> bool
+        requires from { self.old.base ≤ at }
+        requires near { at ≤ 33554432 }
+        ensures same { self.new ≡ self.old }
+        ensures fit { (result ≡ true) → Fit self.old.table at }
+    {
+        let marks = Marks::new(self.table, self.base);
+        let fit = marks.is_fit(at);
+        self.marks = Some(marks);
+        fit
+    }
+
     /// Whether no unit of the text at `at` is one that a name is refused for. Where all texts are clean, only
     /// one that may start inside a pair is looked at; the blocks are marked at the first such one, and from
     /// then on no text is taken as clean. False may be wrong.
@@ -129,9 +145,6 @@ impl<'a> Survey<'a> {
         if !units::is_lead(units::byte_at(self.table, at - 1)) {
             return true;
         }
-        let marks = Marks::new(self.table, self.base);
-        let fit = marks.is_fit(at);
-        self.marks = Some(marks);
-        fit
+        self.mark(at)
     }
 }
