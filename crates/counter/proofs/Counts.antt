@@ -13,11 +13,11 @@ use Rattle.refusal.specs.declared.Refusal.TheVariants.{LimitOrMemory}
 use Rattle.refusal.specs.Laws.Chains.{first-passed}
 use Rattle.header.specs.Verdicts.{headerVerdict, boundsVerdict, discEnd}
 use Rattle.header.specs.Laws.FieldTests.{bounds-passed}
-use Rattle.space.specs.declared.DiscRegion.{DiscRegion}
+use Rattle.space.specs.declared.region.DiscRegion.{DiscRegion}
 use Rattle.space.specs.Free.{join, runs, freeRegions}
-use Rattle.free_space.specs.Listing.{rows_of, listingOf}
-use Rattle.opening.specs.Opening.{opening, freeOf}
-use Rattle.answers.specs.Answers.{behind}
+use Rattle.space.specs.Listing.{rows_of, listingOf}
+use Rattle.opened.specs.Opening.{opening, freeOf}
+use Rattle.opened.specs.Answers.{behind}
 use Rattle.disc.specs.Calls.{freeAnswer}
 
 join-count : (i : ℕ) (rs : List DiscRegion) → length (join i rs) ≤ suc (length rs)

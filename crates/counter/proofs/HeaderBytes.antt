@@ -11,15 +11,15 @@ use Rattle.endian.specs.Laws.Stored.{length-span, getD-span}
 use Rattle.std.specs.Prelude.{Ok, Err}
 use Rattle.refusal.specs.Refusal.{Verdict}
 use Rattle.refusal.specs.declared.Refusal.{Refusal}
-use Rattle.header.specs.declared.Field.{Field}
-use Rattle.disc_header.specs.declared.DiscHeader.{DiscHeader}
+use Rattle.header.specs.declared.fields.Field.{Field}
+use Rattle.header.specs.declared.value.DiscHeader.{DiscHeader}
 use Rattle.header.specs.Fields.{fields, gameCodeField, makerCodeField, unused00aField, gameNameField, unused408Field}
 use Rattle.header.specs.Inner.Judged.{field_at, nth}
-use Rattle.disc_header.specs.Header.{bytes_of, headerOf, headerAnswer, headerRead, fieldBytes, putHeader, writeVerdict, headerWritten}
+use Rattle.header.specs.Header.{bytes_of, headerOf, headerAnswer, headerRead, fieldBytes, putHeader, writeVerdict, headerWritten}
 use Rattle.header.specs.Verdicts.{headerVerdict}
 use Rattle.header.specs.Laws.FieldTests.{header-passed}
 use Rattle.header.specs.Laws.Tiling.{fields-tile, fields-count, one_field}
-use Rattle.disc_header.specs.Laws.RoundTrip.{Fills, length-putFields, putFields-in, write_read}
+use Rattle.header.specs.Laws.RoundTrip.{Fills, length-putFields, putFields-in, write_read}
 use Rattle.counter.specs.Replies.{reply, accepts, refuses, numberTold, verdictReply}
 
 module _ (image slots : List ℕ) (good : headerVerdict image ≡ Ok tt) (bytes : AllBytes image) (room : length slots ≡ 0x440) where

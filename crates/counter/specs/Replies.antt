@@ -4,20 +4,20 @@
 use Rattle.std.specs.Prelude.{Some, None, Result, Ok, Err, ℕ, ◌≡◌, List, [], ◌∷◌, ◌++◌, get_or}
 use Rattle.refusal.specs.declared.Refusal.{Refusal}
 use Rattle.refusal.specs.Refusal.{Verdict, number_of}
-use Rattle.answers.specs.declared.Disc.{Disc}
-use Rattle.space.specs.declared.DiscRegion.{DiscRegion}
-use Rattle.disc.specs.declared.DiscTotals.{DiscTotals}
+use Rattle.opened.specs.declared.summary.Disc.{Disc}
+use Rattle.space.specs.declared.region.DiscRegion.{DiscRegion}
+use Rattle.disc.specs.declared.answers.DiscTotals.{DiscTotals}
 use Rattle.tree.specs.declared.Entry.{Entry}
 use Rattle.tree.specs.declared.Entry.TheVariants.{File, Directory}
 use Rattle.tree.specs.declared.Found.{Found}
 use Rattle.tree.specs.declared.Found.TheVariants as found
-use Rattle.dol.specs.declared.DolHeader.{DolHeader}
-use Rattle.files.specs.declared.DolFile.{DolFile}
-use Rattle.totals.specs.declared.Totals.{Totals}
-use Rattle.program.specs.Program.{Program}
+use Rattle.executable.specs.declared.dol.DolHeader.{DolHeader}
+use Rattle.disc.specs.declared.answers.DolFile.{DolFile}
+use Rattle.space.specs.declared.totals.Totals.{Totals}
+use Rattle.executable.specs.Program.{Program}
 use Rattle.window.specs.declared.Window.{Window}
 use Rattle.edits.specs.Edits.{numberedAs}
-use Rattle.opening.specs.Opening.{zeros}
+use Rattle.opened.specs.Opening.{zeros}
 
 -- the number that a call returns, and its slots afterwards
 pub record Reply : Type 0 where

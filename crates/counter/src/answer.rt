@@ -3,11 +3,10 @@ ghost use Rattle.std.specs.Prelude.{◌≡◌, ℕ, List, []};
 ghost use Rattle.counter.specs.Replies.{numberTold, slotsTold, discWords, discTotalsWords, regionWords, one};
 ghost use Rattle.counter.specs.Replies.{windowWords, totalsWords};
 
-use answers::Disc;
 use disc::DiscTotals;
+use opened::Disc;
 use refusal::Refusal;
-use space::DiscRegion;
-use totals::Totals;
+use space::{DiscRegion, Totals};
 use window::Window;
 
 /// A value that C is lent as it stands, with its words in the order of their slots.

@@ -1,13 +1,13 @@
 // The edits. The totals record is lent: used bytes, the largest free region's size, accepted edits.
 ghost use Rattle.edits.specs.Edits as edits;
 ghost use Rattle.edits.specs.Promise.{Edited, lent};
-ghost use Rattle.pipeline.specs.Inner.Decides.{editOf};
+ghost use Rattle.edit.specs.Inner.Decides.{editOf};
 ghost use Rattle.counter.specs.Replies.{reply, one, done, numbered};
 
 use crate::answer::give;
-use insert::{Kind, NewEntry};
-use pipeline::Edit;
-use totals::Totals;
+use edit::{Edit, NewEntry};
+use space::Totals;
+use table_writing::Kind;
 
 // Kept: image, words, bytes and record one by one: in the exported functions C lends each by itself (C). In `give_done` and `give_entry`,
 // which C does not call, each is written or zeroed apart from the others, and a struct of four `&mut` would have each contract name the
@@ -24,7 +24,7 @@ fn give_done(
     ensures { Edited done (editOf edit.entry) (lent image.old words.old bytes.old totals.old)
         (lent image.new words.new bytes.new totals.new) result }
 {
-    give(&mut (), pipeline::done(image, words, bytes, totals, edit))
+    give(&mut (), edit::done(image, words, bytes, totals, edit))
 }
 
 #[unsafe(no_mangle)]
@@ -99,7 +99,7 @@ fn give_entry(
         (lent image.old words.old bytes.old totals.old) (lent image.new words.new bytes.new totals.new)
         (reply result (one answer.new)) }
 {
-    give(answer, pipeline::run(image, words, bytes, totals, edit))
+    give(answer, edit::run(image, words, bytes, totals, edit))
 }
 
 #[unsafe(no_mangle)]

@@ -1,13 +1,13 @@
 // The headers: of the disc, and of the executable.
 ghost use Rattle.std.specs.Prelude.{◌≡◌, length, take};
 ghost use Rattle.header.specs.Verdicts.{headerVerdict};
-ghost use Rattle.files.specs.Files.{openDolAnswer};
+ghost use Rattle.disc.specs.Files.{openDolAnswer};
 ghost use Rattle.counter.specs.Replies.{Read, reply, verdictReply, dolWords, dolReply, windowWords};
 ghost use Rattle.counter.specs.Replies.{dolWindowReply};
 
 use crate::answer::give;
-use disc_header::DiscHeader;
-use dol::DolHeader;
+use executable::DolHeader;
+use header::DiscHeader;
 use window::Window;
 
 // The header is read field by field, and written back: the image's first 0x440 bytes.
@@ -37,7 +37,7 @@ pub extern "C" fn counter_open_dol(
     ensures window_after { reply result (windowWords window.new)
         ≡ dolWindowReply (windowWords window.old) (openDolAnswer image.now (length words.old)) }
 {
-    match files::open_dol(image, words) {
+    match disc::open_dol(image, words) {
         Ok(file) => {
             *header = file.header;
             give(window, Ok(file.window))

@@ -1,15 +1,14 @@
 // The calls that read an image.
 ghost use Rattle.std.specs.Prelude.{◌≡◌, length};
 ghost use Rattle.disc.specs.Calls.{opened_of, totalsAnswer, recordAnswer, programAnswer};
-ghost use Rattle.files.specs.Files.{entryAnswer, lookupAnswer, entriesAnswer, entriesList};
+ghost use Rattle.disc.specs.Files.{entryAnswer, lookupAnswer, entriesAnswer, entriesList};
 ghost use Rattle.counter.specs.Replies.{Read, reply, replied, discWords, discTotalsWords, totalsWords};
 ghost use Rattle.counter.specs.Replies.{regionWords, foundReply, programReply};
 
 use crate::answer::give;
-use answers::Disc;
 use disc::DiscTotals;
-use space::DiscRegion;
-use totals::Totals;
+use opened::Disc;
+use space::{DiscRegion, Totals};
 use tree::{Entry, Found};
 
 // ---- an answer that two calls give
@@ -84,7 +83,7 @@ pub extern "C" fn counter_entry(
     ensures { Read (foundReply answer.old (entryAnswer image.now (length words.old) number))
         (reply result answer.new) words.old words.new }
 {
-    give_found(answer, files::entry(image, words, number))
+    give_found(answer, disc::entry(image, words, number))
 }
 
 #[unsafe(no_mangle)]
@@ -98,7 +97,7 @@ pub extern "C" fn counter_lookup(
     ensures { Read (foundReply answer.old (lookupAnswer image.now (length words.old) start path.now))
         (reply result answer.new) words.old words.new }
 {
-    give_found(answer, files::lookup(image, words, start, path))
+    give_found(answer, disc::lookup(image, words, start, path))
 }
 
 #[unsafe(no_mangle)]
@@ -112,5 +111,5 @@ pub extern "C" fn counter_entries(
         (entriesAnswer image.now (length words.old) (length list.old))) (reply result (discWords answer.new))
         words.old words.new × (list.new ≡ entriesList image.now (length words.old) list.old) }
 {
-    give(answer, files::entries(image, words, list))
+    give(answer, disc::entries(image, words, list))
 }

@@ -2,8 +2,8 @@
 ghost use Rattle.std.specs.Prelude.{◌≡◌, ℕ, ◌^◌, ◌<◌, length};
 ghost use Rattle.disc.specs.Calls.{freeRegionsAnswer, freeRegionsList, freeClustersAnswer, freeClustersList};
 ghost use Rattle.disc.specs.Calls.{allocateAnswer};
-ghost use Rattle.answers.specs.Answers.{maxRegionSizeAnswer};
-ghost use Rattle.files.specs.Files.{maxFileSizeAnswer};
+ghost use Rattle.opened.specs.Answers.{maxRegionSizeAnswer};
+ghost use Rattle.disc.specs.Files.{maxFileSizeAnswer};
 ghost use Rattle.counter.specs.Replies.{Read, reply, replied, one, regionWords};
 
 use crate::answer::give;
@@ -74,7 +74,7 @@ pub extern "C" fn counter_max_file_size(
     ensures { Read (replied one (one answer.old) (maxFileSizeAnswer image.now (length words.old) number))
         (reply result (one answer.new)) words.old words.new }
 {
-    give(answer, files::max_file_size(image, words, number))
+    give(answer, disc::max_file_size(image, words, number))
 }
 
 #[unsafe(no_mangle)]

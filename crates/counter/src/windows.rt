@@ -2,7 +2,7 @@
 ghost use Rattle.std.specs.Prelude.{◌≡◌, length};
 ghost use Rattle.window.specs.Window.{seekOf, count_of, movedOn, bufferOf};
 ghost use Rattle.std.specs.declared.io.SeekFrom.TheVariants.{Start, Current, End};
-ghost use Rattle.files.specs.Files.{openFileAnswer};
+ghost use Rattle.disc.specs.Files.{openFileAnswer};
 ghost use Rattle.counter.specs.Replies.{Read, reply, replied, windowWords};
 
 use crate::answer::give;
@@ -19,7 +19,7 @@ pub extern "C" fn counter_open_file(
         (openFileAnswer image.now (length words.old) number)) (reply result (windowWords window.new))
         words.old words.new }
 {
-    give(window, files::open_file(image, words, number))
+    give(window, disc::open_file(image, words, number))
 }
 
 fn seek(window: &mut Window, to: SeekFrom) -> u32

@@ -2,12 +2,12 @@
 use Rattle.std.specs.Prelude.{Result, Ok, ℕ, List, ◌≡◌}
 use Rattle.std.proofs.Common.{sym, ap, ◌∙◌}
 use Rattle.refusal.specs.declared.Refusal.{Refusal}
-use Rattle.space.specs.declared.DiscRegion.{DiscRegion}
-use Rattle.opening.specs.Opening.{opening, freeOf}
+use Rattle.space.specs.declared.region.DiscRegion.{DiscRegion}
+use Rattle.opened.specs.Opening.{opening, freeOf}
 use Rattle.opened.specs.Inner.Disc.{Disc, OpensAs, free_of}
 use Rattle.opened.specs.Laws.Meant.{free_meant}
-use Rattle.answers.specs.Answers.{behind}
-use Rattle.answers.specs.Laws.AnswerLaws.{asked}
+use Rattle.opened.specs.Answers.{behind}
+use Rattle.opened.specs.Laws.AnswerLaws.{asked}
 
 pub free_asked : {A : Type 0} (f : Refusal → A) (g : List DiscRegion → A) (image : List ℕ) (words : ℕ) (r : Result Disc Refusal) → OpensAs image words r → (d : Disc) → r ≡ Ok d →
     (free : List DiscRegion) → free ≡ free_of d → (b : A) → b ≡ g free → b ≡ behind (opening image words) f (g (freeOf image))

@@ -5,12 +5,12 @@ use Rattle.header.specs.Verdicts.{discEnd, table_end}
 use Rattle.space.specs.Free.{largestSize}
 use Rattle.space.specs.Used.{totalSize}
 use Rattle.space.specs.Inner.Sort.{regionsIn}
-use Rattle.totals.specs.declared.Totals.{Totals}
-use Rattle.totals.specs.Inner.Scan.{longestFrom}
-use Rattle.totals.specs.Laws.LargestLaws.{largest-now}
-use Rattle.opening.specs.Opening.{usedIn, behindTable, freeOf}
-use Rattle.opening.specs.Inner.Prepared.{IsOpen}
-use Rattle.opening.proofs.Laws.OpeningLaws.{used-regions}
+use Rattle.space.specs.declared.totals.Totals.{Totals}
+use Rattle.space.specs.Inner.Scan.{longestFrom}
+use Rattle.space.specs.Laws.LargestLaws.{largest-now}
+use Rattle.opened.specs.Opening.{usedIn, behindTable, freeOf}
+use Rattle.opened.specs.Inner.Prepared.{IsOpen}
+use Rattle.opened.proofs.Laws.OpeningLaws.{used-regions}
 use Rattle.opened.specs.Inner.Disc.{Disc, Means}
 use Rattle.opened.specs.Laws.Meant.{start_meant, room_meant, end_meant, total_meant}
 use Rattle.disc.specs.Calls.{totalsOf}

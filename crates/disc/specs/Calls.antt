@@ -1,19 +1,19 @@
 -- The answers of the calls on the disc and its space: after opening, 9 where a result list is short; of an allocation 22, then 21.
 -- Assumes nothing: these are definitions.
 use Rattle.std.specs.Prelude.{Result, Ok, Err}
-use Rattle.answers.specs.declared.Disc.{Disc}
-use Rattle.disc.specs.declared.DiscTotals.{DiscTotals}
+use Rattle.opened.specs.declared.summary.Disc.{Disc}
+use Rattle.disc.specs.declared.answers.DiscTotals.{DiscTotals}
 use Rattle.std.specs.Prelude.{ℕ, List}
 use Rattle.refusal.specs.declared.Refusal.{Refusal}
 use Rattle.header.specs.Verdicts.{discEnd}
-use Rattle.space.specs.declared.DiscRegion.{DiscRegion}
+use Rattle.space.specs.declared.region.DiscRegion.{DiscRegion}
 use Rattle.space.specs.Free.{largestSize}
-use Rattle.free_space.specs.Listing.{regionRow, clusterRow, listingOf, listAfter}
-use Rattle.free_space.specs.Allocate.{allocationOf}
-use Rattle.totals.specs.declared.Totals.{Totals}
-use Rattle.program.specs.Program.{Program, program_of}
-use Rattle.opening.specs.Opening.{opening, freeOf, usedOf}
-use Rattle.answers.specs.Answers.{behind, discOf}
+use Rattle.space.specs.Listing.{regionRow, clusterRow, listingOf, listAfter}
+use Rattle.space.specs.Allocate.{allocationOf}
+use Rattle.space.specs.declared.totals.Totals.{Totals}
+use Rattle.executable.specs.Program.{Program, program_of}
+use Rattle.opened.specs.Opening.{opening, freeOf, usedOf}
+use Rattle.opened.specs.Answers.{behind, discOf}
 
 -- ---- the answer of `open`
 

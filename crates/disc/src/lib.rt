@@ -1,17 +1,16 @@
-// Opening an image, and every call that reads it. Each call opens the image anew, and leaves the working words
-// zero.
+// The calls that read an image. Each opens it anew, and leaves the working words zero.
 #![tactic(auto)]
 
+mod answers;
+mod executable;
+mod lookups;
 mod regions;
+mod rows;
 
+pub use answers::{DiscTotals, DolFile};
+pub use executable::open_dol;
+pub use lookups::{entry, lookup, max_file_size, open_file};
 pub use regions::{
     allocate, free_clusters, free_regions, make_record, max_region_size, open, program, totals,
 };
-
-/// Where a disc ends, and how many of its bytes are used.
-#[repr(C)]
-#[derive(Clone, Copy, PartialEq, Eq, Debug)]
-pub struct DiscTotals {
-    pub disc_end: u32,
-    pub used: u32,
-}
+pub use rows::entries;

@@ -1,22 +1,18 @@
 // What an image's header and its regions say: opening, totals, the totals record, the program, free regions, clusters,
 // the largest size of a region, allocation.
 ghost use Rattle.std.specs.Prelude.{◌≡◌, List, ℕ, length};
-ghost use Rattle.opening.specs.Opening.{zeros};
+ghost use Rattle.opened.specs.Opening.{zeros};
 ghost use Rattle.opened.specs.Inner.Disc.{Means};
-ghost use Rattle.answers.specs.Answers.{maxRegionSizeAnswer};
+ghost use Rattle.opened.specs.Answers.{maxRegionSizeAnswer};
 ghost use Rattle.disc.specs.Calls.{opened_of, totalsAnswer, totalsOf, recordAnswer, programAnswer};
 ghost use Rattle.disc.specs.Calls.{freeRegionsAnswer, freeRegionsList, freeClustersAnswer, freeClustersList};
 ghost use Rattle.disc.specs.Calls.{allocateAnswer};
 
-use crate::DiscTotals;
-use answers::Disc;
-use free_clusters::Clusters;
-use free_space::UsedRegions;
-use opened::{Lent, OpenDisc};
-use program::Program;
+use crate::answers::DiscTotals;
+use executable::Program;
+use opened::{Disc, Lent, OpenDisc};
 use refusal::Refusal;
-use space::DiscRegion;
-use totals::Totals;
+use space::{Clusters, DiscRegion, Totals, UsedRegions};
 
 /// Opens an image and tells of its disc, or says why it is refused.
 pub fn open(image: &[u8], words: &mut [u32]) -> Result<Disc, Refusal>
@@ -25,7 +21,7 @@ pub fn open(image: &[u8], words: &mut [u32]) -> Result<Disc, Refusal>
 {
     let lent = Lent::new(words);
     let disc = OpenDisc::of_image(image, lent.memory)?;
-    Ok(answers::told(&disc))
+    Ok(opened::told(&disc))
 }
 
 /// The disc end and the used total.
@@ -53,7 +49,7 @@ fn record_of(disc: &OpenDisc<'_>) -> Totals
     let none = DiscRegion { offset: 0, size: 0 };
     Totals {
         used: disc.used_size(),
-        largest: totals::largest_after(&used, disc_end, table_end, none, none),
+        largest: space::largest_after(&used, disc_end, table_end, none, none),
         edits: 0,
     }
 }
@@ -75,7 +71,7 @@ pub fn program(image: &[u8], words: &mut [u32]) -> Program
 {
     let lent = Lent::new(words);
     OpenDisc::of_image(image, lent.memory)?;
-    program::read(image)
+    executable::program::read(image)
 }
 
 // Kept: image, words and list are what a caller lends to each call, as C does.

@@ -1,134 +1,27 @@
-// The edits of an image, each a line over the one way through every edit.
+// The edits of an image: each is decided on an open disc, judged, entered in the record that is lent, and carried out.
 #![tactic(auto)]
 
-ghost use Rattle.edits.specs.Edits as edits;
-ghost use Rattle.edits.specs.Edits.{numberedAs};
-ghost use Rattle.edits.specs.Promise.{lent, onlyVerdict, Edited};
+mod account;
+mod calls;
+mod carry_out;
+mod decision;
+mod directories;
+mod file;
+mod filling;
+mod finding;
+mod insertion;
+mod making;
+mod moving;
+mod new_entry;
+mod pipeline;
+mod place;
+mod resizing;
+mod table_only;
+mod trouble;
+mod walk;
 
-use insert::{Kind, NewEntry};
-use pipeline::Edit;
-use refusal::{Refusal, Verdict};
-use totals::Totals;
-
-// Kept: `image`, `words`, `bytes`, `totals` in each call (C): the memory that a call of the library is lent.
-/// A bare table rewrite.
-pub fn rewrite(
-    image: &mut [u8],
-    words: &mut [u32],
-    bytes: &mut [u8],
-    totals: &mut Totals,
-) -> Verdict
-    ensures { let before = lent image.old words.old bytes.old totals.old in
-        let after = lent image.new words.new bytes.new totals.new in
-        Edited onlyVerdict edits.rewrite before after result }
-{
-    pipeline::done(image, words, bytes, totals, Edit::Rewrite)
-}
-
-/// The file goes to another offset.
-pub fn move_file(
-    image: &mut [u8],
-    words: &mut [u32],
-    bytes: &mut [u8],
-    totals: &mut Totals,
-    file: u32,
-    offset: u32,
-) -> Verdict
-    ensures { let before = lent image.old words.old bytes.old totals.old in
-        let after = lent image.new words.new bytes.new totals.new in
-        Edited onlyVerdict (edits.moveFile file offset) before after result }
-{
-    pipeline::done(image, words, bytes, totals, Edit::Move { file, offset })
-}
-
-/// The file gets another size, and another place where it cannot grow where it is.
-pub fn resize_file(
-    image: &mut [u8],
-    words: &mut [u32],
-    bytes: &mut [u8],
-    totals: &mut Totals,
-    file: u32,
-    size: u32,
-) -> Verdict
-    ensures { let before = lent image.old words.old bytes.old totals.old in
-        let after = lent image.new words.new bytes.new totals.new in
-        Edited onlyVerdict (edits.resizeFile file size) before after result }
-{
-    pipeline::done(image, words, bytes, totals, Edit::Resize { file, size })
-}
-
-/// Afterwards the file is the clip.
-pub fn fill_file(
-    image: &mut [u8],
-    words: &mut [u32],
-    bytes: &mut [u8],
-    totals: &mut Totals,
-    file: u32,
-    clip: &[u8],
-) -> Verdict
-    ensures { let before = lent image.old words.old bytes.old totals.old in
-        let after = lent image.new words.new bytes.new totals.new in
-        Edited onlyVerdict (edits.fillFile file clip.now) before after result }
-{
-    pipeline::done(image, words, bytes, totals, Edit::Fill { file, clip })
-}
-
-// Kept: two inserts of one shape (C): each is a call of the library, with a promise of its own.
-/// An empty file, with offset 0, as last child of a directory; its number.
-pub fn insert_file(
-    image: &mut [u8],
-    words: &mut [u32],
-    bytes: &mut [u8],
-    totals: &mut Totals,
-    parent: u32,
-    name: &[u8],
-) -> Result<u32, Refusal>
-    ensures { let before = lent image.old words.old bytes.old totals.old in
-        let after = lent image.new words.new bytes.new totals.new in
-        Edited numberedAs (edits.insertFile parent name.now) before after result }
-{
-    let kind = Kind::File;
-    let new = NewEntry { parent, kind, name };
-    pipeline::run(image, words, bytes, totals, Edit::Insert(new))
-}
-
-/// An empty directory as last child of a directory; its number.
-pub fn insert_directory(
-    image: &mut [u8],
-    words: &mut [u32],
-    bytes: &mut [u8],
-    totals: &mut Totals,
-    parent: u32,
-    name: &[u8],
-) -> Result<u32, Refusal>
-    ensures { let before = lent image.old words.old bytes.old totals.old in
-        let after = lent image.new words.new bytes.new totals.new in
-        Edited numberedAs (edits.insertDirectory parent name.now) before after result }
-{
-    let kind = Kind::Directory;
-    let new = NewEntry { parent, kind, name };
-    pipeline::run(image, words, bytes, totals, Edit::Insert(new))
-}
-
-/// Makes each directory of the path that is missing, from the entry `start`: all of them or none. The number,
-/// in the new table, of the entry where the path leads.
-pub fn make_directories(
-    image: &mut [u8],
-    words: &mut [u32],
-    bytes: &mut [u8],
-    totals: &mut Totals,
-    start: u32,
-    path: &[u8],
-) -> Result<u32, Refusal>
-    ensures { let before = lent image.old words.old bytes.old totals.old in
-        let after = lent image.new words.new bytes.new totals.new in
-        Edited numberedAs (edits.makeDirectories start path.now) before after result }
-{
-    pipeline::run(
-        image,
-        words,
-        bytes,
-        totals,
-        Edit::MakeDirectories { start, path },
-    )
-}
+pub use calls::{
+    fill_file, insert_directory, insert_file, make_directories, move_file, resize_file, rewrite,
+};
+pub use new_entry::NewEntry;
+pub use pipeline::{Edit, done, run};

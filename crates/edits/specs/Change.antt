@@ -9,9 +9,9 @@ use Rattle.refusal.specs.Refusal.{refuse, first}
 use Rattle.header.specs.Fields.{fstSizeField}
 use Rattle.header.specs.Verdicts.{fstOffset, fstSize, fstMaxSize}
 use Rattle.tree.specs.Table.{Node, encode, limits}
-use Rattle.space.specs.declared.DiscRegion.{DiscRegion}
-use Rattle.free_space.specs.MaxRegionSize.{maxRegionSize}
-use Rattle.opening.specs.Opening.{freeOf}
+use Rattle.space.specs.declared.region.DiscRegion.{DiscRegion}
+use Rattle.space.specs.MaxRegionSize.{maxRegionSize}
+use Rattle.opened.specs.Opening.{freeOf}
 
 pub record Change : Type 0 where
   -- the tree that is written

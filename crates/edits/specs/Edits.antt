@@ -10,13 +10,13 @@ use Rattle.refusal.specs.Refusal.{refuse, first, is_refused}
 use Rattle.tree.specs.Table.{Node, none, plain, safe}
 use Rattle.tree.specs.Lookup.{isDirectory, next_of, components, stays, goesBack, childOf}
 use Rattle.tree.specs.Insert.{insertAt, setPlace, emptyFile, emptyDirectory}
-use Rattle.space.specs.declared.DiscRegion.{DiscRegion}
+use Rattle.space.specs.declared.region.DiscRegion.{DiscRegion}
 use Rattle.space.specs.Free.{largestSize}
-use Rattle.free_space.specs.MaxRegionSize.{maxRegionSize}
-use Rattle.free_space.specs.Allocate.{allocationOf}
-use Rattle.totals.specs.declared.Totals.{Totals}
-use Rattle.totals.specs.Totals.{totalsVerdict, totalsMoved}
-use Rattle.opening.specs.Opening.{opening, nodesIn, freeOf, usedOf, regionOf}
+use Rattle.space.specs.MaxRegionSize.{maxRegionSize}
+use Rattle.space.specs.Allocate.{allocationOf}
+use Rattle.space.specs.declared.totals.Totals.{Totals}
+use Rattle.space.specs.Totals.{totalsVerdict, totalsMoved}
+use Rattle.opened.specs.Opening.{opening, nodesIn, freeOf, usedOf, regionOf}
 use Rattle.edits.specs.Change.{Change, written, tableVerdict, Plan, refused, nothing, change, filled}
 
 -- an edit, with its numbers and its name, path or clip

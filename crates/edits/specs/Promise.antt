@@ -2,8 +2,8 @@
 -- joins here. Assumes nothing: these are definitions.
 use Rattle.refusal.specs.Refusal.{Verdict}
 use Rattle.std.specs.Prelude.{ℕ, ◌≡◌, List, length}
-use Rattle.totals.specs.declared.Totals.{Totals}
-use Rattle.opening.specs.Opening.{zeros}
+use Rattle.space.specs.declared.totals.Totals.{Totals}
+use Rattle.opened.specs.Opening.{zeros}
 use Rattle.edits.specs.Edits.{Edit, plan_of, planNumber, verdictOf, imageAfter, totalsAfter}
 
 -- what a call lends: the image, working words and working bytes; and the record, "that goes into an edit and comes back"

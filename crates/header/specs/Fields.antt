@@ -3,7 +3,7 @@
 -- unused 0x408 (0x18), DOL offset 0x420, FST offset 0x424, FST size 0x428, FST maximum 0x42C, user position 0x430, user size 0x434, disc size 0x438, unused 0x43C; a field
 -- without a size has 4. Assumes nothing: these are definitions.
 use Rattle.std.specs.Prelude.{ℕ, List, [], ◌∷◌}
-use Rattle.header.specs.declared.Field.{Field}
+use Rattle.header.specs.declared.fields.Field.{Field}
 
 abbrev pub place : ℕ → ℕ → Field
 place o w = record { at = o; len = w }

@@ -1,3 +1,4 @@
 -- Definitions that only inner contracts need.
 pub mod Bounds
 pub mod Judged
+pub mod Writing

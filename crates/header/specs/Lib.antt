@@ -1,4 +1,5 @@
 pub mod Fields
-pub mod Verdicts
+pub mod Header
 pub mod Inner
 pub mod Laws
+pub mod Verdicts

@@ -5,7 +5,7 @@ use Rattle.std.specs.Prelude.{ℕ, ◌+◌, ◌-◌, ◌^◌, ◌&&◌, not, Lis
 use Rattle.endian.specs.Bytes.{be32}
 use Rattle.refusal.specs.declared.Refusal.TheVariants.{HeaderPastImage, WiiNotSupported, InvalidMagic, InvalidBounds}
 use Rattle.refusal.specs.Refusal.{refuse, first}
-use Rattle.header.specs.declared.Field.{Field}
+use Rattle.header.specs.declared.fields.Field.{Field}
 use Rattle.header.specs.Fields.{fields, wiiMagicField, gcnMagicField, dolOffsetField, fstOffsetField, fstSizeField, fstMaxSizeField, userSizeField, discSizeField}
 
 -- "the GameCube magic is 0xC2339F3D, the Wii magic 0x5D1C9EA3"

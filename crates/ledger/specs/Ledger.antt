@@ -5,7 +5,7 @@ use Rattle.endian.specs.Bytes.{span}
 use Rattle.tree.specs.Table.{Node, file, directory}
 use Rattle.tree.specs.Lookup.{components}
 use Rattle.tree.specs.Insert.{insertAt, setPlace, emptyFile, emptyDirectory}
-use Rattle.opening.specs.Opening.{nodesIn}
+use Rattle.opened.specs.Opening.{nodesIn}
 use Rattle.edits.specs.Edits.{Edit, insertFile, insertDirectory, makeDirectories, moveFile, resizeFile, fillFile, rewrite, newNumber, Made, stopped, made, make}
 
 -- of a file: "starting place and bytes, m, and whether it was named"

@@ -2,7 +2,7 @@
 use Rattle.std.specs.Prelude.{ℕ, ◌+◌, ◌^◌, ◌<◌, ◌≤◌, ◌≡◌, not, cond, List, [], ◌∷◌}
 use Rattle.endian.specs.Bytes.{AllBytes}
 use Rattle.refusal.specs.Refusal.{is_refused}
-use Rattle.totals.specs.declared.Totals.{Totals}
+use Rattle.space.specs.declared.totals.Totals.{Totals}
 use Rattle.edits.specs.Edits.{Edit, insertFile, insertDirectory, makeDirectories, moveFile, resizeFile, fillFile, rewrite, verdictOf, imageAfter, totalsAfter}
 use Rattle.ledger.specs.Ledger.{Report}
 

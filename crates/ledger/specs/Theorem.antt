@@ -9,13 +9,13 @@ use Rattle.endian.specs.Bytes.{put, span, AllBytes}
 use Rattle.header.specs.Verdicts.{dolOffset, fstSize, fstMaxSize, table_end, discEnd}
 use Rattle.tree.specs.Table.{file, none}
 use Rattle.space.specs.Used.{end_of, inside, totalSize}
-use Rattle.free_space.specs.Listing.{regionRow, listingOf, listAfter}
-use Rattle.program.specs.Program.{program_of, programIn, programBehind}
-use Rattle.totals.specs.declared.Totals.{Totals}
-use Rattle.opening.specs.Opening.{table_of, nodesIn, regionOf, usedIn, freeOf, opening}
+use Rattle.space.specs.Listing.{regionRow, listingOf, listAfter}
+use Rattle.executable.specs.Program.{program_of, programIn, programBehind}
+use Rattle.space.specs.declared.totals.Totals.{Totals}
+use Rattle.opened.specs.Opening.{table_of, nodesIn, regionOf, usedIn, freeOf, opening}
 use Rattle.disc.specs.Calls.{totalsAnswer, programAnswer, freeRegionsAnswer, freeRegionsList, totalsOf, recordAnswer}
 use Rattle.window.specs.Window.{newWindow, count_of, bufferOf}
-use Rattle.files.specs.Files.{openFileAnswer}
+use Rattle.disc.specs.Files.{openFileAnswer}
 use Rattle.edits.specs.Edits.{fillFile, noPlace, verdictOf, imageAfter}
 use Rattle.ledger.specs.Ledger.{Ledger, bare, filesBefore, historyOf, firstLedger, ledgerAfter}
 use Rattle.ledger.specs.Runs.{Call, imageAfterAll, reportsOf, totalsAfterAll, HandedOn, acceptedIn, AllWithin}

@@ -19,15 +19,15 @@ use Rattle.tree.proofs.Laws.Accepted.{length-nodesOf}
 use Rattle.space.specs.Used.{totalSize}
 use Rattle.space.specs.Laws.SortLaws.{same_total}
 use Rattle.space.specs.Inner.Sort.{SameSums}
-use Rattle.free_space.specs.Inner.UsedSpace.{UsedSpace, free_in}
-use Rattle.opening.specs.Opening.{opening}
+use Rattle.space.specs.Inner.UsedSpace.{UsedSpace, free_in}
+use Rattle.opened.specs.Opening.{opening}
 use Rattle.opened.specs.Inner.Disc.{Disc, free_of, Means}
 use Rattle.opened.specs.Laws.Meant.{end_meant, nodes_meant, total_meant, free_meant}
 use Rattle.listing.specs.Inner.Fits.{size_or, listed_or, laid_or, text_of}
-use Rattle.answers.specs.Answers.{behind}
-use Rattle.listing_text.specs.Lines.{totalsLine, entryLines, regionLines}
+use Rattle.opened.specs.Answers.{behind}
+use Rattle.listing.specs.Lines.{totalsLine, entryLines, regionLines}
 use Rattle.listing.specs.Listing.{listingText, listingVerdict, listAnswer, listBuffer, refusedText, reportVerdict, reportText, reportAnswer, reportBuffer}
-use Rattle.text_buffer.specs.Inner.Writing.{Wrote}
+use Rattle.listing.specs.Inner.Writing.{Wrote}
 
 -- the lines of a disc, from its table and its used regions
 pub text-is : (d : Disc) (tab : List ℕ) (u : UsedSpace) → u.disc_end ≡ d.end → nodesOf tab ≡ d.nodes → SameSums u.regions d.used → free_in u ≡ free_of d →

@@ -1,2 +1,5 @@
-pub mod Listing
+pub mod Decimal
 pub mod Inner
+pub mod Laws
+pub mod Lines
+pub mod Listing

@@ -8,10 +8,10 @@ use Rattle.refusal.specs.declared.Refusal.{Refusal}
 use Rattle.refusal.specs.declared.Refusal.TheVariants.{LimitOrMemory}
 use Rattle.refusal.specs.Refusal.{number_of, refuse, first}
 use Rattle.header.specs.Verdicts.{discEnd}
-use Rattle.opening.specs.Opening.{opening, nodesIn, usedOf, freeOf}
-use Rattle.answers.specs.Answers.{behind}
-use Rattle.listing_text.specs.Lines.{lineFeed, totalsLine, entryLines, regionLines}
-use Rattle.text_buffer.specs.Decimal.{decimal}
+use Rattle.opened.specs.Opening.{opening, nodesIn, usedOf, freeOf}
+use Rattle.opened.specs.Answers.{behind}
+use Rattle.listing.specs.Lines.{lineFeed, totalsLine, entryLines, regionLines}
+use Rattle.listing.specs.Decimal.{decimal}
 
 -- "disc end and used total; entries in table order ..; free regions"
 unfoldable pub listingText : List ℕ → List ℕ

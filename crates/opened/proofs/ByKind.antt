@@ -4,9 +4,9 @@ use Rattle.std.proofs.Common.{sym, ap, ◌∙◌, arith}
 use borrow.Author.Tests.{eqb-true, not-false, eq-eqb}
 use Rattle.tree.specs.Table.{none, count, kind, offsetOrParent, nodesOf}
 use Rattle.tree.specs.Lookup.{isDirectory}
-use Rattle.fst.specs.Inner.Held.{Held}
-use Rattle.fst.specs.Inner.Fields.{offset_of}
-use Rattle.fst.proofs.Nodes.{opened, file-is, is-directory}
+use Rattle.table.specs.Inner.Held.{Held}
+use Rattle.table.specs.Inner.Fields.{offset_of}
+use Rattle.table.proofs.Nodes.{opened, file-is, is-directory}
 
 module _ (tab : List ℕ) (h : Held tab) (k : ℕ) (inside : k < count tab) (t : Bool) (e : t ≡ isDirectory (get_or (nodesOf tab) k none)) where
   by-kind : not (eqb (kind tab k) 0) ≡ t

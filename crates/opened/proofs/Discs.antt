@@ -4,7 +4,7 @@ use Rattle.std.specs.Prelude.{◌≡◌, List, length}
 use Rattle.std.proofs.Common.{sym, ap, ◌∙◌, arith}
 use Rattle.endian.specs.Bytes.{be32, span}
 use Rattle.header.specs.Verdicts.{dolOffset, fstOffset, fstSize, discEnd}
-use Rattle.space.specs.declared.DiscRegion.{DiscRegion}
+use Rattle.space.specs.declared.region.DiscRegion.{DiscRegion}
 use Rattle.space.specs.Free.{freeRegions}
 use Rattle.space.specs.Used.{totalSize}
 use Rattle.space.specs.Inner.Sort.{SameSums, regionsIn}
@@ -12,12 +12,12 @@ use Rattle.space.specs.Inner.Words.{SortedDisjoint}
 use Rattle.space.specs.Laws.SortLaws.{same_total}
 use Rattle.tree.specs.Table.{nodesOf}
 use Rattle.tree.proofs.Laws.Accepted.{length-nodesOf}
-use Rattle.fst_check.specs.Inner.Reading.{Opens}
-use Rattle.program.specs.Program.{programBehind}
-use Rattle.opening.specs.Opening.{table_of, usedIn, freeOf}
-use Rattle.opening.specs.Inner.Prepared.{IsOpen}
-use Rattle.opening.proofs.Laws.OpeningLaws.{table-accepted}
-use Rattle.opening.proofs.Words.{free-below, sorted-below}
+use Rattle.table.specs.Inner.Reading.{Opens}
+use Rattle.executable.specs.Program.{programBehind}
+use Rattle.opened.specs.Opening.{table_of, usedIn, freeOf}
+use Rattle.opened.specs.Inner.Prepared.{IsOpen}
+use Rattle.opened.proofs.Laws.OpeningLaws.{table-accepted}
+use Rattle.opened.proofs.Words.{free-below, sorted-below}
 use Rattle.opened.specs.Inner.Parts.{HasParts}
 use Rattle.opened.specs.Inner.Disc.{Disc, disc_in, disc_of, free_of, Means, TableOf}
 pub use Rattle.opened.specs.Laws.Meant.{free-shown, used_shown, nodes_shown}

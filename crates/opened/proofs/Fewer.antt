@@ -4,7 +4,7 @@ use Rattle.std.specs.Prelude.{◌≡◌, true, List, leb}
 use Rattle.std.proofs.Common.{arith}
 use borrow.Author.Tests.{le-leb}
 use Rattle.refusal.specs.Laws.Tests.{and_left, and_right}
-use Rattle.space.specs.declared.DiscRegion.{DiscRegion}
+use Rattle.space.specs.declared.region.DiscRegion.{DiscRegion}
 use Rattle.space.specs.Used.{end_of}
 use Rattle.space.specs.Inner.Sort.{regionAt, regionsIn}
 use Rattle.space.specs.Inner.Words.{AllNonempty, inSequence, SortedDisjoint}

@@ -11,11 +11,11 @@ use Rattle.header.specs.Verdicts.{headerVerdict, boundsVerdict, dolOffset, fstOf
 use Rattle.header.specs.Inner.Bounds.{boundsWithin}
 use Rattle.header.specs.Laws.Order.{header-order}
 use Rattle.refusal.specs.declared.Refusal.{Refusal}
-use Rattle.dol.specs.Dol.{wordsAt, dolHeaderOf, fileSizeOf}
-use Rattle.opening.proofs.Laws.OpeningLaws.{be32-span}
-use Rattle.space.specs.declared.DiscRegion.{DiscRegion}
-use Rattle.program.specs.Program.{Program, program_of, programVerdict, nowhere}
-use Rattle.program.specs.Inner.Reading.{programAt}
+use Rattle.executable.specs.Dol.{wordsAt, dolHeaderOf, fileSizeOf}
+use Rattle.opened.proofs.Laws.OpeningLaws.{be32-span}
+use Rattle.space.specs.declared.region.DiscRegion.{DiscRegion}
+use Rattle.executable.specs.Program.{Program, program_of, programVerdict, nowhere}
+use Rattle.executable.specs.Inner.Reading.{programAt}
 use Rattle.opened.specs.Inner.Parts.{Heads, own_as}
 
 -- ---- a field of the header

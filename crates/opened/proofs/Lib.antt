@@ -1,6 +1,10 @@
 -- What the proofs of the functions cite.
-pub mod Heads
-pub mod Opens
-pub mod Discs
 pub mod ByKind
+pub mod Discs
 pub mod Fewer
+pub mod Heads
+pub mod Laws
+pub mod Opens
+pub mod Tests
+pub mod UsedRegions
+pub mod Words

@@ -5,13 +5,13 @@ use Rattle.std.proofs.Common.{refl, sym, ap, ◌∙◌}
 use Rattle.refusal.specs.declared.Refusal.{Refusal}
 use Rattle.refusal.specs.Refusal.{Verdict, first}
 use Rattle.refusal.specs.Laws.Chains.{first-passed}
-use Rattle.fst_check.specs.Inner.Reading.{Opens}
+use Rattle.table.specs.Inner.Reading.{Opens}
 use Rattle.header.specs.Verdicts.{headerVerdict, boundsVerdict}
 use Rattle.header.specs.Laws.FieldTests.{header-passes, bounds-pass}
 use Rattle.tree.specs.Table.{check}
-use Rattle.opening.specs.Opening.{table_of}
-use Rattle.opening.specs.Inner.Prepared.{verdictBefore24, Readable}
-use Rattle.opening.proofs.Laws.OpeningLaws.{stopped, went_on}
+use Rattle.opened.specs.Opening.{table_of}
+use Rattle.opened.specs.Inner.Prepared.{verdictBefore24, Readable}
+use Rattle.opened.proofs.Laws.OpeningLaws.{stopped, went_on}
 use Rattle.opened.specs.Inner.Parts.{HasTable}
 
 pub head_opens : (image : List ℕ) (words : ℕ) → Readable image words → first (headerVerdict image) (boundsVerdict image) ≡ Ok tt

@@ -1,5 +1,7 @@
--- What only inner contracts say.
+-- Definitions that only inner contracts need.
 pub mod Backed
 pub mod Collecting
 pub mod Disc
 pub mod Parts
+pub mod Prepared
+pub mod Told

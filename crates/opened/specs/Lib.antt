@@ -1,2 +1,4 @@
-pub mod Laws
+pub mod Answers
 pub mod Inner
+pub mod Laws
+pub mod Opening

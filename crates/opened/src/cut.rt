@@ -3,7 +3,7 @@ ghost use Rattle.std.specs.Prelude.{◌≡◌};
 ghost use Rattle.endian.specs.Bytes.{span};
 ghost use Rattle.opened.specs.Inner.Parts.{PartsOf};
 
-use crate::Parts;
+use crate::parts::Parts;
 
 // What the image has of the `size` bytes from `from` on.
 fn cut(image: &[u8], from: usize, size: usize) -> &[u8]

@@ -1,11 +1,11 @@
 // The used regions collected from the table, which was accepted.
 ghost use Rattle.std.specs.Prelude.{◌≡◌, ◌+◌, ◌-◌, ◌*◌, ◌≤◌, ◌<◌, length};
 ghost use Rattle.tree.specs.Table.{count};
-ghost use Rattle.opening.specs.Inner.Prepared.{CollectedUsed};
+ghost use Rattle.opened.specs.Inner.Prepared.{CollectedUsed};
 ghost use Rattle.opened.specs.Inner.Collecting.{RegionOf, InTurn, AddsRegion, AddsEntry, AddsEntries};
 
-use fst::Table;
 use space::DiscRegion;
+use table::Table;
 
 // Where the bytes of entry k stand. A directory has none.
 fn region_of(table: &Table<'_>, k: usize) -> Option<DiscRegion>

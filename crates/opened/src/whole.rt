@@ -1,15 +1,15 @@
 // The tests of opening, the last of which leaves the used regions in the lent words.
 ghost use Rattle.std.specs.Prelude.{◌≡◌, List, ℕ, Ok, length};
-ghost use Rattle.program.specs.Program.{program_of, programVerdict, programBehind};
-ghost use Rattle.opening.specs.Inner.Prepared.{verdictBefore24, Prepares};
+ghost use Rattle.executable.specs.Program.{program_of, programVerdict, programBehind};
+ghost use Rattle.opened.specs.Inner.Prepared.{verdictBefore24, Prepares};
 ghost use Rattle.opened.specs.Inner.Parts.{PartsOf, own_as};
 
-use crate::Parts;
+use crate::parts::Parts;
 use crate::regions::collect;
-use fst::Table;
-use program::Program;
+use executable::Program;
 use refusal::{Refusal, Verdict};
 use space::DiscRegion;
+use table::Table;
 
 // Kept: each contract names the image as a ghost, and says that these are its parts. They say nothing of its other
 // bytes, so that the image is no function of them, and no type that holds them can say which image it is.
@@ -21,7 +21,7 @@ pub fn check_table(parts: Parts<'_>, words: usize) -> Verdict
     ensures { result ≡ verdictBefore24 image words }
 {
     header::check_bounds_within(parts.header, parts.length)?;
-    fst_check::check(parts.table, words)
+    table::check(parts.table, words)
 }
 
 // The program, whose header the image may not hold.
@@ -32,9 +32,9 @@ fn read_program(parts: Parts<'_>) -> Program
 {
     let offset = header::dol_offset(parts.header);
     if u64::from(offset) + 0xE4 <= parts.length {
-        program::read_at(offset, parts.program, 0)
+        executable::program::read_at(offset, parts.program, 0)
     } else {
-        program::read_at(offset, &[], 0)
+        executable::program::read_at(offset, &[], 0)
     }
 }
 
@@ -45,7 +45,7 @@ pub fn check_program(parts: Parts<'_>) -> Result<DiscRegion, Refusal>
     ensures { result ≡ own_as (program_of image) (programBehind image) }
 {
     let program = read_program(parts)?;
-    Ok(program::own_region(Ok(program), header::fst_offset(parts.header)))
+    Ok(executable::own_region(Ok(program), header::fst_offset(parts.header)))
 }
 
 // Test 14, which leaves the used regions in order.
@@ -62,6 +62,6 @@ pub fn check_used(parts: Parts<'_>, words: &mut [u32], own: DiscRegion) -> Resul
     let table = Table::new(parts.table);
     let count = table.len();
     let m = collect(&table, words, to as u32, own);
-    space_check::check(words, count + 2, m, end)?;
+    space::check(words, count + 2, m, end)?;
     Ok(m)
 }

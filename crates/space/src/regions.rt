@@ -3,7 +3,7 @@ ghost use Rattle.std.specs.Prelude.{◌≡◌, ◌*◌, ◌≤◌, length};
 ghost use Rattle.std.specs.Iterator.{YieldsFirst, item_count};
 ghost use Rattle.space.specs.Inner.Sort.{regionsIn};
 
-use crate::DiscRegion;
+use crate::region::DiscRegion;
 use std::marker::Model;
 
 /// The regions in words, an offset and a size each, one after the other.
@@ -18,7 +18,7 @@ pub struct Regions<'a> {
 
 impl<'a> Model for Regions<'a> {
     ghost use Rattle.std.specs.Prelude.{◌-◌, List};
-    ghost use Rattle.space.specs.declared.DiscRegion.{DiscRegion};
+    ghost use Rattle.space.specs.declared.region.DiscRegion.{DiscRegion};
     ghost use Rattle.space.specs.Inner.Sort.{regionsIn};
     ghost use Rattle.space.specs.Inner.Words.{Standing};
 

@@ -4,11 +4,11 @@ use Rattle.std.specs.Prelude.{Some, None, Ok, Err, ℕ, zero, suc, ◌≡◌, re
 use Rattle.refusal.specs.declared.Refusal.TheVariants.{LimitOrMemory, NoSuchEntry, ExpectedFile, NotFound, NotEnoughSpace, InvalidSeek, InvalidDol, TotalsOutOfRange}
 use Rattle.tree.specs.declared.Entry.TheVariants.{File, Directory}
 use Rattle.tree.specs.declared.Found.TheVariants as found
-use Rattle.dol.specs.declared.DolHeader.{DolHeader}
-use Rattle.totals.specs.declared.Totals.{Totals}
-use Rattle.totals.specs.Totals.{totalsIn}
+use Rattle.executable.specs.declared.dol.DolHeader.{DolHeader}
+use Rattle.space.specs.declared.totals.Totals.{Totals}
+use Rattle.space.specs.Totals.{totalsIn}
 use Rattle.window.specs.declared.Window.{Window}
-use Rattle.opening.specs.Opening.{zeros}
+use Rattle.opened.specs.Opening.{zeros}
 use Rattle.counter.specs.Replies.{Reply, reply, Read, replied, discWords, discTotalsWords, regionWords, one, windowIn, windowWords, totalsWords, dolWords, programReply, foundReply, dolReply, dolWindowReply, done, numbered}
 
 -- slots as they were before the call

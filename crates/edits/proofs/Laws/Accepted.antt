@@ -3,9 +3,9 @@ use Rattle.std.specs.Prelude.{Ok, Err}
 use Rattle.std.specs.Prelude.{ℕ, ◌≡◌, List}
 use Rattle.refusal.specs.declared.Refusal.{Refusal}
 use Rattle.refusal.specs.Laws.Chains.{first-passed}
-use Rattle.totals.specs.declared.Totals.{Totals}
-use Rattle.totals.specs.Totals.{totalsVerdict}
-use Rattle.opening.specs.Opening.{opening, usedOf}
+use Rattle.space.specs.declared.totals.Totals.{Totals}
+use Rattle.space.specs.Totals.{totalsVerdict}
+use Rattle.opened.specs.Opening.{opening, usedOf}
 use Rattle.edits.specs.Change.{Plan}
 use Rattle.edits.specs.Edits.{Edit, plan_of, planVerdict, planImage, countedVerdict, verdictOf, imageAfter, totalsAfter}
 

@@ -10,8 +10,8 @@ use Rattle.endian.specs.Laws.Stored.{put-none}
 use Rattle.refusal.specs.declared.Refusal.TheVariants.{NotEnoughSpace}
 use Rattle.refusal.specs.Refusal.{refuse, first}
 use Rattle.tree.specs.Table.{none}
-use Rattle.totals.specs.declared.Totals.{Totals}
-use Rattle.opening.specs.Opening.{nodesIn, freeOf, regionOf}
+use Rattle.space.specs.declared.totals.Totals.{Totals}
+use Rattle.opened.specs.Opening.{nodesIn, freeOf, regionOf}
 use Rattle.edits.specs.Change.{Plan, nothing, filled}
 use Rattle.edits.specs.Edits.{resizeFile, fillFile, planned, fileVerdict, planSized, planResize, planFill, plan_of, planVerdict, planImage, countedVerdict, verdictOf, imageAfter}
 

@@ -9,9 +9,9 @@ use Rattle.refusal.specs.declared.Refusal.TheVariants.{LimitOrMemory}
 use Rattle.refusal.specs.Refusal.{refuse, first, is_refused}
 use Rattle.header.specs.Verdicts.{fstMaxSize}
 use Rattle.tree.specs.Table.{encode, limits}
-use Rattle.totals.specs.declared.Totals.{Totals}
-use Rattle.totals.specs.Totals.{totalsVerdict}
-use Rattle.opening.specs.Opening.{opening, usedOf}
+use Rattle.space.specs.declared.totals.Totals.{Totals}
+use Rattle.space.specs.Totals.{totalsVerdict}
+use Rattle.opened.specs.Opening.{opening, usedOf}
 use Rattle.edits.specs.Change.{roomVerdict, tableVerdict, Plan, refused, nothing, change, filled}
 use Rattle.edits.specs.Edits.{Edit, plan_of, planVerdict, planImage, totalsTo, countedVerdict, verdictOf, imageAfter, totalsAfter}
 use Rattle.edits.proofs.Laws.PlaceTests.{stated-apart}

@@ -9,8 +9,8 @@ use Rattle.refusal.specs.declared.Refusal.{Refusal}
 use Rattle.refusal.specs.declared.Refusal.TheVariants.{LimitOrMemory, InvalidNameByte, UnsafeName, NoSuchEntry, ExpectedFile, ExpectedDirectory, AlreadyExists, NotEnoughSpace}
 use Rattle.tree.specs.Table.{none, plain, safe}
 use Rattle.tree.specs.Lookup.{isDirectory, childOf}
-use Rattle.totals.specs.declared.Totals.{Totals}
-use Rattle.opening.specs.Opening.{opening, nodesIn}
+use Rattle.space.specs.declared.totals.Totals.{Totals}
+use Rattle.opened.specs.Opening.{opening, nodesIn}
 use Rattle.edits.specs.Edits.{insertFile, insertDirectory, makeDirectories, fillFile, insertVerdict, planMakeDirectories, planFill, verdictOf}
 use Rattle.edits.proofs.Laws.Accepted.{own_first}
 

@@ -11,13 +11,13 @@ use Rattle.refusal.specs.Refusal.{refuse}
 use Rattle.refusal.specs.Laws.Chains.{refuse-passed}
 use Rattle.refusal.specs.Laws.Tests.{or-false}
 use Rattle.header.specs.Verdicts.{fstOffset, fstSize, fstMaxSize}
-use Rattle.space.specs.declared.DiscRegion.{DiscRegion}
+use Rattle.space.specs.declared.region.DiscRegion.{DiscRegion}
 use Rattle.space.specs.Used.{usesByte, usedRegions}
 use Rattle.space.specs.Free.{freeIn}
 use Rattle.space.specs.Laws.UsedLaws.{used-is}
 use Rattle.space.specs.Laws.FreeLaws.{In}
-use Rattle.free_space.specs.MaxRegionSize.{maxRegionSize}
-use Rattle.opening.specs.Opening.{freeOf}
+use Rattle.space.specs.MaxRegionSize.{maxRegionSize}
+use Rattle.opened.specs.Opening.{freeOf}
 use Rattle.edits.specs.Change.{aboveMaximum, roomVerdict, placeVerdict}
 use Rattle.edits.specs.Edits.{noPlace}
 

@@ -5,7 +5,7 @@ use Rattle.refusal.specs.Refusal.{Verdict}
 use Rattle.std.specs.Prelude.{ℕ, ◌≡◌, List, length}
 use Rattle.std.proofs.Common.{◌∙◌}
 use Rattle.refusal.specs.declared.Refusal.{Refusal}
-use Rattle.opening.specs.Opening.{zeros}
+use Rattle.opened.specs.Opening.{zeros}
 use Rattle.edits.specs.Edits.{Edit, plan_of, planNumber, planImage, totalsTo, verdictOf, imageAfter, totalsAfter}
 use Rattle.edits.specs.Promise.{Lent, Edited}
 use Rattle.edits.proofs.Laws.Accepted.{refused-back}

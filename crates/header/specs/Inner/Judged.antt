@@ -1,6 +1,6 @@
 -- A field by its number, and what its test asks of its place. Assumes nothing: these are definitions.
 use Rattle.std.specs.Prelude.{ℕ, ◌+◌, ◌≤◌, ◌≡◌, List, get_or}
-use Rattle.header.specs.declared.Field.{Field}
+use Rattle.header.specs.declared.fields.Field.{Field}
 use Rattle.header.specs.Fields.{place, fields, wiiMagicField, gcnMagicField}
 
 -- the field with number k, counted from 0

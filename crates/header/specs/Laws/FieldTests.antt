@@ -10,7 +10,7 @@ use Rattle.endian.specs.Bytes.{be32}
 use Rattle.refusal.specs.declared.Refusal.TheVariants.{HeaderPastImage, WiiNotSupported, InvalidMagic, InvalidBounds}
 use Rattle.refusal.specs.Refusal.{refuse}
 use Rattle.refusal.specs.Laws.Chains.{refuse-passed, first-passed}
-use Rattle.header.specs.declared.Field.{Field}
+use Rattle.header.specs.declared.fields.Field.{Field}
 use Rattle.header.specs.Fields.{fields}
 use Rattle.header.specs.Inner.Judged.{field_at, nth}
 use Rattle.header.specs.Laws.Tiling.{fields-count, every-at}

@@ -15,7 +15,7 @@ use Rattle.endian.specs.Bytes.{be32}
 use Rattle.refusal.specs.declared.Refusal.{Refusal}
 use Rattle.refusal.specs.declared.Refusal.TheVariants.{HeaderPastImage, WiiNotSupported, InvalidMagic}
 use Rattle.refusal.specs.Refusal.{refuse, first}
-use Rattle.header.specs.declared.Field.{Field}
+use Rattle.header.specs.declared.fields.Field.{Field}
 use Rattle.header.specs.Fields.{fields, wiiMagicField, gcnMagicField, gameNameField}
 use Rattle.header.specs.Laws.Tiling.{tile}
 use Rattle.header.specs.Verdicts.{gcnMagic, wiiMagic, fieldVerdict, fieldsVerdict, headerVerdict}

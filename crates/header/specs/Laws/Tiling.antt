@@ -2,7 +2,7 @@
 use Rattle.std.specs.Prelude.{ℕ, zero, suc, ◌+◌, ◌<◌, ◌≤◌, ◌≡◌, refl, Bool, true, ◌&&◌, List, [], ◌∷◌, eqb, length}
 use Rattle.std.proofs.Common.{⊎_elim, arith, eqb-true}
 use Rattle.refusal.specs.Laws.Tests.{lt-or-le, and_left, and_right}
-use Rattle.header.specs.declared.Field.{Field}
+use Rattle.header.specs.declared.fields.Field.{Field}
 use Rattle.header.specs.Fields.{fields}
 use Rattle.header.specs.Inner.Judged.{field_at, nth}
 

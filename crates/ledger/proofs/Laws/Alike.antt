@@ -8,9 +8,9 @@ use Rattle.endian.specs.Bytes.{be32}
 use Rattle.endian.specs.Laws.Stored.{span_ext}
 use Rattle.header.specs.Verdicts.{fstOffset, fstSize, userSize, discSize, discEnd, table_end}
 use Rattle.header.specs.Laws.FieldTests.{GoodHeader, bounds-same, header-passes, bounds-pass}
-use Rattle.program.specs.Program.{program_of, programIn}
-use Rattle.opening.specs.Opening.{table_of, nodesIn, behindTable, usedIn, layoutVerdict, freeOf, usedOf, opening}
-use Rattle.opening.proofs.Laws.OpeningLaws.{table-accepted}
+use Rattle.executable.specs.Program.{program_of, programIn}
+use Rattle.opened.specs.Opening.{table_of, nodesIn, behindTable, usedIn, layoutVerdict, freeOf, usedOf, opening}
+use Rattle.opened.proofs.Laws.OpeningLaws.{table-accepted}
 use Rattle.ledger.proofs.Laws.Opened.{Opened}
 
 pub record Alike (image image' : List ℕ) : Type 0 where

@@ -5,7 +5,7 @@ use Rattle.std.specs.Prelude.{ℕ, ◌+◌, ◌≤◌, ◌≡◌, List, length, 
 use Rattle.std.proofs.Common.{inl, inr, ⊎_elim, arith}
 use Rattle.endian.specs.Bytes.{AllBytes}
 use Rattle.endian.specs.Laws.Stored.{be32-same, Outside}
-use Rattle.opening.specs.Opening.{nodesIn, freeOf, opening}
+use Rattle.opened.specs.Opening.{nodesIn, freeOf, opening}
 use Rattle.ledger.proofs.Laws.Alike.{Alike, tree-same, free-same, opens-same}
 use Rattle.ledger.proofs.Laws.Opened.{Opened, opened}
 use Rattle.ledger.proofs.Laws.ProgramKept.{program-spared}

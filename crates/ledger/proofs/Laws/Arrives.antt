@@ -20,11 +20,11 @@ use Rattle.tree.specs.Table.{Node, none, encode}
 use Rattle.tree.specs.Inner.WellFormed.{WellFormed}
 use Rattle.tree.specs.Lookup.{isDirectory, components}
 use Rattle.tree.specs.Insert.{insertAt, emptyFile, emptyDirectory}
-use Rattle.space.specs.declared.DiscRegion.{DiscRegion}
+use Rattle.space.specs.declared.region.DiscRegion.{DiscRegion}
 use Rattle.space.specs.Used.{nonempty}
-use Rattle.free_space.specs.MaxRegionSize.{maxRegionSize}
-use Rattle.free_space.specs.Allocate.{allocationOf}
-use Rattle.opening.specs.Opening.{nodesIn, freeOf}
+use Rattle.space.specs.MaxRegionSize.{maxRegionSize}
+use Rattle.space.specs.Allocate.{allocationOf}
+use Rattle.opened.specs.Opening.{nodesIn, freeOf}
 use Rattle.edits.specs.Change.{Change, written, Plan, refused, nothing, change}
 use Rattle.edits.specs.Edits.{tableOnly, planned, newNumber, insertVerdict, planInsert, Made, stopped, made, make, planMade, planMakeDirectories, fileVerdict, relocated, relocateVerdict, planMove, resized, planElsewhere, planResize, planVerdict, planTree, planImage}
 use Rattle.ledger.specs.Ledger.{Ledger, filesBefore}

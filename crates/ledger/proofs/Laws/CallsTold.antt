@@ -9,9 +9,9 @@ use Rattle.refusal.specs.Refusal.{is_refused, first}
 use Rattle.refusal.specs.Laws.Chains.{first-passed}
 use Rattle.tree.specs.Table.{file, none}
 use Rattle.tree.specs.Lookup.{isDirectory}
-use Rattle.space.specs.declared.DiscRegion.{DiscRegion}
-use Rattle.totals.specs.declared.Totals.{Totals}
-use Rattle.opening.specs.Opening.{nodesIn, freeOf, opening}
+use Rattle.space.specs.declared.region.DiscRegion.{DiscRegion}
+use Rattle.space.specs.declared.totals.Totals.{Totals}
+use Rattle.opened.specs.Opening.{nodesIn, freeOf, opening}
 use Rattle.edits.specs.Edits.{Edit, insertFile, insertDirectory, makeDirectories, moveFile, resizeFile, fillFile, rewrite, fileVerdict, relocateVerdict, clipVerdict, planMove, planResize, planFill, verdictOf, imageAfter}
 use Rattle.edits.proofs.Laws.Accepted.{accepted}
 use Rattle.ledger.specs.Ledger.{Ledger, filesBefore, firstLedger, entered, Report, ledgerAfter}

@@ -8,7 +8,7 @@ use Rattle.endian.specs.Laws.Stored.{put_in, span-put}
 use Rattle.header.specs.Verdicts.{discEnd, table_end}
 use Rattle.tree.specs.Table.{none}
 use Rattle.tree.specs.Lookup.{isDirectory}
-use Rattle.opening.specs.Opening.{nodesIn, freeOf, usedOf}
+use Rattle.opened.specs.Opening.{nodesIn, freeOf, usedOf}
 use Rattle.edits.specs.Change.{Plan}
 use Rattle.edits.specs.Edits.{noPlace}
 use Rattle.ledger.specs.Ledger.{History, Ledger, refilled}

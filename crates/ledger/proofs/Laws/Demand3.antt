@@ -1,7 +1,7 @@
 -- Demand 3 holds of any list of calls, and a file that no accepted edit named lies where it lay. Assumes nothing.
 use Rattle.std.specs.Prelude.{ℕ, List}
 use Rattle.endian.specs.Bytes.{span}
-use Rattle.opening.specs.Opening.{nodesIn}
+use Rattle.opened.specs.Opening.{nodesIn}
 use Rattle.ledger.specs.Ledger.{Ledger, filesBefore, firstLedger, Report, ledgerAfter}
 use Rattle.ledger.specs.Runs.{imageAfterAll, reportsOf}
 use Rattle.ledger.specs.Spared.{numberAfter}

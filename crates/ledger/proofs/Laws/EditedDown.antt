@@ -12,11 +12,11 @@ use Rattle.tree.specs.Table.{encode, limits}
 use Rattle.tree.proofs.Laws.Accepted.{length-nodesOf}
 use Rattle.tree.proofs.Laws.RoundTrip.{limits-within}
 use Rattle.tree.proofs.Laws.WrittenEntries.{length-encode}
-use Rattle.free_space.specs.MaxRegionSize.{maxRegionSize}
-use Rattle.free_space.specs.Laws.GrowthLaws.{table-largest}
-use Rattle.opening.specs.Opening.{table_of, nodesIn, freeOf, opening}
-use Rattle.opening.specs.Inner.Prepared.{OpenImage}
-use Rattle.opening.proofs.Laws.OpeningLaws.{opens}
+use Rattle.space.specs.MaxRegionSize.{maxRegionSize}
+use Rattle.space.specs.Laws.GrowthLaws.{table-largest}
+use Rattle.opened.specs.Opening.{table_of, nodesIn, freeOf, opening}
+use Rattle.opened.specs.Inner.Prepared.{OpenImage}
+use Rattle.opened.proofs.Laws.OpeningLaws.{opens}
 use Rattle.disc.specs.Calls.{totalsOf}
 use Rattle.edits.specs.Change.{tableVerdict}
 use Rattle.edits.specs.Edits.{noPlace, rewrite, plan_of, planVerdict, verdictOf, imageAfter}

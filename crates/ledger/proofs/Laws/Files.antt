@@ -8,10 +8,10 @@ use mathlib.Core.List.{List, [], ◌∷◌, map}
 use Rattle.tree.specs.Table.{Node, file, directory, none}
 use Rattle.tree.specs.Lookup.{isDirectory, next_of}
 use Rattle.tree.specs.Insert.{later, splice, insertAt, placed, setPlace}
-use Rattle.space.specs.declared.DiscRegion.{DiscRegion}
+use Rattle.space.specs.declared.region.DiscRegion.{DiscRegion}
 use Rattle.space.specs.Used.{nonempty, usedRegions}
-use Rattle.program.specs.Program.{programBehind}
-use Rattle.opening.specs.Opening.{nodesIn, regionOf}
+use Rattle.executable.specs.Program.{programBehind}
+use Rattle.opened.specs.Opening.{nodesIn, regionOf}
 use Rattle.edits.specs.Edits.{noPlace}
 use Rattle.ledger.specs.Inner.Files.{pick, files_of, names_of}
 use Rattle.ledger.specs.Ledger.{bare, filesBefore, put_in}

@@ -7,8 +7,8 @@ use Rattle.std.proofs.Math.ListN.{get_or-map}
 use Rattle.endian.specs.Bytes.{span}
 use Rattle.tree.specs.Table.{Node, file, directory, none}
 use Rattle.tree.specs.Lookup.{isDirectory}
-use Rattle.space.specs.declared.DiscRegion.{DiscRegion}
-use Rattle.opening.specs.Opening.{nodesIn}
+use Rattle.space.specs.declared.region.DiscRegion.{DiscRegion}
+use Rattle.opened.specs.Opening.{nodesIn}
 use Rattle.refusal.specs.Laws.Tests.{or-false}
 use Rattle.edits.specs.Edits.{Edit, insertFile, insertDirectory, makeDirectories, moveFile, resizeFile, fillFile, rewrite, noPlace}
 use Rattle.ledger.specs.Ledger.{History, Ledger, bare, filesBefore, historyOf, firstLedger, Report, ledgerAfter}

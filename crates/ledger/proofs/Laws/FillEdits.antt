@@ -11,7 +11,7 @@ use Rattle.tree.specs.Table.{Node, file, directory, none}
 use Rattle.tree.specs.Lookup.{isDirectory}
 use Rattle.tree.specs.Insert.{placed, setPlace}
 use Rattle.tree.proofs.Laws.PlaceLaws.{setPlace-at}
-use Rattle.opening.specs.Opening.{nodesIn, freeOf, usedOf, regionOf}
+use Rattle.opened.specs.Opening.{nodesIn, freeOf, usedOf, regionOf}
 use Rattle.edits.specs.Change.{Plan, filled}
 use Rattle.edits.specs.Edits.{resizeFile, fillFile, fileVerdict, clipVerdict, planResize, planFill, planVerdict, planTree, planImage}
 use Rattle.ledger.specs.Ledger.{Ledger, bare, filesBefore, historyOf, refilled, lowered, entered}

@@ -9,10 +9,10 @@ use borrow.Author.Tests.{lt-ltb}
 use Rattle.endian.specs.Bytes.{put, AllBytes}
 use Rattle.refusal.specs.Laws.Tests.{lt-or-le}
 use Rattle.tree.specs.Table.{Node, file, none}
-use Rattle.totals.specs.declared.Totals.{Totals}
+use Rattle.space.specs.declared.totals.Totals.{Totals}
 use Rattle.window.specs.Window.{newWindow, count_of, bufferOf}
-use Rattle.files.specs.Files.{openFileAnswer, entryAnswer}
-use Rattle.opening.specs.Opening.{nodesIn, freeOf, opening}
+use Rattle.disc.specs.Files.{openFileAnswer, entryAnswer}
+use Rattle.opened.specs.Opening.{nodesIn, freeOf, opening}
 use Rattle.edits.specs.Change.{filled}
 use Rattle.edits.specs.Edits.{fillFile, clipVerdict, planResize, planFill, planImage, verdictOf, imageAfter}
 use Rattle.edits.proofs.Laws.Accepted.{accepted}

@@ -6,8 +6,8 @@ use Rattle.std.specs.Prelude.{ℕ, ◌+◌, ◌^◌, ◌<◌, ◌≤◌, ◌≡�
 use Rattle.std.proofs.Common.{◌∙◌, arith}
 use Rattle.endian.specs.Bytes.{put, AllBytes}
 use Rattle.tree.specs.Table.{none}
-use Rattle.totals.specs.declared.Totals.{Totals}
-use Rattle.opening.specs.Opening.{nodesIn, freeOf, usedOf, regionOf, opening}
+use Rattle.space.specs.declared.totals.Totals.{Totals}
+use Rattle.opened.specs.Opening.{nodesIn, freeOf, usedOf, regionOf, opening}
 use Rattle.disc.specs.Calls.{totalsOf}
 use Rattle.edits.specs.Change.{filled}
 use Rattle.edits.specs.Edits.{resizeFile, fillFile, fileVerdict, clipVerdict, planResize, planFill, plan_of, planVerdict, planImage, countedVerdict, verdictOf, imageAfter, totalsAfter}

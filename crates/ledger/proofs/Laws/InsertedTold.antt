@@ -4,8 +4,8 @@ use Rattle.std.specs.Prelude.{ℕ, zero, suc, ◌≤◌, ◌≡◌, refl, Bool, 
 use Rattle.std.proofs.Common.{sym, ap, ◌∙◌, arith, length-set}
 use Rattle.tree.specs.Table.{Node, file, directory}
 use Rattle.tree.specs.Lookup.{components}
-use Rattle.space.specs.declared.DiscRegion.{DiscRegion}
-use Rattle.opening.specs.Opening.{nodesIn}
+use Rattle.space.specs.declared.region.DiscRegion.{DiscRegion}
+use Rattle.opened.specs.Opening.{nodesIn}
 use Rattle.edits.specs.Edits.{Edit, insertFile, insertDirectory, makeDirectories, moveFile, resizeFile, fillFile, rewrite, newNumber, noPlace}
 use Rattle.ledger.specs.Ledger.{Ledger, filesBefore, newHistory, firstHistories, firstLedger, put_in, entered, Report, ledgerAfter}
 use Rattle.ledger.specs.Inner.Files.{pick, place_of, files_of, ownName, names_of}

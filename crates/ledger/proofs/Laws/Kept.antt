@@ -9,8 +9,8 @@ use Rattle.tree.specs.Table.{Node}
 use Rattle.tree.specs.Inner.WellFormed.{WellFormed}
 use Rattle.space.specs.Used.{usedRegions}
 use Rattle.space.specs.Layout.{disjointBelow}
-use Rattle.program.specs.Program.{programBehind}
-use Rattle.opening.specs.Opening.{nodesIn, opening}
+use Rattle.executable.specs.Program.{programBehind}
+use Rattle.opened.specs.Opening.{nodesIn, opening}
 use Rattle.edits.specs.Change.{written}
 use Rattle.edits.specs.Edits.{tableOnly}
 use Rattle.ledger.specs.Ledger.{History, Ledger, bare}

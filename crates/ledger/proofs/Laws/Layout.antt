@@ -6,15 +6,15 @@ use Rattle.refusal.specs.Refusal.{is_refused}
 use Rattle.refusal.specs.Laws.Tests.{and_left, and_right, and_both, or_cases, or_left, or_right, is_false, never_both, same_test}
 use Rattle.header.specs.Verdicts.{fstOffset, fstSize, fstMaxSize, discEnd}
 use Rattle.tree.specs.Table.{encode}
-use Rattle.space.specs.declared.DiscRegion.{DiscRegion}
+use Rattle.space.specs.declared.region.DiscRegion.{DiscRegion}
 use Rattle.space.specs.Used.{inside, usesByte, nonempty, totalSize}
 use Rattle.space.specs.Inner.Sort.{holds}
 use Rattle.space.specs.Laws.UsedLaws.{inside-in, inside-high, used-nonempty}
 use Rattle.space.specs.Laws.LayoutLaws.{inside-from, inside-to}
 use Rattle.space.specs.Laws.TotalLaws.{total-nonempty}
-use Rattle.totals.specs.Laws.LargestLaws.{Exchanged}
-use Rattle.program.specs.Program.{program_of, programBehind}
-use Rattle.opening.specs.Opening.{table_of}
+use Rattle.space.specs.Laws.LargestLaws.{Exchanged}
+use Rattle.executable.specs.Program.{program_of, programBehind}
+use Rattle.opened.specs.Opening.{table_of}
 use Rattle.edits.specs.Change.{Plan, refused, nothing, change, filled}
 use Rattle.edits.specs.Edits.{noPlace}
 use Rattle.ledger.proofs.Laws.Files.{filesIn, placesIn}

@@ -10,12 +10,12 @@ use Rattle.refusal.specs.Laws.Chains.{first-passed}
 use Rattle.refusal.specs.Laws.Tests.{lt-or-le}
 use Rattle.header.specs.Verdicts.{fstSize, fstMaxSize}
 use Rattle.tree.specs.Table.{encode, limits}
-use Rattle.opening.specs.Opening.{table_of}
+use Rattle.opened.specs.Opening.{table_of}
 use Rattle.edits.specs.Change.{Change, tableVerdict, Plan, refused, nothing, change, filled}
 use Rattle.edits.specs.Edits.{Edit, plan_of, planVerdict, planImage, verdictOf, imageAfter}
 use Rattle.edits.proofs.Laws.Accepted.{accepted}
 use Rattle.edits.proofs.Laws.PlaceTests.{place-passed}
-use Rattle.totals.specs.declared.Totals.{Totals}
+use Rattle.space.specs.declared.totals.Totals.{Totals}
 use Rattle.ledger.specs.Ledger.{Ledger, firstLedger, entered}
 use Rattle.ledger.specs.Runs.{Call, imageAfterAll, Passable, AllWithin}
 use Rattle.ledger.specs.Theorem.{WithinMaximum, MaximumKept}

@@ -15,8 +15,8 @@ use Rattle.tree.specs.Table.{Node, name_of, none}
 use Rattle.tree.specs.Lookup.{isDirectory, components, lookup}
 use Rattle.tree.specs.Insert.{insertAt, emptyFile, emptyDirectory}
 use Rattle.tree.proofs.Laws.InsertedList.{Nested, Fresh, well-nested}
-use Rattle.totals.specs.declared.Totals.{Totals}
-use Rattle.opening.specs.Opening.{nodesIn, opening}
+use Rattle.space.specs.declared.totals.Totals.{Totals}
+use Rattle.opened.specs.Opening.{nodesIn, opening}
 use Rattle.edits.specs.Change.{Plan, change}
 use Rattle.edits.specs.Edits.{insertFile, insertDirectory, makeDirectories, tableOnly, newNumber, insertVerdict, Made, stopped, made, make, planMade, planMakeDirectories, planVerdict, planTree, verdictOf, imageAfter, planNumber, plan_of, numberedAs, Edit}
 use Rattle.edits.proofs.Laws.Accepted.{accepted}

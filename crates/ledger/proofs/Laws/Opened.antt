@@ -12,9 +12,9 @@ use Rattle.tree.specs.Inner.WellFormed.{WellFormed}
 use Rattle.tree.proofs.Laws.RoundTrip.{within-limits, limits-within, written-accepted, written-reads}
 use Rattle.space.specs.Used.{usedRegions}
 use Rattle.space.specs.Layout.{disjointBelow}
-use Rattle.program.specs.Program.{program_of, programVerdict, programIn, programBehind}
-use Rattle.opening.specs.Opening.{table_of, nodesIn, behindTable, usedIn, layoutVerdict, opening}
-use Rattle.opening.proofs.Laws.OpeningLaws.{opens, table-accepted}
+use Rattle.executable.specs.Program.{program_of, programVerdict, programIn, programBehind}
+use Rattle.opened.specs.Opening.{table_of, nodesIn, behindTable, usedIn, layoutVerdict, opening}
+use Rattle.opened.proofs.Laws.OpeningLaws.{opens, table-accepted}
 use Rattle.edits.specs.Change.{Change, written}
 use Rattle.ledger.proofs.Laws.Written.{newEnd, Safe, header-written, bounds-written, table-written, fst-offset-written, fst-size-written, disc-end-written}
 use Rattle.ledger.specs.Inner.Files.{files_of}

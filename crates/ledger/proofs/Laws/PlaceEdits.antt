@@ -12,11 +12,11 @@ use Rattle.refusal.specs.Refusal.{first}
 use Rattle.refusal.specs.Laws.Chains.{refuse-passed, first-passed}
 use Rattle.tree.specs.Table.{Node, file, directory, none}
 use Rattle.tree.specs.Lookup.{isDirectory}
-use Rattle.space.specs.declared.DiscRegion.{DiscRegion}
+use Rattle.space.specs.declared.region.DiscRegion.{DiscRegion}
 use Rattle.refusal.specs.Laws.Tests.{lt-or-le, or-false}
-use Rattle.free_space.specs.MaxRegionSize.{maxRegionSize}
-use Rattle.free_space.specs.Allocate.{allocationOf}
-use Rattle.opening.specs.Opening.{nodesIn, freeOf, regionOf}
+use Rattle.space.specs.MaxRegionSize.{maxRegionSize}
+use Rattle.space.specs.Allocate.{allocationOf}
+use Rattle.opened.specs.Opening.{nodesIn, freeOf, regionOf}
 use Rattle.edits.specs.Change.{Change, written, tableVerdict, Plan, nothing, change}
 use Rattle.edits.specs.Edits.{moveFile, resizeFile, noPlace, fileVerdict, relocated, relocateVerdict, planMove, resized, planElsewhere, planResize}
 use Rattle.ledger.specs.Ledger.{History, Ledger, filesBefore, newHistory, marked, lowered, entered}

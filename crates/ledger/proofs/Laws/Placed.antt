@@ -11,8 +11,8 @@ use Rattle.tree.specs.Table.{none, encode}
 use Rattle.tree.specs.Lookup.{isDirectory}
 use Rattle.tree.specs.Insert.{setPlace}
 use Rattle.tree.proofs.Laws.PlaceLaws.{setPlace-sound}
-use Rattle.space.specs.declared.DiscRegion.{DiscRegion}
-use Rattle.opening.specs.Opening.{nodesIn, opening, regionOf}
+use Rattle.space.specs.declared.region.DiscRegion.{DiscRegion}
+use Rattle.opened.specs.Opening.{nodesIn, opening, regionOf}
 use Rattle.edits.specs.Change.{Change, written}
 use Rattle.edits.specs.Edits.{relocated, resized}
 use Rattle.ledger.specs.Ledger.{History, Ledger, filesBefore, newHistory, lowered}

@@ -19,13 +19,13 @@ use Rattle.refusal.specs.Laws.Tests.{or_cases, or-false}
 use Rattle.tree.specs.Table.{Node, file, none}
 use Rattle.tree.specs.Insert.{setPlace}
 use Rattle.tree.proofs.Laws.PlaceLaws.{setPlace-at, setPlace-other}
-use Rattle.space.specs.declared.DiscRegion.{DiscRegion}
-use Rattle.free_space.specs.MaxRegionSize.{maxRegionSize}
-use Rattle.free_space.specs.Allocate.{allocationOf}
-use Rattle.free_space.specs.Laws.AllocateLaws.{found-region}
+use Rattle.space.specs.declared.region.DiscRegion.{DiscRegion}
+use Rattle.space.specs.MaxRegionSize.{maxRegionSize}
+use Rattle.space.specs.Allocate.{allocationOf}
+use Rattle.space.specs.Laws.AllocateLaws.{found-region}
 use Rattle.header.specs.Verdicts.{discEnd}
-use Rattle.totals.specs.declared.Totals.{Totals}
-use Rattle.opening.specs.Opening.{nodesIn, usedIn, freeOf, regionOf}
+use Rattle.space.specs.declared.totals.Totals.{Totals}
+use Rattle.opened.specs.Opening.{nodesIn, usedIn, freeOf, regionOf}
 use Rattle.edits.specs.Change.{Plan, nothing, change, filled}
 use Rattle.edits.specs.Edits.{moveFile, resizeFile, fillFile, planned, fileVerdict, relocated, relocateVerdict, planMove, resized, planElsewhere, clipVerdict, planResize, planFill, planVerdict, planTree, verdictOf, imageAfter}
 use Rattle.edits.proofs.Laws.Accepted.{accepted}

@@ -6,11 +6,11 @@ use Rattle.endian.specs.Bytes.{span}
 use Rattle.endian.specs.Laws.Stored.{length-span, getD-span}
 use Rattle.refusal.specs.Refusal.{is_refused}
 use Rattle.header.specs.Verdicts.{fstOffset}
-use Rattle.space.specs.declared.DiscRegion.{DiscRegion}
+use Rattle.space.specs.declared.region.DiscRegion.{DiscRegion}
 use Rattle.space.specs.Used.{end_of}
-use Rattle.program.specs.Program.{program_of, programIn}
-use Rattle.program.specs.Laws.ProgramLaws.{Accepted, absent, present, accepted, own-cases}
-use Rattle.opening.specs.Opening.{opening}
+use Rattle.executable.specs.Program.{program_of, programIn}
+use Rattle.executable.specs.Laws.ProgramLaws.{Accepted, absent, present, accepted, own-cases}
+use Rattle.opened.specs.Opening.{opening}
 use Rattle.disc.specs.Calls.{programAnswer}
 use Rattle.edits.specs.Edits.{verdictOf, imageAfter}
 use Rattle.ledger.specs.Ledger.{Ledger, entered}

@@ -3,8 +3,8 @@ use Rattle.std.specs.Prelude.{ℕ, ◌+◌, ◌<◌, ◌≤◌, ◌≡◌, refl,
 use Rattle.std.proofs.Common.{ap, ◌∙◌, ⊎_elim, arith}
 use Rattle.endian.specs.Laws.Stored.{be32-same}
 use Rattle.header.specs.Verdicts.{fstOffset, dolOffset}
-use Rattle.program.specs.Program.{program_of, place_of, programIn, programBehind}
-use Rattle.program.specs.Laws.ProgramLaws.{own-cases, program-same}
+use Rattle.executable.specs.Program.{program_of, place_of, programIn, programBehind}
+use Rattle.executable.specs.Laws.ProgramLaws.{own-cases, program-same}
 use Rattle.edits.specs.Change.{Change, written}
 use Rattle.ledger.proofs.Laws.Written.{Safe, length-written, header-low, system-written}
 use Rattle.ledger.proofs.Laws.Histories.{SameIn}

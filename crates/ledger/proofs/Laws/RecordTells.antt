@@ -8,10 +8,10 @@ use Rattle.std.proofs.Common.{ap, ◌∙◌, arith}
 use borrow.Author.Tests.{le-ltb}
 use Rattle.endian.specs.Bytes.{AllBytes}
 use Rattle.refusal.specs.Refusal.{first, is_refused}
-use Rattle.totals.specs.declared.Totals.{Totals}
-use Rattle.totals.specs.Totals.{totalsVerdict, totalsMoved}
-use Rattle.opening.specs.Opening.{opening, usedOf}
-use Rattle.opening.proofs.Laws.OpeningLaws.{disc-filled}
+use Rattle.space.specs.declared.totals.Totals.{Totals}
+use Rattle.space.specs.Totals.{totalsVerdict, totalsMoved}
+use Rattle.opened.specs.Opening.{opening, usedOf}
+use Rattle.opened.proofs.Laws.OpeningLaws.{disc-filled}
 use Rattle.disc.specs.Calls.{totalsOf, recordAnswer}
 use Rattle.edits.specs.Edits.{Edit, plan_of, planVerdict, planImage, countedVerdict, totalsTo, verdictOf, imageAfter, totalsAfter}
 use Rattle.ledger.specs.Ledger.{firstLedger}

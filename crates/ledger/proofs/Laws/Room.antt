@@ -7,14 +7,14 @@ use Rattle.refusal.specs.declared.Refusal.TheVariants.{OverlappingMove, NotEnoug
 use Rattle.refusal.specs.Laws.Chains.{refuse-passed, first-passed}
 use Rattle.header.specs.Verdicts.{fstOffset, fstSize, discEnd, table_end}
 use Rattle.tree.specs.Table.{encode, limits}
-use Rattle.space.specs.declared.DiscRegion.{DiscRegion}
+use Rattle.space.specs.declared.region.DiscRegion.{DiscRegion}
 use Rattle.space.specs.Used.{usedRegions}
 use Rattle.space.specs.Free.{freeIn, freeRegions}
-use Rattle.free_space.specs.MaxRegionSize.{maxRegionSize}
+use Rattle.space.specs.MaxRegionSize.{maxRegionSize}
 use Rattle.refusal.specs.Laws.Tests.{lt-or-le, or_cases}
-use Rattle.free_space.specs.Laws.GrowthLaws.{LargestSize, table-largest, file-largest, place-free}
-use Rattle.program.specs.Program.{programBehind}
-use Rattle.opening.specs.Opening.{nodesIn, behindTable, usedIn, freeOf}
+use Rattle.space.specs.Laws.GrowthLaws.{LargestSize, table-largest, file-largest, place-free}
+use Rattle.executable.specs.Program.{programBehind}
+use Rattle.opened.specs.Opening.{nodesIn, behindTable, usedIn, freeOf}
 use Rattle.edits.specs.Change.{Change, tableVerdict}
 use Rattle.edits.specs.Edits.{relocateVerdict, overlapsItself}
 use Rattle.edits.proofs.Laws.PlaceTests.{PlacePassed, place-passed, in-region}

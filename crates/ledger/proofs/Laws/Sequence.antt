@@ -9,16 +9,16 @@ use Rattle.refusal.specs.Refusal.{is_refused}
 use Rattle.header.specs.Verdicts.{discEnd, table_end}
 use Rattle.tree.specs.Table.{file, none}
 use Rattle.tree.specs.Lookup.{isDirectory}
-use Rattle.space.specs.declared.DiscRegion.{DiscRegion}
+use Rattle.space.specs.declared.region.DiscRegion.{DiscRegion}
 use Rattle.space.specs.Used.{inside, totalSize}
 use Rattle.space.specs.Layout.{pairwise_disjoint, endBy, disjointBelow}
 use Rattle.refusal.specs.Laws.Tests.{and_left}
 use Rattle.space.specs.Laws.FreeLaws.{region-ext}
 use Rattle.space.specs.Laws.LayoutLaws.{inside-from, inside-to}
-use Rattle.free_space.specs.Listing.{regionRow, listingOf, listAfter}
-use Rattle.program.specs.Program.{programBehind}
-use Rattle.opening.specs.Opening.{nodesIn, regionOf, behindTable, usedIn, usedOf, freeOf, opening}
-use Rattle.opening.proofs.Laws.OpeningLaws.{disc-filled}
+use Rattle.space.specs.Listing.{regionRow, listingOf, listAfter}
+use Rattle.executable.specs.Program.{programBehind}
+use Rattle.opened.specs.Opening.{nodesIn, regionOf, behindTable, usedIn, usedOf, freeOf, opening}
+use Rattle.opened.proofs.Laws.OpeningLaws.{disc-filled}
 use Rattle.disc.specs.Calls.{totalsAnswer, freeAnswer, freeList, freeRegionsAnswer, freeRegionsList}
 use Rattle.edits.specs.Edits.{imageAfter, verdictOf}
 use Rattle.ledger.specs.Ledger.{History, Ledger, filesBefore, newHistory, historyOf, firstLedger, entered, ledgerAfter}

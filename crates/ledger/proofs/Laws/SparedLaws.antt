@@ -7,7 +7,7 @@ use Rattle.tree.specs.Table.{Node, file, directory, none}
 use Rattle.tree.specs.Lookup.{components}
 use Rattle.tree.specs.Insert.{shifted}
 use Rattle.tree.proofs.Laws.InsertLaws.{shifted-min}
-use Rattle.opening.specs.Opening.{nodesIn}
+use Rattle.opened.specs.Opening.{nodesIn}
 use Rattle.edits.specs.Edits.{Edit, insertFile, insertDirectory, makeDirectories, moveFile, resizeFile, fillFile, rewrite, newNumber}
 use Rattle.ledger.specs.Ledger.{History, Ledger, filesBefore, newHistory, put_in, entered, Report, ledgerAfter, firstHistories, firstLedger}
 use Rattle.ledger.specs.Inner.Files.{ownName, names_of}

@@ -4,7 +4,7 @@ use Rattle.refusal.specs.Refusal.{Verdict}
 use Rattle.std.specs.Prelude.{ℕ, ◌≤◌, ◌≡◌, cond, not, List}
 use Rattle.std.proofs.Math.Path.{refl}
 use Rattle.refusal.specs.Refusal.{is_refused}
-use Rattle.totals.specs.declared.Totals.{Totals}
+use Rattle.space.specs.declared.totals.Totals.{Totals}
 use Rattle.edits.specs.Edits.{Edit, insertFile, insertDirectory, makeDirectories, moveFile, resizeFile, fillFile, rewrite, plan_of, verdictOf, planImage, imageAfter}
 use Rattle.edits.proofs.Laws.Accepted.{accepted}
 use Rattle.ledger.specs.Ledger.{Ledger, entered}

@@ -15,8 +15,8 @@ use Rattle.tree.specs.Lookup.{isDirectory, components, childOf}
 use Rattle.tree.specs.Insert.{insertAt, emptyFile, emptyDirectory}
 use Rattle.tree.proofs.Laws.InsertLaws.{Fresh, insert-sound}
 use Rattle.space.specs.Used.{usedRegions}
-use Rattle.program.specs.Program.{programBehind}
-use Rattle.opening.specs.Opening.{nodesIn}
+use Rattle.executable.specs.Program.{programBehind}
+use Rattle.opened.specs.Opening.{nodesIn}
 use Rattle.edits.specs.Change.{written, tableVerdict, change}
 use Rattle.edits.specs.Edits.{insertFile, insertDirectory, makeDirectories, tableOnly, newNumber, isFound, insertVerdict, planInsert, Made, stopped, made, make, planMade, planMakeDirectories}
 use Rattle.ledger.specs.Ledger.{Ledger, bare, filesBefore, newHistory, put_in, madeNodes, entered}

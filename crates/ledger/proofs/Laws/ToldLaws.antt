@@ -5,7 +5,7 @@ use Rattle.std.proofs.lemmas.Bool.{eqb-false}
 use Rattle.tree.specs.Table.{none}
 use Rattle.tree.specs.Lookup.{components, isDirectory}
 use Rattle.tree.specs.Insert.{setPlace}
-use Rattle.space.specs.declared.DiscRegion.{DiscRegion}
+use Rattle.space.specs.declared.region.DiscRegion.{DiscRegion}
 use Rattle.edits.specs.Edits.{Edit, insertFile, insertDirectory, makeDirectories, moveFile, resizeFile, fillFile, rewrite, newNumber, noPlace}
 use Rattle.ledger.specs.Ledger.{History, Ledger, filesBefore, newHistory, marked, lowered, refilled, entered, Report, ledgerAfter}
 use Rattle.ledger.specs.Inner.Files.{place_of, files_of, ownName, names_of}

@@ -7,8 +7,8 @@ use Rattle.std.proofs.Math.Path.{refl}
 use Rattle.std.proofs.Common.{arith}
 use Rattle.endian.specs.Bytes.{AllBytes}
 use Rattle.refusal.specs.Refusal.{is_refused}
-use Rattle.totals.specs.declared.Totals.{Totals}
-use Rattle.opening.specs.Opening.{nodesIn, opening}
+use Rattle.space.specs.declared.totals.Totals.{Totals}
+use Rattle.opened.specs.Opening.{nodesIn, opening}
 use Rattle.edits.specs.Edits.{Edit, insertFile, insertDirectory, makeDirectories, moveFile, resizeFile, fillFile, rewrite, plan_of, verdictOf, planTree, planImage, imageAfter}
 use Rattle.edits.proofs.Laws.Accepted.{accepted}
 use Rattle.ledger.specs.Ledger.{firstLedger}

@@ -8,7 +8,7 @@ use Rattle.tree.specs.Units.{units}
 use Rattle.tree.specs.Table.{file, directory, none, plain, safe, count, name_at, nodeAt, nodesFrom, nodesOf, parentBelow, parent_of}
 use Rattle.tree.specs.Lookup.{componentsOf, components, firstChild, childOf}
 use Rattle.tree.specs.Insert.{bump, splice, insertAt, setPlace}
-use Rattle.opening.specs.Opening.{table_of, nodesIn}
+use Rattle.opened.specs.Opening.{table_of, nodesIn}
 use Rattle.edits.specs.Edits.{insertFile, makeDirectories, moveFile, resizeFile, fillFile, rewrite, make}
 use Rattle.ledger.specs.Ledger.{Ledger, filesBefore, historyOf, firstHistories, firstLedger, put_in, Report, ledgerAfter}
 

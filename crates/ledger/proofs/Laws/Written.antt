@@ -12,8 +12,8 @@ use Rattle.header.specs.Laws.FieldTests.{GoodHeader, Bounded}
 use Rattle.tree.specs.Table.{encode}
 use Rattle.tree.specs.Inner.WellFormed.{WellFormed}
 use Rattle.tree.proofs.Laws.WrittenBytes.{encode-all, be32-all}
-use Rattle.opening.specs.Opening.{table_of}
-use Rattle.opening.proofs.Laws.OpeningLaws.{span-bytes}
+use Rattle.opened.specs.Opening.{table_of}
+use Rattle.opened.proofs.Laws.OpeningLaws.{span-bytes}
 use Rattle.edits.specs.Change.{Change, padded, withTable, written}
 use Rattle.edits.proofs.Laws.Puts.{Fits, put-length, put_all, put-else, span-length, zeros-all, append-all}
 

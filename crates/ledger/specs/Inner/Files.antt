@@ -1,7 +1,7 @@
 -- The files of a tree, in the order of its entries: as regions, and their names. Assumes nothing: these are definitions.
 use Rattle.std.specs.Prelude.{ℕ, List, [], ◌∷◌}
 use Rattle.tree.specs.Table.{Node, file, directory}
-use Rattle.space.specs.declared.DiscRegion.{DiscRegion}
+use Rattle.space.specs.declared.region.DiscRegion.{DiscRegion}
 
 -- what g makes of each file
 unfoldable pub pick : {A : Type 0} → (List ℕ → ℕ → ℕ → A) → List Node → List A

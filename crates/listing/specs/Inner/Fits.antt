@@ -5,7 +5,7 @@ use Rattle.refusal.specs.declared.Refusal.{Refusal}
 use Rattle.refusal.specs.declared.Refusal.TheVariants.{LimitOrMemory}
 use Rattle.space.specs.Used.{totalSize}
 use Rattle.opened.specs.Inner.Disc.{Disc, free_of}
-use Rattle.listing_text.specs.Lines.{totalsLine, entryLines, regionLines}
+use Rattle.listing.specs.Lines.{totalsLine, entryLines, regionLines}
 
 -- how long it is, if there is room for it
 abbrev pub size_or : ℕ → List ℕ → Option ℕ

@@ -1,8 +1,8 @@
 -- What an opened disc keeps. Assumes nothing: these are definitions.
 use Rattle.std.specs.Prelude.{ℕ, ◌≡◌, List, length}
-use Rattle.space.specs.declared.DiscRegion.{DiscRegion}
-use Rattle.opening.specs.Opening.{table_of}
-use Rattle.opening.specs.Inner.Prepared.{IsOpen}
+use Rattle.space.specs.declared.region.DiscRegion.{DiscRegion}
+use Rattle.opened.specs.Opening.{table_of}
+use Rattle.opened.specs.Inner.Prepared.{IsOpen}
 use Rattle.opened.specs.Inner.Disc.{disc_in, disc_of}
 
 -- the words hold the used regions of an image, and the header, the table and the program's own region are that image's

@@ -1,9 +1,9 @@
 -- What the functions that collect the used regions promise. Assumes nothing: these are definitions.
 use Rattle.std.specs.Prelude.{Option, None, Some, ℕ, ◌≤◌, ◌<◌, ◌≡◌, List}
 use Rattle.tree.specs.Table.{kind, offsetOrParent, sizeOrNext}
-use Rattle.space.specs.declared.DiscRegion.{DiscRegion}
+use Rattle.space.specs.declared.region.DiscRegion.{DiscRegion}
 use Rattle.space.specs.Inner.Words.{Added}
-use Rattle.opening.specs.Inner.Prepared.{AddedEntry, CollectedTo}
+use Rattle.opened.specs.Inner.Prepared.{AddedEntry, CollectedTo}
 use Rattle.opened.specs.declared.regions.Collected.{Collected}
 
 -- where the bytes of entry k stand: a file's offset and size, and none of a directory

@@ -3,12 +3,12 @@ use Rattle.std.specs.Prelude.{Result, Ok, Err, ℕ, ◌≡◌, List, ◌∷◌, 
 use Rattle.refusal.specs.declared.Refusal.{Refusal}
 use Rattle.header.specs.Verdicts.{fstOffset, fstSize, fstMaxSize, discEnd, table_end}
 use Rattle.tree.specs.Table.{Node, nodesOf}
-use Rattle.space.specs.declared.DiscRegion.{DiscRegion}
+use Rattle.space.specs.declared.region.DiscRegion.{DiscRegion}
 use Rattle.space.specs.Used.{usedRegions}
 use Rattle.space.specs.Free.{freeRegions}
-use Rattle.program.specs.Program.{programBehind}
-use Rattle.opening.specs.Opening.{table_of, regionOf, opening}
-use Rattle.opening.specs.Inner.Prepared.{OpenImage}
+use Rattle.executable.specs.Program.{programBehind}
+use Rattle.opened.specs.Opening.{table_of, regionOf, opening}
+use Rattle.opened.specs.Inner.Prepared.{OpenImage}
 
 pub record Disc : Type 0 where
   -- the table and its tree; where the table stands, and the stated maximum of its size

@@ -6,7 +6,7 @@ use Rattle.tree.specs.Table.{count}
 use Rattle.tree.proofs.Laws.Accepted.{length-nodesOf}
 use Rattle.space.specs.Used.{totalSize}
 use Rattle.space.specs.Laws.TotalLaws.{total-used}
-use Rattle.opening.specs.Opening.{table_of, nodesIn, behindTable, usedIn, freeOf, usedOf}
+use Rattle.opened.specs.Opening.{table_of, nodesIn, behindTable, usedIn, freeOf, usedOf}
 use Rattle.opened.specs.Inner.Disc.{Disc, disc_of, free_of, Means}
 
 pub free-shown : (image : List ℕ) (words : ℕ) → freeOf image ≡ free_of (disc_of image words)

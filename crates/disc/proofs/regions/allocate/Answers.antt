@@ -2,8 +2,8 @@
 use Rattle.std.specs.Prelude.{Err}
 use Rattle.std.proofs.Common.{refl}
 use Rattle.std.proofs.lemmas.Result.{err_from_is_err_and}
-use Rattle.free_space.specs.Allocate.{allocationOf}
-use Rattle.answers.specs.Laws.AnswerLaws.{not_asked}
+use Rattle.space.specs.Allocate.{allocationOf}
+use Rattle.opened.specs.Laws.AnswerLaws.{not_asked}
 use Rattle.disc.specs.Calls.{allocateAnswer}
 use Rattle.disc.proofs.Asked.{free_asked}
 use Rattle.disc.proofs.regions.allocate.Goals as goal

@@ -2,9 +2,9 @@
 use Rattle.std.specs.Prelude.{Err, List, length}
 use Rattle.std.proofs.lemmas.Result.{err_from_is_err_and}
 use Rattle.refusal.specs.declared.Refusal.{Refusal}
-use Rattle.space.specs.declared.DiscRegion.{DiscRegion}
-use Rattle.free_space.specs.Listing.{clusterRow, listingOf, listAfter}
-use Rattle.answers.specs.Laws.AnswerLaws.{not_asked}
+use Rattle.space.specs.declared.region.DiscRegion.{DiscRegion}
+use Rattle.space.specs.Listing.{clusterRow, listingOf, listAfter}
+use Rattle.opened.specs.Laws.AnswerLaws.{not_asked}
 use Rattle.disc.specs.Calls.{freeAnswer, freeList}
 use Rattle.disc.proofs.Asked.{free_asked}
 use Rattle.disc.proofs.regions.free_clusters.Goals as goal

@@ -2,7 +2,7 @@
 use Rattle.std.specs.Prelude.{Ok, Err}
 use Rattle.std.proofs.Common.{ap}
 use Rattle.std.proofs.lemmas.Result.{err_from_is_err_and}
-use Rattle.answers.specs.Laws.AnswerLaws.{asked, not_asked}
+use Rattle.opened.specs.Laws.AnswerLaws.{asked, not_asked}
 use Rattle.disc.specs.Calls.{recordAnswer}
 use Rattle.disc.proofs.regions.make_record.Goals as goal
 

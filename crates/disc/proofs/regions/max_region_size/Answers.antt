@@ -2,10 +2,10 @@
 use Rattle.std.specs.Prelude.{Ok, Err, List}
 use Rattle.std.proofs.Common.{ap, refl}
 use Rattle.std.proofs.lemmas.Result.{err_from_is_err_and}
-use Rattle.space.specs.declared.DiscRegion.{DiscRegion}
-use Rattle.free_space.specs.MaxRegionSize.{maxRegionSize}
-use Rattle.answers.specs.Answers.{maxRegionSizeAnswer}
-use Rattle.answers.specs.Laws.AnswerLaws.{not_asked}
+use Rattle.space.specs.declared.region.DiscRegion.{DiscRegion}
+use Rattle.space.specs.MaxRegionSize.{maxRegionSize}
+use Rattle.opened.specs.Answers.{maxRegionSizeAnswer}
+use Rattle.opened.specs.Laws.AnswerLaws.{not_asked}
 use Rattle.disc.proofs.Asked.{free_asked}
 use Rattle.disc.proofs.regions.max_region_size.Goals as goal
 

@@ -2,7 +2,7 @@
 use Rattle.std.specs.Prelude.{Ok, Err}
 use Rattle.std.proofs.Common.{ap, ◌∙◌}
 use Rattle.std.proofs.lemmas.Result.{err_from_is_err_and}
-use Rattle.answers.specs.Laws.AnswerLaws.{asked, not_asked, told_meant}
+use Rattle.opened.specs.Laws.AnswerLaws.{asked, not_asked, told_meant}
 use Rattle.disc.specs.Calls.{opened_of}
 use Rattle.disc.proofs.regions.open.Goals as goal
 

@@ -1,7 +1,7 @@
 -- `disc::regions::program` meets its contract: what the image says, behind opening's tests.
 use Rattle.std.specs.Prelude.{Err}
 use Rattle.std.proofs.lemmas.Result.{err_from_is_err_and}
-use Rattle.answers.specs.Laws.AnswerLaws.{asked, not_asked}
+use Rattle.opened.specs.Laws.AnswerLaws.{asked, not_asked}
 use Rattle.disc.specs.Calls.{programAnswer}
 use Rattle.disc.proofs.regions.program.Goals as goal
 

@@ -1,6 +1,6 @@
 -- `disc::regions::record_of` meets its contract: the used total is told, and the regions in the words tell the largest free one.
 use Rattle.std.proofs.Common.{arith}
-use Rattle.totals.proofs.Behind.{behind-first}
+use Rattle.space.proofs.Behind.{behind-first}
 use Rattle.opened.proofs.Discs.{sorted_backed, means_backed, open_backed}
 use Rattle.disc.proofs.Records.{table_end_fits, recorded}
 use Rattle.disc.proofs.regions.record_of.Goals as goal

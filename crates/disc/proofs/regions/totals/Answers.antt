@@ -2,7 +2,7 @@
 use Rattle.std.specs.Prelude.{Err}
 use Rattle.std.proofs.lemmas.Result.{err_from_is_err_and}
 use Rattle.opened.specs.Laws.Meant.{end_meant, total_meant}
-use Rattle.answers.specs.Laws.AnswerLaws.{asked, not_asked}
+use Rattle.opened.specs.Laws.AnswerLaws.{asked, not_asked}
 use Rattle.disc.specs.Calls.{totalsAnswer}
 use Rattle.disc.proofs.regions.totals.Goals as goal
 

@@ -1,6 +1,6 @@
 -- `regions::collect` meets its contract: the table, the entries before the program's turn, the program, the other entries.
 use Rattle.std.proofs.Common.{arith}
-use Rattle.opening.proofs.UsedRegions.{used-collected}
+use Rattle.opened.proofs.UsedRegions.{used-collected}
 use Rattle.opened.proofs.regions.collect.Goals as goal
 
 pub returns : goal.returns

@@ -1,7 +1,7 @@
 -- `whole::check_program` meets its contract: a refused header is the answer, and what an accepted one takes behind the table is the program's own region.
 use Rattle.std.proofs.Common.{◌∙◌}
 use Rattle.std.proofs.lemmas.Result.{err_from_is_err_and}
-use Rattle.opening.proofs.Tests.{own_is}
+use Rattle.opened.proofs.Tests.{own_is}
 use Rattle.opened.proofs.Heads.{start_is}
 use Rattle.opened.proofs.whole.check_program.Goals as goal
 

@@ -1,8 +1,8 @@
 -- `whole::check_used` meets its contract: an accepted table gives what `collect` and the test of the regions ask, and their answers join to opening's.
 use Rattle.std.proofs.Common.{length, refl, ap, ◌∙◌, arith}
 use Rattle.std.proofs.lemmas.Result.{err_from_is_err_and}
-use Rattle.opening.proofs.Laws.OpeningLaws.{readable}
-use Rattle.opening.proofs.Tests.{words-enough, used-words, end_fits, table-end-fits, regions-room, regions-full, left_open, left-refused}
+use Rattle.opened.proofs.Laws.OpeningLaws.{readable}
+use Rattle.opened.proofs.Tests.{words-enough, used-words, end_fits, table-end-fits, regions-room, regions-full, left_open, left-refused}
 use Rattle.tree.specs.Table.{count}
 use Rattle.opened.proofs.Heads.{end_is, table_end_is}
 use Rattle.opened.proofs.Opens.{table_is, opens_there}

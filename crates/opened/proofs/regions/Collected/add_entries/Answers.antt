@@ -1,6 +1,6 @@
 -- `Collected::add_entries` meets its contract: an entry more each turn.
 use Rattle.std.proofs.Common.{refl, ◌∙◌, arith}
-use Rattle.opening.proofs.UsedRegions.{collected-start, collected-turn}
+use Rattle.opened.proofs.UsedRegions.{collected-start, collected-turn}
 use Rattle.opened.proofs.regions.Collected.add_entries.Goals as goal
 
 pub loop-k-init : goal.loop-k-init

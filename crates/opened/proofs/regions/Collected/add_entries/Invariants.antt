@@ -1,6 +1,6 @@
 -- `Collected::add_entries` meets its contract. The invariant of its loop: the regions of the entries passed stand after those that were there.
 use Rattle.std.proofs.Common.{◌≡◌, ◌+◌, ◌-◌, ◌≤◌, length}
-use Rattle.opening.specs.Inner.Prepared.{CollectedTo}
+use Rattle.opened.specs.Inner.Prepared.{CollectedTo}
 use Rattle.opened.proofs.regions.Collected.add_entries.Given as goal
 
 abbrev pub invariant-loop-k : goal.invariant-loop-k

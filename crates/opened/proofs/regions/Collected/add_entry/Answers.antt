@@ -1,6 +1,6 @@
 -- `Collected::add_entry` meets its contract: a directory has no region.
 use Rattle.std.proofs.Common.{refl}
-use Rattle.opening.proofs.UsedRegions.{added_none}
+use Rattle.opened.proofs.UsedRegions.{added_none}
 use Rattle.opened.proofs.regions.Collected.add_entry.Goals as goal
 
 pub returns-in_default-clause-added : goal.returns-in_default-clause-added

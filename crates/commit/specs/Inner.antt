@@ -1,3 +1,0 @@
--- Definitions that only inner contracts need.
-pub mod Decision
-pub mod Judged

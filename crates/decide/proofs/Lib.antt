@@ -1,4 +1,0 @@
--- What the proofs of the functions cite.
-pub mod Files
-pub mod Outcomes
-pub mod Stays

@@ -1,6 +1,0 @@
--- `decide::resizing::resize_in_place` meets its contract: the change that keeps the place, whose lost end lies in the old one.
-use Rattle.decide.proofs.Outcomes.{resized-in-image}
-use Rattle.decide.proofs.resizing.resize_in_place.Goals as goal
-
-pub set_place-requires-clause-inside : goal.set_place-requires-clause-inside
-set_place-requires-clause-inside c = λ image m. resized-in-image image c.args.disc.now m c.args.file c.requires c.args.new_size _ c.saturating_sub.ensures

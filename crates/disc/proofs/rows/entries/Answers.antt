@@ -1,0 +1,41 @@
+-- `files::listing::entries` meets its contract: the disc's entries, behind opening's tests and the list's room.
+use Rattle.std.specs.Prelude.{Err}
+use Rattle.std.proofs.Common.{refl, ◌∙◌}
+use Rattle.std.proofs.lemmas.Result.{err_from_is_err_and}
+use Rattle.refusal.specs.declared.Refusal.{Refusal}
+use Rattle.opened.specs.Laws.AnswerLaws.{not_asked}
+use Rattle.disc.specs.Files.{entriesAnswer, entriesList}
+use Rattle.disc.proofs.AskedOfFiles.{rows_asked, listing_asked}
+use Rattle.disc.proofs.rows.entries.Goals as goal
+
+pub returns-in_err-disc-clause-answer : goal.returns-in_err-disc-clause-answer
+unfolding entriesAnswer
+returns-in_err-disc-clause-answer c =
+    let p = err_from_is_err_and c.from_residual.result c.from_residual.ensures.1 in
+    rw (p.1, p.2, ← c.new-lent.ensures.memory) (not_asked Err _ _ _ _ c.of_image.ensures _ c.in_err-disc.was)
+
+pub returns-in_err-disc-clause-list_after : goal.returns-in_err-disc-clause-list_after
+unfolding entriesList
+returns-in_err-disc-clause-list_after c =
+    rw (← c.new-lent.ensures.memory) (not_asked (λ (x : Refusal). c.args.list.now) _ _ _ _ c.of_image.ensures _ c.in_err-disc.was)
+
+pub returns-in_err-list_entries-clause-answer : goal.returns-in_err-list_entries-clause-answer
+unfolding entriesAnswer
+returns-in_err-list_entries-clause-answer c =
+    let p = err_from_is_err_and c.from_residual-in_err-list_entries.result c.from_residual-in_err-list_entries.ensures.1 in
+    rw (p.1, p.2, ← c.new-lent.ensures.memory) (listing_asked _ _ _ c.of_image.ensures _ c.in_ok-disc.was _ (c.new.ensures ∙ c.table.ensures.bytes) _ _ _ c.list_entries.ensures.value c.in_err-list_entries.was _ refl)
+
+pub returns-in_err-list_entries-clause-list_after : goal.returns-in_err-list_entries-clause-list_after
+unfolding entriesList
+returns-in_err-list_entries-clause-list_after c =
+    rw (← c.new-lent.ensures.memory) (rows_asked _ _ _ c.of_image.ensures _ c.in_ok-disc.was _ (c.new.ensures ∙ c.table.ensures.bytes) _ _ _ c.start.ensures c.list_entries.ensures.list_after)
+
+pub returns-clause-answer : goal.returns-clause-answer
+unfolding entriesAnswer
+returns-clause-answer c =
+    rw (← c.new-lent.ensures.memory) (listing_asked _ _ _ c.of_image.ensures _ c.in_ok-disc.was _ (c.new.ensures ∙ c.table.ensures.bytes) _ _ _ c.list_entries.ensures.value c.in_ok-list_entries.was _ c.told.ensures)
+
+pub returns-clause-list_after : goal.returns-clause-list_after
+unfolding entriesList
+returns-clause-list_after c =
+    rw (← c.new-lent.ensures.memory) (rows_asked _ _ _ c.of_image.ensures _ c.in_ok-disc.was _ (c.new.ensures ∙ c.table.ensures.bytes) _ _ _ c.start.ensures c.list_entries.ensures.list_after)

@@ -1,3 +1,0 @@
-pub mod Header
-pub mod Inner
-pub mod Laws

@@ -1,3 +1,0 @@
--- What follows from the definitions.
-pub mod Facts
-pub mod Vectors

@@ -1,0 +1,16 @@
+-- A change written, after its three writes.
+use Prim.Native.Nat.{ℕ}
+use mathlib.Core.Path.{◌≡◌}
+use mathlib.Core.List.{List}
+use lib.ListN.{replicate}
+use Rattle.endian.specs.Bytes.{put, span}
+use Rattle.header.specs.Verdicts.{fstOffset, fstSize}
+use Rattle.edit.specs.declared.decision.Writing.{Writing}
+use Rattle.edits.specs.Change.{withTable}
+use Rattle.edit.specs.Inner.Decision.{writtenWith}
+
+pub all-written : (w : Writing) (image bytes image₁ image₂ image₃ : List ℕ) (f s size : ℕ) → f ≡ fstOffset image → s ≡ fstSize image →
+    image₁ ≡ put image w.place.offset (span image w.old.offset w.kept) → image₂ ≡ withTable f s (span bytes 0 size) image₁ →
+    image₃ ≡ put image₂ w.lost.offset (replicate w.lost.size 0) → image₃ ≡ writtenWith w (span bytes 0 size) image
+unfolding writtenWith
+all-written w image bytes image₁ image₂ image₃ f s size e g h i j = rw (← e, ← g, ← h, ← i) j

@@ -1,0 +1,137 @@
+-- What a fill decides on, as what its plan comes to: the clip first, and then what the resize writes besides. Assumes nothing.
+use Rattle.std.specs.Prelude.{Result, Ok, Err}
+use Prim.Native.Nat.{ℕ, ◌<◌, ◌≤◌}
+use mathlib.Core.Path.{◌≡◌, refl, sym, ap, ◌∙◌}
+use mathlib.Core.List.{List, []}
+use native.Mathlib.Omega.{arith}
+use borrow.Author.Tests.{le-ltb, lt-ltb}
+use lib.ListN.{length, get_or}
+use Rattle.endian.specs.Bytes.{put, span}
+use Rattle.endian.specs.Laws.Stored.{length-span}
+use Rattle.refusal.specs.declared.Refusal.{Refusal}
+use Rattle.refusal.specs.declared.Refusal.TheVariants.{NotEnoughSpace}
+use Rattle.tree.specs.Table.{none}
+use Rattle.space.specs.declared.region.DiscRegion.{DiscRegion}
+use Rattle.opened.specs.Opening.{nodesIn, freeOf, regionOf}
+use Rattle.opened.specs.Inner.Prepared.{OpenImage}
+use Rattle.edits.specs.Change.{Plan, filled}
+use Rattle.edits.specs.Edits.{fileVerdict, clipVerdict, planSized, planResize, planFill, planVerdict, planImage}
+use Rattle.edits.proofs.Laws.Puts.{put-length}
+use Rattle.opened.specs.Inner.Disc.{Disc, free_of, Means}
+use Rattle.edit.specs.declared.file.File.{File}
+use Rattle.edit.specs.Inner.Files.{IsFile, file_in}
+use Rattle.edit.proofs.Files.{FoundFile, file-found, file-refused}
+use Rattle.edit.specs.declared.decision.Writing.{Writing}
+use Rattle.edit.specs.declared.decision.Decision.{Decision}
+use Rattle.edit.specs.declared.decision.Decision.TheVariants as decision
+use Rattle.edit.specs.Inner.Decision.{behind_tests, writtenWith, Fits, carriedImage, Decided, DecidedAs}
+use Rattle.edit.proofs.Decisions.{behind-refused-with}
+use Rattle.edit.proofs.Discs.{nodes_are, free_is}
+use Rattle.edit.specs.Inner.Filling.{uncopied, withClip, Clear}
+use Rattle.edit.proofs.Clips.{clipped-put, clip-first, offset-kept, size-kept}
+use Rattle.edit.proofs.Places.{clip-stays, never-clip, clip-clear}
+
+-- ---- what a resize comes to, and the clip
+
+-- the rest, behind the clip
+rest-fits : (image t clip : List ℕ) (room : ℕ) (w : Writing) → Clear image (length t) w (length clip) → Fits image room (length t) w → Fits (put image w.place.offset clip) room (length t) (uncopied w)
+rest-fits image t clip room w k g =
+    let n : length (put image w.place.offset clip) ≡ length image = put-length image w.place.offset clip k.into in
+    record {
+      table = rw (n, offset-kept image t clip room w k g, size-kept image t clip room w k g) g.table;
+      inside = record { copied = record { from = λ z. absurd (omega arith); into = λ z. absurd (omega arith) }; zeroed = rw n g.inside.zeroed };
+    }
+
+module _ (image : List ℕ) (words room : ℕ) (bytes clip : List ℕ) (known : OpenImage image words) (k : ℕ) (f : IsFile (nodesIn image) k) (old : DiscRegion)
+    (here : regionOf (get_or (nodesIn image) k none) ≡ old) (long : length bytes ≡ room) where
+  abbrev sized : Plan
+  sized = planSized (freeOf image) (nodesIn image) k old (length clip)
+
+  filled-refused : (c : Refusal) → Decided sized image words room bytes (Err c) → DecidedAs (planVerdict sized image words room) (filled k clip sized) image room bytes clip (Err c)
+  filled-refused c h = record { fits = tt; carries = tt; answer = h.answer; after = rw (← h.answer) }
+
+  -- the clip goes where the file lies then
+  filled-decided : (d : Decision) → Decided sized image words room bytes (Ok d) → DecidedAs (planVerdict sized image words room) (filled k clip sized) image room bytes clip (Ok (withClip d (record { number = k; place = old })))
+  filled-decided decision.Nothing h =
+      let s = clip-stays image words known k f old here (length clip) bytes h.carries in
+      record {
+        fits = s.0;
+        carries = rw s.1 refl;
+        answer = h.answer;
+        after =
+            clipped-put image old.offset clip
+            ∙ (rw (← h.answer, s.1) (ap (λ (r : DiscRegion). put image r.offset clip) (sym here)));
+      }
+  filled-decided (decision.Clip n at) h = absurd (never-clip image words known k f old here (length clip) bytes n at h.carries)
+  filled-decided (decision.Write n size w) h =
+      let s = clip-clear image words known k f old here (length clip) room n size bytes clip w (omega (arith, h.fits.1.table.held)) h.carries (sym h.answer) in
+      let t : List ℕ = span bytes 0 size in
+      let l : length t ≡ size = length-span bytes 0 size (omega (arith, h.fits.1.table.held)) in
+      let c : Clear image (length t) w (length clip) = rw l s.0 in
+      let g : Fits image room (length t) w = rw l h.fits.1 in
+      let r : Fits (put image w.place.offset clip) room size (uncopied w) = rw l at (rest-fits image t clip room w c g) in
+      let i : carriedImage (Ok (decision.Write n size w)) bytes [] image ≡ planImage sized image = rw (← h.answer) at h.after in
+      record {
+        fits = (s.0.into, rw (clipped-put image w.place.offset clip) r);
+        carries = s.2;
+        answer = h.answer;
+        after =
+            ap (writtenWith (uncopied w) t) (clipped-put image w.place.offset clip)
+            ∙ clip-first image t clip room w c g
+            ∙ (rw (← h.answer, s.1) (ap (λ (x : List ℕ). put x w.place.offset clip) i));
+      }
+
+-- ---- by what the code found, on a disc that the image means
+
+module _ (image : List ℕ) (d : Disc) (m : Means image d) (bytes after clip : List ℕ) (k : ℕ) (r : Result File Refusal) (read : r ≡ behind_tests (fileVerdict d.nodes k) (file_in d.nodes k)) where
+  abbrev plan : Plan
+  plan = planFill (free_of d) d.nodes k clip
+
+  abbrev Fills : Result Decision Refusal → Type 0
+  Fills x = DecidedAs (planVerdict plan image d.words (length bytes)) plan image (length bytes) after clip x
+
+  fill-refused : (c : Refusal) → clipVerdict d.nodes k (length clip) ≡ Err c → Fills (Err c)
+  unfolding planFill
+  fill-refused c e = behind-refused-with image d.words (length bytes) after clip (clipVerdict d.nodes k (length clip)) _ c e
+
+  pub no-file-to-fill : (c : Refusal) → r ≡ Err c → Fills (Err c)
+  no-file-to-fill c e = fill-refused c (rw (file-refused d.nodes k r c read e))
+
+  module _ (f : File) (found : r ≡ Ok f) where
+    file : FoundFile d.nodes k f
+    file = file-found d.nodes k r f read found
+
+    pub clip-too-long : 0xFFFFFFFF < length clip → Fills (Err NotEnoughSpace)
+    clip-too-long h = fill-refused NotEnoughSpace (rw (file.passed, lt-ltb 0xFFFFFFFF (length clip) h))
+
+    module _ (long : length after ≡ length bytes) (n : ℕ) (short : length clip ≤ 0xFFFFFFFF) (e : n ≡ length clip) where
+      plan-is : plan ≡ filled k clip (planSized (free_of d) d.nodes k f.place (length clip))
+      unfolding planFill planResize
+      plan-is = rw (file.passed, le-ltb 0xFFFFFFFF (length clip) short, file.place)
+
+      nodes : nodesIn image ≡ d.nodes
+      nodes = nodes_are image d m
+
+      free : freeOf image ≡ free_of d
+      free = free_is image d m
+
+      abbrev Sized : Result Decision Refusal → Type 0
+      Sized x = Decided (planSized (free_of d) d.nodes f.number f.place n) image d.words (length bytes) after x
+
+      -- the resize, as one of the image to the clip's length
+      sized-is : (x : Result Decision Refusal) → Sized x → Decided (planSized (freeOf image) (nodesIn image) k f.place (length clip)) image d.words (length bytes) after x
+      sized-is x h = rw (free, nodes) (rw (file.number, e) at h)
+
+      is : IsFile (nodesIn image) k
+      is = rw nodes file.is
+
+      here : regionOf (get_or (nodesIn image) k none) ≡ f.place
+      here = rw nodes file.place
+
+      pub not-resized : (c : Refusal) → Sized (Err c) → Fills (Err c)
+      not-resized c h = rw plan-is (rw (nodes, free) at (filled-refused image d.words (length bytes) after clip m.known k is f.place here long c (sized-is (Err c) h)))
+
+      pub filled-by : (x y : Decision) → Sized (Ok x) → y ≡ withClip x f → Fills (Ok y)
+      filled-by x y h u =
+          let q : f ≡ record { number = k; place = f.place } = ap (λ (i : ℕ). record { number = i; place = f.place }) file.number in
+          rw (u, plan-is, q) (rw (nodes, free) at (filled-decided image d.words (length bytes) after clip m.known k is f.place here long x (sized-is (Ok x) h)))

@@ -1,0 +1,25 @@
+-- What the proofs of the functions cite.
+pub mod BuiltTable
+pub mod Carried
+pub mod Clips
+pub mod Counted
+pub mod Counts
+pub mod Decisions
+pub mod Discs
+pub mod EditCases
+pub mod Edited
+pub mod Entering
+pub mod Files
+pub mod FillOutcomes
+pub mod Images
+pub mod InsertionLaws
+pub mod Judged
+pub mod Outcomes
+pub mod Places
+pub mod Plans
+pub mod Puts
+pub mod Stays
+pub mod TableChanges
+pub mod TableSlice
+pub mod Turns
+pub mod WalkLaws

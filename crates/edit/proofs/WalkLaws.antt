@@ -1,0 +1,167 @@
+-- The walk that finds the troubles of a path, a component at a time: each step leaves what the whole has. Assumes nothing.
+use Rattle.std.specs.Prelude.{Result, Ok, Err}
+use Prim.Native.Nat.{ℕ, zero, suc, ◌+◌, ◌-◌, ◌≤◌}
+use mathlib.Core.Path.{◌≡◌, refl, sym, ◌∙◌}
+use mathlib.Core.Bool.{Bool, true, false, cond, not, ◌||◌}
+use mathlib.Core.List.{List, [], ◌∷◌}
+use native.Mathlib.Omega.{arith}
+use native.Mathlib.Numerals.{add-one}
+use borrow.Author.Tests.{ne_eqb}
+use lib.ListN.{length, get_or}
+use lib.Dec.{eqb, leb}
+use Rattle.refusal.specs.Refusal.{Verdict, refuse, first, is_refused}
+use Rattle.refusal.specs.declared.Refusal.{Refusal}
+use Rattle.refusal.specs.declared.Refusal.TheVariants.{InvalidNameByte, UnsafeName, NoSuchEntry, ExpectedDirectory, NotFound}
+use Rattle.tree.specs.Table.{Node, none, plain, safe, parent_of}
+use Rattle.tree.specs.Lookup.{isDirectory, components, childOf, stays, goesBack}
+use Rattle.edits.specs.Inner.Troubles.{ifChild, troubleOf}
+use Rattle.edit.specs.Inner.Walk.{Place, at_start, walk_from, moved, plainVerdict, directoryVerdict, childStep, behind, step_of, lastVerdict, pathTrouble}
+
+-- ---- what the new names come to: nothing, or 12
+
+abbrev pub Told : Verdict → Type 0
+Told v = v ≡ refuse (is_refused v) InvalidNameByte (Ok tt)
+
+told-both : (v : Verdict) (b : Bool) → Told v → Told (first v (refuse b InvalidNameByte (Ok tt)))
+told-both (Ok _) true t = refl
+told-both (Ok _) false t = refl
+told-both (Err c) b t = t
+
+refused-both : (v : Verdict) (b : Bool) → is_refused (first v (refuse b InvalidNameByte (Ok tt))) ≡ (is_refused v || b)
+refused-both (Ok _) true = refl
+refused-both (Ok _) false = refl
+refused-both (Err c) b = refl
+
+-- ---- a step
+
+-- what is left of the walk from a place
+abbrev pub left_at : Place → List (List ℕ) → Verdict
+left_at p cs = troubleOf p.nodes p.start p.entry p.level (is_refused p.names) cs
+
+-- and after a step
+abbrev pub onward : List (List ℕ) → Result Place Refusal → Verdict
+onward cs (Ok p) = left_at p cs
+onward cs (Err c) = Err c
+
+module _ (nodes : List Node) (start k : ℕ) (v : Verdict) where
+  abbrev at : ℕ → Place
+  at level = record { nodes = nodes; start = start; entry = k; level = level; names = v }
+
+  abbrev bad : Bool
+  bad = is_refused v
+
+  -- with one new directory more
+  abbrev below : ℕ → List ℕ → Place
+  below level nm = record { nodes = nodes; start = start; entry = k; level = level; names = first v (plainVerdict nm) }
+
+  trouble-step : (level : ℕ) (nm : List ℕ) (cs : List (List ℕ)) → troubleOf nodes start k level bad (nm ∷ cs) ≡ onward cs (step_of (at level) nm)
+  unfolding troubleOf step_of
+  trouble-step zero nm cs =
+      rw (← refused-both v (not (plain nm))) (go (isDirectory (get_or nodes k none)) (stays nm) (goesBack nm) (eqb k start) (childOf nodes k nm) (safe nm))
+    where
+      go : (t u g w : Bool) (a : Result ℕ Refusal) (s : Bool) →
+          cond t (cond u (troubleOf nodes start k zero bad cs) (cond g (cond w (Err NotFound) (troubleOf nodes start (parent_of nodes k) zero bad cs))
+          (ifChild a (λ j. troubleOf nodes start j zero bad cs) (cond s (troubleOf nodes start k 1 (is_refused (first v (plainVerdict nm))) cs) (Err UnsafeName))))) (Err ExpectedDirectory) ≡
+          onward cs (behind (refuse (not t) ExpectedDirectory (Ok tt)) (cond u (Ok (at 0)) (cond g (cond w (Err NotFound) (Ok (moved (at 0) (parent_of nodes k) 0)))
+          (childStep (at 0) a (cond s (Ok (below 1 nm)) (Err UnsafeName))))))
+      go false u g w a s = refl
+      go true true g w a s = refl
+      go true false true true a s = refl
+      go true false true false a s = refl
+      go true false false w (Ok j) s = refl
+      go true false false w (Err c) true = refl
+      go true false false w (Err c) false = refl
+  trouble-step (suc level) nm cs =
+      let e : suc level - 1 ≡ level = omega arith in
+      rw (← refused-both v (not (plain nm)), ne_eqb (suc level) 0 (λ z. omega arith), e, add-one (suc level)) (go (stays nm) (goesBack nm) (safe nm))
+    where
+      go : (u g s : Bool) →
+          cond u (troubleOf nodes start k (suc level) bad cs) (cond g (troubleOf nodes start k level bad cs)
+          (cond s (troubleOf nodes start k (suc (suc level)) (is_refused (first v (plainVerdict nm))) cs) (Err UnsafeName))) ≡
+          onward cs (cond u (Ok (at (suc level))) (cond g (Ok (moved (at (suc level)) k level)) (cond s (Ok (below (suc (suc level)) nm)) (Err UnsafeName))))
+      go true g s = refl
+      go false true s = refl
+      go false false true = refl
+      go false false false = refl
+
+  trouble-last : (level : ℕ) → Told v → troubleOf nodes start k level bad [] ≡ lastVerdict (at level)
+  unfolding troubleOf
+  trouble-last zero t = go (isDirectory (get_or nodes k none))
+    where
+      go : (d : Bool) → cond d (refuse bad InvalidNameByte (Ok tt)) (Err ExpectedDirectory) ≡ first (refuse (not d) ExpectedDirectory (Ok tt)) v
+      go true = sym t
+      go false = refl
+  trouble-last (suc level) t = rw (ne_eqb (suc level) 0 (λ z. omega arith)) (sym t)
+
+-- ---- a step is one level more at most
+
+-- a place with so many new levels at most
+abbrev Within : ℕ → Place → Type 0
+Within n q = (q.level ≤ n) × Told q.names
+
+module _ (p : Place) (t : Told p.names) (nm : List ℕ) (q : Place) where
+  landed : (r : Place) → ◌≡◌ {A = Result Place Refusal} (Ok r) (Ok q) → r.level ≤ p.level + 1 → Told r.names → Within (p.level + 1) q
+  landed r e l told =
+      let x : r ≡ q = cc in
+      rw (← x) (l, told)
+
+  never : (c : Refusal) → ◌≡◌ {A = Result Place Refusal} (Err c) (Ok q) → Within (p.level + 1) q
+  never c e = let z : ◌≡◌ {A = ℕ} 0 1 = cc in absurd (omega arith)
+
+  -- with one new directory more
+  abbrev new : Place
+  new = record { nodes = p.nodes; start = p.start; entry = p.entry; level = p.level + 1; names = first p.names (plainVerdict nm) }
+
+  step-within : step_of p nm ≡ Ok q → Within (p.level + 1) q
+  unfolding step_of
+  step-within = go (directoryVerdict p) (stays nm) (goesBack nm) (eqb p.level 0) (eqb p.entry p.start) (childOf p.nodes p.entry nm) (safe nm)
+    where
+      told : Told (first p.names (plainVerdict nm))
+      told = told-both p.names (not (plain nm)) t
+
+      go : (d : Verdict) (u g z w : Bool) (a : Result ℕ Refusal) (s : Bool) →
+          behind d (cond u (Ok p) (cond g (cond z (cond w (Err NotFound) (Ok (moved p (parent_of p.nodes p.entry) 0))) (Ok (moved p p.entry (p.level - 1))))
+          (cond z (childStep p a (cond s (Ok new) (Err UnsafeName))) (cond s (Ok new) (Err UnsafeName))))) ≡ Ok q → Within (p.level + 1) q
+      go (Err c) u g z w a s e = never c e
+      go (Ok _) true g z w a s e = landed p e (omega arith) t
+      go (Ok _) false true true true a s e = never _ e
+      go (Ok _) false true true false a s e = landed _ e (omega arith) t
+      go (Ok _) false true false w a s e = landed _ e (omega arith) t
+      go (Ok _) false false true w (Ok j) s e = landed _ e (omega arith) t
+      go (Ok _) false false true w (Err c) true e = landed new e (omega arith) told
+      go (Ok _) false false true w (Err c) false e = never _ e
+      go (Ok _) false false false w a true e = landed new e (omega arith) told
+      go (Ok _) false false false w a false e = never _ e
+
+-- ---- the loop along the path: what is left of the walk is what the whole has
+
+pub record Walking (whole : Verdict) (most : ℕ) (p : Place) (rest : List (List ℕ)) : Type 0 where
+  pub levels : p.level + length rest ≤ most
+  pub told : Told p.names
+  pub left : whole ≡ left_at p rest
+
+module _ (whole : Verdict) (most : ℕ) (p : Place) (nm : List ℕ) (rest : List (List ℕ)) (f : Walking whole most p (nm ∷ rest)) where
+  stepped : (s : Result Place Refusal) → s ≡ step_of p nm → whole ≡ onward rest s
+  stepped s took = f.left ∙ rw took (trouble-step p.nodes p.start p.entry p.names p.level nm rest)
+
+  pub walk-stops : (c : Refusal) → Err c ≡ step_of p nm → Err c ≡ whole
+  walk-stops c took = sym (stepped (Err c) took)
+
+  pub walk-goes-on : (q : Place) → Ok q ≡ step_of p nm → Walking whole most q rest
+  walk-goes-on q took =
+      let w = step-within p f.told nm q (sym took) in
+      record { levels = omega (arith, w.0, f.levels); told = w.1; left = stepped (Ok q) took }
+
+pub walk_ends : (whole : Verdict) (most : ℕ) (p : Place) → Walking whole most p [] → (r : Verdict) → r ≡ lastVerdict p → r ≡ whole
+walk_ends whole most p f r e = e ∙ sym (f.left ∙ trouble-last p.nodes p.start p.entry p.names p.level f.told)
+
+module _ (nodes : List Node) (start : ℕ) (path : List ℕ) where
+  pub walk-starts : (p : Place) → walk_from nodes start ≡ Ok p → Walking (pathTrouble nodes start path) (length (components path)) p (components path)
+  walk-starts p = go (leb (length nodes) start)
+    where
+      go : (t : Bool) → cond t (Err NoSuchEntry) (Ok (at_start nodes start)) ≡ Ok p →
+          Walking (refuse t NoSuchEntry (troubleOf nodes start start 0 false (components path))) (length (components path)) p (components path)
+      go true e = let z : ◌≡◌ {A = ℕ} 0 1 = cc in absurd (omega arith)
+      go false e =
+          let x : at_start nodes start ≡ p = cc in
+          rw (← x) (record { levels = omega arith; told = refl; left = refl })

@@ -1,0 +1,16 @@
+-- `make_along` meets its contract. The invariant of its loop: what is left of the walk makes what the whole makes.
+use Rattle.std.proofs.Common.{◌≡◌, false, [], length}
+use Rattle.tree.specs.Lookup.{components}
+use Rattle.edits.specs.Edits.{make}
+use Rattle.table_writing.specs.Inner.Growing.{tree_of}
+use Rattle.edit.specs.Inner.Making.{madeTree, madeEntry}
+use Rattle.edit.proofs.Turns.{Making}
+use Rattle.edit.proofs.making.make_along.Given as goal
+
+abbrev pub invariant-loop-name : goal.invariant-loop-name
+invariant-loop-name l =
+    (goal.iterator-loop-name).can_next l.name-iterator ×
+    (goal.iterator-loop-name).is_finite l.name-iterator ×
+    Making (madeTree (make (tree_of l.initial.table) [] l.start false (components l.path))) (madeEntry (make (tree_of l.initial.table) [] l.start false (components l.path))) l.initial.table.words (length l.initial.table.bytes.now)
+    l.table l.entry l.name-iterator ×
+    (l.table.bytes.ghost_name ≡ l.initial.table.bytes.ghost_name)

@@ -1,0 +1,10 @@
+-- Definitions that only inner contracts need.
+pub mod Accounting
+pub mod Decides
+pub mod Decision
+pub mod Files
+pub mod Filling
+pub mod Insertion
+pub mod Judged
+pub mod Making
+pub mod Walk

@@ -1,0 +1,76 @@
+-- What is decided on, or why it is refused, entered in the totals record. Assumes nothing: these are definitions.
+use Rattle.std.specs.Prelude.{Result, Ok, Err, ℕ, ◌+◌, ◌-◌, ◌≤◌, ◌≡◌, cond, List, length}
+use Rattle.refusal.specs.declared.Refusal.{Refusal}
+use Rattle.refusal.specs.Refusal.{Verdict, is_refused}
+use Rattle.header.specs.Verdicts.{fstOffset, fstSize, discEnd}
+use Rattle.space.specs.declared.region.DiscRegion.{DiscRegion}
+use Rattle.space.specs.Inner.Sort.{regionsIn}
+use Rattle.opened.specs.Inner.Prepared.{IsOpen}
+use Rattle.opened.specs.Inner.Disc.{Disc, Means}
+use Rattle.space.specs.declared.totals.Totals.{Totals}
+use Rattle.space.specs.Totals.{totalsVerdict, totalsMoved}
+use Rattle.space.specs.Inner.Scan.{longestFrom, goneOf, Moved, movedAs}
+use Rattle.edits.specs.Change.{Plan}
+use Rattle.edits.specs.Edits.{noPlace, planImage, countedVerdict, totalsTo}
+use Rattle.edit.specs.declared.decision.Decision.{Decision}
+use Rattle.edit.specs.declared.decision.Decision.TheVariants as decision
+use Rattle.edit.specs.Inner.Decision.{DecidedAs}
+
+-- a table that is to be written ends on the disc; nothing is asked of an edit that is refused
+abbrev pub OnDisc : Disc → Result Decision Refusal → Type 0
+OnDisc d (Err c) = Unit {0}
+OnDisc d (Ok decision.Nothing) = Unit {0}
+OnDisc d (Ok (decision.Clip n at)) = Unit {0}
+OnDisc d (Ok (decision.Write n size w)) = d.start + size ≤ d.end
+
+-- P of each image that means the disc, and of its used regions behind the table, in the order in which lent words hold them
+pub record OfUsed (d : Disc) (P : List ℕ → List DiscRegion → Type 0) : Type 0 where
+  pub words : List ℕ
+  pub count : ℕ
+  pub long : length words ≡ d.words
+  pub held : (image : List ℕ) → Means image d → IsOpen image words count
+  pub is : (image : List ℕ) → Means image d → P image (regionsIn words 1 (count - 1))
+
+-- what is decided on once the record is tested too, and the record then
+pub record Accounted : Type 0 where
+  pub decision : Result Decision Refusal
+  pub totals : Totals
+
+abbrev pub accounted : Result Decision Refusal → Totals → Accounted
+accounted d t = record { decision = d; totals = t }
+
+-- refused if the record cannot move on
+abbrev pub unless : Verdict → Decision → Result Decision Refusal
+unless (Ok _) d = Ok d
+unless (Err c) d = Err c
+
+abbrev pub settledAs : Decision → Moved → Accounted
+settledAs d m = accounted (unless m.verdict d) m.totals
+
+-- used bytes move from `before` to `after`, in any two numbers with that difference
+abbrev pub movedBy : Totals → ℕ → ℕ → ℕ → Moved
+movedBy t before after largest = movedAs (totalsVerdict t before after) t (totalsMoved t before after largest)
+
+-- the new table has `size` bytes, and the edited file goes from `old` to `new`; xs are the used regions behind the table, in order
+abbrev pub enteredAs : List ℕ → List DiscRegion → Totals → ℕ → DiscRegion → DiscRegion → Moved
+enteredAs image xs t size old new =
+    movedBy t (fstSize image + old.size) (size + new.size) (longestFrom (discEnd image) (goneOf old) new (fstOffset image + size) 0 xs)
+
+-- by what is decided on
+abbrev pub enteredFor : List ℕ → List DiscRegion → Decision → Totals → Moved
+enteredFor image xs decision.Nothing t = enteredAs image xs t (fstSize image) noPlace noPlace
+enteredFor image xs (decision.Clip n at) t = enteredAs image xs t (fstSize image) noPlace noPlace
+enteredFor image xs (decision.Write n size w) t = enteredAs image xs t size w.old w.place
+
+abbrev pub accountOf : List ℕ → List DiscRegion → Result Decision Refusal → Totals → Accounted
+accountOf image xs (Err c) t = accounted (Err c) t
+accountOf image xs (Ok d) t = settledAs d (enteredFor image xs d t)
+
+-- the record afterwards
+abbrev pub countedTotals : Plan → Totals → List ℕ → ℕ → ℕ → Totals
+countedTotals p t image words room = cond (is_refused (countedVerdict p t image words room)) t (totalsTo t image (planImage p image))
+
+-- a, with these working bytes and this clip, is what the plan comes to by all its tests, 25 too, where the record t went in
+pub record AccountedFor (p : Plan) (image : List ℕ) (words room : ℕ) (bytes clip : List ℕ) (t : Totals) (a : Accounted) : Type 0 where
+  pub decided : DecidedAs (countedVerdict p t image words room) p image room bytes clip a.decision
+  pub totals : a.totals ≡ countedTotals p t image words room

@@ -1,0 +1,162 @@
+-- What an edit decides on before it writes, or why it is refused, and what that does to an image. The new table stands in the working bytes by then.
+-- Assumes nothing: these are definitions.
+use Rattle.std.specs.Prelude.{Result, Ok, Err, ℕ, ◌+◌, ◌<◌, ◌≤◌, ◌^◌, ◌≡◌, cond, List, [], ◌∷◌, length, replicate}
+use Rattle.refusal.specs.Refusal.{Verdict, is_refused}
+use Rattle.refusal.specs.declared.Refusal.{Refusal}
+use Rattle.endian.specs.Bytes.{put, span}
+use Rattle.header.specs.Verdicts.{fstOffset, fstSize}
+use Rattle.tree.specs.Table.{Node, encode}
+use Rattle.space.specs.declared.region.DiscRegion.{DiscRegion}
+use Rattle.edit.specs.declared.decision.Writing.{Writing}
+use Rattle.edit.specs.declared.decision.Decision.{Decision}
+use Rattle.edit.specs.declared.decision.Decision.TheVariants as decision
+use Rattle.edits.specs.Change.{Change, withTable, Plan, refused, nothing, change, filled}
+use Rattle.edits.specs.Edits.{noPlace, planVerdict, planImage}
+use Rattle.opened.specs.Inner.Disc.{Disc, Means}
+
+-- ---- the numbers of a change
+
+abbrev pub changeWith : List Node → Writing → Change
+changeWith nodes w = record { nodes = nodes; old = w.old; place = w.place; kept = w.kept; lost = record { offset = w.lost.offset; size = w.lost.size } }
+
+-- no byte but the table's
+abbrev pub nothing_besides : Writing
+nothing_besides = record { old = noPlace; place = noPlace; kept = 0; lost = record { offset = 0; size = 0 } }
+
+-- a change with a place, for the tests of its table
+abbrev pub placing : List Node → DiscRegion → Change
+placing nodes place = record { nodes = nodes; old = noPlace; place = place; kept = 0; lost = noPlace }
+
+-- the image with the change written, where the table's bytes are these
+unfoldable pub writtenWith : Writing → List ℕ → List ℕ → List ℕ
+writtenWith w table image =
+    put (withTable (fstOffset image) (fstSize image) table (put image w.place.offset (span image w.old.offset w.kept))) w.lost.offset (replicate w.lost.size 0)
+
+-- ---- what is found behind tests that passed, or the cause of the first that did not
+
+abbrev pub behind_tests : {A : Type 0} → Verdict → A → Result A Refusal
+behind_tests (Ok _) x = Ok x
+behind_tests (Err c) x = Err c
+
+-- ---- what is written lies in the image; nothing is asked of a place where no byte is written
+
+pub record CopyFits (long source to n : ℕ) : Type 0 where
+  pub from : 0 < n → source + n ≤ long
+  pub into : 0 < n → to + n ≤ long
+
+pub record ZeroFits (long at n : ℕ) : Type 0 where
+  pub into : 0 < n → at + n ≤ long
+
+pub record TableFits (long room f size new : ℕ) : Type 0 where
+  pub behind-header : 0x440 ≤ f
+  pub old : f + size ≤ long
+  pub into : f + new ≤ long
+  pub held : new ≤ room
+  pub small : new < 2 ^ 32
+
+pub record InImage (long : ℕ) (w : Writing) : Type 0 where
+  pub copied : CopyFits long w.old.offset w.place.offset w.kept
+  pub zeroed : ZeroFits long w.lost.offset w.lost.size
+
+pub record Fits (image : List ℕ) (room size : ℕ) (w : Writing) : Type 0 where
+  pub table : TableFits (length image) room (fstOffset image) (fstSize image) size
+  pub inside : InImage (length image) w
+
+-- ---- a clip
+
+-- n bytes at `at` lie in an image of that length
+abbrev pub Into : ℕ → ℕ → ℕ → Type 0
+Into long at n = 0 < n → at + n ≤ long
+
+-- the image with the clip at its place; most edits have none
+abbrev pub clipped : List ℕ → ℕ → List ℕ → List ℕ
+clipped image at [] = image
+clipped image at (b ∷ clip) = put image at (b ∷ clip)
+
+-- ---- a decision carried out, or a refusal handed back
+
+abbrev pub CanCarry : List ℕ → ℕ → List ℕ → Result Decision Refusal → Type 0
+CanCarry image room clip (Err c) = Unit {0}
+CanCarry image room clip (Ok decision.Nothing) = Unit {0}
+CanCarry image room clip (Ok (decision.Clip n at)) = Into (length image) at (length clip)
+CanCarry image room clip (Ok (decision.Write n size w)) = Into (length image) w.place.offset (length clip) × Fits (clipped image w.place.offset clip) room size w
+
+abbrev pub carriedVerdict : Result Decision Refusal → Verdict
+carriedVerdict (Err c) = Err c
+carriedVerdict (Ok d) = Ok tt
+
+-- the number of the entry
+abbrev pub number_of : Decision → ℕ
+number_of decision.Nothing = 0
+number_of (decision.Clip n at) = n
+number_of (decision.Write n size w) = n
+
+abbrev pub carriedAnswer : Result Decision Refusal → Result ℕ Refusal
+carriedAnswer (Err c) = Err c
+carriedAnswer (Ok d) = Ok (number_of d)
+
+-- whether an edit that gives a number was accepted
+abbrev pub verdictIn : Result ℕ Refusal → Verdict
+verdictIn (Ok k) = Ok tt
+verdictIn (Err c) = Err c
+
+-- the clip first, so that a table with the new place or size has the whole clip
+abbrev pub carriedImage : Result Decision Refusal → List ℕ → List ℕ → List ℕ → List ℕ
+carriedImage (Err c) bytes clip image = image
+carriedImage (Ok decision.Nothing) bytes clip image = image
+carriedImage (Ok (decision.Clip n at)) bytes clip image = clipped image at clip
+carriedImage (Ok (decision.Write n size w)) bytes clip image = writtenWith w (span bytes 0 size) (clipped image w.place.offset clip)
+
+pub record Carried (n size : ℕ) (w : Writing) (bytes : List ℕ) (k : ℕ) (c : Change) : Type 0 where
+  pub number : n ≡ k
+  pub table : span bytes 0 size ≡ encode c.nodes
+  pub change : c ≡ changeWith c.nodes w
+
+-- the same of a file that is filled, but for what a resize would copy
+pub record Uncopied (n size : ℕ) (w : Writing) (bytes : List ℕ) (k : ℕ) (c : Change) : Type 0 where
+  pub number : n ≡ k
+  pub table : span bytes 0 size ≡ encode c.nodes
+  pub old : c.old ≡ w.old
+  pub place : c.place ≡ w.place
+
+-- what is written is the plan's change, of the plan's entry, and the table in the working bytes that of its tree
+abbrev pub Carries : Result Decision Refusal → List ℕ → Plan → Type 0
+Carries (Err c) bytes p = Unit {0}
+Carries (Ok decision.Nothing) bytes nothing = Unit {0}
+Carries (Ok decision.Nothing) bytes (refused v) = ⊥
+Carries (Ok decision.Nothing) bytes (change k c) = ⊥
+Carries (Ok decision.Nothing) bytes (filled k clip p) = ⊥
+Carries (Ok (decision.Clip n at)) bytes (filled k clip nothing) = n ≡ k
+Carries (Ok (decision.Clip n at)) bytes (filled k clip (refused v)) = ⊥
+Carries (Ok (decision.Clip n at)) bytes (filled k clip (change j c)) = ⊥
+Carries (Ok (decision.Clip n at)) bytes (filled k clip (filled j more p)) = ⊥
+Carries (Ok (decision.Clip n at)) bytes nothing = ⊥
+Carries (Ok (decision.Clip n at)) bytes (refused v) = ⊥
+Carries (Ok (decision.Clip n at)) bytes (change k c) = ⊥
+Carries (Ok (decision.Write n size w)) bytes (change k c) = Carried n size w bytes k c
+Carries (Ok (decision.Write n size w)) bytes (refused v) = ⊥
+Carries (Ok (decision.Write n size w)) bytes nothing = ⊥
+Carries (Ok (decision.Write n size w)) bytes (filled k clip (change j c)) = Uncopied n size w bytes k c
+Carries (Ok (decision.Write n size w)) bytes (filled k clip nothing) = ⊥
+Carries (Ok (decision.Write n size w)) bytes (filled k clip (refused v)) = ⊥
+Carries (Ok (decision.Write n size w)) bytes (filled k clip (filled j more p)) = ⊥
+
+-- d, with these working bytes and this clip, is what the plan comes to where its tests say v
+pub record DecidedAs (v : Verdict) (p : Plan) (image : List ℕ) (room : ℕ) (bytes clip : List ℕ) (d : Result Decision Refusal) : Type 0 where
+  pub fits : CanCarry image room clip d
+  pub carries : Carries d bytes p
+  pub answer : carriedVerdict d ≡ v
+  pub after : carriedImage d bytes clip image ≡ cond (is_refused v) image (planImage p image)
+
+-- by all tests but 25, with no clip
+abbrev pub Decided : Plan → List ℕ → ℕ → ℕ → List ℕ → Result Decision Refusal → Type 0
+Decided p image words room bytes d = DecidedAs (planVerdict p image words room) p image room bytes [] d
+
+-- ---- a decision on a disc: it is what the plan comes to, on each image that means the disc
+
+abbrev pub Decides : Plan → Disc → ℕ → List ℕ → Result Decision Refusal → Type 0
+Decides p d room bytes r = (image : List ℕ) → Means image d → Decided p image d.words room bytes r
+
+-- with a clip
+abbrev pub DecidesWith : List ℕ → Plan → Disc → ℕ → List ℕ → Result Decision Refusal → Type 0
+DecidesWith clip p d room bytes r = (image : List ℕ) → Means image d → DecidedAs (planVerdict p image d.words room) p image room bytes clip r

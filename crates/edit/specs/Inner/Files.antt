@@ -1,0 +1,41 @@
+-- A file and its place, as the edits of a place ask for them. Assumes nothing: these are definitions.
+use Rattle.std.specs.Prelude.{Result, Ok, Err, ℕ, ◌<◌, ◌≡◌, false, min, List, length, get_or}
+use Rattle.refusal.specs.declared.Refusal.{Refusal}
+use Rattle.refusal.specs.declared.Refusal.TheVariants.{ExpectedFile}
+use Rattle.tree.specs.Table.{Node, none}
+use Rattle.tree.specs.Lookup.{isDirectory}
+use Rattle.tree.specs.declared.Entry.{Entry}
+use Rattle.tree.specs.declared.Entry.TheVariants as entry
+use Rattle.space.specs.declared.region.DiscRegion.{DiscRegion}
+use Rattle.opened.specs.Opening.{regionOf}
+use Rattle.opened.specs.Inner.Disc.{Disc, Means}
+use Rattle.edit.specs.declared.decision.Writing.{Writing}
+use Rattle.edit.specs.declared.file.File.{File}
+
+pub record IsFile (nodes : List Node) (k : ℕ) : Type 0 where
+  pub inside : k < length nodes
+  pub kind : isDirectory (get_or nodes k none) ≡ false
+
+-- entry k, where it is a file
+abbrev pub file_in : List Node → ℕ → File
+file_in nodes k = record { number = k; place = regionOf (get_or nodes k none) }
+
+abbrev pub fileOf : ℕ → Entry → Result File Refusal
+fileOf k (entry.File f) = Ok (record { number = k; place = record { offset = f.offset; size = f.size } })
+fileOf k (entry.Directory d) = Err ExpectedFile
+
+-- a file of a disc that some image means
+pub record IsFileOf (d : Disc) (f : File) : Type 0 where
+  pub image : List ℕ
+  pub means : Means image d
+  pub is : IsFile d.nodes f.number
+  pub place : regionOf (get_or d.nodes f.number none) ≡ f.place
+
+-- what a move writes besides the table: the smaller of both sizes is copied, and the old place is zeroed
+abbrev pub relocation_of : DiscRegion → DiscRegion → Writing
+relocation_of old new = record {
+  old = old;
+  place = new;
+  kept = min old.size new.size;
+  lost = record { offset = old.offset; size = old.size };
+}

@@ -1,0 +1,172 @@
+-- What is decided on, entered in the record, gives the totals of the image that the edit leaves. Assumes nothing.
+use Rattle.std.specs.Prelude.{Result, Ok, Err, ℕ, ◌+◌, ◌-◌, ◌≤◌, ◌≡◌, refl, List, length}
+use Rattle.refusal.specs.Refusal.{Verdict, first}
+use Rattle.std.proofs.Common.{sym, ap, ◌∙◌, arith}
+use Rattle.endian.specs.Bytes.{span}
+use Rattle.endian.specs.Laws.Stored.{length-span}
+use Rattle.refusal.specs.declared.Refusal.{Refusal}
+use Rattle.header.specs.Verdicts.{fstOffset, fstSize, discEnd, table_end}
+use Rattle.tree.specs.Table.{encode}
+use Rattle.space.specs.declared.region.DiscRegion.{DiscRegion}
+use Rattle.space.specs.Used.{usedRegions, totalSize}
+use Rattle.space.specs.Free.{largestSize}
+use Rattle.space.specs.Inner.Sort.{regionsIn}
+use Rattle.space.specs.Laws.TotalLaws.{total-used}
+use Rattle.space.specs.declared.totals.Totals.{Totals}
+use Rattle.space.specs.Totals.{totalsVerdict}
+use Rattle.space.specs.Inner.Scan.{longestFrom, goneOf}
+use Rattle.space.specs.Laws.LargestLaws.{largest-after}
+use Rattle.space.specs.Laws.TotalsLaws.{same-verdict, same-moved}
+use Rattle.executable.specs.Program.{programBehind}
+use Rattle.opened.specs.Opening.{nodesIn, behindTable, usedIn, usedOf, freeOf}
+use Rattle.opened.proofs.Laws.OpeningLaws.{used-regions}
+use Rattle.opened.specs.Inner.Prepared.{IsOpen}
+use Rattle.opened.specs.Inner.Disc.{Disc, Means, disc_of}
+use Rattle.edits.specs.Change.{Change, tableVerdict, Plan, refused, nothing, change, filled}
+use Rattle.edits.specs.Edits.{noPlace, planVerdict, totalsTo}
+use Rattle.ledger.proofs.Laws.Files.{placesIn, used-files}
+use Rattle.ledger.proofs.Laws.Opened.{opened}
+use Rattle.ledger.proofs.Laws.Room as room-law
+use Rattle.ledger.proofs.Laws.Layout.{LaidOut, Lays}
+use Rattle.edit.specs.declared.decision.Writing.{Writing}
+use Rattle.edit.specs.declared.decision.Decision.{Decision}
+use Rattle.edit.specs.declared.decision.Decision.TheVariants as decision
+use Rattle.edit.specs.Inner.Decision.{DecidedAs}
+use Rattle.edit.specs.Inner.Accounting.{OnDisc, Accounted, accounted, settledAs, movedBy, enteredAs, accountOf}
+
+-- ---- by what lies behind the table
+
+used-places : (image : List ℕ) → usedIn image ≡ usedRegions (table_end image) (placesIn image)
+unfolding usedIn behindTable
+used-places image = used-files (table_end image) (programBehind image) (nodesIn image)
+
+total-places : (image : List ℕ) → usedOf image ≡ table_end image + totalSize (placesIn image)
+unfolding usedOf behindTable
+total-places image =
+    sym (total-used (table_end image) (behindTable image)) ∙ ap totalSize (used-files (table_end image) (programBehind image) (nodesIn image)) ∙ total-used (table_end image) (placesIn image)
+
+module _ (image w : List ℕ) (m : ℕ) (o : IsOpen image w m) (image' : List ℕ) (size : ℕ) (old new : DiscRegion) (l : LaidOut image image' size old new) where
+  -- LAW: what the table and the edited file gain and lose is the change of used bytes
+  pub used-moves : (size + new.size) + usedOf image ≡ (fstSize image + old.size) + usedOf image'
+  used-moves = omega (arith, total-places image, total-places image', l.start, l.table, l.places.total)
+
+  -- LAW: the used regions in the words tell the largest free region of the new image
+  largest-moves : longestFrom (discEnd image) (goneOf old) new (fstOffset image + size) 0 (regionsIn w 1 (m - 1)) ≡ largestSize (freeOf image')
+  unfolding freeOf
+  largest-moves =
+      let q = opened image (length w) o.known.passed o.known.bytes in
+      let u = used-places image in
+      let e : table_end image' ≡ fstOffset image + size = omega (arith, l.start, l.table) in
+      largest-after w m (discEnd image) (table_end image) (fstOffset image + size) (placesIn image) (placesIn image') old new o.used.sorted (omega (arith, q.bounds.after-header))
+      (λ r. rw (← u) (used-regions image w m o.used r)) (rw (← u) q.regions) l.held l.fits l.clear l.places
+      ∙ rw (used-places image', e, l.end)
+
+  -- LAW: so the record moves to the totals of the new image
+  pub moves : (t : Totals) → enteredAs image (regionsIn w 1 (m - 1)) t size old new ≡ movedBy t (usedOf image) (usedOf image') (largestSize (freeOf image'))
+  moves t =
+      let before : ℕ = fstSize image + old.size in
+      let after : ℕ = size + new.size in
+      rw (largest-moves, same-verdict t before after (usedOf image) (usedOf image') used-moves, same-moved t before after (usedOf image) (usedOf image') used-moves (largestSize (freeOf image')))
+
+-- ---- what is decided on
+
+-- a passes the decision on with the new record, or refuses it with the old one
+pub record Entered (v : Verdict) (d : Result Decision Refusal) (t t' : Totals) (a : Accounted) : Type 0 where
+  pub passed : v ≡ Ok tt → a ≡ accounted d t'
+  pub refused : (c : Refusal) → v ≡ Err c → a ≡ accounted (Err c) t
+
+-- the table in the working bytes has the size that was decided on
+table-size : (bytes table : List ℕ) (room size : ℕ) → length bytes ≡ room → size ≤ room → span bytes 0 size ≡ table → length table ≡ size
+table-size bytes table room size long held e = ap length (sym e) ∙ length-span bytes 0 size (omega arith)
+
+module _ (image w : List ℕ) (m room : ℕ) (bytes : List ℕ) (long : length bytes ≡ room) (t : Totals) (o : IsOpen image w m) (image' : List ℕ) where
+  -- the plan's tests, and then 25
+  abbrev pub tested : Plan → Verdict
+  tested p = first (planVerdict p image (length w) room) (totalsVerdict t (usedOf image) (usedOf image'))
+
+  refused-entered : (p : Plan) (c : Refusal) → Err c ≡ planVerdict p image (length w) room → Entered (tested p) (Err c) t (totalsTo t image image') (accounted (Err c) t)
+  refused-entered p c h =
+      let e : tested p ≡ Err c = rw (← h) in
+      record {
+        passed = λ q. let y : Err c ≡ Ok tt = sym e ∙ q in let z : ◌≡◌ {A = ℕ} 0 1 = cc in absurd (omega arith);
+        refused = λ x q. let y : Err c ≡ Err x = sym e ∙ q in cc;
+      }
+
+  moved-entered : (p : Plan) (d : Decision) (a : Accounted) → Ok tt ≡ planVerdict p image (length w) room → a ≡ settledAs d (movedBy t (usedOf image) (usedOf image') (largestSize (freeOf image'))) →
+      Entered (tested p) (Ok d) t (totalsTo t image image') a
+  moved-entered p d a h e = record { passed = λ q. e ∙ go q; refused = λ c q. e ∙ stop c q }
+    where
+      25-is : tested p ≡ totalsVerdict t (usedOf image) (usedOf image')
+      25-is = rw (← h)
+
+      go : tested p ≡ Ok tt → settledAs d (movedBy t (usedOf image) (usedOf image') (largestSize (freeOf image'))) ≡ accounted (Ok d) (totalsTo t image image')
+      go q = rw (sym 25-is ∙ q)
+
+      stop : (c : Refusal) → tested p ≡ Err c → settledAs d (movedBy t (usedOf image) (usedOf image') (largestSize (freeOf image'))) ≡ accounted (Err c) t
+      stop c q = rw (sym 25-is ∙ q)
+
+  -- nothing is written but a clip
+  none-entered : (p : Plan) (d : Decision) → Ok tt ≡ planVerdict p image (length w) room → Lays nothing image image' →
+      Entered (tested p) (Ok d) t (totalsTo t image image') (settledAs d (enteredAs image (regionsIn w 1 (m - 1)) t (fstSize image) noPlace noPlace))
+  none-entered p d h l = moved-entered p d _ h (ap (settledAs d) (moves image w m o image' (fstSize image) noPlace noPlace l.0 t))
+
+  -- a table is
+  write-entered : (p : Plan) (k : ℕ) (c : Change) (n size : ℕ) (x : Writing) → Ok tt ≡ planVerdict p image (length w) room → Lays (change k c) image image' → length (encode c.nodes) ≡ size → c.old ≡ x.old → c.place ≡ x.place →
+      Entered (tested p) (Ok (decision.Write n size x)) t (totalsTo t image image') (accountOf image (regionsIn w 1 (m - 1)) (Ok (decision.Write n size x)) t)
+  write-entered p k c n size x h l l₀ eo ep =
+      let s : LaidOut image image' size x.old x.place = rw (l₀, eo, ep) at l in
+      moved-entered p (decision.Write n size x) _ h (ap (settledAs (decision.Write n size x)) (moves image w m o image' size x.old x.place s t))
+
+  -- LAW: of what a plan comes to, whose layout the new image has
+  pub entered : (p : Plan) (clip : List ℕ) (d : Result Decision Refusal) → DecidedAs (planVerdict p image (length w) room) p image room bytes clip d → (planVerdict p image (length w) room ≡ Ok tt → Lays p image image') →
+      Entered (tested p) d t (totalsTo t image image') (accountOf image (regionsIn w 1 (m - 1)) d t)
+  entered p clip (Err c) h l = refused-entered p c h.answer
+  entered (refused v) clip (Ok decision.Nothing) h l = absurd h.carries
+  entered nothing clip (Ok decision.Nothing) h l = none-entered nothing decision.Nothing refl (l refl)
+  entered (change k c) clip (Ok decision.Nothing) h l = absurd h.carries
+  entered (filled k y p) clip (Ok decision.Nothing) h l = absurd h.carries
+  entered (refused v) clip (Ok (decision.Clip n at)) h l = absurd h.carries
+  entered nothing clip (Ok (decision.Clip n at)) h l = absurd h.carries
+  entered (change k c) clip (Ok (decision.Clip n at)) h l = absurd h.carries
+  entered (filled k y nothing) clip (Ok (decision.Clip n at)) h l = none-entered (filled k y nothing) (decision.Clip n at) refl (l refl)
+  entered (filled k y (refused v)) clip (Ok (decision.Clip n at)) h l = absurd h.carries
+  entered (filled k y (change j c)) clip (Ok (decision.Clip n at)) h l = absurd h.carries
+  entered (filled k y (filled j z p)) clip (Ok (decision.Clip n at)) h l = absurd h.carries
+  entered (refused v) clip (Ok (decision.Write n size x)) h l = absurd h.carries
+  entered nothing clip (Ok (decision.Write n size x)) h l = absurd h.carries
+  entered (change k c) clip (Ok (decision.Write n size x)) h l =
+      let f = h.carries in
+      write-entered (change k c) k c n size x h.answer (l (sym h.answer)) (table-size bytes (encode c.nodes) room size long h.fits.1.table.held f.table) (ap (λ (y : Change). y.old) f.change)
+      (ap (λ (y : Change). y.place) f.change)
+  entered (filled k y (change j c)) clip (Ok (decision.Write n size x)) h l =
+      let f = h.carries in
+      write-entered (filled k y (change j c)) j c n size x h.answer (l (sym h.answer)) (table-size bytes (encode c.nodes) room size long h.fits.1.table.held f.table) f.old f.place
+  entered (filled k y nothing) clip (Ok (decision.Write n size x)) h l = absurd h.carries
+  entered (filled k y (refused v)) clip (Ok (decision.Write n size x)) h l = absurd h.carries
+  entered (filled k y (filled j z p)) clip (Ok (decision.Write n size x)) h l = absurd h.carries
+
+-- LAW: a table that is to be written ends on the disc
+module _ (d : Disc) (image : List ℕ) (m : Means image d) (room : ℕ) (bytes clip : List ℕ) (long : length bytes ≡ room) where
+  table-ends : (c : Change) (size : ℕ) → tableVerdict c image d.words room ≡ Ok tt → size ≤ room → span bytes 0 size ≡ encode c.nodes → d.start + size ≤ d.end
+  table-ends c size v held e =
+      let start : fstOffset image ≡ d.start = ap (λ (x : Disc). x.start) m.is in
+      let end : discEnd image ≡ d.end = ap (λ (x : Disc). x.end) m.is in
+      rw (start, end, table-size bytes (encode c.nodes) room size long held e) at (room-law.room c image d.words room (opened image d.words m.known.passed m.known.bytes) v).end
+
+  pub on-disc : (p : Plan) (r : Result Decision Refusal) → DecidedAs (planVerdict p image d.words room) p image room bytes clip r → OnDisc d r
+  on-disc p (Err c) h = tt
+  on-disc p (Ok decision.Nothing) h = tt
+  on-disc p (Ok (decision.Clip n at)) h = tt
+  on-disc (refused v) (Ok (decision.Write n size w)) h = absurd h.carries
+  on-disc nothing (Ok (decision.Write n size w)) h = absurd h.carries
+  on-disc (change k c) (Ok (decision.Write n size w)) h = table-ends c size (sym h.answer) h.fits.1.table.held h.carries.table
+  on-disc (filled k y (change j c)) (Ok (decision.Write n size w)) h = table-ends c size (sym h.answer) h.fits.1.table.held h.carries.table
+  on-disc (filled k y nothing) (Ok (decision.Write n size w)) h = absurd h.carries
+  on-disc (filled k y (refused v)) (Ok (decision.Write n size w)) h = absurd h.carries
+  on-disc (filled k y (filled j z p)) (Ok (decision.Write n size w)) h = absurd h.carries
+
+-- LAW: what is decided on may be entered in the record
+pub may-account : (p : Plan) (image w : List ℕ) (m room : ℕ) (bytes clip : List ℕ) (d : Result Decision Refusal) → DecidedAs (planVerdict p image (length w) room) p image room bytes clip d → IsOpen image w m → length bytes ≡ room →
+    IsOpen image w m × OnDisc (disc_of image (length w)) d
+may-account p image w m room bytes clip d h o long =
+    (o, on-disc (disc_of image (length w)) image (record { known = o.known; is = refl }) room bytes clip long p d h)

@@ -1,0 +1,26 @@
+// What an insert of a file or a directory decides on.
+
+ghost use Rattle.std.specs.Prelude.{length};
+ghost use Rattle.edit.specs.Inner.Decision.{Decides};
+ghost use Rattle.edit.specs.Inner.Insertion.{planInserted};
+
+use crate::decision::Decision;
+use crate::new_entry::NewEntry;
+use crate::table_only;
+use opened::OpenDisc;
+use refusal::Refusal;
+use table::Table;
+use table_writing::Growing;
+
+/// An empty file or an empty directory as the last child of a directory: 15, 13, 17, 19, 12, then the tests
+/// of the new table, which stands in the bytes where it is decided on.
+pub fn insert(disc: &OpenDisc<'_>, bytes: &mut [u8], new: NewEntry<'_>) -> Result<Decision, Refusal>
+    ensures { Decides (planInserted new.entry.kind disc.now.nodes new.entry.parent new.entry.name.now)
+        disc.now (length bytes.old) bytes.new result }
+{
+    new.check(&Table::new(disc.table()))?;
+    let size = table_only::start_table(disc, bytes)?;
+    let mut table = Growing::new(bytes, size, table_only::lent_words(disc));
+    let number = table.grow(new.parent as usize, new.kind, new.name)?;
+    table_only::place_table(disc, &table, number as u32)
+}

@@ -1,0 +1,54 @@
+// The table that grows by the directories of a path. No trouble stands on the path, so that what is missing
+// may be made.
+ghost use Rattle.std.specs.Prelude.{◌≡◌, Ok, false, [], ◌<◌, length};
+ghost use Rattle.tree.specs.Lookup.{components};
+ghost use Rattle.edits.specs.Edits.{make};
+ghost use Rattle.edits.specs.Inner.Troubles.{madeVerdict};
+ghost use Rattle.table_writing.specs.Inner.Growing.{tree_of};
+ghost use Rattle.edit.specs.Inner.Making.{turn_of, CanTurn, Reaches};
+
+use refusal::Refusal;
+use table::Components;
+use table_writing::{Growing, Kind};
+
+// From a directory along one component: empty and `.` stay, `..` goes back, any other leads to the child with
+// that name, or into a directory that is made for it; 9 if there is no room for one.
+#[tactic(auto, unfolding(crate::specs::Inner::Making::turn_of))]
+fn step(table: &mut Growing<'_>, entry: usize, name: &[u8]) -> Result<usize, Refusal>
+    requires { CanTurn (tree_of table.old) entry name.now }
+    ensures reaches { let room = length table.old.bytes.now in
+        Reaches (turn_of (tree_of table.old) entry name.now) room table.new result }
+    ensures same_words { table.new.words ≡ table.old.words }
+    ensures same_length { length table.new.bytes.now ≡ length table.old.bytes.now }
+    ensures same_reference { table.new.bytes.ghost_name ≡ table.old.bytes.ghost_name }
+{
+    if table::stays(name) {
+        return Ok(entry);
+    }
+    if table::goes_back(name) {
+        return Ok(table.parent(entry));
+    }
+    match table.child(entry, name) {
+        Ok(child) => Ok(child as usize),
+        Err(_) => table.grow(entry, Kind::Directory, name),
+    }
+}
+
+/// Along the components of a path from the entry `start`, to the entry where it ends; 9 once there is no room
+/// for a directory, since there is none for the whole then.
+pub fn make_along(table: &mut Growing<'_>, start: usize, path: &[u8]) -> Result<usize, Refusal>
+    requires start_inside { start < length (tree_of table.old) }
+    requires untroubled { let whole = make (tree_of table.old) [] start false (components path.now) in
+        madeVerdict whole ≡ Ok tt }
+    ensures reaches { let room = length table.old.bytes.now in
+        Reaches (make (tree_of table.old) [] start false (components path.now)) room table.new result }
+    ensures same_words { table.new.words ≡ table.old.words }
+    ensures same_length { length table.new.bytes.now ≡ length table.old.bytes.now }
+    ensures same_reference { table.new.bytes.ghost_name ≡ table.old.bytes.ghost_name }
+{
+    let mut entry = start;
+    for name in Components::new(path) {
+        entry = step(table, entry, name)?;
+    }
+    Ok(entry)
+}

@@ -1,0 +1,124 @@
+// What a rewrite and a move decide on, for every image that means the disc.
+ghost use Rattle.std.specs.Prelude.{◌≡◌, List, ℕ, length};
+ghost use Rattle.tree.specs.Insert.{setPlace};
+ghost use Rattle.edits.specs.Change.{change};
+ghost use Rattle.edits.specs.Edits.{tableOnly, planned, overlapsItself, relocateVerdict, relocated, planMove};
+ghost use Rattle.opened.specs.Inner.Disc.{free_of, Means};
+ghost use Rattle.edit.specs.Inner.Decision.{InImage, changeWith, Decides};
+ghost use Rattle.edit.specs.Inner.Files.{IsFile, IsFileOf, relocation_of};
+
+use crate::decision::{Decision, Span, Writing};
+use crate::file::File;
+use crate::finding::file_on_disc;
+use crate::place;
+use opened::OpenDisc;
+use refusal::{Refusal, Verdict};
+use space::DiscRegion;
+
+// Kept: the disc, which is read, and the bytes, which are written, go side by side here and in `resizing`: each contract names the two, and a
+// value that held both would say nothing more.
+/// The tree as it is, written anew; refused by the tests of its table alone.
+pub fn rewrite(disc: &OpenDisc<'_>, bytes: &mut [u8]) -> Result<Decision, Refusal>
+    ensures { Decides (change 0 (tableOnly disc.now.nodes)) disc.now (length bytes.old) bytes.new result }
+{
+    let size = place::check_table(disc, bytes.len(), Writing::NOTHING.place)?;
+    place::write_table(disc.table(), bytes);
+    Ok(Decision::Write {
+        number: 0,
+        size,
+        writing: Writing::NOTHING,
+    })
+}
+
+// The tree with another place for a file.
+pub(crate) fn set_place(
+    disc: &OpenDisc<'_>,
+    bytes: &mut [u8],
+    number: u32,
+    writing: Writing,
+) -> Result<Decision, Refusal>
+    requires is_file { IsFile disc.now.nodes number }
+    requires inside { (image : List ℕ) → Means image disc.now → InImage (length image) writing }
+    ensures { let nodes = setPlace number writing.place.offset writing.place.size disc.now.nodes in
+        Decides (change number (changeWith nodes writing)) disc.now (length bytes.old) bytes.new result }
+{
+    let place = writing.place;
+    let size = place::check_table(disc, bytes.len(), place)?;
+    place::write_table(disc.table(), bytes);
+    table_writing::set_place(bytes, number as usize, place.offset, place.size);
+    Ok(Decision::Write {
+        number,
+        size,
+        writing,
+    })
+}
+
+// Whether a region would be moved onto itself.
+fn overlaps_itself(old: DiscRegion, new: DiscRegion) -> bool
+    ensures { result ≡ overlapsItself old new }
+{
+    u64::from(new.offset) < old.end() && u64::from(old.offset) < new.end()
+}
+
+// The tests of a new place: 20, then 21.
+fn check_relocate(disc: &OpenDisc<'_>, old: DiscRegion, new: DiscRegion) -> Verdict
+    ensures { result ≡ relocateVerdict (free_of disc.now) old new }
+{
+    if overlaps_itself(old, new) {
+        return Err(Refusal::OverlappingMove);
+    }
+    if disc.max_region_size(new.offset, 0) < new.size {
+        return Err(Refusal::NotEnoughSpace);
+    }
+    Ok(())
+}
+
+// What a move writes besides the table: the smaller of both sizes is copied, and the old place is zeroed.
+fn relocation(old: DiscRegion, new: DiscRegion) -> Writing
+    ensures { result ≡ relocation_of old new }
+{
+    Writing {
+        old,
+        place: new,
+        kept: old.size.min(new.size) as usize,
+        lost: Span {
+            offset: old.offset as usize,
+            size: old.size as usize,
+        },
+    }
+}
+
+// The file goes from one place to another.
+pub(crate) fn relocate(
+    disc: &OpenDisc<'_>,
+    bytes: &mut [u8],
+    file: File,
+    new: DiscRegion,
+) -> Result<Decision, Refusal>
+    requires { IsFileOf disc.now file }
+    ensures { let moved = change file.number (relocated disc.now.nodes file.number file.place new) in
+        let plan = planned (relocateVerdict (free_of disc.now) file.place new) moved in
+        Decides plan disc.now (length bytes.old) bytes.new result }
+{
+    check_relocate(disc, file.place, new)?;
+    set_place(disc, bytes, file.number, relocation(file.place, new))
+}
+
+/// The file of that number goes to another offset: 15, 16, 20 if it would overlap itself, 21 if its new place
+/// is not free, then the table's tests.
+pub fn move_file(
+    disc: &OpenDisc<'_>,
+    bytes: &mut [u8],
+    number: u32,
+    offset: u32,
+) -> Result<Decision, Refusal>
+    ensures { let plan = planMove (free_of disc.now) disc.now.nodes number offset in
+        Decides plan disc.now (length bytes.old) bytes.new result }
+{
+    let file = file_on_disc(disc, number)?;
+    let new = DiscRegion {
+        offset,
+        size: file.place.size,
+    };
+    relocate(disc, bytes, file, new)
+}

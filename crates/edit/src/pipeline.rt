@@ -1,0 +1,137 @@
+// One way through every edit: opened, decided, entered in the record that is lent, carried out.
+ghost use Rattle.std.specs.Prelude.{◌≡◌, length};
+ghost use Rattle.opened.specs.Opening.{opening};
+ghost use Rattle.edits.specs.Edits as edits;
+ghost use Rattle.edits.specs.Edits.{planned, plan_of, numberedAs};
+ghost use Rattle.edits.specs.Promise.{lent, onlyVerdict, Edited};
+ghost use Rattle.edit.specs.Inner.Accounting.{accounted, AccountedFor};
+ghost use Rattle.edit.specs.Inner.Decides.{editOf, clipOf, EditDecided};
+
+use crate::decision::Decision;
+use crate::new_entry::NewEntry;
+use crate::{account, decision, directories, filling, insertion, moving, resizing};
+use opened::{Lent, OpenDisc};
+use refusal::{Refusal, Verdict};
+use space::Totals;
+
+/// An edit, with all that it needs besides the image, the working memory and the record. Entries go by their
+/// numbers; offsets and sizes are in bytes.
+#[derive(Clone, Copy, Debug, PartialEq, Eq)]
+pub enum Edit<'a> {
+    /// The table is written anew, with no name shared.
+    Rewrite,
+    /// The file goes to another offset.
+    Move { file: u32, offset: u32 },
+    /// The file gets another size, and another place where it cannot grow where it is.
+    Resize { file: u32, size: u32 },
+    /// Afterwards the file is the clip.
+    Fill { file: u32, clip: &'a [u8] },
+    /// An empty file, with offset 0, or an empty directory as last child of a directory.
+    Insert(NewEntry<'a>),
+    /// Each directory of the path that is missing, from the entry `start` on.
+    MakeDirectories { start: u32, path: &'a [u8] },
+}
+
+impl<'a> Edit<'a> {
+    // The clip that fills a file; none for the other edits.
+    fn clip(self) -> &'a [u8]
+        ensures { result.now ≡ clipOf self.entry }
+    {
+        match self {
+            Edit::Fill { clip, .. } => clip,
+            _ => b"",
+        }
+    }
+}
+
+// A fill. What the bytes of a clip are is known of a parameter, and not of a reference in an enum.
+fn fill_file(
+    disc: &OpenDisc<'_>,
+    bytes: &mut [u8],
+    file: u32,
+    clip: &[u8],
+) -> Result<Decision, Refusal>
+    ensures { let asked = edits.fillFile file clip.now in
+        EditDecided asked disc.now (length bytes.old) bytes.new clip.now result }
+{
+    filling::fill(disc, bytes, file, clip)
+}
+
+/// What an edit decides on, on an open disc: all its tests but the last, and the new table in the working
+/// bytes.
+pub fn decide_open(
+    disc: &OpenDisc<'_>,
+    bytes: &mut [u8],
+    edit: Edit<'_>,
+) -> Result<Decision, Refusal>
+    ensures { let clip = clipOf edit.entry in
+        EditDecided (editOf edit.entry) disc.now (length bytes.old) bytes.new clip result }
+{
+    match edit {
+        Edit::Rewrite => moving::rewrite(disc, bytes),
+        Edit::Move { file, offset } => moving::move_file(disc, bytes, file, offset),
+        Edit::Resize { file, size } => resizing::resize_file(disc, bytes, file, size),
+        Edit::Fill { file, clip } => fill_file(disc, bytes, file, clip),
+        Edit::Insert(new) => insertion::insert(disc, bytes, new),
+        Edit::MakeDirectories { start, path } => {
+            directories::make_directories(disc, bytes, start, path)
+        }
+    }
+}
+
+// What is decided on, entered in the record: 25 comes last.
+// Kept: `image`, `words`, `bytes`, `totals` one by one, here and below (N): each is written or zeroed apart from the others, and a
+// struct of four `&mut` would have each contract name the loan of each field.
+fn decide(
+    image: &[u8],
+    words: &mut [u32],
+    bytes: &mut [u8],
+    totals: &mut Totals,
+    edit: Edit<'_>,
+) -> Result<Decision, Refusal>
+    ensures { let opened = opening image.now (length words.old) in
+        let plan = planned opened (plan_of (editOf edit.entry) image.now) in
+        let clip = clipOf edit.entry in
+        AccountedFor plan image.now (length words.old) (length bytes.old) bytes.new clip
+        totals.old (accounted result totals.new) }
+{
+    let disc = OpenDisc::of_image(image, words)?;
+    let decided = decide_open(&disc, bytes, edit);
+    account::account(&disc, decided, totals)
+}
+
+/// The whole edit: opens the image, makes every test, builds the new table in the working bytes, and only
+/// then writes the image. Gives the number of the entry that it makes, moves or fills, 0 where there is none;
+/// or why it is refused, with image and record as they were.
+pub fn run(
+    image: &mut [u8],
+    words: &mut [u32],
+    bytes: &mut [u8],
+    totals: &mut Totals,
+    edit: Edit<'_>,
+) -> Result<u32, Refusal>
+    ensures { let before = lent image.old words.old bytes.old totals.old in
+        let after = lent image.new words.new bytes.new totals.new in
+        Edited numberedAs (editOf edit.entry) before after result }
+{
+    let words = Lent::new(words);
+    let bytes = Lent::new(bytes);
+    let decided = decide(image, words.memory, bytes.memory, totals, edit);
+    decision::finish(image, bytes.memory, edit.clip(), decided)
+}
+
+/// The whole edit, of one that gives only that it is done.
+pub fn done(
+    image: &mut [u8],
+    words: &mut [u32],
+    bytes: &mut [u8],
+    totals: &mut Totals,
+    edit: Edit<'_>,
+) -> Verdict
+    ensures { let before = lent image.old words.old bytes.old totals.old in
+        let after = lent image.new words.new bytes.new totals.new in
+        Edited onlyVerdict (editOf edit.entry) before after result }
+{
+    run(image, words, bytes, totals, edit)?;
+    Ok(())
+}

@@ -1,0 +1,108 @@
+// What a resize decides on, for every image that means the disc.
+ghost use Rattle.std.specs.Prelude.{◌≡◌, ◌||◌, leb, length};
+ghost use Rattle.space.specs.MaxRegionSize.{maxRegionSize};
+ghost use Rattle.space.specs.Allocate.{allocationOf};
+ghost use Rattle.edits.specs.Change.{change};
+ghost use Rattle.edits.specs.Edits.{resized, planElsewhere, planResize, planSized};
+ghost use Rattle.opened.specs.Inner.Disc.{free_of};
+ghost use Rattle.edit.specs.Inner.Decision.{Decides};
+ghost use Rattle.edit.specs.Inner.Files.{IsFileOf};
+
+use crate::decision::{Decision, Span, Writing};
+use crate::file::File;
+use crate::finding::file_on_disc;
+use crate::moving::{relocate, set_place};
+use opened::OpenDisc;
+use refusal::Refusal;
+use space::DiscRegion;
+
+// Whether a file keeps its place: it gets smaller, or can grow there.
+fn stays(disc: &OpenDisc<'_>, place: DiscRegion, new_size: u32) -> bool
+    ensures { let most = maxRegionSize place.offset place.size (free_of disc.now) in
+        result ≡ (leb new_size place.size || leb new_size most) }
+{
+    new_size <= place.size || new_size <= disc.max_region_size(place.offset, place.size)
+}
+
+// The file keeps its place; what it loses is zeroed.
+fn resize_in_place(
+    disc: &OpenDisc<'_>,
+    bytes: &mut [u8],
+    file: File,
+    new_size: u32,
+) -> Result<Decision, Refusal>
+    requires { IsFileOf disc.now file }
+    ensures { let plan = change file.number (resized disc.now.nodes file.number file.place new_size) in
+        Decides plan disc.now (length bytes.old) bytes.new result }
+{
+    let old = file.place;
+    let writing = Writing {
+        old,
+        place: DiscRegion {
+            offset: old.offset,
+            size: new_size,
+        },
+        kept: 0,
+        lost: Span {
+            offset: old.offset as usize + new_size as usize,
+            size: old.size.saturating_sub(new_size) as usize,
+        },
+    };
+    set_place(disc, bytes, file.number, writing)
+}
+
+// The file goes where there is room for it, at a multiple of 0x8000.
+fn grow_elsewhere(
+    disc: &OpenDisc<'_>,
+    bytes: &mut [u8],
+    file: File,
+    new_size: u32,
+) -> Result<Decision, Refusal>
+    requires { IsFileOf disc.now file }
+    ensures { let free = free_of disc.now in
+        let region = allocationOf 0x8000 new_size free in
+        let plan = planElsewhere disc.now.nodes free file.number file.place new_size region in
+        Decides plan disc.now (length bytes.old) bytes.new result }
+{
+    let region = disc.allocate(new_size, 0x8000)?;
+    let new = DiscRegion {
+        offset: region.offset,
+        size: new_size,
+    };
+    relocate(disc, bytes, file, new)
+}
+
+/// A file gets another size: nothing is done where it has that size; it keeps its place if it can, else it
+/// goes where there is room, or 21; then the table's tests.
+pub fn resize(
+    disc: &OpenDisc<'_>,
+    bytes: &mut [u8],
+    file: File,
+    new_size: u32,
+) -> Result<Decision, Refusal>
+    requires { IsFileOf disc.now file }
+    ensures { let plan = planSized (free_of disc.now) disc.now.nodes file.number file.place new_size in
+        Decides plan disc.now (length bytes.old) bytes.new result }
+{
+    if new_size == file.place.size {
+        return Ok(Decision::Nothing);
+    }
+    if stays(disc, file.place, new_size) {
+        return resize_in_place(disc, bytes, file, new_size);
+    }
+    grow_elsewhere(disc, bytes, file, new_size)
+}
+
+/// The file of that number gets another size: 15, 16, then as `resize`.
+pub fn resize_file(
+    disc: &OpenDisc<'_>,
+    bytes: &mut [u8],
+    number: u32,
+    new_size: u32,
+) -> Result<Decision, Refusal>
+    ensures { let plan = planResize (free_of disc.now) disc.now.nodes number new_size in
+        Decides plan disc.now (length bytes.old) bytes.new result }
+{
+    let file = file_on_disc(disc, number)?;
+    resize(disc, bytes, file, new_size)
+}

@@ -1,0 +1,3 @@
+-- What the proofs of the functions cite.
+pub mod Reading
+pub mod Turns

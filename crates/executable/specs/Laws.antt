@@ -1,0 +1,5 @@
+-- What follows from the definitions.
+pub mod DolFacts
+pub mod DolVectors
+pub mod ProgramLaws
+pub mod ProgramVectors

@@ -1,0 +1,4 @@
+pub mod Dol
+pub mod Inner
+pub mod Laws
+pub mod Program

@@ -1,0 +1,55 @@
+-- The program: a nonzero DOL offset means one from there, as long as the DOL's file size and at least 0xE4. It must lie wholly between 0x440 and
+-- the FST offset, as part of the used bytes 0 up to the table end, or wholly from the table end on, as a used region of its own; otherwise, or
+-- where it overlaps a file or passes the disc end, 14. A header that is refused is refused 24, just before 14.
+-- Assumes nothing: these are definitions.
+use Rattle.refusal.specs.declared.Refusal.{Refusal}
+use Rattle.refusal.specs.Refusal.{Verdict}
+use Rattle.std.specs.Prelude.{ℕ, ◌+◌, max, Bool, cond, ◌&&◌, List, leb, eqb, Option, None, Some, Result, Ok, Err, unwrap_or}
+use Rattle.header.specs.Verdicts.{dolOffset, fstOffset}
+use Rattle.space.specs.declared.region.DiscRegion.{DiscRegion}
+use Rattle.executable.specs.Dol.{dolHeaderOf, fileSizeOf, dolVerdictOf}
+
+-- the region of a program, none where there is no program, or the cause for which its header is refused
+abbrev pub Program : Type 0
+Program = Result (Option DiscRegion) Refusal
+
+-- "from there, as long as the DOL's file size and at least 0xE4"
+abbrev pub programFrom : List ℕ → ℕ → DiscRegion
+programFrom image at = record { offset = at; size = max (fileSizeOf (dolHeaderOf image at)) 0xE4 }
+
+-- by the verdict on its header
+abbrev pub programAs : Verdict → DiscRegion → Program
+programAs (Ok _) r = Ok (Some r)
+programAs (Err c) r = Err c
+
+-- "a nonzero DOL offset means a program"; its header may be refused, 24
+unfoldable pub program_of : List ℕ → Program
+program_of image = cond (eqb (dolOffset image) 0) (Ok None) (programAs (dolVerdictOf image (dolOffset image)) (programFrom image (dolOffset image)))
+
+abbrev pub programVerdict : Program → Verdict
+programVerdict (Ok _) = Ok tt
+programVerdict (Err c) = Err c
+
+-- ---- where it lies
+
+-- a region without a byte
+abbrev pub nowhere : DiscRegion
+nowhere = record { offset = 0; size = 0 }
+
+abbrev pub place_of : Program → DiscRegion
+place_of (Ok region) = unwrap_or region nowhere
+place_of (Err c) = nowhere
+
+unfoldable pub programIn : List ℕ → DiscRegion
+programIn image = place_of (program_of image)
+
+-- "wholly between 0x440 and the FST offset, as part of the used bytes 0 up to the table end"
+abbrev pub beforeTable : ℕ → DiscRegion → Bool
+beforeTable fst r = leb 0x440 r.offset && leb (r.offset + r.size) fst
+
+-- "as a used region of its own": wherever else it lies. One that is not "wholly from the table end on" shares a byte with those before it, 14
+unfoldable pub ownRegion : ℕ → DiscRegion → DiscRegion
+ownRegion fst r = cond (beforeTable fst r) nowhere r
+
+abbrev pub programBehind : List ℕ → DiscRegion
+programBehind image = ownRegion (fstOffset image) (programIn image)

@@ -1,0 +1,8 @@
+// The executable: the header of a DOL file, and the program that the disc header means.
+#![tactic(auto)]
+
+pub mod dol;
+pub mod program;
+
+pub use dol::{DolAnswer, DolHeader, size};
+pub use program::{Program, own_region};

@@ -1,4 +1,0 @@
--- What the proofs of the functions cite.
-pub mod Clips
-pub mod Places
-pub mod Outcomes

@@ -1,2 +1,0 @@
--- Definitions that only inner contracts need.
-pub mod Filling

@@ -1,2 +1,0 @@
--- What only inner contracts say.
-pub mod Counted

@@ -1,3 +1,0 @@
--- What only inner contracts say.
-pub mod Found
-pub mod UsedSpace

@@ -1,7 +1,0 @@
--- `Stack::len` meets its contract.
-use mathlib.Core.Path.{sym}
-use Rattle.fst_check.proofs.Walking.{length-open}
-use Rattle.fst_check.proofs.stack.Stack.len.Goals as goal
-
-pub returns : goal.returns
-returns c = rw (← c.self.view_is) (sym (length-open c.self.inside.words c.self.inside.depth))

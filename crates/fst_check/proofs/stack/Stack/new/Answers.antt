@@ -1,7 +1,0 @@
--- `Stack::new` meets its contract: no word counts yet.
-use mathlib.Core.Path.{refl}
-use Rattle.fst_check.proofs.Walking.{open_none}
-use Rattle.fst_check.proofs.stack.Stack.new.Goals as goal
-
-pub returns : goal.returns
-returns c = open_none _ 0 refl

@@ -1,4 +1,0 @@
--- What the proofs of the functions cite.
-pub mod GrowthLaws
-pub mod Limits
-pub mod StandingTable

@@ -1,8 +1,0 @@
--- `Growing::is_shallow` meets its contract. The invariant of its loop: so many directories around p were passed, and those around the one where
--- it stands are left.
-use Rattle.fst_grow.proofs.StandingTable.{Counted}
-use Rattle.fst_grow.specs.Inner.Growing.{tree_of}
-use Rattle.fst_grow.proofs.growing.Growing.is_shallow.Given as goal
-
-abbrev pub invariant-loop : goal.invariant-loop
-invariant-loop l = Counted (tree_of l.self) l.p l.around l.counter

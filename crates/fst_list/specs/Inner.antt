@@ -1,3 +1,0 @@
--- Definitions that only inner contracts need.
-pub mod ParentsIn
-pub mod Ends

@@ -1,8 +1,0 @@
--- `fst_patch::insert_text` meets its contract: the last texts move first, so none is lost.
-use Rattle.fst_patch.proofs.Inserted.{texts-moved}
-use Rattle.fst_patch.proofs.insert_text.Goals as goal
-
-pub returns : goal.returns
-returns c =
-    let s = c in
-    cc (texts-moved s.args.table.now s.args.size s.args.count s.args.start s.args.name.now s.requires.start s.requires.room)

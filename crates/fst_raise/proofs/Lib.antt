@@ -1,4 +1,0 @@
--- What the proofs of the functions cite.
-pub mod Patches
-pub mod Raises
-pub mod Stays

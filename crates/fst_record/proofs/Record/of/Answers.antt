@@ -1,6 +1,0 @@
--- `Record::of` meets its contract: the four fields are the entry's.
-use Rattle.fst_record.proofs.Records.{record_is}
-use Rattle.fst_record.proofs.Record.of.Goals as goal
-
-pub returns-clause-bytes : goal.returns-clause-bytes
-returns-clause-bytes c = λ n. record_is c.args.table.now n c.args.parent c.args.k c.args.name _ _ _ c.of.ensures c.place_of.ensures c.read_u32.ensures

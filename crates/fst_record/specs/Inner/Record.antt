@@ -1,8 +1,0 @@
--- The bytes of an entry's four fields. Assumes nothing: these are definitions.
-use Rattle.std.specs.Prelude.{ℕ, List}
-use Rattle.fst_measure.specs.Inner.Flat.{recordBytes}
-use Rattle.fst_measure.specs.Inner.Kind.{number_of}
-use Rattle.fst_record.specs.declared.Record.{Record}
-
-abbrev pub bytes_of : Record → List ℕ
-bytes_of r = recordBytes (number_of r.kind) r.name r.place r.next

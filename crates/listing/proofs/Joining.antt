@@ -1,0 +1,72 @@
+-- Texts written one behind the other are one text; a text copied byte by byte. Assumes nothing.
+use Prim.Native.Nat.{ℕ, ◌+◌, ◌<◌, ◌≤◌, ◌^◌}
+use mathlib.Core.Path.{◌≡◌, refl, sym, ap, ◌∙◌}
+use mathlib.Core.List.{List, [], ◌∷◌, ◌++◌, append_assoc}
+use native.Mathlib.Omega.{arith}
+use lib.ListN.{length, get_or, length-append}
+use Rattle.endian.specs.Bytes.{put}
+use Rattle.endian.specs.Laws.Stored.{length-put, put-none}
+use Rattle.endian.proofs.Parts.{put-append}
+use Rattle.table.specs.Inner.Texts.{textAt}
+use Rattle.std.proofs.lemmas.List.{get_or_past}
+use Rattle.table.proofs.Texts.{text-more, text-end}
+use Rattle.listing.specs.Inner.Writing.{Wrote, Appends}
+use Rattle.listing.specs.declared.buffer.TextBuffer.{TextBuffer}
+
+pub wrote_none : (text : List ℕ) (at : ℕ) → Wrote text text at [] at
+wrote_none text at = record { stop = omega arith; laid = λ h l. sym (put-none text at) }
+
+module _ {text text' text'' : List ℕ} {at m end : ℕ} {a b : List ℕ} (f : Wrote text text' at a m) (g : Wrote text' text'' m b end) where
+  both : length (a ++ b) ≡ length a + length b
+  both = length-append a b
+
+  lies : at + length (a ++ b) ≤ length text → at + length (a ++ b) < 2 ^ 63 → text'' ≡ put text at (a ++ b)
+  lies h l =
+      let e : text' ≡ put text at a = f.laid (omega (arith, both)) (omega (arith, both)) in
+      let n : m ≡ at + length a = omega (arith, both, f.stop) in
+      let k : length text' ≡ length text = ap length e ∙ length-put text at a (omega (arith, both)) in
+      g.laid (omega (arith, both)) (omega (arith, both)) ∙ rw e (put-append text at a m b n (omega (arith, both)))
+
+  pub wrote-join : Wrote text text'' at (a ++ b) end
+  wrote-join = record { stop = omega (arith, both, f.stop, g.stop); laid = lies }
+
+-- ---- the same of a buffer
+
+pub appends-none : (t : TextBuffer) → Appends t t []
+appends-none t = record { wrote = wrote_none t.bytes.now t.len; long = refl; same_reference = refl }
+
+pub appends-join : {t u v : TextBuffer} {a b : List ℕ} → Appends t u a → Appends u v b → Appends t v (a ++ b)
+appends-join f g = record { wrote = wrote-join f.wrote g.wrote; long = g.long ∙ f.long; same_reference = g.same_reference ∙ f.same_reference }
+
+-- the same text said otherwise
+pub appends-as : {t u : TextBuffer} {a b : List ℕ} → Appends t u a → a ≡ b → Appends t u b
+appends-as f e = rw e at f
+
+-- a text in two parts, and in three
+pub appends-two : (t u v : TextBuffer) (a b bs : List ℕ) → Appends t u a → Appends u v b → a ++ b ≡ bs → Appends t v bs
+appends-two t u v a b bs f g e = appends-as (appends-join f g) e
+
+pub appends-three : (t u v w : TextBuffer) (a b c bs : List ℕ) → Appends t u a → Appends u v b → Appends v w c → a ++ (b ++ c) ≡ bs → Appends t w bs
+appends-three t u v w a b c bs f g h e = appends-as (appends-join f (appends-join g h)) e
+
+-- behind the end of a list no text stands
+pub wrote-past : (text source : List ℕ) (at from : ℕ) → length source ≤ from → Wrote text text at (textAt source from) at
+wrote-past text source at from h = rw (text-end source from (get_or_past source from 0 h)) (wrote_none text at)
+
+-- ---- a text up to its end
+
+pub record Copying (source : List ℕ) (t u : TextBuffer) (i : ℕ) : Type 0 where
+  pub done : List ℕ
+  pub appends : Appends t u done
+  pub left : done ++ textAt source i ≡ textAt source 0
+
+pub copy_start : (source : List ℕ) (t : TextBuffer) → Copying source t t 0
+copy_start source t = record { done = []; appends = appends-none t; left = refl }
+
+module _ (source : List ℕ) (t u : TextBuffer) (i : ℕ) (c : Copying source t u i) where
+  pub copy-turn : (v : TextBuffer) → (get_or source i 0 ≡ 0 → ⊥) → Appends u v (get_or source i 0 ∷ []) → Copying source t v (i + 1)
+  copy-turn v h w = record {
+    done = c.done ++ (get_or source i 0 ∷ []);
+    appends = appends-join c.appends w;
+    left = append_assoc c.done (get_or source i 0 ∷ []) (textAt source (i + 1)) ∙ (rw (text-more source i h) at c.left);
+  }

@@ -1,0 +1,116 @@
+// The listing of an image as text, and what the listing program writes.
+ghost use Rattle.std.specs.Prelude.{◌≡◌, ℕ, List, cond, ltb, length};
+ghost use Rattle.endian.specs.Bytes.{put};
+ghost use Rattle.opened.specs.Opening.{zeros};
+ghost use Rattle.opened.specs.Answers.{behind};
+ghost use Rattle.listing.specs.Inner.Writing.{Appends};
+ghost use Rattle.listing.specs.Inner.Fits.{Laid, listed_or, laid_or, text_of};
+ghost use Rattle.listing.specs.Listing.{listingText, listAnswer, listBuffer, refusedText, reportVerdict, reportAnswer, reportBuffer};
+
+use crate::body;
+use crate::buffer::TextBuffer;
+use opened::{Lent, OpenDisc};
+use refusal::Refusal;
+use table::Table;
+
+// Appends the lines of an open disc.
+fn push_disc(text: &mut TextBuffer<'_>, disc: &OpenDisc<'_>)
+    ensures { Appends text.old text.new (text_of disc.now) }
+{
+    let table = Table::new(disc.table());
+    let used = disc.used_regions();
+    body::put_lines(&table, disc.end(), &used, text);
+}
+
+// What `put` appends, in front of a text that has room for it: its length. It is measured first, so that a text that is too short stays as it
+// is.
+fn put_whole<F: Fn(&mut TextBuffer<'_>)>(text: &mut [u8], put: F) -> Option<usize>
+    requires { F.IsAlwaysCallable put }
+    ensures { (bs : List ℕ) → ((t t' : _) → F.post put t tt t' → Appends t.now t'.now bs) → Laid text.old text.new result bs }
+{
+    // Kept: a single byte is lent, in which nothing but the length is told.
+    let mut byte = [0; 1];
+    let mut measured = TextBuffer::new(&mut byte);
+    put(&mut measured);
+    let size = measured.len;
+    if text.len() < size {
+        return None;
+    }
+    let mut whole = TextBuffer::new(text);
+    put(&mut whole);
+    Some(size)
+}
+
+// The listing of an open disc.
+fn list_disc(disc: &OpenDisc<'_>, text: &mut [u8]) -> Result<usize, Refusal>
+    ensures answer { result ≡ listed_or (length text.old) (text_of disc.now) }
+    ensures text_after { text.new ≡ laid_or text.old (text_of disc.now) }
+{
+    put_whole(text, |buffer| push_disc(buffer, disc)).ok_or(Refusal::LimitOrMemory)
+}
+
+// The listing of an image, the words left as opening leaves them.
+// Kept: image, words and text one by one, here and in the three functions below that have them (N): the image is only read, the words are
+// zeroed and the text is written, each apart, and a struct of three loans would have each contract name the loan of each field.
+fn list_image(image: &[u8], words: &mut [u32], text: &mut [u8]) -> Result<usize, Refusal>
+    ensures answer { result ≡ listAnswer image.now (length words.old) (length text.old) }
+    ensures text_after { text.new ≡ listBuffer image.now (length words.old) text.old }
+{
+    let disc = OpenDisc::of_image(image, words)?;
+    list_disc(&disc, text)
+}
+
+/// The listing of an image, in front of `text`: its length in bytes. Refused by opening, or 9 if the text is too short; then it stays as it was.
+pub fn list(image: &[u8], words: &mut [u32], text: &mut [u8]) -> Result<usize, Refusal>
+    ensures answer { result ≡ listAnswer image.now (length words.old) (length text.old) }
+    ensures text_after { text.new ≡ listBuffer image.now (length words.old) text.old }
+    ensures words_zero { words.new ≡ zeros words.old }
+{
+    let lent = Lent::new(words);
+    list_image(image, lent.memory, text)
+}
+
+// ---- the listing program
+
+// Appends the fixed text `refused `, the number and a line feed.
+fn push_refused(text: &mut TextBuffer<'_>, cause: Refusal)
+    ensures { Appends text.old text.new (refusedText cause) }
+{
+    text.push_text(b"refused ");
+    text.push_decimal(cause.number());
+    text.push(b'\n');
+}
+
+// The same for a buffer that has room for it; otherwise nothing.
+fn write_refused(text: &mut [u8], cause: Refusal) -> usize
+    ensures answer { result ≡ cond (ltb (length text.old) (length (refusedText cause))) 0 (length (refusedText cause)) }
+    ensures text_after { text.new ≡ laid_or text.old (refusedText cause) }
+{
+    put_whole(text, |buffer| push_refused(buffer, cause)).unwrap_or(0)
+}
+
+// The listing of an image of at most so many bytes.
+fn list_small(image: &[u8], words: &mut [u32], text: &mut [u8]) -> Result<usize, Refusal>
+    ensures answer { result ≡ behind (reportVerdict image.now (length words.old) (length text.old)) Err (Ok (length (listingText image.now))) }
+    ensures text_after { text.new ≡ behind (reportVerdict image.now (length words.old) (length text.old)) (λ c. text.old) (put text.old 0 (listingText image.now)) }
+    ensures words_zero { words.new ≡ zeros words.old }
+{
+    let lent = Lent::new(words);
+    if 65536 < image.len() {
+        return Err(Refusal::LimitOrMemory);
+    }
+    list_image(image, lent.memory, text)
+}
+
+/// What the program writes for its input, in front of `text`: the listing, or `refused ` and the number. Gives its length in bytes; 0, with the
+/// text as it was, if it is too short even for a refusal.
+pub fn report(image: &[u8], words: &mut [u32], text: &mut [u8]) -> usize
+    ensures answer { result ≡ reportAnswer image.now (length words.old) (length text.old) }
+    ensures text_after { text.new ≡ reportBuffer image.now (length words.old) text.old }
+    ensures words_zero { words.new ≡ zeros words.old }
+{
+    match list_small(image, words, text) {
+        Ok(size) => size,
+        Err(cause) => write_refused(text, cause),
+    }
+}

@@ -1,0 +1,160 @@
+// The lines of the entries of an accepted table. The directories around an entry are kept, so that a line costs no more than its path: 65 at
+// most, since no directory is deeper than 64.
+ghost use Rattle.std.specs.Prelude.{◌≡◌, ◌∷◌, ◌++◌, ◌+◌, ◌<◌, ◌≤◌, ◌^◌, get_or, replicate};
+ghost use Rattle.tree.specs.Table as table_of;
+ghost use Rattle.tree.specs.Table.{none, nodesOf, name_of, parent_of};
+ghost use Rattle.listing.specs.Lines.{ending, entryFields, pathOf, entryLine, entryLines};
+ghost use Rattle.listing.specs.Inner.Around.{Before, Around};
+ghost use Rattle.listing.specs.Inner.Writing.{Appends};
+
+use crate::buffer::TextBuffer;
+use crate::lines;
+use table::Table;
+
+// The directories around an entry, the root first.
+#[derive(Drop)]
+struct Directories {
+    // Kept: nothing allocates, so that there is room for as many as can be. `fst_check::Stack` shows its top alone, and a path is put from the
+    // root on.
+    numbers: [usize; 65],
+    depth: usize,
+}
+
+impl Directories {
+    // The root alone.
+    fn root() -> Self
+        ensures { result ≡ record { numbers = replicate 65 0; depth = 1 } }
+    {
+        Directories {
+            numbers: [0; 65],
+            depth: 1,
+        }
+    }
+
+    // Leaves those around entry k: those at the end that are done go.
+    // Kept: `while`, which counts no index: it takes off the last of them, as long as that is done.
+    fn shut(&mut self, table: &Table<'_>, k: usize)
+        requires within { k < table_of.count table.now }
+        requires before { Before (nodesOf table.now) self.old k }
+        ensures { Around (nodesOf table.now) self.new k }
+    {
+        while 1 < self.depth && table.next(self.numbers[self.depth - 1]) <= k {
+            self.depth -= 1;
+        }
+    }
+
+    // Adds entry k, if it is a directory.
+    fn enter(&mut self, table: &Table<'_>, k: usize)
+        requires not_root { 0 < k }
+        requires within { k < table_of.count table.now }
+        requires nested { Around (nodesOf table.now) self.old k }
+        ensures { Before (nodesOf table.now) self.new (k + 1) }
+    {
+        // So that it is known of the table that no directory is deeper.
+        let _ = table.len();
+        if table.is_directory(k) {
+            self.numbers[self.depth] = k;
+            self.depth += 1;
+        }
+    }
+}
+
+// An entry after the root, and the directories around it.
+#[derive(Clone, Copy)]
+struct Entry<'a> {
+    table: &'a Table<'a>,
+    number: usize,
+    around: &'a Directories,
+    ghost not_root: { 0 < number },
+    ghost within: { number < table_of.count table.now },
+    ghost few: { number < 2 ^ 32 },
+    ghost nested: { Around (nodesOf table.now) around.now number },
+}
+
+impl Entry<'_> {
+    // The directory that it is nested in.
+    fn parent(&self) -> usize
+        ensures parent { result ≡ parent_of (nodesOf self.now.table.now) self.now.number }
+        ensures before { result ≤ self.now.number }
+    {
+        self.around.numbers[self.around.depth - 1]
+    }
+
+    // A space, and the path of that directory.
+    fn put_path(&self, text: &mut TextBuffer<'_>)
+        ensures { let nodes = nodesOf self.now.table.now in Appends text.old text.new (0x20 ∷ pathOf nodes (parent_of nodes self.now.number)) }
+    {
+        text.push_text(b" /");
+        let numbers = &self.around.numbers[..];
+        for &directory in &numbers[1..self.around.depth] {
+            put_name(self.table, directory, text);
+        }
+    }
+
+    // Its line.
+    fn put_line(&self, text: &mut TextBuffer<'_>)
+        ensures { Appends text.old text.new (entryLine (nodesOf self.now.table.now) self.now.number) }
+    {
+        put_fields(self.table, self.number, self.parent(), text);
+        self.put_path(text);
+        put_name(self.table, self.number, text);
+        text.push(b'\n');
+    }
+}
+
+// The first byte of entry k's line and its three numbers.
+fn put_fields(table: &Table<'_>, k: usize, parent: usize, text: &mut TextBuffer<'_>)
+    requires within { k < table_of.count table.now }
+    requires few { k < 2 ^ 32 }
+    requires before { parent ≤ k }
+    ensures { Appends text.old text.new (entryFields k parent (get_or (nodesOf table.now) k none)) }
+{
+    let last = table.last(k);
+    if table.is_directory(k) {
+        lines::put_pair(text, b'd', k as u32, parent as u32);
+        text.push_field(last);
+        return;
+    }
+    let offset = table.offset(k);
+    lines::put_pair(text, b'f', k as u32, offset);
+    text.push_field(last);
+}
+
+// The last part of entry k's path: its name, and `/` if it is a directory.
+fn put_name(table: &Table<'_>, k: usize, text: &mut TextBuffer<'_>)
+    requires { k < table_of.count table.now }
+    ensures { let node = get_or (nodesOf table.now) k none in Appends text.old text.new (name_of node ++ ending node) }
+{
+    text.push_text(table.name(k));
+    if table.is_directory(k) {
+        text.push(b'/');
+    }
+}
+
+fn put_root(table: &Table<'_>, text: &mut TextBuffer<'_>)
+    requires { 0 < table_of.count table.now }
+    ensures { Appends text.old text.new (entryLine (nodesOf table.now) 0) }
+{
+    put_fields(table, 0, 0, text);
+    text.push_text(b" /\n");
+}
+
+// All entries, in table order.
+// Kept: the loop goes over the entries' numbers, by which the table is asked.
+pub fn put_entries(table: &Table<'_>, text: &mut TextBuffer<'_>)
+    ensures { Appends text.old text.new (entryLines (nodesOf table.now) (table_of.count table.now)) }
+{
+    let count = table.len();
+    let mut around = Directories::root();
+    put_root(table, text);
+    for k in 1..count {
+        around.shut(table, k);
+        let entry = Entry {
+            table: &*table,
+            number: k,
+            around: &around,
+        };
+        entry.put_line(text);
+        around.enter(table, k);
+    }
+}

@@ -1,6 +1,0 @@
--- `listing_text::entries::put_root` meets its contract: its three numbers, and its path.
-use Rattle.listing_text.proofs.LineParts.{root-written}
-use Rattle.listing_text.proofs.entries.put_root.Goals as goal
-
-pub returns : goal.returns
-returns c = search root-written

@@ -1,6 +1,0 @@
--- `listing_text::lines::put_pair` meets its contract: three texts, one behind the other.
-use Rattle.text_buffer.proofs.Joining.{appends-three}
-use Rattle.listing_text.proofs.lines.put_pair.Goals as goal
-
-pub returns : goal.returns
-returns c = search appends-three

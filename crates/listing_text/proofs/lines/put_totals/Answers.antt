@@ -1,6 +1,0 @@
--- `listing_text::lines::put_totals` meets its contract: five texts, one behind the other.
-use Rattle.text_buffer.proofs.Joining.{appends-join}
-use Rattle.listing_text.proofs.lines.put_totals.Goals as goal
-
-pub returns : goal.returns
-returns c = appends-join c.push_text.ensures (appends-join c.push_field.ensures (appends-join c.push_text-2.ensures (appends-join c.push_field-2.ensures c.push.ensures)))

@@ -1,0 +1,147 @@
+-- What opening tells of an image, and that the free bytes and the used total fill the disc. Assumes nothing.
+use Rattle.std.specs.Prelude.{Result, Ok, Err}
+use Rattle.refusal.specs.Refusal.{Verdict}
+use Rattle.std.specs.Prelude.{ℕ, zero, suc, ◌+◌, ◌≤◌, ◌<◌, ◌≡◌, refl, true, false, not, List, length, take, drop}
+use Rattle.std.proofs.Common.{sym, ap, ◌∙◌, ⊎_elim, arith, add_assoc, length-take}
+use Rattle.std.proofs.lemmas.Bool.{not-false}
+use Rattle.std.proofs.Math.ListN.{get_or-eq_default}
+use Rattle.endian.specs.Bytes.{be32, span, AllBytes}
+use Rattle.endian.specs.Laws.Stored.{length-span, getD-span}
+use Rattle.refusal.specs.Laws.Tests.{lt-or-le}
+use Rattle.refusal.specs.declared.Refusal.TheVariants.{OverlappingRegions}
+use Rattle.refusal.specs.declared.Refusal.{Refusal}
+use Rattle.refusal.specs.Refusal.{first, is_refused}
+use Rattle.refusal.specs.Laws.Chains.{first-passed, first-stop, first-go, refuse-passed}
+use Rattle.header.specs.Verdicts.{headerVerdict, boundsVerdict, fstOffset, fstSize, discEnd, table_end}
+use Rattle.header.specs.Laws.FieldTests.{header-passed, Bounded, bounds-passed}
+use Rattle.tree.specs.Table.{count, check}
+use Rattle.tree.specs.Inner.Accepted.{Accepted}
+use Rattle.tree.proofs.Laws.Accepted.{accepted}
+use Rattle.space.specs.declared.region.DiscRegion.{DiscRegion}
+use Rattle.space.specs.Used.{totalSize}
+use Rattle.space.specs.Inner.Sort.{regionsIn, holds}
+use Rattle.space.specs.Layout.{disjointBelow}
+use Rattle.space.specs.Laws.TotalLaws.{freeBytes, total-used, used-and-free}
+use Rattle.space.specs.Laws.SortLaws.{same_total, same-regions}
+use Rattle.executable.specs.Program.{program_of, programVerdict}
+use Rattle.opened.specs.Opening.{table_of, behindTable, usedIn, usedOf, layoutVerdict, opening}
+use Rattle.opened.specs.Inner.Prepared.{verdictBefore24, UsedWords, Readable, OpenImage, OpensImage, IsOpen, Prepares}
+
+-- ---- chains
+
+pub first-assoc : (a b c : Verdict) → first (first a b) c ≡ first a (first b c)
+first-assoc (Ok _) b c = refl
+first-assoc (Err x) b c = refl
+
+-- the first two groups refused, or passed
+pub stopped : (v a b c : Verdict) → v ≡ first a b → is_refused v ≡ true → v ≡ first a (first b c)
+stopped v a b c e r = sym (first-stop v c r) ∙ ap (λ (u : Verdict). first u c) e ∙ first-assoc a b c
+
+pub went_on : (v a b c : Verdict) → v ≡ first a b → is_refused v ≡ false → c ≡ first a (first b c)
+went_on v a b c e r = sym (first-go v c r) ∙ ap (λ (u : Verdict). first u c) e ∙ first-assoc a b c
+
+-- ---- parts of an image
+
+pub span-bytes : (s : List ℕ) (at n : ℕ) → AllBytes s → AllBytes (span s at n)
+span-bytes s at n h i =
+    ⊎_elim (λ l. rw (getD-span s at n i l) (h (at + i)))
+    (λ l. rw (get_or-eq_default (take n (drop at s)) 0 {n = i} (omega (arith, length-take n (drop at s)))) (omega arith)) (lt-or-le i n)
+
+pub be32-span : (s : List ℕ) (at n i : ℕ) → i + 4 ≤ n → be32 (span s at n) i ≡ be32 s (at + i)
+unfolding be32
+be32-span s at n i h =
+    rw (
+      getD-span s at n i (omega arith),
+      getD-span s at n (i + 1) (omega arith),
+      getD-span s at n (i + 2) (omega arith),
+      getD-span s at n (i + 3) (omega arith),
+      add_assoc at i 1,
+      add_assoc at i 2,
+      add_assoc at i 3,
+    )
+
+-- ---- what the tests before 24 give
+
+pub readable : (image : List ℕ) (words : ℕ) → AllBytes image → verdictBefore24 image words ≡ Ok tt → Readable image words
+unfolding table_of count
+readable image words bytes e =
+    let p = first-passed (headerVerdict image) _ e in
+    let q = first-passed (boundsVerdict image) _ p.1 in
+    let b : Bounded image = bounds-passed image q.0 in
+    let l : length (span image (fstOffset image) (fstSize image)) ≡ fstSize image =
+    length-span image (fstOffset image) (fstSize image) (omega (arith, b.table, b.image_holds)) in
+    let t : Accepted (table_of image) words = accepted (table_of image) words (span-bytes image (fstOffset image) (fstSize image) bytes) q.1 in
+    record {
+      header = header-passed image p.0;
+      bounds = b;
+      size = l;
+      root = omega (arith, t.fits, l);
+      table = t;
+      next = sym (be32-span image (fstOffset image) (fstSize image) 8 (omega (arith, t.fits, t.root-next, l))) ∙ t.root-next;
+    }
+
+-- ---- the whole of opening
+
+-- opening is the tests before 24, then 24 and 14
+pub opening-split : (image : List ℕ) (words : ℕ) → opening image words ≡ first (verdictBefore24 image words) (layoutVerdict image)
+unfolding opening
+opening-split image words = go (headerVerdict image) (boundsVerdict image) (check (table_of image) words) (layoutVerdict image)
+  where
+    go : (a b c d : Verdict) → first a (first b (first c d)) ≡ first (first a (first b c)) d
+    go a b c d = sym (first-assoc a (first b c) d ∙ ap (first a) (first-assoc b c d))
+
+-- LAW: 24 comes before 14
+pub program-first : (image : List ℕ) (c : Refusal) → programVerdict (program_of image) ≡ Err c → layoutVerdict image ≡ Err c
+unfolding layoutVerdict
+program-first image c e = rw e
+
+pub opens : (image : List ℕ) (words : ℕ) → AllBytes image → opening image words ≡ Ok tt → OpenImage image words
+unfolding layoutVerdict
+opens image words bytes e =
+    let p = first-passed (verdictBefore24 image words) _ (sym (opening-split image words) ∙ e) in
+    let q = first-passed (programVerdict (program_of image)) _ p.1 in
+    record {
+      bytes = bytes;
+      passed = e;
+      reads = readable image words bytes p.0;
+      program = q.0;
+      layout = not-false (disjointBelow (discEnd image) (usedIn image)) (refuse-passed (not (disjointBelow (discEnd image) (usedIn image))) OverlappingRegions (Ok tt) q.1).0;
+    }
+
+-- "table end + file sizes + free bytes = disc end", and the program where it lies past the table, on every image that opens
+pub disc-filled : (image : List ℕ) (words : ℕ) → AllBytes image → opening image words ≡ Ok tt → usedOf image + freeBytes (discEnd image) (usedIn image) ≡ discEnd image
+unfolding usedOf usedIn
+disc-filled image words bytes e = used-and-free (table_end image) (discEnd image) (behindTable image) (opens image words bytes e).layout
+
+-- the table of an image that opens is accepted
+pub table-accepted : (image : List ℕ) (words : ℕ) → opening image words ≡ Ok tt → check (table_of image) words ≡ Ok tt
+unfolding opening
+table-accepted image words e =
+    (first-passed (check (table_of image) words) _ (first-passed (boundsVerdict image) _ (first-passed (headerVerdict image) _ e).1).1).0
+
+-- ---- once the image is open
+
+pub still-opens : (image w : List ℕ) (m : ℕ) → IsOpen image w m → OpensImage image
+still-opens image w m o = record { words = length w; known = o.known }
+
+module _ (image w : List ℕ) (p : Result ℕ Refusal) (h : Prepares image w p) where
+  pub was-ready : (m : ℕ) → p ≡ Ok m → IsOpen image w m
+  was-ready m e = rw e at h
+
+  pub was-refused : (c : Refusal) → p ≡ Err c → opening image (length w) ≡ Err c
+  was-refused c e = rw e at h
+
+-- what the words tell of the used regions
+module _ (image w : List ℕ) (m : ℕ) (used : UsedWords image w m) where
+  pub used-total : totalSize (regionsIn w 0 m) ≡ usedOf image
+  unfolding usedIn usedOf
+  used-total = same_total (regionsIn w 0 m) (usedIn image) used.sums ∙ total-used (table_end image) (behindTable image)
+
+  pub used-regions : (r : DiscRegion) → holds r (regionsIn w 0 m) ≡ holds r (usedIn image)
+  used-regions = same-regions (regionsIn w 0 m) (usedIn image) used.sums
+
+-- the words hold the table's region at least
+pub some-region : (image w : List ℕ) (m : ℕ) → IsOpen image w m → 0 < m
+unfolding usedOf regionsIn totalSize
+some-region image w zero o = absurd (omega (arith, used-total image w 0 o.used, o.known.reads.bounds.after-header))
+some-region image w (suc m) o = omega arith

@@ -1,0 +1,175 @@
+// A disc opened: contracts see the disc that it means, and no image.
+ghost use Rattle.std.specs.Prelude.{◌≡◌, ◌+◌, ◌<◌, ◌^◌, List, ℕ, length};
+ghost use Rattle.tree.specs.Table.{nodesOf};
+ghost use Rattle.table.specs.Inner.Reading.{Opens};
+ghost use Rattle.space.specs.Used.{totalSize};
+ghost use Rattle.space.specs.Free.{freeRegions};
+ghost use Rattle.space.specs.Inner.Sort.{SameSums, regionsIn};
+ghost use Rattle.space.specs.Inner.UsedSpace.{free_in};
+ghost use Rattle.space.specs.Inner.Words.{SortedDisjoint};
+ghost use Rattle.space.specs.MaxRegionSize.{maxRegionSize};
+ghost use Rattle.space.specs.Allocate.{allocationOf};
+ghost use Rattle.opened.specs.Inner.Prepared.{IsOpen};
+ghost use Rattle.opened.specs.Inner.Parts.{PartsOf};
+ghost use Rattle.opened.specs.Inner.Disc.{OpensAs, Means, TableOf, free_of};
+
+use crate::cut::parts_of;
+use crate::parts::Parts;
+use crate::whole::{check_program, check_table, check_used};
+use refusal::Refusal;
+use space::{DiscRegion, UsedRegions};
+use std::marker::Model;
+
+/// A disc that passed every test, with its used regions in order in the words that were lent.
+// Kept: no derived equality, which would compare all lent words, those behind the used regions too.
+#[derive(Drop)]
+pub struct OpenDisc<'a> {
+    /// The first 0x440 bytes of the image.
+    pub header: &'a [u8],
+    /// The file table's bytes.
+    pub table: &'a [u8],
+    /// The region of the program where it lies behind the table, of size 0 elsewhere.
+    // Kept: no `Option`, which is no plainer: the definitions have a region without bytes there too (`ownRegion`).
+    pub own: DiscRegion,
+    /// The lent words: first the used regions, an offset and a size each.
+    pub words: &'a [u32],
+    /// How many used regions there are.
+    pub used: usize,
+}
+
+impl<'a> Model for OpenDisc<'a> {
+    ghost use Rattle.std.specs.Prelude.{length};
+    ghost use Rattle.opened.specs.Inner.Disc.{Disc, disc_in};
+    ghost use Rattle.opened.specs.Inner.Backed.{Backed};
+
+    ghost Value = { Disc };
+
+    ghost view = { λ d. disc_in d.header.now d.table.now d.own (length d.words.now) };
+
+    ghost invariant = { λ d. Backed d.header.now d.table.now d.own d.words.now d.used };
+}
+
+// The image is passed for its name in the contract alone.
+fn open_shown<'a>(
+    _image: &[u8],
+    parts: Parts<'a>,
+    words: &'a mut [u32],
+) -> Result<OpenDisc<'a>, Refusal>
+    ghost shown: { List ℕ }
+    requires { (shown ≡ _image.now) × PartsOf shown parts }
+    ensures { OpensAs shown (length words.old) result }
+{
+    OpenDisc::open(parts, words)
+}
+
+impl<'a> OpenDisc<'a> {
+    /// Opens the image that has these parts, whichever it is, or says why not.
+    pub fn open(parts: Parts<'a>, words: &'a mut [u32]) -> Result<Self, Refusal>
+        ghost image: { List ℕ }
+        requires { PartsOf image parts }
+        ensures { OpensAs image (length words.old) result }
+    {
+        check_table(parts, words.len())?;
+        let own = check_program(parts)?;
+        let used = check_used(parts, words, own)?;
+        Ok(OpenDisc {
+            header: parts.header,
+            table: parts.table,
+            own,
+            words,
+            used,
+        })
+    }
+
+    /// Opens an image in memory, or says why not.
+    pub fn of_image(image: &'a [u8], words: &'a mut [u32]) -> Result<Self, Refusal>
+        ensures { OpensAs image.now (length words.old) result }
+    {
+        open_shown(image, parts_of(image), words)
+    }
+
+    /// The byte at which the disc ends.
+    pub fn end(&self) -> u32
+        ensures { result ≡ self.now.end }
+    {
+        header::disc_end(self.header) as u32
+    }
+
+    /// The byte at which its table starts.
+    pub fn start(&self) -> u32
+        ensures { result ≡ self.now.start }
+    {
+        header::fst_offset(self.header)
+    }
+
+    /// How many bytes its table has.
+    pub fn room(&self) -> u32
+        ensures { result ≡ self.now.room }
+    {
+        header::fst_size(self.header)
+    }
+
+    /// The stated maximum of the table's size in bytes, 0 where none is stated.
+    pub fn maximum(&self) -> u32
+        ensures { result ≡ self.now.maximum }
+    {
+        header::fst_max_size(self.header)
+    }
+
+    /// Its table, which opens.
+    pub fn table(&self) -> &'a [u8]
+        ensures bytes { result.now ≡ self.now.table }
+        ensures nodes { nodesOf result.now ≡ self.now.nodes }
+        ensures opens { Opens result.now }
+        ensures of_image { TableOf self.now result.now }
+        ensures fits { self.now.start + length result.now < 2 ^ 32 }
+    {
+        self.table
+    }
+
+    /// How many entries its table has, the root among them.
+    pub fn entries(&self) -> u32
+        ensures { result ≡ length self.now.nodes }
+    {
+        endian::read_u32(self.table, 8)
+    }
+
+    /// The words that hold its used regions in order, and how many these are.
+    pub fn used_words(&self) -> (&'a [u32], usize)
+        ensures open { (image : List ℕ) → Means image self.now → IsOpen image result.0.now result.1 }
+        ensures sorted { SortedDisjoint result.0.now result.1 self.now.end }
+        ensures free { freeRegions self.now.end (regionsIn result.0.now 0 result.1) ≡ free_of self.now }
+    {
+        (self.words, self.used)
+    }
+
+    /// Its used regions, and where it ends.
+    pub fn used_regions(&self) -> UsedRegions<'a>
+        ensures end { result.disc_end ≡ self.now.end }
+        ensures free { free_in result ≡ free_of self.now }
+        ensures same { SameSums result.regions self.now.used }
+    {
+        UsedRegions::new(self.words, self.used, self.end())
+    }
+
+    /// How many bytes are used.
+    pub fn used_size(&self) -> u32
+        ensures { result ≡ totalSize self.now.used }
+    {
+        self.used_regions().used_size()
+    }
+
+    /// What a region of `size` bytes at `offset` can grow to.
+    pub fn max_region_size(&self, offset: u32, size: u32) -> u32
+        ensures { result ≡ maxRegionSize offset size (free_of self.now) }
+    {
+        self.used_regions().max_region_size(offset, size)
+    }
+
+    /// The largest free place for `size` bytes at a multiple of `align`, the last among equals. Refuses 22, then 21.
+    pub fn allocate(&self, size: u32, align: u32) -> Result<DiscRegion, Refusal>
+        ensures { result ≡ allocationOf align size (free_of self.now) }
+    {
+        self.used_regions().allocate(size, align)
+    }
+}

@@ -1,0 +1,34 @@
+// What the calls on an image that opened share: their answers, and what is told of the disc and of a region.
+ghost use Rattle.std.specs.Prelude.{◌≡◌};
+ghost use Rattle.opened.specs.Inner.Told.{told_of};
+
+use crate::open_disc::OpenDisc;
+
+/// What opening tells of a disc: offsets and sizes in bytes.
+#[repr(C)]
+#[derive(Clone, Copy, PartialEq, Eq, Debug)]
+pub struct Disc {
+    /// The byte at which the file table starts.
+    pub fst_offset: u32,
+    /// How many bytes the table has.
+    pub fst_size: u32,
+    /// The byte at which the disc ends.
+    pub disc_end: u32,
+    /// How many entries the table has, the root among them.
+    pub entries: u32,
+    /// How many bytes are used.
+    pub used: u32,
+}
+
+/// What an open disc tells of itself.
+pub fn told(disc: &OpenDisc<'_>) -> Disc
+    ensures { result ≡ told_of disc.now }
+{
+    Disc {
+        fst_offset: disc.start(),
+        fst_size: disc.room(),
+        disc_end: disc.end(),
+        entries: disc.entries(),
+        used: disc.used_size(),
+    }
+}

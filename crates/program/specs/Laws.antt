@@ -1,3 +1,0 @@
--- What follows from the definitions.
-pub mod ProgramLaws
-pub mod Vectors

@@ -1,3 +1,0 @@
-pub mod Program
-pub mod Inner
-pub mod Laws

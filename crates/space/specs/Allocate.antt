@@ -1,0 +1,45 @@
+-- An allocation: each free region from its first multiple of the alignment on, left out if the padding reaches its size or the rest is below the
+-- wish; of the others the largest rest, the last among equals. 22 is tested before 21. Assumes nothing: these are definitions.
+use Rattle.refusal.specs.declared.Refusal.{Refusal}
+use Rattle.std.specs.Prelude.{ℕ, zero, suc, ◌-◌, ◌^◌, Bool, false, cond, ◌&&◌, ◌||◌, List, [], ◌∷◌, leb, ltb, eqb, Result, Ok, Err}
+use Rattle.refusal.specs.declared.Refusal.TheVariants.{NotEnoughSpace, InvalidAlignment}
+use Rattle.space.specs.declared.region.DiscRegion.{DiscRegion}
+use Rattle.space.specs.Used.{end_of}
+use Rattle.space.specs.Align.{align_up}
+
+-- what a free region has from its first multiple on
+abbrev pub rest : ℕ → DiscRegion → DiscRegion
+rest align r = record { offset = align_up align r.offset; size = end_of r - align_up align r.offset }
+
+-- the padding does not reach its size, and the rest is not below the wish
+abbrev pub fits : ℕ → ℕ → DiscRegion → Bool
+fits align wish r = ltb 0 (rest align r).size && leb wish (rest align r).size
+
+-- the better of the best so far and the rest of r; r among equals
+unfoldable pub betterOf : ℕ → ℕ → DiscRegion → DiscRegion → DiscRegion
+betterOf align wish best r = cond (fits align wish r && leb best.size (rest align r).size) (rest align r) best
+
+abbrev pub noRegion : DiscRegion
+noRegion = record { offset = 0; size = 0 }
+
+-- the largest rest, the last among equals; `best` is the best so far
+unfoldable pub largest : ℕ → ℕ → DiscRegion → List DiscRegion → DiscRegion
+largest align wish best [] = best
+largest align wish best (r ∷ rs) = largest align wish (betterOf align wish best r) rs
+
+-- x is one of the n powers of two from 2 ^ k on
+unfoldable pub powers : ℕ → ℕ → ℕ → Bool
+powers zero k x = false
+powers (suc n) k x = eqb (2 ^ k) x || powers n (suc k) x
+
+-- an alignment has 32 bits
+abbrev pub isPowerOfTwo : ℕ → Bool
+isPowerOfTwo x = powers 32 0 x
+
+-- a rest has a byte, so size 0 means that there is none
+abbrev pub foundOrRefused : DiscRegion → Result DiscRegion Refusal
+foundOrRefused b = cond (eqb b.size 0) (Err NotEnoughSpace) (Ok b)
+
+-- the answer of `allocate`, among the free regions rs
+unfoldable pub allocationOf : ℕ → ℕ → List DiscRegion → Result DiscRegion Refusal
+allocationOf align wish rs = cond (isPowerOfTwo align) (foundOrRefused (largest align wish noRegion rs)) (Err InvalidAlignment)

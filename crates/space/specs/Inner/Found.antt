@@ -1,0 +1,8 @@
+-- What an allocation found, as an option.
+-- Assumes nothing: these are definitions.
+use Rattle.std.specs.Prelude.{cond, eqb, Option, Some, None}
+use Rattle.space.specs.declared.region.DiscRegion.{DiscRegion}
+
+-- a region that was found has a byte, so size 0 means that there is none
+abbrev pub foundOrNone : DiscRegion → Option DiscRegion
+foundOrNone b = cond (eqb b.size 0) None (Some b)

@@ -1,0 +1,29 @@
+-- Free regions in a result list, some words for each: "result list short 9", "Result words past an answer stay". Nothing is written to a short list.
+-- Assumes nothing: these are definitions.
+use Rattle.refusal.specs.declared.Refusal.{Refusal}
+use Rattle.std.specs.Prelude.{ℕ, cond, List, [], ◌∷◌, ◌++◌, length, ltb, Result, Ok, Err}
+use Rattle.refusal.specs.declared.Refusal.TheVariants.{LimitOrMemory}
+use Rattle.endian.specs.Bytes.{put}
+use Rattle.space.specs.declared.region.DiscRegion.{DiscRegion}
+use Rattle.space.specs.Clusters.{bytesBefore, wholeClusters, exactRest}
+
+-- a region's offset and size
+abbrev pub regionRow : DiscRegion → List ℕ
+regionRow r = r.offset ∷ r.size ∷ []
+
+-- a region in clusters (document 02, Point 1): before, clusters, rest
+abbrev pub clusterRow : DiscRegion → List ℕ
+clusterRow r = bytesBefore r ∷ wholeClusters r ∷ exactRest r ∷ []
+
+-- the words of each region, one after the other
+unfoldable pub rows_of : (DiscRegion → List ℕ) → List DiscRegion → List ℕ
+rows_of row [] = []
+rows_of row (r ∷ rs) = row r ++ rows_of row rs
+
+-- how many regions are listed, in a list of n words
+abbrev pub listingOf : (DiscRegion → List ℕ) → List DiscRegion → ℕ → Result ℕ Refusal
+listingOf row rs n = cond (ltb n (length (rows_of row rs))) (Err LimitOrMemory) (Ok (length rs))
+
+-- the result list afterwards
+abbrev pub listAfter : (DiscRegion → List ℕ) → List DiscRegion → List ℕ → List ℕ
+listAfter row rs list = cond (ltb (length list) (length (rows_of row rs))) list (put list 0 (rows_of row rs))

@@ -1,0 +1,120 @@
+-- What the bytes of an accepted table say of its entries, the root among them. Assumes nothing.
+use Prim.Native.Nat.{ℕ, zero, suc, ◌+◌, ◌-◌, ◌*◌, ◌^◌, ◌<◌, ◌≤◌}
+use mathlib.Core.Path.{◌≡◌, refl, sym, ap, ◌∙◌}
+use mathlib.Core.Bool.{Bool, true, false, not}
+use mathlib.Core.List.{List, []}
+use native.Mathlib.Omega.{arith}
+use borrow.Author.Tests.{le-ltb, lt-ltb, ltb-false, eqb-true, eqb-false}
+use lib.ListN.{length, get_or}
+use lib.Dec.{ltb, eqb}
+use Rattle.endian.specs.Bytes.{AllBytes}
+use Rattle.refusal.specs.declared.Refusal.TheVariants.{EntryPastTable, UnrecognizedKind, RootIsNotDirectory, LimitOrMemory}
+use Rattle.refusal.specs.Laws.Chains.{refuse-passed, first-passed}
+use Rattle.tree.specs.Table.{Node, file, directory, name_of, none, count, kind, nameOffset, offsetOrParent, sizeOrNext, name_at, nodesOf, entriesVerdict, check, encloses, parentBelow, parent_of}
+use Rattle.tree.specs.Lookup.{isDirectory, next_of}
+use Rattle.tree.specs.Inner.Accepted.{Accepted}
+use Rattle.tree.proofs.Laws.Accepted.{accepted, length-nodesOf, getD-nodesOf}
+use Rattle.tree.proofs.Laws.WellNested.{root_is}
+use Rattle.tree.proofs.Laws.Nesting.{parent-here, parent-lower, parent-before}
+use Rattle.table.specs.Inner.Reading.{Inside, Opens}
+use Rattle.table.specs.Inner.Texts.{textAt}
+use Rattle.table.specs.Inner.Fields.{last_of}
+use Rattle.table.specs.Inner.Held.{Held}
+use Rattle.table.proofs.Walking.{node-file, node-directory, node-name, entries-inside, count-some}
+
+pub opened : (tab : List ℕ) → AllBytes tab → (o : Opens tab) → Accepted tab o.words
+opened tab bytes o = accepted tab o.words bytes o.passed
+
+-- its entries stand in the table
+pub opens-inside : (tab : List ℕ) → Opens tab → Inside tab (count tab)
+unfolding check
+opens-inside tab o =
+    let e₁ = refuse-passed (ltb (length tab) 12) EntryPastTable _ o.passed in
+    let e₂ = refuse-passed (ltb 1 (kind tab 0)) UnrecognizedKind _ e₁.1 in
+    let e₃ = refuse-passed (eqb (kind tab 0) 0) RootIsNotDirectory _ e₂.1 in
+    let e₄ = refuse-passed (ltb 16384 (count tab)) LimitOrMemory _ e₃.1 in
+    let e₅ = first-passed (entriesVerdict tab 1 (count tab - 1)) _ e₄.1 in
+    entries-inside tab (count tab) (ltb-false _ _ e₁.0) (count-some tab) (ltb-false _ _ e₄.0) e₅.0
+
+module _ {tab : List ℕ} {words : ℕ} (a : Accepted tab words) (k : ℕ) (inside : k < count tab) where
+  pub file-is : kind tab k ≡ 0 → get_or (nodesOf tab) k none ≡ file (name_at tab (count tab) (nameOffset tab k)) (offsetOrParent tab k) (sizeOrNext tab k)
+  file-is e = go k refl
+    where
+      go : (j : ℕ) → k ≡ j → get_or (nodesOf tab) k none ≡ file (name_at tab (count tab) (nameOffset tab k)) (offsetOrParent tab k) (sizeOrNext tab k)
+      go zero z = let r : kind tab 0 ≡ 0 = rw z at e in absurd (omega (arith, a.root-kind))
+      go (suc j) z = getD-nodesOf tab k (omega arith) inside ∙ node-file tab (count tab) k e
+
+  pub directory-is : (kind tab k ≡ 0 → ⊥) → get_or (nodesOf tab) k none ≡ directory (name_of (get_or (nodesOf tab) k none)) (sizeOrNext tab k)
+  directory-is e = go k refl
+    where
+      go : (j : ℕ) → k ≡ j → get_or (nodesOf tab) k none ≡ directory (name_of (get_or (nodesOf tab) k none)) (sizeOrNext tab k)
+      go zero z = rw (z, root_is (nodesOf tab) a.well, a.root-next, length-nodesOf tab)
+      go (suc j) z = let h : get_or (nodesOf tab) k none ≡ directory (name_at tab (count tab) (nameOffset tab k)) (sizeOrNext tab k) = getD-nodesOf tab k (omega arith) inside ∙ node-directory tab (count tab) k e in rw h
+
+  pub is-directory : not (eqb (kind tab k) 0) ≡ isDirectory (get_or (nodesOf tab) k none)
+  is-directory = go (eqb (kind tab k) 0) refl
+    where
+      go : (t : Bool) → eqb (kind tab k) 0 ≡ t → not t ≡ isDirectory (get_or (nodesOf tab) k none)
+      go true e = rw (file-is (eqb-true _ _ e))
+      go false e = rw (directory-is (eqb-false _ _ e))
+
+-- the last field is that of the record
+pub last-is : {tab : List ℕ} {words : ℕ} → Accepted tab words → (k : ℕ) → k < count tab → {n : ℕ} → n ≡ sizeOrNext tab k → n ≡ last_of (get_or (nodesOf tab) k none)
+last-is {tab} a k h {n} e = go (eqb (kind tab k) 0) refl
+  where
+    go : (t : Bool) → eqb (kind tab k) 0 ≡ t → n ≡ last_of (get_or (nodesOf tab) k none)
+    go true q = e ∙ sym (ap last_of (file-is a k h (eqb-true _ _ q)))
+    go false q = e ∙ sym (ap last_of (directory-is a k h (eqb-false _ _ q)))
+
+-- an entry is inside a directory exactly if it is below its next
+pub encloses-next : (x : Node) (k : ℕ) → encloses x k ≡ ltb k (next_of x)
+encloses-next (file nm offset size) k = sym (le-ltb k 0 (omega arith))
+encloses-next (directory nm next) k = refl
+
+-- ---- the parent, looked for from the entry down
+
+module _ (nodes : List Node) (k i : ℕ) (h : 0 < i) where
+  before : i ≡ suc (i - 1)
+  before = omega arith
+
+  pub parent-found : k < next_of (get_or nodes (i - 1) none) → parentBelow nodes k i ≡ i - 1
+  parent-found l =
+      let e : encloses (get_or nodes (i - 1) none) k ≡ true = encloses-next (get_or nodes (i - 1) none) k ∙ lt-ltb _ _ l in
+      ap (parentBelow nodes k) before ∙ parent-here nodes k (i - 1) e
+
+  pub parent-on : next_of (get_or nodes (i - 1) none) ≤ k → parentBelow nodes k i ≡ parentBelow nodes k (i - 1)
+  parent-on l =
+      let e : encloses (get_or nodes (i - 1) none) k ≡ false = encloses-next (get_or nodes (i - 1) none) k ∙ le-ltb _ _ l in
+      ap (parentBelow nodes k) before ∙ parent-lower nodes k (i - 1) e
+
+pub parent-whole : (nodes : List Node) (k : ℕ) → parent_of nodes k ≡ parentBelow nodes k k
+unfolding parent_of
+parent-whole nodes k = refl
+
+pub parent-none : (nodes : List Node) (k i : ℕ) → i ≡ 0 → parentBelow nodes k i ≡ 0
+unfolding parentBelow
+parent-none nodes k i e = rw e
+
+pub parent-at-most : (nodes : List Node) (k : ℕ) → parent_of nodes k ≤ k
+unfolding parent_of parentBelow
+parent-at-most nodes zero = omega arith
+parent-at-most nodes (suc k) = omega (arith, parent-before nodes (suc k) (omega arith))
+
+-- the name of an entry past the root
+pub name-is : (tab : List ℕ) (k : ℕ) → 0 < k → k < count tab → name_of (get_or (nodesOf tab) k none) ≡ textAt tab (12 * count tab + nameOffset tab k)
+unfolding name_at
+name-is tab k h l = ap name_of (getD-nodesOf tab k h l) ∙ node-name tab (count tab) k
+
+-- no name is longer than the texts may be; the root has none
+pub name-short : {tab : List ℕ} {words : ℕ} → Accepted tab words → (k : ℕ) → 0 < k → k < count tab → length (name_of (get_or (nodesOf tab) k none)) ≤ 2 ^ 20
+name-short {tab} a k h l =
+    let e : name_of (get_or (nodesOf tab) k none) ≡ name_at tab (count tab) (nameOffset tab k) = ap name_of (getD-nodesOf tab k h l) ∙ node-name tab (count tab) k in
+    rw e (omega (arith, a.names k h l, a.texts))
+
+pub root-name : (tab : List ℕ) (k : ℕ) → k ≡ 0 → name_of (get_or (nodesOf tab) k none) ≡ []
+unfolding nodesOf
+root-name tab k e = rw e
+
+-- a table that is held is accepted
+pub held : {tab : List ℕ} → (h : Held tab) → Accepted tab h.opens.words
+held {tab} h = opened tab h.bytes h.opens

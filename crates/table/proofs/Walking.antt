@@ -1,0 +1,143 @@
+-- One turn of each loop that looks for the first refusal, and the open directories kept in words. Assumes nothing.
+use Rattle.std.specs.Prelude.{Ok}
+use Rattle.refusal.specs.Refusal.{Verdict}
+use Prim.Native.Nat.{ℕ, zero, suc, ◌+◌, ◌-◌, ◌*◌, ◌<◌, ◌≤◌}
+use mathlib.Core.Path.{◌≡◌, refl, sym, ap, ◌∙◌}
+use mathlib.Core.Bool.{true, false}
+use mathlib.Core.List.{List, [], ◌∷◌}
+use native.Mathlib.Omega.{arith}
+use native.Mathlib.Numerals.{add-one}
+use borrow.Author.Tests.{ltb-false, le-leb, lt-leb}
+use lib.ListN.{length, get_or, set, drop}
+use lib.Seq.{get_or-set_same, get_or-set_other}
+use lib.Dec.{leb, ltb}
+use Rattle.refusal.specs.declared.Refusal.TheVariants.{EntryPastTable, UnrecognizedKind, InvalidNextIndex, LimitOrMemory}
+use Rattle.refusal.specs.Refusal.{refuse, is_refused}
+use Rattle.refusal.specs.Laws.Chains.{refuse-passed, first-passed}
+use Rattle.tree.specs.Table.{file, directory, name_of, count, kind, nameOffset, offsetOrParent, sizeOrNext, name_at, nodeWith, nodeAt, nodesFrom, entryVerdict, entriesVerdict, top, shut, enter, nextVerdict, walk}
+use Rattle.tree.proofs.Laws.Steps.{walkEntry, walk-stop, walk-go, walk_end}
+use Rattle.table.specs.Inner.Reading.{Inside, open_in, nodeVerdict}
+
+-- entries that pass stand in the table
+entries-held : (tab : List ℕ) (k n : ℕ) → entriesVerdict tab k (suc n) ≡ Ok tt → 12 * (k + suc n) ≤ length tab
+unfolding entriesVerdict entryVerdict
+entries-held tab k zero e =
+    let e₁ = first-passed (entryVerdict tab k) (entriesVerdict tab (suc k) zero) e in
+    let e₂ = refuse-passed (ltb (length tab) (12 * k + 12)) EntryPastTable (refuse (ltb 1 (kind tab k)) UnrecognizedKind (Ok tt)) e₁.0 in
+    omega (arith, ltb-false (length tab) (12 * k + 12) e₂.0)
+entries-held tab k (suc n) e =
+    let e₁ = first-passed (entryVerdict tab k) (entriesVerdict tab (suc k) (suc n)) e in
+    omega (arith, entries-held tab (suc k) n e₁.1)
+
+pub entries-inside : (tab : List ℕ) (c : ℕ) → 12 ≤ length tab → 1 ≤ c → c ≤ 16384 → entriesVerdict tab 1 (c - 1) ≡ Ok tt → Inside tab c
+entries-inside tab zero h l s e = elim l [ ]
+entries-inside tab (suc zero) h l s e = record { held = h; some = l; small = s }
+entries-inside tab (suc (suc n)) h l s e =
+    let m : suc (suc n) - 1 ≡ suc n = omega arith in
+    record { held = omega (arith, entries-held tab 1 n (rw m at e)); some = l; small = s }
+
+pub count-some : (tab : List ℕ) → 1 ≤ count tab
+unfolding count
+count-some tab = omega arith
+
+-- ---- an entry by its kind
+
+pub node-file : (tab : List ℕ) (c k : ℕ) → kind tab k ≡ 0 → nodeAt tab c k ≡ file (name_at tab c (nameOffset tab k)) (offsetOrParent tab k) (sizeOrNext tab k)
+unfolding nodeAt
+node-file tab c k h = rw h
+
+with-directory : (n : ℕ) (nm : List ℕ) (a b : ℕ) → (n ≡ 0 → ⊥) → nodeWith n nm a b ≡ directory nm b
+with-directory zero nm a b h = absurd (h refl)
+with-directory (suc n) nm a b h = refl
+
+pub node-directory : (tab : List ℕ) (c k : ℕ) → (kind tab k ≡ 0 → ⊥) → nodeAt tab c k ≡ directory (name_at tab c (nameOffset tab k)) (sizeOrNext tab k)
+unfolding nodeAt
+node-directory tab c k h = with-directory (kind tab k) _ _ _ h
+
+with-name : (n : ℕ) (nm : List ℕ) (a b : ℕ) → name_of (nodeWith n nm a b) ≡ nm
+with-name zero nm a b = refl
+with-name (suc n) nm a b = refl
+
+pub node-name : (tab : List ℕ) (c k : ℕ) → name_of (nodeAt tab c k) ≡ name_at tab c (nameOffset tab k)
+unfolding nodeAt
+node-name tab c k = with-name (kind tab k) _ _ _
+
+-- ---- the open directories in words
+
+pub length-open : (words : List ℕ) (d : ℕ) → length (open_in words d) ≡ d
+unfolding open_in
+length-open words zero = refl
+length-open words (suc d) = ap suc (length-open words d)
+
+pub open-some : (words : List ℕ) (d : ℕ) → (d ≡ 0 → ⊥) → open_in words d ≡ get_or words (d - 1) 0 ∷ open_in words (d - 1)
+unfolding open_in
+open-some words zero h = absurd (h refl)
+open-some words (suc d) h = let m : suc d - 1 ≡ d = omega arith in rw m
+
+pub open_none : (words : List ℕ) (d : ℕ) → d ≡ 0 → open_in words d ≡ []
+unfolding open_in
+open_none words d h = rw h
+
+-- none is shut where the innermost goes on, and the innermost is where it ends
+pub shut-keep : (dirs : List ℕ) (k : ℕ) → k < top dirs → shut k dirs ≡ dirs
+unfolding shut
+shut-keep [] k h = refl
+shut-keep (n ∷ dirs) k h = rw (lt-leb n k h)
+
+pub shut-drop : (dirs : List ℕ) (k : ℕ) → top dirs ≤ k → shut k dirs ≡ shut k (drop 1 dirs)
+unfolding shut
+shut-drop [] k h = refl
+shut-drop (n ∷ dirs) k h = rw (le-leb n k h)
+
+pub shut_none : (dirs : List ℕ) (k : ℕ) → length dirs ≡ 0 → shut k dirs ≡ dirs
+unfolding shut
+shut_none [] k h = refl
+shut_none (n ∷ dirs) k h = absurd (omega arith)
+
+open-frame : (words : List ℕ) (i v d : ℕ) → d ≤ i → open_in (set words i v) d ≡ open_in words d
+unfolding open_in
+open-frame words i v zero h = refl
+open-frame words i v (suc d) h = rw (get_or-set_other words i d v 0 (λ e. omega arith), open-frame words i v d (omega arith))
+
+pub open-enter : (words : List ℕ) (d v : ℕ) → d < length words → open_in (set words d v) (d + 1) ≡ v ∷ open_in words d
+unfolding open_in
+open-enter words d v h = rw (add-one d, get_or-set_same words d v 0 h, open-frame words d v d (omega arith))
+
+-- a directory that passes is at most 64 deep
+pub next-depth : (c : ℕ) (dirs : List ℕ) (k : ℕ) (nm : List ℕ) (next : ℕ) → nextVerdict c dirs k (directory nm next) ≡ Ok tt → length dirs ≤ 64
+unfolding nextVerdict
+next-depth c dirs k nm next e =
+    let d = refuse (ltb 64 (length dirs)) LimitOrMemory (Ok tt) in
+    let t = refuse (ltb (top dirs) next) InvalidNextIndex d in
+    let e₁ = refuse-passed (leb next k) InvalidNextIndex (refuse (ltb c next) InvalidNextIndex t) e in
+    let e₂ = refuse-passed (ltb c next) InvalidNextIndex t e₁.1 in
+    let e₃ = refuse-passed (ltb (top dirs) next) InvalidNextIndex d e₂.1 in
+    ltb-false 64 (length dirs) (refuse-passed (ltb 64 (length dirs)) LimitOrMemory (Ok tt) e₃.1).0
+
+-- so there is room for its next
+pub enter-room : (tab : List ℕ) (c k : ℕ) (dirs : List ℕ) → (kind tab k ≡ 0 → ⊥) → nextVerdict c dirs k (nodeAt tab c k) ≡ Ok tt → length dirs ≤ 64
+enter-room tab c k dirs h e =
+    next-depth c dirs k (name_at tab c (nameOffset tab k)) (sizeOrNext tab k) (rw (node-directory tab c k h) at e)
+
+-- ---- the walk's loop
+
+-- what is left of the walk at entry k has the answer of the whole
+pub record Walked (tab : List ℕ) (c : ℕ) (dirs : List ℕ) (k : ℕ) : Type 0 where
+  pub from : 1 ≤ k
+  pub left : walk tab c (c ∷ []) 1 (nodesFrom tab c 1 (c - 1)) ≡ walk tab c dirs k (nodesFrom tab c k (c - k))
+
+pub walked_start : (tab : List ℕ) (c : ℕ) → Walked tab c (c ∷ []) 1
+walked_start tab c = record { from = omega arith; left = refl }
+
+module _ {tab : List ℕ} {c : ℕ} {dirs : List ℕ} {k : ℕ} (w : Walked tab c dirs k) (around : List ℕ) (shuts : around ≡ shut k dirs) (v : Verdict) (test : v ≡ nodeVerdict tab c around k) (more : k < c) where
+  same : v ≡ walkEntry tab c dirs k (nodeAt tab c k)
+  same = test ∙ rw (shuts, node-name tab c k)
+
+  pub walked_stop : is_refused v ≡ true → v ≡ walk tab c (c ∷ []) 1 (nodesFrom tab c 1 (c - 1))
+  walked_stop r = sym (w.left ∙ walk-stop tab c dirs k c v more same r)
+
+  pub walked-turn : is_refused v ≡ false → (next : List ℕ) → next ≡ enter around (nodeAt tab c k) → Walked tab c next (k + 1)
+  walked-turn r next e = record { from = omega arith; left = w.left ∙ walk-go tab c dirs k c v more same r ∙ rw (e, shuts) }
+
+pub walked_end : (tab : List ℕ) (c : ℕ) (dirs : List ℕ) (k : ℕ) → Walked tab c dirs k → c ≤ k → Ok tt ≡ walk tab c (c ∷ []) 1 (nodesFrom tab c 1 (c - 1))
+walked_end tab c dirs k w h = sym (w.left ∙ walk_end tab c dirs k c h)

@@ -1,0 +1,11 @@
+-- What is known of the bytes of an accepted table that is held as a value. Assumes nothing: this is a definition.
+use Rattle.std.specs.Prelude.{ℕ, List}
+use Rattle.endian.specs.Bytes.{AllBytes}
+use Rattle.tree.specs.Table.{count}
+use Rattle.table.specs.Inner.Reading.{Inside, Opens}
+
+-- it is accepted, so that its entries stand in it
+pub record Held (tab : List ℕ) : Type 0 where
+  pub bytes : AllBytes tab
+  pub opens : Opens tab
+  pub inside : Inside tab (count tab)

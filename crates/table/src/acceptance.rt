@@ -1,0 +1,228 @@
+// Whether a table is accepted: its root, then each entry's place and kind, then the limits, and then a walk over the names and over what nests in
+// what.
+ghost use Rattle.std.specs.Prelude.{◌≡◌, [], ◌∷◌, ◌-◌, ◌*◌, ◌≤◌, ◌<◌, length};
+ghost use Rattle.tree.specs.Table as table_of;
+ghost use Rattle.tree.specs.Table.{nameOffset, name_at, nodeAt, nodesFrom, entryVerdict, entriesVerdict, nameVerdict, nextVerdict};
+ghost use Rattle.table.specs.Inner.Reading.{Inside, nodeVerdict, textsVerdict, textVerdict};
+ghost use Rattle.table.specs.Inner.Texts.{textAt};
+ghost use Rattle.table.specs.Inner.Blocks.{Fit};
+
+use crate::marks::Survey;
+use crate::stack::Stack;
+use crate::{names, text};
+use refusal::{Refusal, Verdict};
+
+/// The count of entries: the root's "next", where a count of 0 reads the root only.
+pub fn count(table: &[u8]) -> usize
+    requires { 12 ≤ length table.now }
+    ensures { result ≡ table_of.count table.now }
+{
+    (endian::read_u32(table, 8) as usize).max(1)
+}
+
+// Entry k: past the table, or of an unknown kind.
+fn entry_verdict(table: &[u8], k: usize) -> Verdict
+    requires { k ≤ 16384 }
+    ensures { result ≡ entryVerdict table.now k }
+{
+    if table.len() < 12 * k + 12 {
+        return Err(Refusal::EntryPastTable);
+    }
+    if 1 < table[12 * k] {
+        return Err(Refusal::UnrecognizedKind);
+    }
+    Ok(())
+}
+
+// Each entry after the root in turn.
+// Kept: the loop goes over the entries' numbers, which place their records in the bytes; `chunks_exact` would hide the entry that is cut off.
+fn entries_verdict(table: &[u8], count: usize) -> Verdict
+    requires root { 1 ≤ count }
+    requires few { count ≤ 16384 }
+    ensures { result ≡ entriesVerdict table.now 1 (count - 1) }
+{
+    for k in 1..count {
+        entry_verdict(table, k)?;
+    }
+    Ok(())
+}
+
+// The units of the name at `at`: first whether each is a name's, then whether each is safe.
+#[cold]
+fn units_verdict(table: &[u8], at: usize) -> Verdict
+    ensures { result ≡ textVerdict (textAt table.now at) }
+{
+    let name = text::text_at(table, at);
+    if !names::is_plain(name) {
+        return Err(Refusal::InvalidNameByte);
+    }
+    if !names::is_safe(name) {
+        return Err(Refusal::UnsafeName);
+    }
+    Ok(())
+}
+
+// The same where the text is fit: the first bytes decide.
+fn clean_verdict(table: &[u8], at: usize) -> Verdict
+    requires { Fit table.now at }
+    ensures { result ≡ textVerdict (textAt table.now at) }
+{
+    if text::is_nameless_at(table, at) {
+        return Err(Refusal::UnsafeName);
+    }
+    Ok(())
+}
+
+// Shuts the directories that end at entry k or before it.
+// Kept: `while`, which counts no index; an iterator that takes off what it gives would also take off the directory that stays open.
+fn shut(dirs: &mut Stack, k: usize)
+    ensures { dirs.new ≡ table_of.shut k dirs.old }
+{
+    while !dirs.is_empty() {
+        if k < dirs.top() as usize {
+            return;
+        }
+        dirs.pop();
+    }
+}
+
+// A table in which `count` entries stand.
+#[derive(Drop)]
+struct Entries<'a> {
+    table: &'a [u8],
+    count: usize,
+    ghost inside: { Inside table.now count },
+}
+
+impl<'a> Entries<'a> {
+    // The name of entry k: its offset, whether its units are a name's, whether they are safe. Where its text is fit, it is not looked at unit by
+    // unit. Elsewhere only a name that is refused, and so ends the walk, is looked at to its end.
+    fn name_verdict(&self, texts: &mut Survey<'_>, k: usize) -> Verdict
+        requires within { k < self.now.count }
+        requires same_table { texts.old.table ≡ self.now.table.now }
+        requires behind_entries { texts.old.base ≡ 12 * self.now.count }
+        ensures verdict { result ≡ nameVerdict self.now.table.now self.now.count k (name_at self.now.table.now self.now.count (nameOffset self.now.table.now k)) }
+        ensures same { texts.new ≡ texts.old }
+    {
+        let offset = endian::read_u24(self.table, 12 * k + 1) as usize;
+        if self.table.len() - 12 * self.count <= offset {
+            return Err(Refusal::InvalidNameOffset);
+        }
+        let at = 12 * self.count + offset;
+        if texts.is_fit(at) {
+            return clean_verdict(self.table, at);
+        }
+        units_verdict(self.table, at)
+    }
+
+    // The next of entry k, if it is a directory, and then its depth.
+    fn next_verdict(&self, dirs: &Stack, k: usize) -> Verdict
+        requires { k < self.now.count }
+        ensures { result ≡ nextVerdict self.now.count dirs.now k (nodeAt self.now.table.now self.now.count k) }
+    {
+        if self.table[12 * k] == 0 {
+            return Ok(());
+        }
+        let next = endian::read_u32(self.table, 12 * k + 8) as usize;
+        if next <= k {
+            return Err(Refusal::InvalidNextIndex);
+        }
+        if self.count < next {
+            return Err(Refusal::InvalidNextIndex);
+        }
+        if (dirs.top() as usize) < next {
+            return Err(Refusal::InvalidNextIndex);
+        }
+        if 64 < dirs.len() {
+            return Err(Refusal::LimitOrMemory);
+        }
+        Ok(())
+    }
+
+    // Entry k of the walk: its name, then its next.
+    fn node_verdict(&self, texts: &mut Survey<'_>, dirs: &Stack, k: usize) -> Verdict
+        requires within { k < self.now.count }
+        requires same_table { texts.old.table ≡ self.now.table.now }
+        requires behind_entries { texts.old.base ≡ 12 * self.now.count }
+        ensures verdict { result ≡ nodeVerdict self.now.table.now self.now.count dirs.now k }
+        ensures same { texts.new ≡ texts.old }
+    {
+        self.name_verdict(texts, k)?;
+        self.next_verdict(dirs, k)
+    }
+
+    // Opens entry k, if it is a directory.
+    fn enter(&self, dirs: &mut Stack, k: usize)
+        requires within { k < self.now.count }
+        requires passed { nextVerdict self.now.count dirs.old k (nodeAt self.now.table.now self.now.count k) ≡ (Ok tt) }
+        ensures { dirs.new ≡ table_of.enter dirs.old (nodeAt self.now.table.now self.now.count k) }
+    {
+        if self.table[12 * k] != 0 {
+            dirs.push(endian::read_u32(self.table, 12 * k + 8));
+        }
+    }
+
+    // The walk over the entries after the root.
+    // Kept: the number of an entry is what the directories that end are told by, and what its record is read at.
+    fn walk(&self) -> Verdict
+        ensures { result ≡ table_of.walk self.now.table.now self.now.count (self.now.count ∷ []) 1 (nodesFrom self.now.table.now self.now.count 1 (self.now.count - 1)) }
+    {
+        let mut texts = Survey::new(self.table, 12 * self.count);
+        let mut dirs = Stack::new();
+        dirs.push(self.count as u32);
+        for k in 1..self.count {
+            shut(&mut dirs, k);
+            self.node_verdict(&mut texts, &dirs, k)?;
+            self.enter(&mut dirs, k);
+        }
+        Ok(())
+    }
+
+    // Whether texts stand after the entries, and the last has no zero byte at its end.
+    // Kept: it answers a question that the one test asks; the refusal stands there, in the order of the tests.
+    fn unended(&self) -> bool
+        ensures { result ≡ table_of.unended self.now.table.now self.now.count }
+    {
+        12 * self.count < self.table.len() && self.table[self.table.len() - 1] != 0
+    }
+
+    // The tests after those of the entries.
+    fn texts_verdict(&self, words: usize) -> Verdict
+        ensures { result ≡ textsVerdict self.now.table.now self.now.count words }
+    {
+        if self.unended() {
+            return Err(Refusal::MissingNullTerminator);
+        }
+        if 1048576 < self.table.len() - 12 * self.count {
+            return Err(Refusal::LimitOrMemory);
+        }
+        if words < 4 * (self.count + 2) {
+            return Err(Refusal::LimitOrMemory);
+        }
+        if endian::read_u32(self.table, 8) == 0 {
+            return Err(Refusal::InvalidNextIndex);
+        }
+        self.walk()
+    }
+}
+
+/// Whether a table is accepted where so many working words are lent. No word is written: the walk needs none.
+pub fn check(table: &[u8], words: usize) -> Verdict
+    ensures { result ≡ table_of.check table.now words }
+{
+    if table.len() < 12 {
+        return Err(Refusal::EntryPastTable);
+    }
+    if 1 < table[0] {
+        return Err(Refusal::UnrecognizedKind);
+    }
+    if table[0] == 0 {
+        return Err(Refusal::RootIsNotDirectory);
+    }
+    let count = count(table);
+    if 16384 < count {
+        return Err(Refusal::LimitOrMemory);
+    }
+    entries_verdict(table, count)?;
+    Entries { table, count }.texts_verdict(words)
+}

@@ -1,0 +1,75 @@
+// The entries of a directory, by name.
+ghost use Rattle.std.specs.Prelude.{ℕ, ◌≡◌, false, ◌≤◌, ◌<◌, length, Some};
+ghost use Rattle.endian.specs.Bytes.{sameBytes};
+ghost use Rattle.tree.specs.Table as table_of;
+ghost use Rattle.tree.specs.Table.{nodesOf};
+ghost use Rattle.tree.specs.Lookup.{childOf};
+ghost use Rattle.table.specs.Inner.Texts.{textAt};
+ghost use Rattle.table.specs.Inner.After.{after_of};
+ghost use Rattle.table.specs.Inner.Zeros.{hasZero};
+
+use crate::entries::Table;
+use crate::name;
+use refusal::Refusal;
+
+// Whether the text at `place` has the bytes of `name`. The text at `differs`, if there is one, has not, and is not compared again, since
+// entries can share a long text.
+fn has_name(table: &[u8], place: usize, differs: Option<usize>, name: &[u8]) -> bool
+    requires inside { place ≤ length table.now }
+    requires no_zero { hasZero name.now ≡ false }
+    requires unlike { (at : ℕ) → differs ≡ Some at → sameBytes (textAt table.now at) name.now ≡ false }
+    ensures { result ≡ sameBytes (textAt table.now place) name.now }
+{
+    differs != Some(place) && name::text_is(table, place, name)
+}
+
+impl<'a> Table<'a> {
+    // The entry after `k` and all that is in it.
+    fn after(&self, k: usize) -> usize
+        requires { k < table_of.count self.now }
+        ensures { result ≡ after_of (nodesOf self.now) k }
+    {
+        let _ = &self.bytes;
+        if self.is_directory(k) {
+            self.next(k)
+        } else {
+            k + 1
+        }
+    }
+
+    // The first child of directory d with that name, which has no zero byte. A subdirectory is stepped over by its next. Of each 65,536 bytes of
+    // texts the last text that differs is kept: only one that starts there can be longer than that.
+    // Kept: `while`, which counts no index: it goes from child to child; `successors` would have the same step, and the same stop, as closures.
+    fn child_named(&self, d: usize, name: &[u8]) -> Result<u32, Refusal>
+        requires within { d < table_of.count self.now }
+        requires no_zero { hasZero name.now ≡ false }
+        ensures { result ≡ childOf (nodesOf self.now) d name.now }
+    {
+        let table = self.bytes;
+        let stop = self.next(d);
+        // Kept: nothing allocates, so that there is a place for each of the 32 pieces that texts can have.
+        let mut differs = [None; 32];
+        let mut k = d + 1;
+        while k < stop {
+            let place = self.name_place(k);
+            let slot = place / 65536 % 32;
+            if has_name(table, place, differs[slot], name) {
+                return Ok(k as u32);
+            }
+            differs[slot] = Some(place);
+            k = self.after(k);
+        }
+        Err(Refusal::NotFound)
+    }
+
+    /// The first child of directory `d` with that name; `NotFound` where there is none.
+    pub fn child(&self, d: usize, name: &[u8]) -> Result<u32, Refusal>
+        requires { d < table_of.count self.now }
+        ensures { result ≡ childOf (nodesOf self.now) d name.now }
+    {
+        if name.contains(&0) {
+            return Err(Refusal::NotFound);
+        }
+        self.child_named(d, name)
+    }
+}

@@ -1,0 +1,24 @@
+// A file table as it is read: its texts, whether it is accepted, and its entries by number, by name, by path and all at once.
+#![tactic(auto)]
+
+mod acceptance;
+mod children;
+mod components;
+mod entries;
+mod marks;
+mod name;
+mod names;
+mod passing;
+mod path;
+mod rows;
+mod stack;
+mod text;
+mod units;
+
+pub use acceptance::check;
+pub use components::Components;
+pub use entries::Table;
+pub use name::text_length;
+pub use names::{is_plain, is_safe};
+pub use path::{find, goes_back, stays};
+pub use rows::list_entries;

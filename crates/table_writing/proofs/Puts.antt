@@ -1,0 +1,105 @@
+-- Bytes put one part after another are put at once, and two parts that are apart are put in either order.
+-- Assumes nothing.
+use Prim.Native.Nat.{ℕ, ◌+◌, ◌-◌, ◌≤◌, ◌<◌}
+use mathlib.Core.Path.{◌≡◌, refl, sym, ap, ◌∙◌}
+use mathlib.Core.Logic.{inl, inr, ⊎_elim}
+use mathlib.Core.List.{List, [], ◌∷◌, ◌++◌, append_assoc}
+use native.Mathlib.Omega.{arith}
+use lib.ListN.{length, get_or, take, drop, length-append}
+use lib.Seq.{length-take-le, take_at, ext_get_or}
+use Rattle.endian.specs.Bytes.{put, be24Bytes, be32Bytes}
+use Rattle.table_writing.specs.Inner.Flat.{recordBytes}
+use Rattle.endian.specs.Laws.Stored.{length-put, put-before, put_in, put-after, put-outside, drop-put, Outside}
+use Rattle.refusal.specs.Laws.Tests.{lt-or-le}
+
+pub take_put : (s : List ℕ) (at : ℕ) (a : List ℕ) → at + length a ≤ length s → take (at + length a) (put s at a) ≡ take at s ++ a
+unfolding put
+take_put s at a h =
+    let l : length (take at s ++ a) ≡ at + length a = length-append (take at s) a ∙ ap (λ (k : ℕ). k + length a) (length-take-le at s (omega arith)) in
+    rw (← append_assoc (take at s) a (drop (at + length a) s)) (take_at (take at s ++ a) _ (at + length a) l)
+
+put-open : (s : List ℕ) (at : ℕ) (bs : List ℕ) → put s at bs ≡ take at s ++ (bs ++ drop (at + length bs) s)
+unfolding put
+put-open s at bs = refl
+
+-- from the start
+pub put-start : (s t : List ℕ) → put s 0 t ≡ t ++ drop (length t) s
+unfolding put
+put-start s t = let z : 0 + length t ≡ length t = omega arith in ap (λ (n : ℕ). t ++ drop n s) z
+
+-- one part right behind another
+pub put-append : (s : List ℕ) (at : ℕ) (a : List ℕ) (m : ℕ) (b : List ℕ) → m ≡ at + length a → m + length b ≤ length s → put (put s at a) m b ≡ put s at (a ++ b)
+put-append s at a m b e h =
+    let f : at + length a ≤ length s = omega arith in
+    let d : drop (at + length a + length b) (put s at a) ≡ drop (at + length a + length b) s = drop-put s at a f (at + length a + length b) (omega arith) in
+    let n : at + length (a ++ b) ≡ at + length a + length b = omega (arith, length-append a b) in
+    rw e
+    (put-open (put s at a) (at + length a) b
+    ∙ rw (take_put s at a f, d, append_assoc (take at s) a (b ++ drop (at + length a + length b) s), ← append_assoc a b (drop (at + length a + length b) s))
+    (sym (rw n at (put-open s at (a ++ b)))))
+
+-- two parts that are apart
+module _ (s : List ℕ) (at : ℕ) (a : List ℕ) (m : ℕ) (b : List ℕ) (apart : at + length a ≤ m) (fits : m + length b ≤ length s) where
+  first : at + length a ≤ length s
+  first = omega arith
+
+  len : length (put s at a) ≡ length s
+  len = length-put s at a first
+
+  len' : length (put s m b) ≡ length s
+  len' = length-put s m b fits
+
+  second : m + length b ≤ length (put s at a)
+  second = omega (arith, len)
+
+  first' : at + length a ≤ length (put s m b)
+  first' = omega (arith, len')
+
+  in-first : (i : ℕ) → i < length a → get_or (put (put s at a) m b) (at + i) 0 ≡ get_or (put (put s m b) at a) (at + i) 0
+  in-first i h = put-before (put s at a) m b second (at + i) (omega arith) ∙ put_in s at a first i h ∙ sym (put_in (put s m b) at a first' i h)
+
+  in-second : (i : ℕ) → i < length b → get_or (put (put s at a) m b) (m + i) 0 ≡ get_or (put (put s m b) at a) (m + i) 0
+  in-second i h = put_in (put s at a) m b second i h ∙ sym (put-after (put s m b) at a first' (m + i) (omega arith) ∙ put_in s m b fits i h)
+
+  outside : (i : ℕ) → Outside at (length a) i → Outside m (length b) i → get_or (put (put s at a) m b) i 0 ≡ get_or (put (put s m b) at a) i 0
+  outside i p q =
+      put-outside (put s at a) m b second i q ∙ put-outside s at a first i p
+      ∙ sym (put-outside (put s m b) at a first' i p ∙ put-outside s m b fits i q)
+
+  at-index : (x i : ℕ) (l r : List ℕ) → x ≡ i → get_or l x 0 ≡ get_or r x 0 → get_or l i 0 ≡ get_or r i 0
+  at-index x i l r e h = rw e at h
+
+  each : (i : ℕ) → get_or (put (put s at a) m b) i 0 ≡ get_or (put (put s m b) at a) i 0
+  each i =
+      ⊎_elim (λ (p : i < at). outside i (inl p) (inl (omega arith)))
+      (λ (p : at ≤ i).
+      ⊎_elim (λ (q : i < at + length a). at-index (at + (i - at)) i (put (put s at a) m b) (put (put s m b) at a) (omega arith) (in-first (i - at) (omega arith)))
+      (λ (q : at + length a ≤ i).
+      ⊎_elim (λ (r : i < m). outside i (inr q) (inl r))
+      (λ (r : m ≤ i).
+      ⊎_elim (λ (t : i < m + length b). at-index (m + (i - m)) i (put (put s at a) m b) (put (put s m b) at a) (omega arith) (in-second (i - m) (omega arith)))
+      (λ (t : m + length b ≤ i). outside i (inr q) (inr t))
+      (lt-or-le i (m + length b)))
+      (lt-or-le i m))
+      (lt-or-le i (at + length a)))
+      (lt-or-le i at)
+
+  pub put-swap : put (put s at a) m b ≡ put (put s m b) at a
+  put-swap =
+      let l : length (put (put s at a) m b) ≡ length (put (put s m b) at a) =
+      length-put (put s at a) m b second ∙ len ∙ sym (length-put (put s m b) at a first' ∙ len') in
+      ext_get_or 0 (put (put s at a) m b) (put (put s m b) at a) l (λ i h. each i)
+
+-- the second part before the first
+pub put-prepend : (s : List ℕ) (at : ℕ) (a : List ℕ) (m : ℕ) (b : List ℕ) → m ≡ at + length a → m + length b ≤ length s → put (put s m b) at a ≡ put s at (a ++ b)
+put-prepend s at a m b e h = sym (put-swap s at a m b (omega arith) h) ∙ put-append s at a m b e h
+
+-- an entry's four fields
+pub put-fields : (s : List ℕ) (at kind o a b : ℕ) → at + 12 ≤ length s →
+    put (put (put (put s at (kind ∷ [])) (at + 1) (be24Bytes o)) (at + 4) (be32Bytes a)) (at + 8) (be32Bytes b) ≡ put s at (recordBytes kind o a b)
+put-fields s at kind o a b h =
+    rw (
+      put-append s at (kind ∷ []) (at + 1) (be24Bytes o) refl (omega arith),
+      put-append s at (kind ∷ be24Bytes o) (at + 4) (be32Bytes a) refl (omega arith),
+      put-append s at (kind ∷ (be24Bytes o ++ be32Bytes a)) (at + 8) (be32Bytes b) refl (omega arith),
+    )

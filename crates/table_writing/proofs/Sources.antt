@@ -1,0 +1,38 @@
+-- A table that can be written anew, seen as its bytes: its entries stand in it. Assumes nothing.
+use Rattle.std.specs.Prelude.{ℕ, ◌≡◌, ◌+◌, ◌-◌, ◌*◌, ◌≤◌, ◌<◌, List, length, take, drop}
+use Rattle.std.proofs.Common.{ap, sym, ◌∙◌, arith}
+use Rattle.tree.specs.Table.{count, kind, nameOffset, upTo0, name_at}
+use Rattle.table_writing.specs.Inner.Valid.{nameSize, Valid}
+use Rattle.table_writing.proofs.Names.{take-run}
+use Rattle.table_writing.proofs.Nesting.{count-is}
+
+pub counted : (tab value : List ℕ) (n : ℕ) → Valid tab n → tab ≡ value → n ≡ count value
+counted tab value n v e = sym (count-is tab n v) ∙ ap count e
+
+pub valid-seen : (tab value : List ℕ) (n : ℕ) → Valid tab n → tab ≡ value → Valid value (count value)
+valid-seen tab value n v e = rw (← (counted tab value n v e), ← e) v
+
+-- entry k
+pub record Held (tab : List ℕ) (n k : ℕ) : Type 0 where
+  pub inside : k < n
+  pub few : n ≤ 16384
+  pub whole : 12 * k + 12 ≤ length tab
+  pub known : kind tab k ≤ 1
+
+pub held : (tab value : List ℕ) (n k : ℕ) → Valid tab n → tab ≡ value → k < count value → Held tab n k
+held tab value n k v e h =
+    let c = counted tab value n v e in
+    let inside : k < n = omega arith in
+    record { inside = inside; few = v.few; whole = omega (arith, v.whole); known = v.kinds k inside }
+
+-- its name
+module _ (tab value : List ℕ) (n k : ℕ) (v : Valid tab n) (e : tab ≡ value) (some : 0 < k) (h : k < count value) (offset : ℕ) (read : offset ≡ nameOffset tab k) where
+  pub name-held : 12 * n + offset + length (upTo0 (drop (12 * n + offset) tab)) < length tab
+  unfolding nameSize name_at
+  name-held = rw read (v.named k some (held tab value n k v e h).inside)
+
+  pub name-read : (len : ℕ) → len ≡ length (upTo0 (drop (12 * n + offset) tab)) → take (12 * n + offset + len - (12 * n + offset)) (drop (12 * n + offset) tab) ≡ name_at value (count value) (nameOffset value k)
+  unfolding name_at
+  name-read len l =
+      let z : 12 * n + offset + len - (12 * n + offset) ≡ len = omega arith in
+      rw (z, l, take-run (drop (12 * n + offset) tab), read, ← (counted tab value n v e), ← e)

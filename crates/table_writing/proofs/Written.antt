@@ -1,0 +1,155 @@
+-- For callers: a table that was written to the front of lent bytes can be changed there, and is then the table of the changed tree.
+-- Assumes nothing.
+use Prim.Native.Nat.{ℕ, zero, suc, ◌+◌, ◌*◌, ◌≤◌, ◌<◌, ◌^◌}
+use mathlib.Core.Path.{◌≡◌, refl, ap, ◌∙◌}
+use mathlib.Core.Bool.{Bool, true, false}
+use mathlib.Core.List.{List, [], ◌++◌, tail, append_assoc}
+use native.Mathlib.Omega.{arith}
+use native.Mathlib.Nat.{zero-add}
+use lib.ListN.{length, get_or, take, drop}
+use lib.Seq.{take-append-le, drop-append-le}
+use Rattle.endian.specs.Bytes.{put, be32Bytes}
+use Rattle.endian.specs.Laws.Stored.{length-put, put_in, drop-put}
+use Rattle.tree.specs.Table.{Node, file, directory, none, nameOffset, sizeOrNext, parentBelow, parent_of, textsOf, encode}
+use Rattle.tree.specs.Inner.WellFormed.{WellFormed}
+use Rattle.tree.proofs.Laws.WrittenEntries.{length-encode}
+use Rattle.tree.proofs.Laws.Nesting.{parent-before}
+use Rattle.tree.proofs.Laws.WellNested.{root_is, next-bounds}
+use Rattle.tree.specs.Insert.{insertAt, setPlace}
+use Rattle.tree.proofs.Laws.InsertLaws.{Fresh}
+use Rattle.tree.proofs.Laws.Writing.{textStart, start-most, Fields, written-fields}
+use Rattle.tree.specs.Inner.Patch.{insertPatch}
+use Rattle.tree.proofs.Laws.PatchLaws.{place-patched, insert-patched}
+use Rattle.tree.proofs.Laws.Size.{size-insert}
+use Rattle.table_writing.specs.Inner.Inserting.{newNode, Raisable, Insertable}
+use Rattle.table_writing.proofs.Puts.{take_put}
+use Rattle.table_writing.proofs.Patches.{SameEntry, same-entry, raisable-same, new-name}
+
+-- ---- a table at the front
+
+put_front : (b t : List ℕ) → put b 0 t ≡ t ++ drop (length t) b
+unfolding put
+put_front b t = rw (zero-add (length t))
+
+put-left : (t r : List ℕ) (at : ℕ) (bs : List ℕ) → at + length bs ≤ length t → put (t ++ r) at bs ≡ put t at bs ++ r
+unfolding put
+put-left t r at bs h =
+    rw (take-append-le at t r (omega arith), drop-append-le (at + length bs) t r h, append_assoc (take at t) (bs ++ drop (at + length bs) t) r, append_assoc bs (drop (at + length bs) t) r)
+
+-- a change inside the table
+pub put-inside : (b t : List ℕ) (at : ℕ) (bs : List ℕ) → at + length bs ≤ length t → put (put b 0 t) at bs ≡ put b 0 (put t at bs)
+put-inside b t at bs h =
+    rw (put_front b t, put_front b (put t at bs), length-put t at bs h) (put-left t (drop (length t) b) at bs h)
+
+-- a longer table over a shorter one
+pub put-over : (b t t' : List ℕ) → length t ≤ length t' → length t ≤ length b → put (put b 0 t) 0 t' ≡ put b 0 t'
+put-over b t t' h f =
+    rw (put_front (put b 0 t) t', put_front b t') (ap (λ (l : List ℕ). t' ++ l) (drop-put b 0 t (omega arith) (length t') (omega arith)))
+
+pub take-front : (b t : List ℕ) → length t ≤ length b → take (length t) (put b 0 t) ≡ t
+take-front b t h = rw (zero-add (length t)) at (take_put b 0 t (omega arith))
+
+same-front : (b t : List ℕ) (k : ℕ) → length t ≤ length b → 12 * k + 12 ≤ length t → SameEntry (put b 0 t) t k
+same-front b t k h f =
+    same-entry (put b 0 t) t k (λ i l. rw (zero-add i) at (put_in b 0 t (omega arith) i (omega arith)))
+
+-- ---- a file's place
+
+pub place-written : (b : List ℕ) (offset size k : ℕ) (nodes : List Node) (nm : List ℕ) (a e : ℕ) → get_or nodes k none ≡ file nm a e → k < length nodes →
+    put (put b 0 (encode nodes)) (12 * k + 4) (be32Bytes offset ++ be32Bytes size) ≡ put b 0 (encode (setPlace k offset size nodes))
+place-written b offset size k nodes nm a e here h =
+    put-inside b (encode nodes) (12 * k + 4) (be32Bytes offset ++ be32Bytes size) (omega (arith, length-encode nodes))
+    ∙ ap (put b 0) (place-patched offset size k nodes nm a e here h)
+
+-- ---- one entry more
+
+parent-zero : (nodes : List Node) → parent_of nodes 0 ≤ 0
+unfolding parent_of parentBelow
+parent-zero nodes = omega arith
+
+parent-most : (nodes : List Node) (k : ℕ) → parent_of nodes k ≤ k
+parent-most nodes zero = parent-zero nodes
+parent-most nodes (suc k) = omega (arith, parent-before nodes (suc k) (omega arith))
+
+raisable-with : (tab : List ℕ) (k c par o : ℕ) (x : Node) → c ≤ 16384 → par ≤ c → ((nm : List ℕ) (n : ℕ) → x ≡ directory nm n → n ≤ c) → Fields tab k par o x → Raisable tab k
+raisable-with tab k c par o (file nm a e) few p n f =
+    record { kinds = omega (arith, f.0); place = λ h. absurd (omega (arith, f.0)); next = λ h. absurd (omega (arith, f.0)) }
+raisable-with tab k c par o (directory nm next) few p n f =
+    record { kinds = omega (arith, f.0); place = λ h. omega (arith, f.2); next = λ h. omega (arith, f.3, n nm next refl) }
+
+name-with : (tab : List ℕ) (k par o : ℕ) (x : Node) → Fields tab k par o x → nameOffset tab k ≡ o
+name-with tab k par o (file nm a e) f = f.1
+name-with tab k par o (directory nm next) f = f.1
+
+next-with : (tab : List ℕ) (k par o : ℕ) (x : Node) (nm : List ℕ) (n : ℕ) → x ≡ directory nm n → Fields tab k par o x → sizeOrNext tab k ≡ n
+next-with tab k par o (file a b c) nm n e f = let z : ◌≡◌ {A = ℕ} 0 1 = cc in absurd (omega arith)
+next-with tab k par o (directory a m) nm n e f = let z : m ≡ n = cc in f.3 ∙ z
+
+pub fresh-new : (d : Bool) (nm : List ℕ) (q : ℕ) → Fresh q (newNode d nm q)
+fresh-new true nm q = refl
+fresh-new false nm q = (omega arith, omega arith)
+
+module _ (b : List ℕ) (nodes : List Node) (p q : ℕ) (pm : List ℕ) (d : Bool) (nm : List ℕ)
+    (w : WellFormed nodes) (here : get_or nodes p none ≡ directory pm q) (p<c : p < length nodes) (few : length nodes ≤ 16384)
+    (fits : length (encode nodes) + 12 + length nm + 1 ≤ length b) (small : length (encode nodes) + 12 + length nm + 1 ≤ 2 ^ 24) where
+  abbrev tab : List ℕ
+  tab = encode nodes
+
+  abbrev s : List ℕ
+  s = put b 0 tab
+
+  short : length (textsOf (tail nodes)) < 2 ^ 24
+  short = omega (arith, length-encode nodes)
+
+  fields : (k : ℕ) → k < length nodes → Fields tab k (parent_of nodes k) (textStart nodes k) (get_or nodes k none)
+  fields k h = written-fields nodes k w (omega arith) short h
+
+  same : (k : ℕ) → k < length nodes → SameEntry s tab k
+  same k h = same-front b tab k (omega arith) (omega (arith, length-encode nodes))
+
+  root-next : sizeOrNext s 0 ≡ length nodes
+  root-next =
+      let h : 0 < length nodes = omega arith in
+      (same 0 h).nexts ∙ next-with tab 0 (parent_of nodes 0) (textStart nodes 0) (get_or nodes 0 none) [] (length nodes) (root_is nodes w) (fields 0 h)
+
+  pub parent-next : sizeOrNext s p ≡ q
+  parent-next = (same p p<c).nexts ∙ next-with tab p (parent_of nodes p) (textStart nodes p) (get_or nodes p none) pm q here (fields p p<c)
+
+  raisable : (k : ℕ) → k < length nodes → Raisable s k
+  raisable k h =
+      raisable-same s tab k (same k h)
+      (raisable-with tab k (length nodes) (parent_of nodes k) (textStart nodes k) (get_or nodes k none) few (omega (arith, parent-most nodes k))
+      (λ x n e. (next-bounds nodes k n x w e h).1) (fields k h))
+
+  names : (k : ℕ) → k < length nodes → 12 * length nodes + nameOffset s k ≤ length tab
+  names k h =
+      omega (arith, (same k h).names, name-with tab k (parent_of nodes k) (textStart nodes k) (get_or nodes k none) (fields k h), start-most nodes k h, length-encode nodes)
+
+  pub insertable : Insertable s (length tab) p (length nm)
+  insertable =
+      let l : length s ≡ length b = length-put b 0 tab (omega arith) in
+      let n = next-bounds nodes p q pm w here p<c in
+      record {
+        few = omega (arith, root-next);
+        whole = omega (arith, root-next, length-encode nodes);
+        fits = omega arith;
+        small = small;
+        parent = omega (arith, root-next);
+        later = omega (arith, parent-next);
+        within = omega (arith, parent-next, root-next);
+        each = λ k h. raisable k (omega (arith, root-next));
+        names = λ k h. rw root-next (names k (omega (arith, root-next)));
+      }
+
+  pub grown : length (encode (insertAt p (newNode d nm q) nodes)) ≡ length tab + 12 + length nm + 1
+  grown = omega (arith, size-insert nodes p q pm (newNode d nm q) w here p<c, ap length (new-name d nm q))
+
+  pub insert-written : put s 0 (insertPatch (take (length tab) s) (sizeOrNext s 0) p (newNode d nm (sizeOrNext s p))) ≡ put b 0 (encode (insertAt p (newNode d nm q) nodes))
+  insert-written =
+      rw (
+        take-front b tab (omega arith),
+        root-next,
+        parent-next,
+        insert-patched nodes p q pm (newNode d nm q) w here p<c (fresh-new d nm q) (omega arith) short,
+      )
+      (put-over b tab (encode (insertAt p (newNode d nm q) nodes)) (omega (arith, grown)) (omega arith))

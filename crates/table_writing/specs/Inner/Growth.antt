@@ -1,0 +1,41 @@
+-- The table that stands in the working bytes while entries are added to it. Assumes nothing: these are definitions.
+use Rattle.std.specs.Prelude.{Result, Ok, Err}
+use Rattle.refusal.specs.declared.Refusal.{Refusal}
+use Rattle.std.specs.Prelude.{ℕ, ◌<◌, ◌≤◌, ◌≡◌, Bool, true, false, List, ltb, length, get_or, take}
+use Rattle.endian.specs.Bytes.{put}
+use Rattle.refusal.specs.declared.Refusal.TheVariants.{LimitOrMemory}
+use Rattle.tree.specs.Table.{Node, none, nodesOf, encode, limits}
+use Rattle.tree.specs.Inner.WellFormed.{WellFormed}
+use Rattle.tree.specs.Lookup.{isDirectory, next_of}
+use Rattle.tree.specs.Insert.{insertAt}
+use Rattle.table_writing.specs.Inner.Inserting.{newNode}
+
+-- the tree of the table that stands in the first `size` of these bytes
+unfoldable pub treeIn : List ℕ → ℕ → List Node
+treeIn bytes size = nodesOf (take size bytes)
+
+-- a table written anew stands there, and passes no limit where so many words are lent
+pub record Stands (bytes : List ℕ) (size words : ℕ) : Type 0 where
+  pub well : WellFormed (treeIn bytes size)
+  pub same : take size bytes ≡ encode (treeIn bytes size)
+  pub held : size ≤ length bytes
+  pub within : limits (treeIn bytes size) words ≡ Ok tt
+
+-- entry p is a directory
+pub record IsDirectory (nodes : List Node) (p : ℕ) : Type 0 where
+  pub inside : p < length nodes
+  pub kind : isDirectory (get_or nodes p none) ≡ true
+
+-- the tree with an empty directory, or an empty file, as last child of p
+abbrev pub added : List Node → Bool → ℕ → List ℕ → List Node
+added nodes d p nm = insertAt p (newNode d nm (next_of (get_or nodes p none))) nodes
+
+-- a new child of a directory of that depth is not too deep: "directory deeper than 64 (root 0; 9)"
+abbrev pub depthAllows : Bool → ℕ → Bool
+depthAllows true depth = ltb depth 64
+depthAllows false depth = true
+
+-- the tree F stands in the bytes, or cannot: it passes a limit (9), or its table is longer than they are (9)
+abbrev pub Built : List Node → ℕ → List ℕ → List ℕ → Result ℕ Refusal → Type 0
+Built F words bytes after (Ok size) = (limits F words ≡ Ok tt) × (size ≡ length (encode F)) × (size ≤ length bytes) × (after ≡ put bytes 0 (encode F))
+Built F words bytes after (Err cause) = (cause ≡ LimitOrMemory) × (limits F words ≡ Ok tt → length bytes < length (encode F))

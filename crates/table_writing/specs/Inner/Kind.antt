@@ -1,0 +1,12 @@
+-- What an entry is: the number that a table stores for it, and whether it is a directory. Assumes nothing: these are definitions.
+use Rattle.std.specs.Prelude.{ℕ, Bool, true, false}
+use Rattle.table_writing.specs.declared.kind.Kind.{Kind}
+use Rattle.table_writing.specs.declared.kind.Kind.TheVariants.{File, Directory}
+
+abbrev pub number_of : Kind → ℕ
+number_of File = 0
+number_of Directory = 1
+
+abbrev pub is_directory : Kind → Bool
+is_directory File = false
+is_directory Directory = true

@@ -1,0 +1,33 @@
+// The size of the file table written anew: 12 for the root, and for each further entry 12, its name and one.
+
+ghost use Rattle.std.specs.Prelude.{◌≡◌, ◌+◌, ◌*◌, ◌≤◌, length};
+ghost use Rattle.tree.specs.Table.{count};
+ghost use Rattle.table_writing.specs.Inner.Flat.{afterIn};
+ghost use Rattle.table_writing.specs.Inner.Valid.{Valid};
+ghost use Rattle.table_writing.specs.Inner.Measure.{measureOf};
+
+use crate::kind::Kind;
+use crate::source::Source;
+use refusal::Refusal;
+
+/// A table with more bytes of texts than this is refused, with 9.
+pub const TEXTS_LIMIT: usize = 1048576;
+
+/// The entry after k in its directory, where a writer goes on. What is no directory is one entry long.
+pub fn after(table: &[u8], k: usize) -> usize
+    requires { 12 * k + 12 ≤ length table.now }
+    ensures { result ≡ afterIn table.now k }
+{
+    match Kind::from_number(table[12 * k]) {
+        Some(Kind::Directory) => endian::read_u32(table, 12 * k + 8) as usize,
+        _ => k + 1,
+    }
+}
+
+/// The size in bytes of what `write_table` writes; 9 if its texts pass the limit.
+pub fn measure(table: &[u8]) -> Result<usize, Refusal>
+    requires { Valid table.now (count table.now) }
+    ensures { result ≡ measureOf table.now }
+{
+    Source::new(table).measure()
+}

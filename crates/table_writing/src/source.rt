@@ -1,0 +1,125 @@
+// A table that can be written anew.
+ghost use Rattle.std.specs.Prelude.{◌≡◌, ◌+◌, ◌*◌, ◌<◌};
+ghost use Rattle.tree.specs.Table as table_of;
+ghost use Rattle.tree.specs.Table.{nameOffset, offsetOrParent, sizeOrNext, name_at};
+ghost use Rattle.table_writing.specs.Inner.Kind.{number_of};
+ghost use Rattle.table_writing.specs.Inner.Measure.{measureOf};
+ghost use Rattle.table_writing.specs.Inner.Valid.{Valid};
+
+use crate::kind::Kind;
+use crate::size::TEXTS_LIMIT;
+use refusal::Refusal;
+use std::marker::Model;
+
+/// A table that can be written anew: its directories nest, and its names end within it. Contracts see its bytes.
+// Kept: beside `fst::Table`, which asks that opening accepts the table: what is measured and written is any `Valid` one.
+// No derived equality, which would ask for an `inverse`: the view is the bytes, and forgets where they lie and the count.
+#[derive(Drop)]
+pub struct Source<'a> {
+    bytes: &'a [u8],
+    count: usize,
+}
+
+impl<'a> Model for Source<'a> {
+    ghost use Rattle.std.specs.Prelude.{ℕ, List};
+    ghost use Rattle.table_writing.specs.Inner.Valid.{Valid};
+
+    ghost Value = { List ℕ };
+
+    ghost view = { λ s. s.bytes.now };
+
+    ghost invariant = { λ s. Valid s.bytes.now s.count };
+}
+
+impl<'a> Source<'a> {
+    /// A table that the checks accepted, or any other that is `Valid`.
+    // Kept: `Valid` in three contracts: here bytes become a `Source`, and the two public calls take bytes.
+    pub fn new(bytes: &'a [u8]) -> Self
+        requires { Valid bytes.now (table_of.count bytes.now) }
+        ensures { result ≡ bytes.now }
+    {
+        let count = endian::read_u32(bytes, 8) as usize;
+        Source { bytes, count }
+    }
+
+    /// The same table again. A loop that writes holds one of its own, which no write can change.
+    pub fn reborrow(&self) -> Self
+        ensures { result ≡ self.now }
+    {
+        Source {
+            bytes: self.bytes,
+            count: self.count,
+        }
+    }
+
+    /// Its bytes, the names with them.
+    pub fn bytes(&self) -> &'a [u8]
+        ensures bytes { result.now ≡ self.now }
+        ensures valid { Valid self.now (table_of.count self.now) }
+    {
+        self.bytes
+    }
+
+    /// How many entries it has.
+    pub fn count(&self) -> usize
+        ensures value { result ≡ table_of.count self.now }
+        ensures valid { Valid self.now (table_of.count self.now) }
+    {
+        self.count
+    }
+
+    /// What entry k is.
+    pub fn kind(&self, k: usize) -> Kind
+        requires { k < table_of.count self.now }
+        ensures value { number_of result ≡ table_of.kind self.now k }
+        ensures valid { Valid self.now (table_of.count self.now) }
+    {
+        Kind::of(self.bytes, k)
+    }
+
+    /// The third field of entry k: the offset of a file, the parent that a directory stores.
+    pub fn place(&self, k: usize) -> u32
+        requires { k < table_of.count self.now }
+        ensures { result ≡ offsetOrParent self.now k }
+    {
+        endian::read_u32(self.bytes, 12 * k + 4)
+    }
+
+    /// The fourth field of entry k: the size of a file, the entry after all those in a directory.
+    pub fn next(&self, k: usize) -> u32
+        requires { k < table_of.count self.now }
+        ensures value { result ≡ sizeOrNext self.now k }
+        ensures valid { Valid self.now (table_of.count self.now) }
+    {
+        endian::read_u32(self.bytes, 12 * k + 8)
+    }
+
+    /// The name of entry k, which is not the root, without its zero byte.
+    pub fn name(&self, k: usize) -> &'a [u8]
+        requires further { 0 < k }
+        requires within { k < table_of.count self.now }
+        ensures { result.now ≡ name_at self.now (table_of.count self.now) (nameOffset self.now k) }
+    {
+        let from = 12 * self.count + endian::read_u24(self.bytes, 12 * k + 1) as usize;
+        let len = table::text_length(self.bytes, from);
+        &self.bytes[from..from + len]
+    }
+
+    /// The size in bytes of the table written anew; 9 if its texts pass the limit.
+    pub fn measure(&self) -> Result<usize, Refusal>
+        ensures { result ≡ measureOf self.now }
+    {
+        let count = self.count();
+        let mut size = 12;
+        // Kept: a range of numbers: an entry is known by its number, and there is no slice of entries.
+        for k in 1..count {
+            let name = self.name(k).len();
+            // The texts so far are what is measured but for k records.
+            if TEXTS_LIMIT - (size - 12 * k) <= name {
+                return Err(Refusal::LimitOrMemory);
+            }
+            size += 12 + name + 1;
+        }
+        Ok(size)
+    }
+}

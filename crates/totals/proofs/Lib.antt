@@ -1,2 +1,0 @@
--- What the proofs of the functions cite.
-pub mod Behind

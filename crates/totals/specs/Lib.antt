@@ -1,3 +1,0 @@
-pub mod Totals
-pub mod Inner
-pub mod Laws

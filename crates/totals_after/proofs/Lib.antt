@@ -1,2 +1,0 @@
-pub mod Edited
-pub mod Entering

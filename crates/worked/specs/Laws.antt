@@ -1,0 +1,13 @@
+-- What follows from the definitions.
+pub mod Applied
+pub mod Fills
+pub mod ListImages
+pub mod ListSteps
+pub mod Marked
+pub mod MasterListing
+pub mod Maximum
+pub mod Places
+pub mod Programs
+pub mod Records
+pub mod Worked
+pub mod WorkedList

@@ -1,0 +1,272 @@
+-- Each theorem about lists of calls, applied to the worked list: its hypotheses hold there, with as many words as the first opening was lent and
+-- with any number that is larger, and what it says is read off in numbers. Nothing of the last image is computed for that but what a theorem's words
+-- are held against. Assumes nothing.
+use Rattle.std.specs.Prelude.{Some, Ok}
+use Rattle.std.specs.Prelude.{ℕ, zero, suc, ◌≤◌, ◌≡◌, refl, Bool, true, false, ◌&&◌, List, [], ◌∷◌, ◌++◌, map, ltb, length, get_or, take, replicate}
+use Rattle.std.proofs.Common.{sym, ap, ◌∙◌, arith, ltb-true}
+use Rattle.std.proofs.lemmas.Bool.{false≢true}
+use Rattle.endian.specs.Bytes.{be24, be32, be32Bytes, put, span, AllBytes}
+use Rattle.endian.specs.Laws.Stored.{length-put, put-outside}
+use Rattle.refusal.specs.Laws.Tests.{and_left, and_right}
+use Rattle.header.specs.Verdicts.{dolOffset, fstSize, fstMaxSize}
+use Rattle.tree.specs.Table.{file, directory, none, count, name_at, nodeAt, nodesFrom, nodesOf, parentBelow, parent_of, entriesBytes, textsOf, encode}
+use Rattle.tree.specs.Insert.{shifted, bump, splice, insertAt, setPlace}
+use Rattle.space.specs.Used.{inside, nonempty, totalSize}
+use Rattle.space.specs.Free.{largestSize}
+use Rattle.space.specs.Listing.{rows_of}
+use Rattle.window.specs.Window.{newWindow, count_of}
+use Rattle.space.specs.declared.totals.Totals.{Totals}
+use Rattle.executable.specs.Program.{programIn, ownRegion}
+use Rattle.opened.specs.Opening.{table_of, nodesIn, usedIn, freeOf, usedOf, opening}
+use Rattle.disc.specs.Calls.{totalsAnswer, programAnswer, freeRegionsAnswer, freeRegionsList, totalsOf, recordAnswer}
+use Rattle.disc.specs.Files.{openFileAnswer}
+use Rattle.edits.specs.Change.{nothing}
+use Rattle.edits.specs.Edits.{Edit, noPlace, rewrite, resizeFile, planResize, plan_of, imageAfter}
+use Rattle.edits.proofs.Laws.Accepted.{accepted}
+use Rattle.ledger.specs.Ledger.{History, Ledger, bare, filesBefore, historyOf, put_in, firstLedger}
+use Rattle.ledger.specs.Runs.{Call, imageAfterAll, acceptedIn, AllWithin}
+use Rattle.ledger.specs.Spared.{numberAfter, Spared}
+use Rattle.ledger.specs.Theorem.{Demand3, StillThere, ShowsClip, Tells, WithinMaximum}
+use Rattle.ledger.proofs.Laws.AnyMaximum.{any-maximum}
+use Rattle.ledger.proofs.Laws.Demand3.{demand-3, unnamed-stays}
+use Rattle.ledger.proofs.Laws.EditedDown.{edited-down}
+use Rattle.ledger.proofs.Laws.FillReads.{readInto, fill-reads, read_back}
+use Rattle.ledger.proofs.Laws.MaximumKept.{maximum-kept}
+use Rattle.ledger.proofs.Laws.RecordTells.{record-tells}
+use Rattle.worked.specs.Image.{master, masterWords}
+use Rattle.worked.specs.Laws.Marked as small
+use Rattle.worked.specs.Laws.Maximum.{stating, slack}
+use Rattle.worked.specs.Laws.Maximum as stated
+use Rattle.worked.specs.Laws.ListImages.{ofA, programBytes, first, clip, with_b, last, program, treeB, used-regions, space, at_first, at_last}
+use Rattle.worked.specs.Laws.ListSteps.{totals, fresh, filled-b}
+use Rattle.worked.specs.Laws.WorkedList.{list, reports, ledger, first-a, worked}
+
+-- ---- the hypotheses
+
+bytesOnly : List ℕ → Bool
+bytesOnly [] = true
+bytesOnly (x ∷ xs) = ltb x 256 && bytesOnly xs
+
+bytes-only : (s : List ℕ) → bytesOnly s ≡ true → AllBytes s
+unfolding bytesOnly
+bytes-only [] e i = omega arith
+bytes-only (x ∷ xs) e zero = ltb-true x 256 (and_left (ltb x 256) (bytesOnly xs) e)
+bytes-only (x ∷ xs) e (suc i) = bytes-only xs (and_right (ltb x 256) (bytesOnly xs) e) i
+
+bytes : AllBytes first
+unfolding first stating master put bytesOnly
+bytes = bytes-only first refl
+
+moved-bytes : AllBytes (with_b 0x900 0 [])
+unfolding with_b first stating master put bytesOnly
+moved-bytes = bytes-only (with_b 0x900 0 []) refl
+
+clip-bytes : AllBytes clip
+unfolding bytesOnly
+clip-bytes = bytes-only clip refl
+
+-- no call is lent more words than the first opening
+within : (w : ℕ) → masterWords ≤ w → AllWithin w list
+unfolding list
+within w h = (omega arith, tt, (omega arith, tt, (omega arith, omega arith, (omega arith, omega arith, (omega arith, clip-bytes, (omega arith, omega arith, (omega arith, tt, tt)))))))
+
+-- no accepted call names `a`: the one that does is refused
+spared : Spared reports (firstLedger first) 0
+unfolding filesBefore put_in insertAt splice bump setPlace shifted
+spared = rw at_first.tree (λ e. refl, (λ e. refl, (λ e. absurd (false≢true e), (λ e. refl, (λ e. refl, (λ e. refl, (λ e. refl, tt)))))))
+
+-- ---- demand 3
+
+-- what the claim comes to for the file with entry number k, whichever that is
+any_file : {w : ℕ} {first image : List ℕ} {l : Ledger} → Demand3 w first image l →
+    (k : ℕ) (nm : List ℕ) (offset size : ℕ) → get_or (nodesIn image) k none ≡ file nm offset size → (h : History) → historyOf l k ≡ h →
+    (h.m ≤ size) × (h.m ≤ length h.bytes) × (span image offset h.m ≡ take h.m h.bytes)
+    × (h.named ≡ false → (offset ≡ h.place) × (size ≡ length h.bytes) × (span image offset size ≡ h.bytes))
+any_file d k nm offset size e h is = let f = d.files k nm offset size e in (rw is at f.m-size, rw is at f.m-bytes, rw is at f.first-bytes, rw is at f.unnamed)
+
+claim : (w : ℕ) → masterWords ≤ w → Demand3 w first last ledger
+claim w h = rw (worked.image, worked.told, worked.entered) at (demand-3 first masterWords w list bytes at_first.opens h (within w h))
+
+pub record Demanded (w : ℕ) : Type 0 where
+  pub opens : opening last w ≡ Ok tt
+  pub tree : map bare (nodesIn last) ≡ directory [] 3 ∷ file (0x61 ∷ []) 0 0x100 ∷ file (0x62 ∷ []) 0 5 ∷ []
+  -- byte 0x500 is `a`'s, the third used region's, and no other's
+  pub apart : (j : ℕ) → inside (get_or (usedIn last) j noPlace) 0x500 ≡ true → j ≡ 2
+  pub sum : totalSize (freeOf last) ≡ 6543
+  pub used : totalsAnswer last w ≡ Ok (record { disc_end = 8192; used = 1649 })
+  pub free : freeRegionsAnswer last w 8 ≡ Ok 4
+  pub listed : freeRegionsList last w (replicate 9 7) ≡ 1128 ∷ 152 ∷ 1536 ∷ 256 ∷ 2052 ∷ 252 ∷ 2309 ∷ 5883 ∷ 7 ∷ []
+  pub program-stays : (dolOffset last ≡ 0x700) × (programIn last ≡ program) × (span last 0x700 0x104 ≡ programBytes) × (0x804 ≤ length last)
+  pub program-told : programAnswer last w ≡ Ok (Some program)
+  -- entry 1, `a`, is unnamed; entry 2, `b`, begins with the clip
+  pub of-a : (nm : List ℕ) (offset size : ℕ) → get_or (nodesIn last) 1 none ≡ file nm offset size → (offset ≡ 0x500) × (size ≡ 0x100) × (span last offset size ≡ ofA ++ replicate 0xF8 0)
+  pub of-b : (nm : List ℕ) (offset size : ℕ) → get_or (nodesIn last) 2 none ≡ file nm offset size → (3 ≤ size) × (3 ≤ length clip) × (span last offset 3 ≡ clip)
+
+first-program : (dolOffset first ≡ 0x700) × (span first 0x700 0x104 ≡ programBytes)
+unfolding first stating master put be32
+first-program = (refl, refl)
+
+pub demanded : (w : ℕ) → masterWords ≤ w → Demanded w
+unfolding put rows_of nonempty programIn ownRegion totalSize filesBefore
+demanded w h =
+    let d = claim w h in
+    record {
+      opens = d.opens;
+      tree = d.tree;
+      apart = λ j i. d.apart j 2 0x500 i (rw (used-regions at_last));
+      sum = let s = rw (at_last.tree, at_last.runs, at_last.header.0, at_last.header.1, at_last.header.3) at d.sum in omega (arith, s);
+      used = d.used-reported ∙ rw (at_last.tree, at_last.runs, at_last.header.0, at_last.header.1, at_last.header.3);
+      free = d.free-reported 8 ∙ rw (space at_last);
+      listed = d.free-listed (replicate 9 7) ∙ rw (space at_last);
+      program-stays = let p = d.program in (p.offset ∙ first-program.0, p.region ∙ rw at_first.runs, (rw at_first.runs at p.bytes) ∙ first-program.1, rw at_first.runs at p.whole);
+      program-told = d.program-reported ∙ at_first.runs;
+      of-a = λ nm offset size e. (any_file d 1 nm offset size e _ refl).3 refl;
+      of-b = λ nm offset size e. let f = any_file d 2 nm offset size e _ refl in (f.0, f.1, f.2);
+    }
+
+-- ---- `a`, which no accepted call named: it lies where it lay, as the first file of them
+
+found-still : (w : ℕ) → masterWords ≤ w → StillThere first last 0 (0x61 ∷ []) 0x500 0x100
+unfolding filesBefore numberAfter put_in insertAt splice bump setPlace shifted
+found-still w h =
+    let a : get_or (nodesIn first) 1 none ≡ file (0x61 ∷ []) 0x500 0x100 = rw at_first.tree in
+    let k : filesBefore 1 (nodesIn first) ≡ 0 = rw at_first.tree in
+    rw (worked.image, worked.told, k, at_first.tree) at (unnamed-stays first masterWords w list bytes at_first.opens h (within w h) 1 (0x61 ∷ []) 0x500 0x100 a (rw (worked.told, k) spared))
+
+pub still : StillThere first last 0 (0x61 ∷ []) 0x500 0x100
+still = found-still masterWords (omega arith)
+
+pub record Stays : Type 0 where
+  pub entry : still.entry ≡ 1
+  pub number : filesBefore still.entry (nodesIn last) ≡ 0
+  pub bytes : span last 0x500 0x100 ≡ ofA ++ replicate 0xF8 0
+
+-- which entry of the last tree that is
+entry-a : (k : ℕ) → get_or (treeB 0x900 5) k none ≡ file (0x61 ∷ []) 0x500 0x100 → k ≡ 1
+entry-a zero e = let z : ◌≡◌ {A = ℕ} 0 1 = cc in absurd (omega arith)
+entry-a (suc zero) e = refl
+entry-a (suc (suc zero)) e = let z : ◌≡◌ {A = ℕ} 0x900 0x500 = cc in absurd (omega arith)
+entry-a (suc (suc (suc k))) e = let z : ◌≡◌ {A = ℕ} 0 1 = cc in absurd (omega arith)
+
+pub stays : Stays
+stays = record { entry = entry-a still.entry (rw at_last.tree at still.lies); number = still.number; bytes = still.bytes ∙ first-a }
+
+-- ---- the record that was handed on, after five accepted calls
+
+tells : (w : ℕ) → masterWords ≤ w → Tells last w 5 (totals 1649 5883 5)
+unfolding acceptedIn
+tells w h = rw (worked.image, worked.told, worked.handed-back) at (record-tells first masterWords w fresh list bytes worked.made h (within w h) worked.handed-on)
+
+pub record Told (w : ℕ) : Type 0 where
+  pub used : usedOf last ≡ 1649
+  pub largest : largestSize (freeOf last) ≡ 5883
+  pub afresh : recordAnswer last w ≡ Ok (totals 1649 5883 0)
+
+pub told : (w : ℕ) → masterWords ≤ w → Told w
+told w h =
+    let t = tells w h in
+    let u : usedOf last ≡ 1649 = sym (ap (λ (t : Totals). t.used) t.totals) in
+    let l : largestSize (freeOf last) ≡ 5883 = sym (ap (λ (t : Totals). t.largest) t.totals) in
+    record { used = u; largest = l; afresh = t.afresh ∙ rw (u, l) }
+
+-- ---- the stated maximum, which the last table just meets
+
+kept : (w : ℕ) → masterWords ≤ w → WithinMaximum first last
+kept w h = rw worked.image at (maximum-kept first masterWords w list bytes at_first.opens h (within w h))
+
+pub record Maximum : Type 0 where
+  pub field : fstMaxSize last ≡ 0x28
+  pub within : fstSize last ≤ 0x28
+
+pub maximum : Maximum
+maximum =
+    let m : fstMaxSize first ≡ 0x28 = at_first.header.2 in
+    let k = kept masterWords (omega arith) in
+    record { field = k.field ∙ m; within = rw m at (k.within (rw m (omega arith)) (rw (m, at_first.header.1) (omega arith))) }
+
+-- an image whose table is above its maximum: a rewrite, which is refused (26), and a resize to the present size, which writes no table
+
+abbrev pub over : List ℕ
+over = stating 0x19
+
+abbrev overCall : Edit → Call
+overCall ed = record { edit = ed; totals = small.fresh; words = masterWords; bytes = 0x28 }
+
+abbrev pub overList : List Call
+overList = overCall rewrite ∷ overCall (resizeFile 1 0x100) ∷ []
+
+over-bytes : AllBytes over
+unfolding stating master put bytesOnly
+over-bytes = bytes-only over refl
+
+over-sizes : (fstMaxSize over ≡ 0x19) × (fstSize over ≡ 0x1A)
+unfolding stating master put be32
+over-sizes = (refl, refl)
+
+over-plan : plan_of (resizeFile 1 0x100) over ≡ nothing
+unfolding planResize stating master put table_of nodesIn nodesOf nodesFrom nodeAt name_at count be24 be32
+over-plan = refl
+
+over_last : imageAfterAll overList over ≡ over
+unfolding imageAfterAll imageAfter
+over_last = rw ((stated.maximum).larger.1, (stated.maximum).same_size.0, over-plan)
+
+over-kept : WithinMaximum over over
+over-kept = rw over_last at (maximum-kept over masterWords masterWords overList over-bytes (stated.maximum).larger.0 (omega arith) (omega arith, tt, (omega arith, omega arith, tt)))
+
+pub same-table : (fstSize (imageAfterAll overList over) ≡ 0x1A) × (table_of (imageAfterAll overList over) ≡ table_of over)
+same-table = let l = over-kept.larger (rw over-sizes.0 (omega arith)) (rw (over-sizes.0, over-sizes.1) (omega arith)) in rw over_last (l.0 ∙ over-sizes.1, l.1)
+
+-- "may be edited down to the maximum": the small master with a zero byte more behind its texts, 0x1B bytes in all
+
+down-opens : opening (slack 0x1A) masterWords ≡ Ok tt
+down-opens = (accepted rewrite small.fresh (slack 0x1A) masterWords 0x1A (stated.maximum).edited-down).opens
+
+down-bytes : AllBytes (slack 0x1A)
+unfolding slack stating master put bytesOnly
+down-bytes = bytes-only (slack 0x1A) refl
+
+down-sizes : (fstMaxSize (slack 0x1A) ≡ 0x1A) × (fstSize (slack 0x1A) ≡ 0x1B)
+unfolding slack stating master put be32
+down-sizes = (refl, refl)
+
+down-table : length (encode (nodesIn (slack 0x1A))) ≡ 0x1A
+unfolding slack stating master put table_of nodesIn nodesOf nodesFrom nodeAt name_at count be24 be32 encode entriesBytes textsOf parent_of parentBelow
+down-table = refl
+
+pub down : fstSize (imageAfter rewrite (totalsOf (slack 0x1A) 0) (slack 0x1A) masterWords 0x1A) ≤ 0x1A
+down =
+    let m = down-sizes.0 in
+    rw m at (edited-down (slack 0x1A) masterWords 0x1A down-bytes down-opens (rw (m, down-sizes.1) (omega arith)) (rw (m, down-table) (omega arith)) (rw down-table (omega arith)) 0 (omega arith)).2
+
+-- another maximum: the image opens all the same, to the same tree and free regions
+
+first-length : length first ≡ 0x2000
+unfolding first stating master put
+first-length = refl
+
+abbrev pub restated : List ℕ
+restated = put first 0x42C (be32Bytes 5)
+
+pub any : (opening restated masterWords ≡ Ok tt) × (nodesIn restated ≡ nodesIn first) × (freeOf restated ≡ freeOf first)
+any = any-maximum first restated masterWords bytes at_first.opens (length-put first 0x42C (be32Bytes 5) (rw first-length (omega arith))) (λ i h. put-outside first 0x42C (be32Bytes 5) (rw first-length (omega arith)) i h)
+
+-- ---- the clip
+
+pub shows : ShowsClip (with_b 0x900 3 clip) masterWords 2 clip
+shows = rw filled-b.written at (fill-reads (totals 1644 6140 2) (with_b 0x900 0 []) clip 2 masterWords 0x36 masterWords moved-bytes clip-bytes (omega arith) filled-b.answered)
+
+pub record Clip : Type 0 where
+  -- the window of entry 2 has three bytes, of which a read of four gives three
+  pub window : openFileAnswer (with_b 0x900 3 clip) masterWords 2 ≡ Ok (newWindow shows.offset 3)
+  pub count : count_of (newWindow shows.offset 3) (length (with_b 0x900 3 clip)) 4 ≡ 3
+  -- the file opened and read into four bytes: the clip, and the fourth stays
+  pub read : readInto (openFileAnswer (with_b 0x900 3 clip) masterWords 2) (with_b 0x900 3 clip) (9 ∷ 9 ∷ 9 ∷ 9 ∷ []) ≡ 0x11 ∷ 0x12 ∷ 0x13 ∷ 9 ∷ []
+
+pub clip-read : Clip
+unfolding put
+clip-read = record {
+  window = shows.window;
+  count = shows.count 4 (omega arith);
+  read = rw filled-b.written at (read_back (totals 1644 6140 2) (with_b 0x900 0 []) clip 2 masterWords 0x36 masterWords moved-bytes clip-bytes (omega arith) filled-b.answered (9 ∷ 9 ∷ 9 ∷ 9 ∷ []) (omega arith));
+}

@@ -1,0 +1,79 @@
+-- The listing of the small master, its five lines byte for byte, and what is written of an image that is refused: by computing. Assumes nothing.
+use Rattle.std.specs.Prelude.{Ok}
+use Rattle.std.specs.Prelude.{ℕ, ◌≡◌, refl, List, [], ◌∷◌, ◌++◌, length}
+use Rattle.std.proofs.Common.{◌∙◌}
+use Rattle.endian.specs.Bytes.{put}
+use Rattle.header.specs.Fields.{fields}
+use Rattle.header.specs.Verdicts.{fieldVerdict, fieldsVerdict, headerVerdict}
+use Rattle.tree.specs.Table.{Node, file, directory, parentBelow, parent_of}
+use Rattle.space.specs.declared.region.DiscRegion.{DiscRegion}
+use Rattle.opened.specs.Opening.{opening}
+use Rattle.listing.specs.Lines.{totalsLine, pathWithin, entryLine, entryLines, regionLines}
+use Rattle.listing.specs.Decimal.{digits}
+use Rattle.listing.specs.Listing.{listingText, listingVerdict, listAnswer, reportVerdict, reportText, reportAnswer}
+use Rattle.worked.specs.Image.{master, masterWords}
+use Rattle.worked.specs.Laws.Marked.{opens, nodes, header, free, used}
+
+-- `total 8192 used 1370`
+abbrev totals : List ℕ
+totals = 0x74 ∷ 0x6F ∷ 0x74 ∷ 0x61 ∷ 0x6C ∷ 0x20 ∷ 0x38 ∷ 0x31 ∷ 0x39 ∷ 0x32 ∷ 0x20 ∷ 0x75 ∷ 0x73 ∷ 0x65 ∷ 0x64 ∷ 0x20 ∷ 0x31 ∷ 0x33 ∷ 0x37 ∷ 0x30 ∷ 0x0A ∷ []
+
+-- `d 0 0 2 /`
+abbrev root : List ℕ
+root = 0x64 ∷ 0x20 ∷ 0x30 ∷ 0x20 ∷ 0x30 ∷ 0x20 ∷ 0x32 ∷ 0x20 ∷ 0x2F ∷ 0x0A ∷ []
+
+-- `f 1 1280 256 /a`
+abbrev fileA : List ℕ
+fileA = 0x66 ∷ 0x20 ∷ 0x31 ∷ 0x20 ∷ 0x31 ∷ 0x32 ∷ 0x38 ∷ 0x30 ∷ 0x20 ∷ 0x32 ∷ 0x35 ∷ 0x36 ∷ 0x20 ∷ 0x2F ∷ 0x61 ∷ 0x0A ∷ []
+
+-- `r 1114 166`
+abbrev before : List ℕ
+before = 0x72 ∷ 0x20 ∷ 0x31 ∷ 0x31 ∷ 0x31 ∷ 0x34 ∷ 0x20 ∷ 0x31 ∷ 0x36 ∷ 0x36 ∷ 0x0A ∷ []
+
+-- `r 1536 6656`
+abbrev behindA : List ℕ
+behindA = 0x72 ∷ 0x20 ∷ 0x31 ∷ 0x35 ∷ 0x33 ∷ 0x36 ∷ 0x20 ∷ 0x36 ∷ 0x36 ∷ 0x35 ∷ 0x36 ∷ 0x0A ∷ []
+
+abbrev pub listing : List ℕ
+listing = totals ++ (root ++ (fileA ++ (before ++ behindA)))
+
+-- the entries and the free regions
+abbrev tree : List Node
+tree = directory [] 2 ∷ file (0x61 ∷ []) 0x500 0x100 ∷ []
+
+abbrev regions : List DiscRegion
+regions = record { offset = 1114; size = 166 } ∷ record { offset = 1536; size = 6656 } ∷ []
+
+parts : listingText master ≡ totalsLine 8192 1370 ++ (entryLines tree 2 ++ regionLines regions)
+unfolding listingText
+parts = rw (header.2, used, nodes, free)
+
+line-by-line : totalsLine 8192 1370 ++ (entryLines tree 2 ++ regionLines regions) ≡ listing
+unfolding digits pathWithin parent_of parentBelow entryLine entryLines regionLines
+line-by-line = refl
+
+text : listingText master ≡ listing
+text = parts ∙ line-by-line
+
+size : length master ≡ 0x2000
+unfolding master put
+size = refl
+
+-- the text, its length, and what the program writes, in a buffer that it just fits
+pub record Listing : Type 0 where
+  pub lines : listingText master ≡ listing
+  pub answer : listAnswer master masterWords 70 ≡ Ok 70
+  pub report : (reportText master masterWords 70 ≡ listing) × (reportAnswer master masterWords 70 ≡ 70)
+
+pub master-listed : Listing
+unfolding listAnswer listingVerdict reportAnswer reportText reportVerdict
+master-listed = record { lines = text; answer = rw (opens, text); report = (rw (size, opens, text), rw (size, opens, text)) }
+
+-- of no bytes at all the first header field is past the image, 1: `refused 1`
+
+abbrev refused1 : List ℕ
+refused1 = 0x72 ∷ 0x65 ∷ 0x66 ∷ 0x75 ∷ 0x73 ∷ 0x65 ∷ 0x64 ∷ 0x20 ∷ 0x31 ∷ 0x0A ∷ []
+
+pub nothing-listed : (reportText [] masterWords 70 ≡ refused1) × (reportAnswer [] masterWords 70 ≡ 10)
+unfolding reportAnswer reportText reportVerdict listingVerdict opening headerVerdict fieldsVerdict fieldVerdict fields digits
+nothing-listed = (refl, refl)

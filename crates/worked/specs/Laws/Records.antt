@@ -1,0 +1,151 @@
+-- Worked totals records (document 02, Point 6), by computing, on the small master: a record made, moved by each kind of edit that is accepted, and
+-- 25 at each end of its range. Assumes nothing.
+use Rattle.std.specs.Prelude.{Ok, Err}
+use Rattle.refusal.specs.Refusal.{Verdict}
+use Rattle.std.specs.Prelude.{ℕ, ◌-◌, ◌^◌, ◌≡◌, refl, List, [], ◌∷◌}
+use Rattle.endian.specs.Bytes.{be24, be32, put}
+use Rattle.refusal.specs.declared.Refusal.TheVariants.{OverlappingMove, NotEnoughSpace, TotalsOutOfRange}
+use Rattle.refusal.specs.Refusal.{number_of}
+use Rattle.tree.specs.Table.{file, directory, count, name_at, nodeAt, nodesFrom, nodesOf, shut, parentBelow, parent_of, entriesBytes, textsOf, encode, shallowFrom, shallow, limits}
+use Rattle.tree.specs.Insert.{setPlace}
+use Rattle.space.specs.Used.{usesByte, nonempty, totalSize}
+use Rattle.space.specs.Free.{runs, freeRegions, largestSize}
+use Rattle.space.specs.MaxRegionSize.{besideFree, maxSizeFrom}
+use Rattle.space.specs.declared.totals.Totals.{Totals}
+use Rattle.space.specs.Totals.{totalsVerdict, totalsMoved}
+use Rattle.executable.specs.Program.{program_of, programIn, ownRegion}
+use Rattle.opened.specs.Opening.{table_of, nodesIn, behindTable, usedIn, freeOf, usedOf}
+use Rattle.disc.specs.Calls.{recordAnswer}
+use Rattle.edits.specs.Change.{withTable, written, tableVerdict, placeVerdict}
+use Rattle.edits.specs.Edits.{Edit, moveFile, resizeFile, rewrite, tableOnly, planMove, planResize, countedVerdict, verdictOf, imageAfter, totalsAfter}
+use Rattle.worked.specs.Image.{master, masterWords, masterBytes}
+use Rattle.worked.specs.Laws.Marked.{at, opens, nodes, header, free, used, fresh, resizedA, moved-used, moved-free}
+
+-- ---- the images that are written
+
+abbrev rewrittenMaster : List ℕ
+rewrittenMaster = written (tableOnly (directory [] 2 ∷ file (0x61 ∷ []) 0x500 0x100 ∷ [])) master
+
+useds : (usedOf rewrittenMaster ≡ 1370) × (usedOf (resizedA 756) ≡ 1870) × (usedOf (resizedA 0xFF) ≡ 1369) × (usedOf (resizedA 0x101) ≡ 1371)
+unfolding master put table_of nodesIn nodesOf nodesFrom nodeAt name_at count be24 be32 textsOf encode entriesBytes parent_of parentBelow written withTable usedOf behindTable program_of programIn ownRegion totalSize
+useds = (refl, refl, refl, refl)
+
+frees : (freeOf rewrittenMaster ≡ at 1114 166 ∷ at 1536 6656 ∷ []) × (freeOf (resizedA 756) ≡ at 1114 166 ∷ at 2036 6156 ∷ [])
+unfolding master put table_of nodesIn nodesOf nodesFrom nodeAt name_at count be24 be32 textsOf encode entriesBytes parent_of parentBelow written withTable freeOf usedIn behindTable program_of programIn ownRegion freeRegions runs usesByte nonempty
+frees = (refl, refl)
+
+-- ---- what an edit of the small master with a record answers, and what image and record it leaves
+
+abbrev answer : Edit → Totals → Verdict
+answer ed t = verdictOf ed t master masterWords masterBytes
+
+abbrev image : Edit → Totals → List ℕ
+image ed t = imageAfter ed t master masterWords masterBytes
+
+abbrev after : Edit → Totals → Totals
+after ed t = totalsAfter ed t master masterWords masterBytes
+
+abbrev totals : ℕ → ℕ → ℕ → Totals
+totals used largest edits = record { used = used; largest = largest; edits = edits }
+
+-- ---- with any record: 25 or not, by the bytes used before and after; then what the record comes to
+
+module _ (t : Totals) where
+  record Counted : Type 0 where
+    pub rewritten : answer rewrite t ≡ totalsVerdict t 1370 1370
+    pub same_size : answer (resizeFile 1 0x100) t ≡ totalsVerdict t 1370 1370
+    pub resized : answer (resizeFile 1 756) t ≡ totalsVerdict t 1370 1870
+    pub less : answer (resizeFile 1 0xFF) t ≡ totalsVerdict t 1370 1369
+    pub more : answer (resizeFile 1 0x101) t ≡ totalsVerdict t 1370 1371
+    pub moved : answer (moveFile 1 0x600) t ≡ totalsVerdict t 1370 1370
+
+  counted : Counted
+  unfolding verdictOf countedVerdict planMove planResize maxSizeFrom besideFree tableVerdict placeVerdict limits shallow shallowFrom shut textsOf encode entriesBytes parent_of parentBelow setPlace
+  counted = record {
+    rewritten = rw (opens, nodes, free, header.3, header.0, header.1, used, useds.0);
+    same_size = rw (opens, nodes, used);
+    resized = rw (opens, nodes, free, header.3, header.0, header.1, free, used, useds.1);
+    less = rw (opens, nodes, free, header.3, header.0, header.1, used, useds.2);
+    more = rw (opens, nodes, free, header.3, header.0, header.1, free, used, useds.3);
+    moved = rw (opens, nodes, free, header.3, header.0, header.1, free, used, moved-used);
+  }
+
+  -- accepted: the new record
+  after-rewrite : totalsVerdict t 1370 1370 ≡ Ok tt → after rewrite t ≡ totalsMoved t 1370 1370 6656
+  unfolding totalsAfter largestSize
+  after-rewrite e = rw (counted.rewritten, e, nodes, used, useds.0, frees.0)
+
+  after_same : totalsVerdict t 1370 1370 ≡ Ok tt → after (resizeFile 1 0x100) t ≡ totalsMoved t 1370 1370 6656
+  unfolding totalsAfter planResize largestSize
+  after_same e = rw (counted.same_size, e, nodes, used, free)
+
+  after-resize : totalsVerdict t 1370 1870 ≡ Ok tt → after (resizeFile 1 756) t ≡ totalsMoved t 1370 1870 6156
+  unfolding totalsAfter planResize maxSizeFrom besideFree setPlace largestSize
+  after-resize e = rw (counted.resized, e, nodes, free, used, useds.1, frees.1)
+
+  after-move : totalsVerdict t 1370 1370 ≡ Ok tt → after (moveFile 1 0x600) t ≡ totalsMoved t 1370 1370 6400
+  unfolding totalsAfter planMove maxSizeFrom besideFree setPlace largestSize
+  after-move e = rw (counted.moved, e, nodes, free, used, moved-used, moved-free)
+
+-- ---- the examples
+
+-- the highest number that a record holds
+abbrev most : ℕ
+most = 2 ^ 32 - 1
+
+-- a record that can count no more edits
+abbrev counted-out : Totals
+counted-out = totals 1370 6656 most
+
+pub record Records : Type 0 where
+  -- "A record made at opening, its count 0"
+  pub made : recordAnswer master masterWords ≡ Ok fresh
+  -- `a` grown by 500 bytes, which the free region behind it loses
+  pub grown : (answer (resizeFile 1 756) fresh ≡ Ok tt) × (after (resizeFile 1 756) fresh ≡ totals 1870 6156 1)
+  -- a resize to the present size writes nothing, and counts
+  pub same_size : (answer (resizeFile 1 0x100) fresh ≡ Ok tt) × (after (resizeFile 1 0x100) fresh ≡ totals 1370 6656 1) × (image (resizeFile 1 0x100) fresh ≡ master)
+  -- a bare rewrite counts
+  pub rewritten : (answer rewrite fresh ≡ Ok tt) × (after rewrite fresh ≡ totals 1370 6656 1)
+  -- a move uses no more bytes; of the region behind `a` 6400 are left
+  pub moved : (answer (moveFile 1 0x600) fresh ≡ Ok tt) × (after (moveFile 1 0x600) fresh ≡ totals 1370 6400 1)
+  -- a record that is not the image's: used bytes and count move from what it holds, and "the largest region is the new image's"
+  pub other : after (resizeFile 1 756) (totals 5 7 9) ≡ totals 505 6156 10
+  pub largest : (n : ℕ) → (after rewrite (totals 1370 n 0) ≡ totals 1370 6656 1) × (after (resizeFile 1 0x100) (totals 1370 n 0) ≡ totals 1370 6656 1)
+  -- the last edit that can be counted, and one more: 25, and all is left as it was
+  pub last : (answer rewrite (totals 1370 6656 (most - 1)) ≡ Ok tt) × (after rewrite (totals 1370 6656 (most - 1)) ≡ totals 1370 6656 most)
+  pub full : (answer rewrite counted-out ≡ Err TotalsOutOfRange) × (image rewrite counted-out ≡ master) × (after rewrite counted-out ≡ counted-out)
+  pub full-same : answer (resizeFile 1 0x100) counted-out ≡ Err TotalsOutOfRange
+  -- one byte less: a record that says 1 byte is used, and one that says none
+  pub below : (answer (resizeFile 1 0xFF) (totals 1 6656 0) ≡ Ok tt) × (answer (resizeFile 1 0xFF) (totals 0 6656 0) ≡ Err TotalsOutOfRange)
+  -- one byte more, where there is room for one and for none
+  pub above : (answer (resizeFile 1 0x101) (totals (most - 1) 6656 0) ≡ Ok tt) × (answer (resizeFile 1 0x101) (totals most 6656 0) ≡ Err TotalsOutOfRange)
+  -- "tested last": with that record too a move to no free place is 21, and one onto the file itself 20
+  pub before-25 : (answer (moveFile 1 0x400) counted-out ≡ Err NotEnoughSpace) × (answer (moveFile 1 0x580) counted-out ≡ Err OverlappingMove) × (after (moveFile 1 0x400) counted-out ≡ counted-out)
+  pub numbers : (number_of TotalsOutOfRange ≡ 25) × (number_of NotEnoughSpace ≡ 21) × (number_of OverlappingMove ≡ 20)
+
+no_place : answer (moveFile 1 0x400) counted-out ≡ Err NotEnoughSpace
+unfolding verdictOf countedVerdict planMove maxSizeFrom besideFree
+no_place = rw (opens, nodes, free)
+
+onto-itself : answer (moveFile 1 0x580) counted-out ≡ Err OverlappingMove
+unfolding verdictOf countedVerdict planMove
+onto-itself = rw (opens, nodes)
+
+pub records : Records
+unfolding recordAnswer largestSize totalsVerdict totalsMoved imageAfter totalsAfter planResize
+records = record {
+  made = rw (opens, free, used);
+  grown = ((counted fresh).resized, after-resize fresh refl);
+  same_size = ((counted fresh).same_size, after_same fresh refl, rw ((counted fresh).same_size, nodes));
+  rewritten = ((counted fresh).rewritten, after-rewrite fresh refl);
+  moved = ((counted fresh).moved, after-move fresh refl);
+  other = after-resize (totals 5 7 9) refl;
+  largest = λ n. (after-rewrite (totals 1370 n 0) refl, after_same (totals 1370 n 0) refl);
+  last = ((counted (totals 1370 6656 (most - 1))).rewritten, after-rewrite (totals 1370 6656 (most - 1)) refl);
+  full = ((counted counted-out).rewritten, rw (counted counted-out).rewritten, rw (counted counted-out).rewritten);
+  full-same = (counted counted-out).same_size;
+  below = ((counted (totals 1 6656 0)).less, (counted (totals 0 6656 0)).less);
+  above = ((counted (totals (most - 1) 6656 0)).more, (counted (totals most 6656 0)).more);
+  before-25 = (no_place, onto-itself, rw no_place);
+  numbers = (refl, refl, refl);
+}

@@ -1,0 +1,2 @@
+// Worked examples. No code.
+#![tactic(auto)]
