@@ -7,72 +7,72 @@ use borrow.Author.Tests.{le-ltb}
 use lib.ListN.{length, get_or, take}
 use lib.Seq.{ext_get_or, get_or-take, length-take-le}
 use Rattle.endian.specs.Bytes.{AllBytes}
-use Rattle.endian.specs.Laws.Stored.{length-span, getD-span}
+use Rattle.endian.specs.Laws.Stored.{length-span, get_d-span}
 use Rattle.std.specs.Prelude.{Ok, Err}
 use Rattle.refusal.specs.Refusal.{Verdict}
 use Rattle.refusal.specs.declared.Refusal.{Refusal}
 use Rattle.header.specs.declared.fields.Field.{Field}
 use Rattle.header.specs.declared.value.DiscHeader.{DiscHeader}
-use Rattle.header.specs.Fields.{fields, gameCodeField, makerCodeField, unused00aField, gameNameField, unused408Field}
+use Rattle.header.specs.Fields.{fields, game_code_field, maker_code_field, unused00a_field, game_name_field, unused408_field}
 use Rattle.header.specs.Inner.Judged.{field_at, nth}
-use Rattle.header.specs.Header.{bytes_of, headerOf, headerAnswer, headerRead, fieldBytes, putHeader, writeVerdict, headerWritten}
-use Rattle.header.specs.Verdicts.{headerVerdict}
+use Rattle.header.specs.Header.{bytes_of, header_of, header_answer, header_read, field_bytes, put_header, write_verdict, header_written}
+use Rattle.header.specs.Verdicts.{header_verdict}
 use Rattle.header.specs.Laws.FieldTests.{header-passed}
 use Rattle.header.specs.Laws.Tiling.{fields-tile, fields-count, one_field}
-use Rattle.header.specs.Laws.RoundTrip.{Fills, length-putFields, putFields-in, write_read}
-use Rattle.counter.specs.Replies.{reply, accepts, refuses, numberTold, verdictReply}
+use Rattle.header.specs.Laws.RoundTrip.{Fills, length-put_fields, put_fields-in, write_read}
+use Rattle.counter.specs.Replies.{reply, accepts, refuses, number_told, verdict_reply}
 
-module _ (image slots : List ℕ) (good : headerVerdict image ≡ Ok tt) (bytes : AllBytes image) (room : length slots ≡ 0x440) where
+module _ (image slots : List ℕ) (good : header_verdict image ≡ Ok tt) (bytes : AllBytes image) (room : length slots ≡ 0x440) where
   whole : 0x440 ≤ length image
   whole = (header-passed image good).whole
 
   long : (f : Field) → f.at + f.len ≤ 0x440 → length (bytes_of f image) ≡ f.len
   long f h = length-span image f.at f.len (omega (arith, whole))
 
-  fills : Fills fields (fieldBytes (headerOf image))
-  unfolding fields fieldBytes headerOf
-  fills = (long gameCodeField (omega arith), (long makerCodeField (omega arith), (refl, (refl, (refl, (refl, (long unused00aField (omega arith), (refl, (refl, (long gameNameField (omega arith), (refl, (refl, (long unused408Field (omega arith), (refl, (refl, (refl, (refl, (refl, (refl, (refl, (refl, tt)))))))))))))))))))))
+  fills : Fills fields (field_bytes (header_of image))
+  unfolding fields field_bytes header_of
+  fills = (long game_code_field (omega arith), (long maker_code_field (omega arith), (refl, (refl, (refl, (refl, (long unused00a_field (omega arith), (refl, (refl, (long game_name_field (omega arith), (refl, (refl, (long unused408_field (omega arith), (refl, (refl, (refl, (refl, (refl, (refl, (refl, (refl, tt)))))))))))))))))))))
 
-  field : (k : ℕ) → k < 21 → bytes_of (nth fields k) (putHeader (headerOf image) slots) ≡ bytes_of (nth fields k) image
+  field : (k : ℕ) → k < 21 → bytes_of (nth fields k) (put_header (header_of image) slots) ≡ bytes_of (nth fields k) image
   field k h =
       let l : k < length fields = omega (arith, fields-count) in
-      putFields-in 0 0x440 fields (fieldBytes (headerOf image)) slots fields-tile fills (omega arith) k l
-      ∙ sym (rw (write_read image whole bytes) at (putFields-in 0 0x440 fields (fieldBytes (headerOf image)) image fields-tile fills whole k l))
+      put_fields-in 0 0x440 fields (field_bytes (header_of image)) slots fields-tile fills (omega arith) k l
+      ∙ sym (rw (write_read image whole bytes) at (put_fields-in 0 0x440 fields (field_bytes (header_of image)) image fields-tile fills whole k l))
 
   -- the byte with number i of a field that holds it
   byte-in : (s : List ℕ) (f : Field) (i : ℕ) → f.at ≤ i → i < f.at + f.len → get_or s i 0 ≡ get_or (bytes_of f s) (i - f.at) 0
   byte-in s f i l h =
       let e : f.at + (i - f.at) ≡ i = omega arith in
-      sym (rw e at (getD-span s f.at f.len (i - f.at) (omega arith)))
+      sym (rw e at (get_d-span s f.at f.len (i - f.at) (omega arith)))
 
-  byte : (i : ℕ) → i < 0x440 → get_or (putHeader (headerOf image) slots) i 0 ≡ get_or image i 0
+  byte : (i : ℕ) → i < 0x440 → get_or (put_header (header_of image) slots) i 0 ≡ get_or image i 0
   byte i h =
       let o = one_field i h in
       let f : Field = field_at o.0 in
-      byte-in (putHeader (headerOf image) slots) f i o.1.1.0 o.1.1.1
+      byte-in (put_header (header_of image) slots) f i o.1.1.0 o.1.1.1
       ∙ ap (λ (l : List ℕ). get_or l (i - f.at) 0) (field o.0 o.1.0)
       ∙ sym (byte-in image f i o.1.1.0 o.1.1.1)
 
-  taken : putHeader (headerOf image) slots ≡ take 0x440 image
+  taken : put_header (header_of image) slots ≡ take 0x440 image
   taken =
-      let l : length (putHeader (headerOf image) slots) ≡ 0x440 = length-putFields 0 0x440 fields (fieldBytes (headerOf image)) slots fields-tile fills (omega arith) ∙ room in
+      let l : length (put_header (header_of image) slots) ≡ 0x440 = length-put_fields 0 0x440 fields (field_bytes (header_of image)) slots fields-tile fills (omega arith) ∙ room in
       let t : length (take 0x440 image) ≡ 0x440 = length-take-le 0x440 image whole in
       ext_get_or 0 _ _ (l ∙ sym t) (λ i h. byte i (omega arith) ∙ sym (get_or-take 0x440 image i 0 (omega arith)))
 
-  back : reply (numberTold (writeVerdict slots)) (headerWritten (headerOf image) slots) ≡ accepts (take 0x440 image)
+  back : reply (number_told (write_verdict slots)) (header_written (header_of image) slots) ≡ accepts (take 0x440 image)
   back = rw (le-ltb (length slots) 0x440 (omega arith), taken) refl
 
 module _ (image slots : List ℕ) where
-  pub header-written : (h : DiscHeader) → Ok h ≡ headerRead image → AllBytes image → length slots ≡ 0x440 → reply (numberTold (writeVerdict slots)) (headerWritten h slots) ≡ verdictReply slots (headerVerdict image) (take 0x440 image)
-  header-written h e bytes room = go (headerVerdict image) refl e
+  pub header-written : (h : DiscHeader) → Ok h ≡ header_read image → AllBytes image → length slots ≡ 0x440 → reply (number_told (write_verdict slots)) (header_written h slots) ≡ verdict_reply slots (header_verdict image) (take 0x440 image)
+  header-written h e bytes room = go (header_verdict image) refl e
     where
-      go : (v : Verdict) → headerVerdict image ≡ v → Ok h ≡ headerAnswer v (headerOf image) → reply (numberTold (writeVerdict slots)) (headerWritten h slots) ≡ verdictReply slots v (take 0x440 image)
-      go (Ok _) g r = let k : h ≡ headerOf image = cc in rw (k, back image slots g bytes room)
+      go : (v : Verdict) → header_verdict image ≡ v → Ok h ≡ header_answer v (header_of image) → reply (number_told (write_verdict slots)) (header_written h slots) ≡ verdict_reply slots v (take 0x440 image)
+      go (Ok _) g r = let k : h ≡ header_of image = cc in rw (k, back image slots g bytes room)
       go (Err c) g r = cc
 
-  pub header_refused : (c : Refusal) → Err c ≡ headerRead image → refuses slots c ≡ verdictReply slots (headerVerdict image) (take 0x440 image)
-  header_refused c e = go (headerVerdict image) e
+  pub header_refused : (c : Refusal) → Err c ≡ header_read image → refuses slots c ≡ verdict_reply slots (header_verdict image) (take 0x440 image)
+  header_refused c e = go (header_verdict image) e
     where
-      go : (v : Verdict) → Err c ≡ headerAnswer v (headerOf image) → refuses slots c ≡ verdictReply slots v (take 0x440 image)
+      go : (v : Verdict) → Err c ≡ header_answer v (header_of image) → refuses slots c ≡ verdict_reply slots v (take 0x440 image)
       go (Ok _) r = cc
       go (Err d) r = let k : c ≡ d = cc in rw k

@@ -16,7 +16,7 @@ use Rattle.disc.specs.declared.answers.DolFile.{DolFile}
 use Rattle.space.specs.declared.totals.Totals.{Totals}
 use Rattle.executable.specs.Program.{Program}
 use Rattle.window.specs.declared.Window.{Window}
-use Rattle.edits.specs.Edits.{numberedAs}
+use Rattle.edits.specs.Edits.{numbered_as}
 use Rattle.opened.specs.Opening.{zeros}
 
 -- the number that a call returns, and its slots afterwards
@@ -41,81 +41,81 @@ pub record Read (wanted given : Reply) (before after : List ℕ) : Type 0 where
 
 -- ---- a value or a refusal
 
-abbrev pub numberTold : {A : Type 0} → Result A Refusal → ℕ
-numberTold (Ok _) = 0
-numberTold (Err c) = number_of c
+abbrev pub number_told : {A : Type 0} → Result A Refusal → ℕ
+number_told (Ok _) = 0
+number_told (Err c) = number_of c
 
 -- the value in these words, or the slots as they were
-abbrev pub slotsTold : {A S : Type 0} → (A → S) → S → Result A Refusal → S
-slotsTold words before (Ok a) = words a
-slotsTold words before (Err c) = before
+abbrev pub slots_told : {A S : Type 0} → (A → S) → S → Result A Refusal → S
+slots_told words before (Ok a) = words a
+slots_told words before (Err c) = before
 
 abbrev pub replied : {A : Type 0} → (A → List ℕ) → List ℕ → Result A Refusal → Reply
-replied words before a = reply (numberTold a) (slotsTold words before a)
+replied words before a = reply (number_told a) (slots_told words before a)
 
 -- the same where the words stand beside the verdict
-abbrev pub verdictReply : List ℕ → Verdict → List ℕ → Reply
-verdictReply before v ws = replied (λ _. ws) before v
+abbrev pub verdict_reply : List ℕ → Verdict → List ℕ → Reply
+verdict_reply before v ws = replied (λ _. ws) before v
 
 -- ---- the words of each value, in the order of its slots
 
-abbrev pub discWords : Disc → List ℕ
-discWords d = d.fst_offset ∷ d.fst_size ∷ d.disc_end ∷ d.entries ∷ d.used ∷ []
+abbrev pub disc_words : Disc → List ℕ
+disc_words d = d.fst_offset ∷ d.fst_size ∷ d.disc_end ∷ d.entries ∷ d.used ∷ []
 
-abbrev pub discTotalsWords : DiscTotals → List ℕ
-discTotalsWords t = t.disc_end ∷ t.used ∷ []
+abbrev pub disc_totals_words : DiscTotals → List ℕ
+disc_totals_words t = t.disc_end ∷ t.used ∷ []
 
-abbrev pub regionWords : DiscRegion → List ℕ
-regionWords r = r.offset ∷ r.size ∷ []
+abbrev pub region_words : DiscRegion → List ℕ
+region_words r = r.offset ∷ r.size ∷ []
 
 -- how many regions, a size, the length of a text, an entry's number
 abbrev pub one : ℕ → List ℕ
 one n = n ∷ []
 
 -- a window's start, length and position
-abbrev pub windowIn : List ℕ → Window
-windowIn slots = record { start = get_or slots 0 0; len = get_or slots 1 0; position = get_or slots 2 0 }
+abbrev pub window_in : List ℕ → Window
+window_in slots = record { start = get_or slots 0 0; len = get_or slots 1 0; position = get_or slots 2 0 }
 
-abbrev pub windowWords : Window → List ℕ
-windowWords w = w.start ∷ w.len ∷ w.position ∷ []
+abbrev pub window_words : Window → List ℕ
+window_words w = w.start ∷ w.len ∷ w.position ∷ []
 
-abbrev pub totalsWords : Totals → List ℕ
-totalsWords t = t.used ∷ t.largest ∷ t.edits ∷ []
+abbrev pub totals_words : Totals → List ℕ
+totals_words t = t.used ∷ t.largest ∷ t.edits ∷ []
 
 -- kind 0 with offset and size, kind 1 with parent and next
-abbrev pub entryWords : ℕ → Entry → List ℕ
-entryWords k (File f) = k ∷ 0 ∷ f.offset ∷ f.size ∷ []
-entryWords k (Directory d) = k ∷ 1 ∷ d.parent ∷ d.next ∷ []
+abbrev pub entry_words : ℕ → Entry → List ℕ
+entry_words k (File f) = k ∷ 0 ∷ f.offset ∷ f.size ∷ []
+entry_words k (Directory d) = k ∷ 1 ∷ d.parent ∷ d.next ∷ []
 
 -- "7 text and 11 data offsets, then addresses, then sizes in that order, BSS address, BSS size, entry point"
-unfoldable pub dolWords : DolHeader → List ℕ
-dolWords h =
+unfoldable pub dol_words : DolHeader → List ℕ
+dol_words h =
     (h.text_offsets ++ h.data_offsets)
     ++ ((h.text_addresses ++ h.data_addresses) ++ ((h.text_sizes ++ h.data_sizes) ++ (h.bss_address ∷ h.bss_size ∷ h.entry_point ∷ [])))
 
 -- ---- answers of other forms, over the slots as they were
 
 -- a program has at least 0xE4 bytes, so size 0 is none
-unfoldable pub programReply : List ℕ → Program → Reply
-programReply before (Ok (Some r)) = accepts (regionWords r)
-programReply before (Ok None) = accepts (0 ∷ 0 ∷ [])
-programReply before (Err c) = refuses before c
+unfoldable pub program_reply : List ℕ → Program → Reply
+program_reply before (Ok (Some r)) = accepts (region_words r)
+program_reply before (Ok None) = accepts (0 ∷ 0 ∷ [])
+program_reply before (Err c) = refuses before c
 
-unfoldable pub foundReply : List ℕ → Found → Reply
-foundReply before (found.At k e) = accepts (entryWords k e)
-foundReply before (found.Refused c) = refuses before c
+unfoldable pub found_reply : List ℕ → Found → Reply
+found_reply before (found.At k e) = accepts (entry_words k e)
+found_reply before (found.Refused c) = refuses before c
 
 -- the executable: the header's slots, and the window's
-abbrev pub dolReply : List ℕ → Result DolFile Refusal → Reply
-dolReply before a = replied (λ (f : DolFile). dolWords f.header) before a
+abbrev pub dol_reply : List ℕ → Result DolFile Refusal → Reply
+dol_reply before a = replied (λ (f : DolFile). dol_words f.header) before a
 
-abbrev pub dolWindowReply : List ℕ → Result DolFile Refusal → Reply
-dolWindowReply before a = replied (λ (f : DolFile). windowWords f.window) before a
+abbrev pub dol_window_reply : List ℕ → Result DolFile Refusal → Reply
+dol_window_reply before a = replied (λ (f : DolFile). window_words f.window) before a
 
 -- ---- the edits, for `Edited`: one that gives only that it is done, and one that gives an entry's number
 
 abbrev pub done : Verdict → ℕ → ℕ
-done v k = numberTold v
+done v k = number_told v
 
 abbrev pub numbered : List ℕ → Verdict → ℕ → Reply
-numbered before v k = replied one before (numberedAs v k)
+numbered before v k = replied one before (numbered_as v k)

@@ -1,7 +1,7 @@
 // A value or a refusal in C: 0 and the value in the memory that the caller lends, or the refusal's number and that memory as it was.
 ghost use Rattle.std.specs.Prelude.{◌≡◌, ℕ, List, []};
-ghost use Rattle.counter.specs.Replies.{numberTold, slotsTold, discWords, discTotalsWords, regionWords, one};
-ghost use Rattle.counter.specs.Replies.{windowWords, totalsWords};
+ghost use Rattle.counter.specs.Replies.{number_told, slots_told, disc_words, disc_totals_words, region_words, one};
+ghost use Rattle.counter.specs.Replies.{window_words, totals_words};
 
 use disc::DiscTotals;
 use opened::Disc;
@@ -15,8 +15,8 @@ pub trait Value: Copy {
 }
 
 pub fn give<T: Value>(slot: &mut T, answer: Result<T, Refusal>) -> u32
-    ensures number { result ≡ numberTold answer }
-    ensures slot_after { T.words slot.new ≡ slotsTold T.words (T.words slot.old) answer }
+    ensures number { result ≡ number_told answer }
+    ensures slot_after { T.words slot.new ≡ slots_told T.words (T.words slot.old) answer }
 {
     match answer {
         Ok(value) => {
@@ -35,15 +35,15 @@ impl Value for () {
 }
 
 impl Value for Disc {
-    ghost words = { discWords };
+    ghost words = { disc_words };
 }
 
 impl Value for DiscTotals {
-    ghost words = { discTotalsWords };
+    ghost words = { disc_totals_words };
 }
 
 impl Value for DiscRegion {
-    ghost words = { regionWords };
+    ghost words = { region_words };
 }
 
 // A size, an entry's number, or how many regions.
@@ -57,11 +57,11 @@ impl Value for u64 {
 }
 
 impl Value for Window {
-    ghost words = { windowWords };
+    ghost words = { window_words };
 }
 
 impl Value for Totals {
-    ghost words = { totalsWords };
+    ghost words = { totals_words };
 }
 
 // An entry, which is a file or a directory.

@@ -1,7 +1,7 @@
 // The edits. The totals record is lent: used bytes, the largest free region's size, accepted edits.
 ghost use Rattle.edits.specs.Edits as edits;
 ghost use Rattle.edits.specs.Promise.{Edited, lent};
-ghost use Rattle.edit.specs.Inner.Decides.{editOf};
+ghost use Rattle.edit.specs.Inner.Decides.{edit_of};
 ghost use Rattle.counter.specs.Replies.{reply, one, done, numbered};
 
 use crate::answer::give;
@@ -21,7 +21,7 @@ fn give_done(
     totals: &mut Totals,
     edit: Edit<'_>,
 ) -> u32
-    ensures { Edited done (editOf edit.entry) (lent image.old words.old bytes.old totals.old)
+    ensures { Edited done (edit_of edit.entry) (lent image.old words.old bytes.old totals.old)
         (lent image.new words.new bytes.new totals.new) result }
 {
     give(&mut (), edit::done(image, words, bytes, totals, edit))
@@ -36,7 +36,7 @@ pub extern "C" fn counter_move_file(
     file: u32,
     offset: u32,
 ) -> u32
-    ensures { Edited done (edits.moveFile file offset) (lent image.old words.old bytes.old totals.old)
+    ensures { Edited done (edits.move_file file offset) (lent image.old words.old bytes.old totals.old)
         (lent image.new words.new bytes.new totals.new) result }
 {
     give_done(image, words, bytes, totals, Edit::Move { file, offset })
@@ -51,7 +51,7 @@ pub extern "C" fn counter_resize_file(
     file: u32,
     size: u32,
 ) -> u32
-    ensures { Edited done (edits.resizeFile file size) (lent image.old words.old bytes.old totals.old)
+    ensures { Edited done (edits.resize_file file size) (lent image.old words.old bytes.old totals.old)
         (lent image.new words.new bytes.new totals.new) result }
 {
     give_done(image, words, bytes, totals, Edit::Resize { file, size })
@@ -66,7 +66,7 @@ pub extern "C" fn counter_fill_file(
     file: u32,
     clip: &[u8],
 ) -> u32
-    ensures { Edited done (edits.fillFile file clip.now) (lent image.old words.old bytes.old totals.old)
+    ensures { Edited done (edits.fill_file file clip.now) (lent image.old words.old bytes.old totals.old)
         (lent image.new words.new bytes.new totals.new) result }
 {
     give_done(image, words, bytes, totals, Edit::Fill { file, clip })
@@ -95,7 +95,7 @@ fn give_entry(
     edit: Edit<'_>,
     answer: &mut u32,
 ) -> u32
-    ensures { Edited (numbered (one answer.old)) (editOf edit.entry)
+    ensures { Edited (numbered (one answer.old)) (edit_of edit.entry)
         (lent image.old words.old bytes.old totals.old) (lent image.new words.new bytes.new totals.new)
         (reply result (one answer.new)) }
 {
@@ -112,7 +112,7 @@ pub extern "C" fn counter_insert_file(
     name: &[u8],
     answer: &mut u32,
 ) -> u32
-    ensures { Edited (numbered (one answer.old)) (edits.insertFile parent name.now)
+    ensures { Edited (numbered (one answer.old)) (edits.insert_file parent name.now)
         (lent image.old words.old bytes.old totals.old) (lent image.new words.new bytes.new totals.new)
         (reply result (one answer.new)) }
 {
@@ -131,7 +131,7 @@ pub extern "C" fn counter_insert_directory(
     name: &[u8],
     answer: &mut u32,
 ) -> u32
-    ensures { Edited (numbered (one answer.old)) (edits.insertDirectory parent name.now)
+    ensures { Edited (numbered (one answer.old)) (edits.insert_directory parent name.now)
         (lent image.old words.old bytes.old totals.old) (lent image.new words.new bytes.new totals.new)
         (reply result (one answer.new)) }
 {
@@ -150,7 +150,7 @@ pub extern "C" fn counter_make_directories(
     path: &[u8],
     answer: &mut u32,
 ) -> u32
-    ensures { Edited (numbered (one answer.old)) (edits.makeDirectories start path.now)
+    ensures { Edited (numbered (one answer.old)) (edits.make_directories start path.now)
         (lent image.old words.old bytes.old totals.old) (lent image.new words.new bytes.new totals.new)
         (reply result (one answer.new)) }
 {

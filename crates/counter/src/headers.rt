@@ -1,9 +1,9 @@
 // The headers: of the disc, and of the executable.
 ghost use Rattle.std.specs.Prelude.{◌≡◌, length, take};
-ghost use Rattle.header.specs.Verdicts.{headerVerdict};
-ghost use Rattle.disc.specs.Files.{openDolAnswer};
-ghost use Rattle.counter.specs.Replies.{Read, reply, verdictReply, dolWords, dolReply, windowWords};
-ghost use Rattle.counter.specs.Replies.{dolWindowReply};
+ghost use Rattle.header.specs.Verdicts.{header_verdict};
+ghost use Rattle.disc.specs.Files.{open_dol_answer};
+ghost use Rattle.counter.specs.Replies.{Read, reply, verdict_reply, dol_words, dol_reply, window_words};
+ghost use Rattle.counter.specs.Replies.{dol_window_reply};
 
 use crate::answer::give;
 use executable::DolHeader;
@@ -15,7 +15,7 @@ use window::Window;
 #[unsafe(no_mangle)]
 pub extern "C" fn counter_header(image: &[u8], fields: &mut [u8; 0x440]) -> u32
     ensures { reply result fields.new
-        ≡ verdictReply fields.old (headerVerdict image.now) (take 0x440 image.now) }
+        ≡ verdict_reply fields.old (header_verdict image.now) (take 0x440 image.now) }
 {
     match DiscHeader::read_from(image) {
         Ok(header) => give(&mut (), header.write_to(fields)),
@@ -32,10 +32,10 @@ pub extern "C" fn counter_open_dol(
     header: &mut DolHeader,
     window: &mut Window,
 ) -> u32
-    ensures answer { Read (dolReply (dolWords header.old) (openDolAnswer image.now (length words.old)))
-        (reply result (dolWords header.new)) words.old words.new }
-    ensures window_after { reply result (windowWords window.new)
-        ≡ dolWindowReply (windowWords window.old) (openDolAnswer image.now (length words.old)) }
+    ensures answer { Read (dol_reply (dol_words header.old) (open_dol_answer image.now (length words.old)))
+        (reply result (dol_words header.new)) words.old words.new }
+    ensures window_after { reply result (window_words window.new)
+        ≡ dol_window_reply (window_words window.old) (open_dol_answer image.now (length words.old)) }
 {
     match disc::open_dol(image, words) {
         Ok(file) => {

@@ -1,9 +1,9 @@
 // The calls that read an image.
 ghost use Rattle.std.specs.Prelude.{◌≡◌, length};
-ghost use Rattle.disc.specs.Calls.{opened_of, totalsAnswer, recordAnswer, programAnswer};
-ghost use Rattle.disc.specs.Files.{entryAnswer, lookupAnswer, entriesAnswer, entriesList};
-ghost use Rattle.counter.specs.Replies.{Read, reply, replied, discWords, discTotalsWords, totalsWords};
-ghost use Rattle.counter.specs.Replies.{regionWords, foundReply, programReply};
+ghost use Rattle.disc.specs.Calls.{opened_of, totals_answer, record_answer, program_answer};
+ghost use Rattle.disc.specs.Files.{entry_answer, lookup_answer, entries_answer, entries_list};
+ghost use Rattle.counter.specs.Replies.{Read, reply, replied, disc_words, disc_totals_words, totals_words};
+ghost use Rattle.counter.specs.Replies.{region_words, found_reply, program_reply};
 
 use crate::answer::give;
 use disc::DiscTotals;
@@ -14,9 +14,9 @@ use tree::{Entry, Found};
 // ---- an answer that two calls give
 
 // Kept: four words, since what the last two mean goes by the second, which C reads as a number (C).
-#[tactic(auto, unfolding(crate::specs::Replies::foundReply))]
+#[tactic(auto, unfolding(crate::specs::Replies::found_reply))]
 fn give_found(answer: &mut [u32; 4], found: Found) -> u32
-    ensures { reply result answer.new ≡ foundReply answer.old found }
+    ensures { reply result answer.new ≡ found_reply answer.old found }
 {
     match found {
         Found::At(number, Entry::File(file)) => give(
@@ -34,16 +34,16 @@ fn give_found(answer: &mut [u32; 4], found: Found) -> u32
 
 #[unsafe(no_mangle)]
 pub extern "C" fn counter_open(image: &[u8], words: &mut [u32], answer: &mut Disc) -> u32
-    ensures { Read (replied discWords (discWords answer.old) (opened_of image.now (length words.old)))
-        (reply result (discWords answer.new)) words.old words.new }
+    ensures { Read (replied disc_words (disc_words answer.old) (opened_of image.now (length words.old)))
+        (reply result (disc_words answer.new)) words.old words.new }
 {
     give(answer, disc::open(image, words))
 }
 
 #[unsafe(no_mangle)]
 pub extern "C" fn counter_totals(image: &[u8], words: &mut [u32], answer: &mut DiscTotals) -> u32
-    ensures { Read (replied discTotalsWords (discTotalsWords answer.old)
-        (totalsAnswer image.now (length words.old))) (reply result (discTotalsWords answer.new)) words.old
+    ensures { Read (replied disc_totals_words (disc_totals_words answer.old)
+        (totals_answer image.now (length words.old))) (reply result (disc_totals_words answer.new)) words.old
         words.new }
 {
     give(answer, disc::totals(image, words))
@@ -52,19 +52,19 @@ pub extern "C" fn counter_totals(image: &[u8], words: &mut [u32], answer: &mut D
 // A totals record of the image, its count 0: used bytes, the largest free region's size, accepted edits.
 #[unsafe(no_mangle)]
 pub extern "C" fn counter_make_record(image: &[u8], words: &mut [u32], totals: &mut Totals) -> u32
-    ensures { Read (replied totalsWords (totalsWords totals.old) (recordAnswer image.now (length words.old)))
-        (reply result (totalsWords totals.new)) words.old words.new }
+    ensures { Read (replied totals_words (totals_words totals.old) (record_answer image.now (length words.old)))
+        (reply result (totals_words totals.new)) words.old words.new }
 {
     give(totals, disc::make_record(image, words))
 }
 
 // Where the program lies; 0 and 0 where there is none.
 // Kept: 0 and 0 for none, since the two slots of counter.h say so (C).
-#[tactic(auto, unfolding(crate::specs::Replies::programReply))]
+#[tactic(auto, unfolding(crate::specs::Replies::program_reply))]
 #[unsafe(no_mangle)]
 pub extern "C" fn counter_program(image: &[u8], words: &mut [u32], answer: &mut DiscRegion) -> u32
-    ensures { Read (programReply (regionWords answer.old) (programAnswer image.now (length words.old)))
-        (reply result (regionWords answer.new)) words.old words.new }
+    ensures { Read (program_reply (region_words answer.old) (program_answer image.now (length words.old)))
+        (reply result (region_words answer.new)) words.old words.new }
 {
     match disc::program(image, words) {
         Ok(Some(region)) => give(answer, Ok(region)),
@@ -80,7 +80,7 @@ pub extern "C" fn counter_entry(
     number: u32,
     answer: &mut [u32; 4],
 ) -> u32
-    ensures { Read (foundReply answer.old (entryAnswer image.now (length words.old) number))
+    ensures { Read (found_reply answer.old (entry_answer image.now (length words.old) number))
         (reply result answer.new) words.old words.new }
 {
     give_found(answer, disc::entry(image, words, number))
@@ -94,7 +94,7 @@ pub extern "C" fn counter_lookup(
     path: &[u8],
     answer: &mut [u32; 4],
 ) -> u32
-    ensures { Read (foundReply answer.old (lookupAnswer image.now (length words.old) start path.now))
+    ensures { Read (found_reply answer.old (lookup_answer image.now (length words.old) start path.now))
         (reply result answer.new) words.old words.new }
 {
     give_found(answer, disc::lookup(image, words, start, path))
@@ -107,9 +107,9 @@ pub extern "C" fn counter_entries(
     list: &mut [u32],
     answer: &mut Disc,
 ) -> u32
-    ensures { Read (replied discWords (discWords answer.old)
-        (entriesAnswer image.now (length words.old) (length list.old))) (reply result (discWords answer.new))
-        words.old words.new × (list.new ≡ entriesList image.now (length words.old) list.old) }
+    ensures { Read (replied disc_words (disc_words answer.old)
+        (entries_answer image.now (length words.old) (length list.old))) (reply result (disc_words answer.new))
+        words.old words.new × (list.new ≡ entries_list image.now (length words.old) list.old) }
 {
     give(answer, disc::entries(image, words, list))
 }

@@ -1,10 +1,10 @@
 // The calls on an image's free regions.
 ghost use Rattle.std.specs.Prelude.{◌≡◌, ℕ, ◌^◌, ◌<◌, length};
-ghost use Rattle.disc.specs.Calls.{freeRegionsAnswer, freeRegionsList, freeClustersAnswer, freeClustersList};
-ghost use Rattle.disc.specs.Calls.{allocateAnswer};
-ghost use Rattle.opened.specs.Answers.{maxRegionSizeAnswer};
-ghost use Rattle.disc.specs.Files.{maxFileSizeAnswer};
-ghost use Rattle.counter.specs.Replies.{Read, reply, replied, one, regionWords};
+ghost use Rattle.disc.specs.Calls.{free_regions_answer, free_regions_list, free_clusters_answer, free_clusters_list};
+ghost use Rattle.disc.specs.Calls.{allocate_answer};
+ghost use Rattle.opened.specs.Answers.{max_region_size_answer};
+ghost use Rattle.disc.specs.Files.{max_file_size_answer};
+ghost use Rattle.counter.specs.Replies.{Read, reply, replied, one, region_words};
 
 use crate::answer::give;
 use refusal::Refusal;
@@ -29,8 +29,8 @@ pub extern "C" fn counter_free_regions(
     answer: &mut u32,
 ) -> u32
     ensures { Read (replied one (one answer.old)
-        (freeRegionsAnswer image.now (length words.old) (length list.old))) (reply result (one answer.new))
-        words.old words.new × (list.new ≡ freeRegionsList image.now (length words.old) list.old) }
+        (free_regions_answer image.now (length words.old) (length list.old))) (reply result (one answer.new))
+        words.old words.new × (list.new ≡ free_regions_list image.now (length words.old) list.old) }
 {
     give_count(answer, disc::free_regions(image, words, list))
 }
@@ -43,8 +43,8 @@ pub extern "C" fn counter_free_clusters(
     answer: &mut u32,
 ) -> u32
     ensures { Read (replied one (one answer.old)
-        (freeClustersAnswer image.now (length words.old) (length list.old))) (reply result (one answer.new))
-        words.old words.new × (list.new ≡ freeClustersList image.now (length words.old) list.old) }
+        (free_clusters_answer image.now (length words.old) (length list.old))) (reply result (one answer.new))
+        words.old words.new × (list.new ≡ free_clusters_list image.now (length words.old) list.old) }
 {
     give_count(answer, disc::free_clusters(image, words, list))
 }
@@ -58,7 +58,7 @@ pub extern "C" fn counter_max_region_size(
     answer: &mut u32,
 ) -> u32
     ensures { Read (replied one (one answer.old)
-        (maxRegionSizeAnswer image.now (length words.old) offset size)) (reply result (one answer.new))
+        (max_region_size_answer image.now (length words.old) offset size)) (reply result (one answer.new))
         words.old words.new }
 {
     give(answer, disc::max_region_size(image, words, offset, size))
@@ -71,7 +71,7 @@ pub extern "C" fn counter_max_file_size(
     number: u32,
     answer: &mut u32,
 ) -> u32
-    ensures { Read (replied one (one answer.old) (maxFileSizeAnswer image.now (length words.old) number))
+    ensures { Read (replied one (one answer.old) (max_file_size_answer image.now (length words.old) number))
         (reply result (one answer.new)) words.old words.new }
 {
     give(answer, disc::max_file_size(image, words, number))
@@ -85,8 +85,8 @@ pub extern "C" fn counter_allocate(
     align: u32,
     answer: &mut DiscRegion,
 ) -> u32
-    ensures { Read (replied regionWords (regionWords answer.old)
-        (allocateAnswer image.now (length words.old) size align)) (reply result (regionWords answer.new))
+    ensures { Read (replied region_words (region_words answer.old)
+        (allocate_answer image.now (length words.old) size align)) (reply result (region_words answer.new))
         words.old words.new }
 {
     give(answer, disc::allocate(image, words, size, align))

@@ -1,6 +1,6 @@
 // The listing of an image as text.
 ghost use Rattle.std.specs.Prelude.{◌≡◌, [], ◌∷◌, length};
-ghost use Rattle.listing.specs.Listing.{listAnswer, listBuffer, reportAnswer, reportBuffer};
+ghost use Rattle.listing.specs.Listing.{list_answer, list_buffer, report_answer, report_buffer};
 ghost use Rattle.counter.specs.Replies.{Read, reply, accepts, replied, one};
 
 use crate::answer::give;
@@ -12,9 +12,9 @@ pub extern "C" fn counter_list(
     text: &mut [u8],
     answer: &mut u64,
 ) -> u32
-    ensures { Read (replied one (one answer.old) (listAnswer image.now (length words.old) (length text.old)))
+    ensures { Read (replied one (one answer.old) (list_answer image.now (length words.old) (length text.old)))
         (reply result (one answer.new)) words.old words.new
-        × (text.new ≡ listBuffer image.now (length words.old) text.old) }
+        × (text.new ≡ list_buffer image.now (length words.old) text.old) }
 {
     match listing::list(image, words, text) {
         Ok(length) => give(answer, Ok(length as u64)),
@@ -30,9 +30,9 @@ pub extern "C" fn counter_report(
     text: &mut [u8],
     answer: &mut u64,
 ) -> u32
-    ensures { Read (accepts (reportAnswer image.now (length words.old) (length text.old) ∷ []))
+    ensures { Read (accepts (report_answer image.now (length words.old) (length text.old) ∷ []))
         (reply result (one answer.new)) words.old words.new
-        × (text.new ≡ reportBuffer image.now (length words.old) text.old) }
+        × (text.new ≡ report_buffer image.now (length words.old) text.old) }
 {
     let length = listing::report(image, words, text);
     give(answer, Ok(length as u64))

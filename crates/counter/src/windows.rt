@@ -1,9 +1,9 @@
 // The calls on a window, which stands in three slots: start, length, position.
 ghost use Rattle.std.specs.Prelude.{◌≡◌, length};
-ghost use Rattle.window.specs.Window.{seekOf, count_of, movedOn, bufferOf};
+ghost use Rattle.window.specs.Window.{seek_of, count_of, moved_on, buffer_of};
 ghost use Rattle.std.specs.declared.io.SeekFrom.TheVariants.{Start, Current, End};
-ghost use Rattle.disc.specs.Files.{openFileAnswer};
-ghost use Rattle.counter.specs.Replies.{Read, reply, replied, windowWords};
+ghost use Rattle.disc.specs.Files.{open_file_answer};
+ghost use Rattle.counter.specs.Replies.{Read, reply, replied, window_words};
 
 use crate::answer::give;
 use window::{SeekFrom, Window};
@@ -15,16 +15,16 @@ pub extern "C" fn counter_open_file(
     number: u32,
     window: &mut Window,
 ) -> u32
-    ensures { Read (replied windowWords (windowWords window.old)
-        (openFileAnswer image.now (length words.old) number)) (reply result (windowWords window.new))
+    ensures { Read (replied window_words (window_words window.old)
+        (open_file_answer image.now (length words.old) number)) (reply result (window_words window.new))
         words.old words.new }
 {
     give(window, disc::open_file(image, words, number))
 }
 
 fn seek(window: &mut Window, to: SeekFrom) -> u32
-    ensures { reply result (windowWords window.new)
-        ≡ replied windowWords (windowWords window.old) (seekOf window.old to) }
+    ensures { reply result (window_words window.new)
+        ≡ replied window_words (window_words window.old) (seek_of window.old to) }
 {
     let sought = window.seek(to);
     give(window, sought)
@@ -32,24 +32,24 @@ fn seek(window: &mut Window, to: SeekFrom) -> u32
 
 #[unsafe(no_mangle)]
 pub extern "C" fn counter_seek_start(window: &mut Window, position: u64) -> u32
-    ensures { reply result (windowWords window.new)
-        ≡ replied windowWords (windowWords window.old) (seekOf window.old (Start position)) }
+    ensures { reply result (window_words window.new)
+        ≡ replied window_words (window_words window.old) (seek_of window.old (Start position)) }
 {
     seek(window, SeekFrom::Start(position))
 }
 
 #[unsafe(no_mangle)]
 pub extern "C" fn counter_seek_current(window: &mut Window, distance: i64) -> u32
-    ensures { reply result (windowWords window.new)
-        ≡ replied windowWords (windowWords window.old) (seekOf window.old (Current distance)) }
+    ensures { reply result (window_words window.new)
+        ≡ replied window_words (window_words window.old) (seek_of window.old (Current distance)) }
 {
     seek(window, SeekFrom::Current(distance))
 }
 
 #[unsafe(no_mangle)]
 pub extern "C" fn counter_seek_end(window: &mut Window, distance: i64) -> u32
-    ensures { reply result (windowWords window.new)
-        ≡ replied windowWords (windowWords window.old) (seekOf window.old (End distance)) }
+    ensures { reply result (window_words window.new)
+        ≡ replied window_words (window_words window.old) (seek_of window.old (End distance)) }
 {
     seek(window, SeekFrom::End(distance))
 }
@@ -64,9 +64,9 @@ pub extern "C" fn counter_read(
 ) -> u32
     ensures number { result ≡ 0 }
     ensures count { answer.new ≡ count_of window.old (length image.now) (length buf.old) }
-    ensures moved_on { window.new ≡ movedOn window.old
+    ensures moved_on { window.new ≡ moved_on window.old
         (count_of window.old (length image.now) (length buf.old)) }
-    ensures buffer { buf.new ≡ bufferOf window.old image.now buf.old }
+    ensures buffer { buf.new ≡ buffer_of window.old image.now buf.old }
 {
     let read = window.read(image, buf);
     *window = read.window;

@@ -1,24 +1,24 @@
 -- A record of an open disc: the regions in its words tell the largest free one. Assumes nothing.
 use Rattle.std.specs.Prelude.{ℕ, ◌+◌, ◌-◌, ◌<◌, ◌^◌, ◌≡◌, List}
 use Rattle.std.proofs.Common.{◌∙◌, arith}
-use Rattle.header.specs.Verdicts.{discEnd, table_end}
-use Rattle.space.specs.Free.{largestSize}
-use Rattle.space.specs.Used.{totalSize}
-use Rattle.space.specs.Inner.Sort.{regionsIn}
+use Rattle.header.specs.Verdicts.{disc_end, table_end}
+use Rattle.space.specs.Free.{largest_size}
+use Rattle.space.specs.Used.{total_size}
+use Rattle.space.specs.Inner.Sort.{regions_in}
 use Rattle.space.specs.declared.totals.Totals.{Totals}
-use Rattle.space.specs.Inner.Scan.{longestFrom}
+use Rattle.space.specs.Inner.Scan.{longest_from}
 use Rattle.space.specs.Laws.LargestLaws.{largest-now}
-use Rattle.opened.specs.Opening.{usedIn, behindTable, freeOf}
+use Rattle.opened.specs.Opening.{used_in, behind_table, free_space_of}
 use Rattle.opened.specs.Inner.Prepared.{IsOpen}
 use Rattle.opened.proofs.Laws.OpeningLaws.{used-regions}
 use Rattle.opened.specs.Inner.Disc.{Disc, Means}
 use Rattle.opened.specs.Laws.Meant.{start_meant, room_meant, end_meant, total_meant}
-use Rattle.disc.specs.Calls.{totalsOf}
+use Rattle.disc.specs.Calls.{totals_of}
 
-largest-is : (image w : List ℕ) (m : ℕ) → IsOpen image w m → longestFrom (discEnd image) 0 (record { offset = 0; size = 0 }) (table_end image) 0 (regionsIn w 1 (m - 1)) ≡ largestSize (freeOf image)
-unfolding usedIn freeOf
+largest-is : (image w : List ℕ) (m : ℕ) → IsOpen image w m → longest_from (disc_end image) 0 (record { offset = 0; size = 0 }) (table_end image) 0 (regions_in w 1 (m - 1)) ≡ largest_size (free_space_of image)
+unfolding used_in free_space_of
 largest-is image w m o =
-    largest-now w m (discEnd image) (table_end image) (behindTable image) o.used.sorted (omega (arith, o.known.reads.bounds.after-header)) (used-regions image w m o.used) o.known.layout
+    largest-now w m (disc_end image) (table_end image) (behind_table image) o.used.sorted (omega (arith, o.known.reads.bounds.after-header)) (used-regions image w m o.used) o.known.layout
 
 module _ (image : List ℕ) (d : Disc) (m : Means image d) where
   -- where the table ends
@@ -29,8 +29,8 @@ module _ (image : List ℕ) (d : Disc) (m : Means image d) where
   pub table_end_fits : d.start + d.room < 2 ^ 32
   table_end_fits = omega (arith, table_end_is, m.known.reads.bounds.table, m.known.reads.bounds.small)
 
-  pub recorded : (w : List ℕ) (n : ℕ) → IsOpen image w n → (e t used largest : ℕ) → e ≡ d.end → t ≡ d.start + d.room → used ≡ totalSize d.used
-      → largest ≡ longestFrom e 0 (record { offset = 0; size = 0 }) t 0 (regionsIn w 1 (n - 1)) → ◌≡◌ {A = Totals} (record { used = used; largest = largest; edits = 0 }) (totalsOf image 0)
+  pub recorded : (w : List ℕ) (n : ℕ) → IsOpen image w n → (e t used largest : ℕ) → e ≡ d.end → t ≡ d.start + d.room → used ≡ total_size d.used
+      → largest ≡ longest_from e 0 (record { offset = 0; size = 0 }) t 0 (regions_in w 1 (n - 1)) → ◌≡◌ {A = Totals} (record { used = used; largest = largest; edits = 0 }) (totals_of image 0)
   recorded w n o e t used largest p q u l =
-      let f : largest ≡ largestSize (freeOf image) = rw (p, ← end_meant image d m, q, table_end_is) at l ∙ largest-is image w n o in
+      let f : largest ≡ largest_size (free_space_of image) = rw (p, ← end_meant image d m, q, table_end_is) at l ∙ largest-is image w n o in
       rw (f, u, ← total_meant image d m)

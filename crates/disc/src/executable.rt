@@ -1,8 +1,8 @@
 // The executable of an image: its header, and the window that shows it.
 ghost use Rattle.std.specs.Prelude.{◌≡◌, length};
-ghost use Rattle.disc.specs.Files.{dolAs, openDolAnswer};
-ghost use Rattle.executable.specs.Dol.{dolVerdictOf};
-ghost use Rattle.header.specs.Verdicts.{dolOffset};
+ghost use Rattle.disc.specs.Files.{dol_as, open_dol_answer};
+ghost use Rattle.executable.specs.Dol.{dol_verdict_of};
+ghost use Rattle.header.specs.Verdicts.{dol_offset};
 ghost use Rattle.opened.specs.Opening.{zeros};
 
 use crate::answers::DolFile;
@@ -11,7 +11,7 @@ use refusal::Refusal;
 
 // The answer of an image that opened.
 fn dol_in(image: &[u8]) -> Result<DolFile, Refusal>
-    ensures { result ≡ dolAs (dolVerdictOf image.now (dolOffset image.now)) image.now }
+    ensures { result ≡ dol_as (dol_verdict_of image.now (dol_offset image.now)) image.now }
 {
     let at = header::dol_offset(image);
     let answer = executable::dol::read(image, at as usize)?;
@@ -22,7 +22,7 @@ fn dol_in(image: &[u8]) -> Result<DolFile, Refusal>
 
 /// The executable at the DOL offset: its header, and the window that shows it.
 pub fn open_dol(image: &[u8], words: &mut [u32]) -> Result<DolFile, Refusal>
-    ensures answer { result ≡ openDolAnswer image.now (length words.old) }
+    ensures answer { result ≡ open_dol_answer image.now (length words.old) }
     ensures words_zero { words.new ≡ zeros words.old }
 {
     let lent = Lent::new(words);

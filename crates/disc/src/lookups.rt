@@ -1,8 +1,9 @@
 // An image's entries: by number, by path; a file's window and the size it can grow to.
 ghost use Rattle.std.specs.Prelude.{◌≡◌, length};
-ghost use Rattle.tree.specs.Lookup.{entryFound};
+ghost use Rattle.tree.specs.Lookup.{entry_found};
 ghost use Rattle.opened.specs.Opening.{zeros};
-ghost use Rattle.disc.specs.Files.{pathFound, fileIn, entryAnswer, lookupAnswer, openFileAnswer, maxFileSizeAnswer};
+ghost use Rattle.disc.specs.Files as files_of;
+ghost use Rattle.disc.specs.Files.{path_found, entry_answer, lookup_answer, open_file_answer, max_file_size_answer};
 
 use opened::{Lent, OpenDisc};
 use refusal::Refusal;
@@ -13,14 +14,14 @@ use window::Window;
 // Kept: image and words, here and in `listing`, are what a caller lends to each call, as C does.
 // Entry `number` of a disc.
 fn entry_in(disc: &OpenDisc<'_>, number: u32) -> Found
-    ensures { result ≡ entryFound disc.now.nodes number }
+    ensures { result ≡ entry_found disc.now.nodes number }
 {
     Table::new(disc.table()).entry(number)
 }
 
 // The entry of a disc that a path of at most 1,024 bytes leads to.
 fn found_in(disc: &OpenDisc<'_>, start: u32, path: &[u8]) -> Found
-    ensures { result ≡ pathFound disc.now.nodes start path.now }
+    ensures { result ≡ path_found disc.now.nodes start path.now }
 {
     if 1024 < path.len() {
         return Found::Refused(Refusal::LimitOrMemory);
@@ -30,7 +31,7 @@ fn found_in(disc: &OpenDisc<'_>, start: u32, path: &[u8]) -> Found
 
 // The place of file `number` of a disc: 15, then 16.
 fn file_in(disc: &OpenDisc<'_>, number: u32) -> Result<FileEntry, Refusal>
-    ensures { result ≡ fileIn (entryFound disc.now.nodes number) }
+    ensures { result ≡ files_of.file_in (entry_found disc.now.nodes number) }
 {
     match entry_in(disc, number) {
         Found::At(_, Entry::File(file)) => Ok(file),
@@ -41,7 +42,7 @@ fn file_in(disc: &OpenDisc<'_>, number: u32) -> Result<FileEntry, Refusal>
 
 /// Entry `number`.
 pub fn entry(image: &[u8], words: &mut [u32], number: u32) -> Found
-    ensures answer { result ≡ entryAnswer image.now (length words.old) number }
+    ensures answer { result ≡ entry_answer image.now (length words.old) number }
     ensures words_zero { words.new ≡ zeros words.old }
 {
     let lent = Lent::new(words);
@@ -53,7 +54,7 @@ pub fn entry(image: &[u8], words: &mut [u32], number: u32) -> Found
 
 /// The entry that a path leads to from the entry `start`. Refuses 9 for a path of more than 1,024 bytes, then 15, 17 and 18.
 pub fn lookup(image: &[u8], words: &mut [u32], start: u32, path: &[u8]) -> Found
-    ensures answer { result ≡ lookupAnswer image.now (length words.old) start path.now }
+    ensures answer { result ≡ lookup_answer image.now (length words.old) start path.now }
     ensures words_zero { words.new ≡ zeros words.old }
 {
     let lent = Lent::new(words);
@@ -65,7 +66,7 @@ pub fn lookup(image: &[u8], words: &mut [u32], start: u32, path: &[u8]) -> Found
 
 /// The window that shows file `number`.
 pub fn open_file(image: &[u8], words: &mut [u32], number: u32) -> Result<Window, Refusal>
-    ensures answer { result ≡ openFileAnswer image.now (length words.old) number }
+    ensures answer { result ≡ open_file_answer image.now (length words.old) number }
     ensures words_zero { words.new ≡ zeros words.old }
 {
     let lent = Lent::new(words);
@@ -76,7 +77,7 @@ pub fn open_file(image: &[u8], words: &mut [u32], number: u32) -> Result<Window,
 
 /// The size in bytes that file `number` can grow to where it is.
 pub fn max_file_size(image: &[u8], words: &mut [u32], number: u32) -> Result<u32, Refusal>
-    ensures answer { result ≡ maxFileSizeAnswer image.now (length words.old) number }
+    ensures answer { result ≡ max_file_size_answer image.now (length words.old) number }
     ensures words_zero { words.new ≡ zeros words.old }
 {
     let lent = Lent::new(words);

@@ -3,10 +3,10 @@
 ghost use Rattle.std.specs.Prelude.{◌≡◌, List, ℕ, length};
 ghost use Rattle.opened.specs.Opening.{zeros};
 ghost use Rattle.opened.specs.Inner.Disc.{Means};
-ghost use Rattle.opened.specs.Answers.{maxRegionSizeAnswer};
-ghost use Rattle.disc.specs.Calls.{opened_of, totalsAnswer, totalsOf, recordAnswer, programAnswer};
-ghost use Rattle.disc.specs.Calls.{freeRegionsAnswer, freeRegionsList, freeClustersAnswer, freeClustersList};
-ghost use Rattle.disc.specs.Calls.{allocateAnswer};
+ghost use Rattle.opened.specs.Answers.{max_region_size_answer};
+ghost use Rattle.disc.specs.Calls.{opened_of, totals_answer, totals_of, record_answer, program_answer};
+ghost use Rattle.disc.specs.Calls.{free_regions_answer, free_regions_list, free_clusters_answer, free_clusters_list};
+ghost use Rattle.disc.specs.Calls.{allocate_answer};
 
 use crate::answers::DiscTotals;
 use executable::Program;
@@ -26,7 +26,7 @@ pub fn open(image: &[u8], words: &mut [u32]) -> Result<Disc, Refusal>
 
 /// The disc end and the used total.
 pub fn totals(image: &[u8], words: &mut [u32]) -> Result<DiscTotals, Refusal>
-    ensures answer { result ≡ totalsAnswer image.now (length words.old) }
+    ensures answer { result ≡ totals_answer image.now (length words.old) }
     ensures words_zero { words.new ≡ zeros words.old }
 {
     let lent = Lent::new(words);
@@ -39,7 +39,7 @@ pub fn totals(image: &[u8], words: &mut [u32]) -> Result<DiscTotals, Refusal>
 
 // The record of a disc before any edit.
 fn record_of(disc: &OpenDisc<'_>) -> Totals
-    ensures { (image : List ℕ) → Means image disc.now → result ≡ totalsOf image 0 }
+    ensures { (image : List ℕ) → Means image disc.now → result ≡ totals_of image 0 }
 {
     let disc_end = disc.end();
     let used = UsedRegions::new(disc.words, disc.used, disc_end);
@@ -56,7 +56,7 @@ fn record_of(disc: &OpenDisc<'_>) -> Totals
 
 /// A totals record of the image, its count 0.
 pub fn make_record(image: &[u8], words: &mut [u32]) -> Result<Totals, Refusal>
-    ensures answer { result ≡ recordAnswer image.now (length words.old) }
+    ensures answer { result ≡ record_answer image.now (length words.old) }
     ensures words_zero { words.new ≡ zeros words.old }
 {
     let lent = Lent::new(words);
@@ -66,7 +66,7 @@ pub fn make_record(image: &[u8], words: &mut [u32]) -> Result<Totals, Refusal>
 
 /// Where the program lies, before the table or behind it; `None` if the image has none.
 pub fn program(image: &[u8], words: &mut [u32]) -> Program
-    ensures answer { result ≡ programAnswer image.now (length words.old) }
+    ensures answer { result ≡ program_answer image.now (length words.old) }
     ensures words_zero { words.new ≡ zeros words.old }
 {
     let lent = Lent::new(words);
@@ -78,8 +78,8 @@ pub fn program(image: &[u8], words: &mut [u32]) -> Program
 /// The free regions, an offset and a size each, into `list`; how many there are. Refuses 9, with nothing written, if
 /// the list is short.
 pub fn free_regions(image: &[u8], words: &mut [u32], list: &mut [u32]) -> Result<usize, Refusal>
-    ensures answer { result ≡ freeRegionsAnswer image.now (length words.old) (length list.old) }
-    ensures list_after { list.new ≡ freeRegionsList image.now (length words.old) list.old }
+    ensures answer { result ≡ free_regions_answer image.now (length words.old) (length list.old) }
+    ensures list_after { list.new ≡ free_regions_list image.now (length words.old) list.old }
     ensures words_zero { words.new ≡ zeros words.old }
 {
     let lent = Lent::new(words);
@@ -90,8 +90,8 @@ pub fn free_regions(image: &[u8], words: &mut [u32], list: &mut [u32]) -> Result
 /// The free regions in clusters of 0x8000 bytes into `list`: the bytes before the first multiple, the clusters and the
 /// rest of each. Refuses 9, with nothing written, if the list is short.
 pub fn free_clusters(image: &[u8], words: &mut [u32], list: &mut [u32]) -> Result<usize, Refusal>
-    ensures answer { result ≡ freeClustersAnswer image.now (length words.old) (length list.old) }
-    ensures list_after { list.new ≡ freeClustersList image.now (length words.old) list.old }
+    ensures answer { result ≡ free_clusters_answer image.now (length words.old) (length list.old) }
+    ensures list_after { list.new ≡ free_clusters_list image.now (length words.old) list.old }
     ensures words_zero { words.new ≡ zeros words.old }
 {
     let lent = Lent::new(words);
@@ -106,7 +106,7 @@ pub fn max_region_size(
     offset: u32,
     size: u32,
 ) -> Result<u32, Refusal>
-    ensures answer { result ≡ maxRegionSizeAnswer image.now (length words.old) offset size }
+    ensures answer { result ≡ max_region_size_answer image.now (length words.old) offset size }
     ensures words_zero { words.new ≡ zeros words.old }
 {
     let lent = Lent::new(words);
@@ -122,7 +122,7 @@ pub fn allocate(
     size: u32,
     align: u32,
 ) -> Result<DiscRegion, Refusal>
-    ensures answer { result ≡ allocateAnswer image.now (length words.old) size align }
+    ensures answer { result ≡ allocate_answer image.now (length words.old) size align }
     ensures words_zero { words.new ≡ zeros words.old }
 {
     let lent = Lent::new(words);

@@ -6,14 +6,14 @@ use mathlib.Core.List.{List, [], ◌∷◌, ◌++◌}
 use native.Mathlib.Omega.{arith}
 use lib.ListN.{length, take, drop, replicate, length-append, length-replicate, length-take}
 use lib.Seq.{length-take-le, take-append_seam}
-use Rattle.endian.specs.Bytes.{put, span, be32, be32Bytes}
+use Rattle.endian.specs.Bytes.{put, span, be32, be32_bytes}
 use Rattle.endian.specs.Laws.Stored.{length-put, drop-put, put-none}
-use Rattle.header.specs.Verdicts.{fstOffset, fstSize}
-use Rattle.edits.specs.Change.{padded, withTable}
+use Rattle.header.specs.Verdicts.{fst_offset, fst_size}
+use Rattle.edits.specs.Change.{padded, with_table}
 use Rattle.edits.proofs.Laws.Puts.{put-length, field_below}
 use Rattle.table_writing.proofs.Puts.{put-swap}
 use Rattle.edit.specs.declared.decision.Writing.{Writing}
-use Rattle.edit.specs.Inner.Decision.{clipped, writtenWith, Fits}
+use Rattle.edit.specs.Inner.Decision.{clipped, written_with, Fits}
 use Rattle.edit.specs.Inner.Filling.{Clear, uncopied}
 
 -- bytes put over others that they cover
@@ -95,17 +95,17 @@ module _ (image t clip : List ℕ) (room : ℕ) (w : Writing) (k : Clear image (
   field-kept : (at : ℕ) → at + 4 ≤ 0x440 → be32 (put image a clip) at ≡ be32 image at
   field-kept at h = field_below image a clip 0x440 k.into (λ z. omega (arith, k.old-table z, fits.table.behind-header)) at h
 
-  pub offset-kept : fstOffset (put image a clip) ≡ fstOffset image
+  pub offset-kept : fst_offset (put image a clip) ≡ fst_offset image
   offset-kept = field-kept 0x424 (omega arith)
 
-  pub size-kept : fstSize (put image a clip) ≡ fstSize image
+  pub size-kept : fst_size (put image a clip) ≡ fst_size image
   size-kept = field-kept 0x428 (omega arith)
 
   abbrev table : List ℕ
-  table = padded t (fstSize image)
+  table = padded t (fst_size image)
 
-  length-table : length table ≡ length t + (fstSize image - length t)
-  length-table = length-append t (replicate (fstSize image - length t) 0) ∙ ap (λ (m : ℕ). length t + m) (length-replicate {A = ℕ} (fstSize image - length t) 0)
+  length-table : length table ≡ length t + (fst_size image - length t)
+  length-table = length-append t (replicate (fst_size image - length t) 0) ∙ ap (λ (m : ℕ). length t + m) (length-replicate {A = ℕ} (fst_size image - length t) 0)
 
   length-zeros : length (replicate {A = ℕ} w.lost.size 0) ≡ w.lost.size
   length-zeros = length-replicate {A = ℕ} w.lost.size 0
@@ -118,7 +118,7 @@ module _ (image t clip : List ℕ) (room : ℕ) (w : Writing) (k : Clear image (
   short = omega (arith, length-take w.kept (drop w.old.offset image), k.covers)
 
   -- what the rest asks
-  behind : 0 < n → fstOffset image + length table ≤ a
+  behind : 0 < n → fst_offset image + length table ≤ a
   behind z = omega (arith, length-table, k.old-table z, k.new-table z)
 
   before : 0 < n → 0x428 + 4 ≤ a
@@ -133,22 +133,22 @@ module _ (image t clip : List ℕ) (room : ℕ) (w : Writing) (k : Clear image (
   zeroed : 0 < length (replicate {A = ℕ} w.lost.size 0) → w.lost.offset + length (replicate {A = ℕ} w.lost.size 0) ≤ length image
   zeroed y = rw length-zeros (fits.inside.zeroed.into (rw length-zeros at y))
 
-  inside : fstOffset image + length table ≤ length image
+  inside : fst_offset image + length table ≤ length image
   inside = omega (arith, length-table, fits.table.old, fits.table.into)
 
   abbrev others : List ℕ → List ℕ
-  others s = rest table (replicate w.lost.size 0) n a (fstOffset image) 0x428 w.lost.offset (length image) (be32Bytes (length t)) behind before k.into header apart zeroed s
+  others s = rest table (replicate w.lost.size 0) n a (fst_offset image) 0x428 w.lost.offset (length image) (be32_bytes (length t)) behind before k.into header apart zeroed s
 
   writes : (x : List ℕ) → length x ≤ n → others (put image a x) ≡ put (others image) a x
   writes x h =
-      put-later table (replicate w.lost.size 0) n a (fstOffset image) 0x428 w.lost.offset (length image) (be32Bytes (length t)) behind before k.into header apart zeroed image x refl inside h
+      put-later table (replicate w.lost.size 0) n a (fst_offset image) 0x428 w.lost.offset (length image) (be32_bytes (length t)) behind before k.into header apart zeroed image x refl inside h
 
   long : length (others image) ≡ length image
-  long = length_rest table (replicate w.lost.size 0) n a (fstOffset image) 0x428 w.lost.offset (length image) (be32Bytes (length t)) behind before k.into header apart zeroed image refl inside
+  long = length_rest table (replicate w.lost.size 0) n a (fst_offset image) 0x428 w.lost.offset (length image) (be32_bytes (length t)) behind before k.into header apart zeroed image refl inside
 
   -- LAW: the clip, the table, the zeros, and no copy
-  pub clip-first : writtenWith (uncopied w) t (put image a clip) ≡ put (writtenWith w t image) a clip
-  unfolding writtenWith withTable copied
+  pub clip-first : written_with (uncopied w) t (put image a clip) ≡ put (written_with w t image) a clip
+  unfolding written_with with_table copied
   clip-first =
       rw (offset-kept, size-kept, put-none (put image a clip) a)
       (writes clip (omega arith) ∙ sym (ap (λ (y : List ℕ). put y a clip) (writes copied short) ∙ put-over (others image) a copied clip short (λ z. omega (arith, long, k.into z))))

@@ -5,13 +5,13 @@ use mathlib.Core.Bool.{Bool, true, false, cond}
 use mathlib.Core.List.{List, [], ◌∷◌}
 use native.Mathlib.Omega.{arith}
 use lib.ListN.{length}
-use Rattle.tree.specs.Units.{TextUnit, single, pair, leadByte, trailByte, units}
-use Rattle.tree.specs.Lookup.{separates, longer, componentsOf, components}
+use Rattle.tree.specs.Units.{TextUnit, single, pair, lead_byte, trail_byte, units}
+use Rattle.tree.specs.Lookup.{separates, longer, components_of, components}
 use Rattle.tree.proofs.Laws.UnitLaws.{by_units}
 
-one-more : (u : TextUnit) (us : List TextUnit) → length (componentsOf (u ∷ us)) ≤ length (componentsOf us) + 1
-unfolding componentsOf
-one-more u us = go (separates u) (componentsOf us)
+one-more : (u : TextUnit) (us : List TextUnit) → length (components_of (u ∷ us)) ≤ length (components_of us) + 1
+unfolding components_of
+one-more u us = go (separates u) (components_of us)
   where
     go : (t : Bool) (cs : List (List ℕ)) → length (cond t ([] ∷ cs) (longer u cs)) ≤ length cs + 1
     go true cs = omega arith
@@ -19,16 +19,16 @@ one-more u us = go (separates u) (componentsOf us)
     go false (c ∷ cs) = omega arith
 
 pub components-few : (path : List ℕ) → length (components path) ≤ length path + 1
-unfolding components componentsOf units
+unfolding components components_of units
 components-few = by_units Few (few-none) of_pair of-single
   where
     Few : List ℕ → Type 0
-    Few s = length (componentsOf (units s)) ≤ length s + 1
+    Few s = length (components_of (units s)) ≤ length s + 1
 
     few-none : Few []
     few-none = omega arith
 
-    of_pair : (a b : ℕ) (s : List ℕ) → leadByte a ≡ true → trailByte b ≡ true → units (a ∷ b ∷ s) ≡ pair a b ∷ units s → Few s → Few (a ∷ b ∷ s)
+    of_pair : (a b : ℕ) (s : List ℕ) → lead_byte a ≡ true → trail_byte b ≡ true → units (a ∷ b ∷ s) ≡ pair a b ∷ units s → Few s → Few (a ∷ b ∷ s)
     of_pair a b s l t u few = let m = one-more (pair a b) (units s) in rw u (omega (arith, m, few))
 
     of-single : (a : ℕ) (s : List ℕ) → units (a ∷ s) ≡ single a ∷ units s → Few s → Few (a ∷ s)

@@ -1,4 +1,4 @@
 -- How many entries a table has, for a test of a number against it. Assumes nothing.
-use Rattle.tree.proofs.Laws.Accepted.{length-nodesOf}
+use Rattle.tree.proofs.Laws.Accepted.{length-nodes_of}
 
-pub ruleset entry_count = (length-nodesOf)
+pub ruleset entry_count = (length-nodes_of)

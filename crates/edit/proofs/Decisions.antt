@@ -11,16 +11,16 @@ use lib.ListN.{length}
 use Rattle.endian.specs.Bytes.{span}
 use Rattle.refusal.specs.declared.Refusal.{Refusal}
 use Rattle.tree.specs.Table.{Node, encode}
-use Rattle.tree.specs.Insert.{setPlace}
-use Rattle.tree.proofs.Laws.PlaceLaws.{length-setPlace, texts-setPlace, limits-setPlace}
+use Rattle.tree.specs.Insert.{set_place}
+use Rattle.tree.proofs.Laws.PlaceLaws.{length-set_place, texts-set_place, limits-set_place}
 use Rattle.tree.proofs.Laws.WrittenEntries.{length-encode}
 use Rattle.edit.specs.declared.decision.Writing.{Writing}
 use Rattle.edit.specs.declared.decision.Decision.{Decision}
 use Rattle.edit.specs.declared.decision.Decision.TheVariants as decision
-use Rattle.edits.specs.Change.{written, tableVerdict, Plan, refused, nothing, change, filled, placeVerdict}
-use Rattle.edits.specs.Edits.{planned, planVerdict, planImage, planNumber, numberedAs}
+use Rattle.edits.specs.Change.{written, table_verdict_in, Plan, refused, nothing, change, filled, place_verdict_in}
+use Rattle.edits.specs.Edits.{planned, plan_verdict, plan_image, plan_number, numbered_as}
 use Rattle.edits.proofs.Laws.Behind as behind
-use Rattle.edit.specs.Inner.Decision.{changeWith, placing, writtenWith, Fits, behind_tests, carriedAnswer, Decided, DecidedAs}
+use Rattle.edit.specs.Inner.Decision.{change_with, placing, written_with, Fits, behind_tests, carried_answer, Decided, DecidedAs}
 
 pub planned-first : (a b : Verdict) (p : Plan) → planned (first a b) p ≡ planned a (planned b p)
 planned-first (Ok _) b p = refl
@@ -35,56 +35,56 @@ pub tests-refused : {A : Type 0} (v : Verdict) (x : A) (c : Refusal) → behind_
 tests-refused (Ok _) x c e = let z : ◌≡◌ {A = ℕ} 0 1 = cc in absurd (omega arith)
 tests-refused (Err d) x c e = cc
 
-written_same : (image : List ℕ) (nodes : List Node) (w : Writing) → writtenWith w (encode nodes) image ≡ written (changeWith nodes w) image
-unfolding writtenWith written
+written_same : (image : List ℕ) (nodes : List Node) (w : Writing) → written_with w (encode nodes) image ≡ written (change_with nodes w) image
+unfolding written_with written
 written_same image nodes w = refl
 
 module _ (image : List ℕ) (words room : ℕ) (bytes : List ℕ) where
   -- with any clip: none is written
-  refused-with : (clip : List ℕ) (p : Plan) (c : Refusal) → planVerdict p image words room ≡ Err c → DecidedAs (planVerdict p image words room) p image room bytes clip (Err c)
+  refused-with : (clip : List ℕ) (p : Plan) (c : Refusal) → plan_verdict p image words room ≡ Err c → DecidedAs (plan_verdict p image words room) p image room bytes clip (Err c)
   refused-with clip p c e = record {
     fits = tt;
     carries = tt;
     answer = sym e;
-    after = sym (ap (λ (v : Verdict). cond (is_refused v) image (planImage p image)) e);
+    after = sym (ap (λ (v : Verdict). cond (is_refused v) image (plan_image p image)) e);
   }
 
-  pub refused-decided : (p : Plan) (c : Refusal) → planVerdict p image words room ≡ Err c → Decided p image words room bytes (Err c)
+  pub refused-decided : (p : Plan) (c : Refusal) → plan_verdict p image words room ≡ Err c → Decided p image words room bytes (Err c)
   refused-decided p c e = refused-with [] p c e
 
   pub behind-passed : (v : Verdict) (p : Plan) (d : Result Decision Refusal) → v ≡ Ok tt → Decided p image words room bytes d → Decided (planned v p) image words room bytes d
   behind-passed v p d e h = rw (behind.behind-passed v p e) h
 
-  pub behind-refused-with : (clip : List ℕ) (v : Verdict) (p : Plan) (c : Refusal) → v ≡ Err c → DecidedAs (planVerdict (planned v p) image words room) (planned v p) image room bytes clip (Err c)
+  pub behind-refused-with : (clip : List ℕ) (v : Verdict) (p : Plan) (c : Refusal) → v ≡ Err c → DecidedAs (plan_verdict (planned v p) image words room) (planned v p) image room bytes clip (Err c)
   behind-refused-with clip v p c e = rw (behind.behind-refused v p c e) (refused-with clip (refused (Err c)) c refl)
 
   pub behind-refused : (v : Verdict) (p : Plan) (c : Refusal) → v ≡ Err c → Decided (planned v p) image words room bytes (Err c)
   behind-refused v p c e = behind-refused-with [] v p c e
 
   -- a change whose tests passed, with its table in the working bytes
-  pub write-decided : (k : ℕ) (nodes : List Node) (size : ℕ) (w : Writing) → Fits image room size w → tableVerdict (changeWith nodes w) image words room ≡ Ok tt → span bytes 0 size ≡ encode nodes →
-      Decided (change k (changeWith nodes w)) image words room bytes (Ok (decision.Write k size w))
+  pub write-decided : (k : ℕ) (nodes : List Node) (size : ℕ) (w : Writing) → Fits image room size w → table_verdict_in (change_with nodes w) image words room ≡ Ok tt → span bytes 0 size ≡ encode nodes →
+      Decided (change k (change_with nodes w)) image words room bytes (Ok (decision.Write k size w))
   write-decided k nodes size w f e s = record {
     fits = (λ z. omega arith, f);
     carries = record { number = refl; table = s; change = refl };
     answer = sym e;
-    after = ap (λ (t : List ℕ). writtenWith w t image) s ∙ written_same image nodes w ∙ sym (ap (λ (v : Verdict). cond (is_refused v) image (written (changeWith nodes w) image)) e);
+    after = ap (λ (t : List ℕ). written_with w t image) s ∙ written_same image nodes w ∙ sym (ap (λ (v : Verdict). cond (is_refused v) image (written (change_with nodes w) image)) e);
   }
 
 -- ---- the tests of a tree that differs in a place only
 
-pub length-encode-setPlace : (o n k : ℕ) (nodes : List Node) → length (encode (setPlace k o n nodes)) ≡ length (encode nodes)
-length-encode-setPlace o n k nodes =
-    omega (arith, length-encode (setPlace k o n nodes), length-encode nodes, length-setPlace o n k nodes, ap length (texts-setPlace o n k nodes))
+pub length-encode-set_place : (o n k : ℕ) (nodes : List Node) → length (encode (set_place k o n nodes)) ≡ length (encode nodes)
+length-encode-set_place o n k nodes =
+    omega (arith, length-encode (set_place k o n nodes), length-encode nodes, length-set_place o n k nodes, ap length (texts-set_place o n k nodes))
 
 pub same_tests : (image : List ℕ) (words room k o n : ℕ) (nodes : List Node) (w : Writing) →
-    tableVerdict (changeWith (setPlace k o n nodes) w) image words room ≡ tableVerdict (placing nodes w.place) image words room
-unfolding tableVerdict placeVerdict
-same_tests image words room k o n nodes w = rw (limits-setPlace o n k nodes words, length-encode-setPlace o n k nodes)
+    table_verdict_in (change_with (set_place k o n nodes) w) image words room ≡ table_verdict_in (placing nodes w.place) image words room
+unfolding table_verdict_in place_verdict_in
+same_tests image words room k o n nodes w = rw (limits-set_place o n k nodes words, length-encode-set_place o n k nodes)
 
 -- ---- the answer with the entry's number
 
-pub answered : (v : Verdict) (p : Plan) (image : List ℕ) (room : ℕ) (bytes clip : List ℕ) (d : Result Decision Refusal) → DecidedAs v p image room bytes clip d → carriedAnswer d ≡ numberedAs v (planNumber p)
+pub answered : (v : Verdict) (p : Plan) (image : List ℕ) (room : ℕ) (bytes clip : List ℕ) (d : Result Decision Refusal) → DecidedAs v p image room bytes clip d → carried_answer d ≡ numbered_as v (plan_number p)
 answered v p image room bytes clip (Err c) h = rw (← h.answer)
 answered v nothing image room bytes clip (Ok decision.Nothing) h = rw (← h.answer)
 answered v (refused u) image room bytes clip (Ok decision.Nothing) h = absurd h.carries

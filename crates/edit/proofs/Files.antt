@@ -9,22 +9,22 @@ use native.Mathlib.Omega.{arith}
 use borrow.Author.Tests.{leb-false, eq-eqb}
 use lib.Dec.{leb}
 use lib.ListN.{length, get_or}
-use Rattle.endian.specs.Bytes.{put, be32Bytes}
+use Rattle.endian.specs.Bytes.{put, be32_bytes}
 use Rattle.refusal.specs.declared.Refusal.{Refusal}
 use Rattle.refusal.specs.declared.Refusal.TheVariants.{NoSuchEntry, ExpectedFile}
 use Rattle.refusal.specs.Laws.Chains.{refuse-passed}
 use Rattle.tree.specs.Table.{Node, file, directory, none, encode}
-use Rattle.tree.specs.Lookup.{isDirectory}
-use Rattle.tree.specs.Insert.{setPlace}
+use Rattle.tree.specs.Lookup.{is_directory}
+use Rattle.tree.specs.Insert.{set_place}
 use Rattle.tree.proofs.Laws.PatchLaws.{place-patched}
 use Rattle.tree.proofs.Laws.WrittenEntries.{length-encode}
 use Rattle.space.specs.declared.region.DiscRegion.{DiscRegion}
-use Rattle.opened.specs.Opening.{nodesIn, regionOf, freeOf}
+use Rattle.opened.specs.Opening.{nodes_in, region_of, free_space_of}
 use Rattle.opened.specs.Inner.Prepared.{OpenImage}
 use Rattle.edit.specs.declared.decision.Decision.{Decision}
 use Rattle.edit.specs.declared.decision.Decision.TheVariants as decision
 use Rattle.edits.specs.Change.{change}
-use Rattle.edits.specs.Edits.{fileVerdict, relocateVerdict, relocated, planned, planMove, planResize, planSized}
+use Rattle.edits.specs.Edits.{file_verdict, relocate_verdict, relocated, planned, plan_move, plan_resize, plan_sized}
 use Rattle.edit.specs.declared.file.File.{File}
 use Rattle.edit.specs.Inner.Files.{IsFile, file_in, relocation_of}
 use Rattle.edit.specs.Inner.Decision.{InImage, Decided, behind_tests}
@@ -40,16 +40,16 @@ module _ (nodes : List Node) (k : ℕ) where
 
   -- a file that was found
   pub record FoundFile (f : File) : Type 0 where
-    pub passed : fileVerdict nodes k ≡ Ok tt
+    pub passed : file_verdict nodes k ≡ Ok tt
     pub number : f.number ≡ k
-    pub place : regionOf node ≡ f.place
+    pub place : region_of node ≡ f.place
     pub is : IsFile nodes k
 
-  pub file-found : (r : Result File Refusal) (f : File) → r ≡ behind_tests (fileVerdict nodes k) (file_in nodes k) → r ≡ Ok f → FoundFile f
+  pub file-found : (r : Result File Refusal) (f : File) → r ≡ behind_tests (file_verdict nodes k) (file_in nodes k) → r ≡ Ok f → FoundFile f
   file-found r f e g =
-      let p = tests-passed (fileVerdict nodes k) (file_in nodes k) f (sym e ∙ g) in
+      let p = tests-passed (file_verdict nodes k) (file_in nodes k) f (sym e ∙ g) in
       let a = refuse-passed (leb (length nodes) k) NoSuchEntry _ p.0 in
-      let b = refuse-passed (isDirectory node) ExpectedFile _ a.1 in
+      let b = refuse-passed (is_directory node) ExpectedFile _ a.1 in
       record {
         passed = p.0;
         number = ap (λ (x : File). x.number) (sym p.1);
@@ -57,30 +57,30 @@ module _ (nodes : List Node) (k : ℕ) where
         is = record { inside = leb-false (length nodes) k a.0; kind = b.0 };
       }
 
-  pub file-refused : (r : Result File Refusal) (c : Refusal) → r ≡ behind_tests (fileVerdict nodes k) (file_in nodes k) → r ≡ Err c → fileVerdict nodes k ≡ Err c
-  file-refused r c e f = tests-refused (fileVerdict nodes k) (file_in nodes k) c (sym e ∙ f)
+  pub file-refused : (r : Result File Refusal) (c : Refusal) → r ≡ behind_tests (file_verdict nodes k) (file_in nodes k) → r ≡ Err c → file_verdict nodes k ≡ Err c
+  file-refused r c e f = tests-refused (file_verdict nodes k) (file_in nodes k) c (sym e ∙ f)
 
 -- ---- the table with another place for it
 
-file-is : (x : Node) → isDirectory x ≡ false → (nm : List ℕ) × (a : ℕ) × (b : ℕ) × (x ≡ file nm a b)
+file-is : (x : Node) → is_directory x ≡ false → (nm : List ℕ) × (a : ℕ) × (b : ℕ) × (x ≡ file nm a b)
 file-is (file nm a b) e = (nm, a, b, refl)
 file-is (directory nm n) e = let z : ◌≡◌ {A = ℕ} 0 1 = cc in absurd (omega arith)
 
-pub placed-table : (nodes : List Node) (k o n : ℕ) (s l m : List ℕ) → IsFile nodes k → length (encode nodes) ≤ length s → l ≡ put s 0 (encode nodes) → m ≡ put l (12 * k + 4) (be32Bytes o ++ be32Bytes n) →
-    m ≡ put s 0 (encode (setPlace k o n nodes))
+pub placed-table : (nodes : List Node) (k o n : ℕ) (s l m : List ℕ) → IsFile nodes k → length (encode nodes) ≤ length s → l ≡ put s 0 (encode nodes) → m ≡ put l (12 * k + 4) (be32_bytes o ++ be32_bytes n) →
+    m ≡ put s 0 (encode (set_place k o n nodes))
 placed-table nodes k o n s l m f h e g =
     let x = file-is (get_or nodes k none) f.kind in
-    let i : 12 * k + 4 + length (be32Bytes o ++ be32Bytes n) ≤ length (encode nodes) = omega (arith, length-encode nodes, f.inside) in
-    g ∙ ap (λ (y : List ℕ). put y (12 * k + 4) (be32Bytes o ++ be32Bytes n)) e ∙ put-inside s (encode nodes) (12 * k + 4) (be32Bytes o ++ be32Bytes n) i h
+    let i : 12 * k + 4 + length (be32_bytes o ++ be32_bytes n) ≤ length (encode nodes) = omega (arith, length-encode nodes, f.inside) in
+    g ∙ ap (λ (y : List ℕ). put y (12 * k + 4) (be32_bytes o ++ be32_bytes n)) e ∙ put-inside s (encode nodes) (12 * k + 4) (be32_bytes o ++ be32_bytes n) i h
     ∙ ap (put s 0) (place-patched o n k nodes x.0 x.1 x.2 x.3 f.inside)
 
 -- ---- a new place
 
-module _ (image : List ℕ) (words : ℕ) (known : OpenImage image words) (k : ℕ) (old : DiscRegion) (here : regionOf (get_or (nodesIn image) k none) ≡ old) where
+module _ (image : List ℕ) (words : ℕ) (known : OpenImage image words) (k : ℕ) (old : DiscRegion) (here : region_of (get_or (nodes_in image) k none) ≡ old) where
   ends : 0 < old.size → old.offset + old.size ≤ length image
   ends z = omega (arith, (rw here at (file-lies image words known k (rw here z))).1, end-in-image image words known)
 
-  pub relocate-inside : (new : DiscRegion) → relocateVerdict (freeOf image) old new ≡ Ok tt → InImage (length image) (relocation_of old new)
+  pub relocate-inside : (new : DiscRegion) → relocate_verdict (free_space_of image) old new ≡ Ok tt → InImage (length image) (relocation_of old new)
   relocate-inside new p = record {
     copied = record {
       from = λ z. omega (arith, ends (omega arith));
@@ -99,35 +99,35 @@ module _ (image : List ℕ) (words : ℕ) (known : OpenImage image words) (k : �
 -- ---- the decisions
 
 module _ (image : List ℕ) (words room : ℕ) (bytes : List ℕ) (free : List DiscRegion) (nodes : List Node) (k : ℕ) where
-  pub move-decided : (to : ℕ) (old : DiscRegion) (d : Result Decision Refusal) → fileVerdict nodes k ≡ Ok tt → regionOf (get_or nodes k none) ≡ old →
-      Decided (planned (relocateVerdict free old (record { offset = to; size = old.size })) (change k (relocated nodes k old (record { offset = to; size = old.size })))) image words room bytes d →
-      Decided (planMove free nodes k to) image words room bytes d
-  unfolding planMove
+  pub move-decided : (to : ℕ) (old : DiscRegion) (d : Result Decision Refusal) → file_verdict nodes k ≡ Ok tt → region_of (get_or nodes k none) ≡ old →
+      Decided (planned (relocate_verdict free old (record { offset = to; size = old.size })) (change k (relocated nodes k old (record { offset = to; size = old.size })))) image words room bytes d →
+      Decided (plan_move free nodes k to) image words room bytes d
+  unfolding plan_move
   move-decided to old d p e h =
-      let r : DiscRegion = regionOf (get_or nodes k none) in
-      let h' : Decided (planned (relocateVerdict free r (record { offset = to; size = r.size })) (change k (relocated nodes k r (record { offset = to; size = r.size })))) image words room bytes d = rw (← e) at h in
-      rw (planned-first (fileVerdict nodes k) (relocateVerdict free r (record { offset = to; size = r.size })) (change k (relocated nodes k r (record { offset = to; size = r.size }))))
-      (behind-passed image words room bytes (fileVerdict nodes k) (planned (relocateVerdict free r (record { offset = to; size = r.size })) (change k (relocated nodes k r (record { offset = to; size = r.size })))) d p h')
+      let r : DiscRegion = region_of (get_or nodes k none) in
+      let h' : Decided (planned (relocate_verdict free r (record { offset = to; size = r.size })) (change k (relocated nodes k r (record { offset = to; size = r.size })))) image words room bytes d = rw (← e) at h in
+      rw (planned-first (file_verdict nodes k) (relocate_verdict free r (record { offset = to; size = r.size })) (change k (relocated nodes k r (record { offset = to; size = r.size }))))
+      (behind-passed image words room bytes (file_verdict nodes k) (planned (relocate_verdict free r (record { offset = to; size = r.size })) (change k (relocated nodes k r (record { offset = to; size = r.size })))) d p h')
 
-  pub move-refused : (to : ℕ) (c : Refusal) → fileVerdict nodes k ≡ Err c → Decided (planMove free nodes k to) image words room bytes (Err c)
-  unfolding planMove
+  pub move-refused : (to : ℕ) (c : Refusal) → file_verdict nodes k ≡ Err c → Decided (plan_move free nodes k to) image words room bytes (Err c)
+  unfolding plan_move
   move-refused to c e =
-      let r : DiscRegion = regionOf (get_or nodes k none) in
-      behind-refused image words room bytes (first (fileVerdict nodes k) (relocateVerdict free r (record { offset = to; size = r.size }))) (change k (relocated nodes k r (record { offset = to; size = r.size }))) c
-      (ap (λ (v : Verdict). first v (relocateVerdict free r (record { offset = to; size = r.size }))) e)
+      let r : DiscRegion = region_of (get_or nodes k none) in
+      behind-refused image words room bytes (first (file_verdict nodes k) (relocate_verdict free r (record { offset = to; size = r.size }))) (change k (relocated nodes k r (record { offset = to; size = r.size }))) c
+      (ap (λ (v : Verdict). first v (relocate_verdict free r (record { offset = to; size = r.size }))) e)
 
-  pub resize-decided : (n : ℕ) (old : DiscRegion) (d : Result Decision Refusal) → fileVerdict nodes k ≡ Ok tt → regionOf (get_or nodes k none) ≡ old →
-      Decided (planSized free nodes k old n) image words room bytes d → Decided (planResize free nodes k n) image words room bytes d
-  unfolding planResize
+  pub resize-decided : (n : ℕ) (old : DiscRegion) (d : Result Decision Refusal) → file_verdict nodes k ≡ Ok tt → region_of (get_or nodes k none) ≡ old →
+      Decided (plan_sized free nodes k old n) image words room bytes d → Decided (plan_resize free nodes k n) image words room bytes d
+  unfolding plan_resize
   resize-decided n old d p e h =
-      let r : DiscRegion = regionOf (get_or nodes k none) in
-      let h' : Decided (planSized free nodes k r n) image words room bytes d = rw (← e) at h in
-      behind-passed image words room bytes (fileVerdict nodes k) (planSized free nodes k r n) d p h'
+      let r : DiscRegion = region_of (get_or nodes k none) in
+      let h' : Decided (plan_sized free nodes k r n) image words room bytes d = rw (← e) at h in
+      behind-passed image words room bytes (file_verdict nodes k) (plan_sized free nodes k r n) d p h'
 
-  pub resize-refused : (n : ℕ) (c : Refusal) → fileVerdict nodes k ≡ Err c → Decided (planResize free nodes k n) image words room bytes (Err c)
-  unfolding planResize
-  resize-refused n c e = behind-refused image words room bytes (fileVerdict nodes k) (planSized free nodes k (regionOf (get_or nodes k none)) n) c e
+  pub resize-refused : (n : ℕ) (c : Refusal) → file_verdict nodes k ≡ Err c → Decided (plan_resize free nodes k n) image words room bytes (Err c)
+  unfolding plan_resize
+  resize-refused n c e = behind-refused image words room bytes (file_verdict nodes k) (plan_sized free nodes k (region_of (get_or nodes k none)) n) c e
 
   module _ (old : DiscRegion) (n : ℕ) where
-    pub size-kept : n ≡ old.size → Decided (planSized free nodes k old n) image words room bytes (Ok decision.Nothing)
+    pub size-kept : n ≡ old.size → Decided (plan_sized free nodes k old n) image words room bytes (Ok decision.Nothing)
     size-kept e = rw (eq-eqb n old.size e) (record { fits = tt; carries = tt; answer = refl; after = refl })

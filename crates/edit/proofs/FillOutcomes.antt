@@ -12,10 +12,10 @@ use Rattle.refusal.specs.declared.Refusal.{Refusal}
 use Rattle.refusal.specs.declared.Refusal.TheVariants.{NotEnoughSpace}
 use Rattle.tree.specs.Table.{none}
 use Rattle.space.specs.declared.region.DiscRegion.{DiscRegion}
-use Rattle.opened.specs.Opening.{nodesIn, freeOf, regionOf}
+use Rattle.opened.specs.Opening.{nodes_in, free_space_of, region_of}
 use Rattle.opened.specs.Inner.Prepared.{OpenImage}
 use Rattle.edits.specs.Change.{Plan, filled}
-use Rattle.edits.specs.Edits.{fileVerdict, clipVerdict, planSized, planResize, planFill, planVerdict, planImage}
+use Rattle.edits.specs.Edits.{file_verdict, clip_verdict, plan_sized, plan_resize, plan_fill, plan_verdict, plan_image}
 use Rattle.edits.proofs.Laws.Puts.{put-length}
 use Rattle.opened.specs.Inner.Disc.{Disc, free_of, Means}
 use Rattle.edit.specs.declared.file.File.{File}
@@ -24,10 +24,10 @@ use Rattle.edit.proofs.Files.{FoundFile, file-found, file-refused}
 use Rattle.edit.specs.declared.decision.Writing.{Writing}
 use Rattle.edit.specs.declared.decision.Decision.{Decision}
 use Rattle.edit.specs.declared.decision.Decision.TheVariants as decision
-use Rattle.edit.specs.Inner.Decision.{behind_tests, writtenWith, Fits, carriedImage, Decided, DecidedAs}
+use Rattle.edit.specs.Inner.Decision.{behind_tests, written_with, Fits, carried_image, Decided, DecidedAs}
 use Rattle.edit.proofs.Decisions.{behind-refused-with}
 use Rattle.edit.proofs.Discs.{nodes_are, free_is}
-use Rattle.edit.specs.Inner.Filling.{uncopied, withClip, Clear}
+use Rattle.edit.specs.Inner.Filling.{uncopied, with_clip, Clear}
 use Rattle.edit.proofs.Clips.{clipped-put, clip-first, offset-kept, size-kept}
 use Rattle.edit.proofs.Places.{clip-stays, never-clip, clip-clear}
 
@@ -42,16 +42,16 @@ rest-fits image t clip room w k g =
       inside = record { copied = record { from = λ z. absurd (omega arith); into = λ z. absurd (omega arith) }; zeroed = rw n g.inside.zeroed };
     }
 
-module _ (image : List ℕ) (words room : ℕ) (bytes clip : List ℕ) (known : OpenImage image words) (k : ℕ) (f : IsFile (nodesIn image) k) (old : DiscRegion)
-    (here : regionOf (get_or (nodesIn image) k none) ≡ old) (long : length bytes ≡ room) where
+module _ (image : List ℕ) (words room : ℕ) (bytes clip : List ℕ) (known : OpenImage image words) (k : ℕ) (f : IsFile (nodes_in image) k) (old : DiscRegion)
+    (here : region_of (get_or (nodes_in image) k none) ≡ old) (long : length bytes ≡ room) where
   abbrev sized : Plan
-  sized = planSized (freeOf image) (nodesIn image) k old (length clip)
+  sized = plan_sized (free_space_of image) (nodes_in image) k old (length clip)
 
-  filled-refused : (c : Refusal) → Decided sized image words room bytes (Err c) → DecidedAs (planVerdict sized image words room) (filled k clip sized) image room bytes clip (Err c)
+  filled-refused : (c : Refusal) → Decided sized image words room bytes (Err c) → DecidedAs (plan_verdict sized image words room) (filled k clip sized) image room bytes clip (Err c)
   filled-refused c h = record { fits = tt; carries = tt; answer = h.answer; after = rw (← h.answer) }
 
   -- the clip goes where the file lies then
-  filled-decided : (d : Decision) → Decided sized image words room bytes (Ok d) → DecidedAs (planVerdict sized image words room) (filled k clip sized) image room bytes clip (Ok (withClip d (record { number = k; place = old })))
+  filled-decided : (d : Decision) → Decided sized image words room bytes (Ok d) → DecidedAs (plan_verdict sized image words room) (filled k clip sized) image room bytes clip (Ok (with_clip d (record { number = k; place = old })))
   filled-decided decision.Nothing h =
       let s = clip-stays image words known k f old here (length clip) bytes h.carries in
       record {
@@ -70,29 +70,29 @@ module _ (image : List ℕ) (words room : ℕ) (bytes clip : List ℕ) (known : 
       let c : Clear image (length t) w (length clip) = rw l s.0 in
       let g : Fits image room (length t) w = rw l h.fits.1 in
       let r : Fits (put image w.place.offset clip) room size (uncopied w) = rw l at (rest-fits image t clip room w c g) in
-      let i : carriedImage (Ok (decision.Write n size w)) bytes [] image ≡ planImage sized image = rw (← h.answer) at h.after in
+      let i : carried_image (Ok (decision.Write n size w)) bytes [] image ≡ plan_image sized image = rw (← h.answer) at h.after in
       record {
         fits = (s.0.into, rw (clipped-put image w.place.offset clip) r);
         carries = s.2;
         answer = h.answer;
         after =
-            ap (writtenWith (uncopied w) t) (clipped-put image w.place.offset clip)
+            ap (written_with (uncopied w) t) (clipped-put image w.place.offset clip)
             ∙ clip-first image t clip room w c g
             ∙ (rw (← h.answer, s.1) (ap (λ (x : List ℕ). put x w.place.offset clip) i));
       }
 
 -- ---- by what the code found, on a disc that the image means
 
-module _ (image : List ℕ) (d : Disc) (m : Means image d) (bytes after clip : List ℕ) (k : ℕ) (r : Result File Refusal) (read : r ≡ behind_tests (fileVerdict d.nodes k) (file_in d.nodes k)) where
+module _ (image : List ℕ) (d : Disc) (m : Means image d) (bytes after clip : List ℕ) (k : ℕ) (r : Result File Refusal) (read : r ≡ behind_tests (file_verdict d.nodes k) (file_in d.nodes k)) where
   abbrev plan : Plan
-  plan = planFill (free_of d) d.nodes k clip
+  plan = plan_fill (free_of d) d.nodes k clip
 
   abbrev Fills : Result Decision Refusal → Type 0
-  Fills x = DecidedAs (planVerdict plan image d.words (length bytes)) plan image (length bytes) after clip x
+  Fills x = DecidedAs (plan_verdict plan image d.words (length bytes)) plan image (length bytes) after clip x
 
-  fill-refused : (c : Refusal) → clipVerdict d.nodes k (length clip) ≡ Err c → Fills (Err c)
-  unfolding planFill
-  fill-refused c e = behind-refused-with image d.words (length bytes) after clip (clipVerdict d.nodes k (length clip)) _ c e
+  fill-refused : (c : Refusal) → clip_verdict d.nodes k (length clip) ≡ Err c → Fills (Err c)
+  unfolding plan_fill
+  fill-refused c e = behind-refused-with image d.words (length bytes) after clip (clip_verdict d.nodes k (length clip)) _ c e
 
   pub no-file-to-fill : (c : Refusal) → r ≡ Err c → Fills (Err c)
   no-file-to-fill c e = fill-refused c (rw (file-refused d.nodes k r c read e))
@@ -105,33 +105,33 @@ module _ (image : List ℕ) (d : Disc) (m : Means image d) (bytes after clip : L
     clip-too-long h = fill-refused NotEnoughSpace (rw (file.passed, lt-ltb 0xFFFFFFFF (length clip) h))
 
     module _ (long : length after ≡ length bytes) (n : ℕ) (short : length clip ≤ 0xFFFFFFFF) (e : n ≡ length clip) where
-      plan-is : plan ≡ filled k clip (planSized (free_of d) d.nodes k f.place (length clip))
-      unfolding planFill planResize
+      plan-is : plan ≡ filled k clip (plan_sized (free_of d) d.nodes k f.place (length clip))
+      unfolding plan_fill plan_resize
       plan-is = rw (file.passed, le-ltb 0xFFFFFFFF (length clip) short, file.place)
 
-      nodes : nodesIn image ≡ d.nodes
+      nodes : nodes_in image ≡ d.nodes
       nodes = nodes_are image d m
 
-      free : freeOf image ≡ free_of d
+      free : free_space_of image ≡ free_of d
       free = free_is image d m
 
       abbrev Sized : Result Decision Refusal → Type 0
-      Sized x = Decided (planSized (free_of d) d.nodes f.number f.place n) image d.words (length bytes) after x
+      Sized x = Decided (plan_sized (free_of d) d.nodes f.number f.place n) image d.words (length bytes) after x
 
       -- the resize, as one of the image to the clip's length
-      sized-is : (x : Result Decision Refusal) → Sized x → Decided (planSized (freeOf image) (nodesIn image) k f.place (length clip)) image d.words (length bytes) after x
+      sized-is : (x : Result Decision Refusal) → Sized x → Decided (plan_sized (free_space_of image) (nodes_in image) k f.place (length clip)) image d.words (length bytes) after x
       sized-is x h = rw (free, nodes) (rw (file.number, e) at h)
 
-      is : IsFile (nodesIn image) k
+      is : IsFile (nodes_in image) k
       is = rw nodes file.is
 
-      here : regionOf (get_or (nodesIn image) k none) ≡ f.place
+      here : region_of (get_or (nodes_in image) k none) ≡ f.place
       here = rw nodes file.place
 
       pub not-resized : (c : Refusal) → Sized (Err c) → Fills (Err c)
       not-resized c h = rw plan-is (rw (nodes, free) at (filled-refused image d.words (length bytes) after clip m.known k is f.place here long c (sized-is (Err c) h)))
 
-      pub filled-by : (x y : Decision) → Sized (Ok x) → y ≡ withClip x f → Fills (Ok y)
+      pub filled-by : (x y : Decision) → Sized (Ok x) → y ≡ with_clip x f → Fills (Ok y)
       filled-by x y h u =
           let q : f ≡ record { number = k; place = f.place } = ap (λ (i : ℕ). record { number = i; place = f.place }) file.number in
           rw (u, plan-is, q) (rw (nodes, free) at (filled-decided image d.words (length bytes) after clip m.known k is f.place here long x (sized-is (Ok x) h)))

@@ -13,23 +13,23 @@ use lib.Dec.{ltb, leb, eqb}
 use lib.ListN.{length, get_or}
 use Rattle.refusal.specs.declared.Refusal.TheVariants.{LimitOrMemory, NotEnoughSpace, OverlappingMove}
 use Rattle.refusal.specs.Laws.Chains.{refuse-passed, first-passed}
-use Rattle.header.specs.Verdicts.{fstOffset, fstSize, discEnd, table_end}
-use Rattle.tree.specs.Table.{Node, none, count, nodesOf, textsOf, encode, limits}
-use Rattle.tree.proofs.Laws.Accepted.{length-nodesOf}
+use Rattle.header.specs.Verdicts.{fst_offset, fst_size, disc_end, table_end}
+use Rattle.tree.specs.Table.{Node, none, count, nodes_of, texts_of, encode, limits}
+use Rattle.tree.proofs.Laws.Accepted.{length-nodes_of}
 use Rattle.tree.proofs.Laws.WrittenEntries.{length-encode}
 use Rattle.tree.proofs.Laws.RoundTrip.{Within, within-limits, limits-within}
-use Rattle.table_writing.specs.Inner.Measure.{measureOf}
+use Rattle.table_writing.specs.Inner.Measure.{measure_of}
 use Rattle.space.specs.declared.region.DiscRegion.{DiscRegion}
-use Rattle.space.specs.Used.{end_of, usedRegions}
-use Rattle.space.specs.Laws.UsedLaws.{liesWithin, filesWithin}
+use Rattle.space.specs.Used.{end_of, used_regions}
+use Rattle.space.specs.Laws.UsedLaws.{lies_within, files_within}
 use Rattle.refusal.specs.Laws.Tests.{and_left, and_right, or_cases}
-use Rattle.space.specs.MaxRegionSize.{maxRegionSize}
-use Rattle.space.specs.Free.{freeRegions}
+use Rattle.space.specs.MaxRegionSize.{max_region_size}
+use Rattle.space.specs.Free.{free_regions}
 use Rattle.space.specs.Laws.GrowthLaws.{table-largest, place-free}
 use Rattle.space.specs.Laws.PassedLayout.{passes}
-use Rattle.opened.specs.Opening.{table_of, nodesIn, regionOf, behindTable, usedIn, freeOf}
-use Rattle.edits.specs.Change.{tableVerdict, placeVerdict}
-use Rattle.edits.specs.Edits.{overlapsItself, relocateVerdict}
+use Rattle.opened.specs.Opening.{table_of, nodes_in, region_of, behind_table, used_in, free_space_of}
+use Rattle.edits.specs.Change.{table_verdict_in, place_verdict_in}
+use Rattle.edits.specs.Edits.{overlaps_itself, relocate_verdict}
 use Rattle.edits.proofs.Laws.PlaceTests.{place-passed, free-byte}
 use Rattle.opened.specs.Inner.Prepared.{OpenImage}
 use Rattle.edit.specs.Inner.Decision.{TableFits, placing, behind_tests}
@@ -37,41 +37,41 @@ use Rattle.edit.proofs.Decisions.{tests-passed}
 
 -- ---- a file that is not empty lies behind the table and on the disc
 
-lies : (t e : ℕ) (x : DiscRegion) → liesWithin t e x ≡ true → 0 < x.size → (t ≤ x.offset) × (end_of x ≤ e)
-unfolding liesWithin
+lies : (t e : ℕ) (x : DiscRegion) → lies_within t e x ≡ true → 0 < x.size → (t ≤ x.offset) × (end_of x ≤ e)
+unfolding lies_within
 lies t e x l z =
     ⊎_elim (λ q. absurd (omega (arith, eqb-true x.size 0 q)))
     (λ q. (leb-true t x.offset (and_left (leb t x.offset) (leb (end_of x) e) q), leb-true (end_of x) e (and_right (leb t x.offset) (leb (end_of x) e) q)))
     (or_cases (eqb x.size 0) (leb t x.offset && leb (end_of x) e) l)
 
-within-rest : (t e : ℕ) (x : DiscRegion) (xs : List DiscRegion) → filesWithin t e (x ∷ xs) ≡ true → filesWithin t e xs ≡ true
-unfolding filesWithin
-within-rest t e x xs w = and_right (liesWithin t e x) (filesWithin t e xs) w
+within-rest : (t e : ℕ) (x : DiscRegion) (xs : List DiscRegion) → files_within t e (x ∷ xs) ≡ true → files_within t e xs ≡ true
+unfolding files_within
+within-rest t e x xs w = and_right (lies_within t e x) (files_within t e xs) w
 
-within-at : (t e : ℕ) (xs : List Node) (k : ℕ) → filesWithin t e (map regionOf xs) ≡ true → 0 < (regionOf (get_or xs k none)).size → (t ≤ (regionOf (get_or xs k none)).offset) × (end_of (regionOf (get_or xs k none)) ≤ e)
-unfolding filesWithin
+within-at : (t e : ℕ) (xs : List Node) (k : ℕ) → files_within t e (map region_of xs) ≡ true → 0 < (region_of (get_or xs k none)).size → (t ≤ (region_of (get_or xs k none)).offset) × (end_of (region_of (get_or xs k none)) ≤ e)
+unfolding files_within
 within-at t e [] k w z = absurd (omega arith)
-within-at t e (x ∷ xs) zero w z = lies t e (regionOf x) (and_left (liesWithin t e (regionOf x)) (filesWithin t e (map regionOf xs)) w) z
-within-at t e (x ∷ xs) (suc k) w z = within-at t e xs k (and_right (liesWithin t e (regionOf x)) (filesWithin t e (map regionOf xs)) w) z
+within-at t e (x ∷ xs) zero w z = lies t e (region_of x) (and_left (lies_within t e (region_of x)) (files_within t e (map region_of xs)) w) z
+within-at t e (x ∷ xs) (suc k) w z = within-at t e xs k (and_right (lies_within t e (region_of x)) (files_within t e (map region_of xs)) w) z
 
 -- ---- the limits of the tree as it is, from the size that was measured
 
 -- a table that is not measured passes the limit of the texts
-pub measured-cause : (tab : List ℕ) (cause : Refusal) → measureOf tab ≡ Err cause → cause ≡ LimitOrMemory
-unfolding measureOf
-measured-cause tab cause e = go (ltb 1048576 (length (textsOf (tail (nodesOf tab))))) e
+pub measured-cause : (tab : List ℕ) (cause : Refusal) → measure_of tab ≡ Err cause → cause ≡ LimitOrMemory
+unfolding measure_of
+measured-cause tab cause e = go (ltb 1048576 (length (texts_of (tail (nodes_of tab))))) e
   where
-    go : (t : Bool) → cond t (Err LimitOrMemory) (Ok (length (encode (nodesOf tab)))) ≡ Err cause → cause ≡ LimitOrMemory
+    go : (t : Bool) → cond t (Err LimitOrMemory) (Ok (length (encode (nodes_of tab)))) ≡ Err cause → cause ≡ LimitOrMemory
     go true q = cc
     go false q = let z : ◌≡◌ {A = ℕ} 0 1 = cc in absurd (omega arith)
 
 module _ (image : List ℕ) (words : ℕ) (known : OpenImage image words) where
-  length-nodes : length (nodesIn image) ≡ count (table_of image)
-  unfolding nodesIn
-  length-nodes = length-nodesOf (table_of image)
+  length-nodes : length (nodes_in image) ≡ count (table_of image)
+  unfolding nodes_in
+  length-nodes = length-nodes_of (table_of image)
 
-  within : length (textsOf (tail (nodesIn image))) ≤ 2 ^ 20 → Within (nodesIn image) words
-  unfolding nodesIn
+  within : length (texts_of (tail (nodes_in image))) ≤ 2 ^ 20 → Within (nodes_in image) words
+  unfolding nodes_in
   within h = record {
     few = omega (arith, length-nodes, known.reads.table.few);
     texts = h;
@@ -79,32 +79,32 @@ module _ (image : List ℕ) (words : ℕ) (known : OpenImage image words) where
     depth = known.reads.table.depth;
   }
 
-  pub measured-past : measureOf (table_of image) ≡ Err LimitOrMemory → limits (nodesIn image) words ≡ Err LimitOrMemory
-  unfolding measureOf limits nodesIn
-  measured-past e = go (ltb 1048576 (length (textsOf (tail (nodesIn image))))) refl e
+  pub measured-past : measure_of (table_of image) ≡ Err LimitOrMemory → limits (nodes_in image) words ≡ Err LimitOrMemory
+  unfolding measure_of limits nodes_in
+  measured-past e = go (ltb 1048576 (length (texts_of (tail (nodes_in image))))) refl e
     where
-      go : (t : Bool) → ltb 1048576 (length (textsOf (tail (nodesIn image)))) ≡ t → cond t (Err LimitOrMemory) (Ok (length (encode (nodesIn image)))) ≡ Err LimitOrMemory → limits (nodesIn image) words ≡ Err LimitOrMemory
-      go true a q = let f : length (nodesIn image) ≤ 16384 = omega (arith, length-nodes, known.reads.table.few) in
-          rw (le-ltb 16384 (length (nodesIn image)) f, a)
+      go : (t : Bool) → ltb 1048576 (length (texts_of (tail (nodes_in image)))) ≡ t → cond t (Err LimitOrMemory) (Ok (length (encode (nodes_in image)))) ≡ Err LimitOrMemory → limits (nodes_in image) words ≡ Err LimitOrMemory
+      go true a q = let f : length (nodes_in image) ≤ 16384 = omega (arith, length-nodes, known.reads.table.few) in
+          rw (le-ltb 16384 (length (nodes_in image)) f, a)
       go false a q = let z : ◌≡◌ {A = ℕ} 0 1 = cc in absurd (omega arith)
 
-  pub measured-size : (n : ℕ) → measureOf (table_of image) ≡ Ok n → (limits (nodesIn image) words ≡ Ok tt) × (n ≡ length (encode (nodesIn image)))
-  unfolding measureOf nodesIn
-  measured-size n e = go (ltb 1048576 (length (textsOf (tail (nodesIn image))))) refl e
+  pub measured-size : (n : ℕ) → measure_of (table_of image) ≡ Ok n → (limits (nodes_in image) words ≡ Ok tt) × (n ≡ length (encode (nodes_in image)))
+  unfolding measure_of nodes_in
+  measured-size n e = go (ltb 1048576 (length (texts_of (tail (nodes_in image))))) refl e
     where
-      go : (t : Bool) → ltb 1048576 (length (textsOf (tail (nodesIn image)))) ≡ t → cond t (Err LimitOrMemory) (Ok (length (encode (nodesIn image)))) ≡ Ok n →
-          (limits (nodesIn image) words ≡ Ok tt) × (n ≡ length (encode (nodesIn image)))
+      go : (t : Bool) → ltb 1048576 (length (texts_of (tail (nodes_in image)))) ≡ t → cond t (Err LimitOrMemory) (Ok (length (encode (nodes_in image)))) ≡ Ok n →
+          (limits (nodes_in image) words ≡ Ok tt) × (n ≡ length (encode (nodes_in image)))
       go true a q = let z : ◌≡◌ {A = ℕ} 0 1 = cc in absurd (omega arith)
-      go false a q = (limits-within (nodesIn image) words (within (ltb-false 1048576 _ a)), cc)
+      go false a q = (limits-within (nodes_in image) words (within (ltb-false 1048576 _ a)), cc)
 
   -- ---- where the table and the files lie
 
-  pub place-fits : (room size : ℕ) (place : DiscRegion) → placeVerdict image room size place ≡ Ok tt → TableFits (length image) room (fstOffset image) (fstSize image) size
-  unfolding freeOf usedIn
+  pub place-fits : (room size : ℕ) (place : DiscRegion) → place_verdict_in image room size place ≡ Ok tt → TableFits (length image) room (fst_offset image) (fst_size image) size
+  unfolding free_space_of used_in
   place-fits room size place e =
       let p = place-passed image room size place e in
-      let m : size ≤ maxRegionSize (fstOffset image) (fstSize image) (freeRegions (discEnd image) (usedRegions (table_end image) (behindTable image))) = p.grows in
-      let l = table-largest (discEnd image) (table_end image) (behindTable image) (fstOffset image) (fstSize image) refl in
+      let m : size ≤ max_region_size (fst_offset image) (fst_size image) (free_regions (disc_end image) (used_regions (table_end image) (behind_table image))) = p.grows in
+      let l = table-largest (disc_end image) (table_end image) (behind_table image) (fst_offset image) (fst_size image) refl in
       let k = known.reads.bounds in
       record {
         behind-header = k.after-header;
@@ -115,74 +115,74 @@ module _ (image : List ℕ) (words : ℕ) (known : OpenImage image words) where
       }
 
   -- the disc ends in the image, at a number of 32 bits
-  pub end-in-image : discEnd image ≤ length image
+  pub end-in-image : disc_end image ≤ length image
   end-in-image = known.reads.bounds.image_holds
 
-  pub end-small : discEnd image < 2 ^ 32
+  pub end-small : disc_end image < 2 ^ 32
   end-small = omega (arith, known.reads.bounds.small)
 
   -- a file that is not empty lies behind the table, and ends by the disc end
-  pub file-lies : (k : ℕ) → 0 < (regionOf (get_or (nodesIn image) k none)).size → (table_end image ≤ (regionOf (get_or (nodesIn image) k none)).offset) × (end_of (regionOf (get_or (nodesIn image) k none)) ≤ discEnd image)
-  unfolding usedIn behindTable
+  pub file-lies : (k : ℕ) → 0 < (region_of (get_or (nodes_in image) k none)).size → (table_end image ≤ (region_of (get_or (nodes_in image) k none)).offset) × (end_of (region_of (get_or (nodes_in image) k none)) ≤ disc_end image)
+  unfolding used_in behind_table
   file-lies k z =
       let b = known.reads.bounds in
-      let p = passes (table_end image) (discEnd image) (behindTable image) (omega (arith, b.after-header)) known.layout in
-      within-at (table_end image) (discEnd image) (nodesIn image) k (within-rest _ _ _ _ p.within) z
+      let p = passes (table_end image) (disc_end image) (behind_table image) (omega (arith, b.after-header)) known.layout in
+      within-at (table_end image) (disc_end image) (nodes_in image) k (within-rest _ _ _ _ p.within) z
 
   -- n bytes that are free
-  pub place-lies : (o n : ℕ) → n ≤ maxRegionSize o 0 (freeOf image) → 0 < n → (table_end image ≤ o) × (o + n ≤ discEnd image)
-  unfolding freeOf usedIn
+  pub place-lies : (o n : ℕ) → n ≤ max_region_size o 0 (free_space_of image) → 0 < n → (table_end image ≤ o) × (o + n ≤ disc_end image)
+  unfolding free_space_of used_in
   place-lies o n m z =
-      let p = place-free (discEnd image) (usedIn image) o n z m in
+      let p = place-free (disc_end image) (used_in image) o n z m in
       let e : o + 0 ≡ o = omega arith in
-      ((free-byte (table_end image) (behindTable image) o (rw e at (p.1 0 z))).0, p.0)
+      ((free-byte (table_end image) (behind_table image) o (rw e at (p.1 0 z))).0, p.0)
 
   -- a new place that is not empty
-  pub new-place : (old new : DiscRegion) → relocateVerdict (freeOf image) old new ≡ Ok tt → 0 < new.size → (table_end image ≤ new.offset) × (end_of new ≤ discEnd image)
+  pub new-place : (old new : DiscRegion) → relocate_verdict (free_space_of image) old new ≡ Ok tt → 0 < new.size → (table_end image ≤ new.offset) × (end_of new ≤ disc_end image)
   new-place old new e z =
-      let a = refuse-passed (overlapsItself old new) OverlappingMove _ e in
-      let b = refuse-passed (ltb (maxRegionSize new.offset 0 (freeOf image)) new.size) NotEnoughSpace _ a.1 in
+      let a = refuse-passed (overlaps_itself old new) OverlappingMove _ e in
+      let b = refuse-passed (ltb (max_region_size new.offset 0 (free_space_of image)) new.size) NotEnoughSpace _ a.1 in
       place-lies new.offset new.size (ltb-false _ new.size b.0) z
 
 -- the tests of a table: the limits, then its size and place
 pub table-tests : (nodes : List Node) (place : DiscRegion) (image : List ℕ) (words room : ℕ) →
-    tableVerdict (placing nodes place) image words room ≡ first (limits nodes words) (placeVerdict image room (length (encode nodes)) place)
-unfolding tableVerdict placeVerdict
+    table_verdict_in (placing nodes place) image words room ≡ first (limits nodes words) (place_verdict_in image room (length (encode nodes)) place)
+unfolding table_verdict_in place_verdict_in
 table-tests nodes place image words room = refl
 
 -- what the tests of a table that passed give: it is small, and it fits
-pub table-passed : (nodes : List Node) (place : DiscRegion) (image : List ℕ) (words room : ℕ) → tableVerdict (placing nodes place) image words room ≡ Ok tt →
-    (length (encode nodes) ≤ 2 ^ 24) × (placeVerdict image room (length (encode nodes)) place ≡ Ok tt)
+pub table-passed : (nodes : List Node) (place : DiscRegion) (image : List ℕ) (words room : ℕ) → table_verdict_in (placing nodes place) image words room ≡ Ok tt →
+    (length (encode nodes) ≤ 2 ^ 24) × (place_verdict_in image room (length (encode nodes)) place ≡ Ok tt)
 table-passed nodes place image words room e =
-    let p = first-passed (limits nodes words) (placeVerdict image room (length (encode nodes)) place) (sym (table-tests nodes place image words room) ∙ e) in
+    let p = first-passed (limits nodes words) (place_verdict_in image room (length (encode nodes)) place) (sym (table-tests nodes place image words room) ∙ e) in
     let w = within-limits nodes words p.0 in
     (omega (arith, length-encode nodes, w.few, w.texts), p.1)
 
 -- ---- the table as it is
 
 -- the limits were passed, or the table's place was judged
-pub table-past : (nodes : List Node) (place : DiscRegion) (image : List ℕ) (words room : ℕ) → limits nodes words ≡ Err LimitOrMemory → Err LimitOrMemory ≡ behind_tests (tableVerdict (placing nodes place) image words room) (length (encode nodes))
+pub table-past : (nodes : List Node) (place : DiscRegion) (image : List ℕ) (words room : ℕ) → limits nodes words ≡ Err LimitOrMemory → Err LimitOrMemory ≡ behind_tests (table_verdict_in (placing nodes place) image words room) (length (encode nodes))
 table-past nodes place image words room e =
-    sym (ap (λ (v : Verdict). behind_tests v (length (encode nodes))) (table-tests nodes place image words room ∙ ap (λ (v : Verdict). first v (placeVerdict image room (length (encode nodes)) place)) e))
+    sym (ap (λ (v : Verdict). behind_tests v (length (encode nodes))) (table-tests nodes place image words room ∙ ap (λ (v : Verdict). first v (place_verdict_in image room (length (encode nodes)) place)) e))
 
-pub table-sized : (nodes : List Node) (place : DiscRegion) (image : List ℕ) (words room size : ℕ) (v : Verdict) → limits nodes words ≡ Ok tt → size ≡ length (encode nodes) → v ≡ placeVerdict image room size place →
-    behind_tests v size ≡ behind_tests (tableVerdict (placing nodes place) image words room) (length (encode nodes))
+pub table-sized : (nodes : List Node) (place : DiscRegion) (image : List ℕ) (words room size : ℕ) (v : Verdict) → limits nodes words ≡ Ok tt → size ≡ length (encode nodes) → v ≡ place_verdict_in image room size place →
+    behind_tests v size ≡ behind_tests (table_verdict_in (placing nodes place) image words room) (length (encode nodes))
 table-sized nodes place image words room size v a b p =
-    ap (λ (x : Verdict). behind_tests x size) p ∙ ap (λ (n : ℕ). behind_tests (placeVerdict image room n place) n) b
-    ∙ sym (ap (λ (x : Verdict). behind_tests x (length (encode nodes))) (table-tests nodes place image words room ∙ ap (λ (x : Verdict). first x (placeVerdict image room (length (encode nodes)) place)) a))
+    ap (λ (x : Verdict). behind_tests x size) p ∙ ap (λ (n : ℕ). behind_tests (place_verdict_in image room n place) n) b
+    ∙ sym (ap (λ (x : Verdict). behind_tests x (length (encode nodes))) (table-tests nodes place image words room ∙ ap (λ (x : Verdict). first x (place_verdict_in image room (length (encode nodes)) place)) a))
 
 -- a table that passed its tests
 pub record NewTable (nodes : List Node) (place : DiscRegion) (image : List ℕ) (words room size : ℕ) : Type 0 where
-  pub passed : tableVerdict (placing nodes place) image words room ≡ Ok tt
+  pub passed : table_verdict_in (placing nodes place) image words room ≡ Ok tt
   pub length-is : size ≡ length (encode nodes)
   pub small : length (encode nodes) ≤ 2 ^ 24
   pub held : length (encode nodes) ≤ room
-  pub fits : TableFits (length image) room (fstOffset image) (fstSize image) size
+  pub fits : TableFits (length image) room (fst_offset image) (fst_size image) size
 
 pub new-table : (nodes : List Node) (place : DiscRegion) (image : List ℕ) (words room size : ℕ) (r : Result ℕ Refusal) → OpenImage image words →
-    r ≡ behind_tests (tableVerdict (placing nodes place) image words room) (length (encode nodes)) → r ≡ Ok size → NewTable nodes place image words room size
+    r ≡ behind_tests (table_verdict_in (placing nodes place) image words room) (length (encode nodes)) → r ≡ Ok size → NewTable nodes place image words room size
 new-table nodes place image words room size r known e f =
-    let p = tests-passed (tableVerdict (placing nodes place) image words room) (length (encode nodes)) size (sym e ∙ f) in
+    let p = tests-passed (table_verdict_in (placing nodes place) image words room) (length (encode nodes)) size (sym e ∙ f) in
     let q = table-passed nodes place image words room p.0 in
-    let t : TableFits (length image) room (fstOffset image) (fstSize image) (length (encode nodes)) = place-fits image words known room (length (encode nodes)) place q.1 in
+    let t : TableFits (length image) room (fst_offset image) (fst_size image) (length (encode nodes)) = place-fits image words known room (length (encode nodes)) place q.1 in
     record { passed = p.0; length-is = sym p.1; small = q.0; held = t.held; fits = rw (← p.1) t }

@@ -14,13 +14,13 @@ use Rattle.refusal.specs.declared.Refusal.TheVariants.{NoSuchEntry, UnsafeName, 
 use Rattle.refusal.specs.Laws.Chains.{refuse-passed}
 use Rattle.tree.specs.Table.{Node, none, plain, safe, limits}
 use Rattle.tree.specs.Inner.WellFormed.{GoodName, WellFormed}
-use Rattle.tree.specs.Lookup.{isDirectory, childOf}
+use Rattle.tree.specs.Lookup.{is_directory, child_of}
 use Rattle.tree.proofs.Laws.Growing.{bigger-same}
 use Rattle.tree.proofs.Laws.Renumbered.{directory-is}
 use Rattle.tree.proofs.Laws.RoundTrip.{within-limits}
 use Rattle.tree.proofs.Laws.WellNested.{next-bounds}
 use Rattle.edits.specs.Change.{change}
-use Rattle.edits.specs.Edits.{tableOnly, newNumber, isFound, insertVerdict, planned}
+use Rattle.edits.specs.Edits.{table_only, new_number, is_found, insert_verdict, planned}
 use Rattle.opened.specs.Inner.Disc.{Disc}
 use Rattle.edit.specs.declared.decision.Decision.{Decision}
 use Rattle.edit.specs.Inner.Decision.{Decides}
@@ -28,64 +28,64 @@ use Rattle.edit.proofs.Decisions.{behind-passed, behind-refused}
 use Rattle.table_writing.specs.Inner.Growth.{IsDirectory, added, Built}
 use Rattle.table_writing.proofs.GrowthLaws.{bigger-added}
 use Rattle.edit.proofs.TableChanges.{unbuilt-decides}
-use Rattle.table_writing.specs.Inner.Kind.{is_directory}
+use Rattle.table_writing.specs.Inner.Kind.{kind_is_directory}
 use Rattle.table_writing.specs.declared.kind.Kind.{Kind}
 use Rattle.table_writing.specs.declared.kind.Kind.TheVariants as kind
-use Rattle.edit.specs.Inner.Insertion.{planInserted}
+use Rattle.edit.specs.Inner.Insertion.{plan_inserted}
 
 not-off : (t : Bool) → not t ≡ false → t ≡ true
 not-off true e = refl
 not-off false e = let z : ◌≡◌ {A = ℕ} 0 1 = cc in absurd (omega arith)
 
-pub insert-allows : (nodes : List Node) (p : ℕ) (nm : List ℕ) → insertVerdict nodes p nm ≡ Ok tt → IsDirectory nodes p × GoodName nm
-unfolding insertVerdict
+pub insert-allows : (nodes : List Node) (p : ℕ) (nm : List ℕ) → insert_verdict nodes p nm ≡ Ok tt → IsDirectory nodes p × GoodName nm
+unfolding insert_verdict
 insert-allows nodes p nm e =
     let a = refuse-passed (leb (length nodes) p) NoSuchEntry _ e in
     let b = refuse-passed (not (safe nm)) UnsafeName _ a.1 in
-    let d = refuse-passed (not (isDirectory (get_or nodes p none))) ExpectedDirectory _ b.1 in
-    let f = refuse-passed (isFound (childOf nodes p nm)) AlreadyExists _ d.1 in
+    let d = refuse-passed (not (is_directory (get_or nodes p none))) ExpectedDirectory _ b.1 in
+    let f = refuse-passed (is_found (child_of nodes p nm)) AlreadyExists _ d.1 in
     let g = refuse-passed (not (plain nm)) InvalidNameByte _ f.1 in
     (record { inside = leb-false (length nodes) p a.0; kind = not-off _ d.0 }, (not-off _ g.0, not-off _ b.0))
 
 -- the number that a new entry gets fits 32 bits
-pub number-small : (nodes : List Node) (words p : ℕ) → WellFormed nodes → limits nodes words ≡ Ok tt → IsDirectory nodes p → newNumber nodes p < 2 ^ 32
+pub number-small : (nodes : List Node) (words p : ℕ) → WellFormed nodes → limits nodes words ≡ Ok tt → IsDirectory nodes p → new_number nodes p < 2 ^ 32
 number-small nodes words p w l dir =
     let x = directory-is (get_or nodes p none) dir.kind in
     omega (arith, (next-bounds nodes p _ x.0 w x.1 dir.inside).1, (within-limits nodes words l).few)
 
 -- ---- the plan: what is added, behind the tests
 
-module _ (k : Kind) (d : Disc) (p : ℕ) (nm : List ℕ) (v : Verdict) (judged : v ≡ insertVerdict d.nodes p nm) where
-  plan-is : planInserted k d.nodes p nm ≡ planned (insertVerdict d.nodes p nm) (change (newNumber d.nodes p) (tableOnly (added d.nodes (is_directory k) p nm)))
+module _ (k : Kind) (d : Disc) (p : ℕ) (nm : List ℕ) (v : Verdict) (judged : v ≡ insert_verdict d.nodes p nm) where
+  plan-is : plan_inserted k d.nodes p nm ≡ planned (insert_verdict d.nodes p nm) (change (new_number d.nodes p) (table_only (added d.nodes (kind_is_directory k) p nm)))
   plan-is = go k
     where
-      go : (x : Kind) → planInserted x d.nodes p nm ≡ planned (insertVerdict d.nodes p nm) (change (newNumber d.nodes p) (tableOnly (added d.nodes (is_directory x) p nm)))
+      go : (x : Kind) → plan_inserted x d.nodes p nm ≡ planned (insert_verdict d.nodes p nm) (change (new_number d.nodes p) (table_only (added d.nodes (kind_is_directory x) p nm)))
       go kind.Directory = refl
       go kind.File = refl
 
-  pub tests-refuse : (room : ℕ) (bytes : List ℕ) (c : Refusal) → v ≡ Err c → Decides (planInserted k d.nodes p nm) d room bytes (Err c)
-  tests-refuse room bytes c e image m = rw plan-is (behind-refused image d.words room bytes (insertVerdict d.nodes p nm) _ c (sym judged ∙ e))
+  pub tests-refuse : (room : ℕ) (bytes : List ℕ) (c : Refusal) → v ≡ Err c → Decides (plan_inserted k d.nodes p nm) d room bytes (Err c)
+  tests-refuse room bytes c e image m = rw plan-is (behind-refused image d.words room bytes (insert_verdict d.nodes p nm) _ c (sym judged ∙ e))
 
   module _ (passed : v ≡ Ok tt) where
     abbrev N : List Node
-    N = added d.nodes (is_directory k) p nm
+    N = added d.nodes (kind_is_directory k) p nm
 
     pub allowed : IsDirectory d.nodes p × GoodName nm
     allowed = insert-allows d.nodes p nm (sym judged ∙ passed)
 
-    pub tests-pass : (room : ℕ) (bytes : List ℕ) (r : Result Decision Refusal) → Decides (change (newNumber d.nodes p) (tableOnly N)) d room bytes r → Decides (planInserted k d.nodes p nm) d room bytes r
-    tests-pass room bytes r h image m = rw plan-is (behind-passed image d.words room bytes (insertVerdict d.nodes p nm) _ r (sym judged ∙ passed) (h image m))
+    pub tests-pass : (room : ℕ) (bytes : List ℕ) (r : Result Decision Refusal) → Decides (change (new_number d.nodes p) (table_only N)) d room bytes r → Decides (plan_inserted k d.nodes p nm) d room bytes r
+    tests-pass room bytes r h image m = rw plan-is (behind-passed image d.words room bytes (insert_verdict d.nodes p nm) _ r (sym judged ∙ passed) (h image m))
 
     module _ (w : WellFormed d.nodes) (room : ℕ) (s after : List ℕ) (held : length s ≡ room) (c : Refusal) where
       -- the tree as it is could not be built
-      pub not-started : Built d.nodes d.words s s (Err c) → Decides (planInserted k d.nodes p nm) d room after (Err c)
+      pub not-started : Built d.nodes d.words s s (Err c) → Decides (plan_inserted k d.nodes p nm) d room after (Err c)
       not-started b =
           rw (← held)
-          (tests-pass (length s) after (Err c) (unbuilt-decides d.nodes N d (newNumber d.nodes p) s after c (bigger-added d.nodes (is_directory k) p nm w allowed.0 allowed.1) b))
+          (tests-pass (length s) after (Err c) (unbuilt-decides d.nodes N d (new_number d.nodes p) s after c (bigger-added d.nodes (kind_is_directory k) p nm w allowed.0 allowed.1) b))
 
       -- nor with the new entry
-      pub not-grown : (T : List Node) (words : ℕ) → T ≡ d.nodes → words ≡ d.words → Built (added T (is_directory k) p nm) words s s (Err c) → Decides (planInserted k d.nodes p nm) d room after (Err c)
+      pub not-grown : (T : List Node) (words : ℕ) → T ≡ d.nodes → words ≡ d.words → Built (added T (kind_is_directory k) p nm) words s s (Err c) → Decides (plan_inserted k d.nodes p nm) d room after (Err c)
       not-grown T words e l b =
           rw (← held)
           (tests-pass (length s) after (Err c)
-          (unbuilt-decides N N d (newNumber d.nodes p) s after c (bigger-same N (bigger-added d.nodes (is_directory k) p nm w allowed.0 allowed.1).well) (rw (e, l) at b)))
+          (unbuilt-decides N N d (new_number d.nodes p) s after c (bigger-same N (bigger-added d.nodes (kind_is_directory k) p nm w allowed.0 allowed.1).well) (rw (e, l) at b)))

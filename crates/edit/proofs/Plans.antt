@@ -20,8 +20,8 @@ use Rattle.tree.proofs.Laws.InsertedList.{well-nested}
 use Rattle.tree.proofs.Laws.Growing.{Bigger, bigger-same}
 use Rattle.tree.proofs.Laws.RoundTrip.{within-limits}
 use Rattle.edits.specs.Change.{Plan, change}
-use Rattle.edits.specs.Edits.{Made, stopped, made, make, tableOnly, planned, planMade, planMakeDirectories, planVerdict}
-use Rattle.edits.specs.Inner.Troubles.{madeVerdict, troubleOf}
+use Rattle.edits.specs.Edits.{Made, stopped, made, make, table_only, planned, plan_made, plan_make_directories, plan_verdict}
+use Rattle.edits.specs.Inner.Troubles.{made_verdict, trouble_of}
 use Rattle.edits.proofs.Laws.Troubles.{make-trouble}
 use Rattle.edits.proofs.Laws.MadeTree.{make-grows}
 use Rattle.opened.specs.Inner.Disc.{Disc}
@@ -32,8 +32,8 @@ use Rattle.table_writing.specs.Inner.Growth.{Built}
 use Rattle.table_writing.specs.Inner.Growing.{tree_of}
 use Rattle.edit.proofs.Decisions.{refused-decided}
 use Rattle.edit.proofs.TableChanges.{unbuilt-decides, same-decides}
-use Rattle.edit.specs.Inner.Walk.{pathTrouble, pathVerdict}
-use Rattle.edit.specs.Inner.Making.{madeTree, madeEntry, Reaches}
+use Rattle.edit.specs.Inner.Walk.{path_trouble, path_verdict}
+use Rattle.edit.specs.Inner.Making.{made_tree, made_entry, Reaches}
 use Rattle.edit.proofs.Turns.{all_made}
 
 module _ (d : Disc) (start : ℕ) (path : List ℕ) where
@@ -44,25 +44,25 @@ module _ (d : Disc) (start : ℕ) (path : List ℕ) where
   whole = make nodes [] start false (components path)
 
   abbrev plan : Plan
-  plan = planMakeDirectories nodes start path
+  plan = plan_make_directories nodes start path
 
   -- ---- the tests that need no memory
 
   pub path-short : WellFormed nodes → length path ≤ 1024 →
-      pathTrouble nodes start path ≡ pathVerdict nodes start path
-  unfolding pathVerdict
+      path_trouble nodes start path ≡ path_verdict nodes start path
+  unfolding path_verdict
   path-short w h = rw (le-ltb 1024 (length path) h) (go (leb (length nodes) start) refl)
     where
-      go : (t : Bool) → leb (length nodes) start ≡ t → refuse t NoSuchEntry (troubleOf nodes start start 0 false (components path)) ≡ refuse t NoSuchEntry (madeVerdict whole)
+      go : (t : Bool) → leb (length nodes) start ≡ t → refuse t NoSuchEntry (trouble_of nodes start start 0 false (components path)) ≡ refuse t NoSuchEntry (made_verdict whole)
       go true e = refl
       go false e = sym (make-trouble nodes start (components path) (well-nested nodes w) (leb-false (length nodes) start e))
 
-  pub path-refused : (room : ℕ) (bytes : List ℕ) (c : Refusal) → pathVerdict nodes start path ≡ Err c → Decides plan d room bytes (Err c)
-  unfolding pathVerdict planMakeDirectories
+  pub path-refused : (room : ℕ) (bytes : List ℕ) (c : Refusal) → path_verdict nodes start path ≡ Err c → Decides plan d room bytes (Err c)
+  unfolding path_verdict plan_make_directories
   path-refused room bytes c e image m = refused-decided image d.words room bytes plan c (go (ltb 1024 (length path)) (leb (length nodes) start) whole e)
     where
-      go : (a b : Bool) (x : Made) → refuse a LimitOrMemory (refuse b NoSuchEntry (madeVerdict x)) ≡ Err c →
-          planVerdict (planned (refuse a LimitOrMemory (refuse b NoSuchEntry (Ok tt))) (planMade x)) image d.words room ≡ Err c
+      go : (a b : Bool) (x : Made) → refuse a LimitOrMemory (refuse b NoSuchEntry (made_verdict x)) ≡ Err c →
+          plan_verdict (planned (refuse a LimitOrMemory (refuse b NoSuchEntry (Ok tt))) (plan_made x)) image d.words room ≡ Err c
       go true b x q = q
       go false true x q = q
       go false false (stopped d) q = q
@@ -71,9 +71,9 @@ module _ (d : Disc) (start : ℕ) (path : List ℕ) where
 
   -- ---- once they are passed: the tree that is made, and the entry where the path leads
 
-  module _ (p : pathVerdict nodes start path ≡ Ok tt) where
-    passed : (leb (length nodes) start ≡ false) × (ltb 1024 (length path) ≡ false) × (madeVerdict whole ≡ Ok tt)
-    unfolding pathVerdict
+  module _ (p : path_verdict nodes start path ≡ Ok tt) where
+    passed : (leb (length nodes) start ≡ false) × (ltb 1024 (length path) ≡ false) × (made_verdict whole ≡ Ok tt)
+    unfolding path_verdict
     passed =
         let a = refuse-passed (ltb 1024 (length path)) LimitOrMemory _ p in
         let b = refuse-passed (leb (length nodes) start) NoSuchEntry _ a.1 in
@@ -82,23 +82,23 @@ module _ (d : Disc) (start : ℕ) (path : List ℕ) where
     pub starts-inside : start < length nodes
     starts-inside = leb-false (length nodes) start passed.0
 
-    pub makes-all : madeVerdict whole ≡ Ok tt
+    pub makes-all : made_verdict whole ≡ Ok tt
     makes-all = passed.2
 
-    plan-is : plan ≡ change (madeEntry whole) (tableOnly (madeTree whole))
-    unfolding planMakeDirectories
+    plan-is : plan ≡ change (made_entry whole) (table_only (made_tree whole))
+    unfolding plan_make_directories
     plan-is = rw (passed.0, passed.1) (go whole makes-all)
       where
-        go : (x : Made) → madeVerdict x ≡ Ok tt → planMade x ≡ change (madeEntry x) (tableOnly (madeTree x))
-        go x e = ap planMade (all_made x e)
+        go : (x : Made) → made_verdict x ≡ Ok tt → plan_made x ≡ change (made_entry x) (table_only (made_tree x))
+        go x e = ap plan_made (all_made x e)
 
-    grows : WellFormed nodes → Bigger nodes (madeTree whole) × (madeEntry whole < length (madeTree whole))
-    grows w = make-grows nodes [] start false (components path) (madeTree whole) (madeEntry whole) w starts-inside tt (all_made whole makes-all)
+    grows : WellFormed nodes → Bigger nodes (made_tree whole) × (made_entry whole < length (made_tree whole))
+    grows w = make-grows nodes [] start false (components path) (made_tree whole) (made_entry whole) w starts-inside tt (all_made whole makes-all)
 
     module _ (w : WellFormed nodes) (room : ℕ) (after : List ℕ) where
       -- there was no room for a tree on the way
-      no_room : (M : List Node) (s : List ℕ) → length s ≡ room → (c : Refusal) → Bigger M (madeTree whole) → Built M d.words s s (Err c) → Decides plan d room after (Err c)
-      no_room M s l c g b = rw (plan-is, ← l) (unbuilt-decides M (madeTree whole) d (madeEntry whole) s after c g b)
+      no_room : (M : List Node) (s : List ℕ) → length s ≡ room → (c : Refusal) → Bigger M (made_tree whole) → Built M d.words s s (Err c) → Decides plan d room after (Err c)
+      no_room M s l c g b = rw (plan-is, ← l) (unbuilt-decides M (made_tree whole) d (made_entry whole) s after c g b)
 
       -- not for the tree as it is
       pub start-refused : (s : List ℕ) → length s ≡ room → (c : Refusal) → Built nodes d.words s s (Err c) → Decides plan d room after (Err c)
@@ -109,7 +109,7 @@ module _ (d : Disc) (start : ℕ) (path : List ℕ) where
         pub made-refused : (s : List ℕ) → length s ≡ room → (c : Refusal) → Reaches (make T [] start false (components path)) held g (Err c) → Decides plan d room after (Err c)
         made-refused s l c h =
             let r : Reaches whole (length s) g (Err c) = rw (same, long, ← l) at h in
-            no_room (madeTree whole) s l c (bigger-same (madeTree whole) (grows w).0.well) (rw lent at r)
+            no_room (made_tree whole) s l c (bigger-same (made_tree whole) (grows w).0.well) (rw lent at r)
 
         module _ (k : ℕ) (h : Reaches (make T [] start false (components path)) held g (Ok k)) where
           made_at : Reaches whole held g (Ok k)
@@ -121,7 +121,7 @@ module _ (d : Disc) (start : ℕ) (path : List ℕ) where
               let i = within-limits (tree_of g) g.words g.stands.within in
               omega (arith, a.0, (grows w).1, i.few, ap length a.1)
 
-          pub made-placed : (n : ℕ) (r : Result Decision Refusal) → n ≡ room → Decides (change k (tableOnly (tree_of g))) d n after r → Decides plan d room after r
+          pub made-placed : (n : ℕ) (r : Result Decision Refusal) → n ≡ room → Decides (change k (table_only (tree_of g))) d n after r → Decides plan d room after r
           made-placed n r l h =
               let a = made_at in
-              rw plan-is (same-decides (tree_of g) (madeTree whole) d k (madeEntry whole) n room after r a.1 a.0 l h)
+              rw plan-is (same-decides (tree_of g) (made_tree whole) d k (made_entry whole) n room after r a.1 a.0 l h)

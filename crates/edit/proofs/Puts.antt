@@ -4,12 +4,12 @@ use mathlib.Core.Path.{◌≡◌, sym, ap, ◌∙◌}
 use mathlib.Core.List.{List, [], ◌++◌}
 use native.Mathlib.Omega.{arith}
 use lib.ListN.{length, drop, replicate, length-replicate}
-use Rattle.endian.specs.Bytes.{put, span, be32Bytes}
+use Rattle.endian.specs.Bytes.{put, span, be32_bytes}
 use Rattle.endian.specs.Laws.Stored.{length-put, length-span, span-put, put-none}
-use Rattle.header.specs.Fields.{fstSizeField}
+use Rattle.header.specs.Fields.{fst_size_field}
 use Rattle.tree.proofs.Laws.Records.{put-middle}
 use Rattle.table_writing.proofs.Puts.{put-start, put-append}
-use Rattle.edits.specs.Change.{withTable}
+use Rattle.edits.specs.Change.{with_table}
 
 -- bytes put into what stands at the start
 pub put-inside : (s t : List ℕ) (at : ℕ) (bs : List ℕ) → at + length bs ≤ length t → length t ≤ length s → put (put s 0 t) at bs ≡ put s 0 (put t at bs)
@@ -25,9 +25,9 @@ span-start s t l n e h q = rw (e, q) (span-put s 0 t (omega arith))
 
 -- the table, its lost tail and its size, put one after the other
 pub committed : (image bytes a b d : List ℕ) (f size n tail : ℕ) → n ≤ length bytes → f + n ≤ length image → f + size ≤ length image
-    → tail ≡ size - n → a ≡ put image f (span bytes 0 n) → b ≡ put a (f + n) (replicate tail 0) → d ≡ put b fstSizeField.at (be32Bytes n) →
-    d ≡ withTable f size (span bytes 0 n) image
-unfolding withTable
+    → tail ≡ size - n → a ≡ put image f (span bytes 0 n) → b ≡ put a (f + n) (replicate tail 0) → d ≡ put b fst_size_field.at (be32_bytes n) →
+    d ≡ with_table f size (span bytes 0 n) image
+unfolding with_table
 committed image bytes a b d f size n tail h i j e p q r =
     let l : length (span bytes 0 n) ≡ n = length-span bytes 0 n (omega arith) in
     let m : f + n ≡ f + length (span bytes 0 n) = omega arith in
@@ -36,8 +36,8 @@ committed image bytes a b d f size n tail h i j e p q r =
     let y : b ≡ put image f (span bytes 0 n ++ replicate tail 0) = q ∙ ap (λ (s : List ℕ). put s (f + n) (replicate tail 0)) p ∙ x in
     let t : tail ≡ size - length (span bytes 0 n) = omega arith in
     let w : b ≡ put image f (span bytes 0 n ++ replicate (size - length (span bytes 0 n)) 0) = y ∙ ap (λ (k : ℕ). put image f (span bytes 0 n ++ replicate k 0)) t in
-    r ∙ ap (λ (s : List ℕ). put s fstSizeField.at (be32Bytes n)) w
-    ∙ ap (λ (k : ℕ). put (put image f (span bytes 0 n ++ replicate (size - length (span bytes 0 n)) 0)) fstSizeField.at (be32Bytes k)) (sym l)
+    r ∙ ap (λ (s : List ℕ). put s fst_size_field.at (be32_bytes n)) w
+    ∙ ap (λ (k : ℕ). put (put image f (span bytes 0 n ++ replicate (size - length (span bytes 0 n)) 0)) fst_size_field.at (be32_bytes k)) (sym l)
 
 -- ---- by what the code did
 

@@ -11,21 +11,21 @@ use Rattle.refusal.specs.declared.Refusal.{Refusal}
 use Rattle.refusal.specs.declared.Refusal.TheVariants.{UnsafeName, ExpectedDirectory, LimitOrMemory}
 use Rattle.tree.specs.Table.{Node, none, plain, safe, parent_of, encode, limits}
 use Rattle.tree.specs.Inner.WellFormed.{GoodName, WellFormed}
-use Rattle.tree.specs.Lookup.{isDirectory, childOf, stays, goesBack}
+use Rattle.tree.specs.Lookup.{is_directory, child_of, stays, goes_back}
 use Rattle.tree.proofs.Laws.Children.{child-is}
 use Rattle.tree.proofs.Laws.LookupLaws.{child-inside}
 use Rattle.tree.proofs.Laws.Nesting.{parent-most}
 use Rattle.tree.proofs.Laws.Renumbered.{directory-is}
 use Rattle.tree.proofs.Laws.WellNested.{next-bounds}
-use Rattle.tree.specs.Insert.{insertAt, emptyDirectory}
+use Rattle.tree.specs.Insert.{insert_at, empty_directory}
 use Rattle.tree.proofs.Laws.InsertLaws.{length-insert, parent-insert-before, parent-insert-at}
 use Rattle.tree.proofs.Laws.Growing.{Bigger, bigger-insert, bigger-limits, bigger-encode}
-use Rattle.edits.specs.Edits.{newNumber, Made, stopped, made, madeBack, ifFound, make}
-use Rattle.edits.specs.Inner.Troubles.{madeVerdict}
+use Rattle.edits.specs.Edits.{new_number, Made, stopped, made, made_back, if_found, make}
+use Rattle.edits.specs.Inner.Troubles.{made_verdict}
 use Rattle.edits.proofs.Laws.MadeTree.{bad-stays, AllLt, make-grows}
 use Rattle.table_writing.specs.declared.growing.Growing.{Growing}
 use Rattle.table_writing.specs.Inner.Growing.{tree_of}
-use Rattle.edit.specs.Inner.Making.{madeTree, madeEntry, turn_of, CanTurn, Reaches}
+use Rattle.edit.specs.Inner.Making.{made_tree, made_entry, turn_of, CanTurn, Reaches}
 
 -- ---- the entries left behind are the directories that the entry is nested in
 
@@ -54,57 +54,57 @@ must false x c F j e = let z : ◌≡◌ {A = ℕ} 0 1 = cc in absurd (omega ari
 
 -- the walk goes on from what the turn m made
 pub record Onward (m : Made) (cs : List (List ℕ)) (F : List Node) (j : ℕ) : Type 0 where
-  pub well : WellFormed (madeTree m)
-  pub inside : madeEntry m < length (madeTree m)
+  pub well : WellFormed (made_tree m)
+  pub inside : made_entry m < length (made_tree m)
   pub steps : ℕ
-  pub left : make (madeTree m) (ups (madeTree m) (madeEntry m) steps) (madeEntry m) false cs ≡ made F j false
+  pub left : make (made_tree m) (ups (made_tree m) (made_entry m) steps) (made_entry m) false cs ≡ made F j false
 
 module _ (M : List Node) (k n : ℕ) (nm : List ℕ) (cs : List (List ℕ)) (F : List Node) (j : ℕ) (w : WellFormed M) (k<n : k < length M)
     (e : make M (ups M k n) k false (nm ∷ cs) ≡ made F j false) where
   abbrev M' : List Node
-  M' = insertAt k (emptyDirectory nm (newNumber M k)) M
+  M' = insert_at k (empty_directory nm (new_number M k)) M
 
   -- what comes after the test of the kind
   abbrev rest : Made
   rest =
       cond (stays nm) (make M (ups M k n) k false cs)
-      (cond (goesBack nm) (madeBack (ups M k n) (λ i trail. make M trail i false cs))
-      (ifFound (childOf M k nm) (λ i. make M (k ∷ ups M k n) i false cs)
-      (cond (safe nm) (make M' (k ∷ ups M k n) (newNumber M k) (not (plain nm)) cs) (stopped UnsafeName))))
+      (cond (goes_back nm) (made_back (ups M k n) (λ i trail. make M trail i false cs))
+      (if_found (child_of M k nm) (λ i. make M (k ∷ ups M k n) i false cs)
+      (cond (safe nm) (make M' (k ∷ ups M k n) (new_number M k) (not (plain nm)) cs) (stopped UnsafeName))))
 
-  tested : (isDirectory (get_or M k none) ≡ true) × (rest ≡ made F j false)
+  tested : (is_directory (get_or M k none) ≡ true) × (rest ≡ made F j false)
   unfolding make
-  tested = must (isDirectory (get_or M k none)) rest ExpectedDirectory F j e
+  tested = must (is_directory (get_or M k none)) rest ExpectedDirectory F j e
 
-  plain-is : (b : Bool) → plain nm ≡ b → make M' (k ∷ ups M k n) (newNumber M k) (not b) cs ≡ made F j false → (plain nm ≡ true) × (make M' (k ∷ ups M k n) (newNumber M k) false cs ≡ made F j false)
+  plain-is : (b : Bool) → plain nm ≡ b → make M' (k ∷ ups M k n) (new_number M k) (not b) cs ≡ made F j false → (plain nm ≡ true) × (make M' (k ∷ ups M k n) (new_number M k) false cs ≡ made F j false)
   plain-is true p q = (p, q)
-  plain-is false p q = absurd (bad-stays cs M' (k ∷ ups M k n) (newNumber M k) F j q)
+  plain-is false p q = absurd (bad-stays cs M' (k ∷ ups M k n) (new_number M k) F j q)
 
   -- a new directory
-  new-name : cond (safe nm) (make M' (k ∷ ups M k n) (newNumber M k) (not (plain nm)) cs) (stopped UnsafeName) ≡ made F j false →
-      GoodName nm × (make M' (k ∷ ups M k n) (newNumber M k) false cs ≡ made F j false)
+  new-name : cond (safe nm) (make M' (k ∷ ups M k n) (new_number M k) (not (plain nm)) cs) (stopped UnsafeName) ≡ made F j false →
+      GoodName nm × (make M' (k ∷ ups M k n) (new_number M k) false cs ≡ made F j false)
   new-name q =
-      let s = must (safe nm) (make M' (k ∷ ups M k n) (newNumber M k) (not (plain nm)) cs) UnsafeName F j q in
+      let s = must (safe nm) (make M' (k ∷ ups M k n) (new_number M k) (not (plain nm)) cs) UnsafeName F j q in
       let p = plain-is (plain nm) refl s.1 in
       ((p.0, s.0), p.1)
 
   pub can-turn : CanTurn M k nm
   can-turn = record { directory = record { inside = k<n; kind = tested.0 }; named = λ s b. record { good = λ c f. go s b c f tested.1 } }
     where
-      go : stays nm ≡ false → goesBack nm ≡ false → (c : Refusal) → childOf M k nm ≡ Err c → rest ≡ made F j false → GoodName nm
+      go : stays nm ≡ false → goes_back nm ≡ false → (c : Refusal) → child_of M k nm ≡ Err c → rest ≡ made F j false → GoodName nm
       go s b c f q = (new-name (rw (s, b, f) at q)).0
 
-  onward-new : GoodName nm → make M' (k ∷ ups M k n) (newNumber M k) false cs ≡ made F j false → Onward (made M' (newNumber M k) false) cs F j
+  onward-new : GoodName nm → make M' (k ∷ ups M k n) (new_number M k) false cs ≡ made F j false → Onward (made M' (new_number M k) false) cs F j
   unfolding ups
   onward-new g q =
       let x = directory-is (get_or M k none) tested.0 in
-      let a = newNumber M k in
+      let a = new_number M k in
       let b = next-bounds M k a x.0 w x.1 k<n in
-      let l = length-insert M k a x.0 (emptyDirectory nm a) w x.1 k<n in
-      let p : parent_of M' a ≡ k = parent-insert-at M k a x.0 (emptyDirectory nm a) w x.1 k<n in
-      let u : ups M' k n ≡ ups M k n = ups-kept M M' a (λ i h. parent-insert-before M k a x.0 (emptyDirectory nm a) w x.1 k<n i h) k n b.0 in
+      let l = length-insert M k a x.0 (empty_directory nm a) w x.1 k<n in
+      let p : parent_of M' a ≡ k = parent-insert-at M k a x.0 (empty_directory nm a) w x.1 k<n in
+      let u : ups M' k n ≡ ups M k n = ups-kept M M' a (λ i h. parent-insert-before M k a x.0 (empty_directory nm a) w x.1 k<n i h) k n b.0 in
       record {
-        well = (bigger-insert M k a x.0 (emptyDirectory nm a) w x.1 k<n g refl).well;
+        well = (bigger-insert M k a x.0 (empty_directory nm a) w x.1 k<n g refl).well;
         inside = omega (arith, l, b.1);
         steps = suc n;
         left = rw (p, u) q;
@@ -112,14 +112,14 @@ module _ (M : List Node) (k n : ℕ) (nm : List ℕ) (cs : List (List ℕ)) (F :
 
   pub onward-turn : Onward (turn_of M k nm) cs F j
   unfolding turn_of ups
-  onward-turn = go (stays nm) (goesBack nm) n (childOf M k nm) refl tested.1
+  onward-turn = go (stays nm) (goes_back nm) n (child_of M k nm) refl tested.1
     where
-      go : (u v : Bool) (t : ℕ) (x : Result ℕ Refusal) → childOf M k nm ≡ x →
+      go : (u v : Bool) (t : ℕ) (x : Result ℕ Refusal) → child_of M k nm ≡ x →
           cond u (make M (ups M k n) k false cs)
-          (cond v (madeBack (ups M k t) (λ i trail. make M trail i false cs))
-          (ifFound x (λ i. make M (k ∷ ups M k n) i false cs)
-          (cond (safe nm) (make M' (k ∷ ups M k n) (newNumber M k) (not (plain nm)) cs) (stopped UnsafeName)))) ≡ made F j false →
-          Onward (cond u (made M k false) (cond v (made M (parent_of M k) false) (ifFound x (λ i. made M i false) (made M' (newNumber M k) false)))) cs F j
+          (cond v (made_back (ups M k t) (λ i trail. make M trail i false cs))
+          (if_found x (λ i. make M (k ∷ ups M k n) i false cs)
+          (cond (safe nm) (make M' (k ∷ ups M k n) (new_number M k) (not (plain nm)) cs) (stopped UnsafeName)))) ≡ made F j false →
+          Onward (cond u (made M k false) (cond v (made M (parent_of M k) false) (if_found x (λ i. made M i false) (made M' (new_number M k) false)))) cs F j
       go true v t x f q = record { well = w; inside = k<n; steps = n; left = q }
       go false true zero x f q = let z : ◌≡◌ {A = ℕ} 0 1 = cc in absurd (omega arith)
       go false true (suc t) x f q = record { well = w; inside = omega (arith, parent-most M k); steps = t; left = q }
@@ -136,13 +136,13 @@ pub record Making (F : List Node) (j words room : ℕ) (g : Growing) (k : ℕ) (
   pub left : make (tree_of g) (ups (tree_of g) k steps) k false rest ≡ made F j false
 
 -- the walk met no trouble
-pub all_made : (m : Made) → madeVerdict m ≡ Ok tt → m ≡ made (madeTree m) (madeEntry m) false
+pub all_made : (m : Made) → made_verdict m ≡ Ok tt → m ≡ made (made_tree m) (made_entry m) false
 all_made (stopped c) e = let z : ◌≡◌ {A = ℕ} 0 1 = cc in absurd (omega arith)
 all_made (made nodes k true) e = let z : ◌≡◌ {A = ℕ} 0 1 = cc in absurd (omega arith)
 all_made (made nodes k false) e = refl
 
-pub making-start : (g : Growing) (start : ℕ) (cs : List (List ℕ)) → start < length (tree_of g) → madeVerdict (make (tree_of g) [] start false cs) ≡ Ok tt →
-    Making (madeTree (make (tree_of g) [] start false cs)) (madeEntry (make (tree_of g) [] start false cs)) g.words (length g.bytes.now) g start cs
+pub making-start : (g : Growing) (start : ℕ) (cs : List (List ℕ)) → start < length (tree_of g) → made_verdict (make (tree_of g) [] start false cs) ≡ Ok tt →
+    Making (made_tree (make (tree_of g) [] start false cs)) (made_entry (make (tree_of g) [] start false cs)) g.words (length g.bytes.now) g start cs
 unfolding ups
 making-start g start cs h e = record { lent = refl; long = refl; inside = h; steps = 0; left = all_made (make (tree_of g) [] start false cs) e }
 
@@ -159,7 +159,7 @@ module _ {F : List Node} {j words room : ℕ} {g : Growing} {k : ℕ} {nm : List
     making-stops x c y e =
         let r : Reaches (turn_of (tree_of g) k nm) (length g.bytes.now) h (Err c) = rw e at y in
         let o = next in
-        let T = madeTree (turn_of (tree_of g) k nm) in
+        let T = made_tree (turn_of (tree_of g) k nm) in
         let b : Bigger T F = (make-grows T _ _ false cs F j o.well o.inside (ups-inside T _ o.steps o.inside) o.left).0 in
         let w : h.words ≡ words = lent ∙ v.lent in
         (r.0, λ l. omega (arith, (rw w at r.1) (bigger-limits T F words b l), bigger-encode T F b, v.long))
@@ -173,5 +173,5 @@ module _ {F : List Node} {j words room : ℕ} {g : Growing} {k : ℕ} {nm : List
 pub making-end : (F : List Node) (j words room : ℕ) (g : Growing) (k : ℕ) → Making F j words room g k [] → (k ≡ j) × (tree_of g ≡ F)
 unfolding make
 making-end F j words room g k v =
-    let d = must (isDirectory (get_or (tree_of g) k none)) (made (tree_of g) k false) ExpectedDirectory F j v.left in
-    (ap madeEntry d.1, ap madeTree d.1)
+    let d = must (is_directory (get_or (tree_of g) k none)) (made (tree_of g) k false) ExpectedDirectory F j v.left in
+    (ap made_entry d.1, ap made_tree d.1)

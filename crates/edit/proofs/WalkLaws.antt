@@ -13,9 +13,9 @@ use Rattle.refusal.specs.Refusal.{Verdict, refuse, first, is_refused}
 use Rattle.refusal.specs.declared.Refusal.{Refusal}
 use Rattle.refusal.specs.declared.Refusal.TheVariants.{InvalidNameByte, UnsafeName, NoSuchEntry, ExpectedDirectory, NotFound}
 use Rattle.tree.specs.Table.{Node, none, plain, safe, parent_of}
-use Rattle.tree.specs.Lookup.{isDirectory, components, childOf, stays, goesBack}
-use Rattle.edits.specs.Inner.Troubles.{ifChild, troubleOf}
-use Rattle.edit.specs.Inner.Walk.{Place, at_start, walk_from, moved, plainVerdict, directoryVerdict, childStep, behind, step_of, lastVerdict, pathTrouble}
+use Rattle.tree.specs.Lookup.{is_directory, components, child_of, stays, goes_back}
+use Rattle.edits.specs.Inner.Troubles.{if_child, trouble_of}
+use Rattle.edit.specs.Inner.Walk.{Place, at_start, walk_from, moved, plain_verdict, directory_verdict, child_step, behind, step_of, last_verdict, path_trouble}
 
 -- ---- what the new names come to: nothing, or 12
 
@@ -36,7 +36,7 @@ refused-both (Err c) b = refl
 
 -- what is left of the walk from a place
 abbrev pub left_at : Place → List (List ℕ) → Verdict
-left_at p cs = troubleOf p.nodes p.start p.entry p.level (is_refused p.names) cs
+left_at p cs = trouble_of p.nodes p.start p.entry p.level (is_refused p.names) cs
 
 -- and after a step
 abbrev pub onward : List (List ℕ) → Result Place Refusal → Verdict
@@ -52,18 +52,18 @@ module _ (nodes : List Node) (start k : ℕ) (v : Verdict) where
 
   -- with one new directory more
   abbrev below : ℕ → List ℕ → Place
-  below level nm = record { nodes = nodes; start = start; entry = k; level = level; names = first v (plainVerdict nm) }
+  below level nm = record { nodes = nodes; start = start; entry = k; level = level; names = first v (plain_verdict nm) }
 
-  trouble-step : (level : ℕ) (nm : List ℕ) (cs : List (List ℕ)) → troubleOf nodes start k level bad (nm ∷ cs) ≡ onward cs (step_of (at level) nm)
-  unfolding troubleOf step_of
+  trouble-step : (level : ℕ) (nm : List ℕ) (cs : List (List ℕ)) → trouble_of nodes start k level bad (nm ∷ cs) ≡ onward cs (step_of (at level) nm)
+  unfolding trouble_of step_of
   trouble-step zero nm cs =
-      rw (← refused-both v (not (plain nm))) (go (isDirectory (get_or nodes k none)) (stays nm) (goesBack nm) (eqb k start) (childOf nodes k nm) (safe nm))
+      rw (← refused-both v (not (plain nm))) (go (is_directory (get_or nodes k none)) (stays nm) (goes_back nm) (eqb k start) (child_of nodes k nm) (safe nm))
     where
       go : (t u g w : Bool) (a : Result ℕ Refusal) (s : Bool) →
-          cond t (cond u (troubleOf nodes start k zero bad cs) (cond g (cond w (Err NotFound) (troubleOf nodes start (parent_of nodes k) zero bad cs))
-          (ifChild a (λ j. troubleOf nodes start j zero bad cs) (cond s (troubleOf nodes start k 1 (is_refused (first v (plainVerdict nm))) cs) (Err UnsafeName))))) (Err ExpectedDirectory) ≡
+          cond t (cond u (trouble_of nodes start k zero bad cs) (cond g (cond w (Err NotFound) (trouble_of nodes start (parent_of nodes k) zero bad cs))
+          (if_child a (λ j. trouble_of nodes start j zero bad cs) (cond s (trouble_of nodes start k 1 (is_refused (first v (plain_verdict nm))) cs) (Err UnsafeName))))) (Err ExpectedDirectory) ≡
           onward cs (behind (refuse (not t) ExpectedDirectory (Ok tt)) (cond u (Ok (at 0)) (cond g (cond w (Err NotFound) (Ok (moved (at 0) (parent_of nodes k) 0)))
-          (childStep (at 0) a (cond s (Ok (below 1 nm)) (Err UnsafeName))))))
+          (child_step (at 0) a (cond s (Ok (below 1 nm)) (Err UnsafeName))))))
       go false u g w a s = refl
       go true true g w a s = refl
       go true false true true a s = refl
@@ -73,20 +73,20 @@ module _ (nodes : List Node) (start k : ℕ) (v : Verdict) where
       go true false false w (Err c) false = refl
   trouble-step (suc level) nm cs =
       let e : suc level - 1 ≡ level = omega arith in
-      rw (← refused-both v (not (plain nm)), ne_eqb (suc level) 0 (λ z. omega arith), e, add-one (suc level)) (go (stays nm) (goesBack nm) (safe nm))
+      rw (← refused-both v (not (plain nm)), ne_eqb (suc level) 0 (λ z. omega arith), e, add-one (suc level)) (go (stays nm) (goes_back nm) (safe nm))
     where
       go : (u g s : Bool) →
-          cond u (troubleOf nodes start k (suc level) bad cs) (cond g (troubleOf nodes start k level bad cs)
-          (cond s (troubleOf nodes start k (suc (suc level)) (is_refused (first v (plainVerdict nm))) cs) (Err UnsafeName))) ≡
+          cond u (trouble_of nodes start k (suc level) bad cs) (cond g (trouble_of nodes start k level bad cs)
+          (cond s (trouble_of nodes start k (suc (suc level)) (is_refused (first v (plain_verdict nm))) cs) (Err UnsafeName))) ≡
           onward cs (cond u (Ok (at (suc level))) (cond g (Ok (moved (at (suc level)) k level)) (cond s (Ok (below (suc (suc level)) nm)) (Err UnsafeName))))
       go true g s = refl
       go false true s = refl
       go false false true = refl
       go false false false = refl
 
-  trouble-last : (level : ℕ) → Told v → troubleOf nodes start k level bad [] ≡ lastVerdict (at level)
-  unfolding troubleOf
-  trouble-last zero t = go (isDirectory (get_or nodes k none))
+  trouble-last : (level : ℕ) → Told v → trouble_of nodes start k level bad [] ≡ last_verdict (at level)
+  unfolding trouble_of
+  trouble-last zero t = go (is_directory (get_or nodes k none))
     where
       go : (d : Bool) → cond d (refuse bad InvalidNameByte (Ok tt)) (Err ExpectedDirectory) ≡ first (refuse (not d) ExpectedDirectory (Ok tt)) v
       go true = sym t
@@ -110,18 +110,18 @@ module _ (p : Place) (t : Told p.names) (nm : List ℕ) (q : Place) where
 
   -- with one new directory more
   abbrev new : Place
-  new = record { nodes = p.nodes; start = p.start; entry = p.entry; level = p.level + 1; names = first p.names (plainVerdict nm) }
+  new = record { nodes = p.nodes; start = p.start; entry = p.entry; level = p.level + 1; names = first p.names (plain_verdict nm) }
 
   step-within : step_of p nm ≡ Ok q → Within (p.level + 1) q
   unfolding step_of
-  step-within = go (directoryVerdict p) (stays nm) (goesBack nm) (eqb p.level 0) (eqb p.entry p.start) (childOf p.nodes p.entry nm) (safe nm)
+  step-within = go (directory_verdict p) (stays nm) (goes_back nm) (eqb p.level 0) (eqb p.entry p.start) (child_of p.nodes p.entry nm) (safe nm)
     where
-      told : Told (first p.names (plainVerdict nm))
+      told : Told (first p.names (plain_verdict nm))
       told = told-both p.names (not (plain nm)) t
 
       go : (d : Verdict) (u g z w : Bool) (a : Result ℕ Refusal) (s : Bool) →
           behind d (cond u (Ok p) (cond g (cond z (cond w (Err NotFound) (Ok (moved p (parent_of p.nodes p.entry) 0))) (Ok (moved p p.entry (p.level - 1))))
-          (cond z (childStep p a (cond s (Ok new) (Err UnsafeName))) (cond s (Ok new) (Err UnsafeName))))) ≡ Ok q → Within (p.level + 1) q
+          (cond z (child_step p a (cond s (Ok new) (Err UnsafeName))) (cond s (Ok new) (Err UnsafeName))))) ≡ Ok q → Within (p.level + 1) q
       go (Err c) u g z w a s e = never c e
       go (Ok _) true g z w a s e = landed p e (omega arith) t
       go (Ok _) false true true true a s e = never _ e
@@ -152,15 +152,15 @@ module _ (whole : Verdict) (most : ℕ) (p : Place) (nm : List ℕ) (rest : List
       let w = step-within p f.told nm q (sym took) in
       record { levels = omega (arith, w.0, f.levels); told = w.1; left = stepped (Ok q) took }
 
-pub walk_ends : (whole : Verdict) (most : ℕ) (p : Place) → Walking whole most p [] → (r : Verdict) → r ≡ lastVerdict p → r ≡ whole
+pub walk_ends : (whole : Verdict) (most : ℕ) (p : Place) → Walking whole most p [] → (r : Verdict) → r ≡ last_verdict p → r ≡ whole
 walk_ends whole most p f r e = e ∙ sym (f.left ∙ trouble-last p.nodes p.start p.entry p.names p.level f.told)
 
 module _ (nodes : List Node) (start : ℕ) (path : List ℕ) where
-  pub walk-starts : (p : Place) → walk_from nodes start ≡ Ok p → Walking (pathTrouble nodes start path) (length (components path)) p (components path)
+  pub walk-starts : (p : Place) → walk_from nodes start ≡ Ok p → Walking (path_trouble nodes start path) (length (components path)) p (components path)
   walk-starts p = go (leb (length nodes) start)
     where
       go : (t : Bool) → cond t (Err NoSuchEntry) (Ok (at_start nodes start)) ≡ Ok p →
-          Walking (refuse t NoSuchEntry (troubleOf nodes start start 0 false (components path))) (length (components path)) p (components path)
+          Walking (refuse t NoSuchEntry (trouble_of nodes start start 0 false (components path))) (length (components path)) p (components path)
       go true e = let z : ◌≡◌ {A = ℕ} 0 1 = cc in absurd (omega arith)
       go false e =
           let x : at_start nodes start ≡ p = cc in

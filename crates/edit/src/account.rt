@@ -1,8 +1,8 @@
 // The totals record after what an edit decides on: its test, which comes last, and the record moved on.
 ghost use Rattle.std.specs.Prelude.{◌≡◌, Ok, ◌+◌, ◌≤◌};
 ghost use Rattle.space.specs.Inner.Scan.{moved};
-ghost use Rattle.edit.specs.Inner.Accounting.{OnDisc, OfUsed, enteredAs, enteredFor};
-ghost use Rattle.edit.specs.Inner.Accounting.{accounted, accountOf};
+ghost use Rattle.edit.specs.Inner.Accounting.{OnDisc, OfUsed, entered_as, entered_for};
+ghost use Rattle.edit.specs.Inner.Accounting.{accounted, account_of};
 
 use crate::decision::{Decision, Writing};
 use opened::OpenDisc;
@@ -21,7 +21,7 @@ fn enter(
 ) -> Verdict
     requires { disc.now.start + size ≤ disc.now.end }
     ensures { OfUsed disc.now (λ image behind.
-        moved result totals.new ≡ enteredAs image behind totals.old size old new) }
+        moved result totals.new ≡ entered_as image behind totals.old size old new) }
 {
     let disc_end = disc.end();
     let size = size as u32;
@@ -38,7 +38,7 @@ fn enter(
 fn enter_decision(disc: &OpenDisc<'_>, decision: Decision, totals: &mut Totals) -> Verdict
     requires { OnDisc disc.now (Ok decision) }
     ensures { OfUsed disc.now (λ image behind.
-        moved result totals.new ≡ enteredFor image behind decision totals.old) }
+        moved result totals.new ≡ entered_for image behind decision totals.old) }
 {
     // An open disc has room for its own table.
     let _ = &disc.table;
@@ -62,7 +62,7 @@ pub fn account(
 ) -> Result<Decision, Refusal>
     requires { OnDisc disc.now decided }
     ensures { OfUsed disc.now (λ image behind.
-        accounted result totals.new ≡ accountOf image behind decided totals.old) }
+        accounted result totals.new ≡ account_of image behind decided totals.old) }
 {
     // Its used regions are known of an edit that is refused, too.
     let _ = &disc.words;

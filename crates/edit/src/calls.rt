@@ -1,7 +1,7 @@
 // The edits of an image, each a line over the one way through every edit.
 ghost use Rattle.edits.specs.Edits as edits;
-ghost use Rattle.edits.specs.Edits.{numberedAs};
-ghost use Rattle.edits.specs.Promise.{lent, onlyVerdict, Edited};
+ghost use Rattle.edits.specs.Edits.{numbered_as};
+ghost use Rattle.edits.specs.Promise.{lent, only_verdict, Edited};
 
 use crate::new_entry::NewEntry;
 use crate::pipeline;
@@ -20,7 +20,7 @@ pub fn rewrite(
 ) -> Verdict
     ensures { let before = lent image.old words.old bytes.old totals.old in
         let after = lent image.new words.new bytes.new totals.new in
-        Edited onlyVerdict edits.rewrite before after result }
+        Edited only_verdict edits.rewrite before after result }
 {
     pipeline::done(image, words, bytes, totals, Edit::Rewrite)
 }
@@ -36,7 +36,7 @@ pub fn move_file(
 ) -> Verdict
     ensures { let before = lent image.old words.old bytes.old totals.old in
         let after = lent image.new words.new bytes.new totals.new in
-        Edited onlyVerdict (edits.moveFile file offset) before after result }
+        Edited only_verdict (edits.move_file file offset) before after result }
 {
     pipeline::done(image, words, bytes, totals, Edit::Move { file, offset })
 }
@@ -52,7 +52,7 @@ pub fn resize_file(
 ) -> Verdict
     ensures { let before = lent image.old words.old bytes.old totals.old in
         let after = lent image.new words.new bytes.new totals.new in
-        Edited onlyVerdict (edits.resizeFile file size) before after result }
+        Edited only_verdict (edits.resize_file file size) before after result }
 {
     pipeline::done(image, words, bytes, totals, Edit::Resize { file, size })
 }
@@ -68,7 +68,7 @@ pub fn fill_file(
 ) -> Verdict
     ensures { let before = lent image.old words.old bytes.old totals.old in
         let after = lent image.new words.new bytes.new totals.new in
-        Edited onlyVerdict (edits.fillFile file clip.now) before after result }
+        Edited only_verdict (edits.fill_file file clip.now) before after result }
 {
     pipeline::done(image, words, bytes, totals, Edit::Fill { file, clip })
 }
@@ -85,7 +85,7 @@ pub fn insert_file(
 ) -> Result<u32, Refusal>
     ensures { let before = lent image.old words.old bytes.old totals.old in
         let after = lent image.new words.new bytes.new totals.new in
-        Edited numberedAs (edits.insertFile parent name.now) before after result }
+        Edited numbered_as (edits.insert_file parent name.now) before after result }
 {
     let kind = Kind::File;
     let new = NewEntry { parent, kind, name };
@@ -103,7 +103,7 @@ pub fn insert_directory(
 ) -> Result<u32, Refusal>
     ensures { let before = lent image.old words.old bytes.old totals.old in
         let after = lent image.new words.new bytes.new totals.new in
-        Edited numberedAs (edits.insertDirectory parent name.now) before after result }
+        Edited numbered_as (edits.insert_directory parent name.now) before after result }
 {
     let kind = Kind::Directory;
     let new = NewEntry { parent, kind, name };
@@ -122,7 +122,7 @@ pub fn make_directories(
 ) -> Result<u32, Refusal>
     ensures { let before = lent image.old words.old bytes.old totals.old in
         let after = lent image.new words.new bytes.new totals.new in
-        Edited numberedAs (edits.makeDirectories start path.now) before after result }
+        Edited numbered_as (edits.make_directories start path.now) before after result }
 {
     pipeline::run(
         image,

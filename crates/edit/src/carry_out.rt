@@ -1,8 +1,8 @@
 // What a decision does to the image.
 ghost use Rattle.std.specs.Prelude.{◌≡◌, ◌+◌, length, replicate};
 ghost use Rattle.endian.specs.Bytes.{put, span};
-ghost use Rattle.edits.specs.Change.{withTable};
-ghost use Rattle.edit.specs.Inner.Decision.{CopyFits, ZeroFits, TableFits, Fits, writtenWith};
+ghost use Rattle.edits.specs.Change.{with_table};
+ghost use Rattle.edit.specs.Inner.Decision.{CopyFits, ZeroFits, TableFits, Fits, written_with};
 ghost use Rattle.edit.specs.Inner.Decision.{Into, clipped};
 
 use crate::decision::Writing;
@@ -11,7 +11,7 @@ use header::Field;
 // `commit_file_tree`: the table, zeros over the lost tail of the old one, and the new size in the header.
 fn commit(image: &mut [u8], bytes: &[u8], fst_offset: usize, fst_size: usize, size: usize)
     requires { TableFits (length image.old) (length bytes.now) fst_offset fst_size size }
-    ensures { image.new ≡ withTable fst_offset fst_size (span bytes.now 0 size) image.old }
+    ensures { image.new ≡ with_table fst_offset fst_size (span bytes.now 0 size) image.old }
 {
     endian::copy(bytes, 0, image, fst_offset, size);
     let tail = fst_size.saturating_sub(size);
@@ -45,7 +45,7 @@ fn zero_lost(image: &mut [u8], at: usize, n: usize)
 // Copy, table, zeros: in this order.
 pub(crate) fn write_change(image: &mut [u8], bytes: &[u8], size: usize, writing: Writing)
     requires { Fits image.old (length bytes.now) size writing }
-    ensures { image.new ≡ writtenWith writing (span bytes.now 0 size) image.old }
+    ensures { image.new ≡ written_with writing (span bytes.now 0 size) image.old }
 {
     let Writing {
         old,

@@ -1,7 +1,7 @@
 // The part that every edit ends with: the new table and its place judged, and what is decided on carried out.
 
 ghost use Rattle.std.specs.Prelude.{◌≡◌, length};
-ghost use Rattle.edit.specs.Inner.Decision.{CanCarry, number_of, carriedAnswer, carriedImage};
+ghost use Rattle.edit.specs.Inner.Decision.{CanCarry, number_of, carried_answer, carried_image};
 
 use crate::carry_out;
 use refusal::Refusal;
@@ -65,7 +65,7 @@ impl Decision {
     pub fn carry_out(self, image: &mut [u8], bytes: &[u8], clip: &[u8]) -> u32
         requires { CanCarry image.old (length bytes.now) clip.now (Ok self) }
         ensures number { result ≡ number_of self }
-        ensures image_after { image.new ≡ carriedImage (Ok self) bytes.now clip.now image.old }
+        ensures image_after { image.new ≡ carried_image (Ok self) bytes.now clip.now image.old }
     {
         match self {
             Decision::Nothing => 0,
@@ -94,8 +94,8 @@ pub fn finish(
     decided: Result<Decision, Refusal>,
 ) -> Result<u32, Refusal>
     requires { CanCarry image.old (length bytes.now) clip.now decided }
-    ensures answer { result ≡ carriedAnswer decided }
-    ensures image_after { image.new ≡ carriedImage decided bytes.now clip.now image.old }
+    ensures answer { result ≡ carried_answer decided }
+    ensures image_after { image.new ≡ carried_image decided bytes.now clip.now image.old }
 {
     Ok(decided?.carry_out(image, bytes, clip))
 }

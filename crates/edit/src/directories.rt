@@ -3,9 +3,9 @@
 
 ghost use Rattle.std.specs.Prelude.{◌≡◌, length};
 ghost use Rattle.tree.specs.Inner.WellFormed.{WellFormed};
-ghost use Rattle.edits.specs.Edits.{planMakeDirectories};
+ghost use Rattle.edits.specs.Edits.{plan_make_directories};
 ghost use Rattle.edit.specs.Inner.Decision.{Decides};
-ghost use Rattle.edit.specs.Inner.Walk.{pathVerdict};
+ghost use Rattle.edit.specs.Inner.Walk.{path_verdict};
 
 use crate::decision::Decision;
 use crate::{making, table_only, trouble};
@@ -20,9 +20,9 @@ const PATH_LIMIT: usize = 1024;
 // Kept: a path and the entry that it starts from go side by side, as users give them; both calls use them once.
 // The tests that need no memory: a path over the limit 9, then 15, and the troubles along the path 13, 17,
 // 18, 12.
-#[tactic(auto, unfolding(crate::specs::Inner::Walk::pathVerdict))]
+#[tactic(auto, unfolding(crate::specs::Inner::Walk::path_verdict))]
 fn check_path(disc: &OpenDisc<'_>, start: u32, path: &[u8]) -> Verdict
-    ensures answer { result ≡ pathVerdict disc.now.nodes start path.now }
+    ensures answer { result ≡ path_verdict disc.now.nodes start path.now }
     ensures well_formed { WellFormed disc.now.nodes }
 {
     let table = Table::new(disc.table());
@@ -41,7 +41,7 @@ pub fn make_directories(
     start: u32,
     path: &[u8],
 ) -> Result<Decision, Refusal>
-    ensures { Decides (planMakeDirectories disc.now.nodes start path.now)
+    ensures { Decides (plan_make_directories disc.now.nodes start path.now)
         disc.now (length bytes.old) bytes.new result }
 {
     check_path(disc, start, path)?;

@@ -1,9 +1,9 @@
 // What a fill decides on: the file is resized to the clip, and then the clip is the file.
 ghost use Rattle.std.specs.Prelude.{◌≡◌, length};
-ghost use Rattle.edits.specs.Edits.{planFill};
+ghost use Rattle.edits.specs.Edits.{plan_fill};
 ghost use Rattle.opened.specs.Inner.Disc.{free_of};
 ghost use Rattle.edit.specs.Inner.Decision.{DecidesWith};
-ghost use Rattle.edit.specs.Inner.Filling.{withClip};
+ghost use Rattle.edit.specs.Inner.Filling as filling_of;
 
 use crate::decision::{Decision, Writing};
 use crate::file::File;
@@ -14,7 +14,7 @@ use refusal::Refusal;
 // A resize's decision with the clip: a file of the clip's size stays where it is, and only the clip is
 // written. No byte of the old file is copied, since the clip covers what a resize would copy.
 fn with_clip(decision: Decision, file: File) -> Decision
-    ensures { result ≡ withClip decision file }
+    ensures { result ≡ filling_of.with_clip decision file }
 {
     let number = file.number;
     match decision {
@@ -39,7 +39,7 @@ pub fn fill(
     number: u32,
     clip: &[u8],
 ) -> Result<Decision, Refusal>
-    ensures { let plan = planFill (free_of disc.now) disc.now.nodes number clip.now in
+    ensures { let plan = plan_fill (free_of disc.now) disc.now.nodes number clip.now in
         DecidesWith clip.now plan disc.now (length bytes.old) bytes.new result }
 {
     let file = finding::file_on_disc(disc, number)?;

@@ -2,7 +2,7 @@
 
 ghost use Rattle.std.specs.Prelude.{length};
 ghost use Rattle.edit.specs.Inner.Decision.{Decides};
-ghost use Rattle.edit.specs.Inner.Insertion.{planInserted};
+ghost use Rattle.edit.specs.Inner.Insertion.{plan_inserted};
 
 use crate::decision::Decision;
 use crate::new_entry::NewEntry;
@@ -15,7 +15,7 @@ use table_writing::Growing;
 /// An empty file or an empty directory as the last child of a directory: 15, 13, 17, 19, 12, then the tests
 /// of the new table, which stands in the bytes where it is decided on.
 pub fn insert(disc: &OpenDisc<'_>, bytes: &mut [u8], new: NewEntry<'_>) -> Result<Decision, Refusal>
-    ensures { Decides (planInserted new.entry.kind disc.now.nodes new.entry.parent new.entry.name.now)
+    ensures { Decides (plan_inserted new.entry.kind disc.now.nodes new.entry.parent new.entry.name.now)
         disc.now (length bytes.old) bytes.new result }
 {
     new.check(&Table::new(disc.table()))?;

@@ -3,7 +3,7 @@
 ghost use Rattle.std.specs.Prelude.{◌≡◌, Ok, false, [], ◌<◌, length};
 ghost use Rattle.tree.specs.Lookup.{components};
 ghost use Rattle.edits.specs.Edits.{make};
-ghost use Rattle.edits.specs.Inner.Troubles.{madeVerdict};
+ghost use Rattle.edits.specs.Inner.Troubles.{made_verdict};
 ghost use Rattle.table_writing.specs.Inner.Growing.{tree_of};
 ghost use Rattle.edit.specs.Inner.Making.{turn_of, CanTurn, Reaches};
 
@@ -39,7 +39,7 @@ fn step(table: &mut Growing<'_>, entry: usize, name: &[u8]) -> Result<usize, Ref
 pub fn make_along(table: &mut Growing<'_>, start: usize, path: &[u8]) -> Result<usize, Refusal>
     requires start_inside { start < length (tree_of table.old) }
     requires untroubled { let whole = make (tree_of table.old) [] start false (components path.now) in
-        madeVerdict whole ≡ Ok tt }
+        made_verdict whole ≡ Ok tt }
     ensures reaches { let room = length table.old.bytes.now in
         Reaches (make (tree_of table.old) [] start false (components path.now)) room table.new result }
     ensures same_words { table.new.words ≡ table.old.words }

@@ -1,10 +1,11 @@
 // What a rewrite and a move decide on, for every image that means the disc.
 ghost use Rattle.std.specs.Prelude.{◌≡◌, List, ℕ, length};
-ghost use Rattle.tree.specs.Insert.{setPlace};
+ghost use Rattle.tree.specs.Insert as insert_of;
 ghost use Rattle.edits.specs.Change.{change};
-ghost use Rattle.edits.specs.Edits.{tableOnly, planned, overlapsItself, relocateVerdict, relocated, planMove};
+ghost use Rattle.edits.specs.Edits as edits_of;
+ghost use Rattle.edits.specs.Edits.{table_only, planned, relocate_verdict, relocated, plan_move};
 ghost use Rattle.opened.specs.Inner.Disc.{free_of, Means};
-ghost use Rattle.edit.specs.Inner.Decision.{InImage, changeWith, Decides};
+ghost use Rattle.edit.specs.Inner.Decision.{InImage, change_with, Decides};
 ghost use Rattle.edit.specs.Inner.Files.{IsFile, IsFileOf, relocation_of};
 
 use crate::decision::{Decision, Span, Writing};
@@ -19,7 +20,7 @@ use space::DiscRegion;
 // value that held both would say nothing more.
 /// The tree as it is, written anew; refused by the tests of its table alone.
 pub fn rewrite(disc: &OpenDisc<'_>, bytes: &mut [u8]) -> Result<Decision, Refusal>
-    ensures { Decides (change 0 (tableOnly disc.now.nodes)) disc.now (length bytes.old) bytes.new result }
+    ensures { Decides (change 0 (table_only disc.now.nodes)) disc.now (length bytes.old) bytes.new result }
 {
     let size = place::check_table(disc, bytes.len(), Writing::NOTHING.place)?;
     place::write_table(disc.table(), bytes);
@@ -39,8 +40,8 @@ pub(crate) fn set_place(
 ) -> Result<Decision, Refusal>
     requires is_file { IsFile disc.now.nodes number }
     requires inside { (image : List ℕ) → Means image disc.now → InImage (length image) writing }
-    ensures { let nodes = setPlace number writing.place.offset writing.place.size disc.now.nodes in
-        Decides (change number (changeWith nodes writing)) disc.now (length bytes.old) bytes.new result }
+    ensures { let nodes = insert_of.set_place number writing.place.offset writing.place.size disc.now.nodes in
+        Decides (change number (change_with nodes writing)) disc.now (length bytes.old) bytes.new result }
 {
     let place = writing.place;
     let size = place::check_table(disc, bytes.len(), place)?;
@@ -55,14 +56,14 @@ pub(crate) fn set_place(
 
 // Whether a region would be moved onto itself.
 fn overlaps_itself(old: DiscRegion, new: DiscRegion) -> bool
-    ensures { result ≡ overlapsItself old new }
+    ensures { result ≡ edits_of.overlaps_itself old new }
 {
     u64::from(new.offset) < old.end() && u64::from(old.offset) < new.end()
 }
 
 // The tests of a new place: 20, then 21.
 fn check_relocate(disc: &OpenDisc<'_>, old: DiscRegion, new: DiscRegion) -> Verdict
-    ensures { result ≡ relocateVerdict (free_of disc.now) old new }
+    ensures { result ≡ relocate_verdict (free_of disc.now) old new }
 {
     if overlaps_itself(old, new) {
         return Err(Refusal::OverlappingMove);
@@ -97,7 +98,7 @@ pub(crate) fn relocate(
 ) -> Result<Decision, Refusal>
     requires { IsFileOf disc.now file }
     ensures { let moved = change file.number (relocated disc.now.nodes file.number file.place new) in
-        let plan = planned (relocateVerdict (free_of disc.now) file.place new) moved in
+        let plan = planned (relocate_verdict (free_of disc.now) file.place new) moved in
         Decides plan disc.now (length bytes.old) bytes.new result }
 {
     check_relocate(disc, file.place, new)?;
@@ -112,7 +113,7 @@ pub fn move_file(
     number: u32,
     offset: u32,
 ) -> Result<Decision, Refusal>
-    ensures { let plan = planMove (free_of disc.now) disc.now.nodes number offset in
+    ensures { let plan = plan_move (free_of disc.now) disc.now.nodes number offset in
         Decides plan disc.now (length bytes.old) bytes.new result }
 {
     let file = file_on_disc(disc, number)?;

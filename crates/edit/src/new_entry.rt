@@ -1,8 +1,8 @@
 // An entry that is to be inserted, and its tests.
 ghost use Rattle.std.specs.Prelude.{◌≡◌, ◌<◌};
 ghost use Rattle.tree.specs.Table as table_of;
-ghost use Rattle.tree.specs.Table.{nodesOf};
-ghost use Rattle.edits.specs.Edits.{insertVerdict, childVerdict};
+ghost use Rattle.tree.specs.Table.{nodes_of};
+ghost use Rattle.edits.specs.Edits.{insert_verdict, child_verdict};
 
 use refusal::{Refusal, Verdict};
 use table::Table;
@@ -23,7 +23,7 @@ impl NewEntry<'_> {
     // The tests of its name among the children of its parent: 17, 19, 12.
     fn check_name(&self, table: &Table<'_>) -> Verdict
         requires { self.now.parent < table_of.count table.now }
-        ensures { result ≡ childVerdict (nodesOf table.now) self.now.parent self.now.name.now }
+        ensures { result ≡ child_verdict (nodes_of table.now) self.now.parent self.now.name.now }
     {
         let parent = self.parent as usize;
         if !table.is_directory(parent) {
@@ -39,9 +39,9 @@ impl NewEntry<'_> {
     }
 
     /// Whether it may be inserted into the table: 15, 13, 17, 19, 12.
-    #[tactic(auto, using(crate::proofs::Counts::entry_count), unfolding(edits::specs::Edits::insertVerdict))]
+    #[tactic(auto, using(crate::proofs::Counts::entry_count), unfolding(edits::specs::Edits::insert_verdict))]
     pub fn check(&self, table: &Table<'_>) -> Verdict
-        ensures { result ≡ insertVerdict (nodesOf table.now) self.now.parent self.now.name.now }
+        ensures { result ≡ insert_verdict (nodes_of table.now) self.now.parent self.now.name.now }
     {
         if table.len() <= self.parent as usize {
             return Err(Refusal::NoSuchEntry);

@@ -2,10 +2,10 @@
 ghost use Rattle.std.specs.Prelude.{◌≡◌, length};
 ghost use Rattle.opened.specs.Opening.{opening};
 ghost use Rattle.edits.specs.Edits as edits;
-ghost use Rattle.edits.specs.Edits.{planned, plan_of, numberedAs};
-ghost use Rattle.edits.specs.Promise.{lent, onlyVerdict, Edited};
+ghost use Rattle.edits.specs.Edits.{planned, plan_of, numbered_as};
+ghost use Rattle.edits.specs.Promise.{lent, only_verdict, Edited};
 ghost use Rattle.edit.specs.Inner.Accounting.{accounted, AccountedFor};
-ghost use Rattle.edit.specs.Inner.Decides.{editOf, clipOf, EditDecided};
+ghost use Rattle.edit.specs.Inner.Decides.{edit_of, clip_of, EditDecided};
 
 use crate::decision::Decision;
 use crate::new_entry::NewEntry;
@@ -35,7 +35,7 @@ pub enum Edit<'a> {
 impl<'a> Edit<'a> {
     // The clip that fills a file; none for the other edits.
     fn clip(self) -> &'a [u8]
-        ensures { result.now ≡ clipOf self.entry }
+        ensures { result.now ≡ clip_of self.entry }
     {
         match self {
             Edit::Fill { clip, .. } => clip,
@@ -51,7 +51,7 @@ fn fill_file(
     file: u32,
     clip: &[u8],
 ) -> Result<Decision, Refusal>
-    ensures { let asked = edits.fillFile file clip.now in
+    ensures { let asked = edits.fill_file file clip.now in
         EditDecided asked disc.now (length bytes.old) bytes.new clip.now result }
 {
     filling::fill(disc, bytes, file, clip)
@@ -64,8 +64,8 @@ pub fn decide_open(
     bytes: &mut [u8],
     edit: Edit<'_>,
 ) -> Result<Decision, Refusal>
-    ensures { let clip = clipOf edit.entry in
-        EditDecided (editOf edit.entry) disc.now (length bytes.old) bytes.new clip result }
+    ensures { let clip = clip_of edit.entry in
+        EditDecided (edit_of edit.entry) disc.now (length bytes.old) bytes.new clip result }
 {
     match edit {
         Edit::Rewrite => moving::rewrite(disc, bytes),
@@ -90,8 +90,8 @@ fn decide(
     edit: Edit<'_>,
 ) -> Result<Decision, Refusal>
     ensures { let opened = opening image.now (length words.old) in
-        let plan = planned opened (plan_of (editOf edit.entry) image.now) in
-        let clip = clipOf edit.entry in
+        let plan = planned opened (plan_of (edit_of edit.entry) image.now) in
+        let clip = clip_of edit.entry in
         AccountedFor plan image.now (length words.old) (length bytes.old) bytes.new clip
         totals.old (accounted result totals.new) }
 {
@@ -112,7 +112,7 @@ pub fn run(
 ) -> Result<u32, Refusal>
     ensures { let before = lent image.old words.old bytes.old totals.old in
         let after = lent image.new words.new bytes.new totals.new in
-        Edited numberedAs (editOf edit.entry) before after result }
+        Edited numbered_as (edit_of edit.entry) before after result }
 {
     let words = Lent::new(words);
     let bytes = Lent::new(bytes);
@@ -130,7 +130,7 @@ pub fn done(
 ) -> Verdict
     ensures { let before = lent image.old words.old bytes.old totals.old in
         let after = lent image.new words.new bytes.new totals.new in
-        Edited onlyVerdict (editOf edit.entry) before after result }
+        Edited only_verdict (edit_of edit.entry) before after result }
 {
     run(image, words, bytes, totals, edit)?;
     Ok(())

@@ -1,7 +1,7 @@
 // The new table: whether it can be written, and the tree as it is written anew into the working bytes.
 ghost use Rattle.std.specs.Prelude.{◌≡◌, ◌≤◌, ◌^◌, length, IfOk};
 ghost use Rattle.endian.specs.Bytes.{put};
-ghost use Rattle.tree.specs.Table.{count, nodesOf, encode};
+ghost use Rattle.tree.specs.Table.{count, nodes_of, encode};
 ghost use Rattle.table_writing.specs.Inner.Valid.{Valid};
 ghost use Rattle.edit.specs.Inner.Judged.{place_verdict, judged_size};
 
@@ -51,9 +51,9 @@ pub fn check_table(disc: &OpenDisc<'_>, room: usize, place: DiscRegion) -> Resul
 /// The tree of a valid table, as that of an open disc is, written anew.
 pub fn write_table(table: &[u8], bytes: &mut [u8])
     requires valid { Valid table.now (count table.now) }
-    requires held { length (encode (nodesOf table.now)) ≤ length bytes.old }
-    requires small { length (encode (nodesOf table.now)) ≤ 2 ^ 24 }
-    ensures { bytes.new ≡ put bytes.old 0 (encode (nodesOf table.now)) }
+    requires held { length (encode (nodes_of table.now)) ≤ length bytes.old }
+    requires small { length (encode (nodes_of table.now)) ≤ 2 ^ 24 }
+    ensures { bytes.new ≡ put bytes.old 0 (encode (nodes_of table.now)) }
 {
     table_writing::write_table(table, bytes);
 }

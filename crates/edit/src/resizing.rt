@@ -1,9 +1,9 @@
 // What a resize decides on, for every image that means the disc.
 ghost use Rattle.std.specs.Prelude.{◌≡◌, ◌||◌, leb, length};
-ghost use Rattle.space.specs.MaxRegionSize.{maxRegionSize};
-ghost use Rattle.space.specs.Allocate.{allocationOf};
+ghost use Rattle.space.specs.MaxRegionSize.{max_region_size};
+ghost use Rattle.space.specs.Allocate.{allocation_of};
 ghost use Rattle.edits.specs.Change.{change};
-ghost use Rattle.edits.specs.Edits.{resized, planElsewhere, planResize, planSized};
+ghost use Rattle.edits.specs.Edits.{resized, plan_elsewhere, plan_resize, plan_sized};
 ghost use Rattle.opened.specs.Inner.Disc.{free_of};
 ghost use Rattle.edit.specs.Inner.Decision.{Decides};
 ghost use Rattle.edit.specs.Inner.Files.{IsFileOf};
@@ -18,7 +18,7 @@ use space::DiscRegion;
 
 // Whether a file keeps its place: it gets smaller, or can grow there.
 fn stays(disc: &OpenDisc<'_>, place: DiscRegion, new_size: u32) -> bool
-    ensures { let most = maxRegionSize place.offset place.size (free_of disc.now) in
+    ensures { let most = max_region_size place.offset place.size (free_of disc.now) in
         result ≡ (leb new_size place.size || leb new_size most) }
 {
     new_size <= place.size || new_size <= disc.max_region_size(place.offset, place.size)
@@ -60,8 +60,8 @@ fn grow_elsewhere(
 ) -> Result<Decision, Refusal>
     requires { IsFileOf disc.now file }
     ensures { let free = free_of disc.now in
-        let region = allocationOf 0x8000 new_size free in
-        let plan = planElsewhere disc.now.nodes free file.number file.place new_size region in
+        let region = allocation_of 0x8000 new_size free in
+        let plan = plan_elsewhere disc.now.nodes free file.number file.place new_size region in
         Decides plan disc.now (length bytes.old) bytes.new result }
 {
     let region = disc.allocate(new_size, 0x8000)?;
@@ -81,7 +81,7 @@ pub fn resize(
     new_size: u32,
 ) -> Result<Decision, Refusal>
     requires { IsFileOf disc.now file }
-    ensures { let plan = planSized (free_of disc.now) disc.now.nodes file.number file.place new_size in
+    ensures { let plan = plan_sized (free_of disc.now) disc.now.nodes file.number file.place new_size in
         Decides plan disc.now (length bytes.old) bytes.new result }
 {
     if new_size == file.place.size {
@@ -100,7 +100,7 @@ pub fn resize_file(
     number: u32,
     new_size: u32,
 ) -> Result<Decision, Refusal>
-    ensures { let plan = planResize (free_of disc.now) disc.now.nodes number new_size in
+    ensures { let plan = plan_resize (free_of disc.now) disc.now.nodes number new_size in
         Decides plan disc.now (length bytes.old) bytes.new result }
 {
     let file = file_on_disc(disc, number)?;

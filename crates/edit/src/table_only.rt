@@ -1,10 +1,10 @@
 // Edits that write the table alone: the tree of the disc, from which the new table grows, and the new table
 // judged and decided on.
 ghost use Rattle.std.specs.Prelude.{◌≡◌, length, IfOk};
-ghost use Rattle.table_writing.specs.Inner.Growth.{treeIn, Stands, Built};
+ghost use Rattle.table_writing.specs.Inner.Growth.{tree_in, Stands, Built};
 ghost use Rattle.table_writing.specs.Inner.Growing.{tree_of};
 ghost use Rattle.edits.specs.Change.{change};
-ghost use Rattle.edits.specs.Edits.{tableOnly};
+ghost use Rattle.edits.specs.Edits.{table_only};
 ghost use Rattle.edit.specs.Inner.Decision.{Decides};
 
 use crate::decision::{Decision, Writing};
@@ -25,7 +25,7 @@ pub fn lent_words(disc: &OpenDisc<'_>) -> usize
 pub fn start_table(disc: &OpenDisc<'_>, bytes: &mut [u8]) -> Result<usize, Refusal>
     ensures built { Built disc.now.nodes disc.now.words bytes.old bytes.new result }
     ensures table { IfOk result (λ size. Stands bytes.new size disc.now.words) }
-    ensures tree { IfOk result (λ size. treeIn bytes.new size ≡ disc.now.nodes) }
+    ensures tree { IfOk result (λ size. tree_in bytes.new size ≡ disc.now.nodes) }
 {
     let table = disc.table();
     let size = table_writing::measure(table)?;
@@ -44,7 +44,7 @@ pub fn place_table(
     number: u32,
 ) -> Result<Decision, Refusal>
     requires { table.now.words ≡ disc.now.words }
-    ensures { Decides (change number (tableOnly (tree_of table.now)))
+    ensures { Decides (change number (table_only (tree_of table.now)))
         disc.now (length table.now.bytes.now) table.now.bytes.now result }
 {
     place::check_place(disc, table.bytes.len(), table.size, Writing::NOTHING.place)?;

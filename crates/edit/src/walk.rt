@@ -1,9 +1,9 @@
 // A walk along a path that may lead below the tree as it is.
 ghost use Rattle.std.specs.Prelude.{◌≡◌, Ok, ◌<◌, ◌^◌};
 ghost use Rattle.tree.specs.Table as table_of;
-ghost use Rattle.tree.specs.Table.{nodesOf};
-ghost use Rattle.edit.specs.Inner.Walk.{walk_from, step_of, backStep, intoStep};
-ghost use Rattle.edit.specs.Inner.Walk.{plainVerdict, directoryVerdict, lastVerdict};
+ghost use Rattle.tree.specs.Table.{nodes_of};
+ghost use Rattle.edit.specs.Inner.Walk.{walk_from, step_of, back_step, into_step};
+ghost use Rattle.edit.specs.Inner.Walk.{plain_verdict, directory_verdict, last_verdict};
 
 use refusal::{Refusal, Verdict};
 use std::marker::Model;
@@ -36,7 +36,7 @@ impl<'a> Model for Walk<'a> {
 
 // Whether each unit of a name is one that a name may have: 12.
 fn check_units(name: &[u8]) -> Verdict
-    ensures { result ≡ plainVerdict name.now }
+    ensures { result ≡ plain_verdict name.now }
 {
     if table::is_plain(name) {
         Ok(())
@@ -48,7 +48,7 @@ fn check_units(name: &[u8]) -> Verdict
 impl<'a> Walk<'a> {
     /// At its start: 15.
     pub fn new(table: Table<'a>, start: usize) -> Result<Self, Refusal>
-        ensures { result ≡ walk_from (nodesOf table.entry) start }
+        ensures { result ≡ walk_from (nodes_of table.entry) start }
     {
         if table.len() <= start {
             return Err(Refusal::NoSuchEntry);
@@ -64,7 +64,7 @@ impl<'a> Walk<'a> {
 
     // From a file no step leads on, and no path may end on one: 17.
     fn check_directory(&self) -> Verdict
-        ensures { result ≡ directoryVerdict self.now }
+        ensures { result ≡ directory_verdict self.now }
     {
         if self.level == 0 && !self.table.is_directory(self.entry) {
             return Err(Refusal::ExpectedDirectory);
@@ -74,7 +74,7 @@ impl<'a> Walk<'a> {
 
     // Back over the last named step, never above the start: 18.
     fn back(self) -> Result<Self, Refusal>
-        ensures { result ≡ backStep self.entry }
+        ensures { result ≡ back_step self.entry }
     {
         if self.level != 0 {
             return Ok(Walk {
@@ -95,7 +95,7 @@ impl<'a> Walk<'a> {
     // To the first child with that name, whatever its kind, or into a directory that is not there yet: 13.
     fn into(self, name: &[u8]) -> Result<Self, Refusal>
         requires { self.level < 2 ^ 63 }
-        ensures { result ≡ intoStep self.entry name.now }
+        ensures { result ≡ into_step self.entry name.now }
     {
         if self.level == 0 {
             if let Ok(child) = self.table.child(self.entry, name) {
@@ -133,7 +133,7 @@ impl<'a> Walk<'a> {
 
     /// What the walk comes to where the path ends: 17, then 12.
     pub fn end(self) -> Verdict
-        ensures { result ≡ lastVerdict self.entry }
+        ensures { result ≡ last_verdict self.entry }
     {
         self.check_directory()?;
         self.names

@@ -3,15 +3,15 @@
 use Rattle.std.specs.Prelude.{Ok}
 use Rattle.refusal.specs.Refusal.{Verdict}
 use Rattle.std.specs.Prelude.{ℕ, ◌+◌, ◌-◌, Bool, ◌&&◌, List, ◌++◌, ltb, length, replicate}
-use Rattle.endian.specs.Bytes.{put, span, be32Bytes}
+use Rattle.endian.specs.Bytes.{put, span, be32_bytes}
 use Rattle.refusal.specs.declared.Refusal.TheVariants.{LimitOrMemory, NotEnoughSpace, TableAboveMaximum}
 use Rattle.refusal.specs.Refusal.{refuse, first}
-use Rattle.header.specs.Fields.{fstSizeField}
-use Rattle.header.specs.Verdicts.{fstOffset, fstSize, fstMaxSize}
+use Rattle.header.specs.Fields.{fst_size_field}
+use Rattle.header.specs.Verdicts.{fst_offset, fst_size, fst_max_size}
 use Rattle.tree.specs.Table.{Node, encode, limits}
 use Rattle.space.specs.declared.region.DiscRegion.{DiscRegion}
-use Rattle.space.specs.MaxRegionSize.{maxRegionSize}
-use Rattle.opened.specs.Opening.{freeOf}
+use Rattle.space.specs.MaxRegionSize.{max_region_size}
+use Rattle.opened.specs.Opening.{free_space_of}
 
 pub record Change : Type 0 where
   -- the tree that is written
@@ -29,38 +29,38 @@ abbrev pub padded : List ℕ → ℕ → List ℕ
 padded table size = table ++ replicate (size - length table) 0
 
 -- `commit_file_tree`: the table at f, over one of that size, and "the new FST size in the header"
-unfoldable pub withTable : ℕ → ℕ → List ℕ → List ℕ → List ℕ
-withTable f size table image = put (put image f (padded table size)) fstSizeField.at (be32Bytes (length table))
+unfoldable pub with_table : ℕ → ℕ → List ℕ → List ℕ → List ℕ
+with_table f size table image = put (put image f (padded table size)) fst_size_field.at (be32_bytes (length table))
 
 -- "Move copies the smaller of both sizes, writes the table, then zeroes the old place; a shrink zeroes the lost end after the table."
 unfoldable pub written : Change → List ℕ → List ℕ
 written c image =
-    put (withTable (fstOffset image) (fstSize image) (encode c.nodes) (put image c.place.offset (span image c.old.offset c.kept)))
+    put (with_table (fst_offset image) (fst_size image) (encode c.nodes) (put image c.place.offset (span image c.old.offset c.kept)))
     c.lost.offset (replicate c.lost.size 0)
 
 -- document 02, Point 7: "If it is nonzero, no edit may write a larger table."
-abbrev pub aboveMaximum : List ℕ → ℕ → Bool
-aboveMaximum image size = ltb 0 (fstMaxSize image) && ltb (fstMaxSize image) size
+abbrev pub above_maximum : List ℕ → ℕ → Bool
+above_maximum image size = ltb 0 (fst_max_size image) && ltb (fst_max_size image) size
 
 -- "A new table must fit the table's own `max_region_size`, taken from the free regions before the edit, and end at or before the edited
 -- file's new nonempty place, else 21."
-abbrev pub roomVerdict : List ℕ → ℕ → DiscRegion → Verdict
-roomVerdict image size place =
-    refuse (ltb (maxRegionSize (fstOffset image) (fstSize image) (freeOf image)) size) NotEnoughSpace
-    (refuse (ltb 0 place.size && ltb place.offset (fstOffset image + size)) NotEnoughSpace
+abbrev pub room_verdict : List ℕ → ℕ → DiscRegion → Verdict
+room_verdict image size place =
+    refuse (ltb (max_region_size (fst_offset image) (fst_size image) (free_space_of image)) size) NotEnoughSpace
+    (refuse (ltb 0 place.size && ltb place.offset (fst_offset image + size)) NotEnoughSpace
     (Ok tt))
 
 -- "working bytes fewer than the new table's size (9), then the table's place (21)"; "26, new table above the maximum, tested just before the
 -- table's 21"
-unfoldable pub placeVerdict : List ℕ → ℕ → ℕ → DiscRegion → Verdict
-placeVerdict image room size place =
+unfoldable pub place_verdict_in : List ℕ → ℕ → ℕ → DiscRegion → Verdict
+place_verdict_in image room size place =
     refuse (ltb room size) LimitOrMemory
-    (refuse (aboveMaximum image size) TableAboveMaximum
-    (roomVerdict image size place))
+    (refuse (above_maximum image size) TableAboveMaximum
+    (room_verdict image size place))
 
 -- "Each edit that writes a table ends with the new tree's limits as at opening (entries, texts, working words, depth) and working bytes .."
-unfoldable pub tableVerdict : Change → List ℕ → ℕ → ℕ → Verdict
-tableVerdict c image words bytes = first (limits c.nodes words) (placeVerdict image bytes (length (encode c.nodes)) c.place)
+unfoldable pub table_verdict_in : Change → List ℕ → ℕ → ℕ → Verdict
+table_verdict_in c image words bytes = first (limits c.nodes words) (place_verdict_in image bytes (length (encode c.nodes)) c.place)
 
 -- what an edit comes to once the image is open: refused by its own tests, accepted with nothing to write, a change to be written, or
 -- one of these and then a clip written over a file. An edit that gives an entry's number carries it

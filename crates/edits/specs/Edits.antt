@@ -8,33 +8,33 @@ use Rattle.refusal.specs.declared.Refusal.{Refusal}
 use Rattle.refusal.specs.declared.Refusal.TheVariants.{LimitOrMemory, InvalidNameByte, UnsafeName, NoSuchEntry, ExpectedFile, ExpectedDirectory, NotFound, AlreadyExists, OverlappingMove, NotEnoughSpace}
 use Rattle.refusal.specs.Refusal.{refuse, first, is_refused}
 use Rattle.tree.specs.Table.{Node, none, plain, safe}
-use Rattle.tree.specs.Lookup.{isDirectory, next_of, components, stays, goesBack, childOf}
-use Rattle.tree.specs.Insert.{insertAt, setPlace, emptyFile, emptyDirectory}
+use Rattle.tree.specs.Lookup.{is_directory, next_of, components, stays, goes_back, child_of}
+use Rattle.tree.specs.Insert.{insert_at, set_place, empty_file, empty_directory}
 use Rattle.space.specs.declared.region.DiscRegion.{DiscRegion}
-use Rattle.space.specs.Free.{largestSize}
-use Rattle.space.specs.MaxRegionSize.{maxRegionSize}
-use Rattle.space.specs.Allocate.{allocationOf}
+use Rattle.space.specs.Free.{largest_size}
+use Rattle.space.specs.MaxRegionSize.{max_region_size}
+use Rattle.space.specs.Allocate.{allocation_of}
 use Rattle.space.specs.declared.totals.Totals.{Totals}
-use Rattle.space.specs.Totals.{totalsVerdict, totalsMoved}
-use Rattle.opened.specs.Opening.{opening, nodesIn, freeOf, usedOf, regionOf}
-use Rattle.edits.specs.Change.{Change, written, tableVerdict, Plan, refused, nothing, change, filled}
+use Rattle.space.specs.Totals.{totals_verdict, totals_moved}
+use Rattle.opened.specs.Opening.{opening, nodes_in, free_space_of, used_of, region_of}
+use Rattle.edits.specs.Change.{Change, written, table_verdict_in, Plan, refused, nothing, change, filled}
 
 -- an edit, with its numbers and its name, path or clip
 pub data Edit : Type 0 where
-  insertFile : ℕ → List ℕ → Edit
-  insertDirectory : ℕ → List ℕ → Edit
-  makeDirectories : ℕ → List ℕ → Edit
-  moveFile : ℕ → ℕ → Edit
-  resizeFile : ℕ → ℕ → Edit
-  fillFile : ℕ → List ℕ → Edit
+  insert_file : ℕ → List ℕ → Edit
+  insert_directory : ℕ → List ℕ → Edit
+  make_directories : ℕ → List ℕ → Edit
+  move_file : ℕ → ℕ → Edit
+  resize_file : ℕ → ℕ → Edit
+  fill_file : ℕ → List ℕ → Edit
   rewrite : Edit
 
-abbrev pub noPlace : DiscRegion
-noPlace = record { offset = 0; size = 0 }
+abbrev pub no_place : DiscRegion
+no_place = record { offset = 0; size = 0 }
 
 -- only the table is written
-abbrev pub tableOnly : List Node → Change
-tableOnly nodes = record { nodes = nodes; old = noPlace; place = noPlace; kept = 0; lost = noPlace }
+abbrev pub table_only : List Node → Change
+table_only nodes = record { nodes = nodes; old = no_place; place = no_place; kept = 0; lost = no_place }
 
 -- a plan behind tests
 abbrev pub planned : Verdict → Plan → Plan
@@ -44,33 +44,33 @@ planned (Err c) p = refused (Err c)
 -- ---- "Insert adds an empty directory or an empty file (offset 0, size 0) as last child"
 
 -- the number that a new last child of p gets
-abbrev pub newNumber : List Node → ℕ → ℕ
-newNumber nodes p = next_of (get_or nodes p none)
+abbrev pub new_number : List Node → ℕ → ℕ
+new_number nodes p = next_of (get_or nodes p none)
 
 -- a child of p has that name
-abbrev pub isFound : Result ℕ Refusal → Bool
-isFound (Ok k) = true
-isFound (Err c) = false
+abbrev pub is_found : Result ℕ Refusal → Bool
+is_found (Ok k) = true
+is_found (Err c) = false
 
 -- the last three of "insert 15, 13, 17, 19, 12"
-abbrev pub childVerdict : List Node → ℕ → List ℕ → Verdict
-childVerdict nodes p nm =
-    refuse (not (isDirectory (get_or nodes p none))) ExpectedDirectory
-    (refuse (isFound (childOf nodes p nm)) AlreadyExists
+abbrev pub child_verdict : List Node → ℕ → List ℕ → Verdict
+child_verdict nodes p nm =
+    refuse (not (is_directory (get_or nodes p none))) ExpectedDirectory
+    (refuse (is_found (child_of nodes p nm)) AlreadyExists
     (refuse (not (plain nm)) InvalidNameByte
     (Ok tt)))
 
 -- "insert 15, 13, 17, 19, 12"
-unfoldable pub insertVerdict : List Node → ℕ → List ℕ → Verdict
-insertVerdict nodes p nm =
+unfoldable pub insert_verdict : List Node → ℕ → List ℕ → Verdict
+insert_verdict nodes p nm =
     refuse (leb (length nodes) p) NoSuchEntry
     (refuse (not (safe nm)) UnsafeName
-    (childVerdict nodes p nm))
+    (child_verdict nodes p nm))
 
-abbrev pub planInsert : (ℕ → Node) → List Node → ℕ → List ℕ → Plan
-planInsert new nodes p nm =
-    planned (insertVerdict nodes p nm)
-    (change (newNumber nodes p) (tableOnly (insertAt p (new (newNumber nodes p)) nodes)))
+abbrev pub plan_insert : (ℕ → Node) → List Node → ℕ → List ℕ → Plan
+plan_insert new nodes p nm =
+    planned (insert_verdict nodes p nm)
+    (change (new_number nodes p) (table_only (insert_at p (new (new_number nodes p)) nodes)))
 
 -- ---- "An accepted make-directories walks its path by Lookup's rules, adding each missing directory as last child."
 
@@ -79,51 +79,51 @@ pub data Made : Type 0 where
   stopped : Refusal → Made
   made : List Node → ℕ → Bool → Made
 
-abbrev pub madeBack : List ℕ → (ℕ → List ℕ → Made) → Made
-madeBack [] f = stopped NotFound
-madeBack (k ∷ trail) f = f k trail
+abbrev pub made_back : List ℕ → (ℕ → List ℕ → Made) → Made
+made_back [] f = stopped NotFound
+made_back (k ∷ trail) f = f k trail
 
-abbrev pub ifFound : Result ℕ Refusal → (ℕ → Made) → Made → Made
-ifFound (Ok k) f missing = f k
-ifFound (Err c) f missing = missing
+abbrev pub if_found : Result ℕ Refusal → (ℕ → Made) → Made → Made
+if_found (Ok k) f missing = f k
+if_found (Err c) f missing = missing
 
 -- along the components from entry k; a directory made earlier is found again; the walk must end on a directory
 unfoldable pub make : List Node → List ℕ → ℕ → Bool → List (List ℕ) → Made
-make nodes trail k bad [] = cond (isDirectory (get_or nodes k none)) (made nodes k bad) (stopped ExpectedDirectory)
+make nodes trail k bad [] = cond (is_directory (get_or nodes k none)) (made nodes k bad) (stopped ExpectedDirectory)
 make nodes trail k bad (c ∷ cs) =
-    cond (isDirectory (get_or nodes k none))
+    cond (is_directory (get_or nodes k none))
     (cond (stays c) (make nodes trail k bad cs)
-    (cond (goesBack c) (madeBack trail (λ j rest. make nodes rest j bad cs))
-    (ifFound (childOf nodes k c) (λ j. make nodes (k ∷ trail) j bad cs)
+    (cond (goes_back c) (made_back trail (λ j rest. make nodes rest j bad cs))
+    (if_found (child_of nodes k c) (λ j. make nodes (k ∷ trail) j bad cs)
     (cond (safe c)
-    (make (insertAt k (emptyDirectory c (newNumber nodes k)) nodes) (k ∷ trail) (newNumber nodes k) (bad || not (plain c)) cs)
+    (make (insert_at k (empty_directory c (new_number nodes k)) nodes) (k ∷ trail) (new_number nodes k) (bad || not (plain c)) cs)
     (stopped UnsafeName)))))
     (stopped ExpectedDirectory)
 
-abbrev pub planMade : Made → Plan
-planMade (stopped c) = refused (Err c)
-planMade (made nodes k false) = change k (tableOnly nodes)
-planMade (made nodes k true) = refused (Err InvalidNameByte)
+abbrev pub plan_made : Made → Plan
+plan_made (stopped c) = refused (Err c)
+plan_made (made nodes k false) = change k (table_only nodes)
+plan_made (made nodes k true) = refused (Err InvalidNameByte)
 
-unfoldable pub planMakeDirectories : List Node → ℕ → List ℕ → Plan
-planMakeDirectories nodes start path =
+unfoldable pub plan_make_directories : List Node → ℕ → List ℕ → Plan
+plan_make_directories nodes start path =
     planned (refuse (ltb 1024 (length path)) LimitOrMemory (refuse (leb (length nodes) start) NoSuchEntry (Ok tt)))
-    (planMade (make nodes [] start false (components path)))
+    (plan_made (make nodes [] start false (components path)))
 
 -- ---- moves and resizes
 
 -- 15, then 16
-abbrev pub fileVerdict : List Node → ℕ → Verdict
-fileVerdict nodes k = refuse (leb (length nodes) k) NoSuchEntry (refuse (isDirectory (get_or nodes k none)) ExpectedFile (Ok tt))
+abbrev pub file_verdict : List Node → ℕ → Verdict
+file_verdict nodes k = refuse (leb (length nodes) k) NoSuchEntry (refuse (is_directory (get_or nodes k none)) ExpectedFile (Ok tt))
 
 -- "20 means: new offset below old offset + old size, and new offset + new size above old offset"
-abbrev pub overlapsItself : DiscRegion → DiscRegion → Bool
-overlapsItself old new = ltb new.offset (old.offset + old.size) && ltb old.offset (new.offset + new.size)
+abbrev pub overlaps_itself : DiscRegion → DiscRegion → Bool
+overlaps_itself old new = ltb new.offset (old.offset + old.size) && ltb old.offset (new.offset + new.size)
 
 -- the file k, which lies at `old`, goes to `new`; the smaller of both sizes is copied, and the old place is zeroed
 abbrev pub relocated : List Node → ℕ → DiscRegion → DiscRegion → Change
 relocated nodes k old new = record {
-  nodes = setPlace k new.offset new.size nodes;
+  nodes = set_place k new.offset new.size nodes;
   old = old;
   place = new;
   kept = min old.size new.size;
@@ -131,21 +131,21 @@ relocated nodes k old new = record {
 }
 
 -- "A move's new place must be free, else 21; an empty file may go anywhere.": `max_region_size` of an empty place there
-abbrev pub relocateVerdict : List DiscRegion → DiscRegion → DiscRegion → Verdict
-relocateVerdict free old new =
-    refuse (overlapsItself old new) OverlappingMove
-    (refuse (ltb (maxRegionSize new.offset 0 free) new.size) NotEnoughSpace (Ok tt))
+abbrev pub relocate_verdict : List DiscRegion → DiscRegion → DiscRegion → Verdict
+relocate_verdict free old new =
+    refuse (overlaps_itself old new) OverlappingMove
+    (refuse (ltb (max_region_size new.offset 0 free) new.size) NotEnoughSpace (Ok tt))
 
-unfoldable pub planMove : List DiscRegion → List Node → ℕ → ℕ → Plan
-planMove free nodes k to =
-    let old : DiscRegion = regionOf (get_or nodes k none) in
+unfoldable pub plan_move : List DiscRegion → List Node → ℕ → ℕ → Plan
+plan_move free nodes k to =
+    let old : DiscRegion = region_of (get_or nodes k none) in
     let new : DiscRegion = record { offset = to; size = old.size } in
-    planned (first (fileVerdict nodes k) (relocateVerdict free old new)) (change k (relocated nodes k old new))
+    planned (first (file_verdict nodes k) (relocate_verdict free old new)) (change k (relocated nodes k old new))
 
 -- where the file stays and has n bytes; "a shrink zeroes the lost end after the table", "grown bytes are what the free space held"
 abbrev pub resized : List Node → ℕ → DiscRegion → ℕ → Change
 resized nodes k old n = record {
-  nodes = setPlace k old.offset n nodes;
+  nodes = set_place k old.offset n nodes;
   old = old;
   place = record { offset = old.offset; size = n };
   kept = 0;
@@ -153,90 +153,90 @@ resized nodes k old n = record {
 }
 
 -- "Growth finds a place with alignment 0x8000 where the file can't grow where it is."
-abbrev pub planElsewhere : List Node → List DiscRegion → ℕ → DiscRegion → ℕ → Result DiscRegion Refusal → Plan
-planElsewhere nodes free k old n (Err c) = refused (Err c)
-planElsewhere nodes free k old n (Ok r) =
+abbrev pub plan_elsewhere : List Node → List DiscRegion → ℕ → DiscRegion → ℕ → Result DiscRegion Refusal → Plan
+plan_elsewhere nodes free k old n (Err c) = refused (Err c)
+plan_elsewhere nodes free k old n (Ok r) =
     let new : DiscRegion = record { offset = r.offset; size = n } in
-    planned (relocateVerdict free old new) (change k (relocated nodes k old new))
+    planned (relocate_verdict free old new) (change k (relocated nodes k old new))
 
 -- a resize, once the file's place is known
-abbrev pub planSized : List DiscRegion → List Node → ℕ → DiscRegion → ℕ → Plan
-planSized free nodes k old n =
+abbrev pub plan_sized : List DiscRegion → List Node → ℕ → DiscRegion → ℕ → Plan
+plan_sized free nodes k old n =
     cond (eqb n old.size) nothing
-    (cond (leb n old.size || leb n (maxRegionSize old.offset old.size free))
+    (cond (leb n old.size || leb n (max_region_size old.offset old.size free))
     (change k (resized nodes k old n))
-    (planElsewhere nodes free k old n (allocationOf 0x8000 n free)))
+    (plan_elsewhere nodes free k old n (allocation_of 0x8000 n free)))
 
-unfoldable pub planResize : List DiscRegion → List Node → ℕ → ℕ → Plan
-planResize free nodes k n = planned (fileVerdict nodes k) (planSized free nodes k (regionOf (get_or nodes k none)) n)
+unfoldable pub plan_resize : List DiscRegion → List Node → ℕ → ℕ → Plan
+plan_resize free nodes k n = planned (file_verdict nodes k) (plan_sized free nodes k (region_of (get_or nodes k none)) n)
 
 -- ---- "Fill a file from given bytes": "Resize the file to the clip, then write it; a refused resize writes nothing."
 
 -- 15, 16, then "A clip above 2^32 - 1 bytes finds no place and is 21."
-abbrev pub clipVerdict : List Node → ℕ → ℕ → Verdict
-clipVerdict nodes k n = first (fileVerdict nodes k) (refuse (ltb (2 ^ 32 - 1) n) NotEnoughSpace (Ok tt))
+abbrev pub clip_verdict : List Node → ℕ → ℕ → Verdict
+clip_verdict nodes k n = first (file_verdict nodes k) (refuse (ltb (2 ^ 32 - 1) n) NotEnoughSpace (Ok tt))
 
-unfoldable pub planFill : List DiscRegion → List Node → ℕ → List ℕ → Plan
-planFill free nodes k clip = planned (clipVerdict nodes k (length clip)) (filled k clip (planResize free nodes k (length clip)))
+unfoldable pub plan_fill : List DiscRegion → List Node → ℕ → List ℕ → Plan
+plan_fill free nodes k clip = planned (clip_verdict nodes k (length clip)) (filled k clip (plan_resize free nodes k (length clip)))
 
 -- ---- the whole of an edit
 
 abbrev pub plan_of : Edit → List ℕ → Plan
-plan_of (insertFile p nm) image = planInsert (λ q. emptyFile nm) (nodesIn image) p nm
-plan_of (insertDirectory p nm) image = planInsert (emptyDirectory nm) (nodesIn image) p nm
-plan_of (makeDirectories start path) image = planMakeDirectories (nodesIn image) start path
-plan_of (moveFile k to) image = planMove (freeOf image) (nodesIn image) k to
-plan_of (resizeFile k n) image = planResize (freeOf image) (nodesIn image) k n
-plan_of (fillFile k clip) image = planFill (freeOf image) (nodesIn image) k clip
-plan_of rewrite image = change 0 (tableOnly (nodesIn image))
+plan_of (insert_file p nm) image = plan_insert (λ q. empty_file nm) (nodes_in image) p nm
+plan_of (insert_directory p nm) image = plan_insert (empty_directory nm) (nodes_in image) p nm
+plan_of (make_directories start path) image = plan_make_directories (nodes_in image) start path
+plan_of (move_file k to) image = plan_move (free_space_of image) (nodes_in image) k to
+plan_of (resize_file k n) image = plan_resize (free_space_of image) (nodes_in image) k n
+plan_of (fill_file k clip) image = plan_fill (free_space_of image) (nodes_in image) k clip
+plan_of rewrite image = change 0 (table_only (nodes_in image))
 
-abbrev pub planVerdict : Plan → List ℕ → ℕ → ℕ → Verdict
-planVerdict (refused v) image words bytes = v
-planVerdict nothing image words bytes = Ok tt
-planVerdict (change k c) image words bytes = tableVerdict c image words bytes
-planVerdict (filled k clip p) image words bytes = planVerdict p image words bytes
+abbrev pub plan_verdict : Plan → List ℕ → ℕ → ℕ → Verdict
+plan_verdict (refused v) image words bytes = v
+plan_verdict nothing image words bytes = Ok tt
+plan_verdict (change k c) image words bytes = table_verdict_in c image words bytes
+plan_verdict (filled k clip p) image words bytes = plan_verdict p image words bytes
 
 -- the tree that a plan comes to
-abbrev pub planTree : Plan → List Node → List Node
-planTree (refused v) nodes = nodes
-planTree nothing nodes = nodes
-planTree (change k c) nodes = c.nodes
-planTree (filled k clip p) nodes = planTree p nodes
+abbrev pub plan_tree : Plan → List Node → List Node
+plan_tree (refused v) nodes = nodes
+plan_tree nothing nodes = nodes
+plan_tree (change k c) nodes = c.nodes
+plan_tree (filled k clip p) nodes = plan_tree p nodes
 
 -- the clip goes where the file lies in the tree that the plan before it comes to
-abbrev pub planImage : Plan → List ℕ → List ℕ
-planImage (refused v) image = image
-planImage nothing image = image
-planImage (change k c) image = written c image
-planImage (filled k clip p) image = put (planImage p image) (regionOf (get_or (planTree p (nodesIn image)) k none)).offset clip
+abbrev pub plan_image : Plan → List ℕ → List ℕ
+plan_image (refused v) image = image
+plan_image nothing image = image
+plan_image (change k c) image = written c image
+plan_image (filled k clip p) image = put (plan_image p image) (region_of (get_or (plan_tree p (nodes_in image)) k none)).offset clip
 
 -- "25, used bytes or edit count would leave 0 to 2^32 - 1, tested last"; t is the record that the edit is handed
-unfoldable pub countedVerdict : Plan → Totals → List ℕ → ℕ → ℕ → Verdict
-countedVerdict p t image words bytes = first (planVerdict p image words bytes) (totalsVerdict t (usedOf image) (usedOf (planImage p image)))
+unfoldable pub counted_verdict : Plan → Totals → List ℕ → ℕ → ℕ → Verdict
+counted_verdict p t image words bytes = first (plan_verdict p image words bytes) (totals_verdict t (used_of image) (used_of (plan_image p image)))
 
 -- the verdict on an edit of an image, with a record and so many working words and bytes lent: opening, the edit's own tests, the table's, 25
-unfoldable pub verdictOf : Edit → Totals → List ℕ → ℕ → ℕ → Verdict
-verdictOf ed t image words bytes = first (opening image words) (countedVerdict (plan_of ed image) t image words bytes)
+unfoldable pub verdict_of : Edit → Totals → List ℕ → ℕ → ℕ → Verdict
+verdict_of ed t image words bytes = first (opening image words) (counted_verdict (plan_of ed image) t image words bytes)
 
 -- the image afterwards: a refused edit leaves it as it is
-unfoldable pub imageAfter : Edit → Totals → List ℕ → ℕ → ℕ → List ℕ
-imageAfter ed t image words bytes = cond (is_refused (verdictOf ed t image words bytes)) image (planImage (plan_of ed image) image)
+unfoldable pub image_after : Edit → Totals → List ℕ → ℕ → ℕ → List ℕ
+image_after ed t image words bytes = cond (is_refused (verdict_of ed t image words bytes)) image (plan_image (plan_of ed image) image)
 
 -- the record with the totals of the new image: "Used bytes move by the edit's change, the count by one; the largest region is the new image's."
-abbrev pub totalsTo : Totals → List ℕ → List ℕ → Totals
-totalsTo t image new = totalsMoved t (usedOf image) (usedOf new) (largestSize (freeOf new))
+abbrev pub totals_to : Totals → List ℕ → List ℕ → Totals
+totals_to t image new = totals_moved t (used_of image) (used_of new) (largest_size (free_space_of new))
 
 -- the record afterwards: "A refused edit hands the record back unaltered."
-unfoldable pub totalsAfter : Edit → Totals → List ℕ → ℕ → ℕ → Totals
-totalsAfter ed t image words bytes = cond (is_refused (verdictOf ed t image words bytes)) t (totalsTo t image (planImage (plan_of ed image) image))
+unfoldable pub totals_after : Edit → Totals → List ℕ → ℕ → ℕ → Totals
+totals_after ed t image words bytes = cond (is_refused (verdict_of ed t image words bytes)) t (totals_to t image (plan_image (plan_of ed image) image))
 
 -- the answer of an edit that gives an entry's number
-abbrev pub planNumber : Plan → ℕ
-planNumber (refused v) = 0
-planNumber nothing = 0
-planNumber (change k c) = k
-planNumber (filled k clip p) = k
+abbrev pub plan_number : Plan → ℕ
+plan_number (refused v) = 0
+plan_number nothing = 0
+plan_number (change k c) = k
+plan_number (filled k clip p) = k
 
-abbrev pub numberedAs : Verdict → ℕ → Result ℕ Refusal
-numberedAs (Ok _) k = Ok k
-numberedAs (Err c) k = Err c
+abbrev pub numbered_as : Verdict → ℕ → Result ℕ Refusal
+numbered_as (Ok _) k = Ok k
+numbered_as (Err c) k = Err c

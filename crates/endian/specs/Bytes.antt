@@ -11,11 +11,11 @@ unfoldable pub be32 : List ℕ → ℕ → ℕ
 be32 s at = get_or s at 0 * 16777216 + get_or s (at + 1) 0 * 65536 + get_or s (at + 2) 0 * 256 + get_or s (at + 3) 0
 
 -- a number in 3 bytes, and in 4
-abbrev pub be24Bytes : ℕ → List ℕ
-be24Bytes n = n / 65536 % 256 ∷ n / 256 % 256 ∷ n % 256 ∷ []
+abbrev pub be24_bytes : ℕ → List ℕ
+be24_bytes n = n / 65536 % 256 ∷ n / 256 % 256 ∷ n % 256 ∷ []
 
-abbrev pub be32Bytes : ℕ → List ℕ
-be32Bytes n = n / 16777216 % 256 ∷ n / 65536 % 256 ∷ n / 256 % 256 ∷ n % 256 ∷ []
+abbrev pub be32_bytes : ℕ → List ℕ
+be32_bytes n = n / 16777216 % 256 ∷ n / 65536 % 256 ∷ n / 256 % 256 ∷ n % 256 ∷ []
 
 -- the list with the bytes bs from `at` on, where they fit; all others are as they were
 unfoldable pub put : List ℕ → ℕ → List ℕ → List ℕ
@@ -26,11 +26,11 @@ abbrev pub span : List ℕ → ℕ → ℕ → List ℕ
 span s at n = take n (drop at s)
 
 -- the same bytes, one by one
-unfoldable pub sameBytes : List ℕ → List ℕ → Bool
-sameBytes [] [] = true
-sameBytes [] (y ∷ ys) = false
-sameBytes (x ∷ xs) [] = false
-sameBytes (x ∷ xs) (y ∷ ys) = eqb x y && sameBytes xs ys
+unfoldable pub same_bytes : List ℕ → List ℕ → Bool
+same_bytes [] [] = true
+same_bytes [] (y ∷ ys) = false
+same_bytes (x ∷ xs) [] = false
+same_bytes (x ∷ xs) (y ∷ ys) = eqb x y && same_bytes xs ys
 
 -- every element is a byte
 abbrev pub AllBytes : List ℕ → Type 0

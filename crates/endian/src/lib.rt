@@ -4,7 +4,7 @@
 
 ghost use Rattle.std.specs.Prelude.{◌≡◌, [], ◌∷◌, ◌+◌, ◌-◌, ◌*◌, ◌≤◌, ◌<◌, ◌^◌};
 ghost use Rattle.std.specs.Prelude.{min, length, get_or, replicate};
-ghost use Rattle.endian.specs.Bytes.{be24, be32, be24Bytes, be32Bytes, put, span, sameBytes};
+ghost use Rattle.endian.specs.Bytes.{be24, be32, be24_bytes, be32_bytes, put, span, same_bytes};
 
 /// The byte at `at`.
 pub fn read_u8(s: &[u8], at: usize) -> u8
@@ -44,7 +44,7 @@ pub fn write_u8(s: &mut [u8], at: usize, v: u8)
 pub fn write_u24(s: &mut [u8], at: usize, v: u32)
     requires inside { at + 3 ≤ length s.old }
     requires small { v < 2 ^ 24 }
-    ensures { s.new ≡ put s.old at (be24Bytes v) }
+    ensures { s.new ≡ put s.old at (be24_bytes v) }
 {
     let [_, high, middle, low] = v.to_be_bytes();
     s[at..at + 3].copy_from_slice(&[high, middle, low]);
@@ -53,7 +53,7 @@ pub fn write_u24(s: &mut [u8], at: usize, v: u32)
 /// Writes the number into the 4 bytes at `at`, highest byte first.
 pub fn write_u32(s: &mut [u8], at: usize, v: u32)
     requires { at + 4 ≤ length s.old }
-    ensures { s.new ≡ put s.old at (be32Bytes v) }
+    ensures { s.new ≡ put s.old at (be32_bytes v) }
 {
     s[at..at + 4].copy_from_slice(&v.to_be_bytes());
 }
@@ -119,7 +119,7 @@ pub fn fill(s: &mut [u8], at: usize, n: usize, b: u8)
 pub fn same(a: &[u8], at: usize, b: &[u8], start: usize, n: usize) -> bool
     requires first { at + n ≤ length a.now }
     requires second { start + n ≤ length b.now }
-    ensures { result ≡ sameBytes (span a.now at n) (span b.now start n) }
+    ensures { result ≡ same_bytes (span a.now at n) (span b.now start n) }
 {
     a[at..at + n] == b[start..start + n]
 }

@@ -7,13 +7,13 @@ use mathlib.Core.List.{List}
 use borrow.Author.Tests.{eq-eqb, ne_eqb}
 use Rattle.refusal.specs.declared.Refusal.{Refusal}
 use Rattle.executable.specs.Laws.DolFacts.{size-passed, size-refused}
-use Rattle.executable.specs.Dol.{dolHeaderOf, fileSizeOf, dolVerdictOf, dolSizeOf}
-use Rattle.executable.specs.Program.{Program, programAs}
-use Rattle.executable.specs.Inner.Reading.{programAt}
+use Rattle.executable.specs.Dol.{dol_header_of, file_size_of, dol_verdict_of, dol_size_of}
+use Rattle.executable.specs.Program.{Program, program_as}
+use Rattle.executable.specs.Inner.Reading.{program_at}
 
 module _ (bytes : List ℕ) (offset at : ℕ) where
-  pub no_program : offset ≡ 0 → Ok None ≡ programAt offset bytes at
-  unfolding programAt
+  pub no_program : offset ≡ 0 → Ok None ≡ program_at offset bytes at
+  unfolding program_at
   no_program z = rw (eq-eqb offset 0 z)
 
   module _ (some : offset ≡ 0 → ⊥) where
@@ -21,14 +21,14 @@ module _ (bytes : List ℕ) (offset at : ℕ) where
     abbrev as_long_as : ℕ → Program
     as_long_as n = Ok (Some (record { offset = offset; size = n }))
 
-    by-verdict : (v : Verdict) → dolVerdictOf bytes at ≡ v → programAt offset bytes at ≡ programAs v (record { offset = offset; size = max (fileSizeOf (dolHeaderOf bytes at)) 0xE4 })
-    unfolding programAt
+    by-verdict : (v : Verdict) → dol_verdict_of bytes at ≡ v → program_at offset bytes at ≡ program_as v (record { offset = offset; size = max (file_size_of (dol_header_of bytes at)) 0xE4 })
+    unfolding program_at
     by-verdict v e = rw (ne_eqb offset 0 some, e)
 
-    pub a_program : (m n : ℕ) → Ok m ≡ dolSizeOf bytes at → n ≡ max m 0xE4 → as_long_as n ≡ programAt offset bytes at
+    pub a_program : (m n : ℕ) → Ok m ≡ dol_size_of bytes at → n ≡ max m 0xE4 → as_long_as n ≡ program_at offset bytes at
     a_program m n e f =
         let t = size-passed bytes at m (sym e) in
         sym (by-verdict (Ok tt) t.0 ∙ ap as_long_as (ap (λ (x : ℕ). max x 0xE4) (sym t.1) ∙ sym f))
 
-    pub no_header : (c : Refusal) → Err c ≡ dolSizeOf bytes at → Err c ≡ programAt offset bytes at
+    pub no_header : (c : Refusal) → Err c ≡ dol_size_of bytes at → Err c ≡ program_at offset bytes at
     no_header c e = sym (by-verdict (Err c) (size-refused bytes at c (sym e)))

@@ -10,41 +10,41 @@ use Rattle.executable.specs.declared.dol.DolHeader.{DolHeader}
 use Rattle.executable.specs.declared.dol.DolAnswer.{DolAnswer}
 
 -- the n fields of 4 bytes from `at` on
-unfoldable pub wordsAt : List ℕ → ℕ → ℕ → List ℕ
-wordsAt s at zero = []
-wordsAt s at (suc n) = be32 s at ∷ wordsAt s (at + 4) n
+unfoldable pub words_at : List ℕ → ℕ → ℕ → List ℕ
+words_at s at zero = []
+words_at s at (suc n) = be32 s at ∷ words_at s (at + 4) n
 
 -- the header at `at`
-abbrev pub dolHeaderOf : List ℕ → ℕ → DolHeader
-dolHeaderOf s at = record {
-  text_offsets = wordsAt s at 7;
-  data_offsets = wordsAt s (at + 0x1C) 11;
-  text_addresses = wordsAt s (at + 0x48) 7;
-  data_addresses = wordsAt s (at + 0x64) 11;
-  text_sizes = wordsAt s (at + 0x90) 7;
-  data_sizes = wordsAt s (at + 0xAC) 11;
+abbrev pub dol_header_of : List ℕ → ℕ → DolHeader
+dol_header_of s at = record {
+  text_offsets = words_at s at 7;
+  data_offsets = words_at s (at + 0x1C) 11;
+  text_addresses = words_at s (at + 0x48) 7;
+  data_addresses = words_at s (at + 0x64) 11;
+  text_sizes = words_at s (at + 0x90) 7;
+  data_sizes = words_at s (at + 0xAC) 11;
   bss_address = be32 s (at + 0xD8);
   bss_size = be32 s (at + 0xDC);
   entry_point = be32 s (at + 0xE0);
 }
 
 -- the largest offset + size, pair by pair
-unfoldable pub largestOf : List ℕ → List ℕ → ℕ
-largestOf [] ss = 0
-largestOf (o ∷ os) [] = 0
-largestOf (o ∷ os) (s ∷ ss) = max (o + s) (largestOf os ss)
+unfoldable pub largest_of : List ℕ → List ℕ → ℕ
+largest_of [] ss = 0
+largest_of (o ∷ os) [] = 0
+largest_of (o ∷ os) (s ∷ ss) = max (o + s) (largest_of os ss)
 
 -- "File size: largest offset + size of the 18"
-abbrev pub fileSizeOf : DolHeader → ℕ
-fileSizeOf h = max (largestOf h.text_offsets h.text_sizes) (largestOf h.data_offsets h.data_sizes)
+abbrev pub file_size_of : DolHeader → ℕ
+file_size_of h = max (largest_of h.text_offsets h.text_sizes) (largest_of h.data_offsets h.data_sizes)
 
 -- "DOL header past the image, or a sum above 2^32 - 1", which is the largest sum above it
-abbrev pub dolVerdictOf : List ℕ → ℕ → Verdict
-dolVerdictOf s at = refuse (ltb (length s) (at + 0xE4)) InvalidDol (refuse (ltb (2 ^ 32 - 1) (fileSizeOf (dolHeaderOf s at))) InvalidDol (Ok tt))
+abbrev pub dol_verdict_of : List ℕ → ℕ → Verdict
+dol_verdict_of s at = refuse (ltb (length s) (at + 0xE4)) InvalidDol (refuse (ltb (2 ^ 32 - 1) (file_size_of (dol_header_of s at))) InvalidDol (Ok tt))
 
 -- a header of zeros
-abbrev pub newHeader : DolHeader
-newHeader = record {
+abbrev pub new_header : DolHeader
+new_header = record {
   text_offsets = replicate 7 0;
   data_offsets = replicate 11 0;
   text_addresses = replicate 7 0;
@@ -57,17 +57,17 @@ newHeader = record {
 }
 
 -- the answer by its verdict: the header and its file size
-abbrev pub dolAnswered : Verdict → DolHeader → Result DolAnswer Refusal
-dolAnswered (Ok _) h = Ok (record { header = h; size = fileSizeOf h })
-dolAnswered (Err c) h = Err c
+abbrev pub dol_answered : Verdict → DolHeader → Result DolAnswer Refusal
+dol_answered (Ok _) h = Ok (record { header = h; size = file_size_of h })
+dol_answered (Err c) h = Err c
 
-abbrev pub dolAnswerOf : List ℕ → ℕ → Result DolAnswer Refusal
-dolAnswerOf s at = dolAnswered (dolVerdictOf s at) (dolHeaderOf s at)
+abbrev pub dol_answer_of : List ℕ → ℕ → Result DolAnswer Refusal
+dol_answer_of s at = dol_answered (dol_verdict_of s at) (dol_header_of s at)
 
 -- the file size alone, by the same verdict
-abbrev pub dolSized : Verdict → ℕ → Result ℕ Refusal
-dolSized (Ok _) n = Ok n
-dolSized (Err c) n = Err c
+abbrev pub dol_sized : Verdict → ℕ → Result ℕ Refusal
+dol_sized (Ok _) n = Ok n
+dol_sized (Err c) n = Err c
 
-abbrev pub dolSizeOf : List ℕ → ℕ → Result ℕ Refusal
-dolSizeOf s at = dolSized (dolVerdictOf s at) (fileSizeOf (dolHeaderOf s at))
+abbrev pub dol_size_of : List ℕ → ℕ → Result ℕ Refusal
+dol_size_of s at = dol_sized (dol_verdict_of s at) (file_size_of (dol_header_of s at))

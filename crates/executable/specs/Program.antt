@@ -5,30 +5,30 @@
 use Rattle.refusal.specs.declared.Refusal.{Refusal}
 use Rattle.refusal.specs.Refusal.{Verdict}
 use Rattle.std.specs.Prelude.{ℕ, ◌+◌, max, Bool, cond, ◌&&◌, List, leb, eqb, Option, None, Some, Result, Ok, Err, unwrap_or}
-use Rattle.header.specs.Verdicts.{dolOffset, fstOffset}
+use Rattle.header.specs.Verdicts.{dol_offset, fst_offset}
 use Rattle.space.specs.declared.region.DiscRegion.{DiscRegion}
-use Rattle.executable.specs.Dol.{dolHeaderOf, fileSizeOf, dolVerdictOf}
+use Rattle.executable.specs.Dol.{dol_header_of, file_size_of, dol_verdict_of}
 
 -- the region of a program, none where there is no program, or the cause for which its header is refused
 abbrev pub Program : Type 0
 Program = Result (Option DiscRegion) Refusal
 
 -- "from there, as long as the DOL's file size and at least 0xE4"
-abbrev pub programFrom : List ℕ → ℕ → DiscRegion
-programFrom image at = record { offset = at; size = max (fileSizeOf (dolHeaderOf image at)) 0xE4 }
+abbrev pub program_from : List ℕ → ℕ → DiscRegion
+program_from image at = record { offset = at; size = max (file_size_of (dol_header_of image at)) 0xE4 }
 
 -- by the verdict on its header
-abbrev pub programAs : Verdict → DiscRegion → Program
-programAs (Ok _) r = Ok (Some r)
-programAs (Err c) r = Err c
+abbrev pub program_as : Verdict → DiscRegion → Program
+program_as (Ok _) r = Ok (Some r)
+program_as (Err c) r = Err c
 
 -- "a nonzero DOL offset means a program"; its header may be refused, 24
 unfoldable pub program_of : List ℕ → Program
-program_of image = cond (eqb (dolOffset image) 0) (Ok None) (programAs (dolVerdictOf image (dolOffset image)) (programFrom image (dolOffset image)))
+program_of image = cond (eqb (dol_offset image) 0) (Ok None) (program_as (dol_verdict_of image (dol_offset image)) (program_from image (dol_offset image)))
 
-abbrev pub programVerdict : Program → Verdict
-programVerdict (Ok _) = Ok tt
-programVerdict (Err c) = Err c
+abbrev pub program_verdict : Program → Verdict
+program_verdict (Ok _) = Ok tt
+program_verdict (Err c) = Err c
 
 -- ---- where it lies
 
@@ -40,16 +40,16 @@ abbrev pub place_of : Program → DiscRegion
 place_of (Ok region) = unwrap_or region nowhere
 place_of (Err c) = nowhere
 
-unfoldable pub programIn : List ℕ → DiscRegion
-programIn image = place_of (program_of image)
+unfoldable pub program_in : List ℕ → DiscRegion
+program_in image = place_of (program_of image)
 
 -- "wholly between 0x440 and the FST offset, as part of the used bytes 0 up to the table end"
-abbrev pub beforeTable : ℕ → DiscRegion → Bool
-beforeTable fst r = leb 0x440 r.offset && leb (r.offset + r.size) fst
+abbrev pub before_table : ℕ → DiscRegion → Bool
+before_table fst r = leb 0x440 r.offset && leb (r.offset + r.size) fst
 
 -- "as a used region of its own": wherever else it lies. One that is not "wholly from the table end on" shares a byte with those before it, 14
-unfoldable pub ownRegion : ℕ → DiscRegion → DiscRegion
-ownRegion fst r = cond (beforeTable fst r) nowhere r
+unfoldable pub own_region : ℕ → DiscRegion → DiscRegion
+own_region fst r = cond (before_table fst r) nowhere r
 
-abbrev pub programBehind : List ℕ → DiscRegion
-programBehind image = ownRegion (fstOffset image) (programIn image)
+abbrev pub program_behind : List ℕ → DiscRegion
+program_behind image = own_region (fst_offset image) (program_in image)

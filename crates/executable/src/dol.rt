@@ -1,9 +1,10 @@
 // The header of a DOL executable, read from an image at an offset: 7 text and 11 data offsets, then addresses, then
 // sizes in that order, BSS address, BSS size, entry point; 0xE4 bytes.
 ghost use Rattle.std.specs.Prelude.{◌≡◌, ◌+◌, ◌*◌, ◌≤◌, ◌<◌, length};
-ghost use Rattle.window.specs.Window.{newWindow};
-ghost use Rattle.executable.specs.Dol.{wordsAt, largestOf, newHeader, dolHeaderOf, fileSizeOf};
-ghost use Rattle.executable.specs.Dol.{dolAnswerOf, dolSizeOf};
+ghost use Rattle.window.specs.Window.{new_window};
+ghost use Rattle.executable.specs.Dol as dol_of;
+ghost use Rattle.executable.specs.Dol.{largest_of, new_header, dol_header_of, file_size_of};
+ghost use Rattle.executable.specs.Dol.{dol_answer_of, dol_size_of};
 
 use refusal::Refusal;
 use window::Window;
@@ -37,7 +38,7 @@ pub struct DolAnswer {
 #[inline(always)]
 fn words_at<const N: usize>(s: &[u8], at: usize) -> [u32; N]
     requires { at + 4 * N ≤ length s.now }
-    ensures { result ≡ wordsAt s.now at N }
+    ensures { result ≡ dol_of.words_at s.now at N }
 {
     let mut words = [0; N];
     for (i, word) in words.iter_mut().enumerate() {
@@ -48,7 +49,7 @@ fn words_at<const N: usize>(s: &[u8], at: usize) -> [u32; N]
 
 // The largest offset + size of N sections, as a number that holds every sum.
 fn largest<const N: usize>(offsets: &[u32; N], sizes: &[u32; N]) -> u64
-    ensures { result ≡ largestOf offsets.now sizes.now }
+    ensures { result ≡ largest_of offsets.now sizes.now }
 {
     let mut top = 0;
     for (offset, size) in offsets.iter().zip(sizes.iter()) {
@@ -59,7 +60,7 @@ fn largest<const N: usize>(offsets: &[u32; N], sizes: &[u32; N]) -> u64
 
 fn header_at(s: &[u8], at: usize) -> DolHeader
     requires { at + 0xE4 ≤ length s.now }
-    ensures { result ≡ dolHeaderOf s.now at }
+    ensures { result ≡ dol_header_of s.now at }
 {
     DolHeader {
         text_offsets: words_at(s, at),
@@ -77,7 +78,7 @@ fn header_at(s: &[u8], at: usize) -> DolHeader
 impl DolHeader {
     /// Every field 0.
     pub fn new() -> DolHeader
-        ensures { result ≡ newHeader }
+        ensures { result ≡ new_header }
     {
         DolHeader {
             text_offsets: [0; 7],
@@ -94,7 +95,7 @@ impl DolHeader {
 
     /// The file size in bytes, before it is judged: a sum may pass 2^32 - 1.
     pub fn file_size(self) -> u64
-        ensures { result ≡ fileSizeOf self }
+        ensures { result ≡ file_size_of self }
     {
         let text = largest(&self.text_offsets, &self.text_sizes);
         let data = largest(&self.data_offsets, &self.data_sizes);
@@ -105,7 +106,7 @@ impl DolHeader {
 /// The file size in bytes alone, for whoever opens an image: the header is read in place, and not made. Refused
 /// (`InvalidDol`) where the header passes the image or a sum passes 2^32 - 1.
 pub fn size(image: &[u8], at: usize) -> Result<u32, Refusal>
-    ensures { result ≡ dolSizeOf image.now at }
+    ensures { result ≡ dol_size_of image.now at }
 {
     if image.len() < 0xE4 || image.len() - 0xE4 < at {
         return Err(Refusal::InvalidDol);
@@ -117,7 +118,7 @@ pub fn size(image: &[u8], at: usize) -> Result<u32, Refusal>
 
 /// The header and its file size, refused as `size` is.
 pub fn read(image: &[u8], at: usize) -> Result<DolAnswer, Refusal>
-    ensures { result ≡ dolAnswerOf image.now at }
+    ensures { result ≡ dol_answer_of image.now at }
 {
     let size = size(image, at)?;
     let header = header_at(image, at);
@@ -127,7 +128,7 @@ pub fn read(image: &[u8], at: usize) -> Result<DolAnswer, Refusal>
 impl DolAnswer {
     /// The window of the executable at `at`, whatever of it the image has.
     pub fn window(self, at: u32) -> Window
-        ensures { result ≡ newWindow at self.size }
+        ensures { result ≡ new_window at self.size }
     {
         Window::new(u64::from(at), u64::from(self.size))
     }

@@ -1,7 +1,8 @@
 // The program that a nonzero DOL offset means, and what it takes of the space behind the table.
 ghost use Rattle.std.specs.Prelude.{◌≡◌};
-ghost use Rattle.executable.specs.Program.{program_of, place_of, beforeTable, ownRegion};
-ghost use Rattle.executable.specs.Inner.Reading.{programAt};
+ghost use Rattle.executable.specs.Program as programs;
+ghost use Rattle.executable.specs.Program.{program_of, place_of, before_table};
+ghost use Rattle.executable.specs.Inner.Reading.{program_at};
 
 use crate::dol;
 use refusal::Refusal;
@@ -18,7 +19,7 @@ const NOWHERE: DiscRegion = DiscRegion { offset: 0, size: 0 };
 /// The program at that DOL offset: none at 0; elsewhere from there on, as long as its file, and at least its
 /// header, which stands at `at` in the bytes.
 pub fn read_at(dol_offset: u32, bytes: &[u8], at: usize) -> Program
-    ensures { result ≡ programAt dol_offset bytes.now at }
+    ensures { result ≡ program_at dol_offset bytes.now at }
 {
     if dol_offset == 0 {
         return Ok(None);
@@ -31,7 +32,7 @@ pub fn read_at(dol_offset: u32, bytes: &[u8], at: usize) -> Program
 }
 
 /// The program of an image.
-#[tactic(auto, unfolding(crate::specs::Program::program_of, crate::specs::Inner::Reading::programAt))]
+#[tactic(auto, unfolding(crate::specs::Program::program_of, crate::specs::Inner::Reading::program_at))]
 pub fn read(image: &[u8]) -> Program
     ensures { result ≡ program_of image.now }
 {
@@ -41,16 +42,16 @@ pub fn read(image: &[u8]) -> Program
 
 // Whether the region lies wholly between the header and the table.
 fn is_before_table(region: DiscRegion, fst_offset: u32) -> bool
-    ensures { result ≡ beforeTable fst_offset region }
+    ensures { result ≡ before_table fst_offset region }
 {
     let end = u64::from(region.offset) + u64::from(region.size);
     0x440 <= region.offset && end <= u64::from(fst_offset)
 }
 
 /// What the program uses besides the bytes up to the table's end: nothing where it lies before the table.
-#[tactic(auto, unfolding(crate::specs::Program::ownRegion))]
+#[tactic(auto, unfolding(crate::specs::Program::own_region))]
 pub fn own_region(program: Program, fst_offset: u32) -> DiscRegion
-    ensures { result ≡ ownRegion fst_offset (place_of program) }
+    ensures { result ≡ programs.own_region fst_offset (place_of program) }
 {
     match program {
         Ok(Some(region)) if !is_before_table(region, fst_offset) => region,

@@ -1,13 +1,13 @@
 -- The header as it is read, made and written. Assumes nothing: these are definitions.
 use Rattle.refusal.specs.Refusal.{Verdict, refuse}
 use Rattle.std.specs.Prelude.{ℕ, List, [], ◌∷◌, ltb, length, get_or, replicate, Result, Ok, Err}
-use Rattle.endian.specs.Bytes.{be32Bytes, put, span}
+use Rattle.endian.specs.Bytes.{be32_bytes, put, span}
 use Rattle.refusal.specs.declared.Refusal.{Refusal}
 use Rattle.refusal.specs.declared.Refusal.TheVariants.{HeaderPastImage}
 use Rattle.header.specs.declared.fields.Field.{Field}
 use Rattle.header.specs.declared.value.DiscHeader.{DiscHeader}
-use Rattle.header.specs.Fields.{fields, gameCodeField, makerCodeField, discIdField, versionField, audioStreamingField, streamBufferSizeField, unused00aField, wiiMagicField, gcnMagicField, gameNameField, debugMonitorOffsetField, debugMonitorAddrField, unused408Field, dolOffsetField, fstOffsetField, fstSizeField, fstMaxSizeField, userPositionField, userSizeField, discSizeField, unused43cField}
-use Rattle.header.specs.Verdicts.{gcnMagic, word_of, headerVerdict}
+use Rattle.header.specs.Fields.{fields, game_code_field, maker_code_field, disc_id_field, version_field, audio_streaming_field, stream_buffer_size_field, unused00a_field, wii_magic_field, gcn_magic_field, game_name_field, debug_monitor_offset_field, debug_monitor_addr_field, unused408_field, dol_offset_field, fst_offset_field, fst_size_field, fst_max_size_field, user_position_field, user_size_field, disc_size_field, unused43c_field}
+use Rattle.header.specs.Verdicts.{gcn_magic, word_of, header_verdict}
 
 -- the bytes of a field, and the number in a field of 1 byte
 abbrev pub bytes_of : Field → List ℕ → List ℕ
@@ -17,29 +17,29 @@ abbrev pub byte_of : Field → List ℕ → ℕ
 byte_of f image = get_or image f.at 0
 
 -- "Fields are big-endian." "The game name is opaque."
-unfoldable pub headerOf : List ℕ → DiscHeader
-headerOf image = record {
-  game_code = bytes_of gameCodeField image;
-  maker_code = bytes_of makerCodeField image;
-  disc_id = byte_of discIdField image;
-  version = byte_of versionField image;
-  audio_streaming = byte_of audioStreamingField image;
-  stream_buffer_size = byte_of streamBufferSizeField image;
-  unused_00a = bytes_of unused00aField image;
-  wii_magic = word_of wiiMagicField image;
-  gcn_magic = word_of gcnMagicField image;
-  game_name = bytes_of gameNameField image;
-  debug_monitor_offset = word_of debugMonitorOffsetField image;
-  debug_monitor_addr = word_of debugMonitorAddrField image;
-  unused_408 = bytes_of unused408Field image;
-  dol_offset = word_of dolOffsetField image;
-  fst_offset = word_of fstOffsetField image;
-  fst_size = word_of fstSizeField image;
-  fst_max_size = word_of fstMaxSizeField image;
-  user_position = word_of userPositionField image;
-  user_size = word_of userSizeField image;
-  disc_size = word_of discSizeField image;
-  unused_43c = word_of unused43cField image;
+unfoldable pub header_of : List ℕ → DiscHeader
+header_of image = record {
+  game_code = bytes_of game_code_field image;
+  maker_code = bytes_of maker_code_field image;
+  disc_id = byte_of disc_id_field image;
+  version = byte_of version_field image;
+  audio_streaming = byte_of audio_streaming_field image;
+  stream_buffer_size = byte_of stream_buffer_size_field image;
+  unused_00a = bytes_of unused00a_field image;
+  wii_magic = word_of wii_magic_field image;
+  gcn_magic = word_of gcn_magic_field image;
+  game_name = bytes_of game_name_field image;
+  debug_monitor_offset = word_of debug_monitor_offset_field image;
+  debug_monitor_addr = word_of debug_monitor_addr_field image;
+  unused_408 = bytes_of unused408_field image;
+  dol_offset = word_of dol_offset_field image;
+  fst_offset = word_of fst_offset_field image;
+  fst_size = word_of fst_size_field image;
+  fst_max_size = word_of fst_max_size_field image;
+  user_position = word_of user_position_field image;
+  user_size = word_of user_size_field image;
+  disc_size = word_of disc_size_field image;
+  unused_43c = word_of unused43c_field image;
 }
 
 -- a header with the GameCube magic, and 0 in every other field
@@ -53,7 +53,7 @@ blank = record {
   stream_buffer_size = 0;
   unused_00a = replicate 14 0;
   wii_magic = 0;
-  gcn_magic = gcnMagic;
+  gcn_magic = gcn_magic;
   game_name = replicate 0x3E0 0;
   debug_monitor_offset = 0;
   debug_monitor_addr = 0;
@@ -69,18 +69,18 @@ blank = record {
 }
 
 -- a header that passed is read, and a refusal goes on
-abbrev pub headerAnswer : Verdict → DiscHeader → Result DiscHeader Refusal
-headerAnswer (Ok _) h = Ok h
-headerAnswer (Err c) h = Err c
+abbrev pub header_answer : Verdict → DiscHeader → Result DiscHeader Refusal
+header_answer (Ok _) h = Ok h
+header_answer (Err c) h = Err c
 
-abbrev pub headerRead : List ℕ → Result DiscHeader Refusal
-headerRead image = headerAnswer (headerVerdict image) (headerOf image)
+abbrev pub header_read : List ℕ → Result DiscHeader Refusal
+header_read image = header_answer (header_verdict image) (header_of image)
 
 -- ---- written
 
 -- what a header puts in each field, in the order of the table; the game name, the word at 0x18 and the unused runs "as read"
-unfoldable pub fieldBytes : DiscHeader → List (List ℕ)
-fieldBytes h =
+unfoldable pub field_bytes : DiscHeader → List (List ℕ)
+field_bytes h =
     h.game_code
     ∷ h.maker_code
     ∷ (h.disc_id ∷ [])
@@ -88,39 +88,39 @@ fieldBytes h =
     ∷ (h.audio_streaming ∷ [])
     ∷ (h.stream_buffer_size ∷ [])
     ∷ h.unused_00a
-    ∷ be32Bytes h.wii_magic
-    ∷ be32Bytes h.gcn_magic
+    ∷ be32_bytes h.wii_magic
+    ∷ be32_bytes h.gcn_magic
     ∷ h.game_name
-    ∷ be32Bytes h.debug_monitor_offset
-    ∷ be32Bytes h.debug_monitor_addr
+    ∷ be32_bytes h.debug_monitor_offset
+    ∷ be32_bytes h.debug_monitor_addr
     ∷ h.unused_408
-    ∷ be32Bytes h.dol_offset
-    ∷ be32Bytes h.fst_offset
-    ∷ be32Bytes h.fst_size
-    ∷ be32Bytes h.fst_max_size
-    ∷ be32Bytes h.user_position
-    ∷ be32Bytes h.user_size
-    ∷ be32Bytes h.disc_size
-    ∷ be32Bytes h.unused_43c
+    ∷ be32_bytes h.dol_offset
+    ∷ be32_bytes h.fst_offset
+    ∷ be32_bytes h.fst_size
+    ∷ be32_bytes h.fst_max_size
+    ∷ be32_bytes h.user_position
+    ∷ be32_bytes h.user_size
+    ∷ be32_bytes h.disc_size
+    ∷ be32_bytes h.unused_43c
     ∷ []
 
 -- each field's bytes at its offset
-unfoldable pub putFields : List Field → List (List ℕ) → List ℕ → List ℕ
-putFields [] bss image = image
-putFields (f ∷ fs) [] image = image
-putFields (f ∷ fs) (bs ∷ bss) image = putFields fs bss (put image f.at bs)
+unfoldable pub put_fields : List Field → List (List ℕ) → List ℕ → List ℕ
+put_fields [] bss image = image
+put_fields (f ∷ fs) [] image = image
+put_fields (f ∷ fs) (bs ∷ bss) image = put_fields fs bss (put image f.at bs)
 
 -- the image with the header in it
-abbrev pub putHeader : DiscHeader → List ℕ → List ℕ
-putHeader h image = putFields fields (fieldBytes h) image
+abbrev pub put_header : DiscHeader → List ℕ → List ℕ
+put_header h image = put_fields fields (field_bytes h) image
 
 -- an image that is too short is refused, and left as it was
-abbrev pub writeVerdict : List ℕ → Verdict
-writeVerdict image = refuse (ltb (length image) 0x440) HeaderPastImage (Ok tt)
+abbrev pub write_verdict : List ℕ → Verdict
+write_verdict image = refuse (ltb (length image) 0x440) HeaderPastImage (Ok tt)
 
 abbrev pub written_by : Verdict → DiscHeader → List ℕ → List ℕ
-written_by (Ok _) h image = putHeader h image
+written_by (Ok _) h image = put_header h image
 written_by (Err c) h image = image
 
-abbrev pub headerWritten : DiscHeader → List ℕ → List ℕ
-headerWritten h image = written_by (writeVerdict image) h image
+abbrev pub header_written : DiscHeader → List ℕ → List ℕ
+header_written h image = written_by (write_verdict image) h image

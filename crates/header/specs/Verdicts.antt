@@ -6,68 +6,68 @@ use Rattle.endian.specs.Bytes.{be32}
 use Rattle.refusal.specs.declared.Refusal.TheVariants.{HeaderPastImage, WiiNotSupported, InvalidMagic, InvalidBounds}
 use Rattle.refusal.specs.Refusal.{refuse, first}
 use Rattle.header.specs.declared.fields.Field.{Field}
-use Rattle.header.specs.Fields.{fields, wiiMagicField, gcnMagicField, dolOffsetField, fstOffsetField, fstSizeField, fstMaxSizeField, userSizeField, discSizeField}
+use Rattle.header.specs.Fields.{fields, wii_magic_field, gcn_magic_field, dol_offset_field, fst_offset_field, fst_size_field, fst_max_size_field, user_size_field, disc_size_field}
 
 -- "the GameCube magic is 0xC2339F3D, the Wii magic 0x5D1C9EA3"
-abbrev pub gcnMagic : ℕ
-gcnMagic = 0xC2339F3D
+abbrev pub gcn_magic : ℕ
+gcn_magic = 0xC2339F3D
 
-abbrev pub wiiMagic : ℕ
-wiiMagic = 0x5D1C9EA3
+abbrev pub wii_magic : ℕ
+wii_magic = 0x5D1C9EA3
 
 -- the number in a field of 4 bytes
 abbrev pub word_of : Field → List ℕ → ℕ
 word_of f image = be32 image f.at
 
 -- "header field past the image", "Wii magic", "not GameCube magic": the tests made as a field is read
-unfoldable pub fieldVerdict : List ℕ → Field → Verdict
-fieldVerdict image f =
+unfoldable pub field_verdict : List ℕ → Field → Verdict
+field_verdict image f =
     refuse (ltb (length image) (f.at + f.len)) HeaderPastImage
-    (refuse (eqb f.at wiiMagicField.at && eqb (word_of f image) wiiMagic) WiiNotSupported
-    (refuse (eqb f.at gcnMagicField.at && not (eqb (word_of f image) gcnMagic)) InvalidMagic
+    (refuse (eqb f.at wii_magic_field.at && eqb (word_of f image) wii_magic) WiiNotSupported
+    (refuse (eqb f.at gcn_magic_field.at && not (eqb (word_of f image) gcn_magic)) InvalidMagic
     (Ok tt)))
 
 -- "header fields in order (Wii before GameCube)"
-unfoldable pub fieldsVerdict : List ℕ → List Field → Verdict
-fieldsVerdict image [] = Ok tt
-fieldsVerdict image (f ∷ fs) = first (fieldVerdict image f) (fieldsVerdict image fs)
+unfoldable pub fields_verdict : List ℕ → List Field → Verdict
+fields_verdict image [] = Ok tt
+fields_verdict image (f ∷ fs) = first (field_verdict image f) (fields_verdict image fs)
 
-unfoldable pub headerVerdict : List ℕ → Verdict
-headerVerdict image = fieldsVerdict image fields
+unfoldable pub header_verdict : List ℕ → Verdict
+header_verdict image = fields_verdict image fields
 
 -- ---- what the header says of the disc
 
-abbrev pub dolOffset : List ℕ → ℕ
-dolOffset image = word_of dolOffsetField image
+abbrev pub dol_offset : List ℕ → ℕ
+dol_offset image = word_of dol_offset_field image
 
-abbrev pub fstOffset : List ℕ → ℕ
-fstOffset image = word_of fstOffsetField image
+abbrev pub fst_offset : List ℕ → ℕ
+fst_offset image = word_of fst_offset_field image
 
-abbrev pub fstSize : List ℕ → ℕ
-fstSize image = word_of fstSizeField image
+abbrev pub fst_size : List ℕ → ℕ
+fst_size image = word_of fst_size_field image
 
 -- the most bytes that the table may have, which YAGCD names the FST maximum
-abbrev pub fstMaxSize : List ℕ → ℕ
-fstMaxSize image = word_of fstMaxSizeField image
+abbrev pub fst_max_size : List ℕ → ℕ
+fst_max_size image = word_of fst_max_size_field image
 
-abbrev pub userSize : List ℕ → ℕ
-userSize image = word_of userSizeField image
+abbrev pub user_size : List ℕ → ℕ
+user_size image = word_of user_size_field image
 
-abbrev pub discSize : List ℕ → ℕ
-discSize image = word_of discSizeField image
+abbrev pub disc_size : List ℕ → ℕ
+disc_size image = word_of disc_size_field image
 
 -- "Disc end = user size + disc size. Table end = FST offset + FST size."
-abbrev pub discEnd : List ℕ → ℕ
-discEnd image = userSize image + discSize image
+abbrev pub disc_end : List ℕ → ℕ
+disc_end image = user_size image + disc_size image
 
 abbrev pub table_end : List ℕ → ℕ
-table_end image = fstOffset image + fstSize image
+table_end image = fst_offset image + fst_size image
 
 -- "FST offset below 0x440, disc end above 2^32 - 1, table end past it, or image shorter than it": it is the disc end both times
-unfoldable pub boundsVerdict : List ℕ → Verdict
-boundsVerdict image =
-    refuse (ltb (fstOffset image) 0x440) InvalidBounds
-    (refuse (ltb (2 ^ 32 - 1) (discEnd image)) InvalidBounds
-    (refuse (ltb (discEnd image) (table_end image)) InvalidBounds
-    (refuse (ltb (length image) (discEnd image)) InvalidBounds
+unfoldable pub bounds_verdict : List ℕ → Verdict
+bounds_verdict image =
+    refuse (ltb (fst_offset image) 0x440) InvalidBounds
+    (refuse (ltb (2 ^ 32 - 1) (disc_end image)) InvalidBounds
+    (refuse (ltb (disc_end image) (table_end image)) InvalidBounds
+    (refuse (ltb (length image) (disc_end image)) InvalidBounds
     (Ok tt))))

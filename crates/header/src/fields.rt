@@ -2,9 +2,10 @@
 ghost use Rattle.std.specs.Prelude.{◌≡◌, ◌<◌, slice_index};
 ghost use Rattle.refusal.specs.Refusal.{first};
 ghost use Rattle.endian.specs.Bytes.{be32};
-ghost use Rattle.header.specs.Verdicts.{fieldVerdict, headerVerdict, boundsVerdict};
-ghost use Rattle.header.specs.Verdicts.{dolOffset, fstOffset, fstSize, fstMaxSize, discEnd, table_end};
-ghost use Rattle.header.specs.Inner.Bounds.{boundsWithin};
+ghost use Rattle.header.specs.Verdicts.{field_verdict, header_verdict, bounds_verdict};
+ghost use Rattle.header.specs.Verdicts as verdicts_of;
+ghost use Rattle.header.specs.Verdicts.{table_end};
+ghost use Rattle.header.specs.Inner.Bounds.{bounds_within};
 ghost use Rattle.header.specs.Inner.Judged.{Judged};
 
 use refusal::{Refusal, Verdict};
@@ -93,10 +94,10 @@ const FIELDS: [Field; 21] = [
 ];
 
 // The tests made as a field is read.
-#[tactic(auto, using(std::proofs::lemmas::Bool::Decides::nat_tests), unfolding(crate::specs::Verdicts::fieldVerdict))]
+#[tactic(auto, using(std::proofs::lemmas::Bool::Decides::nat_tests), unfolding(crate::specs::Verdicts::field_verdict))]
 fn check_field(image: &[u8], f: Field) -> Verdict
     requires { Judged f }
-    ensures { result ≡ fieldVerdict image.now f }
+    ensures { result ≡ field_verdict image.now f }
 {
     if image.len() < f.at + f.len {
         return Err(Refusal::HeaderPastImage);
@@ -113,7 +114,7 @@ fn check_field(image: &[u8], f: Field) -> Verdict
 /// The header's tests, field by field: `HeaderPastImage` at the first that the image does not hold,
 /// `WiiNotSupported` and `InvalidMagic` as soon as their magic is read.
 pub fn check(image: &[u8]) -> Verdict
-    ensures { result ≡ headerVerdict image.now }
+    ensures { result ≡ header_verdict image.now }
 {
     for field in FIELDS.iter() {
         check_field(image, *field)?;
@@ -146,35 +147,35 @@ fn word_at(image: &[u8], at: usize) -> u32
 
 /// Where the executable's header stands, 0 if there is none.
 pub fn dol_offset(image: &[u8]) -> u32
-    ensures { result ≡ dolOffset image.now }
+    ensures { result ≡ verdicts_of.dol_offset image.now }
 {
     word_at(image, Field::DOL_OFFSET.at)
 }
 
 /// Where the file table stands.
 pub fn fst_offset(image: &[u8]) -> u32
-    ensures { result ≡ fstOffset image.now }
+    ensures { result ≡ verdicts_of.fst_offset image.now }
 {
     word_at(image, Field::FST_OFFSET.at)
 }
 
 /// How many bytes the file table has.
 pub fn fst_size(image: &[u8]) -> u32
-    ensures { result ≡ fstSize image.now }
+    ensures { result ≡ verdicts_of.fst_size image.now }
 {
     word_at(image, Field::FST_SIZE.at)
 }
 
 /// How many bytes a file table of this disc may have.
 pub fn fst_max_size(image: &[u8]) -> u32
-    ensures { result ≡ fstMaxSize image.now }
+    ensures { result ≡ verdicts_of.fst_max_size image.now }
 {
     word_at(image, Field::FST_MAX_SIZE.at)
 }
 
 /// Where the disc ends: its user size and its disc size together.
 pub fn disc_end(image: &[u8]) -> u64
-    ensures { result ≡ discEnd image.now }
+    ensures { result ≡ verdicts_of.disc_end image.now }
 {
     u64::from(word_at(image, Field::USER_SIZE.at)) + u64::from(word_at(image, Field::DISC_SIZE.at))
 }
@@ -187,9 +188,9 @@ pub fn table_end(image: &[u8]) -> u64
 }
 
 // The places that the header gives. The table is held to the disc end, and not to the image's.
-#[tactic(auto, using(std::proofs::lemmas::Bool::Decides::nat_tests), unfolding(crate::specs::Inner::Bounds::boundsWithin))]
+#[tactic(auto, using(std::proofs::lemmas::Bool::Decides::nat_tests), unfolding(crate::specs::Inner::Bounds::bounds_within))]
 fn bounds(header: &[u8], image_length: u64) -> Verdict
-    ensures { result ≡ boundsWithin header.now image_length }
+    ensures { result ≡ bounds_within header.now image_length }
 {
     let end = disc_end(header);
     if fst_offset(header) < 0x440
@@ -204,7 +205,7 @@ fn bounds(header: &[u8], image_length: u64) -> Verdict
 
 /// What `check_bounds` answers for an image of that length, from its header alone.
 pub fn check_bounds_within(header: &[u8], image_length: u64) -> Verdict
-    ensures { result ≡ first (headerVerdict header.now) (boundsWithin header.now image_length) }
+    ensures { result ≡ first (header_verdict header.now) (bounds_within header.now image_length) }
 {
     check(header)?;
     bounds(header, image_length)
@@ -212,9 +213,9 @@ pub fn check_bounds_within(header: &[u8], image_length: u64) -> Verdict
 
 /// The header's own tests, then the places that it gives: `InvalidBounds` if the table begins inside the header,
 /// or the disc ends past 2^32 - 1, before its table does or past the image's end.
-#[tactic(auto, unfolding(crate::specs::Verdicts::boundsVerdict, crate::specs::Inner::Bounds::boundsWithin))]
+#[tactic(auto, unfolding(crate::specs::Verdicts::bounds_verdict, crate::specs::Inner::Bounds::bounds_within))]
 pub fn check_bounds(image: &[u8]) -> Verdict
-    ensures { result ≡ first (headerVerdict image.now) (boundsVerdict image.now) }
+    ensures { result ≡ first (header_verdict image.now) (bounds_verdict image.now) }
 {
     check_bounds_within(image, image.len() as u64)
 }

@@ -1,7 +1,7 @@
 // The disc header as a value: read, made and written.
 ghost use Rattle.std.specs.Prelude.{◌≡◌, ◌+◌, ◌≤◌, ◌<◌, length};
 ghost use Rattle.endian.specs.Bytes.{put, span};
-ghost use Rattle.header.specs.Header.{headerOf, blank, headerRead, writeVerdict, headerWritten};
+ghost use Rattle.header.specs.Header.{header_of, blank, header_read, write_verdict, header_written};
 ghost use Rattle.header.specs.Inner.Writing.{put_some};
 
 use crate::fields;
@@ -71,7 +71,7 @@ impl DiscHeader {
     /// The header of an image, refused as `header::check` refuses it. The game name, the word at 0x18 and the
     /// unused runs are kept as they are.
     pub fn read_from(image: &[u8]) -> Result<DiscHeader, Refusal>
-        ensures { result ≡ headerRead image.now }
+        ensures { result ≡ header_read image.now }
     {
         fields::check(image)?;
         Ok(read_fields(image))
@@ -89,10 +89,10 @@ fn bytes_at<const N: usize>(image: &[u8], at: usize) -> [u8; N]
 }
 
 // Straight down the table.
-#[tactic(auto, unfolding(crate::specs::Header::headerOf))]
+#[tactic(auto, unfolding(crate::specs::Header::header_of))]
 fn read_fields(image: &[u8]) -> DiscHeader
     requires { 0x440 ≤ length image.now }
-    ensures { result ≡ headerOf image.now }
+    ensures { result ≡ header_of image.now }
 {
     DiscHeader {
         game_code: bytes_at(image, Field::GAME_CODE.at),
@@ -176,7 +176,7 @@ impl DiscHeader {
     /// Writes every field at its place. An image too short for the header is refused (`HeaderPastImage`) and left
     /// as it was.
     pub fn write_to(self, image: &mut [u8]) -> Verdict
-        ensures { (result ≡ writeVerdict image.old) × (image.new ≡ headerWritten self image.old) }
+        ensures { (result ≡ write_verdict image.old) × (image.new ≡ header_written self image.old) }
     {
         if image.len() < 0x440 {
             return Err(Refusal::HeaderPastImage);

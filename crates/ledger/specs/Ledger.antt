@@ -4,9 +4,9 @@ use Rattle.std.specs.Prelude.{ℕ, zero, suc, min, Bool, true, false, cond, List
 use Rattle.endian.specs.Bytes.{span}
 use Rattle.tree.specs.Table.{Node, file, directory}
 use Rattle.tree.specs.Lookup.{components}
-use Rattle.tree.specs.Insert.{insertAt, setPlace, emptyFile, emptyDirectory}
-use Rattle.opened.specs.Opening.{nodesIn}
-use Rattle.edits.specs.Edits.{Edit, insertFile, insertDirectory, makeDirectories, moveFile, resizeFile, fillFile, rewrite, newNumber, Made, stopped, made, make}
+use Rattle.tree.specs.Insert.{insert_at, set_place, empty_file, empty_directory}
+use Rattle.opened.specs.Opening.{nodes_in}
+use Rattle.edits.specs.Edits.{Edit, insert_file, insert_directory, make_directories, move_file, resize_file, fill_file, rewrite, new_number, Made, stopped, made, make}
 
 -- of a file: "starting place and bytes, m, and whether it was named"
 pub record History : Type 0 where
@@ -27,30 +27,30 @@ bare (file nm offset size) = file nm 0 size
 bare (directory nm next) = directory nm next
 
 -- how many files there are among the first k entries
-unfoldable pub filesBefore : ℕ → List Node → ℕ
-filesBefore zero xs = 0
-filesBefore (suc k) [] = 0
-filesBefore (suc k) (file nm offset size ∷ xs) = suc (filesBefore k xs)
-filesBefore (suc k) (directory nm next ∷ xs) = filesBefore k xs
+unfoldable pub files_before : ℕ → List Node → ℕ
+files_before zero xs = 0
+files_before (suc k) [] = 0
+files_before (suc k) (file nm offset size ∷ xs) = suc (files_before k xs)
+files_before (suc k) (directory nm next ∷ xs) = files_before k xs
 
 -- "a file begins with place 0, size 0, no bytes, m 0, unnamed"
-abbrev pub newHistory : History
-newHistory = record { place = 0; bytes = []; m = 0; named = false }
+abbrev pub new_history : History
+new_history = record { place = 0; bytes = []; m = 0; named = false }
 
 -- "the history of the file with entry number k is what the ledger holds for its file k"
-abbrev pub historyOf : Ledger → ℕ → History
-historyOf l k = get_or l.histories (filesBefore k l.nodes) newHistory
+abbrev pub history_of : Ledger → ℕ → History
+history_of l k = get_or l.histories (files_before k l.nodes) new_history
 
 -- ---- "It starts as the tree opening reads from the first image, m each file's size, none named."
 
-unfoldable pub firstHistories : List ℕ → List Node → List History
-firstHistories image [] = []
-firstHistories image (file nm offset size ∷ xs) =
-    record { place = offset; bytes = span image offset size; m = size; named = false } ∷ firstHistories image xs
-firstHistories image (directory nm next ∷ xs) = firstHistories image xs
+unfoldable pub first_histories : List ℕ → List Node → List History
+first_histories image [] = []
+first_histories image (file nm offset size ∷ xs) =
+    record { place = offset; bytes = span image offset size; m = size; named = false } ∷ first_histories image xs
+first_histories image (directory nm next ∷ xs) = first_histories image xs
 
-abbrev pub firstLedger : List ℕ → Ledger
-firstLedger image = record { nodes = map bare (nodesIn image); histories = firstHistories image (nodesIn image) }
+abbrev pub first_ledger : List ℕ → Ledger
+first_ledger image = record { nodes = map bare (nodes_in image); histories = first_histories image (nodes_in image) }
 
 -- ---- what an accepted call does to it
 
@@ -73,34 +73,34 @@ abbrev pub refilled : List ℕ → History → History
 refilled clip h = record { place = h.place; bytes = clip; m = length clip; named = true }
 
 -- the histories with that of file k put through f
-abbrev pub onHistory : ℕ → (History → History) → Ledger → List History
-onHistory k f l = set l.histories (filesBefore k l.nodes) (f (historyOf l k))
+abbrev pub on_history : ℕ → (History → History) → Ledger → List History
+on_history k f l = set l.histories (files_before k l.nodes) (f (history_of l k))
 
 -- the tree with the directories of the path, where the walk came to its end
-abbrev pub madeNodes : List Node → Made → List Node
-madeNodes nodes (stopped c) = nodes
-madeNodes nodes (made new k bad) = new
+abbrev pub made_nodes : List Node → Made → List Node
+made_nodes nodes (stopped c) = nodes
+made_nodes nodes (made new k bad) = new
 
 abbrev pub entered : Edit → Ledger → Ledger
 -- "An accepted insert adds the entry as last child"
-entered (insertFile p nm) l = record {
-  nodes = insertAt p (emptyFile nm) l.nodes;
-  histories = put_in (filesBefore (newNumber l.nodes p) l.nodes) newHistory l.histories;
+entered (insert_file p nm) l = record {
+  nodes = insert_at p (empty_file nm) l.nodes;
+  histories = put_in (files_before (new_number l.nodes p) l.nodes) new_history l.histories;
 }
-entered (insertDirectory p nm) l = record {
-  nodes = insertAt p (emptyDirectory nm (newNumber l.nodes p)) l.nodes;
+entered (insert_directory p nm) l = record {
+  nodes = insert_at p (empty_directory nm (new_number l.nodes p)) l.nodes;
   histories = l.histories;
 }
 -- "An accepted make-directories walks its path by Lookup's rules, adding each missing directory as last child."
-entered (makeDirectories start path) l = record {
-  nodes = madeNodes l.nodes (make l.nodes [] start false (components path));
+entered (make_directories start path) l = record {
+  nodes = made_nodes l.nodes (make l.nodes [] start false (components path));
   histories = l.histories;
 }
 -- "An accepted move marks its file named; an accepted resize does too, sets the size and lowers m to it if it is less."
-entered (moveFile k to) l = record { nodes = l.nodes; histories = onHistory k marked l }
-entered (resizeFile k n) l = record { nodes = setPlace k 0 n l.nodes; histories = onHistory k (lowered n) l }
+entered (move_file k to) l = record { nodes = l.nodes; histories = on_history k marked l }
+entered (resize_file k n) l = record { nodes = set_place k 0 n l.nodes; histories = on_history k (lowered n) l }
 -- "A fill is one edit and joins demand 3's list"
-entered (fillFile k clip) l = record { nodes = setPlace k 0 (length clip) l.nodes; histories = onHistory k (refilled clip) l }
+entered (fill_file k clip) l = record { nodes = set_place k 0 (length clip) l.nodes; histories = on_history k (refilled clip) l }
 -- "Rewrites and refused calls change nothing."
 entered rewrite l = l
 
@@ -109,6 +109,6 @@ pub record Report : Type 0 where
   pub edit : Edit
   pub accepted : Bool
 
-unfoldable pub ledgerAfter : List Report → Ledger → Ledger
-ledgerAfter [] l = l
-ledgerAfter (r ∷ reports) l = ledgerAfter reports (cond r.accepted (entered r.edit l) l)
+unfoldable pub ledger_after : List Report → Ledger → Ledger
+ledger_after [] l = l
+ledger_after (r ∷ reports) l = ledger_after reports (cond r.accepted (entered r.edit l) l)

@@ -3,7 +3,7 @@ use Rattle.std.specs.Prelude.{ℕ, ◌+◌, ◌^◌, ◌<◌, ◌≤◌, ◌≡�
 use Rattle.endian.specs.Bytes.{AllBytes}
 use Rattle.refusal.specs.Refusal.{is_refused}
 use Rattle.space.specs.declared.totals.Totals.{Totals}
-use Rattle.edits.specs.Edits.{Edit, insertFile, insertDirectory, makeDirectories, moveFile, resizeFile, fillFile, rewrite, verdictOf, imageAfter, totalsAfter}
+use Rattle.edits.specs.Edits.{Edit, insert_file, insert_directory, make_directories, move_file, resize_file, fill_file, rewrite, verdict_of, image_after, totals_after}
 use Rattle.ledger.specs.Ledger.{Report}
 
 -- a call: an edit, the record that it is handed, which may hold anything, and how many working words and bytes it is lent
@@ -14,47 +14,47 @@ pub record Call : Type 0 where
   pub bytes : ℕ
 
 -- each call works on the image that the calls before it left
-unfoldable pub imageAfterAll : List Call → List ℕ → List ℕ
-imageAfterAll [] image = image
-imageAfterAll (c ∷ calls) image = imageAfterAll calls (imageAfter c.edit c.totals image c.words c.bytes)
+unfoldable pub image_after_all : List Call → List ℕ → List ℕ
+image_after_all [] image = image
+image_after_all (c ∷ calls) image = image_after_all calls (image_after c.edit c.totals image c.words c.bytes)
 
 -- each call's edit, and whether it was accepted
-unfoldable pub reportsOf : List Call → List ℕ → List Report
-reportsOf [] image = []
-reportsOf (c ∷ calls) image =
-    record { edit = c.edit; accepted = not (is_refused (verdictOf c.edit c.totals image c.words c.bytes)) }
-    ∷ reportsOf calls (imageAfter c.edit c.totals image c.words c.bytes)
+unfoldable pub reports_of : List Call → List ℕ → List Report
+reports_of [] image = []
+reports_of (c ∷ calls) image =
+    record { edit = c.edit; accepted = not (is_refused (verdict_of c.edit c.totals image c.words c.bytes)) }
+    ∷ reports_of calls (image_after c.edit c.totals image c.words c.bytes)
 
 -- ---- the record (document 02, Point 6)
 
 -- the record that the last call handed back; t where there is no call
-unfoldable pub totalsAfterAll : Totals → List Call → List ℕ → Totals
-totalsAfterAll t [] image = t
-totalsAfterAll t (c ∷ calls) image =
-    totalsAfterAll (totalsAfter c.edit c.totals image c.words c.bytes) calls (imageAfter c.edit c.totals image c.words c.bytes)
+unfoldable pub totals_after_all : Totals → List Call → List ℕ → Totals
+totals_after_all t [] image = t
+totals_after_all t (c ∷ calls) image =
+    totals_after_all (totals_after c.edit c.totals image c.words c.bytes) calls (image_after c.edit c.totals image c.words c.bytes)
 
 -- "passed through every later edit, each on the image as the one before left it, nobody else writing to it": t goes into the first call, and
--- what a call hands back into the next; the images are those of `imageAfterAll`
+-- what a call hands back into the next; the images are those of `image_after_all`
 abbrev pub HandedOn : Totals → List Call → List ℕ → Type 0
 HandedOn t [] image = Unit {0}
 HandedOn t (c ∷ calls) image =
-    (c.totals ≡ t) × HandedOn (totalsAfter c.edit c.totals image c.words c.bytes) calls (imageAfter c.edit c.totals image c.words c.bytes)
+    (c.totals ≡ t) × HandedOn (totals_after c.edit c.totals image c.words c.bytes) calls (image_after c.edit c.totals image c.words c.bytes)
 
 -- how many edits were accepted
-unfoldable pub acceptedIn : List Report → ℕ
-acceptedIn [] = 0
-acceptedIn (r ∷ reports) = cond r.accepted 1 0 + acceptedIn reports
+unfoldable pub accepted_in : List Report → ℕ
+accepted_in [] = 0
+accepted_in (r ∷ reports) = cond r.accepted 1 0 + accepted_in reports
 
 -- ---- what a call may be
 
 -- "Offsets and sizes passed in have 32 bits."; a clip is "given bytes"
 abbrev pub Passable : Edit → Type 0
-Passable (insertFile p nm) = Unit {0}
-Passable (insertDirectory p nm) = Unit {0}
-Passable (makeDirectories start path) = Unit {0}
-Passable (moveFile k to) = to < 2 ^ 32
-Passable (resizeFile k n) = n < 2 ^ 32
-Passable (fillFile k clip) = AllBytes clip
+Passable (insert_file p nm) = Unit {0}
+Passable (insert_directory p nm) = Unit {0}
+Passable (make_directories start path) = Unit {0}
+Passable (move_file k to) = to < 2 ^ 32
+Passable (resize_file k n) = n < 2 ^ 32
+Passable (fill_file k clip) = AllBytes clip
 Passable rewrite = Unit {0}
 
 -- no call is lent more than w words, and its offset or size has 32 bits, or its clip is of bytes

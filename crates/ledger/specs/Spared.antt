@@ -2,40 +2,40 @@
 -- order of the entries: only an inserted file shifts such a number. Assumes nothing: these are definitions.
 use Rattle.std.specs.Prelude.{ℕ, ◌≡◌, Bool, true, false, cond, List, [], ◌∷◌, eqb}
 use Rattle.tree.specs.Insert.{shifted}
-use Rattle.edits.specs.Edits.{Edit, insertFile, insertDirectory, makeDirectories, moveFile, resizeFile, fillFile, rewrite, newNumber}
-use Rattle.ledger.specs.Ledger.{Ledger, filesBefore, entered, Report}
+use Rattle.edits.specs.Edits.{Edit, insert_file, insert_directory, make_directories, move_file, resize_file, fill_file, rewrite, new_number}
+use Rattle.ledger.specs.Ledger.{Ledger, files_before, entered, Report}
 
 -- an accepted edit names the file it moves, resizes or fills
 abbrev pub names : Edit → Ledger → ℕ → Bool
-names (insertFile p nm) l f = false
-names (insertDirectory p nm) l f = false
-names (makeDirectories start path) l f = false
-names (moveFile k to) l f = eqb f (filesBefore k l.nodes)
-names (resizeFile k n) l f = eqb f (filesBefore k l.nodes)
-names (fillFile k clip) l f = eqb f (filesBefore k l.nodes)
+names (insert_file p nm) l f = false
+names (insert_directory p nm) l f = false
+names (make_directories start path) l f = false
+names (move_file k to) l f = eqb f (files_before k l.nodes)
+names (resize_file k n) l f = eqb f (files_before k l.nodes)
+names (fill_file k clip) l f = eqb f (files_before k l.nodes)
 names rewrite l f = false
 
 -- the number that file f has after an accepted edit
 abbrev pub shifted_by : Edit → Ledger → ℕ → ℕ
-shifted_by (insertFile p nm) l f = shifted (filesBefore (newNumber l.nodes p) l.nodes) f
-shifted_by (insertDirectory p nm) l f = f
-shifted_by (makeDirectories start path) l f = f
-shifted_by (moveFile k to) l f = f
-shifted_by (resizeFile k n) l f = f
-shifted_by (fillFile k clip) l f = f
+shifted_by (insert_file p nm) l f = shifted (files_before (new_number l.nodes p) l.nodes) f
+shifted_by (insert_directory p nm) l f = f
+shifted_by (make_directories start path) l f = f
+shifted_by (move_file k to) l f = f
+shifted_by (resize_file k n) l f = f
+shifted_by (fill_file k clip) l f = f
 shifted_by rewrite l f = f
 
-abbrev pub ledgerNext : Report → Ledger → Ledger
-ledgerNext r l = cond r.accepted (entered r.edit l) l
+abbrev pub ledger_next : Report → Ledger → Ledger
+ledger_next r l = cond r.accepted (entered r.edit l) l
 
-abbrev pub numberNext : Report → Ledger → ℕ → ℕ
-numberNext r l f = cond r.accepted (shifted_by r.edit l f) f
+abbrev pub number_next : Report → Ledger → ℕ → ℕ
+number_next r l f = cond r.accepted (shifted_by r.edit l f) f
 
-unfoldable pub numberAfter : List Report → Ledger → ℕ → ℕ
-numberAfter [] l f = f
-numberAfter (r ∷ reports) l f = numberAfter reports (ledgerNext r l) (numberNext r l f)
+unfoldable pub number_after : List Report → Ledger → ℕ → ℕ
+number_after [] l f = f
+number_after (r ∷ reports) l f = number_after reports (ledger_next r l) (number_next r l f)
 
 -- no accepted edit of the list names file f
 abbrev pub Spared : List Report → Ledger → ℕ → Type 0
 Spared [] l f = Unit {0}
-Spared (r ∷ reports) l f = (r.accepted ≡ true → names r.edit l f ≡ false) × Spared reports (ledgerNext r l) (numberNext r l f)
+Spared (r ∷ reports) l f = (r.accepted ≡ true → names r.edit l f ≡ false) × Spared reports (ledger_next r l) (number_next r l f)

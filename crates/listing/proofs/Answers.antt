@@ -14,9 +14,9 @@ use Rattle.refusal.specs.declared.Refusal.{Refusal}
 use Rattle.refusal.specs.declared.Refusal.TheVariants.{LimitOrMemory}
 use Rattle.refusal.specs.Refusal.{refuse, first}
 use Rattle.refusal.specs.Laws.Chains.{refuse-passed, first-passed}
-use Rattle.tree.specs.Table.{nodesOf, count}
-use Rattle.tree.proofs.Laws.Accepted.{length-nodesOf}
-use Rattle.space.specs.Used.{totalSize}
+use Rattle.tree.specs.Table.{nodes_of, count}
+use Rattle.tree.proofs.Laws.Accepted.{length-nodes_of}
+use Rattle.space.specs.Used.{total_size}
 use Rattle.space.specs.Laws.SortLaws.{same_total}
 use Rattle.space.specs.Inner.Sort.{SameSums}
 use Rattle.space.specs.Inner.UsedSpace.{UsedSpace, free_in}
@@ -25,19 +25,19 @@ use Rattle.opened.specs.Inner.Disc.{Disc, free_of, Means}
 use Rattle.opened.specs.Laws.Meant.{end_meant, nodes_meant, total_meant, free_meant}
 use Rattle.listing.specs.Inner.Fits.{size_or, listed_or, laid_or, text_of}
 use Rattle.opened.specs.Answers.{behind}
-use Rattle.listing.specs.Lines.{totalsLine, entryLines, regionLines}
-use Rattle.listing.specs.Listing.{listingText, listingVerdict, listAnswer, listBuffer, refusedText, reportVerdict, reportText, reportAnswer, reportBuffer}
+use Rattle.listing.specs.Lines.{totals_line, entry_lines, region_lines}
+use Rattle.listing.specs.Listing.{listing_text, listing_verdict, list_answer, list_buffer, refused_text, report_verdict, report_text, report_answer, report_buffer}
 use Rattle.listing.specs.Inner.Writing.{Wrote}
 
 -- the lines of a disc, from its table and its used regions
-pub text-is : (d : Disc) (tab : List ℕ) (u : UsedSpace) → u.disc_end ≡ d.end → nodesOf tab ≡ d.nodes → SameSums u.regions d.used → free_in u ≡ free_of d →
-    totalsLine u.disc_end (totalSize u.regions) ++ (entryLines (nodesOf tab) (count tab) ++ regionLines (free_in u)) ≡ text_of d
+pub text-is : (d : Disc) (tab : List ℕ) (u : UsedSpace) → u.disc_end ≡ d.end → nodes_of tab ≡ d.nodes → SameSums u.regions d.used → free_in u ≡ free_of d →
+    totals_line u.disc_end (total_size u.regions) ++ (entry_lines (nodes_of tab) (count tab) ++ region_lines (free_in u)) ≡ text_of d
 unfolding text_of
-text-is d tab u e n s f = rw (f, e, same_total u.regions d.used s, ← length-nodesOf tab, n)
+text-is d tab u e n s f = rw (f, e, same_total u.regions d.used s, ← length-nodes_of tab, n)
 
 -- the lines of an image that means the disc
-pub text-meant : (image : List ℕ) (d : Disc) → Means image d → text_of d ≡ listingText image
-unfolding listingText text_of
+pub text-meant : (image : List ℕ) (d : Disc) → Means image d → text_of d ≡ listing_text image
+unfolding listing_text text_of
 text-meant image d m = rw (end_meant image d m, total_meant image d m, nodes_meant image d m, free_meant image d m)
 
 -- ---- measured with no buffer to speak of, then written
@@ -69,31 +69,31 @@ size-told room bs r e = rw e (go (ltb room (length bs)))
 -- ---- behind opening
 
 module _ (image : List ℕ) (words : ℕ) (text : List ℕ) where
-  pub list-refused : (c : Refusal) → opening image words ≡ Err c → Err c ≡ listAnswer image words (length text)
-  unfolding listAnswer listingVerdict
+  pub list-refused : (c : Refusal) → opening image words ≡ Err c → Err c ≡ list_answer image words (length text)
+  unfolding list_answer listing_verdict
   list-refused c e = rw e
 
-  pub buffer-refused : (c : Refusal) → opening image words ≡ Err c → text ≡ listBuffer image words text
-  unfolding listBuffer listingVerdict
+  pub buffer-refused : (c : Refusal) → opening image words ≡ Err c → text ≡ list_buffer image words text
+  unfolding list_buffer listing_verdict
   buffer-refused c e = rw e
 
   module _ (d : Disc) (o : Means image d × (d.words ≡ words)) where
     passes : opening image words ≡ Ok tt
     passes = rw o.1 at o.0.known.passed
 
-    pub list-opened : (r : Result ℕ Refusal) → r ≡ listed_or (length text) (text_of d) → r ≡ listAnswer image words (length text)
-    unfolding listAnswer listingVerdict
-    list-opened r e = go (ltb (length text) (length (listingText image))) (rw (text-meant image d o.0) at e)
+    pub list-opened : (r : Result ℕ Refusal) → r ≡ listed_or (length text) (text_of d) → r ≡ list_answer image words (length text)
+    unfolding list_answer listing_verdict
+    list-opened r e = go (ltb (length text) (length (listing_text image))) (rw (text-meant image d o.0) at e)
       where
-        go : (t : Bool) → r ≡ cond t (Err LimitOrMemory) (Ok (length (listingText image))) → r ≡ behind (first (opening image words) (refuse t LimitOrMemory (Ok tt))) Err (Ok (length (listingText image)))
+        go : (t : Bool) → r ≡ cond t (Err LimitOrMemory) (Ok (length (listing_text image))) → r ≡ behind (first (opening image words) (refuse t LimitOrMemory (Ok tt))) Err (Ok (length (listing_text image)))
         go true q = rw passes q
         go false q = rw passes q
 
-    pub buffer-opened : (text' : List ℕ) → text' ≡ laid_or text (text_of d) → text' ≡ listBuffer image words text
-    unfolding listBuffer listingVerdict
-    buffer-opened text' e = go (ltb (length text) (length (listingText image))) (rw (text-meant image d o.0) at e)
+    pub buffer-opened : (text' : List ℕ) → text' ≡ laid_or text (text_of d) → text' ≡ list_buffer image words text
+    unfolding list_buffer listing_verdict
+    buffer-opened text' e = go (ltb (length text) (length (listing_text image))) (rw (text-meant image d o.0) at e)
       where
-        go : (t : Bool) → text' ≡ cond t text (put text 0 (listingText image)) → text' ≡ behind (first (opening image words) (refuse t LimitOrMemory (Ok tt))) (λ c. text) (put text 0 (listingText image))
+        go : (t : Bool) → text' ≡ cond t text (put text 0 (listing_text image)) → text' ≡ behind (first (opening image words) (refuse t LimitOrMemory (Ok tt))) (λ c. text) (put text 0 (listing_text image))
         go true q = rw passes q
         go false q = rw passes q
 
@@ -101,59 +101,59 @@ module _ (image : List ℕ) (words : ℕ) (text : List ℕ) where
 
 abbrev pub SmallAnswer : List ℕ → ℕ → List ℕ → Result ℕ Refusal → List ℕ → Type 0
 SmallAnswer image words text r text' =
-    (r ≡ behind (reportVerdict image words (length text)) Err (Ok (length (listingText image)))) × (text' ≡ behind (reportVerdict image words (length text)) (λ c. text) (put text 0 (listingText image)))
+    (r ≡ behind (report_verdict image words (length text)) Err (Ok (length (listing_text image)))) × (text' ≡ behind (report_verdict image words (length text)) (λ c. text) (put text 0 (listing_text image)))
 
 module _ (image : List ℕ) (words : ℕ) (text : List ℕ) where
-  pub large-answer : 65536 < length image → Err LimitOrMemory ≡ behind (reportVerdict image words (length text)) Err (Ok (length (listingText image)))
-  unfolding reportVerdict
+  pub large-answer : 65536 < length image → Err LimitOrMemory ≡ behind (report_verdict image words (length text)) Err (Ok (length (listing_text image)))
+  unfolding report_verdict
   large-answer h = rw (lt-ltb 65536 (length image) h)
 
-  pub large-buffer : 65536 < length image → text ≡ behind (reportVerdict image words (length text)) (λ c. text) (put text 0 (listingText image))
-  unfolding reportVerdict
+  pub large-buffer : 65536 < length image → text ≡ behind (report_verdict image words (length text)) (λ c. text) (put text 0 (listing_text image))
+  unfolding report_verdict
   large-buffer h = rw (lt-ltb 65536 (length image) h)
 
-  pub small-answer : (r : Result ℕ Refusal) → length image ≤ 65536 → r ≡ listAnswer image words (length text) → r ≡ behind (reportVerdict image words (length text)) Err (Ok (length (listingText image)))
-  unfolding reportVerdict listAnswer
+  pub small-answer : (r : Result ℕ Refusal) → length image ≤ 65536 → r ≡ list_answer image words (length text) → r ≡ behind (report_verdict image words (length text)) Err (Ok (length (listing_text image)))
+  unfolding report_verdict list_answer
   small-answer r h a = rw (le-ltb 65536 (length image) h) a
 
-  pub small-buffer : (text' : List ℕ) → length image ≤ 65536 → text' ≡ listBuffer image words text → text' ≡ behind (reportVerdict image words (length text)) (λ c. text) (put text 0 (listingText image))
-  unfolding reportVerdict listBuffer
+  pub small-buffer : (text' : List ℕ) → length image ≤ 65536 → text' ≡ list_buffer image words text → text' ≡ behind (report_verdict image words (length text)) (λ c. text) (put text 0 (listing_text image))
+  unfolding report_verdict list_buffer
   small-buffer text' h a = rw (le-ltb 65536 (length image) h) a
 
   -- ---- the report
 
-  passed-fits : reportVerdict image words (length text) ≡ Ok tt → length (listingText image) ≤ length text
-  unfolding reportVerdict listingVerdict
+  passed-fits : report_verdict image words (length text) ≡ Ok tt → length (listing_text image) ≤ length text
+  unfolding report_verdict listing_verdict
   passed-fits e =
       let a = first-passed (refuse (ltb 65536 (length image)) LimitOrMemory (Ok tt)) _ e in
       let b = first-passed (opening image words) _ a.1 in
-      let d = refuse-passed (ltb (length text) (length (listingText image))) LimitOrMemory _ b.1 in
-      ltb-false (length text) (length (listingText image)) d.0
+      let d = refuse-passed (ltb (length text) (length (listing_text image))) LimitOrMemory _ b.1 in
+      ltb-false (length text) (length (listing_text image)) d.0
 
   module _ (r : Result ℕ Refusal) (text' : List ℕ) (s : SmallAnswer image words text r text') where
-    pub report-text : (size : ℕ) → r ≡ Ok size → (size ≡ reportAnswer image words (length text)) × (text' ≡ reportBuffer image words text)
-    unfolding reportAnswer reportBuffer reportText
-    report-text size e = go (reportVerdict image words (length text)) passed-fits s
+    pub report-text : (size : ℕ) → r ≡ Ok size → (size ≡ report_answer image words (length text)) × (text' ≡ report_buffer image words text)
+    unfolding report_answer report_buffer report_text
+    report-text size e = go (report_verdict image words (length text)) passed-fits s
       where
-        go : (v : Verdict) → (v ≡ Ok tt → length (listingText image) ≤ length text) →
-            (r ≡ behind v Err (Ok (length (listingText image)))) × (text' ≡ behind v (λ c. text) (put text 0 (listingText image))) →
-            (size ≡ cond (ltb (length text) (length (behind v refusedText (listingText image)))) 0 (length (behind v refusedText (listingText image)))) ×
-            (text' ≡ cond (ltb (length text) (length (behind v refusedText (listingText image)))) text (put text 0 (behind v refusedText (listingText image))))
+        go : (v : Verdict) → (v ≡ Ok tt → length (listing_text image) ≤ length text) →
+            (r ≡ behind v Err (Ok (length (listing_text image)))) × (text' ≡ behind v (λ c. text) (put text 0 (listing_text image))) →
+            (size ≡ cond (ltb (length text) (length (behind v refused_text (listing_text image)))) 0 (length (behind v refused_text (listing_text image)))) ×
+            (text' ≡ cond (ltb (length text) (length (behind v refused_text (listing_text image)))) text (put text 0 (behind v refused_text (listing_text image))))
         go (Ok tt) f a =
-            let t = le-ltb (length text) (length (listingText image)) (f refl) in
-            let n : size ≡ length (listingText image) = cc a.0 in
+            let t = le-ltb (length text) (length (listing_text image)) (f refl) in
+            let n : size ≡ length (listing_text image) = cc a.0 in
             (rw t n, rw t a.1)
         go (Err c) f a = let z : ◌≡◌ {A = ℕ} 0 1 = cc a.0 in absurd (omega arith)
 
     pub report-refused : (c : Refusal) → r ≡ Err c → (n : ℕ) (text'' : List ℕ) →
-        (n ≡ cond (ltb (length text') (length (refusedText c))) 0 (length (refusedText c))) × (text'' ≡ cond (ltb (length text') (length (refusedText c))) text' (put text' 0 (refusedText c))) →
-        (n ≡ reportAnswer image words (length text)) × (text'' ≡ reportBuffer image words text)
-    unfolding reportAnswer reportBuffer reportText
-    report-refused c e n text'' q = go (reportVerdict image words (length text)) s
+        (n ≡ cond (ltb (length text') (length (refused_text c))) 0 (length (refused_text c))) × (text'' ≡ cond (ltb (length text') (length (refused_text c))) text' (put text' 0 (refused_text c))) →
+        (n ≡ report_answer image words (length text)) × (text'' ≡ report_buffer image words text)
+    unfolding report_answer report_buffer report_text
+    report-refused c e n text'' q = go (report_verdict image words (length text)) s
       where
-        go : (v : Verdict) → (r ≡ behind v Err (Ok (length (listingText image)))) × (text' ≡ behind v (λ d. text) (put text 0 (listingText image))) →
-            (n ≡ cond (ltb (length text) (length (behind v refusedText (listingText image)))) 0 (length (behind v refusedText (listingText image)))) ×
-            (text'' ≡ cond (ltb (length text) (length (behind v refusedText (listingText image)))) text (put text 0 (behind v refusedText (listingText image))))
+        go : (v : Verdict) → (r ≡ behind v Err (Ok (length (listing_text image)))) × (text' ≡ behind v (λ d. text) (put text 0 (listing_text image))) →
+            (n ≡ cond (ltb (length text) (length (behind v refused_text (listing_text image)))) 0 (length (behind v refused_text (listing_text image)))) ×
+            (text'' ≡ cond (ltb (length text) (length (behind v refused_text (listing_text image)))) text (put text 0 (behind v refused_text (listing_text image))))
         go (Ok _) a = let z : ◌≡◌ {A = ℕ} 0 1 = cc a.0 in absurd (omega arith)
         go (Err d) a =
             let d≡ : c ≡ d = cc a.0 in

@@ -9,9 +9,9 @@ use native.Mathlib.Omega.{arith}
 use native.Mathlib.Numerals.{add-one}
 use lib.ListN.{length, get_or, set, replicate, length-set, length-replicate}
 use lib.Seq.{get_or-set_same, get_or-set_other}
-use Rattle.tree.specs.Table.{Node, file, directory, none, parentBelow, parent_of, shallow, count, nodesOf}
+use Rattle.tree.specs.Table.{Node, file, directory, none, parent_below, parent_of, shallow, count, nodes_of}
 use Rattle.tree.specs.Inner.WellFormed.{WellFormed}
-use Rattle.tree.specs.Lookup.{isDirectory, next_of}
+use Rattle.tree.specs.Lookup.{is_directory, next_of}
 use Rattle.tree.proofs.Laws.WellNested.{root_is}
 use Rattle.tree.specs.Inner.Depths.{depth_of}
 use Rattle.tree.proofs.Laws.Depth.{depth-root, depth-parent}
@@ -19,7 +19,7 @@ use Rattle.refusal.specs.Laws.Tests.{lt-or-le}
 use Rattle.table.proofs.Nodes.{parent-whole}
 use Rattle.table.proofs.PathLaws.{directory-depth}
 use Rattle.table.proofs.RowLaws.{climb-found, climb-turn, climb-end}
-use Rattle.tree.proofs.Laws.Accepted.{length-nodesOf}
+use Rattle.tree.proofs.Laws.Accepted.{length-nodes_of}
 use Rattle.listing.proofs.Tables.{Read}
 use Rattle.listing.specs.Inner.Around.{Chain, Climbs, Ends}
 
@@ -36,8 +36,8 @@ chain-root nodes w = record {
   nested = λ i h. absurd (omega arith);
 }
 
-pub chain-start : (tab : List ℕ) → Read tab → Chain (nodesOf tab) (replicate 65 0) 1 1
-chain-start tab r = chain-root (nodesOf tab) r.is.well
+pub chain-start : (tab : List ℕ) → Read tab → Chain (nodes_of tab) (replicate 65 0) 1 1
+chain-start tab r = chain-root (nodes_of tab) r.is.well
 
 pub climbs-start : (nodes : List Node) → Climbs nodes (replicate 65 0) 1 1
 climbs-start nodes = parent-whole nodes 1
@@ -98,7 +98,7 @@ module _ (nodes : List Node) (dirs : List ℕ) (d k : ℕ) (b : Chain nodes dirs
       let m : d - 1 - 1 + 1 ≡ d - 1 = omega arith in
       let q = rw m at (b.0.nested (d - 1 - 1) (omega arith)) in (
         chain-shorter b.0 (d - 1) (omega arith) (omega arith),
-        b.1 ∙ climb-turn nodes k (get_or dirs (d - 1) 0) q.0 (b.0.before (d - 1) (omega arith)) (rw f at l) ∙ ap (λ (p : ℕ). parentBelow nodes k (p + 1)) q.1,
+        b.1 ∙ climb-turn nodes k (get_or dirs (d - 1) 0) q.0 (b.0.before (d - 1) (omega arith)) (rw f at l) ∙ ap (λ (p : ℕ). parent_below nodes k (p + 1)) q.1,
       )
 
 -- ---- one entry further
@@ -107,19 +107,19 @@ module _ {nodes : List Node} {dirs : List ℕ} {d k : ℕ} (a : Ends nodes dirs 
   c : Chain nodes dirs d k
   c = a.chain
 
-  enter-room : shallow nodes ≡ true → isDirectory (get_or nodes k none) ≡ true → d < 65
+  enter-room : shallow nodes ≡ true → is_directory (get_or nodes k none) ≡ true → d < 65
   enter-room s h =
       let e : depth_of nodes k ≡ suc (depth_of nodes (get_or dirs (d - 1) 0)) = depth-parent nodes k w some few ∙ ap (λ (p : ℕ). suc (depth_of nodes p)) a.last in
       omega (arith, c.some, depth_is c w few (d - 1) (omega (arith, c.some)), directory-depth nodes k w s few h)
 
-  pass-file : isDirectory (get_or nodes k none) ≡ false → Climbs nodes dirs d (k + 1)
-  pass-file h = parent-whole nodes (k + 1) ∙ climb-turn nodes (k + 1) k some (omega arith) (ended (get_or nodes k none) h) ∙ ap (λ (p : ℕ). parentBelow nodes (k + 1) (p + 1)) a.last
+  pass-file : is_directory (get_or nodes k none) ≡ false → Climbs nodes dirs d (k + 1)
+  pass-file h = parent-whole nodes (k + 1) ∙ climb-turn nodes (k + 1) k some (omega arith) (ended (get_or nodes k none) h) ∙ ap (λ (p : ℕ). parent_below nodes (k + 1) (p + 1)) a.last
     where
-      ended : (x : Node) → isDirectory x ≡ false → next_of x ≤ k + 1
+      ended : (x : Node) → is_directory x ≡ false → next_of x ≤ k + 1
       ended (file nm offset size) q = omega arith
       ended (directory nm next) q = let z : ◌≡◌ {A = ℕ} 0 1 = cc in absurd (omega arith)
 
-  module _ (h : isDirectory (get_or nodes k none) ≡ true) (room : d < 65) where
+  module _ (h : is_directory (get_or nodes k none) ≡ true) (room : d < 65) where
     kept : (i : ℕ) → i < d → get_or (set dirs d k) i 0 ≡ get_or dirs i 0
     kept i q = get_or-set_other dirs d i k 0 (λ e. omega arith)
 
@@ -137,7 +137,7 @@ module _ {nodes : List Node} {dirs : List ℕ} {d k : ℕ} (a : Ends nodes dirs 
         directories = λ i q. ⊎_elim (λ l. rw (kept i l) (c.directories i l)) (λ (l : d ≤ i). let e : i ≡ d = omega arith in rw (e, new) h) (lt-or-le i d);
         nested = λ i q. ⊎_elim (λ l. rw (kept (i + 1) l, kept i (omega arith)) (c.nested i l)) (λ l. last-nested i (omega arith)) (lt-or-le (i + 1) d);
       },
-      parent-whole nodes (k + 1) ∙ ap (λ (p : ℕ). parentBelow nodes (k + 1) (p + 1)) (sym new'),
+      parent-whole nodes (k + 1) ∙ ap (λ (p : ℕ). parent_below nodes (k + 1) (p + 1)) (sym new'),
     )
       where
         new' : get_or (set dirs d k) (d + 1 - 1) 0 ≡ k
@@ -150,16 +150,16 @@ module _ {nodes : List Node} {dirs : List ℕ} {d k : ℕ} (a : Ends nodes dirs 
             rw (e, new, o) (some, a.last)
 
 -- the same of a table's entries, by the kind that was read
-module _ (tab dirs : List ℕ) (d k : ℕ) (b : Bool) (a : Ends (nodesOf tab) dirs d k) (r : Read tab) (some : 0 < k) (few : k < count tab)
-    (asked : b ≡ isDirectory (get_or (nodesOf tab) k none)) where
-  inside : k < length (nodesOf tab)
-  inside = rw (length-nodesOf tab) few
+module _ (tab dirs : List ℕ) (d k : ℕ) (b : Bool) (a : Ends (nodes_of tab) dirs d k) (r : Read tab) (some : 0 < k) (few : k < count tab)
+    (asked : b ≡ is_directory (get_or (nodes_of tab) k none)) where
+  inside : k < length (nodes_of tab)
+  inside = rw (length-nodes_of tab) few
 
   pub entered-room : b ≡ true → d < 65
   entered-room h = enter-room a r.is.well some inside r.is.depth (sym asked ∙ h)
 
-  pub entered : b ≡ true → Chain (nodesOf tab) (set dirs d k) (d + 1) (k + 1) × Climbs (nodesOf tab) (set dirs d k) (d + 1) (k + 1)
+  pub entered : b ≡ true → Chain (nodes_of tab) (set dirs d k) (d + 1) (k + 1) × Climbs (nodes_of tab) (set dirs d k) (d + 1) (k + 1)
   entered h = enter-directory a r.is.well some inside (sym asked ∙ h) (entered-room h)
 
-  pub passed : b ≡ false → Chain (nodesOf tab) dirs d (k + 1) × Climbs (nodesOf tab) dirs d (k + 1)
+  pub passed : b ≡ false → Chain (nodes_of tab) dirs d (k + 1) × Climbs (nodes_of tab) dirs d (k + 1)
   passed h = (chain-later a.chain, pass-file a r.is.well some inside (sym asked ∙ h))

@@ -3,7 +3,7 @@ use mathlib.Core.Path.{◌≡◌, refl, sym, ◌∙◌}
 use mathlib.Core.List.{List, [], ◌∷◌, ◌++◌, append-nil, append_assoc}
 use Prim.Native.Nat.{ℕ}
 use Rattle.space.specs.declared.region.DiscRegion.{DiscRegion}
-use Rattle.listing.specs.Lines.{regionLine, regionLines}
+use Rattle.listing.specs.Lines.{region_line, region_lines}
 use Rattle.listing.specs.declared.buffer.TextBuffer.{TextBuffer}
 use Rattle.listing.specs.Inner.Writing.{Appends}
 use Rattle.listing.proofs.Joining.{appends-none, appends-join, appends-as}
@@ -12,27 +12,27 @@ use Rattle.listing.proofs.Joining.{appends-none, appends-join, appends-as}
 pub record Listing (all : List DiscRegion) (t u : TextBuffer) (rest : List DiscRegion) : Type 0 where
   pub done : List ℕ
   pub appends : Appends t u done
-  pub left : done ++ regionLines rest ≡ regionLines all
+  pub left : done ++ region_lines rest ≡ region_lines all
 
 pub regions-start : (all : List DiscRegion) (t : TextBuffer) → Listing all t t all
 regions-start all t = record { done = []; appends = appends-none t; left = refl }
 
-lines_more : (r : DiscRegion) (rs : List DiscRegion) → regionLines (r ∷ rs) ≡ regionLine r ++ regionLines rs
-unfolding regionLines
+lines_more : (r : DiscRegion) (rs : List DiscRegion) → region_lines (r ∷ rs) ≡ region_line r ++ region_lines rs
+unfolding region_lines
 lines_more r rs = refl
 
-lines-none : regionLines [] ≡ []
-unfolding regionLines
+lines-none : region_lines [] ≡ []
+unfolding region_lines
 lines-none = refl
 
 module _ (all : List DiscRegion) (t u : TextBuffer) where
-  pub regions-more : (r : DiscRegion) (rs : List DiscRegion) → Listing all t u (r ∷ rs) → (v : TextBuffer) → Appends u v (regionLine r) → Listing all t v rs
+  pub regions-more : (r : DiscRegion) (rs : List DiscRegion) → Listing all t u (r ∷ rs) → (v : TextBuffer) → Appends u v (region_line r) → Listing all t v rs
   regions-more r rs s v w =
       record {
-        done = s.done ++ regionLine r;
+        done = s.done ++ region_line r;
         appends = appends-join s.appends w;
-        left = append_assoc s.done (regionLine r) (regionLines rs) ∙ (rw (lines_more r rs) at s.left);
+        left = append_assoc s.done (region_line r) (region_lines rs) ∙ (rw (lines_more r rs) at s.left);
       }
 
-  pub regions-end : Listing all t u [] → Appends t u (regionLines all)
+  pub regions-end : Listing all t u [] → Appends t u (region_lines all)
   regions-end s = appends-as s.appends (sym (append-nil s.done) ∙ (rw lines-none at s.left))

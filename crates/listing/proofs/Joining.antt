@@ -7,7 +7,7 @@ use lib.ListN.{length, get_or, length-append}
 use Rattle.endian.specs.Bytes.{put}
 use Rattle.endian.specs.Laws.Stored.{length-put, put-none}
 use Rattle.endian.proofs.Parts.{put-append}
-use Rattle.table.specs.Inner.Texts.{textAt}
+use Rattle.table.specs.Inner.Texts.{text_at}
 use Rattle.std.proofs.lemmas.List.{get_or_past}
 use Rattle.table.proofs.Texts.{text-more, text-end}
 use Rattle.listing.specs.Inner.Writing.{Wrote, Appends}
@@ -50,7 +50,7 @@ pub appends-three : (t u v w : TextBuffer) (a b c bs : List ℕ) → Appends t u
 appends-three t u v w a b c bs f g h e = appends-as (appends-join f (appends-join g h)) e
 
 -- behind the end of a list no text stands
-pub wrote-past : (text source : List ℕ) (at from : ℕ) → length source ≤ from → Wrote text text at (textAt source from) at
+pub wrote-past : (text source : List ℕ) (at from : ℕ) → length source ≤ from → Wrote text text at (text_at source from) at
 wrote-past text source at from h = rw (text-end source from (get_or_past source from 0 h)) (wrote_none text at)
 
 -- ---- a text up to its end
@@ -58,7 +58,7 @@ wrote-past text source at from h = rw (text-end source from (get_or_past source 
 pub record Copying (source : List ℕ) (t u : TextBuffer) (i : ℕ) : Type 0 where
   pub done : List ℕ
   pub appends : Appends t u done
-  pub left : done ++ textAt source i ≡ textAt source 0
+  pub left : done ++ text_at source i ≡ text_at source 0
 
 pub copy_start : (source : List ℕ) (t : TextBuffer) → Copying source t t 0
 copy_start source t = record { done = []; appends = appends-none t; left = refl }
@@ -68,5 +68,5 @@ module _ (source : List ℕ) (t u : TextBuffer) (i : ℕ) (c : Copying source t 
   copy-turn v h w = record {
     done = c.done ++ (get_or source i 0 ∷ []);
     appends = appends-join c.appends w;
-    left = append_assoc c.done (get_or source i 0 ∷ []) (textAt source (i + 1)) ∙ (rw (text-more source i h) at c.left);
+    left = append_assoc c.done (get_or source i 0 ∷ []) (text_at source (i + 1)) ∙ (rw (text-more source i h) at c.left);
   }

@@ -7,10 +7,10 @@ use mathlib.Core.List.{List, [], ◌∷◌, ◌++◌, append-nil, append_assoc}
 use native.Mathlib.Omega.{arith}
 use lib.ListN.{length, get_or, take, drop, length-drop}
 use lib.Seq.{get_or-take, get_or-drop, length-take-le}
-use Rattle.tree.specs.Table.{Node, file, directory, name_of, none, count, upTo0, nodesOf, parent_of}
-use Rattle.tree.specs.Lookup.{isDirectory}
+use Rattle.tree.specs.Table.{Node, file, directory, name_of, none, count, up_to0, nodes_of, parent_of}
+use Rattle.tree.specs.Lookup.{is_directory}
 use Rattle.table.specs.Inner.Fields.{offset_of, last_of}
-use Rattle.listing.specs.Lines.{totalsLine, ending, entryFields, lineFeed, pathOf, entryLine, entryLines}
+use Rattle.listing.specs.Lines.{totals_line, ending, entry_fields, line_feed, path_of, entry_line, entry_lines}
 use Rattle.listing.specs.Decimal.{field}
 use Rattle.listing.specs.Inner.Around.{Ends}
 use Rattle.listing.specs.Inner.Writing.{Appends}
@@ -25,45 +25,45 @@ pair-more kind a b c = rw (append_assoc a b c)
 
 -- ---- the numbers, by the entry's kind
 
-file-fields : (k p l o : ℕ) (x : Node) → isDirectory x ≡ false → l ≡ last_of x → o ≡ offset_of x → (0x66 ∷ (field k ++ field o)) ++ field l ≡ entryFields k p x
+file-fields : (k p l o : ℕ) (x : Node) → is_directory x ≡ false → l ≡ last_of x → o ≡ offset_of x → (0x66 ∷ (field k ++ field o)) ++ field l ≡ entry_fields k p x
 file-fields k p l o (file nm offset size) d e q = rw (e, q) (pair-more 0x66 (field k) (field offset) (field size))
 file-fields k p l o (directory nm next) d e q = let z : ◌≡◌ {A = ℕ} 0 1 = cc in absurd (omega arith)
 
-directory-fields : (k p l : ℕ) (x : Node) → isDirectory x ≡ true → l ≡ last_of x → (0x64 ∷ (field k ++ field p)) ++ field l ≡ entryFields k p x
+directory-fields : (k p l : ℕ) (x : Node) → is_directory x ≡ true → l ≡ last_of x → (0x64 ∷ (field k ++ field p)) ++ field l ≡ entry_fields k p x
 directory-fields k p l (file nm offset size) d e = let z : ◌≡◌ {A = ℕ} 0 1 = cc in absurd (omega arith)
 directory-fields k p l (directory nm next) d e = rw e (pair-more 0x64 (field k) (field p) (field next))
 
 -- the same, written in two parts
 module _ (x : Node) (k p l : ℕ) (text text₁ text₂ : TextBuffer) where
-  pub file-written : isDirectory x ≡ false → l ≡ last_of x → (o : ℕ) → o ≡ offset_of x → Appends text text₁ (0x66 ∷ (field k ++ field o)) → Appends text₁ text₂ (field l)
-      → Appends text text₂ (entryFields k p x)
+  pub file-written : is_directory x ≡ false → l ≡ last_of x → (o : ℕ) → o ≡ offset_of x → Appends text text₁ (0x66 ∷ (field k ++ field o)) → Appends text₁ text₂ (field l)
+      → Appends text text₂ (entry_fields k p x)
   file-written d e o q f g = appends-as (appends-join f g) (file-fields k p l o x d e q)
 
-  pub directory-written : isDirectory x ≡ true → l ≡ last_of x → Appends text text₁ (0x64 ∷ (field k ++ field p)) → Appends text₁ text₂ (field l)
-      → Appends text text₂ (entryFields k p x)
+  pub directory-written : is_directory x ≡ true → l ≡ last_of x → Appends text text₁ (0x64 ∷ (field k ++ field p)) → Appends text₁ text₂ (field l)
+      → Appends text text₂ (entry_fields k p x)
   directory-written d e f g = appends-as (appends-join f g) (directory-fields k p l x d e)
 
 -- ---- the last part of a path
 
-directory-name : (x : Node) → isDirectory x ≡ true → name_of x ++ (0x2F ∷ []) ≡ name_of x ++ ending x
+directory-name : (x : Node) → is_directory x ≡ true → name_of x ++ (0x2F ∷ []) ≡ name_of x ++ ending x
 directory-name (file nm offset size) d = let z : ◌≡◌ {A = ℕ} 0 1 = cc in absurd (omega arith)
 directory-name (directory nm next) d = refl
 
-file-name : (x : Node) → isDirectory x ≡ false → name_of x ≡ name_of x ++ ending x
+file-name : (x : Node) → is_directory x ≡ false → name_of x ≡ name_of x ++ ending x
 file-name (file nm offset size) d = sym (append-nil nm)
 file-name (directory nm next) d = let z : ◌≡◌ {A = ℕ} 0 1 = cc in absurd (omega arith)
 
 -- the name written, and what is behind it by the kind that was read
-module _ (tab : List ℕ) (k : ℕ) (text text₁ : TextBuffer) (inside : k < count tab) {nm : List ℕ} (is : nm ≡ name_of (get_or (nodesOf tab) k none)) (f : Appends text text₁ (upTo0 nm)) where
-  name-written : Appends text text₁ (name_of (get_or (nodesOf tab) k none))
-  name-written = appends-as f (ap upTo0 is ∙ whole-name tab k inside)
+module _ (tab : List ℕ) (k : ℕ) (text text₁ : TextBuffer) (inside : k < count tab) {nm : List ℕ} (is : nm ≡ name_of (get_or (nodes_of tab) k none)) (f : Appends text text₁ (up_to0 nm)) where
+  name-written : Appends text text₁ (name_of (get_or (nodes_of tab) k none))
+  name-written = appends-as f (ap up_to0 is ∙ whole-name tab k inside)
 
-  pub directory-named : (text₂ : TextBuffer) → isDirectory (get_or (nodesOf tab) k none) ≡ true → Appends text₁ text₂ (0x2F ∷ [])
-      → Appends text text₂ (name_of (get_or (nodesOf tab) k none) ++ ending (get_or (nodesOf tab) k none))
-  directory-named text₂ d g = appends-as (appends-join name-written g) (directory-name (get_or (nodesOf tab) k none) d)
+  pub directory-named : (text₂ : TextBuffer) → is_directory (get_or (nodes_of tab) k none) ≡ true → Appends text₁ text₂ (0x2F ∷ [])
+      → Appends text text₂ (name_of (get_or (nodes_of tab) k none) ++ ending (get_or (nodes_of tab) k none))
+  directory-named text₂ d g = appends-as (appends-join name-written g) (directory-name (get_or (nodes_of tab) k none) d)
 
-  pub file-named : isDirectory (get_or (nodesOf tab) k none) ≡ false → Appends text text₁ (name_of (get_or (nodesOf tab) k none) ++ ending (get_or (nodesOf tab) k none))
-  file-named d = appends-as name-written (file-name (get_or (nodesOf tab) k none) d)
+  pub file-named : is_directory (get_or (nodes_of tab) k none) ≡ false → Appends text text₁ (name_of (get_or (nodes_of tab) k none) ++ ending (get_or (nodes_of tab) k none))
+  file-named d = appends-as name-written (file-name (get_or (nodes_of tab) k none) d)
 
 -- ---- a path, directory by directory
 
@@ -73,7 +73,7 @@ pub record Stepping (nodes : List Node) (dirs : List ℕ) (d : ℕ) (text₀ tex
   pub few : i ≤ d
   pub done : List ℕ
   pub wrote : Appends text₀ text done
-  pub is : 0x2F ∷ done ≡ pathOf nodes (get_or dirs (i - 1) 0)
+  pub is : 0x2F ∷ done ≡ path_of nodes (get_or dirs (i - 1) 0)
 
 module _ {nodes : List Node} {dirs : List ℕ} {d k : ℕ} (a : Ends nodes dirs d k) where
   pub step_start : (text : TextBuffer) → Stepping nodes dirs d text text 1
@@ -102,13 +102,13 @@ module _ {nodes : List Node} {dirs : List ℕ} {d k : ℕ} (a : Ends nodes dirs 
           is =
               rw n
               (sym (path-step nodes (get_or dirs i 0) q.0
-              ∙ ap (λ (p : List ℕ). p ++ (name_of (get_or nodes (get_or dirs i 0) none) ++ ending (get_or nodes (get_or dirs i 0) none))) (ap (pathOf nodes) q.1 ∙ sym s.is)));
+              ∙ ap (λ (p : List ℕ). p ++ (name_of (get_or nodes (get_or dirs i 0) none) ++ ending (get_or nodes (get_or dirs i 0) none))) (ap (path_of nodes) q.1 ∙ sym s.is)));
         }
 
-    pub step_end : d ≤ i → {text₁ : TextBuffer} → Appends text₁ text₀ (0x20 ∷ 0x2F ∷ []) → Appends text₁ text (0x20 ∷ pathOf nodes (parent_of nodes k))
+    pub step_end : d ≤ i → {text₁ : TextBuffer} → Appends text₁ text₀ (0x20 ∷ 0x2F ∷ []) → Appends text₁ text (0x20 ∷ path_of nodes (parent_of nodes k))
     step_end h w =
         let n : i - 1 ≡ d - 1 = omega (arith, s.few) in
-        let e : 0x2F ∷ s.done ≡ pathOf nodes (parent_of nodes k) = s.is ∙ ap (λ (j : ℕ). pathOf nodes (get_or dirs j 0)) n ∙ ap (pathOf nodes) (sym a.last) in
+        let e : 0x2F ∷ s.done ≡ path_of nodes (parent_of nodes k) = s.is ∙ ap (λ (j : ℕ). path_of nodes (get_or dirs j 0)) n ∙ ap (path_of nodes) (sym a.last) in
         appends-as (appends-join w s.wrote) (ap (λ (p : List ℕ). 0x20 ∷ p) e)
 
 -- the same of the directories after the root, one by one
@@ -128,7 +128,7 @@ module _ {nodes : List Node} {dirs : List ℕ} {d k : ℕ} (a : Ends nodes dirs 
         Stepping nodes dirs d text₀ text' (j + 1 + 1)
     after-turn h w = step-turn a s (omega (arith, long-after)) (rw (at-after h) at w)
 
-    pub after-end : length (take (d - 1) (drop 1 dirs)) ≤ j → {text₁ : TextBuffer} → Appends text₁ text₀ (0x20 ∷ 0x2F ∷ []) → Appends text₁ text (0x20 ∷ pathOf nodes (parent_of nodes k))
+    pub after-end : length (take (d - 1) (drop 1 dirs)) ≤ j → {text₁ : TextBuffer} → Appends text₁ text₀ (0x20 ∷ 0x2F ∷ []) → Appends text₁ text (0x20 ∷ path_of nodes (parent_of nodes k))
     after-end h w = step_end a s (omega (arith, long-after)) w
 
 -- ---- line by line
@@ -137,42 +137,42 @@ module _ {nodes : List Node} {dirs : List ℕ} {d k : ℕ} (a : Ends nodes dirs 
 pub record Walking (nodes : List Node) (text₀ text : TextBuffer) (k : ℕ) : Type 0 where
   pub done : List ℕ
   pub wrote : Appends text₀ text done
-  pub is : entryLine nodes 0 ++ done ≡ entryLines nodes k
+  pub is : entry_line nodes 0 ++ done ≡ entry_lines nodes k
 
 pub walk_start : (nodes : List Node) (text : TextBuffer) → Walking nodes text text 1
 walk_start nodes text = record {
   done = [];
   wrote = appends-none text;
-  is = append-nil (entryLine nodes 0) ∙ sym (first-line nodes);
+  is = append-nil (entry_line nodes 0) ∙ sym (first-line nodes);
 }
 
 module _ {nodes : List Node} {text₀ text : TextBuffer} {k : ℕ} (s : Walking nodes text₀ text k) where
-  pub walk_turn : {text' : TextBuffer} → Appends text text' (entryLine nodes k) → Walking nodes text₀ text' (k + 1)
+  pub walk_turn : {text' : TextBuffer} → Appends text text' (entry_line nodes k) → Walking nodes text₀ text' (k + 1)
   walk_turn w = record {
-    done = s.done ++ entryLine nodes k;
+    done = s.done ++ entry_line nodes k;
     wrote = appends-join s.wrote w;
-    is = sym (append_assoc (entryLine nodes 0) s.done (entryLine nodes k)) ∙ ap (λ (p : List ℕ). p ++ entryLine nodes k) s.is ∙ one-line-more nodes k;
+    is = sym (append_assoc (entry_line nodes 0) s.done (entry_line nodes k)) ∙ ap (λ (p : List ℕ). p ++ entry_line nodes k) s.is ∙ one-line-more nodes k;
   }
 
-  pub walk_end : {text₁ : TextBuffer} (c n : ℕ) → c ≡ n → k ≤ c → c ≤ k → Appends text₁ text₀ (entryLine nodes 0) → Appends text₁ text (entryLines nodes n)
+  pub walk_end : {text₁ : TextBuffer} (c n : ℕ) → c ≡ n → k ≤ c → c ≤ k → Appends text₁ text₀ (entry_line nodes 0) → Appends text₁ text (entry_lines nodes n)
   walk_end c n q h l w =
       let e : k ≡ n = omega arith in
-      appends-as (appends-join w s.wrote) (s.is ∙ ap (entryLines nodes) e)
+      appends-as (appends-join w s.wrote) (s.is ∙ ap (entry_lines nodes) e)
 
 -- ---- a whole line
 
-pub root-written : (nodes : List Node) (text text₁ text₂ : TextBuffer) → Appends text text₁ (entryFields 0 0 (get_or nodes 0 none)) → Appends text₁ text₂ (0x20 ∷ 0x2F ∷ 0x0A ∷ [])
-    → Appends text text₂ (entryLine nodes 0)
+pub root-written : (nodes : List Node) (text text₁ text₂ : TextBuffer) → Appends text text₁ (entry_fields 0 0 (get_or nodes 0 none)) → Appends text₁ text₂ (0x20 ∷ 0x2F ∷ 0x0A ∷ [])
+    → Appends text text₂ (entry_line nodes 0)
 root-written nodes text text₁ text₂ f g = appends-as (appends-join f g) (root_line nodes)
 
 pub entry-written : (nodes : List Node) (p k : ℕ) (text text₁ text₂ text₃ text₄ : TextBuffer) → 0 < k → p ≡ parent_of nodes k
-    → Appends text text₁ (entryFields k p (get_or nodes k none)) → Appends text₁ text₂ (0x20 ∷ pathOf nodes (parent_of nodes k))
-    → Appends text₂ text₃ (name_of (get_or nodes k none) ++ ending (get_or nodes k none)) → Appends text₃ text₄ lineFeed → Appends text text₄ (entryLine nodes k)
+    → Appends text text₁ (entry_fields k p (get_or nodes k none)) → Appends text₁ text₂ (0x20 ∷ path_of nodes (parent_of nodes k))
+    → Appends text₂ text₃ (name_of (get_or nodes k none) ++ ending (get_or nodes k none)) → Appends text₃ text₄ line_feed → Appends text text₄ (entry_line nodes k)
 entry-written nodes p k text text₁ text₂ text₃ text₄ some e f g h i =
     appends-as (appends-join (rw e at f) (appends-join g (appends-join h i))) (line-parts nodes k some)
 
 -- ---- the totals, the entries, the free regions
 
-pub listing-written : (text text₁ text₂ text₃ : TextBuffer) (d e u v : ℕ) (ls rs : List ℕ) → d ≡ e → u ≡ v → Appends text text₁ (totalsLine d u) → Appends text₁ text₂ ls
-    → Appends text₂ text₃ rs → Appends text text₃ (totalsLine e v ++ (ls ++ rs))
+pub listing-written : (text text₁ text₂ text₃ : TextBuffer) (d e u v : ℕ) (ls rs : List ℕ) → d ≡ e → u ≡ v → Appends text text₁ (totals_line d u) → Appends text₁ text₂ ls
+    → Appends text₂ text₃ rs → Appends text text₃ (totals_line e v ++ (ls ++ rs))
 listing-written text text₁ text₂ text₃ d e u v ls rs p q f g h = appends-join (rw (p, q) at f) (appends-join g h)

@@ -9,33 +9,33 @@ use borrow.Author.Tests.{ne_eqb}
 use lib.ListN.{get_or}
 use Rattle.tree.specs.Table.{Node, name_of, none, parent_of}
 use Rattle.tree.proofs.Laws.Nesting.{parent-before, parent-root}
-use Rattle.listing.specs.Lines.{ending, entryFields, lineFeed, pathWithin, pathOf, entryLine, entryLines}
+use Rattle.listing.specs.Lines.{ending, entry_fields, line_feed, path_within, path_of, entry_line, entry_lines}
 
-pub path-root : (f : ℕ) (nodes : List Node) (k : ℕ) → k ≡ 0 → pathWithin f nodes k ≡ 0x2F ∷ []
-unfolding pathWithin
+pub path-root : (f : ℕ) (nodes : List Node) (k : ℕ) → k ≡ 0 → path_within f nodes k ≡ 0x2F ∷ []
+unfolding path_within
 path-root zero nodes k e = refl
 path-root (suc f) nodes k e = rw e
 
 -- behind the path of its parent
 within_step : (f : ℕ) (nodes : List Node) (k : ℕ) → 0 < k →
-    pathWithin (suc f) nodes k ≡ pathWithin f nodes (parent_of nodes k) ++ (name_of (get_or nodes k none) ++ ending (get_or nodes k none))
-unfolding pathWithin
+    path_within (suc f) nodes k ≡ path_within f nodes (parent_of nodes k) ++ (name_of (get_or nodes k none) ++ ending (get_or nodes k none))
+unfolding path_within
 within_step f nodes k h = rw (ne_eqb k 0 (λ e. omega arith))
 
 -- how much deeper it could be does not matter
-path-enough : (f g : ℕ) (nodes : List Node) (k : ℕ) → k ≤ f → k ≤ g → pathWithin f nodes k ≡ pathWithin g nodes k
+path-enough : (f g : ℕ) (nodes : List Node) (k : ℕ) → k ≤ f → k ≤ g → path_within f nodes k ≡ path_within g nodes k
 path-enough zero g nodes k h l = let e : k ≡ 0 = omega arith in path-root zero nodes k e ∙ sym (path-root g nodes k e)
 path-enough (suc f) zero nodes k h l = let e : k ≡ 0 = omega arith in path-root (suc f) nodes k e ∙ sym (path-root zero nodes k e)
 path-enough (suc f) (suc g) nodes k h l = go k refl (path-enough f g nodes (parent_of nodes k))
   where
-    go : (j : ℕ) → k ≡ j → (parent_of nodes k ≤ f → parent_of nodes k ≤ g → pathWithin f nodes (parent_of nodes k) ≡ pathWithin g nodes (parent_of nodes k)) → pathWithin (suc f) nodes k ≡ pathWithin (suc g) nodes k
+    go : (j : ℕ) → k ≡ j → (parent_of nodes k ≤ f → parent_of nodes k ≤ g → path_within f nodes (parent_of nodes k) ≡ path_within g nodes (parent_of nodes k)) → path_within (suc f) nodes k ≡ path_within (suc g) nodes k
     go zero e ih = path-root (suc f) nodes k e ∙ sym (path-root (suc g) nodes k e)
     go (suc j) e ih =
         let b : parent_of nodes k < k = parent-before nodes k (omega arith) in
         within_step f nodes k (omega arith) ∙ ap (λ (p : List ℕ). p ++ (name_of (get_or nodes k none) ++ ending (get_or nodes k none))) (ih (omega arith) (omega arith))
         ∙ sym (within_step g nodes k (omega arith))
 
-pub path-step : (nodes : List Node) (k : ℕ) → 0 < k → pathOf nodes k ≡ pathOf nodes (parent_of nodes k) ++ (name_of (get_or nodes k none) ++ ending (get_or nodes k none))
+pub path-step : (nodes : List Node) (k : ℕ) → 0 < k → path_of nodes k ≡ path_of nodes (parent_of nodes k) ++ (name_of (get_or nodes k none) ++ ending (get_or nodes k none))
 path-step nodes zero h = absurd (omega arith)
 path-step nodes (suc k) h =
     let b : parent_of nodes (suc k) < suc k = parent-before nodes (suc k) h in
@@ -45,18 +45,18 @@ path-step nodes (suc k) h =
 -- ---- a line in the parts that are written
 
 pub line-parts : (nodes : List Node) (k : ℕ) → 0 < k →
-    entryFields k (parent_of nodes k) (get_or nodes k none) ++ ((0x20 ∷ pathOf nodes (parent_of nodes k)) ++ ((name_of (get_or nodes k none) ++ ending (get_or nodes k none)) ++ lineFeed)) ≡ entryLine nodes k
-unfolding entryLine
-line-parts nodes k h = rw (path-step nodes k h, append_assoc (pathOf nodes (parent_of nodes k)) (name_of (get_or nodes k none) ++ ending (get_or nodes k none)) lineFeed)
+    entry_fields k (parent_of nodes k) (get_or nodes k none) ++ ((0x20 ∷ path_of nodes (parent_of nodes k)) ++ ((name_of (get_or nodes k none) ++ ending (get_or nodes k none)) ++ line_feed)) ≡ entry_line nodes k
+unfolding entry_line
+line-parts nodes k h = rw (path-step nodes k h, append_assoc (path_of nodes (parent_of nodes k)) (name_of (get_or nodes k none) ++ ending (get_or nodes k none)) line_feed)
 
-pub root_line : (nodes : List Node) → entryFields 0 0 (get_or nodes 0 none) ++ (0x20 ∷ 0x2F ∷ 0x0A ∷ []) ≡ entryLine nodes 0
-unfolding entryLine pathWithin
+pub root_line : (nodes : List Node) → entry_fields 0 0 (get_or nodes 0 none) ++ (0x20 ∷ 0x2F ∷ 0x0A ∷ []) ≡ entry_line nodes 0
+unfolding entry_line path_within
 root_line nodes = rw (parent-root nodes)
 
-pub first-line : (nodes : List Node) → entryLines nodes 1 ≡ entryLine nodes 0
-unfolding entryLines
+pub first-line : (nodes : List Node) → entry_lines nodes 1 ≡ entry_line nodes 0
+unfolding entry_lines
 first-line nodes = refl
 
-pub one-line-more : (nodes : List Node) (k : ℕ) → entryLines nodes k ++ entryLine nodes k ≡ entryLines nodes (k + 1)
-unfolding entryLines
+pub one-line-more : (nodes : List Node) (k : ℕ) → entry_lines nodes k ++ entry_line nodes k ≡ entry_lines nodes (k + 1)
+unfolding entry_lines
 one-line-more nodes k = rw (add-one k)

@@ -6,14 +6,14 @@ use Rattle.tree.specs.Table.{Node, file, directory, name_of, none, parent_of}
 use Rattle.space.specs.declared.region.DiscRegion.{DiscRegion}
 use Rattle.listing.specs.Decimal.{field}
 
-abbrev pub lineFeed : List ℕ
-lineFeed = 0x0A ∷ []
+abbrev pub line_feed : List ℕ
+line_feed = 0x0A ∷ []
 
 -- ---- "disc end and used total": `total`, `used`
 
-abbrev pub totalsLine : ℕ → ℕ → List ℕ
-totalsLine end used =
-    (0x74 ∷ 0x6F ∷ 0x74 ∷ 0x61 ∷ 0x6C ∷ []) ++ (field end ++ ((0x20 ∷ 0x75 ∷ 0x73 ∷ 0x65 ∷ 0x64 ∷ []) ++ (field used ++ lineFeed)))
+abbrev pub totals_line : ℕ → ℕ → List ℕ
+totals_line end used =
+    (0x74 ∷ 0x6F ∷ 0x74 ∷ 0x61 ∷ 0x6C ∷ []) ++ (field end ++ ((0x20 ∷ 0x75 ∷ 0x73 ∷ 0x65 ∷ 0x64 ∷ []) ++ (field used ++ line_feed)))
 
 -- ---- "entries in table order"
 
@@ -23,33 +23,33 @@ ending (file nm offset size) = []
 ending (directory nm next) = 0x2F ∷ []
 
 -- the path of entry k: that of the directory it is nested in, and its name; the root's is `/`. It is nested f deep at most
-unfoldable pub pathWithin : ℕ → List Node → ℕ → List ℕ
-pathWithin zero nodes k = 0x2F ∷ []
-pathWithin (suc f) nodes k =
-    cond (eqb k 0) (0x2F ∷ []) (pathWithin f nodes (parent_of nodes k) ++ (name_of (get_or nodes k none) ++ ending (get_or nodes k none)))
+unfoldable pub path_within : ℕ → List Node → ℕ → List ℕ
+path_within zero nodes k = 0x2F ∷ []
+path_within (suc f) nodes k =
+    cond (eqb k 0) (0x2F ∷ []) (path_within f nodes (parent_of nodes k) ++ (name_of (get_or nodes k none) ++ ending (get_or nodes k none)))
 
 -- an entry is nested in entries before it
-abbrev pub pathOf : List Node → ℕ → List ℕ
-pathOf nodes k = pathWithin k nodes k
+abbrev pub path_of : List Node → ℕ → List ℕ
+path_of nodes k = path_within k nodes k
 
 -- `d`, number, the parent it is nested in, next; `f`, number, offset, size
-abbrev pub entryFields : ℕ → ℕ → Node → List ℕ
-entryFields k parent (file nm offset size) = 0x66 ∷ (field k ++ (field offset ++ field size))
-entryFields k parent (directory nm next) = 0x64 ∷ (field k ++ (field parent ++ field next))
+abbrev pub entry_fields : ℕ → ℕ → Node → List ℕ
+entry_fields k parent (file nm offset size) = 0x66 ∷ (field k ++ (field offset ++ field size))
+entry_fields k parent (directory nm next) = 0x64 ∷ (field k ++ (field parent ++ field next))
 
-unfoldable pub entryLine : List Node → ℕ → List ℕ
-entryLine nodes k = entryFields k (parent_of nodes k) (get_or nodes k none) ++ (0x20 ∷ (pathOf nodes k ++ lineFeed))
+unfoldable pub entry_line : List Node → ℕ → List ℕ
+entry_line nodes k = entry_fields k (parent_of nodes k) (get_or nodes k none) ++ (0x20 ∷ (path_of nodes k ++ line_feed))
 
 -- the lines of the entries below k
-unfoldable pub entryLines : List Node → ℕ → List ℕ
-entryLines nodes zero = []
-entryLines nodes (suc k) = entryLines nodes k ++ entryLine nodes k
+unfoldable pub entry_lines : List Node → ℕ → List ℕ
+entry_lines nodes zero = []
+entry_lines nodes (suc k) = entry_lines nodes k ++ entry_line nodes k
 
 -- ---- "free regions with offset, size": `r`
 
-abbrev pub regionLine : DiscRegion → List ℕ
-regionLine r = 0x72 ∷ (field r.offset ++ (field r.size ++ lineFeed))
+abbrev pub region_line : DiscRegion → List ℕ
+region_line r = 0x72 ∷ (field r.offset ++ (field r.size ++ line_feed))
 
-unfoldable pub regionLines : List DiscRegion → List ℕ
-regionLines [] = []
-regionLines (r ∷ rs) = regionLine r ++ regionLines rs
+unfoldable pub region_lines : List DiscRegion → List ℕ
+region_lines [] = []
+region_lines (r ∷ rs) = region_line r ++ region_lines rs

@@ -2,10 +2,10 @@
 
 ghost use Rattle.std.specs.Prelude.{◌≡◌, ◌++◌};
 ghost use Rattle.tree.specs.Table as table_of;
-ghost use Rattle.tree.specs.Table.{nodesOf};
+ghost use Rattle.tree.specs.Table.{nodes_of};
 ghost use Rattle.space.specs.Inner.UsedSpace.{free_in};
-ghost use Rattle.space.specs.Used.{totalSize};
-ghost use Rattle.listing.specs.Lines.{totalsLine, entryLines, regionLines};
+ghost use Rattle.space.specs.Used.{total_size};
+ghost use Rattle.listing.specs.Lines.{totals_line, entry_lines, region_lines};
 ghost use Rattle.listing.specs.Inner.Writing.{Appends};
 
 use crate::buffer::TextBuffer;
@@ -21,7 +21,7 @@ pub fn put_lines(
     text: &mut TextBuffer<'_>,
 )
     requires { disc_end ≡ used.now.disc_end }
-    ensures { Appends text.old text.new (totalsLine used.now.disc_end (totalSize used.now.regions) ++ (entryLines (nodesOf table.now) (table_of.count table.now) ++ regionLines (free_in used.now))) }
+    ensures { Appends text.old text.new (totals_line used.now.disc_end (total_size used.now.regions) ++ (entry_lines (nodes_of table.now) (table_of.count table.now) ++ region_lines (free_in used.now))) }
 {
     lines::put_totals(text, disc_end, used.used_size());
     entries::put_entries(table, text);

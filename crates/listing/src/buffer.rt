@@ -1,6 +1,6 @@
 // Bytes and numbers written one behind the other into lent bytes.
 ghost use Rattle.std.specs.Prelude.{◌≡◌, [], ◌∷◌, ◌+◌, ◌<◌};
-ghost use Rattle.tree.specs.Table.{upTo0};
+ghost use Rattle.tree.specs.Table.{up_to0};
 ghost use Rattle.listing.specs.Decimal as base_ten;
 ghost use Rattle.listing.specs.Inner.Writing.{Appends};
 
@@ -48,7 +48,7 @@ impl<'a> TextBuffer<'a> {
 
     /// The bytes of a text, up to a zero byte or to its end.
     pub fn push_text(&mut self, text: &[u8])
-        ensures { Appends self.old self.new (upTo0 text.now) }
+        ensures { Appends self.old self.new (up_to0 text.now) }
     {
         for &byte in text {
             if byte == 0 {

@@ -5,7 +5,7 @@ ghost use Rattle.opened.specs.Opening.{zeros};
 ghost use Rattle.opened.specs.Answers.{behind};
 ghost use Rattle.listing.specs.Inner.Writing.{Appends};
 ghost use Rattle.listing.specs.Inner.Fits.{Laid, listed_or, laid_or, text_of};
-ghost use Rattle.listing.specs.Listing.{listingText, listAnswer, listBuffer, refusedText, reportVerdict, reportAnswer, reportBuffer};
+ghost use Rattle.listing.specs.Listing.{listing_text, list_answer, list_buffer, refused_text, report_verdict, report_answer, report_buffer};
 
 use crate::body;
 use crate::buffer::TextBuffer;
@@ -53,8 +53,8 @@ fn list_disc(disc: &OpenDisc<'_>, text: &mut [u8]) -> Result<usize, Refusal>
 // Kept: image, words and text one by one, here and in the three functions below that have them (N): the image is only read, the words are
 // zeroed and the text is written, each apart, and a struct of three loans would have each contract name the loan of each field.
 fn list_image(image: &[u8], words: &mut [u32], text: &mut [u8]) -> Result<usize, Refusal>
-    ensures answer { result ≡ listAnswer image.now (length words.old) (length text.old) }
-    ensures text_after { text.new ≡ listBuffer image.now (length words.old) text.old }
+    ensures answer { result ≡ list_answer image.now (length words.old) (length text.old) }
+    ensures text_after { text.new ≡ list_buffer image.now (length words.old) text.old }
 {
     let disc = OpenDisc::of_image(image, words)?;
     list_disc(&disc, text)
@@ -62,8 +62,8 @@ fn list_image(image: &[u8], words: &mut [u32], text: &mut [u8]) -> Result<usize,
 
 /// The listing of an image, in front of `text`: its length in bytes. Refused by opening, or 9 if the text is too short; then it stays as it was.
 pub fn list(image: &[u8], words: &mut [u32], text: &mut [u8]) -> Result<usize, Refusal>
-    ensures answer { result ≡ listAnswer image.now (length words.old) (length text.old) }
-    ensures text_after { text.new ≡ listBuffer image.now (length words.old) text.old }
+    ensures answer { result ≡ list_answer image.now (length words.old) (length text.old) }
+    ensures text_after { text.new ≡ list_buffer image.now (length words.old) text.old }
     ensures words_zero { words.new ≡ zeros words.old }
 {
     let lent = Lent::new(words);
@@ -74,7 +74,7 @@ pub fn list(image: &[u8], words: &mut [u32], text: &mut [u8]) -> Result<usize, R
 
 // Appends the fixed text `refused `, the number and a line feed.
 fn push_refused(text: &mut TextBuffer<'_>, cause: Refusal)
-    ensures { Appends text.old text.new (refusedText cause) }
+    ensures { Appends text.old text.new (refused_text cause) }
 {
     text.push_text(b"refused ");
     text.push_decimal(cause.number());
@@ -83,16 +83,16 @@ fn push_refused(text: &mut TextBuffer<'_>, cause: Refusal)
 
 // The same for a buffer that has room for it; otherwise nothing.
 fn write_refused(text: &mut [u8], cause: Refusal) -> usize
-    ensures answer { result ≡ cond (ltb (length text.old) (length (refusedText cause))) 0 (length (refusedText cause)) }
-    ensures text_after { text.new ≡ laid_or text.old (refusedText cause) }
+    ensures answer { result ≡ cond (ltb (length text.old) (length (refused_text cause))) 0 (length (refused_text cause)) }
+    ensures text_after { text.new ≡ laid_or text.old (refused_text cause) }
 {
     put_whole(text, |buffer| push_refused(buffer, cause)).unwrap_or(0)
 }
 
 // The listing of an image of at most so many bytes.
 fn list_small(image: &[u8], words: &mut [u32], text: &mut [u8]) -> Result<usize, Refusal>
-    ensures answer { result ≡ behind (reportVerdict image.now (length words.old) (length text.old)) Err (Ok (length (listingText image.now))) }
-    ensures text_after { text.new ≡ behind (reportVerdict image.now (length words.old) (length text.old)) (λ c. text.old) (put text.old 0 (listingText image.now)) }
+    ensures answer { result ≡ behind (report_verdict image.now (length words.old) (length text.old)) Err (Ok (length (listing_text image.now))) }
+    ensures text_after { text.new ≡ behind (report_verdict image.now (length words.old) (length text.old)) (λ c. text.old) (put text.old 0 (listing_text image.now)) }
     ensures words_zero { words.new ≡ zeros words.old }
 {
     let lent = Lent::new(words);
@@ -105,8 +105,8 @@ fn list_small(image: &[u8], words: &mut [u32], text: &mut [u8]) -> Result<usize,
 /// What the program writes for its input, in front of `text`: the listing, or `refused ` and the number. Gives its length in bytes; 0, with the
 /// text as it was, if it is too short even for a refusal.
 pub fn report(image: &[u8], words: &mut [u32], text: &mut [u8]) -> usize
-    ensures answer { result ≡ reportAnswer image.now (length words.old) (length text.old) }
-    ensures text_after { text.new ≡ reportBuffer image.now (length words.old) text.old }
+    ensures answer { result ≡ report_answer image.now (length words.old) (length text.old) }
+    ensures text_after { text.new ≡ report_buffer image.now (length words.old) text.old }
     ensures words_zero { words.new ≡ zeros words.old }
 {
     match list_small(image, words, text) {

@@ -2,8 +2,8 @@
 // most, since no directory is deeper than 64.
 ghost use Rattle.std.specs.Prelude.{◌≡◌, ◌∷◌, ◌++◌, ◌+◌, ◌<◌, ◌≤◌, ◌^◌, get_or, replicate};
 ghost use Rattle.tree.specs.Table as table_of;
-ghost use Rattle.tree.specs.Table.{none, nodesOf, name_of, parent_of};
-ghost use Rattle.listing.specs.Lines.{ending, entryFields, pathOf, entryLine, entryLines};
+ghost use Rattle.tree.specs.Table.{none, nodes_of, name_of, parent_of};
+ghost use Rattle.listing.specs.Lines.{ending, entry_fields, path_of, entry_line, entry_lines};
 ghost use Rattle.listing.specs.Inner.Around.{Before, Around};
 ghost use Rattle.listing.specs.Inner.Writing.{Appends};
 
@@ -35,8 +35,8 @@ impl Directories {
     // Kept: `while`, which counts no index: it takes off the last of them, as long as that is done.
     fn shut(&mut self, table: &Table<'_>, k: usize)
         requires within { k < table_of.count table.now }
-        requires before { Before (nodesOf table.now) self.old k }
-        ensures { Around (nodesOf table.now) self.new k }
+        requires before { Before (nodes_of table.now) self.old k }
+        ensures { Around (nodes_of table.now) self.new k }
     {
         while 1 < self.depth && table.next(self.numbers[self.depth - 1]) <= k {
             self.depth -= 1;
@@ -47,8 +47,8 @@ impl Directories {
     fn enter(&mut self, table: &Table<'_>, k: usize)
         requires not_root { 0 < k }
         requires within { k < table_of.count table.now }
-        requires nested { Around (nodesOf table.now) self.old k }
-        ensures { Before (nodesOf table.now) self.new (k + 1) }
+        requires nested { Around (nodes_of table.now) self.old k }
+        ensures { Before (nodes_of table.now) self.new (k + 1) }
     {
         // So that it is known of the table that no directory is deeper.
         let _ = table.len();
@@ -68,13 +68,13 @@ struct Entry<'a> {
     ghost not_root: { 0 < number },
     ghost within: { number < table_of.count table.now },
     ghost few: { number < 2 ^ 32 },
-    ghost nested: { Around (nodesOf table.now) around.now number },
+    ghost nested: { Around (nodes_of table.now) around.now number },
 }
 
 impl Entry<'_> {
     // The directory that it is nested in.
     fn parent(&self) -> usize
-        ensures parent { result ≡ parent_of (nodesOf self.now.table.now) self.now.number }
+        ensures parent { result ≡ parent_of (nodes_of self.now.table.now) self.now.number }
         ensures before { result ≤ self.now.number }
     {
         self.around.numbers[self.around.depth - 1]
@@ -82,7 +82,7 @@ impl Entry<'_> {
 
     // A space, and the path of that directory.
     fn put_path(&self, text: &mut TextBuffer<'_>)
-        ensures { let nodes = nodesOf self.now.table.now in Appends text.old text.new (0x20 ∷ pathOf nodes (parent_of nodes self.now.number)) }
+        ensures { let nodes = nodes_of self.now.table.now in Appends text.old text.new (0x20 ∷ path_of nodes (parent_of nodes self.now.number)) }
     {
         text.push_text(b" /");
         let numbers = &self.around.numbers[..];
@@ -93,7 +93,7 @@ impl Entry<'_> {
 
     // Its line.
     fn put_line(&self, text: &mut TextBuffer<'_>)
-        ensures { Appends text.old text.new (entryLine (nodesOf self.now.table.now) self.now.number) }
+        ensures { Appends text.old text.new (entry_line (nodes_of self.now.table.now) self.now.number) }
     {
         put_fields(self.table, self.number, self.parent(), text);
         self.put_path(text);
@@ -107,7 +107,7 @@ fn put_fields(table: &Table<'_>, k: usize, parent: usize, text: &mut TextBuffer<
     requires within { k < table_of.count table.now }
     requires few { k < 2 ^ 32 }
     requires before { parent ≤ k }
-    ensures { Appends text.old text.new (entryFields k parent (get_or (nodesOf table.now) k none)) }
+    ensures { Appends text.old text.new (entry_fields k parent (get_or (nodes_of table.now) k none)) }
 {
     let last = table.last(k);
     if table.is_directory(k) {
@@ -123,7 +123,7 @@ fn put_fields(table: &Table<'_>, k: usize, parent: usize, text: &mut TextBuffer<
 // The last part of entry k's path: its name, and `/` if it is a directory.
 fn put_name(table: &Table<'_>, k: usize, text: &mut TextBuffer<'_>)
     requires { k < table_of.count table.now }
-    ensures { let node = get_or (nodesOf table.now) k none in Appends text.old text.new (name_of node ++ ending node) }
+    ensures { let node = get_or (nodes_of table.now) k none in Appends text.old text.new (name_of node ++ ending node) }
 {
     text.push_text(table.name(k));
     if table.is_directory(k) {
@@ -133,7 +133,7 @@ fn put_name(table: &Table<'_>, k: usize, text: &mut TextBuffer<'_>)
 
 fn put_root(table: &Table<'_>, text: &mut TextBuffer<'_>)
     requires { 0 < table_of.count table.now }
-    ensures { Appends text.old text.new (entryLine (nodesOf table.now) 0) }
+    ensures { Appends text.old text.new (entry_line (nodes_of table.now) 0) }
 {
     put_fields(table, 0, 0, text);
     text.push_text(b" /\n");
@@ -142,7 +142,7 @@ fn put_root(table: &Table<'_>, text: &mut TextBuffer<'_>)
 // All entries, in table order.
 // Kept: the loop goes over the entries' numbers, by which the table is asked.
 pub fn put_entries(table: &Table<'_>, text: &mut TextBuffer<'_>)
-    ensures { Appends text.old text.new (entryLines (nodesOf table.now) (table_of.count table.now)) }
+    ensures { Appends text.old text.new (entry_lines (nodes_of table.now) (table_of.count table.now)) }
 {
     let count = table.len();
     let mut around = Directories::root();

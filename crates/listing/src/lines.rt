@@ -1,6 +1,6 @@
 // The lines, and parts of them, by the numbers that stand in them.
 ghost use Rattle.std.specs.Prelude.{◌∷◌, ◌++◌};
-ghost use Rattle.listing.specs.Lines.{totalsLine};
+ghost use Rattle.listing.specs.Lines.{totals_line};
 ghost use Rattle.listing.specs.Decimal.{field};
 ghost use Rattle.listing.specs.Inner.Writing.{Appends};
 
@@ -17,7 +17,7 @@ pub fn put_pair(text: &mut TextBuffer<'_>, letter: u8, a: u32, b: u32)
 
 /// The disc end and the used total.
 pub fn put_totals(text: &mut TextBuffer<'_>, disc_end: u32, used: u32)
-    ensures { Appends text.old text.new (totalsLine disc_end used) }
+    ensures { Appends text.old text.new (totals_line disc_end used) }
 {
     text.push_text(b"total");
     text.push_field(disc_end);

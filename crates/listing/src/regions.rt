@@ -1,6 +1,6 @@
 // The lines of the free regions, read off the used regions.
 ghost use Rattle.space.specs.Inner.UsedSpace.{free_in};
-ghost use Rattle.listing.specs.Lines.{regionLine, regionLines};
+ghost use Rattle.listing.specs.Lines.{region_line, region_lines};
 ghost use Rattle.listing.specs.Inner.Writing.{Appends};
 
 use crate::buffer::TextBuffer;
@@ -8,7 +8,7 @@ use crate::lines;
 use space::{DiscRegion, UsedRegions};
 
 fn put_region(text: &mut TextBuffer<'_>, region: DiscRegion)
-    ensures { Appends text.old text.new (regionLine region) }
+    ensures { Appends text.old text.new (region_line region) }
 {
     lines::put_pair(text, b'r', region.offset, region.size);
     text.push(b'\n');
@@ -16,7 +16,7 @@ fn put_region(text: &mut TextBuffer<'_>, region: DiscRegion)
 
 /// A line for each free region.
 pub fn put_regions(used: &UsedRegions<'_>, text: &mut TextBuffer<'_>)
-    ensures { Appends text.old text.new (regionLines (free_in used.now)) }
+    ensures { Appends text.old text.new (region_lines (free_in used.now)) }
 {
     for region in used.free_regions() {
         put_region(text, region);

@@ -3,18 +3,18 @@ use Prim.Native.Nat.{ℕ, ◌+◌, ◌<◌, ◌^◌}
 use Rattle.std.specs.Prelude.{◌≡◌, List, length}
 use Rattle.std.proofs.Common.{sym, ap, ◌∙◌, arith}
 use Rattle.endian.specs.Bytes.{be32, span}
-use Rattle.header.specs.Verdicts.{dolOffset, fstOffset, fstSize, discEnd}
+use Rattle.header.specs.Verdicts.{dol_offset, fst_offset, fst_size, disc_end}
 use Rattle.space.specs.declared.region.DiscRegion.{DiscRegion}
-use Rattle.space.specs.Free.{freeRegions}
-use Rattle.space.specs.Used.{totalSize}
-use Rattle.space.specs.Inner.Sort.{SameSums, regionsIn}
+use Rattle.space.specs.Free.{free_regions}
+use Rattle.space.specs.Used.{total_size}
+use Rattle.space.specs.Inner.Sort.{SameSums, regions_in}
 use Rattle.space.specs.Inner.Words.{SortedDisjoint}
 use Rattle.space.specs.Laws.SortLaws.{same_total}
-use Rattle.tree.specs.Table.{nodesOf}
-use Rattle.tree.proofs.Laws.Accepted.{length-nodesOf}
+use Rattle.tree.specs.Table.{nodes_of}
+use Rattle.tree.proofs.Laws.Accepted.{length-nodes_of}
 use Rattle.table.specs.Inner.Reading.{Opens}
-use Rattle.executable.specs.Program.{programBehind}
-use Rattle.opened.specs.Opening.{table_of, usedIn, freeOf}
+use Rattle.executable.specs.Program.{program_behind}
+use Rattle.opened.specs.Opening.{table_of, used_in, free_space_of}
 use Rattle.opened.specs.Inner.Prepared.{IsOpen}
 use Rattle.opened.proofs.Laws.OpeningLaws.{table-accepted}
 use Rattle.opened.proofs.Words.{free-below, sorted-below}
@@ -27,7 +27,7 @@ use Rattle.opened.proofs.Heads.{start_is, size_is, maximum_is, user_is, disc_is}
 
 -- ---- the parts of an image that opens
 
-module _ (image header table program : List ℕ) (long : ℕ) (h : HasParts image header table program long) (w : List ℕ) (m : ℕ) (o : IsOpen image w m) (own : DiscRegion) (p : own ≡ programBehind image) where
+module _ (image header table program : List ℕ) (long : ℕ) (h : HasParts image header table program long) (w : List ℕ) (m : ℕ) (o : IsOpen image w m) (own : DiscRegion) (p : own ≡ program_behind image) where
   table_there : table ≡ table_of image
   table_there = h.table_is (head_opens image (length w) o.known.reads)
 
@@ -50,7 +50,7 @@ module _ (header table : List ℕ) (own : DiscRegion) (w : List ℕ) (m : ℕ) (
     pub shown : disc_of b.image (length w) ≡ d
     shown = sym b.disc_is ∙ v
 
-    pub free_backed : (e : ℕ) → e ≡ d.end → freeRegions e (regionsIn w 0 m) ≡ free_of d
+    pub free_backed : (e : ℕ) → e ≡ d.end → free_regions e (regions_in w 0 m) ≡ free_of d
     free_backed e q =
         free-below b.image w m e b.known (q ∙ ap (λ (x : Disc). x.end) (sym shown)) ∙ free-shown b.image (length w) ∙ ap free_of shown
 
@@ -65,24 +65,24 @@ module _ (header table : List ℕ) (own : DiscRegion) (w : List ℕ) (m : ℕ) (
     pub sorted_backed : (e : ℕ) → e ≡ d.end → SortedDisjoint w m e
     sorted_backed e q = sorted-below b.image w m e b.known (q ∙ ap (λ (x : Disc). x.end) (sym shown))
 
-    pub sums_backed : SameSums (regionsIn w 0 m) d.used
+    pub sums_backed : SameSums (regions_in w 0 m) d.used
     sums_backed = rw (used_shown b.image (length w) ∙ ap (λ (x : Disc). x.used) shown) at b.known.used.sums
 
-    pub used_backed : totalSize (regionsIn w 0 m) ≡ totalSize d.used
-    used_backed = same_total (regionsIn w 0 m) d.used sums_backed
+    pub used_backed : total_size (regions_in w 0 m) ≡ total_size d.used
+    used_backed = same_total (regions_in w 0 m) d.used sums_backed
 
     pub entries_backed : (n : ℕ) → n ≡ be32 table 8 → n ≡ length d.nodes
     entries_backed n e =
         (e ∙ ap (λ (l : List ℕ). be32 l 8) b.table_is)
         ∙ b.known.known.reads.table.root-next
-        ∙ sym (length-nodesOf (table_of b.image))
-        ∙ ap (λ (l : List ℕ). length (nodesOf l)) (sym b.table_is)
+        ∙ sym (length-nodes_of (table_of b.image))
+        ∙ ap (λ (l : List ℕ). length (nodes_of l)) (sym b.table_is)
         ∙ ap (λ (x : Disc). length x.nodes) v
 
     pub table_fits : d.start + length table < 2 ^ 32
     table_fits =
         let k = b.known.known.reads in
-        let s : fstOffset b.image ≡ d.start = ap (λ (x : Disc). x.start) shown in
+        let s : fst_offset b.image ≡ d.start = ap (λ (x : Disc). x.start) shown in
         rw (← s, b.table_is) (omega (arith, k.size, k.bounds.table, k.bounds.small))
 
     pub table_backed : TableOf d table
@@ -90,11 +90,11 @@ module _ (header table : List ℕ) (own : DiscRegion) (w : List ℕ) (m : ℕ) (
 
     -- LAW: the words hold the used regions of every image that means the disc
     pub open_backed : (image : List ℕ) → Means image d → IsOpen image w m
-    unfolding freeOf
+    unfolding free_space_of
     open_backed image i =
         let s : disc_of b.image (length w) ≡ disc_of image (length w) = shown ∙ sym (ap (disc_of image) lent_is ∙ i.is) in
-        let e : discEnd b.image ≡ discEnd image = ap (λ (x : Disc). x.end) s in
-        let u : usedIn b.image ≡ usedIn image = used_shown b.image (length w) ∙ ap (λ (x : Disc). x.used) s ∙ sym (used_shown image (length w)) in
+        let e : disc_end b.image ≡ disc_end image = ap (λ (x : Disc). x.end) s in
+        let u : used_in b.image ≡ used_in image = used_shown b.image (length w) ∙ ap (λ (x : Disc). x.used) s ∙ sym (used_shown image (length w)) in
         record {
           known = rw lent_is i.known;
           used = record {
@@ -107,9 +107,9 @@ module _ (header table : List ℕ) (own : DiscRegion) (w : List ℕ) (m : ℕ) (
 -- ---- the parts that are cut from an image
 
 module _ (image t : List ℕ) where
-  pub cut_table : (from size : ℕ) → from ≡ fstOffset image → size ≡ fstSize image → t ≡ span image from size → t ≡ table_of image
+  pub cut_table : (from size : ℕ) → from ≡ fst_offset image → size ≡ fst_size image → t ≡ span image from size → t ≡ table_of image
   unfolding table_of
   cut_table from size p q e = rw (← p, ← q) e
 
-  pub cut_program : (at : ℕ) → at ≡ dolOffset image → t ≡ span image at 0xE4 → t ≡ span image (dolOffset image) 0xE4
+  pub cut_program : (at : ℕ) → at ≡ dol_offset image → t ≡ span image at 0xE4 → t ≡ span image (dol_offset image) 0xE4
   cut_program at p e = rw (← p) e

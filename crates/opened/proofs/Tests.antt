@@ -10,30 +10,30 @@ use Rattle.endian.specs.Bytes.{AllBytes}
 use Rattle.refusal.specs.declared.Refusal.{Refusal}
 use Rattle.refusal.specs.Refusal.{first}
 use Rattle.header.specs.Laws.FieldTests.{Bounded}
-use Rattle.header.specs.Verdicts.{fstOffset, discEnd, table_end}
+use Rattle.header.specs.Verdicts.{fst_offset, disc_end, table_end}
 use Rattle.tree.specs.Table.{count}
 use Rattle.space.specs.declared.region.DiscRegion.{DiscRegion}
 use Rattle.space.specs.Used.{nonempty}
 use Rattle.space.specs.Inner.Words.{AllNonempty}
 use Rattle.space.specs.Laws.UsedLaws.{nonempty-all}
-use Rattle.space.specs.Inner.Sort.{regionsIn, sum_of}
+use Rattle.space.specs.Inner.Sort.{regions_in, sum_of}
 use Rattle.space.specs.Inner.Words.{Checked}
-use Rattle.space.specs.Layout.{disjointBelow, regionsVerdict}
-use Rattle.space.specs.Free.{freeRegions}
+use Rattle.space.specs.Layout.{disjoint_below, regions_verdict}
+use Rattle.space.specs.Free.{free_regions}
 use Rattle.space.specs.Laws.MiddleLaws.{below-middle, free-middle, sum-middle, used-middle-same}
 use Rattle.space.specs.Laws.SortLaws.{sum-sorted}
-use Rattle.executable.specs.Program.{program_of, programVerdict, nowhere, programIn, ownRegion, programBehind}
-use Rattle.opened.specs.Opening.{table_of, nodesIn, behindTable, usedIn, freeOf, layoutVerdict, opening}
-use Rattle.opened.specs.Inner.Prepared.{verdictBefore24, entryRegions, CollectedUsed, SameUse, UsedWords, Readable, IsOpen}
+use Rattle.executable.specs.Program.{program_of, program_verdict, nowhere, program_in, own_region, program_behind}
+use Rattle.opened.specs.Opening.{table_of, nodes_in, behind_table, used_in, free_space_of, layout_verdict, opening}
+use Rattle.opened.specs.Inner.Prepared.{verdict_before24, entry_regions, CollectedUsed, SameUse, UsedWords, Readable, IsOpen}
 use Rattle.opened.proofs.Laws.OpeningLaws.{opens, opening-split, program-first}
 use Rattle.opened.proofs.UsedRegions.{regions-of-tree}
 
 -- ---- the tests before 24, one after another
 
-pub refused-before : (image : List ℕ) (words : ℕ) (c : Refusal) → Err c ≡ verdictBefore24 image words → opening image words ≡ Err c
-refused-before image words c e = opening-split image words ∙ ap (λ (a : Verdict). first a (layoutVerdict image)) (sym e)
+pub refused-before : (image : List ℕ) (words : ℕ) (c : Refusal) → Err c ≡ verdict_before24 image words → opening image words ≡ Err c
+refused-before image words c e = opening-split image words ∙ ap (λ (a : Verdict). first a (layout_verdict image)) (sym e)
 
-pub end_fits : (image : List ℕ) (e : ℕ) → Bounded image → e ≡ discEnd image → e < 2 ^ 32
+pub end_fits : (image : List ℕ) (e : ℕ) → Bounded image → e ≡ disc_end image → e < 2 ^ 32
 end_fits image e b p = omega (arith, b.small)
 
 pub table-end-fits : (image : List ℕ) (to : ℕ) → Bounded image → to ≡ table_end image → to < 2 ^ 32
@@ -52,55 +52,55 @@ module _ (image : List ℕ) (n c : ℕ) (k : Readable image n) (g : c ≡ count 
   words-enough = omega (arith, k.table.room)
 
 -- what `collect` gives comes to what is used
-module _ (image w : List ℕ) (m to c : ℕ) (tab : List ℕ) (program : DiscRegion) (e : tab ≡ table_of image) (f : to ≡ table_end image) (g : c ≡ count (table_of image)) (p : program ≡ programBehind image)
+module _ (image w : List ℕ) (m to c : ℕ) (tab : List ℕ) (program : DiscRegion) (e : tab ≡ table_of image) (f : to ≡ table_end image) (g : c ≡ count (table_of image)) (p : program ≡ program_behind image)
     (k : CollectedUsed tab c to program w m) where
-  told : {A : Type 0} (h : List DiscRegion → A) → ((x : DiscRegion) (ys xs : List DiscRegion) → h (xs ++ (x ∷ ys)) ≡ h (x ∷ (xs ++ ys))) → h (regionsIn w 0 m) ≡ h (usedIn image)
-  unfolding usedIn behindTable nodesIn nonempty
+  told : {A : Type 0} (h : List DiscRegion → A) → ((x : DiscRegion) (ys xs : List DiscRegion) → h (xs ++ (x ∷ ys)) ≡ h (x ∷ (xs ++ ys))) → h (regions_in w 0 m) ≡ h (used_in image)
+  unfolding used_in behind_table nodes_in nonempty
   told h s =
-      ap h k.list ∙ used-middle-same h s to program (entryRegions tab k.turn (c - k.turn)) (entryRegions tab 1 (k.turn - 1))
+      ap h k.list ∙ used-middle-same h s to program (entry_regions tab k.turn (c - k.turn)) (entry_regions tab 1 (k.turn - 1))
       ∙ rw (e, f, p, g, ← regions-of-tree (table_of image) k.turn k.from (omega (arith, k.to)))
 
-  pub used-words : SameUse (discEnd image) (regionsIn w 0 m) (usedIn image)
+  pub used-words : SameUse (disc_end image) (regions_in w 0 m) (used_in image)
   used-words = record {
-    below = told (disjointBelow (discEnd image)) (λ x ys xs. below-middle x ys (discEnd image) xs);
-    free = told (freeRegions (discEnd image)) (λ x ys xs. free-middle x ys (discEnd image) xs);
+    below = told (disjoint_below (disc_end image)) (λ x ys xs. below-middle x ys (disc_end image) xs);
+    free = told (free_regions (disc_end image)) (λ x ys xs. free-middle x ys (disc_end image) xs);
     sums = λ f. told (sum_of f) (λ x ys xs. sum-middle x ys f xs);
   }
 
-  pub regions-full : AllNonempty (regionsIn w 0 m)
-  regions-full = rw k.list (nonempty-all (record { offset = 0; size = to } ∷ (entryRegions tab 1 (k.turn - 1) ++ (program ∷ entryRegions tab k.turn (c - k.turn)))))
+  pub regions-full : AllNonempty (regions_in w 0 m)
+  regions-full = rw k.list (nonempty-all (record { offset = 0; size = to } ∷ (entry_regions tab 1 (k.turn - 1) ++ (program ∷ entry_regions tab k.turn (c - k.turn)))))
 
 -- what the test of the regions asks, after `collect`
 pub regions-room : (image : List ℕ) (n n' m c : ℕ) → Readable image n → c ≡ count (table_of image) → m ≤ c + 1 → n' ≡ n → 2 * (c + 2 + m) ≤ n'
 regions-room image n n' m c k e b l = omega (arith, k.table.room)
 
 -- test 24, after the others passed
-pub refused-24 : (image : List ℕ) (words : ℕ) (c : Refusal) → verdictBefore24 image words ≡ Ok tt → programVerdict (program_of image) ≡ Err c → opening image words ≡ Err c
+pub refused-24 : (image : List ℕ) (words : ℕ) (c : Refusal) → verdict_before24 image words ≡ Ok tt → program_verdict (program_of image) ≡ Err c → opening image words ≡ Err c
 refused-24 image words c before h = opening-split image words ∙ rw before (program-first image c h)
 
-pub own_is : (image : List ℕ) (p : Option DiscRegion) (fst : ℕ) (r : DiscRegion) → Ok p ≡ program_of image → fst ≡ fstOffset image → r ≡ ownRegion fst (unwrap_or p nowhere) → r ≡ programBehind image
-unfolding programIn
+pub own_is : (image : List ℕ) (p : Option DiscRegion) (fst : ℕ) (r : DiscRegion) → Ok p ≡ program_of image → fst ≡ fst_offset image → r ≡ own_region fst (unwrap_or p nowhere) → r ≡ program_behind image
+unfolding program_in
 own_is image p fst r e f h = rw (← e, ← f) h
 
 -- the test of the regions, after the others passed
-module _ (image w w' : List ℕ) (words buf m e : ℕ) (v : Verdict) (before : verdictBefore24 image words ≡ Ok tt) (program : programVerdict (program_of image) ≡ Ok tt) (used : SameUse (discEnd image) (regionsIn w 0 m) (usedIn image)) (end : e ≡ discEnd image)
+module _ (image w w' : List ℕ) (words buf m e : ℕ) (v : Verdict) (before : verdict_before24 image words ≡ Ok tt) (program : program_verdict (program_of image) ≡ Ok tt) (used : SameUse (disc_end image) (regions_in w 0 m) (used_in image)) (end : e ≡ disc_end image)
     (k : Checked w w' buf m e v) (kept : length w' ≡ words) where
-  verdict : v ≡ regionsVerdict (discEnd image) (usedIn image)
+  verdict : v ≡ regions_verdict (disc_end image) (used_in image)
   verdict = rw (end, used.below) at k.answer
 
   all : (u : Verdict) → v ≡ u → opening image words ≡ u
-  unfolding layoutVerdict
+  unfolding layout_verdict
   all u h = opening-split image words ∙ rw (before, program) (sym verdict ∙ h)
 
   pub left-refused : (c : Refusal) → v ≡ Err c → opening image (length w') ≡ Err c
   left-refused c h = rw kept (all (Err c) h)
 
   left-words : v ≡ Ok tt → UsedWords image w' m
-  unfolding freeOf
+  unfolding free_space_of
   left-words h = record {
     sorted = rw (← end) (k.ready h);
     free = rw end at k.free ∙ used.free;
-    sums = λ f. rw k.order (sum-sorted (regionsIn w 0 m) f ∙ used.sums f);
+    sums = λ f. rw k.order (sum-sorted (regions_in w 0 m) f ∙ used.sums f);
   }
 
   pub left_open : AllBytes image → v ≡ Ok tt → IsOpen image w' m

@@ -4,18 +4,18 @@ use mathlib.Core.Path.{◌≡◌}
 use mathlib.Core.List.{List}
 pub use Rattle.table.specs.Inner.Reading.{Opens}
 pub use Rattle.space.specs.declared.region.DiscRegion.{DiscRegion}
-pub use Rattle.space.specs.Free.{freeRegions}
-pub use Rattle.space.specs.Used.{totalSize}
-pub use Rattle.space.specs.Inner.Sort.{regionsIn}
+pub use Rattle.space.specs.Free.{free_regions}
+pub use Rattle.space.specs.Used.{total_size}
+pub use Rattle.space.specs.Inner.Sort.{regions_in}
 pub use Rattle.space.specs.Inner.Words.{SortedDisjoint}
-use Rattle.header.specs.Verdicts.{discEnd}
-use Rattle.opened.specs.Opening.{freeOf}
+use Rattle.header.specs.Verdicts.{disc_end}
+use Rattle.opened.specs.Opening.{free_space_of}
 use Rattle.opened.specs.Inner.Prepared.{IsOpen}
 
 -- the used regions stand below the end that was read, and the free ones are what they leave
-module _ (image w : List ℕ) (m e : ℕ) (o : IsOpen image w m) (h : e ≡ discEnd image) where
+module _ (image w : List ℕ) (m e : ℕ) (o : IsOpen image w m) (h : e ≡ disc_end image) where
   pub sorted-below : SortedDisjoint w m e
   sorted-below = rw h o.used.sorted
 
-  pub free-below : freeRegions e (regionsIn w 0 m) ≡ freeOf image
+  pub free-below : free_regions e (regions_in w 0 m) ≡ free_space_of image
   free-below = rw h o.used.free

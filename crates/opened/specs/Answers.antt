@@ -4,9 +4,9 @@ use Rattle.std.specs.Prelude.{Result, Ok, Err}
 use Rattle.refusal.specs.Refusal.{Verdict}
 use Rattle.std.specs.Prelude.{ℕ, List}
 use Rattle.refusal.specs.declared.Refusal.{Refusal}
-use Rattle.header.specs.Verdicts.{fstOffset, discEnd, fstSize}
-use Rattle.space.specs.MaxRegionSize.{maxRegionSize}
-use Rattle.opened.specs.Opening.{opening, table_of, freeOf, usedOf}
+use Rattle.header.specs.Verdicts.{fst_offset, disc_end, fst_size}
+use Rattle.space.specs.MaxRegionSize.{max_region_size}
+use Rattle.opened.specs.Opening.{opening, table_of, free_space_of, used_of}
 use Rattle.tree.specs.Table.{count}
 use Rattle.opened.specs.declared.summary.Disc.{Disc}
 
@@ -15,14 +15,14 @@ abbrev pub behind : {A : Type 0} → Verdict → (Refusal → A) → A → A
 behind (Ok _) f a = a
 behind (Err c) f a = f c
 
-abbrev pub discOf : List ℕ → Disc
-discOf image = record {
-  fst_offset = fstOffset image;
-  fst_size = fstSize image;
-  disc_end = discEnd image;
+abbrev pub disc_of : List ℕ → Disc
+disc_of image = record {
+  fst_offset = fst_offset image;
+  fst_size = fst_size image;
+  disc_end = disc_end image;
   entries = count (table_of image);
-  used = usedOf image;
+  used = used_of image;
 }
 
-unfoldable pub maxRegionSizeAnswer : List ℕ → ℕ → ℕ → ℕ → Result ℕ Refusal
-maxRegionSizeAnswer image words offset n = behind (opening image words) Err (Ok (maxRegionSize offset n (freeOf image)))
+unfoldable pub max_region_size_answer : List ℕ → ℕ → ℕ → ℕ → Result ℕ Refusal
+max_region_size_answer image words offset n = behind (opening image words) Err (Ok (max_region_size offset n (free_space_of image)))

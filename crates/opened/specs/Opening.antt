@@ -4,53 +4,53 @@ use Rattle.refusal.specs.Refusal.{Verdict}
 use Rattle.std.specs.Prelude.{ℕ, List, ◌∷◌, map, length, replicate}
 use Rattle.endian.specs.Bytes.{span}
 use Rattle.refusal.specs.Refusal.{first}
-use Rattle.header.specs.Verdicts.{headerVerdict, boundsVerdict, fstOffset, fstSize, discEnd, table_end}
-use Rattle.tree.specs.Table.{Node, file, directory, nodesOf, check}
+use Rattle.header.specs.Verdicts.{header_verdict, bounds_verdict, fst_offset, fst_size, disc_end, table_end}
+use Rattle.tree.specs.Table.{Node, file, directory, nodes_of, check}
 use Rattle.space.specs.declared.region.DiscRegion.{DiscRegion}
-use Rattle.space.specs.Layout.{regionsVerdict}
-use Rattle.space.specs.Used.{usedRegions, usedTotal}
-use Rattle.space.specs.Free.{freeRegions}
-use Rattle.executable.specs.Program.{program_of, programVerdict, programBehind}
+use Rattle.space.specs.Layout.{regions_verdict}
+use Rattle.space.specs.Used.{used_regions, used_total}
+use Rattle.space.specs.Free.{free_regions}
+use Rattle.executable.specs.Program.{program_of, program_verdict, program_behind}
 
 -- the table stands at the FST offset and has the FST size
 unfoldable pub table_of : List ℕ → List ℕ
-table_of image = span image (fstOffset image) (fstSize image)
+table_of image = span image (fst_offset image) (fst_size image)
 
 -- its entries
-unfoldable pub nodesIn : List ℕ → List Node
-nodesIn image = nodesOf (table_of image)
+unfoldable pub nodes_in : List ℕ → List Node
+nodes_in image = nodes_of (table_of image)
 
 -- a file's bytes; a directory has none
-abbrev pub regionOf : Node → DiscRegion
-regionOf (file nm offset size) = record { offset = offset; size = size }
-regionOf (directory nm next) = record { offset = 0; size = 0 }
+abbrev pub region_of : Node → DiscRegion
+region_of (file nm offset size) = record { offset = offset; size = size }
+region_of (directory nm next) = record { offset = 0; size = 0 }
 
 -- what is used behind the table, the program first: it lies "wholly from the table end on, as a used region of its own"
-unfoldable pub behindTable : List ℕ → List DiscRegion
-behindTable image = programBehind image ∷ map regionOf (nodesIn image)
+unfoldable pub behind_table : List ℕ → List DiscRegion
+behind_table image = program_behind image ∷ map region_of (nodes_in image)
 
 -- "Used: bytes 0 up to the table end, and each nonempty file.", and the program
-unfoldable pub usedIn : List ℕ → List DiscRegion
-usedIn image = usedRegions (table_end image) (behindTable image)
+unfoldable pub used_in : List ℕ → List DiscRegion
+used_in image = used_regions (table_end image) (behind_table image)
 
 -- "At opening 24 now comes just before 14."
-unfoldable pub layoutVerdict : List ℕ → Verdict
-layoutVerdict image = first (programVerdict (program_of image)) (regionsVerdict (discEnd image) (usedIn image))
+unfoldable pub layout_verdict : List ℕ → Verdict
+layout_verdict image = first (program_verdict (program_of image)) (regions_verdict (disc_end image) (used_in image))
 
 -- an image, with so many working words lent
 unfoldable pub opening : List ℕ → ℕ → Verdict
 opening image words =
-    first (headerVerdict image)
-    (first (boundsVerdict image)
+    first (header_verdict image)
+    (first (bounds_verdict image)
     (first (check (table_of image) words)
-    (layoutVerdict image)))
+    (layout_verdict image)))
 
-unfoldable pub freeOf : List ℕ → List DiscRegion
-freeOf image = freeRegions (discEnd image) (usedIn image)
+unfoldable pub free_space_of : List ℕ → List DiscRegion
+free_space_of image = free_regions (disc_end image) (used_in image)
 
 -- "Used total = table end + all file sizes.", and "Used totals .. gain the program where it lies past the table"
-unfoldable pub usedOf : List ℕ → ℕ
-usedOf image = usedTotal (table_end image) (behindTable image)
+unfoldable pub used_of : List ℕ → ℕ
+used_of image = used_total (table_end image) (behind_table image)
 
 -- ---- working memory
 

@@ -1,14 +1,14 @@
 // A disc opened: contracts see the disc that it means, and no image.
 ghost use Rattle.std.specs.Prelude.{◌≡◌, ◌+◌, ◌<◌, ◌^◌, List, ℕ, length};
-ghost use Rattle.tree.specs.Table.{nodesOf};
+ghost use Rattle.tree.specs.Table.{nodes_of};
 ghost use Rattle.table.specs.Inner.Reading.{Opens};
-ghost use Rattle.space.specs.Used.{totalSize};
-ghost use Rattle.space.specs.Free.{freeRegions};
-ghost use Rattle.space.specs.Inner.Sort.{SameSums, regionsIn};
+ghost use Rattle.space.specs.Used.{total_size};
+ghost use Rattle.space.specs.Free.{free_regions};
+ghost use Rattle.space.specs.Inner.Sort.{SameSums, regions_in};
 ghost use Rattle.space.specs.Inner.UsedSpace.{free_in};
 ghost use Rattle.space.specs.Inner.Words.{SortedDisjoint};
-ghost use Rattle.space.specs.MaxRegionSize.{maxRegionSize};
-ghost use Rattle.space.specs.Allocate.{allocationOf};
+ghost use Rattle.space.specs.MaxRegionSize.{max_region_size};
+ghost use Rattle.space.specs.Allocate.{allocation_of};
 ghost use Rattle.opened.specs.Inner.Prepared.{IsOpen};
 ghost use Rattle.opened.specs.Inner.Parts.{PartsOf};
 ghost use Rattle.opened.specs.Inner.Disc.{OpensAs, Means, TableOf, free_of};
@@ -29,7 +29,7 @@ pub struct OpenDisc<'a> {
     /// The file table's bytes.
     pub table: &'a [u8],
     /// The region of the program where it lies behind the table, of size 0 elsewhere.
-    // Kept: no `Option`, which is no plainer: the definitions have a region without bytes there too (`ownRegion`).
+    // Kept: no `Option`, which is no plainer: the definitions have a region without bytes there too (`own_region`).
     pub own: DiscRegion,
     /// The lent words: first the used regions, an offset and a size each.
     pub words: &'a [u32],
@@ -119,7 +119,7 @@ impl<'a> OpenDisc<'a> {
     /// Its table, which opens.
     pub fn table(&self) -> &'a [u8]
         ensures bytes { result.now ≡ self.now.table }
-        ensures nodes { nodesOf result.now ≡ self.now.nodes }
+        ensures nodes { nodes_of result.now ≡ self.now.nodes }
         ensures opens { Opens result.now }
         ensures of_image { TableOf self.now result.now }
         ensures fits { self.now.start + length result.now < 2 ^ 32 }
@@ -138,7 +138,7 @@ impl<'a> OpenDisc<'a> {
     pub fn used_words(&self) -> (&'a [u32], usize)
         ensures open { (image : List ℕ) → Means image self.now → IsOpen image result.0.now result.1 }
         ensures sorted { SortedDisjoint result.0.now result.1 self.now.end }
-        ensures free { freeRegions self.now.end (regionsIn result.0.now 0 result.1) ≡ free_of self.now }
+        ensures free { free_regions self.now.end (regions_in result.0.now 0 result.1) ≡ free_of self.now }
     {
         (self.words, self.used)
     }
@@ -154,21 +154,21 @@ impl<'a> OpenDisc<'a> {
 
     /// How many bytes are used.
     pub fn used_size(&self) -> u32
-        ensures { result ≡ totalSize self.now.used }
+        ensures { result ≡ total_size self.now.used }
     {
         self.used_regions().used_size()
     }
 
     /// What a region of `size` bytes at `offset` can grow to.
     pub fn max_region_size(&self, offset: u32, size: u32) -> u32
-        ensures { result ≡ maxRegionSize offset size (free_of self.now) }
+        ensures { result ≡ max_region_size offset size (free_of self.now) }
     {
         self.used_regions().max_region_size(offset, size)
     }
 
     /// The largest free place for `size` bytes at a multiple of `align`, the last among equals. Refuses 22, then 21.
     pub fn allocate(&self, size: u32, align: u32) -> Result<DiscRegion, Refusal>
-        ensures { result ≡ allocationOf align size (free_of self.now) }
+        ensures { result ≡ allocation_of align size (free_of self.now) }
     {
         self.used_regions().allocate(size, align)
     }

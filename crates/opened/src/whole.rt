@@ -1,7 +1,7 @@
 // The tests of opening, the last of which leaves the used regions in the lent words.
 ghost use Rattle.std.specs.Prelude.{◌≡◌, List, ℕ, Ok, length};
-ghost use Rattle.executable.specs.Program.{program_of, programVerdict, programBehind};
-ghost use Rattle.opened.specs.Inner.Prepared.{verdictBefore24, Prepares};
+ghost use Rattle.executable.specs.Program.{program_of, program_verdict, program_behind};
+ghost use Rattle.opened.specs.Inner.Prepared.{verdict_before24, Prepares};
 ghost use Rattle.opened.specs.Inner.Parts.{PartsOf, own_as};
 
 use crate::parts::Parts;
@@ -18,7 +18,7 @@ use table::Table;
 pub fn check_table(parts: Parts<'_>, words: usize) -> Verdict
     ghost image: { List ℕ }
     requires { PartsOf image parts }
-    ensures { result ≡ verdictBefore24 image words }
+    ensures { result ≡ verdict_before24 image words }
 {
     header::check_bounds_within(parts.header, parts.length)?;
     table::check(parts.table, words)
@@ -42,7 +42,7 @@ fn read_program(parts: Parts<'_>) -> Program
 pub fn check_program(parts: Parts<'_>) -> Result<DiscRegion, Refusal>
     ghost image: { List ℕ }
     requires { PartsOf image parts }
-    ensures { result ≡ own_as (program_of image) (programBehind image) }
+    ensures { result ≡ own_as (program_of image) (program_behind image) }
 {
     let program = read_program(parts)?;
     Ok(executable::own_region(Ok(program), header::fst_offset(parts.header)))
@@ -52,9 +52,9 @@ pub fn check_program(parts: Parts<'_>) -> Result<DiscRegion, Refusal>
 pub fn check_used(parts: Parts<'_>, words: &mut [u32], own: DiscRegion) -> Result<usize, Refusal>
     ghost image: { List ℕ }
     requires parts_of { PartsOf image parts }
-    requires before { verdictBefore24 image (length words.old) ≡ (Ok tt) }
-    requires accepted { programVerdict (program_of image) ≡ (Ok tt) }
-    requires own { own ≡ programBehind image }
+    requires before { verdict_before24 image (length words.old) ≡ (Ok tt) }
+    requires accepted { program_verdict (program_of image) ≡ (Ok tt) }
+    requires own { own ≡ program_behind image }
     ensures { Prepares image words.new result }
 {
     let to = header::table_end(parts.header);

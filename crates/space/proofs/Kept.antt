@@ -2,8 +2,8 @@
 use Rattle.std.specs.Prelude.{ℕ, suc, ◌+◌, ◌≤◌, ◌≡◌, refl, Bool, true, false, cond, ltb, List, [], ◌∷◌, length}
 use Rattle.std.proofs.Common.{sym, ap, arith}
 use Rattle.space.specs.declared.region.DiscRegion.{DiscRegion}
-use Rattle.space.specs.Used.{end_of, nonempty, totalSize}
-use Rattle.space.specs.Inner.Sort.{regionsIn}
+use Rattle.space.specs.Used.{end_of, nonempty, total_size}
+use Rattle.space.specs.Inner.Sort.{regions_in}
 use Rattle.space.specs.Inner.Words.{SortedDisjoint, gaps}
 use Rattle.space.proofs.Pairs.{length-regions}
 use Rattle.space.proofs.Gaps.{gaps-free}
@@ -26,11 +26,11 @@ length-gaps at e (x ∷ xs) = ap suc (length-gaps (end_of x) e xs)
 
 module _ (w : List ℕ) (m e : ℕ) (s : SortedDisjoint w m e) (u : UsedSpace) (is : used_in w m e ≡ u) where
   -- the used regions end by the disc's end
-  pub used-fits : totalSize u.regions ≤ e
-  used-fits = rw (← is) (omega (arith, total-gaps 0 e (regionsIn w 0 m) s.sequence))
+  pub used-fits : total_size u.regions ≤ e
+  used-fits = rw (← is) (omega (arith, total-gaps 0 e (regions_in w 0 m) s.sequence))
 
   -- there is at most one more free region than there are used ones
   pub free-few : length (free_in u) ≤ m + 1
   free-few =
       rw (← is)
-      (omega (arith, ap length (sym (gaps-free e (regionsIn w 0 m) s.full s.sequence)), nonempty-few (gaps 0 e (regionsIn w 0 m)), length-gaps 0 e (regionsIn w 0 m), length-regions w 0 m))
+      (omega (arith, ap length (sym (gaps-free e (regions_in w 0 m) s.full s.sequence)), nonempty-few (gaps 0 e (regions_in w 0 m)), length-gaps 0 e (regions_in w 0 m), length-regions w 0 m))

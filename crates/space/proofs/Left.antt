@@ -6,7 +6,7 @@ use lib.Dec.{leb}
 use Rattle.refusal.specs.Laws.Tests.{and_right}
 use Rattle.space.specs.declared.region.DiscRegion.{DiscRegion}
 use Rattle.space.specs.Used.{end_of, nonempty}
-use Rattle.space.specs.Inner.Words.{inSequence, gaps}
+use Rattle.space.specs.Inner.Words.{in_sequence, gaps}
 use Rattle.space.specs.Laws.UsedLaws.{nonempty-cons, nonempty-empty}
 use Rattle.space.proofs.Order.{sequence-le}
 
@@ -16,20 +16,20 @@ left e at xs = nonempty (gaps at e xs)
 
 -- used regions with no free byte before them were passed, from one place to another
 pub record Passed (e : ℕ) (all : List DiscRegion) (at : ℕ) (xs : List DiscRegion) : Type 0 where
-  pub in_order : inSequence at e xs ≡ true
+  pub in_order : in_sequence at e xs ≡ true
   pub same : left e at xs ≡ all
 
 module _ (e : ℕ) (all : List DiscRegion) (at : ℕ) (xs : List DiscRegion) (p : Passed e all at xs) where
   -- x is the next used region
   module _ (x : DiscRegion) (ys : List DiscRegion) (is : xs ≡ x ∷ ys) where
-    in_order-here : (leb at x.offset && inSequence (end_of x) e ys) ≡ true
-    in_order-here = unfold inSequence in (rw is at p.in_order)
+    in_order-here : (leb at x.offset && in_sequence (end_of x) e ys) ≡ true
+    in_order-here = unfold in_sequence in (rw is at p.in_order)
 
     same-here : nonempty (record { offset = at; size = x.offset - at } ∷ gaps (end_of x) e ys) ≡ all
     same-here = unfold gaps in (rw is at p.same)
 
-    pub passed-order : inSequence (end_of x) e ys ≡ true
-    passed-order = and_right (leb at x.offset) (inSequence (end_of x) e ys) in_order-here
+    pub passed-order : in_sequence (end_of x) e ys ≡ true
+    passed-order = and_right (leb at x.offset) (in_sequence (end_of x) e ys) in_order-here
 
     pub passed-ends : end_of x ≤ e
     passed-ends = sequence-le (end_of x) e ys passed-order
@@ -48,8 +48,8 @@ module _ (e : ℕ) (all : List DiscRegion) (at : ℕ) (xs : List DiscRegion) (p 
     same-last : nonempty (record { offset = at; size = e - at } ∷ []) ≡ all
     same-last = unfold gaps in (rw is at p.same)
 
-    pub order-none : inSequence e e ys ≡ true
-    order-none = let l : e ≤ e = omega arith in rw after (unfold inSequence in le-leb e e l)
+    pub order-none : in_sequence e e ys ≡ true
+    order-none = let l : e ≤ e = omega arith in rw after (unfold in_sequence in le-leb e e l)
 
     pub none-left : left e e ys ≡ []
     none-left = rw after (unfold gaps nonempty in (let z : e - e ≡ 0 = omega arith in rw z))

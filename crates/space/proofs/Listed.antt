@@ -13,9 +13,9 @@ use lib.Dec.{leb}
 use Rattle.refusal.specs.declared.Refusal.TheVariants.{LimitOrMemory}
 use Rattle.space.specs.declared.region.DiscRegion.{DiscRegion}
 use Rattle.endian.specs.Bytes.{put}
-use Rattle.space.specs.Used.{end_of, totalSize}
-use Rattle.space.specs.Listing.{rows_of, listingOf, listAfter}
-use Rattle.space.specs.Inner.Words.{inSequence, gaps}
+use Rattle.space.specs.Used.{end_of, total_size}
+use Rattle.space.specs.Listing.{rows_of, listing_of, list_after}
+use Rattle.space.specs.Inner.Words.{in_sequence, gaps}
 use Rattle.refusal.specs.Laws.Tests.{and_left, and_right}
 use Rattle.space.proofs.Order.{sequence-le}
 
@@ -44,22 +44,22 @@ module _ (row : DiscRegion → List ℕ) where
 -- ---- the answer
 
 module _ (row : DiscRegion → List ℕ) (rs : List DiscRegion) (l : List ℕ) where
-  pub list-short : length l < length (rows_of row rs) → (Err LimitOrMemory ≡ listingOf row rs (length l)) × (l ≡ listAfter row rs l)
+  pub list-short : length l < length (rows_of row rs) → (Err LimitOrMemory ≡ listing_of row rs (length l)) × (l ≡ list_after row rs l)
   list-short a = (rw (lt-ltb (length l) (length (rows_of row rs)) a), rw (lt-ltb (length l) (length (rows_of row rs)) a))
 
   pub list-fits : (l' : List ℕ) (n : ℕ) → n ≡ length rs → length (rows_of row rs) ≤ length l → l' ≡ put l 0 (rows_of row rs) →
-      (Ok n ≡ listingOf row rs (length l)) × (l' ≡ listAfter row rs l)
+      (Ok n ≡ listing_of row rs (length l)) × (l' ≡ list_after row rs l)
   list-fits l' n q a e = (rw (le-ltb (length l) (length (rows_of row rs)) a, q), rw (le-ltb (length l) (length (rows_of row rs)) a) e)
 
 -- ---- summed
 
-pub total-gaps : (at e : ℕ) (xs : List DiscRegion) → inSequence at e xs ≡ true → totalSize xs + totalSize (gaps at e xs) ≡ e - at
-unfolding gaps totalSize inSequence
+pub total-gaps : (at e : ℕ) (xs : List DiscRegion) → in_sequence at e xs ≡ true → total_size xs + total_size (gaps at e xs) ≡ e - at
+unfolding gaps total_size in_sequence
 total-gaps at e [] c = omega arith
 total-gaps at e (x ∷ xs) c =
     omega (
       arith,
-      leb-true at x.offset (and_left (leb at x.offset) (inSequence (end_of x) e xs) c),
-      sequence-le (end_of x) e xs (and_right (leb at x.offset) (inSequence (end_of x) e xs) c),
-      total-gaps (end_of x) e xs (and_right (leb at x.offset) (inSequence (end_of x) e xs) c),
+      leb-true at x.offset (and_left (leb at x.offset) (in_sequence (end_of x) e xs) c),
+      sequence-le (end_of x) e xs (and_right (leb at x.offset) (in_sequence (end_of x) e xs) c),
+      total-gaps (end_of x) e xs (and_right (leb at x.offset) (in_sequence (end_of x) e xs) c),
     )

@@ -16,16 +16,16 @@ abbrev pub fits : ℕ → ℕ → DiscRegion → Bool
 fits align wish r = ltb 0 (rest align r).size && leb wish (rest align r).size
 
 -- the better of the best so far and the rest of r; r among equals
-unfoldable pub betterOf : ℕ → ℕ → DiscRegion → DiscRegion → DiscRegion
-betterOf align wish best r = cond (fits align wish r && leb best.size (rest align r).size) (rest align r) best
+unfoldable pub better_of : ℕ → ℕ → DiscRegion → DiscRegion → DiscRegion
+better_of align wish best r = cond (fits align wish r && leb best.size (rest align r).size) (rest align r) best
 
-abbrev pub noRegion : DiscRegion
-noRegion = record { offset = 0; size = 0 }
+abbrev pub no_region : DiscRegion
+no_region = record { offset = 0; size = 0 }
 
 -- the largest rest, the last among equals; `best` is the best so far
 unfoldable pub largest : ℕ → ℕ → DiscRegion → List DiscRegion → DiscRegion
 largest align wish best [] = best
-largest align wish best (r ∷ rs) = largest align wish (betterOf align wish best r) rs
+largest align wish best (r ∷ rs) = largest align wish (better_of align wish best r) rs
 
 -- x is one of the n powers of two from 2 ^ k on
 unfoldable pub powers : ℕ → ℕ → ℕ → Bool
@@ -33,13 +33,13 @@ powers zero k x = false
 powers (suc n) k x = eqb (2 ^ k) x || powers n (suc k) x
 
 -- an alignment has 32 bits
-abbrev pub isPowerOfTwo : ℕ → Bool
-isPowerOfTwo x = powers 32 0 x
+abbrev pub is_power_of_two : ℕ → Bool
+is_power_of_two x = powers 32 0 x
 
 -- a rest has a byte, so size 0 means that there is none
-abbrev pub foundOrRefused : DiscRegion → Result DiscRegion Refusal
-foundOrRefused b = cond (eqb b.size 0) (Err NotEnoughSpace) (Ok b)
+abbrev pub found_or_refused : DiscRegion → Result DiscRegion Refusal
+found_or_refused b = cond (eqb b.size 0) (Err NotEnoughSpace) (Ok b)
 
 -- the answer of `allocate`, among the free regions rs
-unfoldable pub allocationOf : ℕ → ℕ → List DiscRegion → Result DiscRegion Refusal
-allocationOf align wish rs = cond (isPowerOfTwo align) (foundOrRefused (largest align wish noRegion rs)) (Err InvalidAlignment)
+unfoldable pub allocation_of : ℕ → ℕ → List DiscRegion → Result DiscRegion Refusal
+allocation_of align wish rs = cond (is_power_of_two align) (found_or_refused (largest align wish no_region rs)) (Err InvalidAlignment)

@@ -5,15 +5,15 @@ use Rattle.std.specs.Prelude.{ℕ, cond, List, [], ◌∷◌, ◌++◌, length, 
 use Rattle.refusal.specs.declared.Refusal.TheVariants.{LimitOrMemory}
 use Rattle.endian.specs.Bytes.{put}
 use Rattle.space.specs.declared.region.DiscRegion.{DiscRegion}
-use Rattle.space.specs.Clusters.{bytesBefore, wholeClusters, exactRest}
+use Rattle.space.specs.Clusters.{bytes_before, whole_clusters, exact_rest}
 
 -- a region's offset and size
-abbrev pub regionRow : DiscRegion → List ℕ
-regionRow r = r.offset ∷ r.size ∷ []
+abbrev pub region_row : DiscRegion → List ℕ
+region_row r = r.offset ∷ r.size ∷ []
 
 -- a region in clusters (document 02, Point 1): before, clusters, rest
-abbrev pub clusterRow : DiscRegion → List ℕ
-clusterRow r = bytesBefore r ∷ wholeClusters r ∷ exactRest r ∷ []
+abbrev pub cluster_row : DiscRegion → List ℕ
+cluster_row r = bytes_before r ∷ whole_clusters r ∷ exact_rest r ∷ []
 
 -- the words of each region, one after the other
 unfoldable pub rows_of : (DiscRegion → List ℕ) → List DiscRegion → List ℕ
@@ -21,9 +21,9 @@ rows_of row [] = []
 rows_of row (r ∷ rs) = row r ++ rows_of row rs
 
 -- how many regions are listed, in a list of n words
-abbrev pub listingOf : (DiscRegion → List ℕ) → List DiscRegion → ℕ → Result ℕ Refusal
-listingOf row rs n = cond (ltb n (length (rows_of row rs))) (Err LimitOrMemory) (Ok (length rs))
+abbrev pub listing_of : (DiscRegion → List ℕ) → List DiscRegion → ℕ → Result ℕ Refusal
+listing_of row rs n = cond (ltb n (length (rows_of row rs))) (Err LimitOrMemory) (Ok (length rs))
 
 -- the result list afterwards
-abbrev pub listAfter : (DiscRegion → List ℕ) → List DiscRegion → List ℕ → List ℕ
-listAfter row rs list = cond (ltb (length list) (length (rows_of row rs))) list (put list 0 (rows_of row rs))
+abbrev pub list_after : (DiscRegion → List ℕ) → List DiscRegion → List ℕ → List ℕ
+list_after row rs list = cond (ltb (length list) (length (rows_of row rs))) list (put list 0 (rows_of row rs))

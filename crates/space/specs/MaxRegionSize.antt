@@ -5,18 +5,18 @@ use Rattle.std.specs.Prelude.{ℕ, ◌+◌, ◌-◌, cond, List, [], ◌∷◌, 
 use Rattle.space.specs.declared.region.DiscRegion.{DiscRegion}
 use Rattle.space.specs.Used.{end_of}
 
--- inside the free region that ends at prevEnd and starts before o: up to its end
-abbrev pub insideFree : ℕ → ℕ → ℕ → ℕ → ℕ
-insideFree o n prevEnd other = cond (ltb (o + n) prevEnd) (prevEnd - o) other
+-- inside the free region that ends at prev_end and starts before o: up to its end
+abbrev pub inside_free : ℕ → ℕ → ℕ → ℕ → ℕ
+inside_free o n prev_end other = cond (ltb (o + n) prev_end) (prev_end - o) other
 
 -- r is the first free region that starts at o or later: at o it is r's size, and right behind the region r's size is added
-unfoldable pub besideFree : ℕ → ℕ → ℕ → DiscRegion → ℕ
-besideFree o n prevEnd r = cond (eqb r.offset o) r.size (insideFree o n prevEnd (cond (eqb r.offset (o + n)) (n + r.size) n))
+unfoldable pub beside_free : ℕ → ℕ → ℕ → DiscRegion → ℕ
+beside_free o n prev_end r = cond (eqb r.offset o) r.size (inside_free o n prev_end (cond (eqb r.offset (o + n)) (n + r.size) n))
 
--- the search, over free regions that rise; prevEnd is the end of the last one before o, 0 where there is none
-unfoldable pub maxSizeFrom : ℕ → ℕ → ℕ → List DiscRegion → ℕ
-maxSizeFrom o n prevEnd [] = insideFree o n prevEnd n
-maxSizeFrom o n prevEnd (r ∷ rs) = cond (ltb r.offset o) (maxSizeFrom o n (end_of r) rs) (besideFree o n prevEnd r)
+-- the search, over free regions that rise; prev_end is the end of the last one before o, 0 where there is none
+unfoldable pub max_size_from : ℕ → ℕ → ℕ → List DiscRegion → ℕ
+max_size_from o n prev_end [] = inside_free o n prev_end n
+max_size_from o n prev_end (r ∷ rs) = cond (ltb r.offset o) (max_size_from o n (end_of r) rs) (beside_free o n prev_end r)
 
-abbrev pub maxRegionSize : ℕ → ℕ → List DiscRegion → ℕ
-maxRegionSize o n rs = maxSizeFrom o n 0 rs
+abbrev pub max_region_size : ℕ → ℕ → List DiscRegion → ℕ
+max_region_size o n rs = max_size_from o n 0 rs

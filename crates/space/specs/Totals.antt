@@ -6,18 +6,18 @@ use Rattle.refusal.specs.declared.Refusal.TheVariants.{TotalsOutOfRange}
 use Rattle.space.specs.declared.totals.Totals.{Totals}
 
 -- a totals record in its slots: used bytes, the largest free region's size, accepted edits
-abbrev pub totalsIn : List ℕ → Totals
-totalsIn slots = record { used = get_or slots 0 0; largest = get_or slots 1 0; edits = get_or slots 2 0 }
+abbrev pub totals_in : List ℕ → Totals
+totals_in slots = record { used = get_or slots 0 0; largest = get_or slots 1 0; edits = get_or slots 2 0 }
 
 -- "25, used bytes or edit count would leave 0 to 2^32 - 1": on the record's own numbers, for an edit after which `after` bytes are used where
 -- `before` were
-unfoldable pub totalsVerdict : Totals → ℕ → ℕ → Verdict
-totalsVerdict t before after =
+unfoldable pub totals_verdict : Totals → ℕ → ℕ → Verdict
+totals_verdict t before after =
     refuse (ltb (t.used + after) before) TotalsOutOfRange
     (refuse (ltb (2 ^ 32 - 1) (t.used + after - before)) TotalsOutOfRange
     (refuse (ltb (2 ^ 32 - 1) (t.edits + 1)) TotalsOutOfRange
     (Ok tt)))
 
 -- "Used bytes move by the edit's change, the count by one; the largest region is the new image's."
-unfoldable pub totalsMoved : Totals → ℕ → ℕ → ℕ → Totals
-totalsMoved t before after largest = record { used = t.used + after - before; largest = largest; edits = t.edits + 1 }
+unfoldable pub totals_moved : Totals → ℕ → ℕ → ℕ → Totals
+totals_moved t before after largest = record { used = t.used + after - before; largest = largest; edits = t.edits + 1 }

@@ -3,7 +3,7 @@ ghost use Rattle.std.specs.Prelude.{◌≡◌, ◌<◌, if◌then◌else◌, unw
 ghost use Rattle.std.specs.Option.{ForSome};
 ghost use Rattle.space.specs.Align.{align_up};
 ghost use Rattle.space.specs.Used.{end_of};
-ghost use Rattle.space.specs.Allocate.{rest, fits, noRegion, betterOf};
+ghost use Rattle.space.specs.Allocate.{rest, fits, no_region, better_of};
 
 use crate::region::DiscRegion;
 
@@ -42,7 +42,7 @@ pub fn better(
     requires positive { 0 < align }
     requires gap_end { end_of gap < 4294967296 }
     requires found { ForSome best (λ region. 0 < region.size) }
-    ensures better { unwrap_or result noRegion ≡ betterOf align size (unwrap_or best noRegion) gap }
+    ensures better { unwrap_or result no_region ≡ better_of align size (unwrap_or best no_region) gap }
     ensures found { ForSome result (λ region. 0 < region.size) }
 {
     let Some(rest) = aligned(gap, size, align) else {

@@ -2,7 +2,7 @@
 ghost use Rattle.std.specs.Prelude.{refl};
 ghost use Rattle.std.proofs.Common.{arith};
 ghost use Rattle.space.specs.Inner.Counted.{Counted};
-ghost use Rattle.space.specs.Listing.{clusterRow};
+ghost use Rattle.space.specs.Listing.{cluster_row};
 
 use crate::allocation;
 use crate::region::DiscRegion;
@@ -45,7 +45,7 @@ impl From<DiscRegion> for Clusters {
 }
 
 impl Row<3> for Clusters {
-    ghost words_of = { clusterRow };
+    ghost words_of = { cluster_row };
 
     ghost some = { Prim.omega arith };
 

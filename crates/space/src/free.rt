@@ -1,8 +1,8 @@
 // The free regions of a disc as an iterator over the used ones. Contracts see the list of those that are left.
 ghost use Rattle.std.specs.Prelude.{◌≡◌, true};
 ghost use Rattle.std.specs.Iterator.{YieldsFirst, item_count};
-ghost use Rattle.space.specs.Free.{freeRegions};
-ghost use Rattle.space.specs.Inner.Words.{AllNonempty, inSequence};
+ghost use Rattle.space.specs.Free.{free_regions};
+ghost use Rattle.space.specs.Inner.Words.{AllNonempty, in_sequence};
 
 use crate::region::DiscRegion;
 use crate::regions::Regions;
@@ -23,13 +23,13 @@ impl<'a> Model for FreeRegions<'a> {
     ghost use Rattle.std.specs.Prelude.{◌≡◌, true, List};
     ghost use Rattle.space.specs.declared.region.DiscRegion.{DiscRegion};
     ghost use Rattle.space.specs.Used.{nonempty};
-    ghost use Rattle.space.specs.Inner.Words.{inSequence, gaps};
+    ghost use Rattle.space.specs.Inner.Words.{in_sequence, gaps};
 
     ghost Value = { List DiscRegion };
 
     ghost view = { λ f. nonempty (gaps f.at f.disc_end f.used) };
 
-    ghost invariant = { λ f. inSequence f.at f.disc_end f.used ≡ true };
+    ghost invariant = { λ f. in_sequence f.at f.disc_end f.used ≡ true };
 }
 
 impl<'a> FreeRegions<'a> {
@@ -37,8 +37,8 @@ impl<'a> FreeRegions<'a> {
     // Kept: both facts are what `UsedRegions` carries, and its `free_regions` is the one caller.
     pub(crate) fn new(used: Regions<'a>, disc_end: u32) -> Self
         requires nonempty { AllNonempty used }
-        requires in_order { inSequence 0 disc_end used ≡ true }
-        ensures { result ≡ freeRegions disc_end used.entry }
+        requires in_order { in_sequence 0 disc_end used ≡ true }
+        ensures { result ≡ free_regions disc_end used.entry }
     {
         FreeRegions {
             used,

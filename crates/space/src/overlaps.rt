@@ -1,7 +1,8 @@
 // Cause 14: the used regions in lent words sorted where they stand, and judged.
 ghost use Rattle.std.specs.Prelude.{◌≡◌, ◌+◌, ◌*◌, ◌≤◌, length};
-ghost use Rattle.space.specs.Inner.Sort.{regionsIn};
-ghost use Rattle.space.specs.Inner.Words.{AllNonempty, inSequence, Checked};
+ghost use Rattle.space.specs.Inner.Sort.{regions_in};
+ghost use Rattle.space.specs.Inner.Words as words_of;
+ghost use Rattle.space.specs.Inner.Words.{AllNonempty, Checked};
 
 use crate::regions::Regions;
 use crate::sort;
@@ -9,7 +10,7 @@ use refusal::{Refusal, Verdict};
 
 // Whether each region starts where the one before it ends or later, and the last ends by the disc's end.
 fn in_sequence(regions: Regions<'_>, disc_end: u32) -> bool
-    ensures { result ≡ inSequence 0 disc_end regions.entry }
+    ensures { result ≡ words_of.in_sequence 0 disc_end regions.entry }
 {
     let mut end = 0;
     for region in regions {
@@ -28,7 +29,7 @@ fn in_sequence(regions: Regions<'_>, disc_end: u32) -> bool
 pub fn check(words: &mut [u32], buf: usize, count: usize, disc_end: u32) -> Verdict
     requires beside { count ≤ buf }
     requires room { 2 * (buf + count) ≤ length words.old }
-    requires nonempty { AllNonempty (regionsIn words.old 0 count) }
+    requires nonempty { AllNonempty (regions_in words.old 0 count) }
     ensures { Checked words.old words.new buf count disc_end result }
 {
     sort::sort(words, buf, count);

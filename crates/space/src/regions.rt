@@ -1,7 +1,7 @@
 // The regions that stand in words as an iterator. Contracts see the list of those that are left.
 ghost use Rattle.std.specs.Prelude.{◌≡◌, ◌*◌, ◌≤◌, length};
 ghost use Rattle.std.specs.Iterator.{YieldsFirst, item_count};
-ghost use Rattle.space.specs.Inner.Sort.{regionsIn};
+ghost use Rattle.space.specs.Inner.Sort.{regions_in};
 
 use crate::region::DiscRegion;
 use std::marker::Model;
@@ -19,12 +19,12 @@ pub struct Regions<'a> {
 impl<'a> Model for Regions<'a> {
     ghost use Rattle.std.specs.Prelude.{◌-◌, List};
     ghost use Rattle.space.specs.declared.region.DiscRegion.{DiscRegion};
-    ghost use Rattle.space.specs.Inner.Sort.{regionsIn};
+    ghost use Rattle.space.specs.Inner.Sort.{regions_in};
     ghost use Rattle.space.specs.Inner.Words.{Standing};
 
     ghost Value = { List DiscRegion };
 
-    ghost view = { λ r. regionsIn r.words.now r.next (r.count - r.next) };
+    ghost view = { λ r. regions_in r.words.now r.next (r.count - r.next) };
 
     ghost invariant = { λ r. Standing r.words.now r.next r.count };
 }
@@ -33,7 +33,7 @@ impl<'a> Regions<'a> {
     /// The first `count` regions in the words.
     pub fn new(words: &'a [u32], count: usize) -> Self
         requires { 2 * count ≤ length words.now }
-        ensures { result ≡ regionsIn words.now 0 count }
+        ensures { result ≡ regions_in words.now 0 count }
     {
         Regions {
             words,

@@ -2,7 +2,7 @@
 ghost use Rattle.std.specs.Prelude.{ℕ, ◌≡◌, ◌<◌, List, length, refl};
 ghost use Rattle.std.proofs.Common.{arith};
 ghost use Rattle.space.specs.declared.region.DiscRegion.{DiscRegion};
-ghost use Rattle.space.specs.Listing.{regionRow};
+ghost use Rattle.space.specs.Listing.{region_row};
 
 use crate::region::DiscRegion;
 
@@ -21,7 +21,7 @@ pub trait Row<const N: usize> {
 }
 
 impl Row<2> for DiscRegion {
-    ghost words_of = { regionRow };
+    ghost words_of = { region_row };
 
     ghost some = { Prim.omega arith };
 

@@ -1,7 +1,8 @@
 // The totals record that goes into an edit and comes back, and the largest free region that an edit leaves.
 ghost use Rattle.std.specs.Prelude.{◌≡◌, ◌<◌, ◌^◌, drop, max, OnOk, OnErr};
-ghost use Rattle.space.specs.Totals.{totalsVerdict, totalsMoved};
-ghost use Rattle.space.specs.Inner.Scan.{longestBeside, longestFrom, goneOf};
+ghost use Rattle.space.specs.Totals.{totals_verdict, totals_moved};
+ghost use Rattle.space.specs.Inner.Scan as scan_of;
+ghost use Rattle.space.specs.Inner.Scan.{longest_from};
 
 use crate::region::DiscRegion;
 use crate::used::UsedRegions;
@@ -23,12 +24,12 @@ impl Totals {
     /// Moves the record on by an edit that uses `after` bytes where `before` were used, in any two numbers
     /// with that difference, and that leaves `largest` bytes as the largest free region. 25 if used bytes or
     /// edits would leave 32 bits: then the record stays.
-    #[tactic(auto, unfolding(crate::specs::Totals::totalsVerdict, crate::specs::Totals::totalsMoved))]
+    #[tactic(auto, unfolding(crate::specs::Totals::totals_verdict, crate::specs::Totals::totals_moved))]
     pub fn move_on(&mut self, before: u64, after: u64, largest: u32) -> Verdict
         requires before_fits { before < 2 ^ 34 }
         requires after_fits { after < 2 ^ 34 }
-        ensures answer { result ≡ totalsVerdict self.old before after }
-        ensures accepted { OnOk result (self.new ≡ totalsMoved self.old before after largest) }
+        ensures answer { result ≡ totals_verdict self.old before after }
+        ensures accepted { OnOk result (self.new ≡ totals_moved self.old before after largest) }
         ensures refused { OnErr result (self.new ≡ self.old) }
     {
         let sum = u64::from(self.used) + after;
@@ -45,9 +46,9 @@ impl Totals {
 }
 
 // The longest run of the bytes from a up to b that has none of the region's bytes.
-#[tactic(auto, unfolding(crate::specs::Inner::Scan::longestBeside))]
+#[tactic(auto, unfolding(crate::specs::Inner::Scan::longest_beside))]
 fn longest_beside(a: u64, b: u32, region: DiscRegion) -> u32
-    ensures { result ≡ longestBeside a b region }
+    ensures { result ≡ scan_of.longest_beside a b region }
 {
     let b = u64::from(b);
     let start = u64::from(region.offset);
@@ -59,10 +60,10 @@ fn longest_beside(a: u64, b: u32, region: DiscRegion) -> u32
 }
 
 // The longer of `best` and that run. Most gaps are no longer than the best so far, and need no closer look.
-#[tactic(auto, unfolding(crate::specs::Inner::Scan::longestBeside))]
+#[tactic(auto, unfolding(crate::specs::Inner::Scan::longest_beside))]
 fn longer(best: u32, a: u64, b: u32, region: DiscRegion) -> u32
     requires { a < 2 ^ 34 }
-    ensures { result ≡ max best (longestBeside a b region) }
+    ensures { result ≡ max best (scan_of.longest_beside a b region) }
 {
     if u64::from(b) <= a + u64::from(best) {
         return best;
@@ -73,7 +74,7 @@ fn longer(best: u32, a: u64, b: u32, region: DiscRegion) -> u32
 // Where the old place starts; 0, where no file can, if there is none.
 // Kept: a number (N): as no file lies at 0, `gone != Some(region.offset)` says no more than `gone != region.offset`.
 fn gone_of(old: DiscRegion) -> u32
-    ensures { result ≡ goneOf old }
+    ensures { result ≡ scan_of.gone_of old }
 {
     if old.size == 0 { 0 } else { old.offset }
 }
@@ -88,7 +89,7 @@ pub fn largest_after(
     old: DiscRegion,
     new: DiscRegion,
 ) -> u32
-    ensures { result ≡ longestFrom disc_end (goneOf old) new table_end 0 (drop 1 used.now.regions) }
+    ensures { result ≡ longest_from disc_end (scan_of.gone_of old) new table_end 0 (drop 1 used.now.regions) }
 {
     let gone = gone_of(old);
     let mut at = u64::from(table_end);

@@ -1,13 +1,13 @@
 // The used regions of a disc as a value: what stands in lent words after a test. Contracts see the list and the
 // disc's end.
 ghost use Rattle.std.specs.Prelude.{◌≡◌, ◌<◌, length};
-ghost use Rattle.space.specs.Used.{totalSize};
+ghost use Rattle.space.specs.Used.{total_size};
 ghost use Rattle.space.specs.Inner.Words.{SortedDisjoint};
-ghost use Rattle.space.specs.Inner.Found.{foundOrNone};
+ghost use Rattle.space.specs.Inner.Found.{found_or_none};
 ghost use Rattle.space.specs.Inner.UsedSpace.{used_in, free_in};
-ghost use Rattle.space.specs.MaxRegionSize.{maxRegionSize};
-ghost use Rattle.space.specs.Allocate.{noRegion, largest, allocationOf};
-ghost use Rattle.space.specs.Listing.{listingOf, listAfter};
+ghost use Rattle.space.specs.MaxRegionSize.{max_region_size};
+ghost use Rattle.space.specs.Allocate.{no_region, largest, allocation_of};
+ghost use Rattle.space.specs.Listing.{listing_of, list_after};
 
 use crate::free::FreeRegions;
 use crate::region::DiscRegion;
@@ -62,7 +62,7 @@ impl<'a> UsedRegions<'a> {
 
     /// How many bytes are used.
     pub fn used_size(&self) -> u32
-        ensures { result ≡ totalSize self.now.regions }
+        ensures { result ≡ total_size self.now.regions }
     {
         let _ = &self.words;
         let mut used = 0;
@@ -89,7 +89,7 @@ impl<'a> UsedRegions<'a> {
 
     /// What the Rust answers for a region; for a file's own place, the largest size in bytes that it can grow to.
     pub fn max_region_size(&self, offset: u32, size: u32) -> u32
-        ensures { result ≡ maxRegionSize offset size (free_in self.now) }
+        ensures { result ≡ max_region_size offset size (free_in self.now) }
     {
         let _ = &self.words;
         let mut prev_end: u64 = 0;
@@ -105,7 +105,7 @@ impl<'a> UsedRegions<'a> {
     // The largest region for `size` bytes at a multiple of `align`, the last among equals.
     fn find_largest(&self, size: u32, align: u32) -> Option<DiscRegion>
         requires { 0 < align }
-        ensures { result ≡ foundOrNone (largest align size noRegion (free_in self.now)) }
+        ensures { result ≡ found_or_none (largest align size no_region (free_in self.now)) }
     {
         let _ = &self.words;
         let mut best = None;
@@ -118,7 +118,7 @@ impl<'a> UsedRegions<'a> {
     /// Finds the largest free region for `size` bytes at a multiple of `align`. Refuses 22 if that is no power of
     /// two, 21 if there is none.
     pub fn allocate(&self, size: u32, align: u32) -> Result<DiscRegion, Refusal>
-        ensures { result ≡ allocationOf align size (free_in self.now) }
+        ensures { result ≡ allocation_of align size (free_in self.now) }
     {
         if !align.is_power_of_two() {
             return Err(Refusal::InvalidAlignment);
@@ -130,8 +130,8 @@ impl<'a> UsedRegions<'a> {
     /// Writes a row for each free region to the front of the list, rising, and returns how many there are.
     /// Refuses 9, with nothing written, if the list is short.
     pub fn list_free<const N: usize, R: Row<N>>(&self, list: &mut [u32]) -> Result<usize, Refusal>
-        ensures answer { result ≡ listingOf R.words_of (free_in self.now) (length list.old) }
-        ensures list_after { list.new ≡ listAfter R.words_of (free_in self.now) list.old }
+        ensures answer { result ≡ listing_of R.words_of (free_in self.now) (length list.old) }
+        ensures list_after { list.new ≡ list_after R.words_of (free_in self.now) list.old }
     {
         let found = self.count_free();
         if list.len() / N < found {

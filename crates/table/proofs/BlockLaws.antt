@@ -9,11 +9,11 @@ use native.Mathlib.Numerals.{add-one}
 use borrow.Author.Tests.{ne_eqb, eqb-true, eqb-false}
 use lib.ListN.{get_or, replicate, length, length-replicate, get_or-eq_default}
 use lib.Dec.{eqb}
-use Rattle.tree.specs.Units.{leadByte, trailByte}
-use Rattle.tree.specs.Table.{plain_byte, safeByte, plainUnit, safeUnit}
+use Rattle.tree.specs.Units.{lead_byte, trail_byte}
+use Rattle.tree.specs.Table.{plain_byte, safe_byte, plain_unit, safe_unit}
 use Rattle.tree.specs.Inner.Pairs.{pair_at}
 use Rattle.refusal.specs.Laws.Tests.{lt-or-le, and_left, and_right}
-use Rattle.table.specs.Inner.Texts.{cleanByte, cleanFrom, NoLead}
+use Rattle.table.specs.Inner.Texts.{clean_byte, clean_from, NoLead}
 use Rattle.table.specs.Inner.Blocks.{Fit, Marked}
 use Rattle.table.proofs.Chart.{Kinds}
 use Rattle.table.proofs.Texts.{inside, every-end, every-pair, every-single, clean-no-pair, clean-pair, clean-single, clean-behind}
@@ -21,50 +21,50 @@ use Rattle.table.proofs.Texts.{inside, every-end, every-pair, every-single, clea
 -- ---- fit texts
 
 pub fit-end : (tab : List ℕ) (i : ℕ) → get_or tab i 0 ≡ 0 → Fit tab i
-fit-end tab i z = record { plain = every-end plainUnit tab i z; safe = every-end safeUnit tab i z }
+fit-end tab i z = record { plain = every-end plain_unit tab i z; safe = every-end safe_unit tab i z }
 
 pub fit-pair : (tab : List ℕ) (i : ℕ) → pair_at tab i ≡ true → Fit tab (i + 2) → Fit tab i
-fit-pair tab i h f = record { plain = every-pair plainUnit tab i h refl ∙ f.plain; safe = every-pair safeUnit tab i h refl ∙ f.safe }
+fit-pair tab i h f = record { plain = every-pair plain_unit tab i h refl ∙ f.plain; safe = every-pair safe_unit tab i h refl ∙ f.safe }
 
-pub fit-single : (tab : List ℕ) (i : ℕ) → (get_or tab i 0 ≡ 0 → ⊥) → cleanByte (get_or tab i 0) ≡ true → Fit tab (i + 1) → Fit tab i
+pub fit-single : (tab : List ℕ) (i : ℕ) → (get_or tab i 0 ≡ 0 → ⊥) → clean_byte (get_or tab i 0) ≡ true → Fit tab (i + 1) → Fit tab i
 fit-single tab i n e f =
     let b = get_or tab i 0 in
-    let q : (plain_byte b && safeByte b) ≡ true = rw (ne_eqb b 0 n) at e in
-    let p = every-single plainUnit tab i true n (clean-no-pair tab i e) (and_left (plain_byte b) (safeByte b) q) in
-    let s = every-single safeUnit tab i true n (clean-no-pair tab i e) (and_right (plain_byte b) (safeByte b) q) in
+    let q : (plain_byte b && safe_byte b) ≡ true = rw (ne_eqb b 0 n) at e in
+    let p = every-single plain_unit tab i true n (clean-no-pair tab i e) (and_left (plain_byte b) (safe_byte b) q) in
+    let s = every-single safe_unit tab i true n (clean-no-pair tab i e) (and_right (plain_byte b) (safe_byte b) q) in
     record { plain = p ∙ f.plain; safe = s ∙ f.safe }
 
 -- LAW: where the bytes are clean from a place on, the text there is fit; n is enough for the bytes that are left
-fit-clean : (n : ℕ) (tab : List ℕ) (i : ℕ) → length tab ≤ i + n → cleanFrom tab i ≡ true → Fit tab i
+fit-clean : (n : ℕ) (tab : List ℕ) (i : ℕ) → length tab ≤ i + n → clean_from tab i ≡ true → Fit tab i
 fit-clean zero tab i h e = fit-end tab i (get_or-eq_default tab 0 (omega arith))
 fit-clean (suc n) tab i h e = go (eqb (get_or tab i 0) 0) (pair_at tab i) refl refl (fit-clean n tab (i + 2) (omega arith)) (fit-clean n tab (i + 1) (omega arith))
   where
-    go : (z p : Bool) → eqb (get_or tab i 0) 0 ≡ z → pair_at tab i ≡ p → (cleanFrom tab (i + 2) ≡ true → Fit tab (i + 2)) → (cleanFrom tab (i + 1) ≡ true → Fit tab (i + 1)) → Fit tab i
+    go : (z p : Bool) → eqb (get_or tab i 0) 0 ≡ z → pair_at tab i ≡ p → (clean_from tab (i + 2) ≡ true → Fit tab (i + 2)) → (clean_from tab (i + 1) ≡ true → Fit tab (i + 1)) → Fit tab i
     go true p q r f g = fit-end tab i (eqb-true _ _ q)
     go false true q r f g = fit-pair tab i r (f (sym (clean-pair tab i r) ∙ e))
     go false false q r f g =
         let m = eqb-false (get_or tab i 0) 0 q in
-        let s : (cleanByte (get_or tab i 0) && cleanFrom tab (i + 1)) ≡ true = sym (clean-single tab i (cleanByte (get_or tab i 0)) (inside tab i m) r refl) ∙ e in
-        fit-single tab i m (and_left (cleanByte (get_or tab i 0)) _ s) (g (and_right (cleanByte (get_or tab i 0)) _ s))
+        let s : (clean_byte (get_or tab i 0) && clean_from tab (i + 1)) ≡ true = sym (clean-single tab i (clean_byte (get_or tab i 0)) (inside tab i m) r refl) ∙ e in
+        fit-single tab i m (and_left (clean_byte (get_or tab i 0)) _ s) (g (and_right (clean_byte (get_or tab i 0)) _ s))
 
-fit-first : (tab : List ℕ) (from : ℕ) → cleanFrom tab from ≡ true → Fit tab from
+fit-first : (tab : List ℕ) (from : ℕ) → clean_from tab from ≡ true → Fit tab from
 fit-first tab from e = fit-clean (length tab) tab from (omega arith) e
 
 -- LAW: of clean texts, one that follows no lead byte starts with a unit, and so is fit
-pub fit-after : (tab : List ℕ) (from at before b : ℕ) (t : Bool) → cleanFrom tab from ≡ true → b ≡ get_or tab before 0 → from ≤ before → before + 1 ≡ at → t ≡ leadByte b → t ≡ false → Fit tab at
+pub fit-after : (tab : List ℕ) (from at before b : ℕ) (t : Bool) → clean_from tab from ≡ true → b ≡ get_or tab before 0 → from ≤ before → before + 1 ≡ at → t ≡ lead_byte b → t ≡ false → Fit tab at
 fit-after tab from at before b t e r h k l f =
     let n : ℕ = before - from in
     let p : before ≡ from + n = omega arith in
     let q : from + suc n ≡ at = omega arith in
-    let z : leadByte (get_or tab (from + n) 0) ≡ false = rw (← p, ← r) (sym l ∙ f) in
+    let z : lead_byte (get_or tab (from + n) 0) ≡ false = rw (← p, ← r) (sym l ∙ f) in
     fit-first tab at (rw q at (clean-behind tab from n e z))
 
 -- LAW: so does one before which there is no lead byte at all
-pub fit-early : (tab : List ℕ) (from first at : ℕ) → cleanFrom tab from ≡ true → NoLead tab from first → from ≤ at → at ≤ first → Fit tab at
+pub fit-early : (tab : List ℕ) (from first at : ℕ) → clean_from tab from ≡ true → NoLead tab from first → from ≤ at → at ≤ first → Fit tab at
 fit-early tab from first at e g h l = ⊎_elim later (λ (k : at ≤ from). let q : at ≡ from = omega arith in rw q (fit-first tab from e)) (lt-or-le from at)
   where
     later : from < at → Fit tab at
-    later k = fit-after tab from at (at - 1) (get_or tab (at - 1) 0) (leadByte (get_or tab (at - 1) 0)) e refl (omega arith) (omega arith) refl (g.none (at - 1) (omega arith) (omega arith))
+    later k = fit-after tab from at (at - 1) (get_or tab (at - 1) 0) (lead_byte (get_or tab (at - 1) 0)) e refl (omega arith) (omega arith) refl (g.none (at - 1) (omega arith) (omega arith))
 
 -- ---- the units of a text in a block
 
@@ -74,19 +74,19 @@ module _ (tab : List ℕ) (at : ℕ) (kinds trails : List ℕ) (k : Kinds kinds 
       let g = k.clean (get_or tab at 0) below e in
       fit-single tab at (λ z. absurd (true≢false (sym (and_left (not (eqb (get_or tab at 0) 0)) _ g) ∙ rw (z)))) (and_right (not (eqb (get_or tab at 0) 0)) _ g) f
 
-  pub clean-byte : get_or kinds (get_or tab at 0) 0 ≡ 99 → cleanByte (get_or tab at 0) ≡ true
+  pub clean-byte : get_or kinds (get_or tab at 0) 0 ≡ 99 → clean_byte (get_or tab at 0) ≡ true
   clean-byte e = and_right (not (eqb (get_or tab at 0) 0)) _ (k.clean (get_or tab at 0) below e)
 
-  pub clean-goes-on : at < length tab → cleanByte (get_or tab at 0) ≡ true → cleanFrom tab at ≡ cleanFrom tab (at + 1)
+  pub clean-goes-on : at < length tab → clean_byte (get_or tab at 0) ≡ true → clean_from tab at ≡ clean_from tab (at + 1)
   clean-goes-on h e = clean-single tab at true h (clean-no-pair tab at e) e
 
   is-pair : get_or kinds (get_or tab at 0) 0 ≡ 108 → get_or tab (at + 1) 0 < 256 → get_or trails (get_or tab (at + 1) 0) 0 ≡ 116 → pair_at tab at ≡ true
   is-pair e l t =
-      let a : leadByte (get_or tab at 0) ≡ true = k.lead (get_or tab at 0) below e in
-      let b : trailByte (get_or tab (suc at) 0) ≡ true = rw (add-one at) at (k.trail (get_or tab (at + 1) 0) l t) in
+      let a : lead_byte (get_or tab at 0) ≡ true = k.lead (get_or tab at 0) below e in
+      let b : trail_byte (get_or tab (suc at) 0) ≡ true = rw (add-one at) at (k.trail (get_or tab (at + 1) 0) l t) in
       rw (a, b)
 
-  pub clean-lead-byte : get_or kinds (get_or tab at 0) 0 ≡ 108 → get_or tab (at + 1) 0 < 256 → get_or trails (get_or tab (at + 1) 0) 0 ≡ 116 → cleanFrom tab at ≡ cleanFrom tab (at + 2)
+  pub clean-lead-byte : get_or kinds (get_or tab at 0) 0 ≡ 108 → get_or tab (at + 1) 0 < 256 → get_or trails (get_or tab (at + 1) 0) 0 ≡ 116 → clean_from tab at ≡ clean_from tab (at + 2)
   clean-lead-byte e l t = clean-pair tab at (is-pair e l t)
 
   pub fit-lead-byte : get_or kinds (get_or tab at 0) 0 ≡ 108 → get_or tab (at + 1) 0 < 256 → get_or trails (get_or tab (at + 1) 0) 0 ≡ 116 → Fit tab (at + 2) → Fit tab at

@@ -11,12 +11,12 @@ use native.Mathlib.Numerals.{add-one}
 use borrow.Author.Tests.{ltb-false, lt-ltb, le-ltb, eqb-true, eq-eqb, ne_eqb}
 use lib.ListN.{length, get_or}
 use lib.Dec.{eqb}
-use Rattle.endian.specs.Bytes.{sameBytes}
+use Rattle.endian.specs.Bytes.{same_bytes}
 use Rattle.refusal.specs.Laws.Tests.{lt-or-le, and_left, and-false}
 use Rattle.refusal.specs.declared.Refusal.TheVariants.{NotFound}
-use Rattle.tree.specs.Table.{Node, file, directory, name_of, none, encloses, parentBelow, parent_of}
+use Rattle.tree.specs.Table.{Node, file, directory, name_of, none, encloses, parent_below, parent_of}
 use Rattle.tree.specs.Inner.WellFormed.{WellFormed}
-use Rattle.tree.specs.Lookup.{isDirectory, next_of, childNamed, firstChild, childOf}
+use Rattle.tree.specs.Lookup.{is_directory, next_of, child_named, first_child, child_of}
 use Rattle.tree.proofs.Laws.Nesting.{parent-here, parent-lower, parent_is}
 use Rattle.tree.proofs.Laws.WellNested.{next-bounds, nests}
 use Rattle.table.specs.Inner.After.{after_of}
@@ -51,25 +51,25 @@ nests-le nodes d k w a b h = go (get_or nodes k none) refl
 pub after-past : (nodes : List Node) (k : ℕ) → WellFormed nodes → k < length nodes → (k < after_of nodes k) × (next_of (get_or nodes k none) ≤ after_of nodes k) × (after_of nodes k ≤ length nodes)
 after-past nodes k w h = go (get_or nodes k none) refl
   where
-    go : (x : Node) → get_or nodes k none ≡ x → (k < cond (isDirectory x) (next_of x) (k + 1)) × (next_of x ≤ cond (isDirectory x) (next_of x) (k + 1)) × (cond (isDirectory x) (next_of x) (k + 1) ≤ length nodes)
+    go : (x : Node) → get_or nodes k none ≡ x → (k < cond (is_directory x) (next_of x) (k + 1)) × (next_of x ≤ cond (is_directory x) (next_of x) (k + 1)) × (cond (is_directory x) (next_of x) (k + 1) ≤ length nodes)
     go (file nm offset size) e = (omega arith, omega arith, omega arith)
     go (directory nm next) e = let b = next-bounds nodes k next nm w e h in (b.0, omega arith, b.1)
 
 -- it is the next, where something stands between
-after_next : (x : Node) (k j : ℕ) → k < j → j < cond (isDirectory x) (next_of x) (k + 1) → next_of x ≡ cond (isDirectory x) (next_of x) (k + 1)
+after_next : (x : Node) (k j : ℕ) → k < j → j < cond (is_directory x) (next_of x) (k + 1) → next_of x ≡ cond (is_directory x) (next_of x) (k + 1)
 after_next (file nm offset size) k j a b = absurd (omega arith)
 after_next (directory nm next) k j a b = refl
 
 -- ---- the parent is the last directory around an entry
 
-below_none : (nodes : List Node) (k i j : ℕ) → parentBelow nodes k i < j → j < i → encloses (get_or nodes j none) k ≡ false
+below_none : (nodes : List Node) (k i j : ℕ) → parent_below nodes k i < j → j < i → encloses (get_or nodes j none) k ≡ false
 below_none nodes k zero j a b = absurd (omega arith)
 below_none nodes k (suc i) j a b = go (encloses (get_or nodes i none) k) refl (λ a' b'. below_none nodes k i j a' b')
   where
-    go : (t : Bool) → encloses (get_or nodes i none) k ≡ t → (parentBelow nodes k i < j → j < i → encloses (get_or nodes j none) k ≡ false) → encloses (get_or nodes j none) k ≡ false
-    go true e ih = let p : parentBelow nodes k (suc i) ≡ i = parent-here nodes k i e in absurd (omega arith)
+    go : (t : Bool) → encloses (get_or nodes i none) k ≡ t → (parent_below nodes k i < j → j < i → encloses (get_or nodes j none) k ≡ false) → encloses (get_or nodes j none) k ≡ false
+    go true e ih = let p : parent_below nodes k (suc i) ≡ i = parent-here nodes k i e in absurd (omega arith)
     go false e ih =
-        let p : parentBelow nodes k (suc i) ≡ parentBelow nodes k i = parent-lower nodes k i e in
+        let p : parent_below nodes k (suc i) ≡ parent_below nodes k i = parent-lower nodes k i e in
         ⊎_elim (λ l. ih (omega arith) l) (λ l. let q : j ≡ i = omega arith in rw q e) (lt-or-le j i)
 
 pub parent-last : (nodes : List Node) (k d j : ℕ) → parent_of nodes k ≡ d → d < j → j < k → next_of (get_or nodes j none) ≤ k
@@ -101,8 +101,8 @@ module _ (nodes : List Node) (d : ℕ) (w : WellFormed nodes) where
 
 -- ---- the search
 
-skip : (nodes : List Node) (d : ℕ) (nm : List ℕ) (k m n : ℕ) → ((j : ℕ) → k ≤ j → j < k + m → childNamed nodes d nm j ≡ false) → firstChild nodes d nm k (m + n) ≡ firstChild nodes d nm (k + m) n
-unfolding firstChild
+skip : (nodes : List Node) (d : ℕ) (nm : List ℕ) (k m n : ℕ) → ((j : ℕ) → k ≤ j → j < k + m → child_named nodes d nm j ≡ false) → first_child nodes d nm k (m + n) ≡ first_child nodes d nm (k + m) n
+unfolding first_child
 skip nodes d nm k zero n f =
     let e : k + 0 ≡ k = omega arith in
     let z : 0 + n ≡ n = omega arith in
@@ -115,20 +115,20 @@ skip nodes d nm k (suc m) n f =
 pub record Searching (nodes : List Node) (d : ℕ) (nm : List ℕ) (stop k : ℕ) : Type 0 where
   pub later : d < k
   pub child : k < stop → parent_of nodes k ≡ d
-  pub left : childOf nodes d nm ≡ firstChild nodes d nm k (stop - k)
+  pub left : child_of nodes d nm ≡ first_child nodes d nm k (stop - k)
 
 module _ (nodes : List Node) (d : ℕ) (nm : List ℕ) (stop : ℕ) (w : WellFormed nodes) (in-d : d < length nodes) (is : stop ≡ next_of (get_or nodes d none)) where
   pub search-start : Searching nodes d nm stop (d + 1)
-  unfolding childOf
+  unfolding child_of
   search-start = record { later = omega arith; child = λ h. child-first nodes d w (omega arith); left = rw (add-one d, is) }
 
-  pub search-found : (k : ℕ) → Searching nodes d nm stop k → k < stop → sameBytes (name_of (get_or nodes k none)) nm ≡ true → childOf nodes d nm ≡ Ok k
-  unfolding firstChild
+  pub search-found : (k : ℕ) → Searching nodes d nm stop k → k < stop → same_bytes (name_of (get_or nodes k none)) nm ≡ true → child_of nodes d nm ≡ Ok k
+  unfolding first_child
   search-found k s h t =
       let e : stop - k ≡ suc (stop - (k + 1)) = omega arith in
       s.left ∙ rw (e, eq-eqb (parent_of nodes k) d (s.child h), t)
 
-  pub search-turn : (k : ℕ) → Searching nodes d nm stop k → k < stop → sameBytes (name_of (get_or nodes k none)) nm ≡ false → Searching nodes d nm stop (after_of nodes k)
+  pub search-turn : (k : ℕ) → Searching nodes d nm stop k → k < stop → same_bytes (name_of (get_or nodes k none)) nm ≡ false → Searching nodes d nm stop (after_of nodes k)
   search-turn k s h t =
       let l : stop ≤ length nodes = omega (arith, next_le nodes d w in-d) in
       let p = after-past nodes k w (omega arith) in
@@ -139,42 +139,42 @@ module _ (nodes : List Node) (d : ℕ) (nm : List ℕ) (stop : ℕ) (w : WellFor
         later = omega (arith, s.later);
         child = λ q. child-next nodes d w k (omega arith) s.later (s.child h) (omega arith);
         left =
-            s.left ∙ ap (firstChild nodes d nm k) m ∙ skip nodes d nm k (after_of nodes k - k) (stop - after_of nodes k) passed ∙ ap (λ (i : ℕ). firstChild nodes d nm i (stop - after_of nodes k)) n;
+            s.left ∙ ap (first_child nodes d nm k) m ∙ skip nodes d nm k (after_of nodes k - k) (stop - after_of nodes k) passed ∙ ap (λ (i : ℕ). first_child nodes d nm i (stop - after_of nodes k)) n;
       }
     where
       bound : after_of nodes k ≤ stop
       bound = go (get_or nodes k none) refl
         where
-          go : (x : Node) → get_or nodes k none ≡ x → cond (isDirectory x) (next_of x) (k + 1) ≤ stop
+          go : (x : Node) → get_or nodes k none ≡ x → cond (is_directory x) (next_of x) (k + 1) ≤ stop
           go (file nm' offset size) e = omega arith
           go (directory nm' next) e = omega (arith, nests nodes d k next nm' w (s.later, open-lt (get_or nodes d none) k (omega arith)) (omega (arith, next_le nodes d w in-d)) e)
 
-      passed : (j : ℕ) → k ≤ j → j < k + (after_of nodes k - k) → childNamed nodes d nm j ≡ false
+      passed : (j : ℕ) → k ≤ j → j < k + (after_of nodes k - k) → child_named nodes d nm j ≡ false
       passed j a b =
           ⊎_elim (λ q. rw (ne_eqb (parent_of nodes j) d (inner-parent nodes d w k j s.later q (omega arith)))) (λ q. let r : j ≡ k = omega arith in rw (r, t) (and-false (eqb (parent_of nodes k) d))) (lt-or-le k j)
 
-  pub search-end : (k : ℕ) → Searching nodes d nm stop k → stop ≤ k → childOf nodes d nm ≡ Err NotFound
-  unfolding firstChild
+  pub search-end : (k : ℕ) → Searching nodes d nm stop k → stop ≤ k → child_of nodes d nm ≡ Err NotFound
+  unfolding first_child
   search-end k s h =
       let e : stop - k ≡ 0 = omega arith in
       s.left ∙ rw e
 
 -- ---- what was found is a child
 
-first_found : (nodes : List Node) (d : ℕ) (nm : List ℕ) (k n j : ℕ) → firstChild nodes d nm k n ≡ Ok j → (parent_of nodes j ≡ d) × (k ≤ j) × (j < k + n)
-unfolding firstChild
+first_found : (nodes : List Node) (d : ℕ) (nm : List ℕ) (k n j : ℕ) → first_child nodes d nm k n ≡ Ok j → (parent_of nodes j ≡ d) × (k ≤ j) × (j < k + n)
+unfolding first_child
 first_found nodes d nm k zero j e = let z : ◌≡◌ {A = ℕ} 0 1 = cc in absurd (omega arith)
-first_found nodes d nm k (suc n) j e = go (childNamed nodes d nm k) refl (first_found nodes d nm (suc k) n j) e
+first_found nodes d nm k (suc n) j e = go (child_named nodes d nm k) refl (first_found nodes d nm (suc k) n j) e
   where
-    go : (t : Bool) → childNamed nodes d nm k ≡ t → (firstChild nodes d nm (suc k) n ≡ Ok j → (parent_of nodes j ≡ d) × (suc k ≤ j) × (j < suc k + n)) →
-        cond t (Ok k) (firstChild nodes d nm (suc k) n) ≡ Ok j → (parent_of nodes j ≡ d) × (k ≤ j) × (j < k + suc n)
+    go : (t : Bool) → child_named nodes d nm k ≡ t → (first_child nodes d nm (suc k) n ≡ Ok j → (parent_of nodes j ≡ d) × (suc k ≤ j) × (j < suc k + n)) →
+        cond t (Ok k) (first_child nodes d nm (suc k) n) ≡ Ok j → (parent_of nodes j ≡ d) × (k ≤ j) × (j < k + suc n)
     go true c ih q =
         let r : k ≡ j = cc in
         (rw (← r) (eqb-true (parent_of nodes k) d (and_left (eqb (parent_of nodes k) d) _ c)), omega arith, omega arith)
     go false c ih q = let i = ih q in (i.0, omega arith, omega arith)
 
-pub child-found : (nodes : List Node) (d : ℕ) (nm : List ℕ) (j : ℕ) → WellFormed nodes → d < length nodes → childOf nodes d nm ≡ Ok j → (parent_of nodes j ≡ d) × (j < length nodes)
-unfolding childOf
+pub child-found : (nodes : List Node) (d : ℕ) (nm : List ℕ) (j : ℕ) → WellFormed nodes → d < length nodes → child_of nodes d nm ≡ Ok j → (parent_of nodes j ≡ d) × (j < length nodes)
+unfolding child_of
 child-found nodes d nm j w h e =
     let f = first_found nodes d nm (suc d) (next_of (get_or nodes d none) - suc d) j e in
     (f.0, omega (arith, next_le nodes d w h))

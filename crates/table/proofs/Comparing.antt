@@ -12,14 +12,14 @@ use borrow.Author.Tests.{ne_eqb, eqb-true, eqb-false}
 use lib.ListN.{length, get_or, drop, take, length-drop, get_or-eq_default}
 use lib.Seq.{get_or-drop, take-length}
 use lib.Dec.{eqb}
-use Rattle.endian.specs.Bytes.{span, sameBytes}
+use Rattle.endian.specs.Bytes.{span, same_bytes}
 use Rattle.refusal.specs.Laws.Tests.{lt-or-le}
 use Rattle.refusal.specs.declared.Refusal.TheVariants.{NotFound}
-use Rattle.tree.specs.Table.{Node, name_of, none, count, nodesOf, upTo0, namePlace}
-use Rattle.tree.specs.Lookup.{firstChild, childOf}
-use Rattle.tree.proofs.Laws.Accepted.{length-nodesOf}
-use Rattle.table.specs.Inner.Texts.{textAt}
-use Rattle.table.specs.Inner.Zeros.{hasZero}
+use Rattle.tree.specs.Table.{Node, name_of, none, count, nodes_of, up_to0, name_place}
+use Rattle.tree.specs.Lookup.{first_child, child_of}
+use Rattle.tree.proofs.Laws.Accepted.{length-nodes_of}
+use Rattle.table.specs.Inner.Texts.{text_at}
+use Rattle.table.specs.Inner.Zeros.{has_zero}
 use Rattle.table.proofs.Nodes.{root-name}
 use Rattle.table.proofs.Ended.{name-there}
 
@@ -29,15 +29,15 @@ and-false false = refl
 
 -- ---- the bytes of a list up to the first 0, compared with a name
 
-short : (s nm : List ℕ) → length s < length nm → sameBytes (upTo0 s) nm ≡ false
-unfolding sameBytes
+short : (s nm : List ℕ) → length s < length nm → same_bytes (up_to0 s) nm ≡ false
+unfolding same_bytes
 short s [] h = absurd (omega arith)
 short [] (y ∷ nm) h = refl
 short (zero ∷ s) (y ∷ nm) h = refl
 short (suc b ∷ s) (y ∷ nm) h = rw (short s nm (omega arith)) (and-false (eqb (suc b) y))
 
-longer : (s nm : List ℕ) → (get_or s (length nm) 0 ≡ 0 → ⊥) → sameBytes (upTo0 s) nm ≡ false
-unfolding sameBytes
+longer : (s nm : List ℕ) → (get_or s (length nm) 0 ≡ 0 → ⊥) → same_bytes (up_to0 s) nm ≡ false
+unfolding same_bytes
 longer [] nm h = absurd (h refl)
 longer (zero ∷ s) [] h = absurd (h refl)
 longer (suc b ∷ s) [] h = refl
@@ -48,61 +48,61 @@ or-none : (a b : Bool) → (a || b) ≡ false → (a ≡ false) × (b ≡ false)
 or-none true b e = let z : ◌≡◌ {A = ℕ} 0 1 = cc in absurd (omega arith)
 or-none false b e = (refl, e)
 
-exact : (s nm : List ℕ) → hasZero nm ≡ false → length nm ≤ length s → get_or s (length nm) 0 ≡ 0 → sameBytes (upTo0 s) nm ≡ sameBytes (take (length nm) s) nm
-unfolding sameBytes
+exact : (s nm : List ℕ) → has_zero nm ≡ false → length nm ≤ length s → get_or s (length nm) 0 ≡ 0 → same_bytes (up_to0 s) nm ≡ same_bytes (take (length nm) s) nm
+unfolding same_bytes
 exact [] [] z h e = refl
 exact [] (y ∷ nm) z h e = absurd (omega arith)
 exact (zero ∷ s) [] z h e = refl
 exact (suc b ∷ s) [] z h e = absurd (omega arith)
 exact (zero ∷ s) (y ∷ nm) z h e =
-    let n : eqb 0 y ≡ false = ne_eqb 0 y (λ q. eqb-false y 0 (or-none (eqb y 0) (hasZero nm) z).0 (sym q)) in
+    let n : eqb 0 y ≡ false = ne_eqb 0 y (λ q. eqb-false y 0 (or-none (eqb y 0) (has_zero nm) z).0 (sym q)) in
     rw n
-exact (suc b ∷ s) (y ∷ nm) z h e = ap (λ (t : Bool). eqb (suc b) y && t) (exact s nm (or-none (eqb y 0) (hasZero nm) z).1 (omega arith) e)
+exact (suc b ∷ s) (y ∷ nm) z h e = ap (λ (t : Bool). eqb (suc b) y && t) (exact s nm (or-none (eqb y 0) (has_zero nm) z).1 (omega arith) e)
 
-zeroed : (s nm : List ℕ) → hasZero nm ≡ true → sameBytes (upTo0 s) nm ≡ false
-unfolding sameBytes
+zeroed : (s nm : List ℕ) → has_zero nm ≡ true → same_bytes (up_to0 s) nm ≡ false
+unfolding same_bytes
 zeroed s [] z = let n : ◌≡◌ {A = ℕ} 0 1 = cc in absurd (omega arith)
 zeroed [] (y ∷ nm) z = refl
 zeroed (zero ∷ s) (y ∷ nm) z = refl
 zeroed (suc b ∷ s) (y ∷ nm) z = go (eqb y 0) refl z (zeroed s nm)
   where
-    go : (t : Bool) → eqb y 0 ≡ t → (t || hasZero nm) ≡ true → (hasZero nm ≡ true → sameBytes (upTo0 s) nm ≡ false) → (eqb (suc b) y && sameBytes (upTo0 s) nm) ≡ false
+    go : (t : Bool) → eqb y 0 ≡ t → (t || has_zero nm) ≡ true → (has_zero nm ≡ true → same_bytes (up_to0 s) nm ≡ false) → (eqb (suc b) y && same_bytes (up_to0 s) nm) ≡ false
     go true e q f = let n : eqb (suc b) y ≡ false = ne_eqb (suc b) y (λ p. omega (arith, eqb-true y 0 e)) in rw n
     go false e q f = rw (f q) (and-false (eqb (suc b) y))
 
 -- ---- a text of a table
 
 module _ (tab nm : List ℕ) (at : ℕ) where
-  pub text-short : length tab - at < length nm → sameBytes (textAt tab at) nm ≡ false
+  pub text-short : length tab - at < length nm → same_bytes (text_at tab at) nm ≡ false
   text-short h = short (drop at tab) nm (rw (length-drop at tab) h)
 
-  pub text-longer : (get_or tab (at + length nm) 0 ≡ 0 → ⊥) → sameBytes (textAt tab at) nm ≡ false
+  pub text-longer : (get_or tab (at + length nm) 0 ≡ 0 → ⊥) → same_bytes (text_at tab at) nm ≡ false
   text-longer h = longer (drop at tab) nm (rw (get_or-drop at tab (length nm) 0) h)
 
-  pub text-exact : hasZero nm ≡ false → length nm ≤ length tab - at → get_or tab (at + length nm) 0 ≡ 0 →
-      sameBytes (textAt tab at) nm ≡ sameBytes (span tab at (length nm)) (span nm 0 (length nm))
+  pub text-exact : has_zero nm ≡ false → length nm ≤ length tab - at → get_or tab (at + length nm) 0 ≡ 0 →
+      same_bytes (text_at tab at) nm ≡ same_bytes (span tab at (length nm)) (span nm 0 (length nm))
   text-exact z h e =
       rw (take-length nm) (exact (drop at tab) nm z (rw (length-drop at tab) h) (rw (get_or-drop at tab (length nm) 0) e))
 
 -- ---- a name with a zero byte
 
-pub zero-any : (nm : List ℕ) → hasZero nm ≡ list_any (λ b. eqb b 0) nm
+pub zero-any : (nm : List ℕ) → has_zero nm ≡ list_any (λ b. eqb b 0) nm
 zero-any [] = refl
 zero-any (b ∷ nm) = ap (λ (t : Bool). eqb b 0 || t) (zero-any nm)
 
-names-differ : (tab nm : List ℕ) → hasZero nm ≡ true → (j : ℕ) → sameBytes (name_of (get_or (nodesOf tab) j none)) nm ≡ false
+names-differ : (tab nm : List ℕ) → has_zero nm ≡ true → (j : ℕ) → same_bytes (name_of (get_or (nodes_of tab) j none)) nm ≡ false
 names-differ tab nm z zero = rw (root-name tab 0 refl) (zeroed [] nm z)
 names-differ tab nm z (suc j) =
     ⊎_elim
-    (λ l. rw (name-there tab (suc j) (omega arith) l) (zeroed (drop (namePlace tab (suc j)) tab) nm z))
-    (λ l. rw (get_or-eq_default (nodesOf tab) none {n = suc j} (rw (length-nodesOf tab) l)) (zeroed [] nm z))
+    (λ l. rw (name-there tab (suc j) (omega arith) l) (zeroed (drop (name_place tab (suc j)) tab) nm z))
+    (λ l. rw (get_or-eq_default (nodes_of tab) none {n = suc j} (rw (length-nodes_of tab) l)) (zeroed [] nm z))
     (lt-or-le (suc j) (count tab))
 
-none_from : (nodes : List Node) (d : ℕ) (nm : List ℕ) → ((j : ℕ) → sameBytes (name_of (get_or nodes j none)) nm ≡ false) → (k n : ℕ) → firstChild nodes d nm k n ≡ Err NotFound
-unfolding firstChild
+none_from : (nodes : List Node) (d : ℕ) (nm : List ℕ) → ((j : ℕ) → same_bytes (name_of (get_or nodes j none)) nm ≡ false) → (k n : ℕ) → first_child nodes d nm k n ≡ Err NotFound
+unfolding first_child
 none_from nodes d nm f k zero = refl
 none_from nodes d nm f k (suc n) = rw (f k, and-false _) (none_from nodes d nm f (suc k) n)
 
-pub child-none : (tab : List ℕ) (d : ℕ) (nm : List ℕ) → hasZero nm ≡ true → childOf (nodesOf tab) d nm ≡ Err NotFound
-unfolding childOf
-child-none tab d nm z = none_from (nodesOf tab) d nm (names-differ tab nm z) _ _
+pub child-none : (tab : List ℕ) (d : ℕ) (nm : List ℕ) → has_zero nm ≡ true → child_of (nodes_of tab) d nm ≡ Err NotFound
+unfolding child_of
+child-none tab d nm z = none_from (nodes_of tab) d nm (names-differ tab nm z) _ _

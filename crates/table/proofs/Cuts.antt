@@ -14,24 +14,24 @@ use Rattle.std.specs.Fn.{CalledAt}
 use Rattle.std.specs.Iterator.{Yields, YieldsFirstBy}
 use Rattle.std.specs.List.{FoldsTo}
 use Rattle.endian.specs.Bytes.{span}
-use Rattle.tree.specs.Units.{TextUnit, single, pair, unitBytes, units}
-use Rattle.tree.specs.Lookup.{separates, longer, componentsOf, components}
+use Rattle.tree.specs.Units.{TextUnit, single, pair, unit_bytes, units}
+use Rattle.tree.specs.Lookup.{separates, longer, components_of, components}
 use Rattle.table.proofs.UnitPlaces.{bytes_of, bytes-units}
-use Rattle.table.specs.Inner.Steps.{componentsAfter}
+use Rattle.table.specs.Inner.Steps.{components_after}
 
 -- bytes before the first component
 abbrev pub prepend : List ℕ → List (List ℕ) → List (List ℕ)
 prepend s [] = s ∷ []
 prepend s (c ∷ cs) = (s ++ c) ∷ cs
 
-longer-prepend : (u : TextUnit) (s : List ℕ) (cs : List (List ℕ)) → longer u (prepend s cs) ≡ prepend (unitBytes u ++ s) cs
+longer-prepend : (u : TextUnit) (s : List ℕ) (cs : List (List ℕ)) → longer u (prepend s cs) ≡ prepend (unit_bytes u ++ s) cs
 longer-prepend u s [] = refl
-longer-prepend u s (c ∷ cs) = rw (append_assoc (unitBytes u) s c)
+longer-prepend u s (c ∷ cs) = rw (append_assoc (unit_bytes u) s c)
 
-prepend-none : (us : List TextUnit) → prepend [] (componentsOf us) ≡ componentsOf us
-unfolding componentsOf
+prepend-none : (us : List TextUnit) → prepend [] (components_of us) ≡ components_of us
+unfolding components_of
 prepend-none [] = refl
-prepend-none (u ∷ us) = go (separates u) (componentsOf us)
+prepend-none (u ∷ us) = go (separates u) (components_of us)
   where
     go : (t : Bool) (cs : List (List ℕ)) → prepend [] (cond t ([] ∷ cs) (longer u cs)) ≡ cond t ([] ∷ cs) (longer u cs)
     go true cs = refl
@@ -44,15 +44,15 @@ prepend-none (u ∷ us) = go (separates u) (componentsOf us)
 pub record Walked (us left : List TextUnit) : Type 0 where
   pub bytes : List ℕ
   pub whole : bytes_of us ≡ bytes ++ bytes_of left
-  pub cut : componentsOf us ≡ prepend bytes (componentsOf left)
+  pub cut : components_of us ≡ prepend bytes (components_of left)
 
 walked-on : (u : TextUnit) (us left : List TextUnit) → false ≡ separates u → Walked us left → Walked (u ∷ us) left
-unfolding componentsOf
+unfolding components_of
 walked-on u us left h w =
     record {
-      bytes = unitBytes u ++ w.bytes;
-      whole = rw (w.whole, append_assoc (unitBytes u) w.bytes (bytes_of left)) refl;
-      cut = rw (← h, w.cut) (longer-prepend u w.bytes (componentsOf left));
+      bytes = unit_bytes u ++ w.bytes;
+      whole = rw (w.whole, append_assoc (unit_bytes u) w.bytes (bytes_of left)) refl;
+      cut = rw (← h, w.cut) (longer-prepend u w.bytes (components_of left));
     }
 
 -- a search for a unit that parts, by a closure that tests each
@@ -81,12 +81,12 @@ drop-past (a ∷ s) b rest = drop-past s b rest
 -- the component that starts at `at` ends before the byte that stands before the rest
 pub record EndsBefore (path : List ℕ) (at : ℕ) (rest : List ℕ) : Type 0 where
   pub long : at + 1 + length rest ≤ length path
-  pub cut : (e : ℕ) → e ≡ length path - length rest - 1 → components (drop at path) ≡ span path at (e - at) ∷ componentsAfter path e
+  pub cut : (e : ℕ) → e ≡ length path - length rest - 1 → components (drop at path) ≡ span path at (e - at) ∷ components_after path e
 
 module _ (path : List ℕ) (at : ℕ) (h : at ≤ length path) (us left : List TextUnit) (begun : us ≡ units (drop at path)) (w : Walked us left) where
   module _ (u : TextUnit) (ws : List TextUnit) (found : left ≡ u ∷ ws) (parts : true ≡ separates u) (rest : List ℕ) (behind : units rest ≡ ws) where
     pub ends-before : EndsBefore path at rest
-    unfolding components componentsOf
+    unfolding components components_of
     ends-before = go u found parts
       where
         go : (u : TextUnit) → left ≡ u ∷ ws → true ≡ separates u → EndsBefore path at rest
@@ -107,15 +107,15 @@ module _ (path : List ℕ) (at : ℕ) (h : at ≤ length path) (us left : List T
                   let inside : e' < length path = omega (arith, l, i) in
                   let taken : span path at (length w.bytes) ≡ w.bytes = ap (take (length w.bytes)) d ∙ take-append_seam w.bytes (b ∷ rest) in
                   let start : components (drop at path) ≡ w.bytes ∷ components rest =
-                  ap componentsOf (sym begun) ∙ w.cut ∙ rw (e, ← p, append-nil w.bytes, behind) refl in
+                  ap components_of (sym begun) ∙ w.cut ∙ rw (e, ← p, append-nil w.bytes, behind) refl in
                   start ∙ rw (k, taken, lt-ltb e' (length path) inside, m, past) refl;
             }
 
-  pub ends-last : left ≡ [] → components (drop at path) ≡ span path at (length path - at) ∷ componentsAfter path (length path)
-  unfolding components componentsOf
+  pub ends-last : left ≡ [] → components (drop at path) ≡ span path at (length path - at) ∷ components_after path (length path)
+  unfolding components components_of
   ends-last e =
       let d : drop at path ≡ w.bytes = sym (bytes-units (drop at path)) ∙ ap bytes_of (sym begun) ∙ w.whole ∙ ap (λ (s : List TextUnit). w.bytes ++ bytes_of s) e ∙ append-nil w.bytes in
       let n : length path - at ≡ length (drop at path) = sym (length-drop at path) in
       let taken : span path at (length path - at) ≡ w.bytes = rw n (take-length (drop at path)) ∙ d in
-      let start : components (drop at path) ≡ w.bytes ∷ [] = ap componentsOf (sym begun) ∙ w.cut ∙ rw (e, append-nil w.bytes) refl in
+      let start : components (drop at path) ≡ w.bytes ∷ [] = ap components_of (sym begun) ∙ w.cut ∙ rw (e, append-nil w.bytes) refl in
       start ∙ rw (taken, le-ltb (length path) (length path) (omega arith)) refl

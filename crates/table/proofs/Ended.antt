@@ -4,35 +4,35 @@ use mathlib.Core.Path.{◌≡◌, refl, sym, ap, ◌∙◌}
 use mathlib.Core.List.{List, [], ◌∷◌}
 use native.Mathlib.Omega.{arith}
 use lib.ListN.{length, get_or, take, drop}
-use Rattle.tree.specs.Table.{none, count, name_of, name_at, nodesOf, namePlace, upTo0}
+use Rattle.tree.specs.Table.{none, count, name_of, name_at, nodes_of, name_place, up_to0}
 use Rattle.tree.specs.Inner.Accepted.{Accepted}
-use Rattle.table.specs.Inner.Texts.{textAt}
+use Rattle.table.specs.Inner.Texts.{text_at}
 use Rattle.table.proofs.Walking.{count-some}
 use Rattle.table.proofs.Nodes.{name-is}
 use Rattle.table.proofs.NamePlaces.{place_is}
 
 -- the name of an entry past the root is the text at its place
-pub name-there : (tab : List ℕ) (k : ℕ) → 0 < k → k < count tab → name_of (get_or (nodesOf tab) k none) ≡ textAt tab (namePlace tab k)
+pub name-there : (tab : List ℕ) (k : ℕ) → 0 < k → k < count tab → name_of (get_or (nodes_of tab) k none) ≡ text_at tab (name_place tab k)
 name-there tab k h l = rw (place_is tab k (λ e. omega arith)) (name-is tab k h l)
 
-pub name-ended : {tab : List ℕ} {words : ℕ} → Accepted tab words → (k : ℕ) → 0 < k → k < count tab → namePlace tab k + length (textAt tab (namePlace tab k)) < length tab
+pub name-ended : {tab : List ℕ} {words : ℕ} → Accepted tab words → (k : ℕ) → 0 < k → k < count tab → name_place tab k + length (text_at tab (name_place tab k)) < length tab
 unfolding name_at
 name-ended {tab} a k h l = rw (place_is tab k (λ e. omega arith)) (a.names k h l)
 
 -- it does not stand at the table's start, where the root is
-pub place-some : (tab : List ℕ) (k : ℕ) → 0 < k → 0 < namePlace tab k
+pub place-some : (tab : List ℕ) (k : ℕ) → 0 < k → 0 < name_place tab k
 place-some tab k h = rw (place_is tab k (λ e. omega arith)) (omega (arith, count-some tab))
 
 -- as many bytes as it has are the text
-text-taken : (s : List ℕ) → take (length (upTo0 s)) s ≡ upTo0 s
+text-taken : (s : List ℕ) → take (length (up_to0 s)) s ≡ up_to0 s
 text-taken [] = refl
 text-taken (zero ∷ s) = refl
 text-taken (suc b ∷ s) = ap (λ (t : List ℕ). suc b ∷ t) (text-taken s)
 
 -- the bytes of the table from the name's place on, as many as its text has
-pub name-cut : (tab : List ℕ) (k place n : ℕ) → 0 < k → k < count tab → place ≡ namePlace tab k → n ≡ length (textAt tab place)
-    → take (place + n - place) (drop place tab) ≡ name_of (get_or (nodesOf tab) k none)
+pub name-cut : (tab : List ℕ) (k place n : ℕ) → 0 < k → k < count tab → place ≡ name_place tab k → n ≡ length (text_at tab place)
+    → take (place + n - place) (drop place tab) ≡ name_of (get_or (nodes_of tab) k none)
 name-cut tab k place n h l p e =
-    let m : place + n - place ≡ length (upTo0 (drop place tab)) = omega (arith, e) in
-    let f : name_of (get_or (nodesOf tab) k none) ≡ textAt tab place = rw p (name-there tab k h l) in
+    let m : place + n - place ≡ length (up_to0 (drop place tab)) = omega (arith, e) in
+    let f : name_of (get_or (nodes_of tab) k none) ≡ text_at tab place = rw p (name-there tab k h l) in
     rw m (text-taken (drop place tab) ∙ sym f)

@@ -13,29 +13,29 @@ use Rattle.std.specs.Prelude.{◌==◌, Option, Some, None, unwrap_or}
 use Rattle.std.specs.Option.{option_map_or}
 use Rattle.std.specs.List.{list_all, position_or_len}
 use Rattle.tree.specs.Units.{TextUnit, units}
-use Rattle.tree.specs.Table.{upTo0, every, safe, plain, plainUnit, safeUnit}
-use Rattle.table.specs.Inner.Texts.{nameless, cleanUnit, cleanFrom}
+use Rattle.tree.specs.Table.{up_to0, every, safe, plain, plain_unit, safe_unit}
+use Rattle.table.specs.Inner.Texts.{nameless, clean_unit, clean_from}
 
 pub all-every : (p : TextUnit → Bool) (us : List TextUnit) → list_all p us ≡ every p us
 all-every p [] = refl
 all-every p (u ∷ us) = ap (λ (t : Bool). p u && t) (all-every p us)
 
-pub plain-is : (nm : List ℕ) → list_all plainUnit (units nm) ≡ plain nm
+pub plain-is : (nm : List ℕ) → list_all plain_unit (units nm) ≡ plain nm
 unfolding plain
-plain-is nm = all-every plainUnit (units nm)
+plain-is nm = all-every plain_unit (units nm)
 
 pub safe-none : (nm : List ℕ) → nameless nm ≡ true → safe nm ≡ false
 unfolding safe
 safe-none [] h = refl
 safe-none (x ∷ s) h = rw h
 
-pub safe-is : (nm : List ℕ) → nameless nm ≡ false → safe nm ≡ list_all safeUnit (units nm)
+pub safe-is : (nm : List ℕ) → nameless nm ≡ false → safe nm ≡ list_all safe_unit (units nm)
 unfolding safe
 safe-is [] h = absurd (true≢false h)
-safe-is (x ∷ s) h = rw (h, all-every safeUnit (units (x ∷ s)))
+safe-is (x ∷ s) h = rw (h, all-every safe_unit (units (x ∷ s)))
 
-pub safe-fit : (nm : List ℕ) → nameless nm ≡ false → every safeUnit (units nm) ≡ true → safe nm ≡ true
-safe-fit nm h e = rw (safe-is nm h, all-every safeUnit (units nm)) e
+pub safe-fit : (nm : List ℕ) → nameless nm ≡ false → every safe_unit (units nm) ≡ true → safe nm ≡ true
+safe-fit nm h e = rw (safe-is nm h, all-every safe_unit (units nm)) e
 
 pub drop-min : (n : ℕ) (s : List ℕ) → drop (min n (length s)) s ≡ drop n s
 drop-min zero s = let e : min 0 (length s) ≡ 0 = omega arith in rw e
@@ -44,9 +44,9 @@ drop-min (suc n) (b ∷ s) =
     let e : min (suc n) (suc (length s)) ≡ suc (min n (length s)) = omega arith in
     rw e (drop-min n s)
 
-pub clean-is : (tab : List ℕ) (from at : ℕ) → at ≡ min from (length tab) → list_all cleanUnit (units (drop at tab)) ≡ cleanFrom tab from
-unfolding cleanFrom
-clean-is tab from at e = rw (e, drop-min from tab) (all-every cleanUnit (units (drop from tab)))
+pub clean-is : (tab : List ℕ) (from at : ℕ) → at ≡ min from (length tab) → list_all clean_unit (units (drop at tab)) ≡ clean_from tab from
+unfolding clean_from
+clean-is tab from at e = rw (e, drop-min from tab) (all-every clean_unit (units (drop from tab)))
 
 pub whole-rest : (s : List ℕ) (n : ℕ) → take (length s - n) (drop n s) ≡ drop n s
 whole-rest s n = rw (← length-drop n s, take-length (drop n s))
@@ -56,7 +56,7 @@ whole-rest s n = rw (← length-drop n s, take-length (drop n s))
 abbrev pub is_zero : ℕ → Bool
 is_zero b = b == 0
 
-text-cut : (s : List ℕ) → take (position_or_len is_zero s) s ≡ upTo0 s
+text-cut : (s : List ℕ) → take (position_or_len is_zero s) s ≡ up_to0 s
 text-cut [] = refl
 text-cut (zero ∷ s) = refl
 text-cut (suc b ∷ s) =
@@ -64,10 +64,10 @@ text-cut (suc b ∷ s) =
     let k : 1 + position_or_len is_zero s ≡ suc (position_or_len is_zero s) = omega arith in
     rw (e, k) (ap (λ (t : List ℕ). suc b ∷ t) (text-cut s))
 
-pub cut-some : (s : List ℕ) (n : ℕ) → Some n ≡ cond (ltb (position_or_len is_zero s) (length s)) (Some (position_or_len is_zero s)) None → take n s ≡ upTo0 s
+pub cut-some : (s : List ℕ) (n : ℕ) → Some n ≡ cond (ltb (position_or_len is_zero s) (length s)) (Some (position_or_len is_zero s)) None → take n s ≡ up_to0 s
 cut-some s n e = go (ltb (position_or_len is_zero s) (length s)) e
   where
-    go : (t : Bool) → Some n ≡ cond t (Some (position_or_len is_zero s)) None → take n s ≡ upTo0 s
+    go : (t : Bool) → Some n ≡ cond t (Some (position_or_len is_zero s)) None → take n s ≡ up_to0 s
     go true e = let q : n ≡ position_or_len is_zero s = ap (λ (o : Option ℕ). unwrap_or o 0) e in rw q (text-cut s)
     go false e = let q : n + 1 ≡ 0 = ap (λ (o : Option ℕ). option_map_or (λ k. k + 1) o 0) e in absurd (omega (arith, q))
 
@@ -77,9 +77,9 @@ take-past (suc n) [] h = refl
 take-past zero (b ∷ s) h = absurd (omega arith)
 take-past (suc n) (b ∷ s) h = ap (λ (t : List ℕ). b ∷ t) (take-past n s (omega arith))
 
-pub cut-none : (s : List ℕ) → None ≡ cond (ltb (position_or_len is_zero s) (length s)) (Some (position_or_len is_zero s)) None → s ≡ upTo0 s
+pub cut-none : (s : List ℕ) → None ≡ cond (ltb (position_or_len is_zero s) (length s)) (Some (position_or_len is_zero s)) None → s ≡ up_to0 s
 cut-none s e = go (ltb (position_or_len is_zero s) (length s)) refl e
   where
-    go : (t : Bool) → ltb (position_or_len is_zero s) (length s) ≡ t → None ≡ cond t (Some (position_or_len is_zero s)) None → s ≡ upTo0 s
+    go : (t : Bool) → ltb (position_or_len is_zero s) (length s) ≡ t → None ≡ cond t (Some (position_or_len is_zero s)) None → s ≡ up_to0 s
     go true f e = let q : 0 ≡ position_or_len is_zero s + 1 = ap (λ (o : Option ℕ). option_map_or (λ k. k + 1) o 0) e in absurd (omega (arith, q))
     go false f e = sym (take-past (position_or_len is_zero s) s (ltb-false _ _ f)) ∙ text-cut s

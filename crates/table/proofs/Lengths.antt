@@ -12,14 +12,14 @@ use lib.Seq.{get_or-set_same, get_or-set_other, drop-drop}
 use lib.Dec.{ltb, eqb}
 use Rattle.std.specs.Prelude.{Option, Some, None, unwrap_or}
 use Rattle.std.specs.List.{position, position_or_len}
-use Rattle.tree.specs.Table.{upTo0}
+use Rattle.tree.specs.Table.{up_to0}
 use Rattle.refusal.specs.Laws.Tests.{lt-or-le}
-use Rattle.table.specs.Inner.Texts.{textAt}
+use Rattle.table.specs.Inner.Texts.{text_at}
 use Rattle.table.proofs.Texts.{length-end, length-turn}
 use Rattle.table.specs.Inner.Ends.{EndsIn}
 
 -- a text from its byte d on
-pub length-inside : (tab : List ℕ) (at d : ℕ) → d ≤ length (textAt tab at) → length (textAt tab at) ≡ d + length (textAt tab (at + d))
+pub length-inside : (tab : List ℕ) (at d : ℕ) → d ≤ length (text_at tab at) → length (text_at tab at) ≡ d + length (text_at tab (at + d))
 length-inside tab at zero h = let e : at + 0 ≡ at = omega arith in rw e (omega arith)
 length-inside tab at (suc d) h =
     let i = length-inside tab at d (omega arith) in
@@ -41,26 +41,26 @@ pub ends-start : (tab : List ℕ) → EndsIn tab (replicate 320 None)
 ends-start tab = record { blocks = length-replicate {A = Option ℕ} 320 None; each = λ b end l h. absurd (no-end (sym (get_or-replicate {A = Option ℕ} 320 b None None l) ∙ h)) }
 
 -- the end of a long text is told to the next block
-pub ends-turn : (tab : List ℕ) (ends : List (Option ℕ)) (at b v : ℕ) → EndsIn tab ends → b < 320 → at ≤ 4096 * b → 4096 * b ≤ at + length (textAt tab at) → v ≡ at + length (textAt tab at) → EndsIn tab (set ends b (Some v))
+pub ends-turn : (tab : List ℕ) (ends : List (Option ℕ)) (at b v : ℕ) → EndsIn tab ends → b < 320 → at ≤ 4096 * b → 4096 * b ≤ at + length (text_at tab at) → v ≡ at + length (text_at tab at) → EndsIn tab (set ends b (Some v))
 ends-turn tab ends at b v e l p q is = record {
   blocks = length-set ends b (Some v) ∙ e.blocks;
   each = λ j end m. ⊎_elim (λ jb. other j end m (λ r. omega arith)) (λ bj. ⊎_elim (λ r. other j end m (λ s. omega arith)) (λ r. let f : j ≡ b = omega arith in rw f (here end)) (lt-or-le b j)) (lt-or-le j b);
 }
   where
-    whole : v ≡ 4096 * b + length (textAt tab (4096 * b))
+    whole : v ≡ 4096 * b + length (text_at tab (4096 * b))
     whole =
         let f : at + (4096 * b - at) ≡ 4096 * b = omega arith in
         let i = length-inside tab at (4096 * b - at) (omega arith) in omega (arith, is, rw f at i)
 
-    here : (end : ℕ) → get_or (set ends b (Some v)) b None ≡ Some end → end ≡ 4096 * b + length (textAt tab (4096 * b))
+    here : (end : ℕ) → get_or (set ends b (Some v)) b None ≡ Some end → end ≡ 4096 * b + length (text_at tab (4096 * b))
     here end h = sym (some-is (sym (get_or-set_same ends b (Some v) None (omega (arith, e.blocks))) ∙ h)) ∙ whole
 
-    other : (j end : ℕ) → j < 320 → (j ≡ b → ⊥) → get_or (set ends b (Some v)) j None ≡ Some end → end ≡ 4096 * j + length (textAt tab (4096 * j))
+    other : (j end : ℕ) → j < 320 → (j ≡ b → ⊥) → get_or (set ends b (Some v)) j None ≡ Some end → end ≡ 4096 * j + length (text_at tab (4096 * j))
     other j end m n = rw (get_or-set_other ends b j (Some v) None n) (e.each j end m)
 
 -- ---- a text that another stands behind: it ends before that one, or with it
 
-found-before : (s : List ℕ) (n : ℕ) → position_or_len (λ b. eqb b 0) (take n s) < length (take n s) → length (upTo0 s) ≡ position_or_len (λ b. eqb b 0) (take n s)
+found-before : (s : List ℕ) (n : ℕ) → position_or_len (λ b. eqb b 0) (take n s) < length (take n s) → length (up_to0 s) ≡ position_or_len (λ b. eqb b 0) (take n s)
 found-before [] zero h = absurd (omega arith)
 found-before [] (suc n) h = absurd (omega arith)
 found-before (b ∷ s) zero h = absurd (omega arith)
@@ -69,7 +69,7 @@ found-before (suc b ∷ s) (suc n) h =
     let z : eqb (suc b) 0 ≡ false = ne_eqb (suc b) 0 (λ e. omega arith) in
     let q : position_or_len (λ b. eqb b 0) (take (suc n) (suc b ∷ s)) ≡ 1 + position_or_len (λ b. eqb b 0) (take n s) = rw z in omega (arith, q, found-before s n (omega (arith, q)))
 
-none-before : (s : List ℕ) (n : ℕ) → length (upTo0 s) < length s → length (take n s) ≤ position_or_len (λ b. eqb b 0) (take n s) → length (upTo0 s) ≡ n + length (upTo0 (drop n s))
+none-before : (s : List ℕ) (n : ℕ) → length (up_to0 s) < length s → length (take n s) ≤ position_or_len (λ b. eqb b 0) (take n s) → length (up_to0 s) ≡ n + length (up_to0 (drop n s))
 none-before [] n h l = absurd (omega arith)
 none-before (b ∷ s) zero h l = omega arith
 none-before (zero ∷ s) (suc n) h l = absurd (omega arith)
@@ -77,14 +77,14 @@ none-before (suc b ∷ s) (suc n) h l =
     let z : eqb (suc b) 0 ≡ false = ne_eqb (suc b) 0 (λ e. omega arith) in
     let q : position_or_len (λ b. eqb b 0) (take (suc n) (suc b ∷ s)) ≡ 1 + position_or_len (λ b. eqb b 0) (take n s) = rw z in omega (arith, none-before s n (omega arith) (omega (arith, q)))
 
-module _ (tab : List ℕ) (at stop end : ℕ) (inside : at + length (textAt tab at) < length tab) (before : at ≤ stop) (ends : end ≡ stop + length (textAt tab stop)) where
-  pub before-or-with : unwrap_or (position (λ b. eqb b 0) (take (stop - at) (drop at tab))) (end - at) ≡ length (textAt tab at)
+module _ (tab : List ℕ) (at stop end : ℕ) (inside : at + length (text_at tab at) < length tab) (before : at ≤ stop) (ends : end ≡ stop + length (text_at tab stop)) where
+  pub before-or-with : unwrap_or (position (λ b. eqb b 0) (take (stop - at) (drop at tab))) (end - at) ≡ length (text_at tab at)
   before-or-with = go (ltb (position_or_len (λ b. eqb b 0) (take (stop - at) (drop at tab))) (length (take (stop - at) (drop at tab)))) refl
     where
       go : (t : Bool) → ltb (position_or_len (λ b. eqb b 0) (take (stop - at) (drop at tab))) (length (take (stop - at) (drop at tab))) ≡ t
-          → unwrap_or (cond t (Some (position_or_len (λ b. eqb b 0) (take (stop - at) (drop at tab)))) None) (end - at) ≡ length (textAt tab at)
+          → unwrap_or (cond t (Some (position_or_len (λ b. eqb b 0) (take (stop - at) (drop at tab)))) None) (end - at) ≡ length (text_at tab at)
       go true e = sym (found-before (drop at tab) (stop - at) (ltb-true _ _ e))
       go false e =
           let n : at + (stop - at) ≡ stop = omega arith in
           let d : drop (stop - at) (drop at tab) ≡ drop stop tab = drop-drop (stop - at) at tab ∙ ap (λ (i : ℕ). drop i tab) n in
-          omega (arith, none-before (drop at tab) (stop - at) (omega (arith, length-drop at tab)) (ltb-false _ _ e), ap (λ (s : List ℕ). length (upTo0 s)) d)
+          omega (arith, none-before (drop at tab) (stop - at) (omega (arith, length-drop at tab)) (ltb-false _ _ e), ap (λ (s : List ℕ). length (up_to0 s)) d)

@@ -10,14 +10,14 @@ use lib.Dec.{ltb, eqb}
 use Rattle.endian.specs.Bytes.{AllBytes}
 use Rattle.refusal.specs.declared.Refusal.TheVariants.{EntryPastTable, UnrecognizedKind, RootIsNotDirectory, LimitOrMemory}
 use Rattle.refusal.specs.Laws.Chains.{refuse-passed, first-passed}
-use Rattle.tree.specs.Table.{Node, file, directory, name_of, none, count, kind, nameOffset, offsetOrParent, sizeOrNext, name_at, nodesOf, entriesVerdict, check, encloses, parentBelow, parent_of}
-use Rattle.tree.specs.Lookup.{isDirectory, next_of}
+use Rattle.tree.specs.Table.{Node, file, directory, name_of, none, count, kind, name_offset, offset_or_parent, size_or_next, name_at, nodes_of, entries_verdict, check, encloses, parent_below, parent_of}
+use Rattle.tree.specs.Lookup.{is_directory, next_of}
 use Rattle.tree.specs.Inner.Accepted.{Accepted}
-use Rattle.tree.proofs.Laws.Accepted.{accepted, length-nodesOf, getD-nodesOf}
+use Rattle.tree.proofs.Laws.Accepted.{accepted, length-nodes_of, get_d-nodes_of}
 use Rattle.tree.proofs.Laws.WellNested.{root_is}
 use Rattle.tree.proofs.Laws.Nesting.{parent-here, parent-lower, parent-before}
 use Rattle.table.specs.Inner.Reading.{Inside, Opens}
-use Rattle.table.specs.Inner.Texts.{textAt}
+use Rattle.table.specs.Inner.Texts.{text_at}
 use Rattle.table.specs.Inner.Fields.{last_of}
 use Rattle.table.specs.Inner.Held.{Held}
 use Rattle.table.proofs.Walking.{node-file, node-directory, node-name, entries-inside, count-some}
@@ -33,36 +33,36 @@ opens-inside tab o =
     let e₂ = refuse-passed (ltb 1 (kind tab 0)) UnrecognizedKind _ e₁.1 in
     let e₃ = refuse-passed (eqb (kind tab 0) 0) RootIsNotDirectory _ e₂.1 in
     let e₄ = refuse-passed (ltb 16384 (count tab)) LimitOrMemory _ e₃.1 in
-    let e₅ = first-passed (entriesVerdict tab 1 (count tab - 1)) _ e₄.1 in
+    let e₅ = first-passed (entries_verdict tab 1 (count tab - 1)) _ e₄.1 in
     entries-inside tab (count tab) (ltb-false _ _ e₁.0) (count-some tab) (ltb-false _ _ e₄.0) e₅.0
 
 module _ {tab : List ℕ} {words : ℕ} (a : Accepted tab words) (k : ℕ) (inside : k < count tab) where
-  pub file-is : kind tab k ≡ 0 → get_or (nodesOf tab) k none ≡ file (name_at tab (count tab) (nameOffset tab k)) (offsetOrParent tab k) (sizeOrNext tab k)
+  pub file-is : kind tab k ≡ 0 → get_or (nodes_of tab) k none ≡ file (name_at tab (count tab) (name_offset tab k)) (offset_or_parent tab k) (size_or_next tab k)
   file-is e = go k refl
     where
-      go : (j : ℕ) → k ≡ j → get_or (nodesOf tab) k none ≡ file (name_at tab (count tab) (nameOffset tab k)) (offsetOrParent tab k) (sizeOrNext tab k)
+      go : (j : ℕ) → k ≡ j → get_or (nodes_of tab) k none ≡ file (name_at tab (count tab) (name_offset tab k)) (offset_or_parent tab k) (size_or_next tab k)
       go zero z = let r : kind tab 0 ≡ 0 = rw z at e in absurd (omega (arith, a.root-kind))
-      go (suc j) z = getD-nodesOf tab k (omega arith) inside ∙ node-file tab (count tab) k e
+      go (suc j) z = get_d-nodes_of tab k (omega arith) inside ∙ node-file tab (count tab) k e
 
-  pub directory-is : (kind tab k ≡ 0 → ⊥) → get_or (nodesOf tab) k none ≡ directory (name_of (get_or (nodesOf tab) k none)) (sizeOrNext tab k)
+  pub directory-is : (kind tab k ≡ 0 → ⊥) → get_or (nodes_of tab) k none ≡ directory (name_of (get_or (nodes_of tab) k none)) (size_or_next tab k)
   directory-is e = go k refl
     where
-      go : (j : ℕ) → k ≡ j → get_or (nodesOf tab) k none ≡ directory (name_of (get_or (nodesOf tab) k none)) (sizeOrNext tab k)
-      go zero z = rw (z, root_is (nodesOf tab) a.well, a.root-next, length-nodesOf tab)
-      go (suc j) z = let h : get_or (nodesOf tab) k none ≡ directory (name_at tab (count tab) (nameOffset tab k)) (sizeOrNext tab k) = getD-nodesOf tab k (omega arith) inside ∙ node-directory tab (count tab) k e in rw h
+      go : (j : ℕ) → k ≡ j → get_or (nodes_of tab) k none ≡ directory (name_of (get_or (nodes_of tab) k none)) (size_or_next tab k)
+      go zero z = rw (z, root_is (nodes_of tab) a.well, a.root-next, length-nodes_of tab)
+      go (suc j) z = let h : get_or (nodes_of tab) k none ≡ directory (name_at tab (count tab) (name_offset tab k)) (size_or_next tab k) = get_d-nodes_of tab k (omega arith) inside ∙ node-directory tab (count tab) k e in rw h
 
-  pub is-directory : not (eqb (kind tab k) 0) ≡ isDirectory (get_or (nodesOf tab) k none)
+  pub is-directory : not (eqb (kind tab k) 0) ≡ is_directory (get_or (nodes_of tab) k none)
   is-directory = go (eqb (kind tab k) 0) refl
     where
-      go : (t : Bool) → eqb (kind tab k) 0 ≡ t → not t ≡ isDirectory (get_or (nodesOf tab) k none)
+      go : (t : Bool) → eqb (kind tab k) 0 ≡ t → not t ≡ is_directory (get_or (nodes_of tab) k none)
       go true e = rw (file-is (eqb-true _ _ e))
       go false e = rw (directory-is (eqb-false _ _ e))
 
 -- the last field is that of the record
-pub last-is : {tab : List ℕ} {words : ℕ} → Accepted tab words → (k : ℕ) → k < count tab → {n : ℕ} → n ≡ sizeOrNext tab k → n ≡ last_of (get_or (nodesOf tab) k none)
+pub last-is : {tab : List ℕ} {words : ℕ} → Accepted tab words → (k : ℕ) → k < count tab → {n : ℕ} → n ≡ size_or_next tab k → n ≡ last_of (get_or (nodes_of tab) k none)
 last-is {tab} a k h {n} e = go (eqb (kind tab k) 0) refl
   where
-    go : (t : Bool) → eqb (kind tab k) 0 ≡ t → n ≡ last_of (get_or (nodesOf tab) k none)
+    go : (t : Bool) → eqb (kind tab k) 0 ≡ t → n ≡ last_of (get_or (nodes_of tab) k none)
     go true q = e ∙ sym (ap last_of (file-is a k h (eqb-true _ _ q)))
     go false q = e ∙ sym (ap last_of (directory-is a k h (eqb-false _ _ q)))
 
@@ -77,42 +77,42 @@ module _ (nodes : List Node) (k i : ℕ) (h : 0 < i) where
   before : i ≡ suc (i - 1)
   before = omega arith
 
-  pub parent-found : k < next_of (get_or nodes (i - 1) none) → parentBelow nodes k i ≡ i - 1
+  pub parent-found : k < next_of (get_or nodes (i - 1) none) → parent_below nodes k i ≡ i - 1
   parent-found l =
       let e : encloses (get_or nodes (i - 1) none) k ≡ true = encloses-next (get_or nodes (i - 1) none) k ∙ lt-ltb _ _ l in
-      ap (parentBelow nodes k) before ∙ parent-here nodes k (i - 1) e
+      ap (parent_below nodes k) before ∙ parent-here nodes k (i - 1) e
 
-  pub parent-on : next_of (get_or nodes (i - 1) none) ≤ k → parentBelow nodes k i ≡ parentBelow nodes k (i - 1)
+  pub parent-on : next_of (get_or nodes (i - 1) none) ≤ k → parent_below nodes k i ≡ parent_below nodes k (i - 1)
   parent-on l =
       let e : encloses (get_or nodes (i - 1) none) k ≡ false = encloses-next (get_or nodes (i - 1) none) k ∙ le-ltb _ _ l in
-      ap (parentBelow nodes k) before ∙ parent-lower nodes k (i - 1) e
+      ap (parent_below nodes k) before ∙ parent-lower nodes k (i - 1) e
 
-pub parent-whole : (nodes : List Node) (k : ℕ) → parent_of nodes k ≡ parentBelow nodes k k
+pub parent-whole : (nodes : List Node) (k : ℕ) → parent_of nodes k ≡ parent_below nodes k k
 unfolding parent_of
 parent-whole nodes k = refl
 
-pub parent-none : (nodes : List Node) (k i : ℕ) → i ≡ 0 → parentBelow nodes k i ≡ 0
-unfolding parentBelow
+pub parent-none : (nodes : List Node) (k i : ℕ) → i ≡ 0 → parent_below nodes k i ≡ 0
+unfolding parent_below
 parent-none nodes k i e = rw e
 
 pub parent-at-most : (nodes : List Node) (k : ℕ) → parent_of nodes k ≤ k
-unfolding parent_of parentBelow
+unfolding parent_of parent_below
 parent-at-most nodes zero = omega arith
 parent-at-most nodes (suc k) = omega (arith, parent-before nodes (suc k) (omega arith))
 
 -- the name of an entry past the root
-pub name-is : (tab : List ℕ) (k : ℕ) → 0 < k → k < count tab → name_of (get_or (nodesOf tab) k none) ≡ textAt tab (12 * count tab + nameOffset tab k)
+pub name-is : (tab : List ℕ) (k : ℕ) → 0 < k → k < count tab → name_of (get_or (nodes_of tab) k none) ≡ text_at tab (12 * count tab + name_offset tab k)
 unfolding name_at
-name-is tab k h l = ap name_of (getD-nodesOf tab k h l) ∙ node-name tab (count tab) k
+name-is tab k h l = ap name_of (get_d-nodes_of tab k h l) ∙ node-name tab (count tab) k
 
 -- no name is longer than the texts may be; the root has none
-pub name-short : {tab : List ℕ} {words : ℕ} → Accepted tab words → (k : ℕ) → 0 < k → k < count tab → length (name_of (get_or (nodesOf tab) k none)) ≤ 2 ^ 20
+pub name-short : {tab : List ℕ} {words : ℕ} → Accepted tab words → (k : ℕ) → 0 < k → k < count tab → length (name_of (get_or (nodes_of tab) k none)) ≤ 2 ^ 20
 name-short {tab} a k h l =
-    let e : name_of (get_or (nodesOf tab) k none) ≡ name_at tab (count tab) (nameOffset tab k) = ap name_of (getD-nodesOf tab k h l) ∙ node-name tab (count tab) k in
+    let e : name_of (get_or (nodes_of tab) k none) ≡ name_at tab (count tab) (name_offset tab k) = ap name_of (get_d-nodes_of tab k h l) ∙ node-name tab (count tab) k in
     rw e (omega (arith, a.names k h l, a.texts))
 
-pub root-name : (tab : List ℕ) (k : ℕ) → k ≡ 0 → name_of (get_or (nodesOf tab) k none) ≡ []
-unfolding nodesOf
+pub root-name : (tab : List ℕ) (k : ℕ) → k ≡ 0 → name_of (get_or (nodes_of tab) k none) ≡ []
+unfolding nodes_of
 root-name tab k e = rw e
 
 -- a table that is held is accepted

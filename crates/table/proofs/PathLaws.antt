@@ -9,9 +9,9 @@ use borrow.Author.Tests.{leb-true}
 use lib.ListN.{length, get_or, drop}
 use Rattle.refusal.specs.Laws.Tests.{and_left, and_right}
 use Rattle.refusal.specs.declared.Refusal.TheVariants.{ExpectedDirectory}
-use Rattle.tree.specs.Table.{Node, file, directory, none, shut, enter, shallowEntry, shallowFrom, shallow}
+use Rattle.tree.specs.Table.{Node, file, directory, none, shut, enter, shallow_entry, shallow_from, shallow}
 use Rattle.tree.specs.Inner.WellFormed.{WellFormed}
-use Rattle.tree.specs.Lookup.{isDirectory, childOf, stays, goesBack, and_then, stepBack, follow}
+use Rattle.tree.specs.Lookup.{is_directory, child_of, stays, goes_back, and_then, step_back, follow}
 use Rattle.tree.proofs.Laws.Children.{child-is}
 use Rattle.tree.proofs.Laws.OpenDirectories.{open_at, stack_is}
 use Rattle.tree.specs.Inner.Depths.{depth_of}
@@ -21,46 +21,46 @@ use Rattle.table.proofs.ChildLaws.{child-found}
 
 -- ---- a directory of an accepted tree is at most 64 deep
 
-shallow-at : (k : ℕ) (dirs : List ℕ) (xs : List Node) (i : ℕ) → shallowFrom dirs k xs ≡ true → i < length xs → shallowEntry (open_at dirs k xs i) (get_or xs i none) ≡ true
-unfolding shallowFrom open_at
+shallow-at : (k : ℕ) (dirs : List ℕ) (xs : List Node) (i : ℕ) → shallow_from dirs k xs ≡ true → i < length xs → shallow_entry (open_at dirs k xs i) (get_or xs i none) ≡ true
+unfolding shallow_from open_at
 shallow-at k dirs [] i e h = absurd (omega arith)
-shallow-at k dirs (x ∷ xs) zero e h = and_left (shallowEntry (shut k dirs) x) _ e
-shallow-at k dirs (x ∷ xs) (suc i) e h = shallow-at (suc k) (enter (shut k dirs) x) xs i (and_right (shallowEntry (shut k dirs) x) _ e) (omega arith)
+shallow-at k dirs (x ∷ xs) zero e h = and_left (shallow_entry (shut k dirs) x) _ e
+shallow-at k dirs (x ∷ xs) (suc i) e h = shallow-at (suc k) (enter (shut k dirs) x) xs i (and_right (shallow_entry (shut k dirs) x) _ e) (omega arith)
 
-entry-shallow : (nodes : List Node) (i : ℕ) → shallow nodes ≡ true → suc i < length nodes → shallowEntry (open_at (length nodes ∷ []) 1 (tail nodes) i) (get_or nodes (suc i) none) ≡ true
+entry-shallow : (nodes : List Node) (i : ℕ) → shallow nodes ≡ true → suc i < length nodes → shallow_entry (open_at (length nodes ∷ []) 1 (tail nodes) i) (get_or nodes (suc i) none) ≡ true
 unfolding shallow
 entry-shallow [] i s h = absurd (omega arith)
 entry-shallow (r ∷ xs) i s h = shallow-at 1 (suc (length xs) ∷ []) xs i s (omega arith)
 
-pub directory-depth : (nodes : List Node) (k : ℕ) → WellFormed nodes → shallow nodes ≡ true → k < length nodes → isDirectory (get_or nodes k none) ≡ true → depth_of nodes k ≤ 64
+pub directory-depth : (nodes : List Node) (k : ℕ) → WellFormed nodes → shallow nodes ≡ true → k < length nodes → is_directory (get_or nodes k none) ≡ true → depth_of nodes k ≤ 64
 directory-depth nodes zero w s h d = omega (arith, depth-root nodes)
 directory-depth nodes (suc i) w s h d = go (get_or nodes (suc i) none) (entry-shallow nodes i s h) d
   where
-    go : (x : Node) → shallowEntry (open_at (length nodes ∷ []) 1 (tail nodes) i) x ≡ true → isDirectory x ≡ true → depth_of nodes (suc i) ≤ 64
+    go : (x : Node) → shallow_entry (open_at (length nodes ∷ []) 1 (tail nodes) i) x ≡ true → is_directory x ≡ true → depth_of nodes (suc i) ≤ 64
     go (file nm offset size) e q = let z : ◌≡◌ {A = ℕ} 0 1 = cc in absurd (omega arith)
     go (directory nm next) e q = rw (stack_is nodes w i h) (leb-true (length (open_at (length nodes ∷ []) 1 (tail nodes) i)) 64 e)
 
 -- so a step from it finds room in a trail
-pub room : (nodes : List Node) (trail : List ℕ) (k : ℕ) → WellFormed nodes → shallow nodes ≡ true → Trail nodes trail k → isDirectory (get_or nodes k none) ≡ true → length trail < 65
+pub room : (nodes : List Node) (trail : List ℕ) (k : ℕ) → WellFormed nodes → shallow nodes ≡ true → Trail nodes trail k → is_directory (get_or nodes k none) ≡ true → length trail < 65
 room nodes trail k w s t d = omega (arith, t.deep, directory-depth nodes k w s t.inside d)
 
 -- ---- one step
 
 module _ (nodes : List Node) (trail : List ℕ) (k : ℕ) (nm : List ℕ) where
-  pub step-file : isDirectory (get_or nodes k none) ≡ false → (cs : List (List ℕ)) → follow nodes trail k (nm ∷ cs) ≡ Err ExpectedDirectory
+  pub step-file : is_directory (get_or nodes k none) ≡ false → (cs : List (List ℕ)) → follow nodes trail k (nm ∷ cs) ≡ Err ExpectedDirectory
   unfolding follow
   step-file d cs = rw d
 
-  module _ (d : isDirectory (get_or nodes k none) ≡ true) where
+  module _ (d : is_directory (get_or nodes k none) ≡ true) where
     pub step-stay : stays nm ≡ true → (cs : List (List ℕ)) → follow nodes trail k (nm ∷ cs) ≡ follow nodes trail k cs
     unfolding follow
     step-stay s cs = rw (d, s)
 
-    pub step_back : stays nm ≡ false → goesBack nm ≡ true → (cs : List (List ℕ)) → follow nodes trail k (nm ∷ cs) ≡ stepBack trail (λ j rest. follow nodes rest j cs)
+    pub step_back_lem : stays nm ≡ false → goes_back nm ≡ true → (cs : List (List ℕ)) → follow nodes trail k (nm ∷ cs) ≡ step_back trail (λ j rest. follow nodes rest j cs)
     unfolding follow
-    step_back s b cs = rw (d, s, b)
+    step_back_lem s b cs = rw (d, s, b)
 
-    pub step-into : stays nm ≡ false → goesBack nm ≡ false → (cs : List (List ℕ)) → follow nodes trail k (nm ∷ cs) ≡ and_then (childOf nodes k nm) (λ j. follow nodes (k ∷ trail) j cs)
+    pub step-into : stays nm ≡ false → goes_back nm ≡ false → (cs : List (List ℕ)) → follow nodes trail k (nm ∷ cs) ≡ and_then (child_of nodes k nm) (λ j. follow nodes (k ∷ trail) j cs)
     unfolding follow
     step-into s b cs = rw (d, s, b)
 
@@ -77,7 +77,7 @@ back-none (i ∷ trail) e = absurd (cc)
 pub trail-back : (nodes : List Node) (trail : List ℕ) (j : ℕ) → Behind nodes (j ∷ trail) → Trail nodes trail j
 trail-back nodes trail j b = record { inside = b.0; deep = b.1; behind = b.2 }
 
-pub trail-into : (nodes : List Node) (trail : List ℕ) (k : ℕ) (nm : List ℕ) (j : ℕ) → WellFormed nodes → Trail nodes trail k → childOf nodes k nm ≡ Ok j → Trail nodes (k ∷ trail) j
+pub trail-into : (nodes : List Node) (trail : List ℕ) (k : ℕ) (nm : List ℕ) (j : ℕ) → WellFormed nodes → Trail nodes trail k → child_of nodes k nm ≡ Ok j → Trail nodes (k ∷ trail) j
 trail-into nodes trail k nm j w t e =
     let f = child-found nodes k nm j w t.inside e in
     let d : depth_of nodes j ≡ suc (depth_of nodes k) = rw f.0 at (depth-parent nodes j w (omega (arith, (child-is nodes k nm j e).after)) f.1) in

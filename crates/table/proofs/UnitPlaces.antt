@@ -2,14 +2,14 @@
 use Prim.Native.Nat.{ℕ}
 use mathlib.Core.Path.{◌≡◌, refl, sym, ap, ◌∙◌}
 use mathlib.Core.List.{List, [], ◌∷◌, ◌++◌}
-use Rattle.tree.specs.Units.{TextUnit, unitBytes, units}
+use Rattle.tree.specs.Units.{TextUnit, unit_bytes, units}
 use Rattle.tree.proofs.Laws.UnitLaws.{by_units}
 
 -- ---- the bytes of units
 
 abbrev pub bytes_of : List TextUnit → List ℕ
 bytes_of [] = []
-bytes_of (u ∷ us) = unitBytes u ++ bytes_of us
+bytes_of (u ∷ us) = unit_bytes u ++ bytes_of us
 
 pub bytes-units : (s : List ℕ) → bytes_of (units s) ≡ s
 unfolding units

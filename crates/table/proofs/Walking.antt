@@ -14,22 +14,22 @@ use lib.Dec.{leb, ltb}
 use Rattle.refusal.specs.declared.Refusal.TheVariants.{EntryPastTable, UnrecognizedKind, InvalidNextIndex, LimitOrMemory}
 use Rattle.refusal.specs.Refusal.{refuse, is_refused}
 use Rattle.refusal.specs.Laws.Chains.{refuse-passed, first-passed}
-use Rattle.tree.specs.Table.{file, directory, name_of, count, kind, nameOffset, offsetOrParent, sizeOrNext, name_at, nodeWith, nodeAt, nodesFrom, entryVerdict, entriesVerdict, top, shut, enter, nextVerdict, walk}
-use Rattle.tree.proofs.Laws.Steps.{walkEntry, walk-stop, walk-go, walk_end}
-use Rattle.table.specs.Inner.Reading.{Inside, open_in, nodeVerdict}
+use Rattle.tree.specs.Table.{file, directory, name_of, count, kind, name_offset, offset_or_parent, size_or_next, name_at, node_with, node_at, nodes_from, entry_verdict, entries_verdict, top, shut, enter, next_verdict, walk}
+use Rattle.tree.proofs.Laws.Steps.{walk_entry, walk-stop, walk-go, walk_end}
+use Rattle.table.specs.Inner.Reading.{Inside, open_in, node_verdict}
 
 -- entries that pass stand in the table
-entries-held : (tab : List ℕ) (k n : ℕ) → entriesVerdict tab k (suc n) ≡ Ok tt → 12 * (k + suc n) ≤ length tab
-unfolding entriesVerdict entryVerdict
+entries-held : (tab : List ℕ) (k n : ℕ) → entries_verdict tab k (suc n) ≡ Ok tt → 12 * (k + suc n) ≤ length tab
+unfolding entries_verdict entry_verdict
 entries-held tab k zero e =
-    let e₁ = first-passed (entryVerdict tab k) (entriesVerdict tab (suc k) zero) e in
+    let e₁ = first-passed (entry_verdict tab k) (entries_verdict tab (suc k) zero) e in
     let e₂ = refuse-passed (ltb (length tab) (12 * k + 12)) EntryPastTable (refuse (ltb 1 (kind tab k)) UnrecognizedKind (Ok tt)) e₁.0 in
     omega (arith, ltb-false (length tab) (12 * k + 12) e₂.0)
 entries-held tab k (suc n) e =
-    let e₁ = first-passed (entryVerdict tab k) (entriesVerdict tab (suc k) (suc n)) e in
+    let e₁ = first-passed (entry_verdict tab k) (entries_verdict tab (suc k) (suc n)) e in
     omega (arith, entries-held tab (suc k) n e₁.1)
 
-pub entries-inside : (tab : List ℕ) (c : ℕ) → 12 ≤ length tab → 1 ≤ c → c ≤ 16384 → entriesVerdict tab 1 (c - 1) ≡ Ok tt → Inside tab c
+pub entries-inside : (tab : List ℕ) (c : ℕ) → 12 ≤ length tab → 1 ≤ c → c ≤ 16384 → entries_verdict tab 1 (c - 1) ≡ Ok tt → Inside tab c
 entries-inside tab zero h l s e = elim l [ ]
 entries-inside tab (suc zero) h l s e = record { held = h; some = l; small = s }
 entries-inside tab (suc (suc n)) h l s e =
@@ -42,24 +42,24 @@ count-some tab = omega arith
 
 -- ---- an entry by its kind
 
-pub node-file : (tab : List ℕ) (c k : ℕ) → kind tab k ≡ 0 → nodeAt tab c k ≡ file (name_at tab c (nameOffset tab k)) (offsetOrParent tab k) (sizeOrNext tab k)
-unfolding nodeAt
+pub node-file : (tab : List ℕ) (c k : ℕ) → kind tab k ≡ 0 → node_at tab c k ≡ file (name_at tab c (name_offset tab k)) (offset_or_parent tab k) (size_or_next tab k)
+unfolding node_at
 node-file tab c k h = rw h
 
-with-directory : (n : ℕ) (nm : List ℕ) (a b : ℕ) → (n ≡ 0 → ⊥) → nodeWith n nm a b ≡ directory nm b
+with-directory : (n : ℕ) (nm : List ℕ) (a b : ℕ) → (n ≡ 0 → ⊥) → node_with n nm a b ≡ directory nm b
 with-directory zero nm a b h = absurd (h refl)
 with-directory (suc n) nm a b h = refl
 
-pub node-directory : (tab : List ℕ) (c k : ℕ) → (kind tab k ≡ 0 → ⊥) → nodeAt tab c k ≡ directory (name_at tab c (nameOffset tab k)) (sizeOrNext tab k)
-unfolding nodeAt
+pub node-directory : (tab : List ℕ) (c k : ℕ) → (kind tab k ≡ 0 → ⊥) → node_at tab c k ≡ directory (name_at tab c (name_offset tab k)) (size_or_next tab k)
+unfolding node_at
 node-directory tab c k h = with-directory (kind tab k) _ _ _ h
 
-with-name : (n : ℕ) (nm : List ℕ) (a b : ℕ) → name_of (nodeWith n nm a b) ≡ nm
+with-name : (n : ℕ) (nm : List ℕ) (a b : ℕ) → name_of (node_with n nm a b) ≡ nm
 with-name zero nm a b = refl
 with-name (suc n) nm a b = refl
 
-pub node-name : (tab : List ℕ) (c k : ℕ) → name_of (nodeAt tab c k) ≡ name_at tab c (nameOffset tab k)
-unfolding nodeAt
+pub node-name : (tab : List ℕ) (c k : ℕ) → name_of (node_at tab c k) ≡ name_at tab c (name_offset tab k)
+unfolding node_at
 node-name tab c k = with-name (kind tab k) _ _ _
 
 -- ---- the open directories in words
@@ -104,8 +104,8 @@ unfolding open_in
 open-enter words d v h = rw (add-one d, get_or-set_same words d v 0 h, open-frame words d v d (omega arith))
 
 -- a directory that passes is at most 64 deep
-pub next-depth : (c : ℕ) (dirs : List ℕ) (k : ℕ) (nm : List ℕ) (next : ℕ) → nextVerdict c dirs k (directory nm next) ≡ Ok tt → length dirs ≤ 64
-unfolding nextVerdict
+pub next-depth : (c : ℕ) (dirs : List ℕ) (k : ℕ) (nm : List ℕ) (next : ℕ) → next_verdict c dirs k (directory nm next) ≡ Ok tt → length dirs ≤ 64
+unfolding next_verdict
 next-depth c dirs k nm next e =
     let d = refuse (ltb 64 (length dirs)) LimitOrMemory (Ok tt) in
     let t = refuse (ltb (top dirs) next) InvalidNextIndex d in
@@ -115,29 +115,29 @@ next-depth c dirs k nm next e =
     ltb-false 64 (length dirs) (refuse-passed (ltb 64 (length dirs)) LimitOrMemory (Ok tt) e₃.1).0
 
 -- so there is room for its next
-pub enter-room : (tab : List ℕ) (c k : ℕ) (dirs : List ℕ) → (kind tab k ≡ 0 → ⊥) → nextVerdict c dirs k (nodeAt tab c k) ≡ Ok tt → length dirs ≤ 64
+pub enter-room : (tab : List ℕ) (c k : ℕ) (dirs : List ℕ) → (kind tab k ≡ 0 → ⊥) → next_verdict c dirs k (node_at tab c k) ≡ Ok tt → length dirs ≤ 64
 enter-room tab c k dirs h e =
-    next-depth c dirs k (name_at tab c (nameOffset tab k)) (sizeOrNext tab k) (rw (node-directory tab c k h) at e)
+    next-depth c dirs k (name_at tab c (name_offset tab k)) (size_or_next tab k) (rw (node-directory tab c k h) at e)
 
 -- ---- the walk's loop
 
 -- what is left of the walk at entry k has the answer of the whole
 pub record Walked (tab : List ℕ) (c : ℕ) (dirs : List ℕ) (k : ℕ) : Type 0 where
   pub from : 1 ≤ k
-  pub left : walk tab c (c ∷ []) 1 (nodesFrom tab c 1 (c - 1)) ≡ walk tab c dirs k (nodesFrom tab c k (c - k))
+  pub left : walk tab c (c ∷ []) 1 (nodes_from tab c 1 (c - 1)) ≡ walk tab c dirs k (nodes_from tab c k (c - k))
 
 pub walked_start : (tab : List ℕ) (c : ℕ) → Walked tab c (c ∷ []) 1
 walked_start tab c = record { from = omega arith; left = refl }
 
-module _ {tab : List ℕ} {c : ℕ} {dirs : List ℕ} {k : ℕ} (w : Walked tab c dirs k) (around : List ℕ) (shuts : around ≡ shut k dirs) (v : Verdict) (test : v ≡ nodeVerdict tab c around k) (more : k < c) where
-  same : v ≡ walkEntry tab c dirs k (nodeAt tab c k)
+module _ {tab : List ℕ} {c : ℕ} {dirs : List ℕ} {k : ℕ} (w : Walked tab c dirs k) (around : List ℕ) (shuts : around ≡ shut k dirs) (v : Verdict) (test : v ≡ node_verdict tab c around k) (more : k < c) where
+  same : v ≡ walk_entry tab c dirs k (node_at tab c k)
   same = test ∙ rw (shuts, node-name tab c k)
 
-  pub walked_stop : is_refused v ≡ true → v ≡ walk tab c (c ∷ []) 1 (nodesFrom tab c 1 (c - 1))
+  pub walked_stop : is_refused v ≡ true → v ≡ walk tab c (c ∷ []) 1 (nodes_from tab c 1 (c - 1))
   walked_stop r = sym (w.left ∙ walk-stop tab c dirs k c v more same r)
 
-  pub walked-turn : is_refused v ≡ false → (next : List ℕ) → next ≡ enter around (nodeAt tab c k) → Walked tab c next (k + 1)
+  pub walked-turn : is_refused v ≡ false → (next : List ℕ) → next ≡ enter around (node_at tab c k) → Walked tab c next (k + 1)
   walked-turn r next e = record { from = omega arith; left = w.left ∙ walk-go tab c dirs k c v more same r ∙ rw (e, shuts) }
 
-pub walked_end : (tab : List ℕ) (c : ℕ) (dirs : List ℕ) (k : ℕ) → Walked tab c dirs k → c ≤ k → Ok tt ≡ walk tab c (c ∷ []) 1 (nodesFrom tab c 1 (c - 1))
+pub walked_end : (tab : List ℕ) (c : ℕ) (dirs : List ℕ) (k : ℕ) → Walked tab c dirs k → c ≤ k → Ok tt ≡ walk tab c (c ∷ []) 1 (nodes_from tab c 1 (c - 1))
 walked_end tab c dirs k w h = sym (w.left ∙ walk_end tab c dirs k c h)

@@ -2,9 +2,9 @@
 // what.
 ghost use Rattle.std.specs.Prelude.{◌≡◌, [], ◌∷◌, ◌-◌, ◌*◌, ◌≤◌, ◌<◌, length};
 ghost use Rattle.tree.specs.Table as table_of;
-ghost use Rattle.tree.specs.Table.{nameOffset, name_at, nodeAt, nodesFrom, entryVerdict, entriesVerdict, nameVerdict, nextVerdict};
-ghost use Rattle.table.specs.Inner.Reading.{Inside, nodeVerdict, textsVerdict, textVerdict};
-ghost use Rattle.table.specs.Inner.Texts.{textAt};
+ghost use Rattle.tree.specs.Table.{name_offset, name_at, node_at, nodes_from, name_verdict, next_verdict};
+ghost use Rattle.table.specs.Inner.Reading.{Inside, node_verdict, texts_verdict, text_verdict};
+ghost use Rattle.table.specs.Inner.Texts.{text_at};
 ghost use Rattle.table.specs.Inner.Blocks.{Fit};
 
 use crate::marks::Survey;
@@ -23,7 +23,7 @@ pub fn count(table: &[u8]) -> usize
 // Entry k: past the table, or of an unknown kind.
 fn entry_verdict(table: &[u8], k: usize) -> Verdict
     requires { k ≤ 16384 }
-    ensures { result ≡ entryVerdict table.now k }
+    ensures { result ≡ table_of.entry_verdict table.now k }
 {
     if table.len() < 12 * k + 12 {
         return Err(Refusal::EntryPastTable);
@@ -39,7 +39,7 @@ fn entry_verdict(table: &[u8], k: usize) -> Verdict
 fn entries_verdict(table: &[u8], count: usize) -> Verdict
     requires root { 1 ≤ count }
     requires few { count ≤ 16384 }
-    ensures { result ≡ entriesVerdict table.now 1 (count - 1) }
+    ensures { result ≡ table_of.entries_verdict table.now 1 (count - 1) }
 {
     for k in 1..count {
         entry_verdict(table, k)?;
@@ -50,7 +50,7 @@ fn entries_verdict(table: &[u8], count: usize) -> Verdict
 // The units of the name at `at`: first whether each is a name's, then whether each is safe.
 #[cold]
 fn units_verdict(table: &[u8], at: usize) -> Verdict
-    ensures { result ≡ textVerdict (textAt table.now at) }
+    ensures { result ≡ text_verdict (text_at table.now at) }
 {
     let name = text::text_at(table, at);
     if !names::is_plain(name) {
@@ -65,7 +65,7 @@ fn units_verdict(table: &[u8], at: usize) -> Verdict
 // The same where the text is fit: the first bytes decide.
 fn clean_verdict(table: &[u8], at: usize) -> Verdict
     requires { Fit table.now at }
-    ensures { result ≡ textVerdict (textAt table.now at) }
+    ensures { result ≡ text_verdict (text_at table.now at) }
 {
     if text::is_nameless_at(table, at) {
         return Err(Refusal::UnsafeName);
@@ -101,7 +101,7 @@ impl<'a> Entries<'a> {
         requires within { k < self.now.count }
         requires same_table { texts.old.table ≡ self.now.table.now }
         requires behind_entries { texts.old.base ≡ 12 * self.now.count }
-        ensures verdict { result ≡ nameVerdict self.now.table.now self.now.count k (name_at self.now.table.now self.now.count (nameOffset self.now.table.now k)) }
+        ensures verdict { result ≡ name_verdict self.now.table.now self.now.count k (name_at self.now.table.now self.now.count (name_offset self.now.table.now k)) }
         ensures same { texts.new ≡ texts.old }
     {
         let offset = endian::read_u24(self.table, 12 * k + 1) as usize;
@@ -118,7 +118,7 @@ impl<'a> Entries<'a> {
     // The next of entry k, if it is a directory, and then its depth.
     fn next_verdict(&self, dirs: &Stack, k: usize) -> Verdict
         requires { k < self.now.count }
-        ensures { result ≡ nextVerdict self.now.count dirs.now k (nodeAt self.now.table.now self.now.count k) }
+        ensures { result ≡ next_verdict self.now.count dirs.now k (node_at self.now.table.now self.now.count k) }
     {
         if self.table[12 * k] == 0 {
             return Ok(());
@@ -144,7 +144,7 @@ impl<'a> Entries<'a> {
         requires within { k < self.now.count }
         requires same_table { texts.old.table ≡ self.now.table.now }
         requires behind_entries { texts.old.base ≡ 12 * self.now.count }
-        ensures verdict { result ≡ nodeVerdict self.now.table.now self.now.count dirs.now k }
+        ensures verdict { result ≡ node_verdict self.now.table.now self.now.count dirs.now k }
         ensures same { texts.new ≡ texts.old }
     {
         self.name_verdict(texts, k)?;
@@ -154,8 +154,8 @@ impl<'a> Entries<'a> {
     // Opens entry k, if it is a directory.
     fn enter(&self, dirs: &mut Stack, k: usize)
         requires within { k < self.now.count }
-        requires passed { nextVerdict self.now.count dirs.old k (nodeAt self.now.table.now self.now.count k) ≡ (Ok tt) }
-        ensures { dirs.new ≡ table_of.enter dirs.old (nodeAt self.now.table.now self.now.count k) }
+        requires passed { next_verdict self.now.count dirs.old k (node_at self.now.table.now self.now.count k) ≡ (Ok tt) }
+        ensures { dirs.new ≡ table_of.enter dirs.old (node_at self.now.table.now self.now.count k) }
     {
         if self.table[12 * k] != 0 {
             dirs.push(endian::read_u32(self.table, 12 * k + 8));
@@ -165,7 +165,7 @@ impl<'a> Entries<'a> {
     // The walk over the entries after the root.
     // Kept: the number of an entry is what the directories that end are told by, and what its record is read at.
     fn walk(&self) -> Verdict
-        ensures { result ≡ table_of.walk self.now.table.now self.now.count (self.now.count ∷ []) 1 (nodesFrom self.now.table.now self.now.count 1 (self.now.count - 1)) }
+        ensures { result ≡ table_of.walk self.now.table.now self.now.count (self.now.count ∷ []) 1 (nodes_from self.now.table.now self.now.count 1 (self.now.count - 1)) }
     {
         let mut texts = Survey::new(self.table, 12 * self.count);
         let mut dirs = Stack::new();
@@ -188,7 +188,7 @@ impl<'a> Entries<'a> {
 
     // The tests after those of the entries.
     fn texts_verdict(&self, words: usize) -> Verdict
-        ensures { result ≡ textsVerdict self.now.table.now self.now.count words }
+        ensures { result ≡ texts_verdict self.now.table.now self.now.count words }
     {
         if self.unended() {
             return Err(Refusal::MissingNullTerminator);

@@ -1,12 +1,12 @@
 // The entries of a directory, by name.
 ghost use Rattle.std.specs.Prelude.{ℕ, ◌≡◌, false, ◌≤◌, ◌<◌, length, Some};
-ghost use Rattle.endian.specs.Bytes.{sameBytes};
+ghost use Rattle.endian.specs.Bytes.{same_bytes};
 ghost use Rattle.tree.specs.Table as table_of;
-ghost use Rattle.tree.specs.Table.{nodesOf};
-ghost use Rattle.tree.specs.Lookup.{childOf};
-ghost use Rattle.table.specs.Inner.Texts.{textAt};
+ghost use Rattle.tree.specs.Table.{nodes_of};
+ghost use Rattle.tree.specs.Lookup.{child_of};
+ghost use Rattle.table.specs.Inner.Texts.{text_at};
 ghost use Rattle.table.specs.Inner.After.{after_of};
-ghost use Rattle.table.specs.Inner.Zeros.{hasZero};
+ghost use Rattle.table.specs.Inner.Zeros.{has_zero};
 
 use crate::entries::Table;
 use crate::name;
@@ -16,9 +16,9 @@ use refusal::Refusal;
 // entries can share a long text.
 fn has_name(table: &[u8], place: usize, differs: Option<usize>, name: &[u8]) -> bool
     requires inside { place ≤ length table.now }
-    requires no_zero { hasZero name.now ≡ false }
-    requires unlike { (at : ℕ) → differs ≡ Some at → sameBytes (textAt table.now at) name.now ≡ false }
-    ensures { result ≡ sameBytes (textAt table.now place) name.now }
+    requires no_zero { has_zero name.now ≡ false }
+    requires unlike { (at : ℕ) → differs ≡ Some at → same_bytes (text_at table.now at) name.now ≡ false }
+    ensures { result ≡ same_bytes (text_at table.now place) name.now }
 {
     differs != Some(place) && name::text_is(table, place, name)
 }
@@ -27,7 +27,7 @@ impl<'a> Table<'a> {
     // The entry after `k` and all that is in it.
     fn after(&self, k: usize) -> usize
         requires { k < table_of.count self.now }
-        ensures { result ≡ after_of (nodesOf self.now) k }
+        ensures { result ≡ after_of (nodes_of self.now) k }
     {
         let _ = &self.bytes;
         if self.is_directory(k) {
@@ -42,8 +42,8 @@ impl<'a> Table<'a> {
     // Kept: `while`, which counts no index: it goes from child to child; `successors` would have the same step, and the same stop, as closures.
     fn child_named(&self, d: usize, name: &[u8]) -> Result<u32, Refusal>
         requires within { d < table_of.count self.now }
-        requires no_zero { hasZero name.now ≡ false }
-        ensures { result ≡ childOf (nodesOf self.now) d name.now }
+        requires no_zero { has_zero name.now ≡ false }
+        ensures { result ≡ child_of (nodes_of self.now) d name.now }
     {
         let table = self.bytes;
         let stop = self.next(d);
@@ -65,7 +65,7 @@ impl<'a> Table<'a> {
     /// The first child of directory `d` with that name; `NotFound` where there is none.
     pub fn child(&self, d: usize, name: &[u8]) -> Result<u32, Refusal>
         requires { d < table_of.count self.now }
-        ensures { result ≡ childOf (nodesOf self.now) d name.now }
+        ensures { result ≡ child_of (nodes_of self.now) d name.now }
     {
         if name.contains(&0) {
             return Err(Refusal::NotFound);

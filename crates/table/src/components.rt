@@ -4,7 +4,7 @@ ghost use Rattle.std.specs.Iterator.{YieldsFirstBy, item_count};
 ghost use Rattle.endian.specs.Bytes.{span};
 ghost use Rattle.tree.specs.Lookup.{separates, components};
 ghost use Rattle.table.specs.Inner.Read.{unit_of};
-ghost use Rattle.table.specs.Inner.Steps.{componentsAfter};
+ghost use Rattle.table.specs.Inner.Steps.{components_after};
 
 use crate::units::{Unit, Units};
 use std::marker::Model;
@@ -20,7 +20,7 @@ fn is_separator(unit: Unit) -> bool
 pub fn component_end(path: &[u8], at: usize) -> usize
     requires { at ≤ length path.now }
     ensures { (at ≤ result) × (result ≤ length path.now)
-        × (components (drop at path.now) ≡ span path.now at (result - at) ∷ componentsAfter path.now result) }
+        × (components (drop at path.now) ≡ span path.now at (result - at) ∷ components_after path.now result) }
 {
     let mut units = Units::new(&path[at..]);
     match units.find(|unit| is_separator(*unit)) {

@@ -1,10 +1,10 @@
 // An accepted file table as a type. Contracts see its bytes.
 ghost use Rattle.std.specs.Prelude.{◌≡◌, ◌+◌, ◌≤◌, ◌<◌, ◌^◌, length, get_or};
 ghost use Rattle.tree.specs.Table as table_of;
-ghost use Rattle.tree.specs.Table.{none, nodesOf, name_of, parent_of, namePlace, sizeOrNext};
-ghost use Rattle.tree.specs.Lookup.{isDirectory, next_of, entry_of, entryFound};
+ghost use Rattle.tree.specs.Table.{none, nodes_of, name_of, parent_of, name_place, size_or_next};
+ghost use Rattle.tree.specs.Lookup.{is_directory, next_of, entry_of, entry_found};
 ghost use Rattle.table.specs.Inner.Reading.{Opens};
-ghost use Rattle.table.specs.Inner.Texts.{textAt};
+ghost use Rattle.table.specs.Inner.Texts.{text_at};
 ghost use Rattle.table.specs.Inner.Fields.{offset_of, last_of};
 ghost use Rattle.table.specs.Inner.Held.{Held};
 
@@ -61,7 +61,7 @@ impl<'a> Table<'a> {
     /// Whether entry `k` is a directory. An accepted table has the kinds 0 and 1 only.
     pub fn is_directory(&self, k: usize) -> bool
         requires { k < table_of.count self.now }
-        ensures { result ≡ isDirectory (get_or (nodesOf self.now) k none) }
+        ensures { result ≡ is_directory (get_or (nodes_of self.now) k none) }
     {
         let table = self.bytes;
         table[12 * k] != 0
@@ -70,7 +70,7 @@ impl<'a> Table<'a> {
     /// A file's offset; 0 for a directory.
     pub fn offset(&self, k: usize) -> u32
         requires { k < table_of.count self.now }
-        ensures { result ≡ offset_of (get_or (nodesOf self.now) k none) }
+        ensures { result ≡ offset_of (get_or (nodes_of self.now) k none) }
     {
         let table = self.bytes;
         if table[12 * k] != 0 {
@@ -82,8 +82,8 @@ impl<'a> Table<'a> {
     /// The last field of an entry: a file's size, a directory's next.
     pub fn last(&self, k: usize) -> u32
         requires { k < table_of.count self.now }
-        ensures stored { result ≡ sizeOrNext self.now k }
-        ensures last { result ≡ last_of (get_or (nodesOf self.now) k none) }
+        ensures stored { result ≡ size_or_next self.now k }
+        ensures last { result ≡ last_of (get_or (nodes_of self.now) k none) }
         ensures held { Held self.now }
     {
         endian::read_u32(self.bytes, 12 * k + 8)
@@ -92,7 +92,7 @@ impl<'a> Table<'a> {
     /// A directory's next, the number of the entry after its last one; 0 for a file.
     pub fn next(&self, k: usize) -> usize
         requires { k < table_of.count self.now }
-        ensures { result ≡ next_of (get_or (nodesOf self.now) k none) }
+        ensures { result ≡ next_of (get_or (nodes_of self.now) k none) }
     {
         let table = self.bytes;
         if table[12 * k] == 0 {
@@ -105,10 +105,10 @@ impl<'a> Table<'a> {
     pub fn name_place(&self, k: usize) -> usize
         requires not_root { 0 < k }
         requires within { k < table_of.count self.now }
-        ensures place { result ≡ namePlace self.now k }
+        ensures place { result ≡ name_place self.now k }
         ensures inside { result < 2 ^ 25 }
-        ensures ended { result + length (textAt self.now result) < length self.now }
-        ensures short { length (textAt self.now result) ≤ 2 ^ 20 }
+        ensures ended { result + length (text_at self.now result) < length self.now }
+        ensures short { length (text_at self.now result) ≤ 2 ^ 20 }
     {
         let table = self.bytes;
         12 * self.len() + endian::read_u24(table, 12 * k + 1) as usize
@@ -117,7 +117,7 @@ impl<'a> Table<'a> {
     /// The name of entry `k`; the root has none.
     pub fn name(&self, k: usize) -> &'a [u8]
         requires { k < table_of.count self.now }
-        ensures { result.now ≡ name_of (get_or (nodesOf self.now) k none) }
+        ensures { result.now ≡ name_of (get_or (nodes_of self.now) k none) }
     {
         let table = self.bytes;
         if k == 0 {
@@ -130,7 +130,7 @@ impl<'a> Table<'a> {
     /// The directory that entry `k` is nested in: the last one before it whose next is past it. The stored parent is not read.
     pub fn parent(&self, k: usize) -> usize
         requires { k < table_of.count self.now }
-        ensures parent { result ≡ parent_of (nodesOf self.now) k }
+        ensures parent { result ≡ parent_of (nodes_of self.now) k }
         ensures before { result ≤ k }
     {
         (0..k).rfind(|&i| k < self.next(i)).unwrap_or(0)
@@ -139,7 +139,7 @@ impl<'a> Table<'a> {
     // Entry `k`, a file with offset and size or a directory with parent and next.
     fn entry_at(&self, k: usize) -> Entry
         requires { k < table_of.count self.now }
-        ensures { result ≡ entry_of (nodesOf self.now) k }
+        ensures { result ≡ entry_of (nodes_of self.now) k }
     {
         let table = self.bytes;
         let last = self.last(k);
@@ -158,7 +158,7 @@ impl<'a> Table<'a> {
 
     /// Entry `k`; past the count `NoSuchEntry`.
     pub fn entry(&self, k: u32) -> Found
-        ensures { result ≡ entryFound (nodesOf self.now) k }
+        ensures { result ≡ entry_found (nodes_of self.now) k }
     {
         let place = k as usize;
         if self.len() <= place {

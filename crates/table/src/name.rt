@@ -1,8 +1,8 @@
 // The texts of a table: bytes up to a zero byte, or up to the table's end.
 ghost use Rattle.std.specs.Prelude.{◌≡◌, false, ◌+◌, ◌≤◌, ◌<◌, length};
-ghost use Rattle.endian.specs.Bytes.{sameBytes};
-ghost use Rattle.table.specs.Inner.Texts.{textAt};
-ghost use Rattle.table.specs.Inner.Zeros.{hasZero};
+ghost use Rattle.endian.specs.Bytes.{same_bytes};
+ghost use Rattle.table.specs.Inner.Texts.{text_at};
+ghost use Rattle.table.specs.Inner.Zeros.{has_zero};
 
 use crate::units;
 
@@ -10,8 +10,8 @@ use crate::units;
 // Kept: it answers a question that stands in a condition, and refuses nothing.
 pub fn text_is(table: &[u8], at: usize, name: &[u8]) -> bool
     requires inside { at ≤ length table.now }
-    requires no_zero { hasZero name.now ≡ false }
-    ensures { result ≡ sameBytes (textAt table.now at) name.now }
+    requires no_zero { has_zero name.now ≡ false }
+    ensures { result ≡ same_bytes (text_at table.now at) name.now }
 {
     let n = name.len();
     if table.len() - at < n {
@@ -27,8 +27,8 @@ pub fn text_is(table: &[u8], at: usize, name: &[u8]) -> bool
 // Kept: the loop by index tests no bound, so that the compiler makes strlen of it; for 12 bytes it took 2.9 ns, `position` 7.1 and a `for` 7.8.
 // The bar that the two miss: a call with ASCII names takes at most 10 percent more (docs/SPEED.md).
 pub fn text_length(table: &[u8], at: usize) -> usize
-    requires { at + length (textAt table.now at) < length table.now }
-    ensures { result ≡ length (textAt table.now at) }
+    requires { at + length (text_at table.now at) < length table.now }
+    ensures { result ≡ length (text_at table.now at) }
 {
     let mut i = at;
     while table[i] != 0 {

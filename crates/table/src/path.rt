@@ -1,9 +1,9 @@
 // An entry by its path.
 ghost use Rattle.std.specs.Prelude.{◌≡◌, [], ◌∷◌, ◌<◌, ◌^◌, List, ℕ, IfOk, length};
 ghost use Rattle.tree.specs.Table as table_of;
-ghost use Rattle.tree.specs.Table.{nodesOf};
+ghost use Rattle.tree.specs.Table.{nodes_of};
 ghost use Rattle.tree.specs.Lookup as lookup_of;
-ghost use Rattle.tree.specs.Lookup.{components, goesBack, found_at};
+ghost use Rattle.tree.specs.Lookup.{components, found_at};
 ghost use Rattle.table.specs.Inner.Held.{Held};
 ghost use Rattle.table.specs.Inner.Steps.{Trail, onward};
 
@@ -23,7 +23,7 @@ pub fn stays(name: &[u8]) -> bool
 /// `..` goes back over the last named step.
 // Kept: a `bool` (N): it answers a question, asked in an `if`, and its name is public.
 pub fn goes_back(name: &[u8]) -> bool
-    ensures { result ≡ goesBack name.now }
+    ensures { result ≡ lookup_of.goes_back name.now }
 {
     matches!(name, b"..")
 }
@@ -33,10 +33,10 @@ pub fn goes_back(name: &[u8]) -> bool
 // 65 at most, since no directory is deeper than 64.
 fn take_step(table: &Table<'_>, trail: &mut Stack, k: usize, name: &[u8]) -> Result<usize, Refusal>
     requires held { Held table.now }
-    requires trail { Trail (nodesOf table.now) trail.old k }
-    ensures onward { (cs : List (List ℕ)) → lookup_of.follow (nodesOf table.now) trail.old k (name.now ∷ cs)
-        ≡ onward (nodesOf table.now) trail.new cs result }
-    ensures trail { IfOk result (λ j. Trail (nodesOf table.now) trail.new j) }
+    requires trail { Trail (nodes_of table.now) trail.old k }
+    ensures onward { (cs : List (List ℕ)) → lookup_of.follow (nodes_of table.now) trail.old k (name.now ∷ cs)
+        ≡ onward (nodes_of table.now) trail.new cs result }
+    ensures trail { IfOk result (λ j. Trail (nodes_of table.now) trail.new j) }
 {
     if !table.is_directory(k) {
         return Err(Refusal::ExpectedDirectory);
@@ -59,7 +59,7 @@ fn take_step(table: &Table<'_>, trail: &mut Stack, k: usize, name: &[u8]) -> Res
 fn follow(table: &Table<'_>, start: usize, path: &[u8]) -> Result<u32, Refusal>
     requires held { Held table.now }
     requires within { start < table_of.count table.now }
-    ensures value { result ≡ lookup_of.follow (nodesOf table.now) [] start (components path.now) }
+    ensures value { result ≡ lookup_of.follow (nodes_of table.now) [] start (components path.now) }
     ensures within { IfOk result (λ k. k < table_of.count table.now) }
 {
     let mut trail = Stack::new();
@@ -74,7 +74,7 @@ fn follow(table: &Table<'_>, start: usize, path: &[u8]) -> Result<u32, Refusal>
 /// `ExpectedDirectory` at a file, and `NotFound`.
 pub fn lookup(table: &Table<'_>, start: u32, path: &[u8]) -> Result<u32, Refusal>
     requires { length path.now < 2 ^ 63 }
-    ensures value { result ≡ lookup_of.lookup (nodesOf table.now) start path.now }
+    ensures value { result ≡ lookup_of.lookup (nodes_of table.now) start path.now }
     ensures within { IfOk result (λ k. k < table_of.count table.now) }
 {
     let place = start as usize;
@@ -87,7 +87,7 @@ pub fn lookup(table: &Table<'_>, start: u32, path: &[u8]) -> Result<u32, Refusal
 /// The same, with the entry.
 pub fn find(table: &Table<'_>, start: u32, path: &[u8]) -> Found
     requires { length path.now < 2 ^ 63 }
-    ensures { result ≡ found_at (nodesOf table.now) (lookup_of.lookup (nodesOf table.now) start path.now) }
+    ensures { result ≡ found_at (nodes_of table.now) (lookup_of.lookup (nodes_of table.now) start path.now) }
 {
     match lookup(table, start, path) {
         Ok(k) => table.entry(k),

@@ -3,9 +3,9 @@ ghost use Rattle.std.specs.Prelude.{◌≡◌, true, [], ◌∷◌, ◌+◌, ◌
 ghost use Rattle.std.specs.List.{position};
 ghost use Rattle.endian.specs.Bytes.{put};
 ghost use Rattle.tree.specs.Table as table_of;
-ghost use Rattle.tree.specs.Table.{none, nodesOf, name_of, parent_of};
-ghost use Rattle.table.specs.Rows.{imagePlace, row_of, listVerdict, listed};
-ghost use Rattle.table.specs.Inner.Texts.{textAt};
+ghost use Rattle.tree.specs.Table.{none, nodes_of, name_of, parent_of};
+ghost use Rattle.table.specs.Rows.{image_place, row_of, list_verdict, listed};
+ghost use Rattle.table.specs.Inner.Texts.{text_at};
 ghost use Rattle.table.specs.Inner.ParentsIn.{ParentsIn};
 ghost use Rattle.table.specs.Inner.Ends.{EndsIn};
 
@@ -26,7 +26,7 @@ const PART: usize = 64;
 // Whether no zero byte is among so many bytes from `at` on: their least one tells, so that the compiler compares 16 at once.
 fn is_without_zero(table: &[u8], at: usize) -> bool
     requires { at + 64 ≤ length table.now }
-    ensures { (result ≡ true) → length (textAt table.now at) ≡ 64 + length (textAt table.now (at + 64)) }
+    ensures { (result ≡ true) → length (text_at table.now at) ≡ 64 + length (text_at table.now (at + 64)) }
 {
     let mut least = 255;
     for i in 0..PART {
@@ -41,7 +41,7 @@ fn pass_text(table: &[u8], from: usize, stop: usize) -> usize
     requires before { from ≤ stop }
     requires inside { stop ≤ length table.now }
     ensures within { (from ≤ result) × (result ≤ stop) }
-    ensures passed { length (textAt table.now from) ≡ (result - from) + length (textAt table.now result) }
+    ensures passed { length (text_at table.now from) ≡ (result - from) + length (text_at table.now result) }
 {
     let mut at = from;
     while PART <= stop - at {
@@ -56,10 +56,10 @@ fn pass_text(table: &[u8], from: usize, stop: usize) -> usize
 // The length of the text at `at`, where the text at `stop` behind it ends at `end`.
 #[cold]
 fn length_before(table: &[u8], at: usize, stop: usize, end: usize) -> usize
-    requires inside { at + length (textAt table.now at) < length table.now }
+    requires inside { at + length (text_at table.now at) < length table.now }
     requires before { at ≤ stop }
-    requires ends { end ≡ stop + length (textAt table.now stop) }
-    ensures { result ≡ length (textAt table.now at) }
+    requires ends { end ≡ stop + length (text_at table.now stop) }
+    ensures { result ≡ length (text_at table.now at) }
 {
     let near = pass_text(table, at, stop.min(table.len()));
     near - at + zero_within(&table[near..], stop - near).unwrap_or(end - near)
@@ -89,8 +89,8 @@ impl<'a> Ends<'a> {
 
     // The length of the text at `at`.
     fn text_length(&mut self, at: usize) -> usize
-        requires { at + length (textAt self.old.table.now at) < length self.old.table.now }
-        ensures value { result ≡ length (textAt self.old.table.now at) }
+        requires { at + length (text_at self.old.table.now at) < length self.old.table.now }
+        ensures value { result ≡ length (text_at self.old.table.now at) }
         ensures table { self.new.table ≡ self.old.table }
     {
         let bytes = self.table.bytes();
@@ -111,7 +111,7 @@ impl<'a> Ends<'a> {
     // The length of the name of entry k; the root has none.
     fn name_length(&mut self, k: usize) -> usize
         requires { k < table_of.count self.old.table.now }
-        ensures value { result ≡ length (name_of (get_or (nodesOf self.old.table.now) k none)) }
+        ensures value { result ≡ length (name_of (get_or (nodes_of self.old.table.now) k none)) }
         ensures short { result ≤ 2 ^ 20 }
         ensures table { self.new.table ≡ self.old.table }
     {
@@ -161,7 +161,7 @@ impl Rows<'_> {
     // Where the name of entry k stands in the image; the root has none.
     fn image_place(&self, k: usize) -> u32
         requires { k < table_of.count self.now.table.now }
-        ensures { result ≡ imagePlace self.now.base self.now.table.now k }
+        ensures { result ≡ image_place self.now.base self.now.table.now k }
     {
         if k == 0 {
             return 0;
@@ -175,7 +175,7 @@ impl Rows<'_> {
         requires within { k < table_of.count self.now.table.now }
         requires room { 6 * table_of.count self.now.table.now ≤ length list.now }
         requires parents_in { ParentsIn self.now.table.now k list.now }
-        ensures parent { result ≡ parent_of (nodesOf self.now.table.now) k }
+        ensures parent { result ≡ parent_of (nodes_of self.now.table.now) k }
         ensures before { result ≤ k }
     {
         if k == 0 {
@@ -194,8 +194,8 @@ impl Rows<'_> {
     // The row of entry k, which is nested in `parent` and whose name has `size` bytes.
     fn read(&self, k: usize, parent: u32, size: u32) -> Row
         requires within { k < table_of.count self.now.table.now }
-        requires parent { parent ≡ parent_of (nodesOf self.now.table.now) k }
-        requires size { size ≡ length (name_of (get_or (nodesOf self.now.table.now) k none)) }
+        requires parent { parent ≡ parent_of (nodes_of self.now.table.now) k }
+        requires size { size ≡ length (name_of (get_or (nodes_of self.now.table.now) k none)) }
         ensures { row_of self.now.base self.now.table.now k ≡ result.kind ∷ result.parent ∷ result.offset ∷ result.last ∷ result.place ∷ result.size ∷ [] }
     {
         Row {
@@ -214,7 +214,7 @@ impl Rows<'_> {
         requires few { k < 2 ^ 32 }
         requires room { 6 * table_of.count self.now.table.now ≤ length list.old }
         requires parents_in { ParentsIn self.now.table.now k list.old }
-        requires size { size ≡ length (name_of (get_or (nodesOf self.now.table.now) k none)) }
+        requires size { size ≡ length (name_of (get_or (nodes_of self.now.table.now) k none)) }
         ensures { list.new ≡ put list.old (6 * k) (row_of self.now.base self.now.table.now k) }
     {
         let parent = self.parent_in(list, k) as u32;
@@ -227,7 +227,7 @@ impl Rows<'_> {
 // Kept: the loop goes over the entries' numbers, by which table and list are asked.
 pub fn list_entries(table: &Table<'_>, base: u32, list: &mut [u32]) -> Verdict
     requires { base + length table.now < 2 ^ 32 }
-    ensures value { result ≡ listVerdict table.now (length list.old) }
+    ensures value { result ≡ list_verdict table.now (length list.old) }
     ensures list_after { list.new ≡ listed base table.now list.old }
 {
     let count = table.len();

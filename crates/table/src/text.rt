@@ -1,14 +1,15 @@
 // The texts of a table, unit by unit: bytes up to a zero byte, or up to the table's end.
 ghost use Rattle.std.specs.Prelude.{◌≡◌, false, ◌+◌};
 ghost use Rattle.tree.specs.Table.{dots};
-ghost use Rattle.table.specs.Inner.Texts.{textAt, cleanFrom, NoLead, CleanTo, nameless};
+ghost use Rattle.table.specs.Inner.Texts as texts_of;
+ghost use Rattle.table.specs.Inner.Texts.{clean_from, NoLead, CleanTo, nameless};
 
 use crate::units::Units;
 use crate::{names, passing, units};
 
 /// The text that starts at `at`, up to its zero byte or the table's end.
 pub fn text_at(table: &[u8], at: usize) -> &[u8]
-    ensures { result.now ≡ textAt table.now at }
+    ensures { result.now ≡ texts_of.text_at table.now at }
 {
     let rest = &table[at.min(table.len())..];
     match rest.iter().position(|byte| *byte == 0) {
@@ -43,7 +44,7 @@ const CHART: [u8; 256] = *b"\
 // Kept: two bytes a turn, by index (S): a `for` over one at a time took a fifth longer for a table of ASCII
 // names of 40 bytes.
 fn pass_clean(table: &[u8], from: usize) -> usize
-    ensures { NoLead table.now from result × (cleanFrom table.now from ≡ cleanFrom table.now result) }
+    ensures { NoLead table.now from result × (clean_from table.now from ≡ clean_from table.now result) }
 {
     if table.len() == 0 {
         return from;
@@ -87,7 +88,7 @@ pub fn clean_end(table: &[u8], from: usize) -> usize
 // Whether each unit from `from` on is 0, or plain and safe: then so are those of each text that does not start
 // inside a pair.
 pub fn is_clean_from(table: &[u8], from: usize) -> bool
-    ensures { result ≡ cleanFrom table.now from }
+    ensures { result ≡ clean_from table.now from }
 {
     let from = passing::pass_clean_units(table, from);
     Units::new(&table[from.min(table.len())..]).all(|unit| unit.is_clean())
@@ -96,7 +97,7 @@ pub fn is_clean_from(table: &[u8], from: usize) -> bool
 /// Whether the text at `at` is `.` or `..`: three bytes tell. No text is where nothing is.
 #[cold]
 pub fn is_dots(table: &[u8], at: usize) -> bool
-    ensures { result ≡ dots (textAt table.now at) }
+    ensures { result ≡ dots (texts_of.text_at table.now at) }
 {
     let end = at.saturating_add(3).min(table.len());
     names::is_dots(text_at(&table[..end], at))
@@ -104,7 +105,7 @@ pub fn is_dots(table: &[u8], at: usize) -> bool
 
 /// Whether the text at `at` is empty, `.` or `..`. A byte tells most texts.
 pub fn is_nameless_at(table: &[u8], at: usize) -> bool
-    ensures { result ≡ nameless (textAt table.now at) }
+    ensures { result ≡ nameless (texts_of.text_at table.now at) }
 {
     match units::byte_at(table, at) {
         0 => true,

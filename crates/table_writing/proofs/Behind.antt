@@ -8,9 +8,9 @@ use native.Mathlib.Numerals.{add-one}
 use lib.ListN.{length, get_or, take, drop}
 use lib.Seq.{get_or-drop, length-take-le, take_at}
 use Rattle.endian.specs.Bytes.{put, span, be24, be32}
-use Rattle.endian.specs.Laws.Stored.{length-put, put_in, drop-put, length-span, getD-span, be24-drop, be32-drop, be24-same, be32-same}
-use Rattle.tree.specs.Table.{nameOffset}
-use Rattle.tree.specs.Inner.Patch.{records, recordAfter}
+use Rattle.endian.specs.Laws.Stored.{length-put, put_in, drop-put, length-span, get_d-span, be24-drop, be32-drop, be24-same, be32-same}
+use Rattle.tree.specs.Table.{name_offset}
+use Rattle.tree.specs.Inner.Patch.{records, record_after}
 use Rattle.tree.proofs.Laws.Records.{length-records}
 use Rattle.table_writing.specs.Inner.Inserting.{Raisable, EachRaisable, NamesGrow}
 use Rattle.table_writing.proofs.Patches.{MovedEntry, SameEntry, moved-after, raisable-moved, after-twelve}
@@ -24,7 +24,7 @@ put-again s at a b l h =
 
 -- of the moved records t, those behind k are raised
 abbrev pub Raised : List ℕ → ℕ → ℕ → ℕ → List ℕ → ℕ → Type 0
-Raised t c q grow out k = Filled t (recordAfter t q grow) (c + 1) out (k + 1)
+Raised t c q grow out k = Filled t (record_after t q grow) (c + 1) out (k + 1)
 
 module _ (s : List ℕ) (c q grow : ℕ) (room : 12 * c + 12 ≤ length s) (within : q ≤ c) (t : List ℕ) (up : t ≡ put s (12 * (q + 1)) (span s (12 * q) (12 * (c - q)))) where
   span-long : length (span s (12 * q) (12 * (c - q))) ≡ 12 * (c - q)
@@ -43,7 +43,7 @@ module _ (s : List ℕ) (c q grow : ℕ) (room : 12 * c + 12 ≤ length s) (with
       let f : 12 * q + n ≡ i = omega arith in
       rw up
       (rw (e, f) at
-      (put_in s (12 * (q + 1)) (span s (12 * q) (12 * (c - q))) fits n (omega (arith, span-long)) ∙ getD-span s (12 * q) (12 * (c - q)) n (omega arith)))
+      (put_in s (12 * (q + 1)) (span s (12 * q) (12 * (c - q))) fits n (omega (arith, span-long)) ∙ get_d-span s (12 * q) (12 * (c - q)) n (omega arith)))
 
   name-moved : (at : ℕ) → 12 * q ≤ at → at + 3 ≤ 12 * c → be24 t (12 + at) ≡ be24 s at
   name-moved at h l = rw (← be24-drop 12 t at) (be24-same (drop 12 t) s at (λ i m. get_or-drop 12 t (at + i) 0 ∙ byte-moved (at + i) (omega arith) (omega arith)))
@@ -64,38 +64,38 @@ module _ (s : List ℕ) (c q grow : ℕ) (room : 12 * c + 12 ≤ length s) (with
   fit = omega (arith, long)
 
   pub raise-start : Raised t c q grow t c
-  raise-start = fill_start t (recordAfter t q grow) (after-twelve t q grow) (c + 1) fit
+  raise-start = fill_start t (record_after t q grow) (after-twelve t q grow) (c + 1) fit
 
   module _ (out : List ℕ) (k : ℕ) (u : Raised t c q grow out k) (more : q < k) where
     -- entry k is as it was moved, and so the old one before it
     still : SameEntry out t k
-    still = fill-same t (recordAfter t q grow) (after-twelve t q grow) (c + 1) fit out (k + 1) u k (omega arith)
+    still = fill-same t (record_after t q grow) (after-twelve t q grow) (c + 1) fit out (k + 1) u k (omega arith)
 
     old : MovedEntry t k s (k - 1)
     old = let m = u.most in moved-entry k (k - 1) (omega arith) (omega arith) (omega arith)
 
-    pub raise-turn : EachRaisable s c → NamesGrow s c grow → (12 * k + 12 ≤ length out) × Raisable out k × (nameOffset out k + grow < 2 ^ 24)
+    pub raise-turn : EachRaisable s c → NamesGrow s c grow → (12 * k + 12 ≤ length out) × Raisable out k × (name_offset out k + grow < 2 ^ 24)
     raise-turn each names =
         let m = u.most in
         (omega (arith, u.long, long), raisable-moved out k t k still (raisable-moved t k s (k - 1) old (each (k - 1) (omega arith))), rw (still.names, old.names) (names (k - 1) (omega arith)))
 
-    pub raise-again : (out' : List ℕ) → out' ≡ put out (12 * k) (recordAfter out q grow k) → length out' ≡ length out → Raised t c q grow out' (k - 1)
+    pub raise-again : (out' : List ℕ) → out' ≡ put out (12 * k) (record_after out q grow k) → length out' ≡ length out → Raised t c q grow out' (k - 1)
     raise-again out' e l =
         let n : k + 1 - 1 ≡ k = omega arith in
         let n' : k - 1 + 1 ≡ k = omega arith in
-        let f : out' ≡ put out (12 * k) (recordAfter t q grow k) = rw (moved-after out k t k q grow still) at e in
-        rw n' (rw n at (fill-again t (recordAfter t q grow) (after-twelve t q grow) (c + 1) fit out (k + 1) u (omega arith) out' (rw n f) l))
+        let f : out' ≡ put out (12 * k) (record_after t q grow k) = rw (moved-after out k t k q grow still) at e in
+        rw n' (rw n at (fill-again t (record_after t q grow) (after-twelve t q grow) (c + 1) fit out (k + 1) u (omega arith) out' (rw n f) l))
 
-  raised-old : records (recordAfter s q grow) q (c - q) ≡ records (recordAfter t q grow) (q + 1) (c - q)
+  raised-old : records (record_after s q grow) q (c - q) ≡ records (record_after t q grow) (q + 1) (c - q)
   raised-old =
-      records-shift (recordAfter s q grow) (recordAfter t q grow) q (c - q) (λ i h l. sym (moved-after t (suc i) s i q grow (moved-entry (suc i) i (omega arith) h (omega arith))))
-      ∙ ap (λ (n : ℕ). records (recordAfter t q grow) n (c - q)) (sym (add-one q))
+      records-shift (record_after s q grow) (record_after t q grow) q (c - q) (λ i h l. sym (moved-after t (suc i) s i q grow (moved-entry (suc i) i (omega arith) h (omega arith))))
+      ∙ ap (λ (n : ℕ). records (record_after t q grow) n (c - q)) (sym (add-one q))
 
-  pub raise-end : (out : List ℕ) → Raised t c q grow out q → out ≡ put s (12 * (q + 1)) (records (recordAfter s q grow) q (c - q))
+  pub raise-end : (out : List ℕ) → Raised t c q grow out q → out ≡ put s (12 * (q + 1)) (records (record_after s q grow) q (c - q))
   raise-end out u =
       let b : c + 1 - (q + 1) ≡ c - q = omega arith in
-      let rs : List ℕ = records (recordAfter t q grow) (q + 1) (c - q) in
-      let l : length rs ≡ 12 * (c - q) = length-records (recordAfter t q grow) (after-twelve t q grow) (q + 1) (c - q) in
+      let rs : List ℕ = records (record_after t q grow) (q + 1) (c - q) in
+      let l : length rs ≡ 12 * (c - q) = length-records (record_after t q grow) (after-twelve t q grow) (q + 1) (c - q) in
       let e : out ≡ put t (12 * (q + 1)) rs = rw b at u.done in
       let f : put t (12 * (q + 1)) rs ≡ put (put s (12 * (q + 1)) (span s (12 * q) (12 * (c - q)))) (12 * (q + 1)) rs = ap (λ (x : List ℕ). put x (12 * (q + 1)) rs) up in
       e ∙ f ∙ put-again s (12 * (q + 1)) (span s (12 * q) (12 * (c - q))) rs (span-long ∙ sym l) fits ∙ ap (put s (12 * (q + 1))) (sym raised-old)

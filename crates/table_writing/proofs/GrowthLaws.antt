@@ -15,27 +15,27 @@ use Rattle.endian.specs.Bytes.{put}
 use Rattle.refusal.specs.declared.Refusal.{Refusal}
 use Rattle.refusal.specs.declared.Refusal.TheVariants.{LimitOrMemory}
 use Rattle.refusal.specs.Refusal.{refuse}
-use Rattle.tree.specs.Table.{Node, name_of, none, sizeOrNext, textsOf, encode, limits}
+use Rattle.tree.specs.Table.{Node, name_of, none, size_or_next, texts_of, encode, limits}
 use Rattle.tree.specs.Inner.WellFormed.{GoodName, WellFormed}
 use Rattle.tree.specs.Lookup.{next_of}
-use Rattle.tree.proofs.Laws.InsertWalk.{depthOk}
+use Rattle.tree.proofs.Laws.InsertWalk.{depth_ok}
 use Rattle.tree.specs.Inner.Depths.{depth_of}
-use Rattle.tree.specs.Inner.Patch.{insertPatch}
+use Rattle.tree.specs.Inner.Patch.{insert_patch}
 use Rattle.tree.proofs.Laws.Depth.{limits-insert}
 use Rattle.tree.proofs.Laws.Renumbered.{directory-is}
 use Rattle.tree.proofs.Laws.Growing.{Bigger, bigger-insert, limits-either}
 use Rattle.tree.proofs.Laws.Size.{size-insert}
 use Rattle.tree.proofs.Laws.RoundTrip.{Within, within-limits}
 use Rattle.tree.proofs.Laws.WrittenEntries.{length-encode}
-use Rattle.table_writing.specs.Inner.Inserting.{newNode, Insertable}
+use Rattle.table_writing.specs.Inner.Inserting.{new_node, Insertable}
 use Rattle.table_writing.proofs.Patches.{new-name}
 use Rattle.table_writing.proofs.Written.{fresh-new, insertable, insert-written}
-use Rattle.table_writing.specs.Inner.Growth.{treeIn, Stands, IsDirectory, added, depthAllows, Built}
+use Rattle.table_writing.specs.Inner.Growth.{tree_in, Stands, IsDirectory, added, depth_allows, Built}
 use Rattle.table_writing.proofs.StandingTable.{size_is, front, inside, next-read, built-stands}
 
 -- ---- one entry more
 
-depth-new : (d : Bool) (nm : List ℕ) (q n : ℕ) → depthOk (suc n) (newNode d nm q) ≡ depthAllows d n
+depth-new : (d : Bool) (nm : List ℕ) (q n : ℕ) → depth_ok (suc n) (new_node d nm q) ≡ depth_allows d n
 depth-new true nm q n = both (ltb n 64) refl
   where
     both : (t : Bool) → ltb n 64 ≡ t → leb (suc n) 64 ≡ ltb n 64
@@ -47,7 +47,7 @@ module _ (M : List Node) (d : Bool) (p : ℕ) (nm : List ℕ) (w : WellFormed M)
   q = next_of (get_or M p none)
 
   abbrev new : Node
-  new = newNode d nm (next_of (get_or M p none))
+  new = new_node d nm (next_of (get_or M p none))
 
   named : GoodName (name_of new)
   named = rw (new-name d nm (next_of (get_or M p none))) good
@@ -59,13 +59,13 @@ module _ (M : List Node) (d : Bool) (p : ℕ) (nm : List ℕ) (w : WellFormed M)
   pub limits-added : (words : ℕ) → Within M words →
       limits (added M d p nm) words ≡
       refuse (ltb 16384 (suc (length M))) LimitOrMemory
-      (refuse (ltb 1048576 (length (textsOf (tail M)) + suc (length nm))) LimitOrMemory
+      (refuse (ltb 1048576 (length (texts_of (tail M)) + suc (length nm))) LimitOrMemory
       (refuse (ltb words (4 * (suc (length M) + 2))) LimitOrMemory
-      (refuse (not (depthAllows d (depth_of M p))) LimitOrMemory (Ok tt))))
+      (refuse (not (depth_allows d (depth_of M p))) LimitOrMemory (Ok tt))))
   limits-added words i =
       let x = directory-is (get_or M p none) dir.kind in
       limits-insert M p (next_of (get_or M p none)) x.0 new words w x.1 dir.inside named (fresh-new d nm (next_of (get_or M p none)))
-      ∙ rw (new-name d nm (next_of (get_or M p none)), depth-new d nm (next_of (get_or M p none)) (depth_of M p), i.depth, and-true (depthAllows d (depth_of M p)))
+      ∙ rw (new-name d nm (next_of (get_or M p none)), depth-new d nm (next_of (get_or M p none)) (depth_of M p), i.depth, and-true (depth_allows d (depth_of M p)))
     where
       and-true : (t : Bool) → (t && true) ≡ t
       and-true true = refl
@@ -79,27 +79,27 @@ module _ (M : List Node) (d : Bool) (p : ℕ) (nm : List ℕ) (w : WellFormed M)
     pub too_many : 16384 ≤ length M → limits F words ≡ Err LimitOrMemory
     too_many h = limits-added words i ∙ rw (lt-ltb 16384 (suc (length M)) (omega arith))
 
-    pub too_long : length M < 16384 → 1048576 - length (textsOf (tail M)) ≤ length nm → limits F words ≡ Err LimitOrMemory
+    pub too_long : length M < 16384 → 1048576 - length (texts_of (tail M)) ≤ length nm → limits F words ≡ Err LimitOrMemory
     too_long a h =
         limits-added words i
-        ∙ rw (le-ltb 16384 (suc (length M)) (omega arith), lt-ltb 1048576 (length (textsOf (tail M)) + suc (length nm)) (omega (arith, i.texts)))
+        ∙ rw (le-ltb 16384 (suc (length M)) (omega arith), lt-ltb 1048576 (length (texts_of (tail M)) + suc (length nm)) (omega (arith, i.texts)))
 
-    pub too_few : length M < 16384 → length nm < 1048576 - length (textsOf (tail M)) → words < 4 * (length M + 3) → limits F words ≡ Err LimitOrMemory
+    pub too_few : length M < 16384 → length nm < 1048576 - length (texts_of (tail M)) → words < 4 * (length M + 3) → limits F words ≡ Err LimitOrMemory
     too_few a b h =
         limits-added words i
         ∙ rw (
           le-ltb 16384 (suc (length M)) (omega arith),
-          le-ltb 1048576 (length (textsOf (tail M)) + suc (length nm)) (omega (arith, i.texts)),
+          le-ltb 1048576 (length (texts_of (tail M)) + suc (length nm)) (omega (arith, i.texts)),
           lt-ltb words (4 * (suc (length M) + 2)) (omega arith),
         )
 
-    pub depth-decides : (t : Bool) → length M < 16384 → length nm < 1048576 - length (textsOf (tail M)) → 4 * (length M + 3) ≤ words → t ≡ depthAllows d (depth_of M p) →
+    pub depth-decides : (t : Bool) → length M < 16384 → length nm < 1048576 - length (texts_of (tail M)) → 4 * (length M + 3) ≤ words → t ≡ depth_allows d (depth_of M p) →
         limits F words ≡ refuse (not t) LimitOrMemory (Ok tt)
     depth-decides t a b h e =
         limits-added words i
         ∙ rw (
           le-ltb 16384 (suc (length M)) (omega arith),
-          le-ltb 1048576 (length (textsOf (tail M)) + suc (length nm)) (omega (arith, i.texts)),
+          le-ltb 1048576 (length (texts_of (tail M)) + suc (length nm)) (omega (arith, i.texts)),
           le-ltb words (4 * (suc (length M) + 2)) (omega arith),
           e,
         )
@@ -112,20 +112,20 @@ past-cause F words c e = ⊎_elim (λ q. let z : ◌≡◌ {A = ℕ} 0 1 = cc in
 pub past-never : (F : List Node) (words : ℕ) (s : List ℕ) (c : Refusal) → Err c ≡ limits F words → limits F words ≡ Ok tt → length s < length (encode F)
 past-never F words s c e f = let z : ◌≡◌ {A = ℕ} 0 1 = cc in absurd (omega arith)
 
-module _ (s : List ℕ) (size words : ℕ) (st : Stands s size words) (d : Bool) (p : ℕ) (nm : List ℕ) (dir : IsDirectory (treeIn s size) p) (good : GoodName nm) where
+module _ (s : List ℕ) (size words : ℕ) (st : Stands s size words) (d : Bool) (p : ℕ) (nm : List ℕ) (dir : IsDirectory (tree_in s size) p) (good : GoodName nm) where
   abbrev T : List Node
-  T = treeIn s size
+  T = tree_in s size
 
   abbrev G : List Node
-  G = added (treeIn s size) d p nm
+  G = added (tree_in s size) d p nm
 
-  well : WellFormed (treeIn s size)
+  well : WellFormed (tree_in s size)
   well = st.well
 
   pub grown-size : length (encode G) ≡ size + 12 + length nm + 1
   grown-size =
       let x = directory-is (get_or T p none) dir.kind in
-      let new : Node = newNode d nm (next_of (get_or T p none)) in
+      let new : Node = new_node d nm (next_of (get_or T p none)) in
       omega (arith, size_is s size words st, size-insert T p (next_of (get_or T p none)) x.0 new well x.1 dir.inside, ap length (new-name d nm (next_of (get_or T p none))))
 
   pub short-built : (t : List ℕ) → length s < size + 12 + length nm + 1 → Built G words s t (Err LimitOrMemory)
@@ -149,31 +149,31 @@ module _ (s : List ℕ) (size words : ℕ) (st : Stands s size words) (d : Bool)
           insertable s T p (next_of (get_or T p none)) x.0 d nm well x.1 dir.inside (inside s size words st).few (omega (arith, size_is s size words st)) (omega (arith, size_is s size words st, small)) in
           rw (front s size words st, ← (size_is s size words st)) at i
 
-      pub inserted-built : (t : List ℕ) → t ≡ put s 0 (insertPatch (take size s) (sizeOrNext s 0) p (newNode d nm (sizeOrNext s p))) → Built G words s t (Ok (size + 12 + length nm + 1))
+      pub inserted-built : (t : List ℕ) → t ≡ put s 0 (insert_patch (take size s) (size_or_next s 0) p (new_node d nm (size_or_next s p))) → Built G words s t (Ok (size + 12 + length nm + 1))
       inserted-built t g =
           let x = directory-is (get_or T p none) dir.kind in
-          let i : put (put s 0 (encode T)) 0 (insertPatch (take (length (encode T)) (put s 0 (encode T))) (sizeOrNext (put s 0 (encode T)) 0) p (newNode d nm (sizeOrNext (put s 0 (encode T)) p))) ≡ put s 0 (encode G) =
+          let i : put (put s 0 (encode T)) 0 (insert_patch (take (length (encode T)) (put s 0 (encode T))) (size_or_next (put s 0 (encode T)) 0) p (new_node d nm (size_or_next (put s 0 (encode T)) p))) ≡ put s 0 (encode G) =
           insert-written s T p (next_of (get_or T p none)) x.0 d nm well x.1 dir.inside (inside s size words st).few (omega (arith, size_is s size words st)) (omega (arith, size_is s size words st, small)) in
           (sym passed, sym grown-size, room, g ∙ (rw (front s size words st, ← (size_is s size words st)) at i))
 
   -- and then stands there, the new entry under the number that is returned
   module _ (passed : Ok tt ≡ limits G words) (room : size + 12 + length nm + 1 ≤ length s) where
-    pub inserted-number : (number : ℕ) → number ≡ sizeOrNext s p → number ≡ next_of (get_or T p none)
+    pub inserted-number : (number : ℕ) → number ≡ size_or_next s p → number ≡ next_of (get_or T p none)
     inserted-number number e = e ∙ next-read s size words st p dir
 
-    module _ (t : List ℕ) (g : t ≡ put s 0 (insertPatch (take size s) (sizeOrNext s 0) p (newNode d nm (sizeOrNext s p)))) where
-      stands : Stands t (size + 12 + length nm + 1) words × (treeIn t (size + 12 + length nm + 1) ≡ G)
+    module _ (t : List ℕ) (g : t ≡ put s 0 (insert_patch (take size s) (size_or_next s 0) p (new_node d nm (size_or_next s p)))) where
+      stands : Stands t (size + 12 + length nm + 1) words × (tree_in t (size + 12 + length nm + 1) ≡ G)
       stands = built-stands G words s t (Ok (size + 12 + length nm + 1)) _ (bigger-added T d p nm well dir good).well (inserted-built passed room t g) refl
 
       pub inserted-stands : Stands t (size + 12 + length nm + 1) words
       inserted-stands = stands.0
 
-      pub inserted-tree : treeIn t (size + 12 + length nm + 1) ≡ G
+      pub inserted-tree : tree_in t (size + 12 + length nm + 1) ≡ G
       inserted-tree = stands.1
 
   -- what grew stands there
   module _ (t : List ℕ) (r : Result ℕ Refusal) (built : Built G words s t r) (n : ℕ) (e : r ≡ Ok n) where
-    pub grown : Stands t n words × (treeIn t n ≡ G)
+    pub grown : Stands t n words × (tree_in t n ≡ G)
     grown = built-stands G words s t r n (bigger-added T d p nm well dir good).well built e
 
     pub grown-stands : Stands t n words

@@ -12,10 +12,10 @@ use lib.Seq.{get_or-take, length-take-le, take-length, take_all, drop-drop, appe
 use lib.Dec.{ltb}
 use Rattle.endian.specs.Bytes.{put, span}
 use Rattle.endian.specs.Laws.Stored.{length-put, put-before, length-span, span_ext}
-use Rattle.tree.specs.Table.{Node, nameOffset, sizeOrNext}
-use Rattle.tree.specs.Inner.Patch.{records, patchedRecord, newStart, insertPatch}
+use Rattle.tree.specs.Table.{Node, name_offset, size_or_next}
+use Rattle.tree.specs.Inner.Patch.{records, patched_record, new_start, insert_patch}
 use Rattle.tree.proofs.Laws.Records.{records-ext, length-records}
-use Rattle.table_writing.specs.Inner.Inserting.{newNode, Patchable, newTexts, start_in, Insertable}
+use Rattle.table_writing.specs.Inner.Inserting.{new_node, Patchable, new_texts, start_in, Insertable}
 use Rattle.table_writing.proofs.Puts.{put-append, put-prepend}
 use Rattle.table_writing.proofs.Patches.{new-name, patched_same, patched-twelve, SameEntry, same-entry, raisable-same}
 
@@ -46,7 +46,7 @@ module _ (s : List ℕ) (size c start : ℕ) (nm : List ℕ) (inside : 12 * c + 
         append_snoc nm 0 behind,
       )
 
-  pub texts-moved : put moved (12 * c + 12) (span moved (12 * c) start) ≡ put s (12 * c + 12) (newTexts s size c start nm)
+  pub texts-moved : put moved (12 * c + 12) (span moved (12 * c) start) ≡ put s (12 * c + 12) (new_texts s size c start nm)
   texts-moved =
       let l = behind-length in
       let b : length (nm ++ (0 ∷ behind)) ≡ length nm + suc (length behind) = length-append nm (0 ∷ behind) in
@@ -62,19 +62,19 @@ module _ (s : List ℕ) (size c start : ℕ) (nm : List ℕ) (inside : 12 * c + 
 
 module _ (s : List ℕ) (size p : ℕ) (d : Bool) (nm : List ℕ) (r : Insertable s size p (length nm)) where
   abbrev c : ℕ
-  c = sizeOrNext s 0
+  c = size_or_next s 0
 
   abbrev q : ℕ
-  q = sizeOrNext s p
+  q = size_or_next s p
 
   abbrev start : ℕ
   start = start_in s size c q
 
   abbrev new : Node
-  new = newNode d nm q
+  new = new_node d nm q
 
   abbrev texts : List ℕ
-  texts = newTexts s size c start nm
+  texts = new_texts s size c start nm
 
   abbrev s₁ : List ℕ
   s₁ = put s (12 * c + 12) texts
@@ -85,7 +85,7 @@ module _ (s : List ℕ) (size p : ℕ) (d : Bool) (nm : List ℕ) (r : Insertabl
   pub start-inside : 12 * c + start ≤ size
   start-inside = go (ltb q c) refl
     where
-      go : (t : Bool) → ltb q c ≡ t → 12 * c + cond t (nameOffset s q) (size - 12 * c) ≤ size
+      go : (t : Bool) → ltb q c ≡ t → 12 * c + cond t (name_offset s q) (size - 12 * c) ≤ size
       go true e = r.names q (ltb-true q c e)
       go false e = omega (arith, r.whole)
 
@@ -135,11 +135,11 @@ module _ (s : List ℕ) (size p : ℕ) (d : Bool) (nm : List ℕ) (r : Insertabl
         names = λ k h. rw (same k h).names (omega (arith, r.names k h));
       }
 
-  start_is : newStart tab c q ≡ start
-  unfolding newStart
+  start_is : new_start tab c q ≡ start
+  unfolding new_start
   start_is = go (ltb q c) refl
     where
-      go : (t : Bool) → ltb q c ≡ t → cond t (nameOffset tab q) (length tab - 12 * c) ≡ cond t (nameOffset s q) (size - 12 * c)
+      go : (t : Bool) → ltb q c ≡ t → cond t (name_offset tab q) (length tab - 12 * c) ≡ cond t (name_offset s q) (size - 12 * c)
       go true e = (same-tab q (ltb-true q c e)).names
       go false e = rw tab-length
 
@@ -161,11 +161,11 @@ module _ (s : List ℕ) (size p : ℕ) (d : Bool) (nm : List ℕ) (r : Insertabl
       drop-drop start (12 * c) tab ∙ sym (take_all (size - m) (drop m tab) a)
       ∙ span_ext tab s m (size - m) (omega arith) (omega arith) (λ j h. get_or-take size s (m + j) 0 (omega arith))
 
-  records-are : records (patchedRecord s₁ p q new start) 0 (c + 1) ≡ records (patchedRecord tab p q new start) 0 (suc c)
+  records-are : records (patched_record s₁ p q new start) 0 (c + 1) ≡ records (patched_record tab p q new start) 0 (suc c)
   records-are =
       let w = r.within in
       rw (add-one c)
-      (records-ext (patchedRecord s₁ p q new start) (patchedRecord tab p q new start) 0 (suc c)
+      (records-ext (patched_record s₁ p q new start) (patched_record tab p q new start) 0 (suc c)
       (λ i h.
       patched_same s₁ tab p q new start (0 + i) (λ a. both (0 + i) (omega arith)) (λ a. both (0 + i - 1) (omega arith))))
     where
@@ -175,19 +175,19 @@ module _ (s : List ℕ) (size p : ℕ) (d : Bool) (nm : List ℕ) (r : Insertabl
           let y = same-tab k h in
           record { kinds = x.kinds ∙ sym y.kinds; names = x.names ∙ sym y.names; places = x.places ∙ sym y.places; nexts = x.nexts ∙ sym y.nexts }
 
-  pub inserted : put s₁ 0 (records (patchedRecord s₁ p q new start) 0 (c + 1)) ≡ put s 0 (insertPatch tab c p new)
-  unfolding insertPatch
+  pub inserted : put s₁ 0 (records (patched_record s₁ p q new start) 0 (c + 1)) ≡ put s 0 (insert_patch tab c p new)
+  unfolding insert_patch
   inserted =
-      let f = patchedRecord tab p q new start in
+      let f = patched_record tab p q new start in
       let l : length (records f 0 (suc c)) ≡ 12 * suc c = length-records f (patched-twelve tab p q new start) 0 (suc c) in
       rw ((same-tab p r.parent).nexts, start_is, first-texts, last-texts, new-name d nm q, records-are)
       (put-prepend s 0 (records f 0 (suc c)) (12 * c + 12) texts (omega arith) fits)
 
   -- the same of the numbers that were read and the bytes in between
   module _ (c' q' start' : ℕ) (ec : c' ≡ c) (eq : q' ≡ q) (es : start' ≡ start_in s size c' q') where
-    module _ (t : List ℕ) (et : t ≡ put s (12 * c' + 12) (newTexts s size c' start' nm)) where
+    module _ (t : List ℕ) (et : t ≡ put s (12 * c' + 12) (new_texts s size c' start' nm)) where
       pub patchable-read : Patchable t c' p q' start' (length nm + 1)
       patchable-read = rw (et, es, ec, eq) patchable
 
-      pub inserted-read : (t' : List ℕ) → t' ≡ put t 0 (records (patchedRecord t p q' (newNode d nm q') start') 0 (c' + 1)) → t' ≡ put s 0 (insertPatch tab c p new)
+      pub inserted-read : (t' : List ℕ) → t' ≡ put t 0 (records (patched_record t p q' (new_node d nm q') start') 0 (c' + 1)) → t' ≡ put s 0 (insert_patch tab c p new)
       inserted-read t' e = e ∙ rw (et, es, ec, eq) inserted

@@ -10,9 +10,9 @@ use native.Mathlib.Nat.{add-zero}
 use borrow.Author.Tests.{eq-eqb, lt-ltb, eqb-true, eqb-false, ltb-true}
 use lib.ListN.{get_or}
 use lib.Dec.{eqb, ltb}
-use Rattle.tree.specs.Table.{none, kind, sizeOrNext, count, nodeWith, nodeAt, nodesFrom, nodesOf, encloses, parentBelow, parent_of}
+use Rattle.tree.specs.Table.{none, kind, size_or_next, count, node_with, node_at, nodes_from, nodes_of, encloses, parent_below, parent_of}
 use Rattle.table_writing.specs.Inner.Valid.{Valid}
-use Rattle.table_writing.specs.Inner.Flat.{afterIn}
+use Rattle.table_writing.specs.Inner.Flat.{after_in}
 
 -- a comparison of two numbers has three ends
 pub tri : (a b : ℕ) → (a < b) ⊎ ((a ≡ b) ⊎ (b < a))
@@ -41,52 +41,52 @@ pub count-is : (tab : List ℕ) (n : ℕ) → Valid tab n → count tab ≡ n
 unfolding count
 count-is tab n v = omega (arith, v.reach, v.some)
 
-pub from_at : (tab : List ℕ) (c k m i : ℕ) → i < m → get_or (nodesFrom tab c k m) i none ≡ nodeAt tab c (k + i)
-unfolding nodesFrom
+pub from_at : (tab : List ℕ) (c k m i : ℕ) → i < m → get_or (nodes_from tab c k m) i none ≡ node_at tab c (k + i)
+unfolding nodes_from
 from_at tab c k zero i h = absurd (omega arith)
 from_at tab c k (suc m) zero h = rw (add-zero k)
 from_at tab c k (suc m) (suc i) h =
     let e : suc k + i ≡ k + suc i = omega arith in
     rw e at (from_at tab c (suc k) m i (omega arith))
 
-pub node_at : (tab : List ℕ) (n i : ℕ) → Valid tab n → 0 < i → i < n → get_or (nodesOf tab) i none ≡ nodeAt tab n i
-unfolding nodesOf
-node_at tab n zero v p h = absurd (omega arith)
-node_at tab n (suc i) v p h =
+pub node_at_lem : (tab : List ℕ) (n i : ℕ) → Valid tab n → 0 < i → i < n → get_or (nodes_of tab) i none ≡ node_at tab n i
+unfolding nodes_of
+node_at_lem tab n zero v p h = absurd (omega arith)
+node_at_lem tab n (suc i) v p h =
     let e : 1 + i ≡ suc i = omega arith in
     rw (count-is tab n v) (rw e at (from_at tab n 1 (n - 1) i (omega arith)))
 
-encloses-with : (t : ℕ) (nm : List ℕ) (a b k : ℕ) → t ≤ 1 → encloses (nodeWith t nm a b) k ≡ cond (eqb t 1) (ltb k b) false
+encloses-with : (t : ℕ) (nm : List ℕ) (a b k : ℕ) → t ≤ 1 → encloses (node_with t nm a b) k ≡ cond (eqb t 1) (ltb k b) false
 encloses-with zero nm a b k h = refl
 encloses-with (suc zero) nm a b k h = refl
 encloses-with (suc (suc t)) nm a b k h = absurd (omega arith)
 
-pub encloses-at : (tab : List ℕ) (n i k : ℕ) → Valid tab n → i < n → encloses (get_or (nodesOf tab) i none) k ≡ cond (eqb (kind tab i) 1) (ltb k (sizeOrNext tab i)) false
-unfolding nodesOf nodeAt
+pub encloses-at : (tab : List ℕ) (n i k : ℕ) → Valid tab n → i < n → encloses (get_or (nodes_of tab) i none) k ≡ cond (eqb (kind tab i) 1) (ltb k (size_or_next tab i)) false
+unfolding nodes_of node_at
 encloses-at tab n zero k v h = rw (eq-eqb (kind tab 0) 1 v.root, count-is tab n v, v.reach)
 encloses-at tab n (suc i) k v h =
-    rw (node_at tab n (suc i) v (omega arith) h) (encloses-with (kind tab (suc i)) _ _ (sizeOrNext tab (suc i)) k (v.kinds (suc i) h))
+    rw (node_at_lem tab n (suc i) v (omega arith) h) (encloses-with (kind tab (suc i)) _ _ (size_or_next tab (suc i)) k (v.kinds (suc i) h))
 
 -- ---- the entry after c is a directory's "next" or the number after c
 
-pub after-cases : (tab : List ℕ) (c : ℕ) → ((kind tab c ≡ 1) × (afterIn tab c ≡ sizeOrNext tab c)) ⊎ ((kind tab c ≡ 1 → ⊥) × (afterIn tab c ≡ c + 1))
-after-cases tab c = ⊎_elim (λ p. inl (eqb-true _ _ p.0, p.1)) (λ p. inr (eqb-false _ _ p.0, p.1)) (cases (eqb (kind tab c) 1) (sizeOrNext tab c) (c + 1))
+pub after-cases : (tab : List ℕ) (c : ℕ) → ((kind tab c ≡ 1) × (after_in tab c ≡ size_or_next tab c)) ⊎ ((kind tab c ≡ 1 → ⊥) × (after_in tab c ≡ c + 1))
+after-cases tab c = ⊎_elim (λ p. inl (eqb-true _ _ p.0, p.1)) (λ p. inr (eqb-false _ _ p.0, p.1)) (cases (eqb (kind tab c) 1) (size_or_next tab c) (c + 1))
 
-pub after-later : (tab : List ℕ) (n c : ℕ) → Valid tab n → c < n → c < afterIn tab c
+pub after-later : (tab : List ℕ) (n c : ℕ) → Valid tab n → c < n → c < after_in tab c
 after-later tab n c v h = ⊎_elim (λ p. omega (arith, p.1, (v.nested c h p.0).later)) (λ p. omega (arith, p.1)) (after-cases tab c)
 
-pub after-within : (tab : List ℕ) (n k c : ℕ) → Valid tab n → k < n → kind tab k ≡ 1 → k < c → c < sizeOrNext tab k → afterIn tab c ≤ sizeOrNext tab k
+pub after-within : (tab : List ℕ) (n k c : ℕ) → Valid tab n → k < n → kind tab k ≡ 1 → k < c → c < size_or_next tab k → after_in tab c ≤ size_or_next tab k
 after-within tab n k c v h d p q =
     ⊎_elim (λ w. omega (arith, w.1, (v.nested k h d).inner c p q w.0)) (λ w. omega (arith, w.1)) (after-cases tab c)
 
 -- every directory between k and c ends at c or before it
 abbrev pub Closed : List ℕ → ℕ → ℕ → Type 0
-Closed tab k c = (j : ℕ) → k < j → j < c → kind tab j ≡ 1 → sizeOrNext tab j ≤ c
+Closed tab k c = (j : ℕ) → k < j → j < c → kind tab j ≡ 1 → size_or_next tab j ≤ c
 
 pub closed_none : (tab : List ℕ) (k : ℕ) → Closed tab k (k + 1)
 closed_none tab k j p q d = omega arith
 
-pub closed-more : (tab : List ℕ) (n k c : ℕ) → Valid tab n → c < n → Closed tab k c → Closed tab k (afterIn tab c)
+pub closed-more : (tab : List ℕ) (n k c : ℕ) → Valid tab n → c < n → Closed tab k c → Closed tab k (after_in tab c)
 closed-more tab n k c v h f j p q d =
     ⊎_elim
     (λ w.
@@ -104,9 +104,9 @@ closed-more tab n k c v h f j p q d =
     (after-cases tab c)
 
 -- d is the nearest directory that reaches past k
-module _ (tab : List ℕ) (n k d : ℕ) (v : Valid tab n) (kn : k < n) (dir : kind tab d ≡ 1) (past : k < sizeOrNext tab d) (f : Closed tab d k) where
-  parent_in : (i : ℕ) → d < i → i ≤ k → parentBelow (nodesOf tab) k i ≡ d
-  unfolding parentBelow
+module _ (tab : List ℕ) (n k d : ℕ) (v : Valid tab n) (kn : k < n) (dir : kind tab d ≡ 1) (past : k < size_or_next tab d) (f : Closed tab d k) where
+  parent_in : (i : ℕ) → d < i → i ≤ k → parent_below (nodes_of tab) k i ≡ d
+  unfolding parent_below
   parent_in zero p q = omega arith
   parent_in (suc j) p q =
       ⊎_elim
@@ -114,17 +114,17 @@ module _ (tab : List ℕ) (n k d : ℕ) (v : Valid tab n) (kn : k < n) (dir : ki
       (⊎_elim
       (λ (e : j ≡ d).
       let d' : d < n = omega arith in
-      rw (e, encloses-at tab n d k v d', eq-eqb (kind tab d) 1 dir, lt-ltb k (sizeOrNext tab d) past))
+      rw (e, encloses-at tab n d k v d', eq-eqb (kind tab d) 1 dir, lt-ltb k (size_or_next tab d) past))
       (λ (x : d < j).
-      let ih : parentBelow (nodesOf tab) k j ≡ d = parent_in j x (omega arith) in
+      let ih : parent_below (nodes_of tab) k j ≡ d = parent_in j x (omega arith) in
       let h : j < n = omega arith in
-      by (encloses (get_or (nodesOf tab) j none) k) j (parentBelow (nodesOf tab) k j) d
+      by (encloses (get_or (nodes_of tab) j none) k) j (parent_below (nodes_of tab) k j) d
       (λ e.
-      let t = both (eqb (kind tab j) 1) (ltb k (sizeOrNext tab j)) (rw (encloses-at tab n j k v h) at e) in
-      omega (arith, ltb-true k (sizeOrNext tab j) t.1, f j x (omega arith) (eqb-true (kind tab j) 1 t.0)))
+      let t = both (eqb (kind tab j) 1) (ltb k (size_or_next tab j)) (rw (encloses-at tab n j k v h) at e) in
+      omega (arith, ltb-true k (size_or_next tab j) t.1, f j x (omega arith) (eqb-true (kind tab j) 1 t.0)))
       (λ e. ih)))
       (tri j d)
 
-  pub parent_is : d < k → parent_of (nodesOf tab) k ≡ d
+  pub parent_is : d < k → parent_of (nodes_of tab) k ≡ d
   unfolding parent_of
   parent_is h = parent_in k h (omega arith)

@@ -11,11 +11,11 @@ use native.Mathlib.Nat.{zero-add}
 use lib.ListN.{length}
 use Rattle.endian.specs.Bytes.{put, AllBytes}
 use Rattle.endian.specs.Laws.Stored.{length-put, put-before, put-none}
-use Rattle.tree.specs.Table.{Node, nodeBytes}
-use Rattle.tree.proofs.Laws.WrittenEntries.{length-nodeBytes}
-use Rattle.tree.specs.Inner.Patch.{records, recordBefore, recordAfter, patchedRecord}
+use Rattle.tree.specs.Table.{Node, node_bytes}
+use Rattle.tree.proofs.Laws.WrittenEntries.{length-node_bytes}
+use Rattle.tree.specs.Inner.Patch.{records, record_before, record_after, patched_record}
 use Rattle.tree.proofs.Laws.Records.{Twelve, length-records, records-ext, records-split}
-use Rattle.table_writing.specs.Inner.Inserting.{newNode, Raisable, EachRaisable, Patchable}
+use Rattle.table_writing.specs.Inner.Inserting.{new_node, Raisable, EachRaisable, Patchable}
 use Rattle.table_writing.proofs.Puts.{put-prepend}
 use Rattle.table_writing.proofs.Patches.{SameEntry, same-entry, same-before, raisable-same, before-twelve, patched-twelve, patched-before, patched-new, patched-after, new_is, new-name, between_stays}
 
@@ -70,18 +70,18 @@ module _ (s : List ℕ) (f : ℕ → List ℕ) (twelve : Twelve f) (n : ℕ) (ro
 -- ---- the entries up to directory p
 
 module _ (s : List ℕ) (p : ℕ) where
-  module _ (room : 12 * (p + 1) ≤ length s) (out : List ℕ) (k : ℕ) (u : Filled s (recordBefore s p) (p + 1) out k) (more : 0 < k) where
+  module _ (room : 12 * (p + 1) ≤ length s) (out : List ℕ) (k : ℕ) (u : Filled s (record_before s p) (p + 1) out k) (more : 0 < k) where
     same-below : SameEntry out s (k - 1)
-    same-below = fill-same s (recordBefore s p) (before-twelve s p) (p + 1) room out k u (k - 1) (omega arith)
+    same-below = fill-same s (record_before s p) (before-twelve s p) (p + 1) room out k u (k - 1) (omega arith)
 
     pub before-turn : EachRaisable s (p + 1) → (k - 1 ≤ p) × (12 * (k - 1) + 12 ≤ length out) × Raisable out (k - 1)
     before-turn each =
         let m = u.most in
         (omega arith, omega (arith, u.long), raisable-same out s (k - 1) same-below (each (k - 1) (omega arith)))
 
-    pub before-again : (out' : List ℕ) → out' ≡ put out (12 * (k - 1)) (recordBefore out p (k - 1)) → length out' ≡ length out → Filled s (recordBefore s p) (p + 1) out' (k - 1)
+    pub before-again : (out' : List ℕ) → out' ≡ put out (12 * (k - 1)) (record_before out p (k - 1)) → length out' ≡ length out → Filled s (record_before s p) (p + 1) out' (k - 1)
     before-again out' e l =
-        fill-again s (recordBefore s p) (before-twelve s p) (p + 1) room out k u more out' (rw (same-before out s p (k - 1) same-below) at e) l
+        fill-again s (record_before s p) (before-twelve s p) (p + 1) room out k u more out' (rw (same-before out s p (k - 1) same-below) at e) l
 
 -- ---- all records
 
@@ -93,23 +93,23 @@ records-shift f g k (suc n) h = rw (h k (omega arith) (omega arith), records-shi
 
 module _ (s : List ℕ) (c p q : ℕ) (d : Bool) (nm : List ℕ) (start : ℕ) (r : Patchable s c p q start (length nm + 1)) where
   abbrev new : Node
-  new = newNode d nm q
+  new = new_node d nm q
 
   abbrev each : ℕ → List ℕ
-  each = patchedRecord s p q new start
+  each = patched_record s p q new start
 
   twelve : Twelve each
   twelve = patched-twelve s p q new start
 
   -- those behind the new one
-  behind : records (recordAfter s q (length nm + 1)) q (c - q) ≡ records each (q + 1) (c - q)
+  behind : records (record_after s q (length nm + 1)) q (c - q) ≡ records each (q + 1) (c - q)
   behind =
-      rw (add-one q) (records-shift (recordAfter s q (length nm + 1)) each q (c - q)
+      rw (add-one q) (records-shift (record_after s q (length nm + 1)) each q (c - q)
       (λ i h l.
       let e : suc i - 1 ≡ i = omega arith in
       sym (rw (patched-after s p q new start (suc i) (omega arith), new-name d nm q, add-one (length nm), e))))
 
-  module _ (t₁ : List ℕ) (e₁ : t₁ ≡ put s (12 * (q + 1)) (records (recordAfter s q (length nm + 1)) q (c - q))) where
+  module _ (t₁ : List ℕ) (e₁ : t₁ ≡ put s (12 * (q + 1)) (records (record_after s q (length nm + 1)) q (c - q))) where
     moved : Filled s each (c + 1) t₁ (q + 1)
     moved =
         let w = r.within in
@@ -121,7 +121,7 @@ module _ (s : List ℕ) (c p q : ℕ) (d : Bool) (nm : List ℕ) (start : ℕ) (
     pub moved-long : length t₁ ≡ length s
     moved-long = moved.long
 
-    module _ (t₂ : List ℕ) (e₂ : t₂ ≡ put t₁ (12 * q) (nodeBytes p start (newNode d [] q))) where
+    module _ (t₂ : List ℕ) (e₂ : t₂ ≡ put t₁ (12 * q) (node_bytes p start (new_node d [] q))) where
       room : 12 * (c + 1) ≤ length s
       room = omega (arith, r.room)
 
@@ -130,9 +130,9 @@ module _ (s : List ℕ) (c p q : ℕ) (d : Bool) (nm : List ℕ) (start : ℕ) (
       written =
           let k : q + 1 - 1 ≡ q = omega arith in
           let w = r.within in
-          let n : nodeBytes p start (newNode d [] q) ≡ each q = new_is d p q start nm ∙ sym (patched-new s p q new start q refl) in
+          let n : node_bytes p start (new_node d [] q) ≡ each q = new_is d p q start nm ∙ sym (patched-new s p q new start q refl) in
           let e : t₂ ≡ put t₁ (12 * q) (each q) = rw n at e₂ in
-          let l : length t₂ ≡ length t₁ = rw e₂ (length-put t₁ (12 * q) (nodeBytes p start (newNode d [] q)) (omega (arith, length-nodeBytes p start (newNode d [] q), moved-long, r.room))) in
+          let l : length t₂ ≡ length t₁ = rw e₂ (length-put t₁ (12 * q) (node_bytes p start (new_node d [] q)) (omega (arith, length-node_bytes p start (new_node d [] q), moved-long, r.room))) in
           rw k at (fill-again s each twelve (c + 1) room t₁ (q + 1) moved (omega arith) t₂ (rw k e) l)
 
       same_old : (j : ℕ) → j < q → SameEntry t₂ s j
@@ -154,7 +154,7 @@ module _ (s : List ℕ) (c p q : ℕ) (d : Bool) (nm : List ℕ) (start : ℕ) (
         stays : (k : ℕ) → p < k → k < q → t₂ ≡ put t₂ (12 * k) (each k)
         stays k h g =
             let w = r.within in
-            let e : each k ≡ recordBefore t₂ p k = patched-before s p q new start k g ∙ sym (same-before t₂ s p k (same_old k g)) in
+            let e : each k ≡ record_before t₂ p k = patched-before s p q new start k g ∙ sym (same-before t₂ s p k (same_old k g)) in
             rw e (sym (between_stays t₂ p k bytes (omega (arith, written.long, r.room)) (old-raisable k g).kinds h))
 
         between : (j : ℕ) → p + j < q → Filled s each (c + 1) t₂ (q - j)
@@ -171,13 +171,13 @@ module _ (s : List ℕ) (c p q : ℕ) (d : Bool) (nm : List ℕ) (start : ℕ) (
             rw b at (rw e at (between (q - (p + 1)) (omega arith)).done)
 
         -- those up to directory p
-        first : records (recordBefore t₂ p) 0 (p + 1) ≡ records each 0 (p + 1)
+        first : records (record_before t₂ p) 0 (p + 1) ≡ records each 0 (p + 1)
         first =
             let l = r.later in
-            records-ext (recordBefore t₂ p) each 0 (p + 1)
+            records-ext (record_before t₂ p) each 0 (p + 1)
             (λ i h. same-before t₂ s p (0 + i) (same_old (0 + i) (omega arith)) ∙ sym (patched-before s p q new start (0 + i) (omega arith)))
 
-        pub all-patched : (t₃ : List ℕ) → t₃ ≡ put t₂ 0 (records (recordBefore t₂ p) 0 (p + 1)) → t₃ ≡ put s 0 (records each 0 (c + 1))
+        pub all-patched : (t₃ : List ℕ) → t₃ ≡ put t₂ 0 (records (record_before t₂ p) 0 (p + 1)) → t₃ ≡ put s 0 (records each 0 (c + 1))
         all-patched t₃ e =
             let w = r.within in
             let l = r.later in

@@ -10,67 +10,67 @@ use native.Mathlib.Numerals.{add-one}
 use borrow.Author.Tests.{lt-ltb, le-ltb, le-leb, lt-leb, eq-eqb, ne_eqb}
 use lib.ListN.{length, get_or}
 use lib.Dec.{leb, eqb}
-use Rattle.endian.specs.Bytes.{put, be32Bytes, AllBytes}
+use Rattle.endian.specs.Bytes.{put, be32_bytes, AllBytes}
 use Rattle.endian.specs.Laws.Stored.{be24-same, be32-same}
 use Rattle.refusal.specs.Laws.Tests.{lt-or-le}
-use Rattle.tree.specs.Table.{Node, name_of, kind, nameOffset, offsetOrParent, sizeOrNext, nodeWith, nodeBytes}
-use Rattle.tree.proofs.Laws.WrittenEntries.{length-nodeBytes}
+use Rattle.tree.specs.Table.{Node, name_of, kind, name_offset, offset_or_parent, size_or_next, node_with, node_bytes}
+use Rattle.tree.proofs.Laws.WrittenEntries.{length-node_bytes}
 use Rattle.tree.specs.Insert.{bump, earlier, later, shifted}
 use Rattle.tree.proofs.Laws.Records.{Twelve}
-use Rattle.tree.specs.Inner.Patch.{stored, recordBefore, recordAfter, patchedRecord}
-use Rattle.table_writing.specs.Inner.Flat.{recordBytes}
-use Rattle.table_writing.specs.Inner.Inserting.{newNode, nextBefore, Raisable}
+use Rattle.tree.specs.Inner.Patch.{stored, record_before, record_after, patched_record}
+use Rattle.table_writing.specs.Inner.Flat.{record_bytes}
+use Rattle.table_writing.specs.Inner.Inserting.{new_node, next_before, Raisable}
 use Rattle.table_writing.proofs.Puts.{put-fields}
 use Rattle.table_writing.proofs.Stays.{byte-stays, name-stays, word-stays}
 use Rattle.table_writing.specs.declared.kind.Kind.{Kind}
 use Rattle.table_writing.specs.declared.kind.Kind.TheVariants.{File, Directory}
-use Rattle.table_writing.specs.Inner.Kind.{number_of, is_directory}
+use Rattle.table_writing.specs.Inner.Kind.{number_of, kind_is_directory}
 
 -- what was read as a directory is stored as 1, and what was not is not
-pub directory-one : (x : Kind) (n : ℕ) → number_of x ≡ n → is_directory x ≡ true → n ≡ 1
+pub directory-one : (x : Kind) (n : ℕ) → number_of x ≡ n → kind_is_directory x ≡ true → n ≡ 1
 directory-one File n e h = absurd (cc h)
 directory-one Directory n e h = sym e
 
-pub file-not-one : (x : Kind) (n : ℕ) → number_of x ≡ n → is_directory x ≡ false → n ≡ 1 → ⊥
+pub file-not-one : (x : Kind) (n : ℕ) → number_of x ≡ n → kind_is_directory x ≡ false → n ≡ 1 → ⊥
 file-not-one File n e h o = omega arith
 file-not-one Directory n e h o = absurd (cc h)
 
 -- ---- one record
 
-before-with : (t o a b p k : ℕ) → t ≤ 1 → recordBytes t o a (nextBefore t p k b) ≡ nodeBytes a o (earlier p k (nodeWith t [] a b))
+before-with : (t o a b p k : ℕ) → t ≤ 1 → record_bytes t o a (next_before t p k b) ≡ node_bytes a o (earlier p k (node_with t [] a b))
 before-with zero o a b p k h = refl
 before-with (suc zero) o a b p k h = refl
 before-with (suc (suc t)) o a b p k h = absurd (omega arith)
 
-pub before-is : (s : List ℕ) (p k : ℕ) → kind s k ≤ 1 → recordBytes (kind s k) (nameOffset s k) (offsetOrParent s k) (nextBefore (kind s k) p k (sizeOrNext s k)) ≡ recordBefore s p k
-unfolding recordBefore
-before-is s p k h = before-with (kind s k) (nameOffset s k) (offsetOrParent s k) (sizeOrNext s k) p k h
+pub before-is : (s : List ℕ) (p k : ℕ) → kind s k ≤ 1 → record_bytes (kind s k) (name_offset s k) (offset_or_parent s k) (next_before (kind s k) p k (size_or_next s k)) ≡ record_before s p k
+unfolding record_before
+before-is s p k h = before-with (kind s k) (name_offset s k) (offset_or_parent s k) (size_or_next s k) p k h
 
 module _ (s : List ℕ) (q grow k : ℕ) where
-  pub after-file : kind s k ≡ 0 → recordBytes (kind s k) (nameOffset s k + grow) (offsetOrParent s k) (sizeOrNext s k) ≡ recordAfter s q grow k
-  unfolding recordAfter
+  pub after-file : kind s k ≡ 0 → record_bytes (kind s k) (name_offset s k + grow) (offset_or_parent s k) (size_or_next s k) ≡ record_after s q grow k
+  unfolding record_after
   after-file e = rw e
 
-  pub after-directory : kind s k ≡ 1 → recordBytes (kind s k) (nameOffset s k + grow) (shifted q (offsetOrParent s k)) (suc (sizeOrNext s k)) ≡ recordAfter s q grow k
-  unfolding recordAfter
+  pub after-directory : kind s k ≡ 1 → record_bytes (kind s k) (name_offset s k + grow) (shifted q (offset_or_parent s k)) (suc (size_or_next s k)) ≡ record_after s q grow k
+  unfolding record_after
   after-directory e = rw e
 
 -- the new entry's record does not hold its name
-pub new_is : (d : Bool) (p q start : ℕ) (nm : List ℕ) → nodeBytes p start (newNode d [] q) ≡ nodeBytes p start (newNode d nm q)
+pub new_is : (d : Bool) (p q start : ℕ) (nm : List ℕ) → node_bytes p start (new_node d [] q) ≡ node_bytes p start (new_node d nm q)
 new_is true p q start nm = refl
 new_is false p q start nm = refl
 
-pub new-name : (d : Bool) (nm : List ℕ) (q : ℕ) → name_of (newNode d nm q) ≡ nm
+pub new-name : (d : Bool) (nm : List ℕ) (q : ℕ) → name_of (new_node d nm q) ≡ nm
 new-name true nm q = refl
 new-name false nm q = refl
 
-pub before-twelve : (s : List ℕ) (p k : ℕ) → length (recordBefore s p k) ≡ 12
-unfolding recordBefore
-before-twelve s p k = length-nodeBytes (offsetOrParent s k) (nameOffset s k) (earlier p k (stored s k))
+pub before-twelve : (s : List ℕ) (p k : ℕ) → length (record_before s p k) ≡ 12
+unfolding record_before
+before-twelve s p k = length-node_bytes (offset_or_parent s k) (name_offset s k) (earlier p k (stored s k))
 
-pub after-twelve : (s : List ℕ) (q grow k : ℕ) → length (recordAfter s q grow k) ≡ 12
-unfolding recordAfter
-after-twelve s q grow k = length-nodeBytes (shifted q (offsetOrParent s k)) (nameOffset s k + grow) (later (stored s k))
+pub after-twelve : (s : List ℕ) (q grow k : ℕ) → length (record_after s q grow k) ≡ 12
+unfolding record_after
+after-twelve s q grow k = length-node_bytes (shifted q (offset_or_parent s k)) (name_offset s k + grow) (later (stored s k))
 
 -- ---- the next of an entry before the new one
 
@@ -87,40 +87,40 @@ bump-ended : (p n : ℕ) → n ≤ p → bump p n ≡ n
 unfolding bump
 bump-ended p n h = rw (le-ltb p n h)
 
-next-raised : (t p k n : ℕ) → t ≡ 1 → k ≤ p → p < n → nextBefore t p k n ≡ n + 1
+next-raised : (t p k n : ℕ) → t ≡ 1 → k ≤ p → p < n → next_before t p k n ≡ n + 1
 next-raised t p k n e h g = rw (eq-eqb t 1 e, le-leb k p h, bump-past p n g)
 
-next-file : (t p k n : ℕ) → (t ≡ 1 → ⊥) → nextBefore t p k n ≡ n
+next-file : (t p k n : ℕ) → (t ≡ 1 → ⊥) → next_before t p k n ≡ n
 next-file t p k n e = rw (ne_eqb t 1 e)
 
-next-ended : (t p k n : ℕ) → n ≤ p → nextBefore t p k n ≡ n
+next-ended : (t p k n : ℕ) → n ≤ p → next_before t p k n ≡ n
 next-ended t p k n h = both (eqb t 1) (cond (leb k p) (bump p n) n) n n (both (leb k p) (bump p n) n n (bump-ended p n h) refl) refl
 
-next-between : (t p k n : ℕ) → p < k → nextBefore t p k n ≡ n
+next-between : (t p k n : ℕ) → p < k → next_before t p k n ≡ n
 next-between t p k n h = rw (lt-leb k p h) (both (eqb t 1) n n n refl refl)
 
 -- ---- which of the three it is
 
 module _ (s : List ℕ) (p q : ℕ) (new : Node) (start k : ℕ) where
-  pub patched-before : k < q → patchedRecord s p q new start k ≡ recordBefore s p k
-  unfolding patchedRecord
+  pub patched-before : k < q → patched_record s p q new start k ≡ record_before s p k
+  unfolding patched_record
   patched-before h = rw (lt-ltb k q h)
 
-  pub patched-new : k ≡ q → patchedRecord s p q new start k ≡ nodeBytes p start new
-  unfolding patchedRecord
+  pub patched-new : k ≡ q → patched_record s p q new start k ≡ node_bytes p start new
+  unfolding patched_record
   patched-new h = rw (le-ltb k q (omega arith), eq-eqb k q h)
 
-  pub patched-after : q < k → patchedRecord s p q new start k ≡ recordAfter s q (suc (length (name_of new))) (k - 1)
-  unfolding patchedRecord
+  pub patched-after : q < k → patched_record s p q new start k ≡ record_after s q (suc (length (name_of new))) (k - 1)
+  unfolding patched_record
   patched-after h = rw (le-ltb k q (omega arith), ne_eqb k q (λ e. omega arith))
 
 pub three : (k q : ℕ) → (k < q) ⊎ ((k ≡ q) ⊎ (q < k))
 three k q = ⊎_elim (λ h. inl h) (λ h. ⊎_elim (λ g. inr (inr g)) (λ g. inr (inl (omega arith))) (lt-or-le q k)) (lt-or-le k q)
 
-pub patched-twelve : (s : List ℕ) (p q : ℕ) (new : Node) (start : ℕ) → Twelve (patchedRecord s p q new start)
+pub patched-twelve : (s : List ℕ) (p q : ℕ) (new : Node) (start : ℕ) → Twelve (patched_record s p q new start)
 patched-twelve s p q new start k =
     ⊎_elim (λ h. rw (patched-before s p q new start k h) (before-twelve s p k))
-    (⊎_elim (λ h. rw (patched-new s p q new start k h) (length-nodeBytes p start new)) (λ h. rw (patched-after s p q new start k h) (after-twelve s q (suc (length (name_of new))) (k - 1))))
+    (⊎_elim (λ h. rw (patched-new s p q new start k h) (length-node_bytes p start new)) (λ h. rw (patched-after s p q new start k h) (after-twelve s q (suc (length (name_of new))) (k - 1))))
     (three k q)
 
 -- ---- two lists that agree on the bytes of an entry
@@ -128,9 +128,9 @@ patched-twelve s p q new start k =
 -- entry j of one is entry k of the other
 pub record MovedEntry (s : List ℕ) (j : ℕ) (t : List ℕ) (k : ℕ) : Type 0 where
   pub kinds : kind s j ≡ kind t k
-  pub names : nameOffset s j ≡ nameOffset t k
-  pub places : offsetOrParent s j ≡ offsetOrParent t k
-  pub nexts : sizeOrNext s j ≡ sizeOrNext t k
+  pub names : name_offset s j ≡ name_offset t k
+  pub places : offset_or_parent s j ≡ offset_or_parent t k
+  pub nexts : size_or_next s j ≡ size_or_next t k
 
 abbrev pub SameEntry : List ℕ → List ℕ → ℕ → Type 0
 SameEntry s t k = MovedEntry s k t k
@@ -144,15 +144,15 @@ same-entry s t k f =
       nexts = be32-same s t (12 * k + 8) (λ i h. f (12 * k + 8 + i) (omega arith));
     }
 
-pub same-before : (s t : List ℕ) (p k : ℕ) → SameEntry s t k → recordBefore s p k ≡ recordBefore t p k
-unfolding recordBefore
+pub same-before : (s t : List ℕ) (p k : ℕ) → SameEntry s t k → record_before s p k ≡ record_before t p k
+unfolding record_before
 same-before s t p k e = rw (e.kinds, e.names, e.places, e.nexts)
 
-pub moved-after : (s : List ℕ) (j : ℕ) (t : List ℕ) (k q grow : ℕ) → MovedEntry s j t k → recordAfter s q grow j ≡ recordAfter t q grow k
-unfolding recordAfter
+pub moved-after : (s : List ℕ) (j : ℕ) (t : List ℕ) (k q grow : ℕ) → MovedEntry s j t k → record_after s q grow j ≡ record_after t q grow k
+unfolding record_after
 moved-after s j t k q grow e = rw (e.kinds, e.names, e.places, e.nexts)
 
-pub patched_same : (s t : List ℕ) (p q : ℕ) (new : Node) (start k : ℕ) → (k < q → SameEntry s t k) → (q < k → SameEntry s t (k - 1)) → patchedRecord s p q new start k ≡ patchedRecord t p q new start k
+pub patched_same : (s t : List ℕ) (p q : ℕ) (new : Node) (start k : ℕ) → (k < q → SameEntry s t k) → (q < k → SameEntry s t (k - 1)) → patched_record s p q new start k ≡ patched_record t p q new start k
 patched_same s t p q new start k f g =
     ⊎_elim (λ h. rw (patched-before s p q new start k h, patched-before t p q new start k h) (same-before s t p k (f h)))
     (⊎_elim (λ h. rw (patched-new s p q new start k h, patched-new t p q new start k h))
@@ -173,27 +173,27 @@ raisable-same s t k = raisable-moved s k t k
 -- ---- an entry that stays before the new one changes in its next only, and most do not change
 
 module _ (s : List ℕ) (p k : ℕ) (bytes : AllBytes s) (room : 12 * k + 12 ≤ length s) (known : kind s k ≤ 1) where
-  next-put : (next : ℕ) → put s (12 * k) (recordBytes (kind s k) (nameOffset s k) (offsetOrParent s k) next) ≡ put s (12 * k + 8) (be32Bytes next)
+  next-put : (next : ℕ) → put s (12 * k) (record_bytes (kind s k) (name_offset s k) (offset_or_parent s k) next) ≡ put s (12 * k + 8) (be32_bytes next)
   next-put next =
-      sym (put-fields s (12 * k) (kind s k) (nameOffset s k) (offsetOrParent s k) next room)
+      sym (put-fields s (12 * k) (kind s k) (name_offset s k) (offset_or_parent s k) next room)
       ∙ rw (byte-stays s (12 * k) (omega arith), name-stays s (12 * k + 1) bytes (omega arith), word-stays s (12 * k + 4) bytes (omega arith))
 
-  before-put : put s (12 * k) (recordBefore s p k) ≡ put s (12 * k + 8) (be32Bytes (nextBefore (kind s k) p k (sizeOrNext s k)))
-  before-put = rw (← before-is s p k known) (next-put (nextBefore (kind s k) p k (sizeOrNext s k)))
+  before-put : put s (12 * k) (record_before s p k) ≡ put s (12 * k + 8) (be32_bytes (next_before (kind s k) p k (size_or_next s k)))
+  before-put = rw (← before-is s p k known) (next-put (next_before (kind s k) p k (size_or_next s k)))
 
-  unchanged : nextBefore (kind s k) p k (sizeOrNext s k) ≡ sizeOrNext s k → put s (12 * k) (recordBefore s p k) ≡ s
+  unchanged : next_before (kind s k) p k (size_or_next s k) ≡ size_or_next s k → put s (12 * k) (record_before s p k) ≡ s
   unchanged e = before-put ∙ rw e (word-stays s (12 * k + 8) bytes (omega arith))
 
-  pub raised : kind s k ≡ 1 → k ≤ p → p < sizeOrNext s k → put s (12 * k) (recordBefore s p k) ≡ put s (12 * k + 8) (be32Bytes (sizeOrNext s k + 1))
+  pub raised : kind s k ≡ 1 → k ≤ p → p < size_or_next s k → put s (12 * k) (record_before s p k) ≡ put s (12 * k + 8) (be32_bytes (size_or_next s k + 1))
   raised t h g =
-      let e : nextBefore (kind s k) p k (sizeOrNext s k) ≡ sizeOrNext s k + 1 = next-raised (kind s k) p k (sizeOrNext s k) t h g in
+      let e : next_before (kind s k) p k (size_or_next s k) ≡ size_or_next s k + 1 = next-raised (kind s k) p k (size_or_next s k) t h g in
       before-put ∙ rw e
 
-  pub file-stays : (kind s k ≡ 1 → ⊥) → put s (12 * k) (recordBefore s p k) ≡ s
-  file-stays t = unchanged (next-file (kind s k) p k (sizeOrNext s k) t)
+  pub file-stays : (kind s k ≡ 1 → ⊥) → put s (12 * k) (record_before s p k) ≡ s
+  file-stays t = unchanged (next-file (kind s k) p k (size_or_next s k) t)
 
-  pub ended-stays : sizeOrNext s k ≤ p → put s (12 * k) (recordBefore s p k) ≡ s
-  ended-stays h = unchanged (next-ended (kind s k) p k (sizeOrNext s k) h)
+  pub ended-stays : size_or_next s k ≤ p → put s (12 * k) (record_before s p k) ≡ s
+  ended-stays h = unchanged (next-ended (kind s k) p k (size_or_next s k) h)
 
-  pub between_stays : p < k → put s (12 * k) (recordBefore s p k) ≡ s
-  between_stays h = unchanged (next-between (kind s k) p k (sizeOrNext s k) h)
+  pub between_stays : p < k → put s (12 * k) (record_before s p k) ≡ s
+  between_stays h = unchanged (next-between (kind s k) p k (size_or_next s k) h)

@@ -7,8 +7,8 @@ use mathlib.Core.List.{List, [], ◌∷◌, ◌++◌, append_assoc}
 use native.Mathlib.Omega.{arith}
 use lib.ListN.{length, get_or, take, drop, length-append}
 use lib.Seq.{length-take-le, take_at, ext_get_or}
-use Rattle.endian.specs.Bytes.{put, be24Bytes, be32Bytes}
-use Rattle.table_writing.specs.Inner.Flat.{recordBytes}
+use Rattle.endian.specs.Bytes.{put, be24_bytes, be32_bytes}
+use Rattle.table_writing.specs.Inner.Flat.{record_bytes}
 use Rattle.endian.specs.Laws.Stored.{length-put, put-before, put_in, put-after, put-outside, drop-put, Outside}
 use Rattle.refusal.specs.Laws.Tests.{lt-or-le}
 
@@ -96,10 +96,10 @@ put-prepend s at a m b e h = sym (put-swap s at a m b (omega arith) h) ∙ put-a
 
 -- an entry's four fields
 pub put-fields : (s : List ℕ) (at kind o a b : ℕ) → at + 12 ≤ length s →
-    put (put (put (put s at (kind ∷ [])) (at + 1) (be24Bytes o)) (at + 4) (be32Bytes a)) (at + 8) (be32Bytes b) ≡ put s at (recordBytes kind o a b)
+    put (put (put (put s at (kind ∷ [])) (at + 1) (be24_bytes o)) (at + 4) (be32_bytes a)) (at + 8) (be32_bytes b) ≡ put s at (record_bytes kind o a b)
 put-fields s at kind o a b h =
     rw (
-      put-append s at (kind ∷ []) (at + 1) (be24Bytes o) refl (omega arith),
-      put-append s at (kind ∷ be24Bytes o) (at + 4) (be32Bytes a) refl (omega arith),
-      put-append s at (kind ∷ (be24Bytes o ++ be32Bytes a)) (at + 8) (be32Bytes b) refl (omega arith),
+      put-append s at (kind ∷ []) (at + 1) (be24_bytes o) refl (omega arith),
+      put-append s at (kind ∷ be24_bytes o) (at + 4) (be32_bytes a) refl (omega arith),
+      put-append s at (kind ∷ (be24_bytes o ++ be32_bytes a)) (at + 8) (be32_bytes b) refl (omega arith),
     )

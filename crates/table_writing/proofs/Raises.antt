@@ -6,11 +6,11 @@ use mathlib.Core.List.{List, [], ◌∷◌, ◌++◌}
 use native.Mathlib.Omega.{arith}
 use native.Mathlib.Numerals.{add-one}
 use lib.ListN.{length, get_or}
-use Rattle.endian.specs.Bytes.{put, be24, be32, be24Bytes, be32Bytes, AllBytes}
+use Rattle.endian.specs.Bytes.{put, be24, be32, be24_bytes, be32_bytes, AllBytes}
 use Rattle.endian.specs.Laws.Stored.{length-put, put-after, be32-same}
-use Rattle.tree.specs.Table.{kind, nameOffset, offsetOrParent, sizeOrNext}
+use Rattle.tree.specs.Table.{kind, name_offset, offset_or_parent, size_or_next}
 use Rattle.tree.specs.Insert.{shifted}
-use Rattle.tree.specs.Inner.Patch.{recordAfter}
+use Rattle.tree.specs.Inner.Patch.{record_after}
 use Rattle.table_writing.proofs.Puts.{put-append, put-prepend}
 use Rattle.table_writing.proofs.Stays.{word-stays}
 use Rattle.table_writing.proofs.Patches.{after-file, after-directory}
@@ -24,7 +24,7 @@ word_read s at =
     let e₂ : at + 1 + 2 ≡ at + 3 = omega arith in
     rw (e₁, e₂) (omega arith)
 
-word_bytes : (t n : ℕ) → t < 256 → n < 2 ^ 24 → be32Bytes (t * 16777216 + n) ≡ t ∷ be24Bytes n
+word_bytes : (t n : ℕ) → t < 256 → n < 2 ^ 24 → be32_bytes (t * 16777216 + n) ≡ t ∷ be24_bytes n
 word_bytes t n h l =
     let w : ℕ = t * 16777216 + n in
     let f₃ : w / 16777216 % 256 ≡ t = omega arith in
@@ -35,22 +35,22 @@ word_bytes t n h l =
 
 -- ---- the words behind what was put are as they were
 
-word-behind : (s : List ℕ) (at v n : ℕ) → at + 4 ≤ length s → at + 4 ≤ n → be32 (put s at (be32Bytes v)) n ≡ be32 s n
-word-behind s at v n h l = be32-same (put s at (be32Bytes v)) s n (λ i m. put-after s at (be32Bytes v) h (n + i) (omega arith))
+word-behind : (s : List ℕ) (at v n : ℕ) → at + 4 ≤ length s → at + 4 ≤ n → be32 (put s at (be32_bytes v)) n ≡ be32 s n
+word-behind s at v n h l = be32-same (put s at (be32_bytes v)) s n (λ i m. put-after s at (be32_bytes v) h (n + i) (omega arith))
 
-module _ (s : List ℕ) (k : ℕ) (room : 12 * k + 12 ≤ length s) (t₁ : List ℕ) (v : ℕ) (e₁ : t₁ ≡ put s (12 * k) (be32Bytes v)) where
-  pub place_read : be32 t₁ (12 * k + 4) ≡ offsetOrParent s k
+module _ (s : List ℕ) (k : ℕ) (room : 12 * k + 12 ≤ length s) (t₁ : List ℕ) (v : ℕ) (e₁ : t₁ ≡ put s (12 * k) (be32_bytes v)) where
+  pub place_read : be32 t₁ (12 * k + 4) ≡ offset_or_parent s k
   place_read = rw e₁ (word-behind s (12 * k) v (12 * k + 4) (omega arith) (omega arith))
 
-  pub next-read : (t₂ : List ℕ) (w : ℕ) → t₂ ≡ put t₁ (12 * k + 4) (be32Bytes w) → be32 t₂ (12 * k + 8) ≡ sizeOrNext s k
+  pub next-read : (t₂ : List ℕ) (w : ℕ) → t₂ ≡ put t₁ (12 * k + 4) (be32_bytes w) → be32 t₂ (12 * k + 8) ≡ size_or_next s k
   next-read t₂ w e₂ =
-      let l : length t₁ ≡ length s = rw e₁ (length-put s (12 * k) (be32Bytes v) (omega arith)) in
-      let f : be32 t₁ (12 * k + 8) ≡ sizeOrNext s k = rw e₁ (word-behind s (12 * k) v (12 * k + 8) (omega arith) (omega arith)) in
+      let l : length t₁ ≡ length s = rw e₁ (length-put s (12 * k) (be32_bytes v) (omega arith)) in
+      let f : be32 t₁ (12 * k + 8) ≡ size_or_next s k = rw e₁ (word-behind s (12 * k) v (12 * k + 8) (omega arith) (omega arith)) in
       rw e₂ (word-behind t₁ (12 * k + 4) w (12 * k + 8) (omega (arith, l)) (omega arith) ∙ f)
 
 -- ---- entry k
 
-module _ (s : List ℕ) (q grow k : ℕ) (room : 12 * k + 12 ≤ length s) (known : kind s k ≤ 1) (small : nameOffset s k + grow < 2 ^ 24) where
+module _ (s : List ℕ) (q grow k : ℕ) (room : 12 * k + 12 ≤ length s) (known : kind s k ≤ 1) (small : name_offset s k + grow < 2 ^ 24) where
   pub first_small : be32 s (12 * k) + grow < 2 ^ 32
   first_small = omega (arith, word_read s (12 * k))
 
@@ -61,16 +61,16 @@ module _ (s : List ℕ) (q grow k : ℕ) (room : 12 * k + 12 ≤ length s) (know
   pub first-file : be32 s (12 * k) + grow < 2 ^ 24 → kind s k ≡ 0
   first-file h = omega (arith, word_read s (12 * k))
 
-  first-bytes : be32Bytes (be32 s (12 * k) + grow) ≡ kind s k ∷ be24Bytes (nameOffset s k + grow)
+  first-bytes : be32_bytes (be32 s (12 * k) + grow) ≡ kind s k ∷ be24_bytes (name_offset s k + grow)
   first-bytes =
-      let e : be32 s (12 * k) + grow ≡ kind s k * 16777216 + (nameOffset s k + grow) = omega (arith, word_read s (12 * k)) in
-      rw e (word_bytes (kind s k) (nameOffset s k + grow) (omega arith) small)
+      let e : be32 s (12 * k) + grow ≡ kind s k * 16777216 + (name_offset s k + grow) = omega (arith, word_read s (12 * k)) in
+      rw e (word_bytes (kind s k) (name_offset s k + grow) (omega arith) small)
 
-  pub raised-file : AllBytes s → kind s k ≡ 0 → put s (12 * k) (be32Bytes (be32 s (12 * k) + grow)) ≡ put s (12 * k) (recordAfter s q grow k)
+  pub raised-file : AllBytes s → kind s k ≡ 0 → put s (12 * k) (be32_bytes (be32 s (12 * k) + grow)) ≡ put s (12 * k) (record_after s q grow k)
   raised-file bytes file =
-      let x : List ℕ = kind s k ∷ be24Bytes (nameOffset s k + grow) in
-      let a : List ℕ = be32Bytes (offsetOrParent s k) in
-      let b : List ℕ = be32Bytes (sizeOrNext s k) in
+      let x : List ℕ = kind s k ∷ be24_bytes (name_offset s k + grow) in
+      let a : List ℕ = be32_bytes (offset_or_parent s k) in
+      let b : List ℕ = be32_bytes (size_or_next s k) in
       let stays : put s (12 * k + 4) (a ++ b) ≡ s =
       sym (put-append s (12 * k + 4) a (12 * k + 8) b (omega arith) (omega arith))
       ∙ rw (word-stays s (12 * k + 4) bytes (omega arith)) (word-stays s (12 * k + 8) bytes (omega arith)) in
@@ -78,25 +78,25 @@ module _ (s : List ℕ) (q grow k : ℕ) (room : 12 * k + 12 ≤ length s) (know
       rw (first-bytes, ← after-file s q grow k file) (rw stays at e)
 
   words-raised : kind s k ≡ 1 →
-      put (put (put s (12 * k) (be32Bytes (be32 s (12 * k) + grow))) (12 * k + 4) (be32Bytes (shifted q (offsetOrParent s k)))) (12 * k + 8) (be32Bytes (sizeOrNext s k + 1))
-      ≡ put s (12 * k) (recordAfter s q grow k)
+      put (put (put s (12 * k) (be32_bytes (be32 s (12 * k) + grow))) (12 * k + 4) (be32_bytes (shifted q (offset_or_parent s k)))) (12 * k + 8) (be32_bytes (size_or_next s k + 1))
+      ≡ put s (12 * k) (record_after s q grow k)
   words-raised e =
-      let x : List ℕ = kind s k ∷ be24Bytes (nameOffset s k + grow) in
-      let a : List ℕ = be32Bytes (shifted q (offsetOrParent s k)) in
-      let b : List ℕ = be32Bytes (suc (sizeOrNext s k)) in
+      let x : List ℕ = kind s k ∷ be24_bytes (name_offset s k + grow) in
+      let a : List ℕ = be32_bytes (shifted q (offset_or_parent s k)) in
+      let b : List ℕ = be32_bytes (suc (size_or_next s k)) in
       rw (
         first-bytes,
-        add-one (sizeOrNext s k),
+        add-one (size_or_next s k),
         ← after-directory s q grow k e,
         put-append s (12 * k) x (12 * k + 4) a refl (omega arith),
         put-append s (12 * k) (x ++ a) (12 * k + 8) b refl (omega arith),
       )
 
   -- by what is read before each word is written
-  pub raised-directory : kind s k ≡ 1 → (first : ℕ) → first ≡ be32 s (12 * k) → (t₁ : List ℕ) → t₁ ≡ put s (12 * k) (be32Bytes (first + grow)) →
-      (place : ℕ) → place ≡ be32 t₁ (12 * k + 4) → (place' : ℕ) → place' ≡ shifted q place → (t₂ : List ℕ) → t₂ ≡ put t₁ (12 * k + 4) (be32Bytes place') →
-      (next : ℕ) → next ≡ be32 t₂ (12 * k + 8) → (t₃ : List ℕ) → t₃ ≡ put t₂ (12 * k + 8) (be32Bytes (next + 1)) → t₃ ≡ put s (12 * k) (recordAfter s q grow k)
+  pub raised-directory : kind s k ≡ 1 → (first : ℕ) → first ≡ be32 s (12 * k) → (t₁ : List ℕ) → t₁ ≡ put s (12 * k) (be32_bytes (first + grow)) →
+      (place : ℕ) → place ≡ be32 t₁ (12 * k + 4) → (place' : ℕ) → place' ≡ shifted q place → (t₂ : List ℕ) → t₂ ≡ put t₁ (12 * k + 4) (be32_bytes place') →
+      (next : ℕ) → next ≡ be32 t₂ (12 * k + 8) → (t₃ : List ℕ) → t₃ ≡ put t₂ (12 * k + 8) (be32_bytes (next + 1)) → t₃ ≡ put s (12 * k) (record_after s q grow k)
   raised-directory e first r₁ t₁ e₁ place r₂ place' f t₂ e₂ next r₃ t₃ e₃ =
-      let p : place ≡ offsetOrParent s k = r₂ ∙ place_read s k room t₁ (first + grow) e₁ in
-      let n : next ≡ sizeOrNext s k = r₃ ∙ next-read s k room t₁ (first + grow) e₁ t₂ place' e₂ in
+      let p : place ≡ offset_or_parent s k = r₂ ∙ place_read s k room t₁ (first + grow) e₁ in
+      let n : next ≡ size_or_next s k = r₃ ∙ next-read s k room t₁ (first + grow) e₁ t₂ place' e₂ in
       rw (e₃, n, e₂, f, p, e₁, r₁) (words-raised e)

@@ -1,8 +1,8 @@
 -- A table that can be written anew, seen as its bytes: its entries stand in it. Assumes nothing.
 use Rattle.std.specs.Prelude.{ℕ, ◌≡◌, ◌+◌, ◌-◌, ◌*◌, ◌≤◌, ◌<◌, List, length, take, drop}
 use Rattle.std.proofs.Common.{ap, sym, ◌∙◌, arith}
-use Rattle.tree.specs.Table.{count, kind, nameOffset, upTo0, name_at}
-use Rattle.table_writing.specs.Inner.Valid.{nameSize, Valid}
+use Rattle.tree.specs.Table.{count, kind, name_offset, up_to0, name_at}
+use Rattle.table_writing.specs.Inner.Valid.{name_size, Valid}
 use Rattle.table_writing.proofs.Names.{take-run}
 use Rattle.table_writing.proofs.Nesting.{count-is}
 
@@ -26,12 +26,12 @@ held tab value n k v e h =
     record { inside = inside; few = v.few; whole = omega (arith, v.whole); known = v.kinds k inside }
 
 -- its name
-module _ (tab value : List ℕ) (n k : ℕ) (v : Valid tab n) (e : tab ≡ value) (some : 0 < k) (h : k < count value) (offset : ℕ) (read : offset ≡ nameOffset tab k) where
-  pub name-held : 12 * n + offset + length (upTo0 (drop (12 * n + offset) tab)) < length tab
-  unfolding nameSize name_at
+module _ (tab value : List ℕ) (n k : ℕ) (v : Valid tab n) (e : tab ≡ value) (some : 0 < k) (h : k < count value) (offset : ℕ) (read : offset ≡ name_offset tab k) where
+  pub name-held : 12 * n + offset + length (up_to0 (drop (12 * n + offset) tab)) < length tab
+  unfolding name_size name_at
   name-held = rw read (v.named k some (held tab value n k v e h).inside)
 
-  pub name-read : (len : ℕ) → len ≡ length (upTo0 (drop (12 * n + offset) tab)) → take (12 * n + offset + len - (12 * n + offset)) (drop (12 * n + offset) tab) ≡ name_at value (count value) (nameOffset value k)
+  pub name-read : (len : ℕ) → len ≡ length (up_to0 (drop (12 * n + offset) tab)) → take (12 * n + offset + len - (12 * n + offset)) (drop (12 * n + offset) tab) ≡ name_at value (count value) (name_offset value k)
   unfolding name_at
   name-read len l =
       let z : 12 * n + offset + len - (12 * n + offset) ≡ len = omega arith in

@@ -8,20 +8,20 @@ use native.Mathlib.Omega.{arith}
 use native.Mathlib.Nat.{zero-add}
 use lib.ListN.{length, get_or, take, drop}
 use lib.Seq.{take-append-le, drop-append-le}
-use Rattle.endian.specs.Bytes.{put, be32Bytes}
+use Rattle.endian.specs.Bytes.{put, be32_bytes}
 use Rattle.endian.specs.Laws.Stored.{length-put, put_in, drop-put}
-use Rattle.tree.specs.Table.{Node, file, directory, none, nameOffset, sizeOrNext, parentBelow, parent_of, textsOf, encode}
+use Rattle.tree.specs.Table.{Node, file, directory, none, name_offset, size_or_next, parent_below, parent_of, texts_of, encode}
 use Rattle.tree.specs.Inner.WellFormed.{WellFormed}
 use Rattle.tree.proofs.Laws.WrittenEntries.{length-encode}
 use Rattle.tree.proofs.Laws.Nesting.{parent-before}
 use Rattle.tree.proofs.Laws.WellNested.{root_is, next-bounds}
-use Rattle.tree.specs.Insert.{insertAt, setPlace}
+use Rattle.tree.specs.Insert.{insert_at, set_place}
 use Rattle.tree.proofs.Laws.InsertLaws.{Fresh}
-use Rattle.tree.proofs.Laws.Writing.{textStart, start-most, Fields, written-fields}
-use Rattle.tree.specs.Inner.Patch.{insertPatch}
+use Rattle.tree.proofs.Laws.Writing.{text_start, start-most, Fields, written-fields}
+use Rattle.tree.specs.Inner.Patch.{insert_patch}
 use Rattle.tree.proofs.Laws.PatchLaws.{place-patched, insert-patched}
 use Rattle.tree.proofs.Laws.Size.{size-insert}
-use Rattle.table_writing.specs.Inner.Inserting.{newNode, Raisable, Insertable}
+use Rattle.table_writing.specs.Inner.Inserting.{new_node, Raisable, Insertable}
 use Rattle.table_writing.proofs.Puts.{take_put}
 use Rattle.table_writing.proofs.Patches.{SameEntry, same-entry, raisable-same, new-name}
 
@@ -56,15 +56,15 @@ same-front b t k h f =
 -- ---- a file's place
 
 pub place-written : (b : List ℕ) (offset size k : ℕ) (nodes : List Node) (nm : List ℕ) (a e : ℕ) → get_or nodes k none ≡ file nm a e → k < length nodes →
-    put (put b 0 (encode nodes)) (12 * k + 4) (be32Bytes offset ++ be32Bytes size) ≡ put b 0 (encode (setPlace k offset size nodes))
+    put (put b 0 (encode nodes)) (12 * k + 4) (be32_bytes offset ++ be32_bytes size) ≡ put b 0 (encode (set_place k offset size nodes))
 place-written b offset size k nodes nm a e here h =
-    put-inside b (encode nodes) (12 * k + 4) (be32Bytes offset ++ be32Bytes size) (omega (arith, length-encode nodes))
+    put-inside b (encode nodes) (12 * k + 4) (be32_bytes offset ++ be32_bytes size) (omega (arith, length-encode nodes))
     ∙ ap (put b 0) (place-patched offset size k nodes nm a e here h)
 
 -- ---- one entry more
 
 parent-zero : (nodes : List Node) → parent_of nodes 0 ≤ 0
-unfolding parent_of parentBelow
+unfolding parent_of parent_below
 parent-zero nodes = omega arith
 
 parent-most : (nodes : List Node) (k : ℕ) → parent_of nodes k ≤ k
@@ -77,15 +77,15 @@ raisable-with tab k c par o (file nm a e) few p n f =
 raisable-with tab k c par o (directory nm next) few p n f =
     record { kinds = omega (arith, f.0); place = λ h. omega (arith, f.2); next = λ h. omega (arith, f.3, n nm next refl) }
 
-name-with : (tab : List ℕ) (k par o : ℕ) (x : Node) → Fields tab k par o x → nameOffset tab k ≡ o
+name-with : (tab : List ℕ) (k par o : ℕ) (x : Node) → Fields tab k par o x → name_offset tab k ≡ o
 name-with tab k par o (file nm a e) f = f.1
 name-with tab k par o (directory nm next) f = f.1
 
-next-with : (tab : List ℕ) (k par o : ℕ) (x : Node) (nm : List ℕ) (n : ℕ) → x ≡ directory nm n → Fields tab k par o x → sizeOrNext tab k ≡ n
+next-with : (tab : List ℕ) (k par o : ℕ) (x : Node) (nm : List ℕ) (n : ℕ) → x ≡ directory nm n → Fields tab k par o x → size_or_next tab k ≡ n
 next-with tab k par o (file a b c) nm n e f = let z : ◌≡◌ {A = ℕ} 0 1 = cc in absurd (omega arith)
 next-with tab k par o (directory a m) nm n e f = let z : m ≡ n = cc in f.3 ∙ z
 
-pub fresh-new : (d : Bool) (nm : List ℕ) (q : ℕ) → Fresh q (newNode d nm q)
+pub fresh-new : (d : Bool) (nm : List ℕ) (q : ℕ) → Fresh q (new_node d nm q)
 fresh-new true nm q = refl
 fresh-new false nm q = (omega arith, omega arith)
 
@@ -98,32 +98,32 @@ module _ (b : List ℕ) (nodes : List Node) (p q : ℕ) (pm : List ℕ) (d : Boo
   abbrev s : List ℕ
   s = put b 0 tab
 
-  short : length (textsOf (tail nodes)) < 2 ^ 24
+  short : length (texts_of (tail nodes)) < 2 ^ 24
   short = omega (arith, length-encode nodes)
 
-  fields : (k : ℕ) → k < length nodes → Fields tab k (parent_of nodes k) (textStart nodes k) (get_or nodes k none)
+  fields : (k : ℕ) → k < length nodes → Fields tab k (parent_of nodes k) (text_start nodes k) (get_or nodes k none)
   fields k h = written-fields nodes k w (omega arith) short h
 
   same : (k : ℕ) → k < length nodes → SameEntry s tab k
   same k h = same-front b tab k (omega arith) (omega (arith, length-encode nodes))
 
-  root-next : sizeOrNext s 0 ≡ length nodes
+  root-next : size_or_next s 0 ≡ length nodes
   root-next =
       let h : 0 < length nodes = omega arith in
-      (same 0 h).nexts ∙ next-with tab 0 (parent_of nodes 0) (textStart nodes 0) (get_or nodes 0 none) [] (length nodes) (root_is nodes w) (fields 0 h)
+      (same 0 h).nexts ∙ next-with tab 0 (parent_of nodes 0) (text_start nodes 0) (get_or nodes 0 none) [] (length nodes) (root_is nodes w) (fields 0 h)
 
-  pub parent-next : sizeOrNext s p ≡ q
-  parent-next = (same p p<c).nexts ∙ next-with tab p (parent_of nodes p) (textStart nodes p) (get_or nodes p none) pm q here (fields p p<c)
+  pub parent-next : size_or_next s p ≡ q
+  parent-next = (same p p<c).nexts ∙ next-with tab p (parent_of nodes p) (text_start nodes p) (get_or nodes p none) pm q here (fields p p<c)
 
   raisable : (k : ℕ) → k < length nodes → Raisable s k
   raisable k h =
       raisable-same s tab k (same k h)
-      (raisable-with tab k (length nodes) (parent_of nodes k) (textStart nodes k) (get_or nodes k none) few (omega (arith, parent-most nodes k))
+      (raisable-with tab k (length nodes) (parent_of nodes k) (text_start nodes k) (get_or nodes k none) few (omega (arith, parent-most nodes k))
       (λ x n e. (next-bounds nodes k n x w e h).1) (fields k h))
 
-  names : (k : ℕ) → k < length nodes → 12 * length nodes + nameOffset s k ≤ length tab
+  names : (k : ℕ) → k < length nodes → 12 * length nodes + name_offset s k ≤ length tab
   names k h =
-      omega (arith, (same k h).names, name-with tab k (parent_of nodes k) (textStart nodes k) (get_or nodes k none) (fields k h), start-most nodes k h, length-encode nodes)
+      omega (arith, (same k h).names, name-with tab k (parent_of nodes k) (text_start nodes k) (get_or nodes k none) (fields k h), start-most nodes k h, length-encode nodes)
 
   pub insertable : Insertable s (length tab) p (length nm)
   insertable =
@@ -141,15 +141,15 @@ module _ (b : List ℕ) (nodes : List Node) (p q : ℕ) (pm : List ℕ) (d : Boo
         names = λ k h. rw root-next (names k (omega (arith, root-next)));
       }
 
-  pub grown : length (encode (insertAt p (newNode d nm q) nodes)) ≡ length tab + 12 + length nm + 1
-  grown = omega (arith, size-insert nodes p q pm (newNode d nm q) w here p<c, ap length (new-name d nm q))
+  pub grown : length (encode (insert_at p (new_node d nm q) nodes)) ≡ length tab + 12 + length nm + 1
+  grown = omega (arith, size-insert nodes p q pm (new_node d nm q) w here p<c, ap length (new-name d nm q))
 
-  pub insert-written : put s 0 (insertPatch (take (length tab) s) (sizeOrNext s 0) p (newNode d nm (sizeOrNext s p))) ≡ put b 0 (encode (insertAt p (newNode d nm q) nodes))
+  pub insert-written : put s 0 (insert_patch (take (length tab) s) (size_or_next s 0) p (new_node d nm (size_or_next s p))) ≡ put b 0 (encode (insert_at p (new_node d nm q) nodes))
   insert-written =
       rw (
         take-front b tab (omega arith),
         root-next,
         parent-next,
-        insert-patched nodes p q pm (newNode d nm q) w here p<c (fresh-new d nm q) (omega arith) short,
+        insert-patched nodes p q pm (new_node d nm q) w here p<c (fresh-new d nm q) (omega arith) short,
       )
-      (put-over b tab (encode (insertAt p (newNode d nm q) nodes)) (omega (arith, grown)) (omega arith))
+      (put-over b tab (encode (insert_at p (new_node d nm q) nodes)) (omega (arith, grown)) (omega arith))

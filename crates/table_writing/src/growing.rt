@@ -1,12 +1,12 @@
 // A written table that grows in lent bytes by one entry at a time.
 ghost use Rattle.std.specs.Prelude.{◌≡◌, ◌<◌, get_or, length, IfOk, OnOk, OnErr};
 ghost use Rattle.std.proofs.Props.{props};
-ghost use Rattle.table_writing.specs.Inner.Kind.{is_directory};
+ghost use Rattle.table_writing.specs.Inner.Kind.{kind_is_directory};
 ghost use Rattle.tree.specs.Table.{none, parent_of, limits};
 ghost use Rattle.tree.specs.Inner.WellFormed.{GoodName};
 ghost use Rattle.tree.specs.Inner.Depths.{depth_of};
-ghost use Rattle.tree.specs.Lookup.{childOf, next_of};
-ghost use Rattle.table_writing.specs.Inner.Growth.{treeIn, Stands, IsDirectory, depthAllows};
+ghost use Rattle.tree.specs.Lookup.{child_of, next_of};
+ghost use Rattle.table_writing.specs.Inner.Growth.{tree_in, Stands, IsDirectory, depth_allows};
 ghost use Rattle.table_writing.specs.Inner.Standing.{sound-prop};
 
 use crate::kind::Kind;
@@ -39,7 +39,7 @@ impl<'a> Growing<'a> {
     /// The table that was written into the first `size` bytes, where so many words are lent.
     pub fn new(bytes: &'a mut [u8], size: usize, words: usize) -> Growing<'a>
         requires { Stands bytes.old size words }
-        ensures tree { tree_of result ≡ treeIn bytes.old size }
+        ensures tree { tree_of result ≡ tree_in bytes.old size }
         ensures bytes { result.bytes.now ≡ bytes.old }
         ensures size { result.size ≡ size }
         ensures words { result.words ≡ words }
@@ -61,7 +61,7 @@ impl<'a> Growing<'a> {
     /// The first child of entry k with that name; 17 if k is no directory, 18 if none has it.
     pub fn child(&self, k: usize, name: &[u8]) -> Result<u32, Refusal>
         requires { k < length (tree_of self.now) }
-        ensures { result ≡ childOf (tree_of self.now) k name.now }
+        ensures { result ≡ child_of (tree_of self.now) k name.now }
     {
         Table::new(&self.bytes[..self.size]).child(k, name)
     }
@@ -69,7 +69,7 @@ impl<'a> Growing<'a> {
     // Whether an entry more in directory p is not too deep. Only directories can be.
     fn is_shallow(&self, p: usize, kind: Kind) -> bool
         requires { IsDirectory (tree_of self.now) p }
-        ensures { result ≡ depthAllows (is_directory kind) (depth_of (tree_of self.now) p) }
+        ensures { result ≡ depth_allows (kind_is_directory kind) (depth_of (tree_of self.now) p) }
     {
         if !kind.is_directory() {
             return true;

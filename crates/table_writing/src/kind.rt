@@ -1,7 +1,7 @@
 // What an entry is.
 ghost use Rattle.std.specs.Prelude.{◌≡◌, ◌+◌, ◌*◌, ◌≤◌, ◌<◌, length, IfSome, IfNone};
 ghost use Rattle.tree.specs.Table.{kind};
-ghost use Rattle.table_writing.specs.Inner.Kind.{number_of, is_directory};
+ghost use Rattle.table_writing.specs.Inner.Kind.{number_of, kind_is_directory};
 
 /// What an entry is, by the number that a table stores.
 #[derive(Clone, Copy, PartialEq, Eq, Debug)]
@@ -44,7 +44,7 @@ impl Kind {
 
     /// Whether it is a directory.
     pub fn is_directory(self) -> bool
-        ensures { result ≡ is_directory self }
+        ensures { result ≡ kind_is_directory self }
     {
         matches!(self, Kind::Directory)
     }

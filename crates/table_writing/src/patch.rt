@@ -1,10 +1,10 @@
 // A written table changed in place: the place of a file, and one entry put in. For that: the texts make room for the
 // new name, then the records behind it move up.
 ghost use Rattle.std.specs.Prelude.{◌≡◌, ◌++◌, ◌+◌, ◌*◌, ◌≤◌, length};
-ghost use Rattle.endian.specs.Bytes.{put, be32Bytes};
-ghost use Rattle.tree.specs.Table.{sizeOrNext};
-ghost use Rattle.tree.specs.Inner.Patch.{records, recordBefore};
-ghost use Rattle.table_writing.specs.Inner.Inserting.{EachRaisable, NamesGrow, newTexts, start_in, Insertable};
+ghost use Rattle.endian.specs.Bytes.{put, be32_bytes};
+ghost use Rattle.tree.specs.Table.{size_or_next};
+ghost use Rattle.tree.specs.Inner.Patch.{records, record_before};
+ghost use Rattle.table_writing.specs.Inner.Inserting.{EachRaisable, NamesGrow, new_texts, start_in, Insertable};
 ghost use Rattle.table_writing.specs.Inner.Patching.{behind_of, CanTake, records_with, table_with};
 
 use crate::kind::Kind;
@@ -36,7 +36,7 @@ fn patch_behind(table: &mut [u8], count: usize, shift: Shift)
 fn patch_up_to(table: &mut [u8], p: usize)
     requires within { 12 * (p + 1) ≤ length table.old }
     requires raisable { EachRaisable table.old (p + 1) }
-    ensures { table.new ≡ put table.old 0 (records (recordBefore table.old p) 0 (p + 1)) }
+    ensures { table.new ≡ put table.old 0 (records (record_before table.old p) 0 (p + 1)) }
 {
     // Kept: a range of numbers, as above.
     for k in (0..p + 1).rev() {
@@ -63,7 +63,7 @@ fn patch_records(table: &mut [u8], count: usize, entry: &NewEntry<'_>)
 fn insert_text(table: &mut [u8], size: usize, count: usize, start: usize, name: &[u8])
     requires start { 12 * count + start ≤ size }
     requires room { size + 12 + length name.now + 1 ≤ length table.old }
-    ensures { table.new ≡ put table.old (12 * count + 12) (newTexts table.old size count start name.now) }
+    ensures { table.new ≡ put table.old (12 * count + 12) (new_texts table.old size count start name.now) }
 {
     let text = 12 * count + start;
     let n = name.len();
@@ -92,7 +92,7 @@ fn new_start(table: &[u8], size: usize, count: usize, q: usize) -> usize
 // Kept: the directory, the kind and the name are no struct: `NewEntry` has the number and the start too, which are read here.
 pub fn insert(table: &mut [u8], size: usize, p: usize, kind: Kind, name: &[u8]) -> usize
     requires { Insertable table.old size p (length name.now) }
-    ensures value { result ≡ sizeOrNext table.old p }
+    ensures value { result ≡ size_or_next table.old p }
     ensures table_after { table.new ≡ put table.old 0 (table_with table.old size p kind name.now) }
 {
     let count = endian::read_u32(table, 8) as usize;
@@ -113,7 +113,7 @@ pub fn insert(table: &mut [u8], size: usize, p: usize, kind: Kind, name: &[u8]) 
 /// Sets the offset and the size of file k of a written table.
 pub fn set_place(table: &mut [u8], k: usize, offset: u32, size: u32)
     requires { 12 * k + 12 ≤ length table.old }
-    ensures { table.new ≡ put table.old (12 * k + 4) (be32Bytes offset ++ be32Bytes size) }
+    ensures { table.new ≡ put table.old (12 * k + 4) (be32_bytes offset ++ be32_bytes size) }
 {
     endian::write_u32(table, 12 * k + 4, offset);
     endian::write_u32(table, 12 * k + 8, size);

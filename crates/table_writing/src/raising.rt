@@ -1,9 +1,9 @@
 // One record of a written table changed in place, for an entry that is put in: before it, behind it, and its own.
 ghost use Rattle.std.specs.Prelude.{◌≡◌, ◌+◌, ◌*◌, ◌≤◌, ◌<◌, ◌^◌, length};
 ghost use Rattle.endian.specs.Bytes.{put};
-ghost use Rattle.tree.specs.Table.{nameOffset};
+ghost use Rattle.tree.specs.Table.{name_offset};
 ghost use Rattle.tree.specs.Insert.{shifted};
-ghost use Rattle.tree.specs.Inner.Patch.{recordBefore, recordAfter};
+ghost use Rattle.tree.specs.Inner.Patch.{record_before, record_after};
 ghost use Rattle.table_writing.specs.Inner.Record.{bytes_of};
 ghost use Rattle.table_writing.specs.Inner.Inserting.{Raisable};
 ghost use Rattle.table_writing.specs.Inner.Entering.{new_bytes};
@@ -39,8 +39,8 @@ impl Shift {
     pub fn raise(self, table: &mut [u8], k: usize)
         requires within { 12 * k + 12 ≤ length table.old }
         requires raisable { Raisable table.old k }
-        requires names { nameOffset table.old k + self.text < 2 ^ 24 }
-        ensures { table.new ≡ put table.old (12 * k) (recordAfter table.old self.number self.text k) }
+        requires names { name_offset table.old k + self.text < 2 ^ 24 }
+        ensures { table.new ≡ put table.old (12 * k) (record_after table.old self.number self.text k) }
     {
         let first = endian::read_u32(table, 12 * k) + self.text as u32;
         endian::write_u32(table, 12 * k, first);
@@ -58,7 +58,7 @@ pub fn patch_before(table: &mut [u8], k: usize, p: usize)
     requires before { k ≤ p }
     requires within { 12 * k + 12 ≤ length table.old }
     requires raisable { Raisable table.old k }
-    ensures { table.new ≡ put table.old (12 * k) (recordBefore table.old p k) }
+    ensures { table.new ≡ put table.old (12 * k) (record_before table.old p k) }
 {
     if Kind::of(table, k).is_directory() {
         let next = endian::read_u32(table, 12 * k + 8);

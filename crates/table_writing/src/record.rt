@@ -1,9 +1,9 @@
 // One entry of the table written: its record of four fields, and its name.
 ghost use Rattle.std.specs.Prelude.{◌≡◌, ℕ, ◌+◌, ◌-◌, ◌*◌, ◌≤◌, ◌<◌, ◌^◌, length};
 ghost use Rattle.endian.specs.Bytes.{put};
-ghost use Rattle.tree.specs.Table.{kind, count, nodeAt, nodeBytes};
-ghost use Rattle.table_writing.specs.Inner.Valid.{nameSize};
-ghost use Rattle.table_writing.specs.Inner.Flat.{recordBytes, place_of, recordAt, putText};
+ghost use Rattle.tree.specs.Table.{kind, count, node_at, node_bytes};
+ghost use Rattle.table_writing.specs.Inner.Valid.{name_size};
+ghost use Rattle.table_writing.specs.Inner.Flat.{record_bytes, place_of, record_at, put_text};
 ghost use Rattle.table_writing.specs.Inner.Record.{bytes_of};
 
 use crate::kind::Kind;
@@ -38,7 +38,7 @@ impl Record {
     pub fn of(table: &[u8], k: usize, parent: u32, name: u32) -> Record
         requires within { 12 * k + 12 ≤ length table.now }
         requires known { kind table.now k ≤ 1 }
-        ensures bytes { (n : ℕ) → bytes_of result ≡ nodeBytes parent name (nodeAt table.now n k) }
+        ensures bytes { (n : ℕ) → bytes_of result ≡ node_bytes parent name (node_at table.now n k) }
         ensures name { result.name ≡ name }
     {
         Record {
@@ -64,7 +64,7 @@ impl Record {
 pub fn write_fields(out: &mut [u8], k: usize, kind: u8, name: u32, place: u32, next: u32)
     requires within { 12 * k + 12 ≤ length out.old }
     requires small { name < 2 ^ 24 }
-    ensures { out.new ≡ put out.old (12 * k) (recordBytes kind name place next) }
+    ensures { out.new ≡ put out.old (12 * k) (record_bytes kind name place next) }
 {
     let at = 12 * k;
     endian::write_u8(out, at, kind);
@@ -81,7 +81,7 @@ pub fn write_record(table: &[u8], out: &mut [u8], count: usize, k: usize, parent
     requires room { 12 * k + 12 ≤ length out.old }
     requires past { 12 * count ≤ text }
     requires small { text < 2 ^ 24 }
-    ensures { out.new ≡ recordAt table.now count parent k text out.old }
+    ensures { out.new ≡ record_at table.now count parent k text out.old }
 {
     let name = (text - 12 * count) as u32;
     Record::of(table, k, parent, name).write(out, k);
@@ -91,9 +91,9 @@ pub fn write_record(table: &[u8], out: &mut [u8], count: usize, k: usize, parent
 pub fn write_name(source: &Source<'_>, out: &mut [u8], k: usize, text: usize) -> usize
     requires further { 0 < k }
     requires within { k < count source.now }
-    requires k_in_bounds { text + nameSize source.now (count source.now) k + 1 ≤ length out.old }
-    ensures value { result ≡ text + nameSize source.now (count source.now) k + 1 }
-    ensures out_after { out.new ≡ putText source.now (count source.now) k text out.old }
+    requires k_in_bounds { text + name_size source.now (count source.now) k + 1 ≤ length out.old }
+    ensures value { result ≡ text + name_size source.now (count source.now) k + 1 }
+    ensures out_after { out.new ≡ put_text source.now (count source.now) k text out.old }
 {
     let name = source.name(k);
     let n = name.len();

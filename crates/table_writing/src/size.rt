@@ -2,9 +2,9 @@
 
 ghost use Rattle.std.specs.Prelude.{◌≡◌, ◌+◌, ◌*◌, ◌≤◌, length};
 ghost use Rattle.tree.specs.Table.{count};
-ghost use Rattle.table_writing.specs.Inner.Flat.{afterIn};
+ghost use Rattle.table_writing.specs.Inner.Flat.{after_in};
 ghost use Rattle.table_writing.specs.Inner.Valid.{Valid};
-ghost use Rattle.table_writing.specs.Inner.Measure.{measureOf};
+ghost use Rattle.table_writing.specs.Inner.Measure.{measure_of};
 
 use crate::kind::Kind;
 use crate::source::Source;
@@ -16,7 +16,7 @@ pub const TEXTS_LIMIT: usize = 1048576;
 /// The entry after k in its directory, where a writer goes on. What is no directory is one entry long.
 pub fn after(table: &[u8], k: usize) -> usize
     requires { 12 * k + 12 ≤ length table.now }
-    ensures { result ≡ afterIn table.now k }
+    ensures { result ≡ after_in table.now k }
 {
     match Kind::from_number(table[12 * k]) {
         Some(Kind::Directory) => endian::read_u32(table, 12 * k + 8) as usize,
@@ -27,7 +27,7 @@ pub fn after(table: &[u8], k: usize) -> usize
 /// The size in bytes of what `write_table` writes; 9 if its texts pass the limit.
 pub fn measure(table: &[u8]) -> Result<usize, Refusal>
     requires { Valid table.now (count table.now) }
-    ensures { result ≡ measureOf table.now }
+    ensures { result ≡ measure_of table.now }
 {
     Source::new(table).measure()
 }

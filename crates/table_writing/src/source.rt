@@ -1,9 +1,9 @@
 // A table that can be written anew.
 ghost use Rattle.std.specs.Prelude.{◌≡◌, ◌+◌, ◌*◌, ◌<◌};
 ghost use Rattle.tree.specs.Table as table_of;
-ghost use Rattle.tree.specs.Table.{nameOffset, offsetOrParent, sizeOrNext, name_at};
+ghost use Rattle.tree.specs.Table.{name_offset, offset_or_parent, size_or_next, name_at};
 ghost use Rattle.table_writing.specs.Inner.Kind.{number_of};
-ghost use Rattle.table_writing.specs.Inner.Measure.{measureOf};
+ghost use Rattle.table_writing.specs.Inner.Measure.{measure_of};
 ghost use Rattle.table_writing.specs.Inner.Valid.{Valid};
 
 use crate::kind::Kind;
@@ -80,7 +80,7 @@ impl<'a> Source<'a> {
     /// The third field of entry k: the offset of a file, the parent that a directory stores.
     pub fn place(&self, k: usize) -> u32
         requires { k < table_of.count self.now }
-        ensures { result ≡ offsetOrParent self.now k }
+        ensures { result ≡ offset_or_parent self.now k }
     {
         endian::read_u32(self.bytes, 12 * k + 4)
     }
@@ -88,7 +88,7 @@ impl<'a> Source<'a> {
     /// The fourth field of entry k: the size of a file, the entry after all those in a directory.
     pub fn next(&self, k: usize) -> u32
         requires { k < table_of.count self.now }
-        ensures value { result ≡ sizeOrNext self.now k }
+        ensures value { result ≡ size_or_next self.now k }
         ensures valid { Valid self.now (table_of.count self.now) }
     {
         endian::read_u32(self.bytes, 12 * k + 8)
@@ -98,7 +98,7 @@ impl<'a> Source<'a> {
     pub fn name(&self, k: usize) -> &'a [u8]
         requires further { 0 < k }
         requires within { k < table_of.count self.now }
-        ensures { result.now ≡ name_at self.now (table_of.count self.now) (nameOffset self.now k) }
+        ensures { result.now ≡ name_at self.now (table_of.count self.now) (name_offset self.now k) }
     {
         let from = 12 * self.count + endian::read_u24(self.bytes, 12 * k + 1) as usize;
         let len = table::text_length(self.bytes, from);
@@ -107,7 +107,7 @@ impl<'a> Source<'a> {
 
     /// The size in bytes of the table written anew; 9 if its texts pass the limit.
     pub fn measure(&self) -> Result<usize, Refusal>
-        ensures { result ≡ measureOf self.now }
+        ensures { result ≡ measure_of self.now }
     {
         let count = self.count();
         let mut size = 12;

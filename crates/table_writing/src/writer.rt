@@ -1,11 +1,11 @@
 // The file table written anew, with no name shared: an entry that is a directory writes that directory, and a directory
-// writes its entries. The table is in preorder, so what is written is what `writeFlat` writes, entry by entry, and that
+// writes its entries. The table is in preorder, so what is written is what `write_flat` writes, entry by entry, and that
 // is `encode` of the table's entries.
 ghost use Rattle.std.specs.Prelude.{◌≡◌, ◌+◌, ◌≤◌, ◌<◌, ◌^◌, length};
 ghost use Rattle.endian.specs.Bytes.{put};
-ghost use Rattle.tree.specs.Table.{kind, sizeOrNext, count, nodesOf, parent_of, encode};
+ghost use Rattle.tree.specs.Table.{kind, size_or_next, count, nodes_of, parent_of, encode};
 ghost use Rattle.table_writing.specs.Inner.Valid.{Valid};
-ghost use Rattle.table_writing.specs.Inner.Flat.{afterIn, rootAt};
+ghost use Rattle.table_writing.specs.Inner.Flat.{after_in, root_at};
 ghost use Rattle.table_writing.specs.Inner.Writing.{text_after, out_after, HasRoom};
 
 use crate::kind::Kind;
@@ -36,7 +36,7 @@ impl<'o> Writer<'o> {
     fn write_one(&mut self, source: &Source<'_>, k: usize, parent: u32)
         requires further { 0 < k }
         requires within { k < count source.now }
-        requires parent { parent ≡ parent_of (nodesOf source.now) k }
+        requires parent { parent ≡ parent_of (nodes_of source.now) k }
         requires room { HasRoom self.old source.now k (k + 1) }
         ensures text { self.new.text ≡ text_after self.old source.now k (k + 1) }
         ensures out { self.new.out.now ≡ out_after self.old source.now k (k + 1) }
@@ -56,11 +56,11 @@ impl<'o> Writer<'o> {
     fn write_entry(&mut self, source: &Source<'_>, k: usize, parent: u32) -> usize
         requires further { 0 < k }
         requires within { k < count source.now }
-        requires parent { parent ≡ parent_of (nodesOf source.now) k }
-        requires room { HasRoom self.old source.now k (afterIn source.now k) }
-        ensures next { result ≡ afterIn source.now k }
-        ensures text { self.new.text ≡ text_after self.old source.now k (afterIn source.now k) }
-        ensures out { self.new.out.now ≡ out_after self.old source.now k (afterIn source.now k) }
+        requires parent { parent ≡ parent_of (nodes_of source.now) k }
+        requires room { HasRoom self.old source.now k (after_in source.now k) }
+        ensures next { result ≡ after_in source.now k }
+        ensures text { self.new.text ≡ text_after self.old source.now k (after_in source.now k) }
+        ensures out { self.new.out.now ≡ out_after self.old source.now k (after_in source.now k) }
         ensures length { length self.new.out.now ≡ length self.old.out.now }
         ensures same_reference { self.new.out.ghost_name ≡ self.old.out.ghost_name }
     {
@@ -80,9 +80,9 @@ impl<'o> Writer<'o> {
     fn write_directory(&mut self, source: &Source<'_>, k: usize)
         requires within { k < count source.now }
         requires directory { kind source.now k ≡ 1 }
-        requires room { HasRoom self.old source.now (k + 1) (sizeOrNext source.now k) }
-        ensures text { self.new.text ≡ text_after self.old source.now (k + 1) (sizeOrNext source.now k) }
-        ensures out { self.new.out.now ≡ out_after self.old source.now (k + 1) (sizeOrNext source.now k) }
+        requires room { HasRoom self.old source.now (k + 1) (size_or_next source.now k) }
+        ensures text { self.new.text ≡ text_after self.old source.now (k + 1) (size_or_next source.now k) }
+        ensures out { self.new.out.now ≡ out_after self.old source.now (k + 1) (size_or_next source.now k) }
         ensures length { length self.new.out.now ≡ length self.old.out.now }
         ensures same_reference { self.new.out.ghost_name ≡ self.old.out.ghost_name }
     {
@@ -101,7 +101,7 @@ impl<'o> Writer<'o> {
 fn write_root(out: &mut [u8], count: usize)
     requires room { 12 ≤ length out.old }
     requires few { count ≤ 16384 }
-    ensures { out.new ≡ rootAt count out.old }
+    ensures { out.new ≡ root_at count out.old }
 {
     let root = Record {
         kind: Kind::Directory,
@@ -115,10 +115,10 @@ fn write_root(out: &mut [u8], count: usize)
 /// Writes the whole table, and returns its size in bytes.
 pub fn write_table(table: &[u8], out: &mut [u8]) -> usize
     requires valid { Valid table.now (count table.now) }
-    requires table_in_bounds { (length (encode (nodesOf table.now)) ≤ length out.old)
-        × (length (encode (nodesOf table.now)) ≤ 2 ^ 24) }
-    ensures value { result ≡ length (encode (nodesOf table.now)) }
-    ensures out_after { out.new ≡ put out.old 0 (encode (nodesOf table.now)) }
+    requires table_in_bounds { (length (encode (nodes_of table.now)) ≤ length out.old)
+        × (length (encode (nodes_of table.now)) ≤ 2 ^ 24) }
+    ensures value { result ≡ length (encode (nodes_of table.now)) }
+    ensures out_after { out.new ≡ put out.old 0 (encode (nodes_of table.now)) }
 {
     let source = Source::new(table);
     let count = source.count();

@@ -5,12 +5,12 @@ use Rattle.tree.specs.Lookup.{next_of}
 
 -- ---- "Insert adds an empty directory or an empty file (offset 0, size 0) as last child"
 
-abbrev pub emptyFile : List ℕ → Node
-emptyFile nm = file nm 0 0
+abbrev pub empty_file : List ℕ → Node
+empty_file nm = file nm 0 0
 
 -- as entry k
-abbrev pub emptyDirectory : List ℕ → ℕ → Node
-emptyDirectory nm k = directory nm (suc k)
+abbrev pub empty_directory : List ℕ → ℕ → Node
+empty_directory nm k = directory nm (suc k)
 
 -- one more for a next that is past p
 unfoldable pub bump : ℕ → ℕ → ℕ
@@ -33,8 +33,8 @@ splice p new k (suc j) [] = new ∷ []
 splice p new k (suc j) (x ∷ xs) = earlier p k x ∷ splice p new (suc k) j xs
 
 -- `new` as the last child of directory p: its number is p's next
-unfoldable pub insertAt : ℕ → Node → List Node → List Node
-insertAt p new nodes = splice p new 0 (next_of (get_or nodes p none)) nodes
+unfoldable pub insert_at : ℕ → Node → List Node → List Node
+insert_at p new nodes = splice p new 0 (next_of (get_or nodes p none)) nodes
 
 -- the number that entry k has after an insert at q
 unfoldable pub shifted : ℕ → ℕ → ℕ
@@ -47,5 +47,5 @@ placed offset size (file nm a b) = file nm offset size
 placed offset size (directory nm next) = directory nm next
 
 -- entry k has this offset and size
-unfoldable pub setPlace : ℕ → ℕ → ℕ → List Node → List Node
-setPlace k offset size nodes = set nodes k (placed offset size (get_or nodes k none))
+unfoldable pub set_place : ℕ → ℕ → ℕ → List Node → List Node
+set_place k offset size nodes = set nodes k (placed offset size (get_or nodes k none))

@@ -2,28 +2,28 @@
 use Rattle.std.specs.Prelude.{Result, Ok, Err}
 use Rattle.refusal.specs.declared.Refusal.{Refusal}
 use Rattle.std.specs.Prelude.{ℕ, zero, suc, ◌-◌, Bool, true, false, cond, ◌&&◌, ◌||◌, List, [], ◌∷◌, ◌++◌, length, get_or, ltb, eqb}
-use Rattle.endian.specs.Bytes.{sameBytes}
+use Rattle.endian.specs.Bytes.{same_bytes}
 use Rattle.refusal.specs.declared.Refusal.TheVariants.{NoSuchEntry, ExpectedDirectory, NotFound}
 use Rattle.tree.specs.declared.Entry.{Entry}
 use Rattle.tree.specs.declared.Entry.TheVariants.{File, Directory}
 use Rattle.tree.specs.declared.Found.{Found}
 use Rattle.tree.specs.declared.Found.TheVariants as found
-use Rattle.tree.specs.Units.{TextUnit, single, pair, unitBytes, units}
+use Rattle.tree.specs.Units.{TextUnit, single, pair, unit_bytes, units}
 use Rattle.tree.specs.Table.{Node, file, directory, name_of, none, parent_of}
 
 -- ---- an entry's value
 
-abbrev pub entryWith : ℕ → Node → Entry
-entryWith parent (file nm offset size) = File (record { offset = offset; size = size })
-entryWith parent (directory nm next) = Directory (record { parent = parent; next = next })
+abbrev pub entry_with : ℕ → Node → Entry
+entry_with parent (file nm offset size) = File (record { offset = offset; size = size })
+entry_with parent (directory nm next) = Directory (record { parent = parent; next = next })
 
 -- the parent in an answer is the directory that the entry is nested in, never the stored one
 abbrev pub entry_of : List Node → ℕ → Entry
-entry_of nodes k = entryWith (parent_of nodes k) (get_or nodes k none)
+entry_of nodes k = entry_with (parent_of nodes k) (get_or nodes k none)
 
-abbrev pub isDirectory : Node → Bool
-isDirectory (file nm offset size) = false
-isDirectory (directory nm next) = true
+abbrev pub is_directory : Node → Bool
+is_directory (file nm offset size) = false
+is_directory (directory nm next) = true
 
 abbrev pub next_of : Node → ℕ
 next_of (file nm offset size) = 0
@@ -39,30 +39,30 @@ separates (single b) = separator b
 separates (pair a b) = false
 
 abbrev pub longer : TextUnit → List (List ℕ) → List (List ℕ)
-longer u [] = unitBytes u ∷ []
-longer u (c ∷ cs) = (unitBytes u ++ c) ∷ cs
+longer u [] = unit_bytes u ∷ []
+longer u (c ∷ cs) = (unit_bytes u ++ c) ∷ cs
 
 -- an empty path has one empty component
-unfoldable pub componentsOf : List TextUnit → List (List ℕ)
-componentsOf [] = [] ∷ []
-componentsOf (u ∷ us) = cond (separates u) ([] ∷ componentsOf us) (longer u (componentsOf us))
+unfoldable pub components_of : List TextUnit → List (List ℕ)
+components_of [] = [] ∷ []
+components_of (u ∷ us) = cond (separates u) ([] ∷ components_of us) (longer u (components_of us))
 
 unfoldable pub components : List ℕ → List (List ℕ)
-components path = componentsOf (units path)
+components path = components_of (units path)
 
 -- ---- "Otherwise the first child with equal bytes, else 18."
 
-abbrev pub childNamed : List Node → ℕ → List ℕ → ℕ → Bool
-childNamed nodes d nm k = eqb (parent_of nodes k) d && sameBytes (name_of (get_or nodes k none)) nm
+abbrev pub child_named : List Node → ℕ → List ℕ → ℕ → Bool
+child_named nodes d nm k = eqb (parent_of nodes k) d && same_bytes (name_of (get_or nodes k none)) nm
 
 -- among the n entries from k on
-unfoldable pub firstChild : List Node → ℕ → List ℕ → ℕ → ℕ → Result ℕ Refusal
-firstChild nodes d nm k zero = Err NotFound
-firstChild nodes d nm k (suc n) = cond (childNamed nodes d nm k) (Ok k) (firstChild nodes d nm (suc k) n)
+unfoldable pub first_child : List Node → ℕ → List ℕ → ℕ → ℕ → Result ℕ Refusal
+first_child nodes d nm k zero = Err NotFound
+first_child nodes d nm k (suc n) = cond (child_named nodes d nm k) (Ok k) (first_child nodes d nm (suc k) n)
 
 -- the first child of directory d with that name: among the entries after d and before its next
-unfoldable pub childOf : List Node → ℕ → List ℕ → Result ℕ Refusal
-childOf nodes d nm = firstChild nodes d nm (suc d) (next_of (get_or nodes d none) - suc d)
+unfoldable pub child_of : List Node → ℕ → List ℕ → Result ℕ Refusal
+child_of nodes d nm = first_child nodes d nm (suc d) (next_of (get_or nodes d none) - suc d)
 
 -- ---- "before each component the current entry must be a directory (17). Empty and `.` stay. `..` goes back over the last named step,
 -- 18 if there is none."
@@ -72,29 +72,29 @@ stays [] = true
 stays (a ∷ []) = eqb a 0x2E
 stays (a ∷ b ∷ c) = false
 
-abbrev pub goesBack : List ℕ → Bool
-goesBack [] = false
-goesBack (a ∷ []) = false
-goesBack (a ∷ b ∷ []) = eqb a 0x2E && eqb b 0x2E
-goesBack (a ∷ b ∷ c ∷ d) = false
+abbrev pub goes_back : List ℕ → Bool
+goes_back [] = false
+goes_back (a ∷ []) = false
+goes_back (a ∷ b ∷ []) = eqb a 0x2E && eqb b 0x2E
+goes_back (a ∷ b ∷ c ∷ d) = false
 
 abbrev pub and_then : Result ℕ Refusal → (ℕ → Result ℕ Refusal) → Result ℕ Refusal
 and_then (Ok k) f = f k
 and_then (Err c) f = Err c
 
 -- the entry before the last named step
-abbrev pub stepBack : List ℕ → (ℕ → List ℕ → Result ℕ Refusal) → Result ℕ Refusal
-stepBack [] f = Err NotFound
-stepBack (k ∷ trail) f = f k trail
+abbrev pub step_back : List ℕ → (ℕ → List ℕ → Result ℕ Refusal) → Result ℕ Refusal
+step_back [] f = Err NotFound
+step_back (k ∷ trail) f = f k trail
 
 -- from entry k along the components; `trail` has the entries that were left by a named step, the last first
 unfoldable pub follow : List Node → List ℕ → ℕ → List (List ℕ) → Result ℕ Refusal
 follow nodes trail k [] = Ok k
 follow nodes trail k (c ∷ cs) =
-    cond (isDirectory (get_or nodes k none))
+    cond (is_directory (get_or nodes k none))
     (cond (stays c) (follow nodes trail k cs)
-    (cond (goesBack c) (stepBack trail (λ j rest. follow nodes rest j cs))
-    (and_then (childOf nodes k c) (λ j. follow nodes (k ∷ trail) j cs))))
+    (cond (goes_back c) (step_back trail (λ j rest. follow nodes rest j cs))
+    (and_then (child_of nodes k c) (λ j. follow nodes (k ∷ trail) j cs))))
     (Err ExpectedDirectory)
 
 -- 15, then along the path 17 and 18
@@ -107,5 +107,5 @@ abbrev pub found_at : List Node → Result ℕ Refusal → Found
 found_at nodes (Ok k) = found.At k (entry_of nodes k)
 found_at nodes (Err c) = found.Refused c
 
-abbrev pub entryFound : List Node → ℕ → Found
-entryFound nodes k = found_at nodes (cond (ltb k (length nodes)) (Ok k) (Err NoSuchEntry))
+abbrev pub entry_found : List Node → ℕ → Found
+entry_found nodes k = found_at nodes (cond (ltb k (length nodes)) (Ok k) (Err NoSuchEntry))

@@ -5,7 +5,7 @@ use Rattle.std.specs.Prelude.{Ok}
 use Rattle.refusal.specs.Refusal.{Verdict}
 use Rattle.std.specs.Prelude.{ℕ, zero, suc, ◌+◌, ◌-◌, ◌*◌, max, Bool, true, false, cond, not, ◌&&◌, ◌||◌, length, get_or, drop, leb, ltb, eqb}
 use mathlib.Core.List.{List, [], ◌∷◌, ◌++◌, tail}
-use Rattle.endian.specs.Bytes.{be24, be32, be24Bytes, be32Bytes}
+use Rattle.endian.specs.Bytes.{be24, be32, be24_bytes, be32_bytes}
 use Rattle.refusal.specs.declared.Refusal.TheVariants.{EntryPastTable, UnrecognizedKind, RootIsNotDirectory, MissingNullTerminator, LimitOrMemory, InvalidNextIndex, InvalidNameOffset, InvalidNameByte, UnsafeName}
 use Rattle.refusal.specs.Refusal.{refuse, first}
 use Rattle.tree.specs.Units.{TextUnit, single, pair, within, units}
@@ -33,20 +33,20 @@ every p (x ∷ xs) = p x && every p xs
 abbrev pub plain_byte : ℕ → Bool
 plain_byte b = within 0x20 0x7E b || within 0xA1 0xDF b
 
-abbrev pub safeByte : ℕ → Bool
-safeByte b = not (eqb b 0x2F) && not (eqb b 0x5C) && not (eqb b 0x3A)
+abbrev pub safe_byte : ℕ → Bool
+safe_byte b = not (eqb b 0x2F) && not (eqb b 0x5C) && not (eqb b 0x3A)
 
-abbrev pub plainUnit : TextUnit → Bool
-plainUnit (single b) = plain_byte b
-plainUnit (pair a b) = true
+abbrev pub plain_unit : TextUnit → Bool
+plain_unit (single b) = plain_byte b
+plain_unit (pair a b) = true
 
-abbrev pub safeUnit : TextUnit → Bool
-safeUnit (single b) = safeByte b
-safeUnit (pair a b) = true
+abbrev pub safe_unit : TextUnit → Bool
+safe_unit (single b) = safe_byte b
+safe_unit (pair a b) = true
 
 -- each unit a pair, or a byte 0x20 to 0x7E or 0xA1 to 0xDF
 unfoldable pub plain : List ℕ → Bool
-plain nm = every plainUnit (units nm)
+plain nm = every plain_unit (units nm)
 
 -- `.` or `..`
 abbrev pub dots : List ℕ → Bool
@@ -58,69 +58,69 @@ dots (a ∷ b ∷ c ∷ xs) = false
 -- not empty, not `.` or `..`, without `/`, `\` and `:` as units
 unfoldable pub safe : List ℕ → Bool
 safe [] = false
-safe (x ∷ xs) = not (dots (x ∷ xs)) && every safeUnit (units (x ∷ xs))
+safe (x ∷ xs) = not (dots (x ∷ xs)) && every safe_unit (units (x ∷ xs))
 
 -- ---- "An entry has 12 bytes: kind (1; 0 file, 1 directory), name offset (3), offset or parent (4), size or next (4)."
 
 abbrev pub kind : List ℕ → ℕ → ℕ
 kind tab k = get_or tab (12 * k) 0
 
-abbrev pub nameOffset : List ℕ → ℕ → ℕ
-nameOffset tab k = be24 tab (12 * k + 1)
+abbrev pub name_offset : List ℕ → ℕ → ℕ
+name_offset tab k = be24 tab (12 * k + 1)
 
-abbrev pub offsetOrParent : List ℕ → ℕ → ℕ
-offsetOrParent tab k = be32 tab (12 * k + 4)
+abbrev pub offset_or_parent : List ℕ → ℕ → ℕ
+offset_or_parent tab k = be32 tab (12 * k + 4)
 
-abbrev pub sizeOrNext : List ℕ → ℕ → ℕ
-sizeOrNext tab k = be32 tab (12 * k + 8)
+abbrev pub size_or_next : List ℕ → ℕ → ℕ
+size_or_next tab k = be32 tab (12 * k + 8)
 
 -- "Entry 0 is the root; its "next" is the count (a count of 0 reads the root only)."
 unfoldable pub count : List ℕ → ℕ
-count tab = max 1 (sizeOrNext tab 0)
+count tab = max 1 (size_or_next tab 0)
 
 -- "Name texts fill the rest of the table, each ended by a zero byte.": the bytes up to the first 0
-abbrev pub upTo0 : List ℕ → List ℕ
-upTo0 [] = []
-upTo0 (zero ∷ s) = []
-upTo0 (suc b ∷ s) = suc b ∷ upTo0 s
+abbrev pub up_to0 : List ℕ → List ℕ
+up_to0 [] = []
+up_to0 (zero ∷ s) = []
+up_to0 (suc b ∷ s) = suc b ∷ up_to0 s
 
 -- the name at offset o of the texts, which stand after c entries
 unfoldable pub name_at : List ℕ → ℕ → ℕ → List ℕ
-name_at tab c o = upTo0 (drop (12 * c + o) tab)
+name_at tab c o = up_to0 (drop (12 * c + o) tab)
 
 -- where the name of entry k stands in the table; 0 for the root, which has none
-abbrev pub namePlace : List ℕ → ℕ → ℕ
-namePlace tab zero = 0
-namePlace tab (suc k) = 12 * count tab + nameOffset tab (suc k)
+abbrev pub name_place : List ℕ → ℕ → ℕ
+name_place tab zero = 0
+name_place tab (suc k) = 12 * count tab + name_offset tab (suc k)
 
-abbrev pub nodeWith : ℕ → List ℕ → ℕ → ℕ → Node
-nodeWith zero nm a b = file nm a b
-nodeWith (suc n) nm a b = directory nm b
+abbrev pub node_with : ℕ → List ℕ → ℕ → ℕ → Node
+node_with zero nm a b = file nm a b
+node_with (suc n) nm a b = directory nm b
 
 -- entry k, past the root, of a table of c entries; the stored parent is not read
-unfoldable pub nodeAt : List ℕ → ℕ → ℕ → Node
-nodeAt tab c k = nodeWith (kind tab k) (name_at tab c (nameOffset tab k)) (offsetOrParent tab k) (sizeOrNext tab k)
+unfoldable pub node_at : List ℕ → ℕ → ℕ → Node
+node_at tab c k = node_with (kind tab k) (name_at tab c (name_offset tab k)) (offset_or_parent tab k) (size_or_next tab k)
 
 -- n entries from k on
-unfoldable pub nodesFrom : List ℕ → ℕ → ℕ → ℕ → List Node
-nodesFrom tab c k zero = []
-nodesFrom tab c k (suc n) = nodeAt tab c k ∷ nodesFrom tab c (suc k) n
+unfoldable pub nodes_from : List ℕ → ℕ → ℕ → ℕ → List Node
+nodes_from tab c k zero = []
+nodes_from tab c k (suc n) = node_at tab c k ∷ nodes_from tab c (suc k) n
 
 -- the entries of a table, entry k at place k
-unfoldable pub nodesOf : List ℕ → List Node
-nodesOf tab = directory [] (count tab) ∷ nodesFrom tab (count tab) 1 (count tab - 1)
+unfoldable pub nodes_of : List ℕ → List Node
+nodes_of tab = directory [] (count tab) ∷ nodes_from tab (count tab) 1 (count tab - 1)
 
 -- ---- acceptance, in the order of "Opening: .. root (5, 6, 7), count over 16,384 (9), each further entry in turn (5, 6), 8, texts
 -- over 1,048,576 bytes (9), 32-bit working words under 4 × (entries + 2) (9). Then the walk, per entry 11, 12, 13 (these three not
 -- for the root), 10, directory deeper than 64 (root 0; 9)."
 
-unfoldable pub entryVerdict : List ℕ → ℕ → Verdict
-entryVerdict tab k = refuse (ltb (length tab) (12 * k + 12)) EntryPastTable (refuse (ltb 1 (kind tab k)) UnrecognizedKind (Ok tt))
+unfoldable pub entry_verdict : List ℕ → ℕ → Verdict
+entry_verdict tab k = refuse (ltb (length tab) (12 * k + 12)) EntryPastTable (refuse (ltb 1 (kind tab k)) UnrecognizedKind (Ok tt))
 
 -- n entries from k on, each in turn
-unfoldable pub entriesVerdict : List ℕ → ℕ → ℕ → Verdict
-entriesVerdict tab k zero = Ok tt
-entriesVerdict tab k (suc n) = first (entryVerdict tab k) (entriesVerdict tab (suc k) n)
+unfoldable pub entries_verdict : List ℕ → ℕ → ℕ → Verdict
+entries_verdict tab k zero = Ok tt
+entries_verdict tab k (suc n) = first (entry_verdict tab k) (entries_verdict tab (suc k) n)
 
 -- the last text, if there are texts after c entries, has no zero byte at its end
 unfoldable pub unended : List ℕ → ℕ → Bool
@@ -140,16 +140,16 @@ abbrev pub enter : List ℕ → Node → List ℕ
 enter dirs (file nm offset size) = dirs
 enter dirs (directory nm next) = next ∷ dirs
 
-unfoldable pub nameVerdict : List ℕ → ℕ → ℕ → List ℕ → Verdict
-nameVerdict tab c k nm =
-    refuse (leb (length tab - 12 * c) (nameOffset tab k)) InvalidNameOffset
+unfoldable pub name_verdict : List ℕ → ℕ → ℕ → List ℕ → Verdict
+name_verdict tab c k nm =
+    refuse (leb (length tab - 12 * c) (name_offset tab k)) InvalidNameOffset
     (refuse (not (plain nm)) InvalidNameByte
     (refuse (not (safe nm)) UnsafeName (Ok tt)))
 
 -- "next at or before its entry, past the count or past its parent's next", then the depth, which is the number of directories open
-unfoldable pub nextVerdict : ℕ → List ℕ → ℕ → Node → Verdict
-nextVerdict c dirs k (file nm offset size) = Ok tt
-nextVerdict c dirs k (directory nm next) =
+unfoldable pub next_verdict : ℕ → List ℕ → ℕ → Node → Verdict
+next_verdict c dirs k (file nm offset size) = Ok tt
+next_verdict c dirs k (directory nm next) =
     refuse (leb next k) InvalidNextIndex
     (refuse (ltb c next) InvalidNextIndex
     (refuse (ltb (top dirs) next) InvalidNextIndex
@@ -159,8 +159,8 @@ nextVerdict c dirs k (directory nm next) =
 unfoldable pub walk : List ℕ → ℕ → List ℕ → ℕ → List Node → Verdict
 walk tab c dirs k [] = Ok tt
 walk tab c dirs k (x ∷ xs) =
-    first (nameVerdict tab c k (name_of x))
-    (first (nextVerdict c (shut k dirs) k x)
+    first (name_verdict tab c k (name_of x))
+    (first (next_verdict c (shut k dirs) k x)
     (walk tab c (enter (shut k dirs) x) (suc k) xs))
 
 -- a table, with so many working words lent
@@ -170,12 +170,12 @@ check tab words =
     (refuse (ltb 1 (kind tab 0)) UnrecognizedKind
     (refuse (eqb (kind tab 0) 0) RootIsNotDirectory
     (refuse (ltb 16384 (count tab)) LimitOrMemory
-    (first (entriesVerdict tab 1 (count tab - 1))
+    (first (entries_verdict tab 1 (count tab - 1))
     (refuse (unended tab (count tab)) MissingNullTerminator
     (refuse (ltb 1048576 (length tab - 12 * count tab)) LimitOrMemory
     (refuse (ltb words (4 * (count tab + 2))) LimitOrMemory
-    (refuse (leb (sizeOrNext tab 0) 0) InvalidNextIndex
-    (walk tab (count tab) (count tab ∷ []) 1 (nodesFrom tab (count tab) 1 (count tab - 1)))))))))))
+    (refuse (leb (size_or_next tab 0) 0) InvalidNextIndex
+    (walk tab (count tab) (count tab ∷ []) 1 (nodes_from tab (count tab) 1 (count tab - 1)))))))))))
 
 -- ---- nesting
 
@@ -184,54 +184,54 @@ encloses (file nm offset size) k = false
 encloses (directory nm next) k = ltb k next
 
 -- the last directory below i whose entries k is among, 0 where there is none
-unfoldable pub parentBelow : List Node → ℕ → ℕ → ℕ
-parentBelow nodes k zero = 0
-parentBelow nodes k (suc i) = cond (encloses (get_or nodes i none) k) i (parentBelow nodes k i)
+unfoldable pub parent_below : List Node → ℕ → ℕ → ℕ
+parent_below nodes k zero = 0
+parent_below nodes k (suc i) = cond (encloses (get_or nodes i none) k) i (parent_below nodes k i)
 
 -- the directory that entry k is nested in; 0 for the root
 unfoldable pub parent_of : List Node → ℕ → ℕ
-parent_of nodes k = parentBelow nodes k k
+parent_of nodes k = parent_below nodes k k
 
 -- ---- "Writing (`to_fst`): preorder; .. root name and parent 0; each name appended once per entry, never shared."
 
 -- an entry with parent p and name offset o
-abbrev pub nodeBytes : ℕ → ℕ → Node → List ℕ
-nodeBytes p o (file nm offset size) = 0 ∷ (be24Bytes o ++ (be32Bytes offset ++ be32Bytes size))
-nodeBytes p o (directory nm next) = 1 ∷ (be24Bytes o ++ (be32Bytes p ++ be32Bytes next))
+abbrev pub node_bytes : ℕ → ℕ → Node → List ℕ
+node_bytes p o (file nm offset size) = 0 ∷ (be24_bytes o ++ (be32_bytes offset ++ be32_bytes size))
+node_bytes p o (directory nm next) = 1 ∷ (be24_bytes o ++ (be32_bytes p ++ be32_bytes next))
 
 -- entries k and on, which are xs; the first one's name starts at o
-unfoldable pub entriesBytes : List Node → ℕ → ℕ → List Node → List ℕ
-entriesBytes nodes k o [] = []
-entriesBytes nodes k o (x ∷ xs) = nodeBytes (parent_of nodes k) o x ++ entriesBytes nodes (suc k) (o + suc (length (name_of x))) xs
+unfoldable pub entries_bytes : List Node → ℕ → ℕ → List Node → List ℕ
+entries_bytes nodes k o [] = []
+entries_bytes nodes k o (x ∷ xs) = node_bytes (parent_of nodes k) o x ++ entries_bytes nodes (suc k) (o + suc (length (name_of x))) xs
 
-unfoldable pub textsOf : List Node → List ℕ
-textsOf [] = []
-textsOf (x ∷ xs) = name_of x ++ (0 ∷ textsOf xs)
+unfoldable pub texts_of : List Node → List ℕ
+texts_of [] = []
+texts_of (x ∷ xs) = name_of x ++ (0 ∷ texts_of xs)
 
 -- the table of a list of entries; the root has no text
 unfoldable pub encode : List Node → List ℕ
 encode [] = []
-encode (root ∷ xs) = nodeBytes 0 0 root ++ (entriesBytes (root ∷ xs) 1 0 xs ++ textsOf xs)
+encode (root ∷ xs) = node_bytes 0 0 root ++ (entries_bytes (root ∷ xs) 1 0 xs ++ texts_of xs)
 
 -- ---- the limits of a tree that is written
 
 -- an entry below those directories is no directory deeper than 64
-abbrev pub shallowEntry : List ℕ → Node → Bool
-shallowEntry dirs (file nm offset size) = true
-shallowEntry dirs (directory nm next) = leb (length dirs) 64
+abbrev pub shallow_entry : List ℕ → Node → Bool
+shallow_entry dirs (file nm offset size) = true
+shallow_entry dirs (directory nm next) = leb (length dirs) 64
 
 -- no directory among entries k and on is deeper than 64
-unfoldable pub shallowFrom : List ℕ → ℕ → List Node → Bool
-shallowFrom dirs k [] = true
-shallowFrom dirs k (x ∷ xs) = shallowEntry (shut k dirs) x && shallowFrom (enter (shut k dirs) x) (suc k) xs
+unfoldable pub shallow_from : List ℕ → ℕ → List Node → Bool
+shallow_from dirs k [] = true
+shallow_from dirs k (x ∷ xs) = shallow_entry (shut k dirs) x && shallow_from (enter (shut k dirs) x) (suc k) xs
 
 unfoldable pub shallow : List Node → Bool
-shallow nodes = shallowFrom (length nodes ∷ []) 1 (tail nodes)
+shallow nodes = shallow_from (length nodes ∷ []) 1 (tail nodes)
 
 -- "the new tree's limits as at opening (entries, texts, working words, depth)"; the texts are the written ones
 unfoldable pub limits : List Node → ℕ → Verdict
 limits nodes words =
     refuse (ltb 16384 (length nodes)) LimitOrMemory
-    (refuse (ltb 1048576 (length (textsOf (tail nodes)))) LimitOrMemory
+    (refuse (ltb 1048576 (length (texts_of (tail nodes)))) LimitOrMemory
     (refuse (ltb words (4 * (length nodes + 2))) LimitOrMemory
     (refuse (not (shallow nodes)) LimitOrMemory (Ok tt))))

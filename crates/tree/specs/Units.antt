@@ -5,25 +5,25 @@ abbrev pub within : ℕ → ℕ → ℕ → Bool
 within low high b = leb low b && leb b high
 
 -- "pairs of a lead byte (0x81 to 0x9F, 0xE0 to 0xFC)"
-abbrev pub leadByte : ℕ → Bool
-leadByte b = within 0x81 0x9F b || within 0xE0 0xFC b
+abbrev pub lead_byte : ℕ → Bool
+lead_byte b = within 0x81 0x9F b || within 0xE0 0xFC b
 
 -- "with a trail byte (0x40 to 0x7E, 0x80 to 0xFC)"
-abbrev pub trailByte : ℕ → Bool
-trailByte b = within 0x40 0x7E b || within 0x80 0xFC b
+abbrev pub trail_byte : ℕ → Bool
+trail_byte b = within 0x40 0x7E b || within 0x80 0xFC b
 
 -- a byte of its own, or a lead byte with its trail byte
 pub data TextUnit : Type 0 where
   single : ℕ → TextUnit
   pair : ℕ → ℕ → TextUnit
 
-abbrev pub unitBytes : TextUnit → List ℕ
-unitBytes (single b) = b ∷ []
-unitBytes (pair a b) = a ∷ b ∷ []
+abbrev pub unit_bytes : TextUnit → List ℕ
+unit_bytes (single b) = b ∷ []
+unit_bytes (pair a b) = a ∷ b ∷ []
 
 -- a text cut into units from its start: a lead byte without its trail "counts as one byte .., and the byte after it is judged afresh". 02 says
 -- so of paths; a name is cut in the same way
 unfoldable pub units : List ℕ → List TextUnit
 units [] = []
 units (a ∷ []) = single a ∷ []
-units (a ∷ b ∷ s) = cond (leadByte a && trailByte b) (pair a b ∷ units s) (single a ∷ units (b ∷ s))
+units (a ∷ b ∷ s) = cond (lead_byte a && trail_byte b) (pair a b ∷ units s) (single a ∷ units (b ∷ s))

@@ -13,12 +13,12 @@ use Rattle.window.specs.declared.BytesRead.{BytesRead}
 use Rattle.window.specs.declared.SoughtAndRead.{SoughtAndRead}
 
 -- a window on `len` bytes from `start` on, at its first byte
-abbrev pub newWindow : ℕ → ℕ → Window
-newWindow start len = record { start = start; len = len; position = 0 }
+abbrev pub new_window : ℕ → ℕ → Window
+new_window start len = record { start = start; len = len; position = 0 }
 
 -- the same part, at the position p
-abbrev pub moveTo : Window → ℕ → Window
-moveTo w p = record { start = w.start; len = w.len; position = p }
+abbrev pub move_to : Window → ℕ → Window
+move_to w p = record { start = w.start; len = w.len; position = p }
 
 -- a distance as the number below 2^64 that stands for it modulo 2^64; `negsuc n` is -(n + 1)
 abbrev pub distance : ℤ → ℕ
@@ -26,8 +26,8 @@ distance (pos n) = n
 distance (negsuc n) = 2 ^ 64 - suc n
 
 -- "a distance is added modulo 2^64"
-abbrev pub movedBy : ℕ → ℤ → ℕ
-movedBy p d = (p + distance d) % 2 ^ 64
+abbrev pub moved_by : ℕ → ℤ → ℕ
+moved_by p d = (p + distance d) % 2 ^ 64
 
 abbrev pub either : Bool → Result Window Refusal → Result Window Refusal → Result Window Refusal
 either true a b = a
@@ -35,15 +35,15 @@ either false a b = b
 
 -- a seek to the position p: "Refused 23 if start + position passes 2^64 - 1"
 abbrev pub judged : Window → ℕ → Result Window Refusal
-judged w p = either (nat_lt (2 ^ 64 - 1) (w.start + p)) (Err InvalidSeek) (Ok (moveTo w p))
+judged w p = either (nat_lt (2 ^ 64 - 1) (w.start + p)) (Err InvalidSeek) (Ok (move_to w p))
 
 -- the answer of a seek, by cases: "current with distance 0 always succeeds"
-abbrev pub seekOf : Window → SeekFrom → Result Window Refusal
-seekOf w (Start n) = judged w n
-seekOf w (Current (pos zero)) = Ok w
-seekOf w (Current (pos (suc n))) = judged w (movedBy w.position (pos (suc n)))
-seekOf w (Current (negsuc n)) = judged w (movedBy w.position (negsuc n))
-seekOf w (End d) = judged w (movedBy w.len d)
+abbrev pub seek_of : Window → SeekFrom → Result Window Refusal
+seek_of w (Start n) = judged w n
+seek_of w (Current (pos zero)) = Ok w
+seek_of w (Current (pos (suc n))) = judged w (moved_by w.position (pos (suc n)))
+seek_of w (Current (negsuc n)) = judged w (moved_by w.position (negsuc n))
+seek_of w (End d) = judged w (moved_by w.len d)
 
 -- how many bytes a read gives, of an image of `there` bytes, into a buffer of `asked` bytes:
 -- "the least of the bytes asked for, left in the window and left in the image"
@@ -51,16 +51,16 @@ abbrev pub count_of : Window → ℕ → ℕ → ℕ
 count_of w there asked = min asked (min (w.len - w.position) (there - (w.start + w.position)))
 
 -- the same part, n bytes further on
-abbrev pub movedOn : Window → ℕ → Window
-movedOn w n = moveTo w (w.position + n)
+abbrev pub moved_on : Window → ℕ → Window
+moved_on w n = move_to w (w.position + n)
 
 -- the answer of a read: the count, and the window moved by it
 abbrev pub read_of : Window → ℕ → ℕ → BytesRead
-read_of w there asked = record { count = count_of w there asked; window = movedOn w (count_of w there asked) }
+read_of w there asked = record { count = count_of w there asked; window = moved_on w (count_of w there asked) }
 
 -- the buffer after a read: at its front the bytes of the image from start + position on; "the rest of the buffer stays"
-abbrev pub bufferOf : Window → List ℕ → List ℕ → List ℕ
-bufferOf w image buf = put buf 0 (span image (w.start + w.position) (count_of w (length image) (length buf)))
+abbrev pub buffer_of : Window → List ℕ → List ℕ → List ℕ
+buffer_of w image buf = put buf 0 (span image (w.start + w.position) (count_of w (length image) (length buf)))
 
 -- ---- "the same two calls on a window that the caller lends and finds moved"
 
@@ -70,5 +70,5 @@ settled_of w (Ok v) = v
 settled_of w (Err c) = w
 
 -- a seek and then a read on one window
-abbrev pub seekReadOf : Window → SeekFrom → ℕ → ℕ → SoughtAndRead
-seekReadOf w to there asked = record { sought = seekOf w to; read = read_of (settled_of w (seekOf w to)) there asked }
+abbrev pub seek_read_of : Window → SeekFrom → ℕ → ℕ → SoughtAndRead
+seek_read_of w to there asked = record { sought = seek_of w to; read = read_of (settled_of w (seek_of w to)) there asked }

@@ -3,8 +3,8 @@
 #![tactic(auto)]
 
 ghost use Rattle.std.specs.Prelude.{◌≡◌, length};
-ghost use Rattle.window.specs.Window.{newWindow, judged, seekOf, settled_of, count_of, movedOn, read_of};
-ghost use Rattle.window.specs.Window.{bufferOf, seekReadOf};
+ghost use Rattle.window.specs.Window.{new_window, judged, seek_of, settled_of, count_of, moved_on, read_of};
+ghost use Rattle.window.specs.Window.{buffer_of, seek_read_of};
 
 use refusal::Refusal;
 pub use std::io::SeekFrom;
@@ -35,7 +35,7 @@ pub struct SoughtAndRead {
 impl Window {
     /// A window on `len` bytes from `start` on, at its first byte.
     pub fn new(start: u64, len: u64) -> Window
-        ensures { result ≡ newWindow start len }
+        ensures { result ≡ new_window start len }
     {
         Window {
             start,
@@ -57,7 +57,7 @@ impl Window {
     /// The window at another position; distances are added modulo 2^64. Refused (`InvalidSeek`) where start + position
     /// passes 2^64 - 1; a distance of 0 from the current position always succeeds.
     pub fn seek(self, to: SeekFrom) -> Result<Window, Refusal>
-        ensures { result ≡ seekOf self to }
+        ensures { result ≡ seek_of self to }
     {
         match to {
             SeekFrom::Start(position) => self.at(position),
@@ -71,7 +71,7 @@ impl Window {
     /// the window and in the image. The rest of the buffer stays.
     pub fn read(self, image: &[u8], buf: &mut [u8]) -> BytesRead
         ensures answer { result ≡ read_of self (length image.now) (length buf.old) }
-        ensures buffer { buf.new ≡ bufferOf self image.now buf.old }
+        ensures buffer { buf.new ≡ buffer_of self image.now buf.old }
     {
         let in_window = self.len.saturating_sub(self.position);
         // Start and position are taken off one after the other, so that no sum wraps.
@@ -111,8 +111,8 @@ pub fn settled(w: Window, s: Result<Window, Refusal>) -> Window
 
 /// `seek` on a window that the caller lends. A refusal leaves it as it was.
 pub fn seek_lent(w: &mut Window, to: SeekFrom) -> Result<Window, Refusal>
-    ensures answer { result ≡ seekOf w.old to }
-    ensures moved { w.new ≡ settled_of w.old (seekOf w.old to) }
+    ensures answer { result ≡ seek_of w.old to }
+    ensures moved { w.new ≡ settled_of w.old (seek_of w.old to) }
 {
     let sought = w.seek(to);
     *w = settled(*w, sought);
@@ -122,8 +122,8 @@ pub fn seek_lent(w: &mut Window, to: SeekFrom) -> Result<Window, Refusal>
 /// `read` on a window that the caller lends. It gives how many bytes it put into the buffer.
 pub fn read_lent(w: &mut Window, image: &[u8], buf: &mut [u8]) -> usize
     ensures answer { result ≡ count_of w.old (length image.now) (length buf.old) }
-    ensures moved { w.new ≡ movedOn w.old result }
-    ensures buffer { buf.new ≡ bufferOf w.old image.now buf.old }
+    ensures moved { w.new ≡ moved_on w.old result }
+    ensures buffer { buf.new ≡ buffer_of w.old image.now buf.old }
 {
     let read = w.read(image, buf);
     *w = read.window;
@@ -132,8 +132,8 @@ pub fn read_lent(w: &mut Window, image: &[u8], buf: &mut [u8]) -> usize
 
 /// A seek and then a read on one window, which this function lends to both. A refused seek leaves the window for the read.
 pub fn seek_and_read(w: Window, to: SeekFrom, image: &[u8], buf: &mut [u8]) -> SoughtAndRead
-    ensures answer { result ≡ seekReadOf w to (length image.now) (length buf.old) }
-    ensures buffer { buf.new ≡ bufferOf (settled_of w (seekOf w to)) image.now buf.old }
+    ensures answer { result ≡ seek_read_of w to (length image.now) (length buf.old) }
+    ensures buffer { buf.new ≡ buffer_of (settled_of w (seek_of w to)) image.now buf.old }
 {
     let mut lent = w;
     let sought = seek_lent(&mut lent, to);

@@ -6,10 +6,10 @@ use Rattle.tree.specs.declared.Entry.TheVariants.{File, Directory}
 use Rattle.tree.specs.declared.Found.TheVariants as found
 use Rattle.executable.specs.declared.dol.DolHeader.{DolHeader}
 use Rattle.space.specs.declared.totals.Totals.{Totals}
-use Rattle.space.specs.Totals.{totalsIn}
+use Rattle.space.specs.Totals.{totals_in}
 use Rattle.window.specs.declared.Window.{Window}
 use Rattle.opened.specs.Opening.{zeros}
-use Rattle.counter.specs.Replies.{Reply, reply, Read, replied, discWords, discTotalsWords, regionWords, one, windowIn, windowWords, totalsWords, dolWords, programReply, foundReply, dolReply, dolWindowReply, done, numbered}
+use Rattle.counter.specs.Replies.{Reply, reply, Read, replied, disc_words, disc_totals_words, region_words, one, window_in, window_words, totals_words, dol_words, program_reply, found_reply, dol_reply, dol_window_reply, done, numbered}
 
 -- slots as they were before the call
 abbrev old : List ℕ
@@ -23,50 +23,50 @@ rising a (suc n) = a ∷ rising (suc a) n
 -- "answer[5]: FST offset, FST size, disc end, entries, used total."; "answer[2]: disc end, used total."; "answer[2]: DOL offset, and the larger of
 -- the file size and 0xE4; both 0 where the DOL offset is 0."
 disc-slots :
-    (replied discWords old (Ok (record { fst_offset = 1; fst_size = 2; disc_end = 3; entries = 4; used = 5 })) ≡ reply 0 (1 ∷ 2 ∷ 3 ∷ 4 ∷ 5 ∷ [])) ×
-    (replied discTotalsWords old (Ok (record { disc_end = 1; used = 2 })) ≡ reply 0 (1 ∷ 2 ∷ [])) ×
-    (programReply old (Ok (Some (record { offset = 1; size = 2 }))) ≡ reply 0 (1 ∷ 2 ∷ [])) ×
-    (programReply old (Ok None) ≡ reply 0 (0 ∷ 0 ∷ []))
-unfolding programReply
+    (replied disc_words old (Ok (record { fst_offset = 1; fst_size = 2; disc_end = 3; entries = 4; used = 5 })) ≡ reply 0 (1 ∷ 2 ∷ 3 ∷ 4 ∷ 5 ∷ [])) ×
+    (replied disc_totals_words old (Ok (record { disc_end = 1; used = 2 })) ≡ reply 0 (1 ∷ 2 ∷ [])) ×
+    (program_reply old (Ok (Some (record { offset = 1; size = 2 }))) ≡ reply 0 (1 ∷ 2 ∷ [])) ×
+    (program_reply old (Ok None) ≡ reply 0 (0 ∷ 0 ∷ []))
+unfolding program_reply
 disc-slots = (refl, refl, refl, refl)
 
 -- "answer[4]: number; kind, 0 a file and 1 a directory; a file's offset, or the directory that a directory is nested in (the root: 0); a file's size,
 -- or the number after a directory's last entry."
 entry-slots :
-    (foundReply old (found.At 2 (File (record { offset = 3; size = 4 }))) ≡ reply 0 (2 ∷ 0 ∷ 3 ∷ 4 ∷ [])) ×
-    (foundReply old (found.At 2 (Directory (record { parent = 3; next = 4 }))) ≡ reply 0 (2 ∷ 1 ∷ 3 ∷ 4 ∷ []))
-unfolding foundReply
+    (found_reply old (found.At 2 (File (record { offset = 3; size = 4 }))) ≡ reply 0 (2 ∷ 0 ∷ 3 ∷ 4 ∷ [])) ×
+    (found_reply old (found.At 2 (Directory (record { parent = 3; next = 4 }))) ≡ reply 0 (2 ∷ 1 ∷ 3 ∷ 4 ∷ []))
+unfolding found_reply
 entry-slots = (refl, refl)
 
 -- "answer[1]: how many regions."; the size of a region; "answer[2]: offset, size."; the length of a text; "the new entry's number in the new table"
 number-slots :
     (replied one old (Ok 1) ≡ reply 0 (1 ∷ [])) ×
-    (replied regionWords old (Ok (record { offset = 1; size = 2 })) ≡ reply 0 (1 ∷ 2 ∷ [])) ×
+    (replied region_words old (Ok (record { offset = 1; size = 2 })) ≡ reply 0 (1 ∷ 2 ∷ [])) ×
     (numbered old (Ok tt) 1 ≡ reply 0 (1 ∷ []))
 number-slots = (refl, refl, refl)
 
 -- windows: "three slots of 64 bits, start, length and position"
 
-abbrev aWindow : Window
-aWindow = record { start = 1; len = 2; position = 3 }
+abbrev a_window : Window
+a_window = record { start = 1; len = 2; position = 3 }
 
 window-slots :
-    (windowIn (1 ∷ 2 ∷ 3 ∷ []) ≡ aWindow) ×
-    (replied windowWords old (Ok aWindow) ≡ reply 0 (1 ∷ 2 ∷ 3 ∷ []))
+    (window_in (1 ∷ 2 ∷ 3 ∷ []) ≡ a_window) ×
+    (replied window_words old (Ok a_window) ≡ reply 0 (1 ∷ 2 ∷ 3 ∷ []))
 window-slots = (refl, refl)
 
 -- the record: "three slots, used bytes, the size of the largest free region (0 if there is none), and how many edits were accepted"
 
-abbrev aRecord : Totals
-aRecord = record { used = 1; largest = 2; edits = 3 }
+abbrev a_record : Totals
+a_record = record { used = 1; largest = 2; edits = 3 }
 
-record-slots : (totalsIn (1 ∷ 2 ∷ 3 ∷ []) ≡ aRecord) × (replied totalsWords old (Ok aRecord) ≡ reply 0 (1 ∷ 2 ∷ 3 ∷ []))
+record-slots : (totals_in (1 ∷ 2 ∷ 3 ∷ []) ≡ a_record) × (replied totals_words old (Ok a_record) ≡ reply 0 (1 ∷ 2 ∷ 3 ∷ []))
 record-slots = (refl, refl)
 
 -- "header[57]: 7 text and 11 data offsets, 7 and 11 addresses, 7 and 11 sizes, BSS address, BSS size, entry point. window[3]: .."
 
-abbrev aHeader : DolHeader
-aHeader = record {
+abbrev a_header : DolHeader
+a_header = record {
   text_offsets = rising 1 7;
   data_offsets = rising 8 11;
   text_addresses = rising 19 7;
@@ -79,28 +79,28 @@ aHeader = record {
 }
 
 dol-slots :
-    (dolReply old (Ok (record { header = aHeader; window = aWindow })) ≡ reply 0 (rising 1 57)) ×
-    (dolWindowReply old (Ok (record { header = aHeader; window = aWindow })) ≡ reply 0 (1 ∷ 2 ∷ 3 ∷ []))
-unfolding rising dolWords
+    (dol_reply old (Ok (record { header = a_header; window = a_window })) ≡ reply 0 (rising 1 57)) ×
+    (dol_window_reply old (Ok (record { header = a_header; window = a_window })) ≡ reply 0 (1 ∷ 2 ∷ 3 ∷ []))
+unfolding rising dol_words
 dol-slots = (refl, refl)
 
 -- "with a number other than 0 they stay as they were"
 refused-slots :
-    (replied discWords old (Err LimitOrMemory) ≡ reply 9 old) ×
-    (replied discTotalsWords old (Err LimitOrMemory) ≡ reply 9 old) ×
-    (programReply old (Err InvalidDol) ≡ reply 24 old) ×
-    (foundReply old (found.Refused NotFound) ≡ reply 18 old) ×
+    (replied disc_words old (Err LimitOrMemory) ≡ reply 9 old) ×
+    (replied disc_totals_words old (Err LimitOrMemory) ≡ reply 9 old) ×
+    (program_reply old (Err InvalidDol) ≡ reply 24 old) ×
+    (found_reply old (found.Refused NotFound) ≡ reply 18 old) ×
     (replied one old (Err LimitOrMemory) ≡ reply 9 old) ×
     (replied one old (Err ExpectedFile) ≡ reply 16 old) ×
-    (replied regionWords old (Err NotEnoughSpace) ≡ reply 21 old) ×
+    (replied region_words old (Err NotEnoughSpace) ≡ reply 21 old) ×
     (replied one old (Err NoSuchEntry) ≡ reply 15 old) ×
     (numbered old (Err TotalsOutOfRange) 1 ≡ reply 25 old) ×
-    (replied windowWords old (Err ExpectedFile) ≡ reply 16 old) ×
-    (replied windowWords old (Err InvalidSeek) ≡ reply 23 old) ×
-    (replied totalsWords old (Err LimitOrMemory) ≡ reply 9 old) ×
-    (dolReply old (Err InvalidDol) ≡ reply 24 old) ×
-    (dolWindowReply old (Err InvalidDol) ≡ reply 24 old)
-unfolding programReply foundReply
+    (replied window_words old (Err ExpectedFile) ≡ reply 16 old) ×
+    (replied window_words old (Err InvalidSeek) ≡ reply 23 old) ×
+    (replied totals_words old (Err LimitOrMemory) ≡ reply 9 old) ×
+    (dol_reply old (Err InvalidDol) ≡ reply 24 old) ×
+    (dol_window_reply old (Err InvalidDol) ≡ reply 24 old)
+unfolding program_reply found_reply
 refused-slots = (refl, refl, refl, refl, refl, refl, refl, refl, refl, refl, refl, refl, refl, refl)
 
 -- "Every function returns 0 where it is accepted, and else the number of the first test that failed"

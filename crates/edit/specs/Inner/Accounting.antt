@@ -2,16 +2,16 @@
 use Rattle.std.specs.Prelude.{Result, Ok, Err, ℕ, ◌+◌, ◌-◌, ◌≤◌, ◌≡◌, cond, List, length}
 use Rattle.refusal.specs.declared.Refusal.{Refusal}
 use Rattle.refusal.specs.Refusal.{Verdict, is_refused}
-use Rattle.header.specs.Verdicts.{fstOffset, fstSize, discEnd}
+use Rattle.header.specs.Verdicts.{fst_offset, fst_size, disc_end}
 use Rattle.space.specs.declared.region.DiscRegion.{DiscRegion}
-use Rattle.space.specs.Inner.Sort.{regionsIn}
+use Rattle.space.specs.Inner.Sort.{regions_in}
 use Rattle.opened.specs.Inner.Prepared.{IsOpen}
 use Rattle.opened.specs.Inner.Disc.{Disc, Means}
 use Rattle.space.specs.declared.totals.Totals.{Totals}
-use Rattle.space.specs.Totals.{totalsVerdict, totalsMoved}
-use Rattle.space.specs.Inner.Scan.{longestFrom, goneOf, Moved, movedAs}
+use Rattle.space.specs.Totals.{totals_verdict, totals_moved}
+use Rattle.space.specs.Inner.Scan.{longest_from, gone_of, Moved, moved_as}
 use Rattle.edits.specs.Change.{Plan}
-use Rattle.edits.specs.Edits.{noPlace, planImage, countedVerdict, totalsTo}
+use Rattle.edits.specs.Edits.{no_place, plan_image, counted_verdict, totals_to}
 use Rattle.edit.specs.declared.decision.Decision.{Decision}
 use Rattle.edit.specs.declared.decision.Decision.TheVariants as decision
 use Rattle.edit.specs.Inner.Decision.{DecidedAs}
@@ -29,7 +29,7 @@ pub record OfUsed (d : Disc) (P : List ℕ → List DiscRegion → Type 0) : Typ
   pub count : ℕ
   pub long : length words ≡ d.words
   pub held : (image : List ℕ) → Means image d → IsOpen image words count
-  pub is : (image : List ℕ) → Means image d → P image (regionsIn words 1 (count - 1))
+  pub is : (image : List ℕ) → Means image d → P image (regions_in words 1 (count - 1))
 
 -- what is decided on once the record is tested too, and the record then
 pub record Accounted : Type 0 where
@@ -44,33 +44,33 @@ abbrev pub unless : Verdict → Decision → Result Decision Refusal
 unless (Ok _) d = Ok d
 unless (Err c) d = Err c
 
-abbrev pub settledAs : Decision → Moved → Accounted
-settledAs d m = accounted (unless m.verdict d) m.totals
+abbrev pub settled_as : Decision → Moved → Accounted
+settled_as d m = accounted (unless m.verdict d) m.totals
 
 -- used bytes move from `before` to `after`, in any two numbers with that difference
-abbrev pub movedBy : Totals → ℕ → ℕ → ℕ → Moved
-movedBy t before after largest = movedAs (totalsVerdict t before after) t (totalsMoved t before after largest)
+abbrev pub moved_by : Totals → ℕ → ℕ → ℕ → Moved
+moved_by t before after largest = moved_as (totals_verdict t before after) t (totals_moved t before after largest)
 
 -- the new table has `size` bytes, and the edited file goes from `old` to `new`; xs are the used regions behind the table, in order
-abbrev pub enteredAs : List ℕ → List DiscRegion → Totals → ℕ → DiscRegion → DiscRegion → Moved
-enteredAs image xs t size old new =
-    movedBy t (fstSize image + old.size) (size + new.size) (longestFrom (discEnd image) (goneOf old) new (fstOffset image + size) 0 xs)
+abbrev pub entered_as : List ℕ → List DiscRegion → Totals → ℕ → DiscRegion → DiscRegion → Moved
+entered_as image xs t size old new =
+    moved_by t (fst_size image + old.size) (size + new.size) (longest_from (disc_end image) (gone_of old) new (fst_offset image + size) 0 xs)
 
 -- by what is decided on
-abbrev pub enteredFor : List ℕ → List DiscRegion → Decision → Totals → Moved
-enteredFor image xs decision.Nothing t = enteredAs image xs t (fstSize image) noPlace noPlace
-enteredFor image xs (decision.Clip n at) t = enteredAs image xs t (fstSize image) noPlace noPlace
-enteredFor image xs (decision.Write n size w) t = enteredAs image xs t size w.old w.place
+abbrev pub entered_for : List ℕ → List DiscRegion → Decision → Totals → Moved
+entered_for image xs decision.Nothing t = entered_as image xs t (fst_size image) no_place no_place
+entered_for image xs (decision.Clip n at) t = entered_as image xs t (fst_size image) no_place no_place
+entered_for image xs (decision.Write n size w) t = entered_as image xs t size w.old w.place
 
-abbrev pub accountOf : List ℕ → List DiscRegion → Result Decision Refusal → Totals → Accounted
-accountOf image xs (Err c) t = accounted (Err c) t
-accountOf image xs (Ok d) t = settledAs d (enteredFor image xs d t)
+abbrev pub account_of : List ℕ → List DiscRegion → Result Decision Refusal → Totals → Accounted
+account_of image xs (Err c) t = accounted (Err c) t
+account_of image xs (Ok d) t = settled_as d (entered_for image xs d t)
 
 -- the record afterwards
-abbrev pub countedTotals : Plan → Totals → List ℕ → ℕ → ℕ → Totals
-countedTotals p t image words room = cond (is_refused (countedVerdict p t image words room)) t (totalsTo t image (planImage p image))
+abbrev pub counted_totals : Plan → Totals → List ℕ → ℕ → ℕ → Totals
+counted_totals p t image words room = cond (is_refused (counted_verdict p t image words room)) t (totals_to t image (plan_image p image))
 
 -- a, with these working bytes and this clip, is what the plan comes to by all its tests, 25 too, where the record t went in
 pub record AccountedFor (p : Plan) (image : List ℕ) (words room : ℕ) (bytes clip : List ℕ) (t : Totals) (a : Accounted) : Type 0 where
-  pub decided : DecidedAs (countedVerdict p t image words room) p image room bytes clip a.decision
-  pub totals : a.totals ≡ countedTotals p t image words room
+  pub decided : DecidedAs (counted_verdict p t image words room) p image room bytes clip a.decision
+  pub totals : a.totals ≡ counted_totals p t image words room

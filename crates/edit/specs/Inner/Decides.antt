@@ -1,10 +1,10 @@
 -- The edit that a call asks for, and what it decides on. Assumes nothing: these are definitions.
 use Rattle.std.specs.Prelude.{Result, ℕ, List, []}
 use Rattle.refusal.specs.declared.Refusal.{Refusal}
-use Rattle.tree.specs.Insert.{emptyFile, emptyDirectory}
+use Rattle.tree.specs.Insert.{empty_file, empty_directory}
 use Rattle.edits.specs.Change.{Plan, change}
 use Rattle.edits.specs.Edits as edits
-use Rattle.edits.specs.Edits.{tableOnly, planMove, planResize, planFill, planInsert, planMakeDirectories}
+use Rattle.edits.specs.Edits.{table_only, plan_move, plan_resize, plan_fill, plan_insert, plan_make_directories}
 use Rattle.opened.specs.Inner.Disc.{Disc, free_of}
 use Rattle.ledger.specs.Runs.{Passable}
 use Rattle.edit.specs.declared.decision.Decision.{Decision}
@@ -14,32 +14,32 @@ use Rattle.edit.specs.declared.pipeline.Edit.{Edit}
 use Rattle.edit.specs.declared.pipeline.Edit.TheVariants as edit
 
 -- by its cases, with its name, path or clip
-abbrev pub editOf : Edit → edits.Edit
-editOf edit.Rewrite = edits.rewrite
-editOf (edit.Move file offset) = edits.moveFile file offset
-editOf (edit.Resize file size) = edits.resizeFile file size
-editOf (edit.Fill file clip) = edits.fillFile file clip.now
-editOf (edit.Insert new) = insertion new.kind new.parent new.name.now
-editOf (edit.MakeDirectories start path) = edits.makeDirectories start path.now
+abbrev pub edit_of : Edit → edits.Edit
+edit_of edit.Rewrite = edits.rewrite
+edit_of (edit.Move file offset) = edits.move_file file offset
+edit_of (edit.Resize file size) = edits.resize_file file size
+edit_of (edit.Fill file clip) = edits.fill_file file clip.now
+edit_of (edit.Insert new) = insertion new.kind new.parent new.name.now
+edit_of (edit.MakeDirectories start path) = edits.make_directories start path.now
 
 -- the clip that fills a file; none for the other edits
-abbrev pub clipOf : Edit → List ℕ
-clipOf edit.Rewrite = []
-clipOf (edit.Move file offset) = []
-clipOf (edit.Resize file size) = []
-clipOf (edit.Fill file clip) = clip.now
-clipOf (edit.Insert new) = []
-clipOf (edit.MakeDirectories start path) = []
+abbrev pub clip_of : Edit → List ℕ
+clip_of edit.Rewrite = []
+clip_of (edit.Move file offset) = []
+clip_of (edit.Resize file size) = []
+clip_of (edit.Fill file clip) = clip.now
+clip_of (edit.Insert new) = []
+clip_of (edit.MakeDirectories start path) = []
 
 -- the plan of an edit on a disc
 abbrev pub plan_on : edits.Edit → Disc → Plan
-plan_on (edits.insertFile p nm) d = planInsert (λ q. emptyFile nm) d.nodes p nm
-plan_on (edits.insertDirectory p nm) d = planInsert (emptyDirectory nm) d.nodes p nm
-plan_on (edits.makeDirectories start path) d = planMakeDirectories d.nodes start path
-plan_on (edits.moveFile k to) d = planMove (free_of d) d.nodes k to
-plan_on (edits.resizeFile k n) d = planResize (free_of d) d.nodes k n
-plan_on (edits.fillFile k clip) d = planFill (free_of d) d.nodes k clip
-plan_on edits.rewrite d = change 0 (tableOnly d.nodes)
+plan_on (edits.insert_file p nm) d = plan_insert (λ q. empty_file nm) d.nodes p nm
+plan_on (edits.insert_directory p nm) d = plan_insert (empty_directory nm) d.nodes p nm
+plan_on (edits.make_directories start path) d = plan_make_directories d.nodes start path
+plan_on (edits.move_file k to) d = plan_move (free_of d) d.nodes k to
+plan_on (edits.resize_file k n) d = plan_resize (free_of d) d.nodes k n
+plan_on (edits.fill_file k clip) d = plan_fill (free_of d) d.nodes k clip
+plan_on edits.rewrite d = change 0 (table_only d.nodes)
 
 -- r is what the edit decides on, on the disc, and its numbers are numbers that a call can hand on
 pub record EditDecided (ed : edits.Edit) (d : Disc) (room : ℕ) (bytes clip : List ℕ) (r : Result Decision Refusal) : Type 0 where

@@ -4,33 +4,33 @@ use Rattle.std.specs.Prelude.{Result, Ok, Err, ℕ, ◌+◌, ◌<◌, ◌≤◌,
 use Rattle.refusal.specs.Refusal.{Verdict, is_refused}
 use Rattle.refusal.specs.declared.Refusal.{Refusal}
 use Rattle.endian.specs.Bytes.{put, span}
-use Rattle.header.specs.Verdicts.{fstOffset, fstSize}
+use Rattle.header.specs.Verdicts.{fst_offset, fst_size}
 use Rattle.tree.specs.Table.{Node, encode}
 use Rattle.space.specs.declared.region.DiscRegion.{DiscRegion}
 use Rattle.edit.specs.declared.decision.Writing.{Writing}
 use Rattle.edit.specs.declared.decision.Decision.{Decision}
 use Rattle.edit.specs.declared.decision.Decision.TheVariants as decision
-use Rattle.edits.specs.Change.{Change, withTable, Plan, refused, nothing, change, filled}
-use Rattle.edits.specs.Edits.{noPlace, planVerdict, planImage}
+use Rattle.edits.specs.Change.{Change, with_table, Plan, refused, nothing, change, filled}
+use Rattle.edits.specs.Edits.{no_place, plan_verdict, plan_image}
 use Rattle.opened.specs.Inner.Disc.{Disc, Means}
 
 -- ---- the numbers of a change
 
-abbrev pub changeWith : List Node → Writing → Change
-changeWith nodes w = record { nodes = nodes; old = w.old; place = w.place; kept = w.kept; lost = record { offset = w.lost.offset; size = w.lost.size } }
+abbrev pub change_with : List Node → Writing → Change
+change_with nodes w = record { nodes = nodes; old = w.old; place = w.place; kept = w.kept; lost = record { offset = w.lost.offset; size = w.lost.size } }
 
 -- no byte but the table's
 abbrev pub nothing_besides : Writing
-nothing_besides = record { old = noPlace; place = noPlace; kept = 0; lost = record { offset = 0; size = 0 } }
+nothing_besides = record { old = no_place; place = no_place; kept = 0; lost = record { offset = 0; size = 0 } }
 
 -- a change with a place, for the tests of its table
 abbrev pub placing : List Node → DiscRegion → Change
-placing nodes place = record { nodes = nodes; old = noPlace; place = place; kept = 0; lost = noPlace }
+placing nodes place = record { nodes = nodes; old = no_place; place = place; kept = 0; lost = no_place }
 
 -- the image with the change written, where the table's bytes are these
-unfoldable pub writtenWith : Writing → List ℕ → List ℕ → List ℕ
-writtenWith w table image =
-    put (withTable (fstOffset image) (fstSize image) table (put image w.place.offset (span image w.old.offset w.kept))) w.lost.offset (replicate w.lost.size 0)
+unfoldable pub written_with : Writing → List ℕ → List ℕ → List ℕ
+written_with w table image =
+    put (with_table (fst_offset image) (fst_size image) table (put image w.place.offset (span image w.old.offset w.kept))) w.lost.offset (replicate w.lost.size 0)
 
 -- ---- what is found behind tests that passed, or the cause of the first that did not
 
@@ -59,7 +59,7 @@ pub record InImage (long : ℕ) (w : Writing) : Type 0 where
   pub zeroed : ZeroFits long w.lost.offset w.lost.size
 
 pub record Fits (image : List ℕ) (room size : ℕ) (w : Writing) : Type 0 where
-  pub table : TableFits (length image) room (fstOffset image) (fstSize image) size
+  pub table : TableFits (length image) room (fst_offset image) (fst_size image) size
   pub inside : InImage (length image) w
 
 -- ---- a clip
@@ -81,9 +81,9 @@ CanCarry image room clip (Ok decision.Nothing) = Unit {0}
 CanCarry image room clip (Ok (decision.Clip n at)) = Into (length image) at (length clip)
 CanCarry image room clip (Ok (decision.Write n size w)) = Into (length image) w.place.offset (length clip) × Fits (clipped image w.place.offset clip) room size w
 
-abbrev pub carriedVerdict : Result Decision Refusal → Verdict
-carriedVerdict (Err c) = Err c
-carriedVerdict (Ok d) = Ok tt
+abbrev pub carried_verdict : Result Decision Refusal → Verdict
+carried_verdict (Err c) = Err c
+carried_verdict (Ok d) = Ok tt
 
 -- the number of the entry
 abbrev pub number_of : Decision → ℕ
@@ -91,26 +91,26 @@ number_of decision.Nothing = 0
 number_of (decision.Clip n at) = n
 number_of (decision.Write n size w) = n
 
-abbrev pub carriedAnswer : Result Decision Refusal → Result ℕ Refusal
-carriedAnswer (Err c) = Err c
-carriedAnswer (Ok d) = Ok (number_of d)
+abbrev pub carried_answer : Result Decision Refusal → Result ℕ Refusal
+carried_answer (Err c) = Err c
+carried_answer (Ok d) = Ok (number_of d)
 
 -- whether an edit that gives a number was accepted
-abbrev pub verdictIn : Result ℕ Refusal → Verdict
-verdictIn (Ok k) = Ok tt
-verdictIn (Err c) = Err c
+abbrev pub verdict_in : Result ℕ Refusal → Verdict
+verdict_in (Ok k) = Ok tt
+verdict_in (Err c) = Err c
 
 -- the clip first, so that a table with the new place or size has the whole clip
-abbrev pub carriedImage : Result Decision Refusal → List ℕ → List ℕ → List ℕ → List ℕ
-carriedImage (Err c) bytes clip image = image
-carriedImage (Ok decision.Nothing) bytes clip image = image
-carriedImage (Ok (decision.Clip n at)) bytes clip image = clipped image at clip
-carriedImage (Ok (decision.Write n size w)) bytes clip image = writtenWith w (span bytes 0 size) (clipped image w.place.offset clip)
+abbrev pub carried_image : Result Decision Refusal → List ℕ → List ℕ → List ℕ → List ℕ
+carried_image (Err c) bytes clip image = image
+carried_image (Ok decision.Nothing) bytes clip image = image
+carried_image (Ok (decision.Clip n at)) bytes clip image = clipped image at clip
+carried_image (Ok (decision.Write n size w)) bytes clip image = written_with w (span bytes 0 size) (clipped image w.place.offset clip)
 
 pub record Carried (n size : ℕ) (w : Writing) (bytes : List ℕ) (k : ℕ) (c : Change) : Type 0 where
   pub number : n ≡ k
   pub table : span bytes 0 size ≡ encode c.nodes
-  pub change : c ≡ changeWith c.nodes w
+  pub change : c ≡ change_with c.nodes w
 
 -- the same of a file that is filled, but for what a resize would copy
 pub record Uncopied (n size : ℕ) (w : Writing) (bytes : List ℕ) (k : ℕ) (c : Change) : Type 0 where
@@ -145,12 +145,12 @@ Carries (Ok (decision.Write n size w)) bytes (filled k clip (filled j more p)) =
 pub record DecidedAs (v : Verdict) (p : Plan) (image : List ℕ) (room : ℕ) (bytes clip : List ℕ) (d : Result Decision Refusal) : Type 0 where
   pub fits : CanCarry image room clip d
   pub carries : Carries d bytes p
-  pub answer : carriedVerdict d ≡ v
-  pub after : carriedImage d bytes clip image ≡ cond (is_refused v) image (planImage p image)
+  pub answer : carried_verdict d ≡ v
+  pub after : carried_image d bytes clip image ≡ cond (is_refused v) image (plan_image p image)
 
 -- by all tests but 25, with no clip
 abbrev pub Decided : Plan → List ℕ → ℕ → ℕ → List ℕ → Result Decision Refusal → Type 0
-Decided p image words room bytes d = DecidedAs (planVerdict p image words room) p image room bytes [] d
+Decided p image words room bytes d = DecidedAs (plan_verdict p image words room) p image room bytes [] d
 
 -- ---- a decision on a disc: it is what the plan comes to, on each image that means the disc
 
@@ -159,4 +159,4 @@ Decides p d room bytes r = (image : List ℕ) → Means image d → Decided p im
 
 -- with a clip
 abbrev pub DecidesWith : List ℕ → Plan → Disc → ℕ → List ℕ → Result Decision Refusal → Type 0
-DecidesWith clip p d room bytes r = (image : List ℕ) → Means image d → DecidedAs (planVerdict p image d.words room) p image room bytes clip r
+DecidesWith clip p d room bytes r = (image : List ℕ) → Means image d → DecidedAs (plan_verdict p image d.words room) p image room bytes clip r

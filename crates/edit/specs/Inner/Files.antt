@@ -3,33 +3,33 @@ use Rattle.std.specs.Prelude.{Result, Ok, Err, ℕ, ◌<◌, ◌≡◌, false, m
 use Rattle.refusal.specs.declared.Refusal.{Refusal}
 use Rattle.refusal.specs.declared.Refusal.TheVariants.{ExpectedFile}
 use Rattle.tree.specs.Table.{Node, none}
-use Rattle.tree.specs.Lookup.{isDirectory}
+use Rattle.tree.specs.Lookup.{is_directory}
 use Rattle.tree.specs.declared.Entry.{Entry}
 use Rattle.tree.specs.declared.Entry.TheVariants as entry
 use Rattle.space.specs.declared.region.DiscRegion.{DiscRegion}
-use Rattle.opened.specs.Opening.{regionOf}
+use Rattle.opened.specs.Opening.{region_of}
 use Rattle.opened.specs.Inner.Disc.{Disc, Means}
 use Rattle.edit.specs.declared.decision.Writing.{Writing}
 use Rattle.edit.specs.declared.file.File.{File}
 
 pub record IsFile (nodes : List Node) (k : ℕ) : Type 0 where
   pub inside : k < length nodes
-  pub kind : isDirectory (get_or nodes k none) ≡ false
+  pub kind : is_directory (get_or nodes k none) ≡ false
 
 -- entry k, where it is a file
 abbrev pub file_in : List Node → ℕ → File
-file_in nodes k = record { number = k; place = regionOf (get_or nodes k none) }
+file_in nodes k = record { number = k; place = region_of (get_or nodes k none) }
 
-abbrev pub fileOf : ℕ → Entry → Result File Refusal
-fileOf k (entry.File f) = Ok (record { number = k; place = record { offset = f.offset; size = f.size } })
-fileOf k (entry.Directory d) = Err ExpectedFile
+abbrev pub file_of : ℕ → Entry → Result File Refusal
+file_of k (entry.File f) = Ok (record { number = k; place = record { offset = f.offset; size = f.size } })
+file_of k (entry.Directory d) = Err ExpectedFile
 
 -- a file of a disc that some image means
 pub record IsFileOf (d : Disc) (f : File) : Type 0 where
   pub image : List ℕ
   pub means : Means image d
   pub is : IsFile d.nodes f.number
-  pub place : regionOf (get_or d.nodes f.number none) ≡ f.place
+  pub place : region_of (get_or d.nodes f.number none) ≡ f.place
 
 -- what a move writes besides the table: the smaller of both sizes is copied, and the old place is zeroed
 abbrev pub relocation_of : DiscRegion → DiscRegion → Writing

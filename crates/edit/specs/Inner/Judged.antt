@@ -5,7 +5,7 @@ use Rattle.refusal.specs.declared.Refusal.{Refusal}
 use Rattle.refusal.specs.declared.Refusal.TheVariants.{LimitOrMemory, NotEnoughSpace, TableAboveMaximum}
 use Rattle.tree.specs.Table.{encode, limits}
 use Rattle.space.specs.declared.region.DiscRegion.{DiscRegion}
-use Rattle.space.specs.MaxRegionSize.{maxRegionSize}
+use Rattle.space.specs.MaxRegionSize.{max_region_size}
 use Rattle.edits.specs.Change.{Change}
 use Rattle.opened.specs.Inner.Disc.{Disc, free_of}
 use Rattle.edit.specs.Inner.Decision.{placing, behind_tests}
@@ -15,7 +15,7 @@ unfoldable pub place_verdict : Disc → ℕ → ℕ → DiscRegion → Verdict
 place_verdict d bytes size place =
     refuse (ltb bytes size) LimitOrMemory
     (refuse (ltb 0 d.maximum && ltb d.maximum size) TableAboveMaximum
-    (refuse (ltb (maxRegionSize d.start d.room (free_of d)) size) NotEnoughSpace
+    (refuse (ltb (max_region_size d.start d.room (free_of d)) size) NotEnoughSpace
     (refuse (ltb 0 place.size && ltb place.offset (d.start + size)) NotEnoughSpace
     (Ok tt))))
 

@@ -1,13 +1,13 @@
--- Make-directories' tests that need no memory, and its troubles a component at a time: where the walk of `troubleOf` goes from an entry of the tree as it is, with so many new
+-- Make-directories' tests that need no memory, and its troubles a component at a time: where the walk of `trouble_of` goes from an entry of the tree as it is, with so many new
 -- directories below it. Assumes nothing: these are definitions.
 use Rattle.std.specs.Prelude.{Result, Ok, Err, ℕ, ◌+◌, ◌-◌, false, cond, not, ◌&&◌, List, [], length, get_or, ltb, leb, eqb}
 use Rattle.refusal.specs.declared.Refusal.{Refusal}
 use Rattle.refusal.specs.declared.Refusal.TheVariants.{LimitOrMemory, InvalidNameByte, UnsafeName, NoSuchEntry, ExpectedDirectory, NotFound}
 use Rattle.refusal.specs.Refusal.{Verdict, refuse, first}
-use Rattle.tree.specs.Table.{Node, none, nodesOf, plain, safe, parent_of}
-use Rattle.tree.specs.Lookup.{isDirectory, components, childOf, stays, goesBack}
+use Rattle.tree.specs.Table.{Node, none, nodes_of, plain, safe, parent_of}
+use Rattle.tree.specs.Lookup.{is_directory, components, child_of, stays, goes_back}
 use Rattle.edits.specs.Edits.{make}
-use Rattle.edits.specs.Inner.Troubles.{madeVerdict, troubleOf}
+use Rattle.edits.specs.Inner.Troubles.{made_verdict, trouble_of}
 
 -- a walk from `start` stands at an entry of the tree as it is, so many new directories below it; and what the new names come to
 pub record Place : Type 0 where
@@ -18,7 +18,7 @@ pub record Place : Type 0 where
   pub names : Verdict
 
 abbrev pub place_in : List ℕ → ℕ → ℕ → ℕ → Verdict → Place
-place_in table start entry level names = record { nodes = nodesOf table; start = start; entry = entry; level = level; names = names }
+place_in table start entry level names = record { nodes = nodes_of table; start = start; entry = entry; level = level; names = names }
 
 abbrev pub at_start : List Node → ℕ → Place
 at_start nodes start = record { nodes = nodes; start = start; entry = start; level = 0; names = Ok tt }
@@ -30,33 +30,33 @@ abbrev pub moved : Place → ℕ → ℕ → Place
 moved p k level = record { nodes = p.nodes; start = p.start; entry = k; level = level; names = p.names }
 
 -- a new name with a unit that no name may have
-abbrev pub plainVerdict : List ℕ → Verdict
-plainVerdict nm = refuse (not (plain nm)) InvalidNameByte (Ok tt)
+abbrev pub plain_verdict : List ℕ → Verdict
+plain_verdict nm = refuse (not (plain nm)) InvalidNameByte (Ok tt)
 
 -- each step is from a directory, and the walk must end on one: at an entry of the tree that is to be seen, and a new level is one
-abbrev pub directoryVerdict : Place → Verdict
-directoryVerdict p = refuse (eqb p.level 0 && not (isDirectory (get_or p.nodes p.entry none))) ExpectedDirectory (Ok tt)
+abbrev pub directory_verdict : Place → Verdict
+directory_verdict p = refuse (eqb p.level 0 && not (is_directory (get_or p.nodes p.entry none))) ExpectedDirectory (Ok tt)
 
 -- into a directory that is not there yet
-abbrev pub newStep : Place → List ℕ → Result Place Refusal
-newStep p nm =
+abbrev pub new_step : Place → List ℕ → Result Place Refusal
+new_step p nm =
     cond (safe nm)
-    (Ok (record { nodes = p.nodes; start = p.start; entry = p.entry; level = p.level + 1; names = first p.names (plainVerdict nm) }))
+    (Ok (record { nodes = p.nodes; start = p.start; entry = p.entry; level = p.level + 1; names = first p.names (plain_verdict nm) }))
     (Err UnsafeName)
 
-abbrev pub backStep : Place → Result Place Refusal
-backStep p =
+abbrev pub back_step : Place → Result Place Refusal
+back_step p =
     cond (eqb p.level 0)
     (cond (eqb p.entry p.start) (Err NotFound) (Ok (moved p (parent_of p.nodes p.entry) 0)))
     (Ok (moved p p.entry (p.level - 1)))
 
-abbrev pub childStep : Place → Result ℕ Refusal → Result Place Refusal → Result Place Refusal
-childStep p (Ok j) missing = Ok (moved p j 0)
-childStep p (Err c) missing = missing
+abbrev pub child_step : Place → Result ℕ Refusal → Result Place Refusal → Result Place Refusal
+child_step p (Ok j) missing = Ok (moved p j 0)
+child_step p (Err c) missing = missing
 
 -- below the tree no name is there yet
-abbrev pub intoStep : Place → List ℕ → Result Place Refusal
-intoStep p nm = cond (eqb p.level 0) (childStep p (childOf p.nodes p.entry nm) (newStep p nm)) (newStep p nm)
+abbrev pub into_step : Place → List ℕ → Result Place Refusal
+into_step p nm = cond (eqb p.level 0) (child_step p (child_of p.nodes p.entry nm) (new_step p nm)) (new_step p nm)
 
 abbrev pub behind : Verdict → Result Place Refusal → Result Place Refusal
 behind (Ok _) r = r
@@ -64,24 +64,24 @@ behind (Err c) r = Err c
 
 unfoldable pub step_of : Place → List ℕ → Result Place Refusal
 step_of p nm =
-    behind (directoryVerdict p)
+    behind (directory_verdict p)
     (cond (stays nm) (Ok p)
-    (cond (goesBack nm) (backStep p)
-    (intoStep p nm)))
+    (cond (goes_back nm) (back_step p)
+    (into_step p nm)))
 
 -- the walk must end on a directory; 12 comes last
-abbrev pub lastVerdict : Place → Verdict
-lastVerdict p = first (directoryVerdict p) p.names
+abbrev pub last_verdict : Place → Verdict
+last_verdict p = first (directory_verdict p) p.names
 
 -- 15, then the troubles along the path
-abbrev pub pathTrouble : List Node → ℕ → List ℕ → Verdict
-pathTrouble nodes start path =
+abbrev pub path_trouble : List Node → ℕ → List ℕ → Verdict
+path_trouble nodes start path =
     refuse (leb (length nodes) start) NoSuchEntry
-    (troubleOf nodes start start 0 false (components path))
+    (trouble_of nodes start start 0 false (components path))
 
 -- a path over 1,024 bytes, 15, then the troubles along the path
-unfoldable pub pathVerdict : List Node → ℕ → List ℕ → Verdict
-pathVerdict nodes start path =
+unfoldable pub path_verdict : List Node → ℕ → List ℕ → Verdict
+path_verdict nodes start path =
     refuse (ltb 1024 (length path)) LimitOrMemory
     (refuse (leb (length nodes) start) NoSuchEntry
-    (madeVerdict (make nodes [] start false (components path))))
+    (made_verdict (make nodes [] start false (components path))))

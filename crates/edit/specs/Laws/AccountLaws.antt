@@ -5,26 +5,26 @@ use Rattle.std.proofs.Common.{sym, ap, ◌∙◌, arith}
 use Rattle.endian.specs.Bytes.{span}
 use Rattle.endian.specs.Laws.Stored.{length-span}
 use Rattle.refusal.specs.declared.Refusal.{Refusal}
-use Rattle.header.specs.Verdicts.{fstOffset, fstSize, discEnd, table_end}
+use Rattle.header.specs.Verdicts.{fst_offset, fst_size, disc_end, table_end}
 use Rattle.tree.specs.Table.{encode}
 use Rattle.space.specs.declared.region.DiscRegion.{DiscRegion}
-use Rattle.space.specs.Used.{usedRegions, totalSize}
-use Rattle.space.specs.Free.{largestSize}
-use Rattle.space.specs.Inner.Sort.{regionsIn}
+use Rattle.space.specs.Used.{used_regions, total_size}
+use Rattle.space.specs.Free.{largest_size}
+use Rattle.space.specs.Inner.Sort.{regions_in}
 use Rattle.space.specs.Laws.TotalLaws.{total-used}
 use Rattle.space.specs.declared.totals.Totals.{Totals}
-use Rattle.space.specs.Totals.{totalsVerdict}
-use Rattle.space.specs.Inner.Scan.{longestFrom, goneOf}
+use Rattle.space.specs.Totals.{totals_verdict}
+use Rattle.space.specs.Inner.Scan.{longest_from, gone_of}
 use Rattle.space.specs.Laws.LargestLaws.{largest-after}
 use Rattle.space.specs.Laws.TotalsLaws.{same-verdict, same-moved}
-use Rattle.executable.specs.Program.{programBehind}
-use Rattle.opened.specs.Opening.{nodesIn, behindTable, usedIn, usedOf, freeOf}
+use Rattle.executable.specs.Program.{program_behind}
+use Rattle.opened.specs.Opening.{nodes_in, behind_table, used_in, used_of, free_space_of}
 use Rattle.opened.proofs.Laws.OpeningLaws.{used-regions}
 use Rattle.opened.specs.Inner.Prepared.{IsOpen}
 use Rattle.opened.specs.Inner.Disc.{Disc, Means, disc_of}
-use Rattle.edits.specs.Change.{Change, tableVerdict, Plan, refused, nothing, change, filled}
-use Rattle.edits.specs.Edits.{noPlace, planVerdict, totalsTo}
-use Rattle.ledger.proofs.Laws.Files.{placesIn, used-files}
+use Rattle.edits.specs.Change.{Change, table_verdict_in, Plan, refused, nothing, change, filled}
+use Rattle.edits.specs.Edits.{no_place, plan_verdict, totals_to}
+use Rattle.ledger.proofs.Laws.Files.{places_in, used-files}
 use Rattle.ledger.proofs.Laws.Opened.{opened}
 use Rattle.ledger.proofs.Laws.Room as room-law
 use Rattle.ledger.proofs.Laws.Layout.{LaidOut, Lays}
@@ -32,41 +32,41 @@ use Rattle.edit.specs.declared.decision.Writing.{Writing}
 use Rattle.edit.specs.declared.decision.Decision.{Decision}
 use Rattle.edit.specs.declared.decision.Decision.TheVariants as decision
 use Rattle.edit.specs.Inner.Decision.{DecidedAs}
-use Rattle.edit.specs.Inner.Accounting.{OnDisc, Accounted, accounted, settledAs, movedBy, enteredAs, accountOf}
+use Rattle.edit.specs.Inner.Accounting.{OnDisc, Accounted, accounted, settled_as, moved_by, entered_as, account_of}
 
 -- ---- by what lies behind the table
 
-used-places : (image : List ℕ) → usedIn image ≡ usedRegions (table_end image) (placesIn image)
-unfolding usedIn behindTable
-used-places image = used-files (table_end image) (programBehind image) (nodesIn image)
+used-places : (image : List ℕ) → used_in image ≡ used_regions (table_end image) (places_in image)
+unfolding used_in behind_table
+used-places image = used-files (table_end image) (program_behind image) (nodes_in image)
 
-total-places : (image : List ℕ) → usedOf image ≡ table_end image + totalSize (placesIn image)
-unfolding usedOf behindTable
+total-places : (image : List ℕ) → used_of image ≡ table_end image + total_size (places_in image)
+unfolding used_of behind_table
 total-places image =
-    sym (total-used (table_end image) (behindTable image)) ∙ ap totalSize (used-files (table_end image) (programBehind image) (nodesIn image)) ∙ total-used (table_end image) (placesIn image)
+    sym (total-used (table_end image) (behind_table image)) ∙ ap total_size (used-files (table_end image) (program_behind image) (nodes_in image)) ∙ total-used (table_end image) (places_in image)
 
 module _ (image w : List ℕ) (m : ℕ) (o : IsOpen image w m) (image' : List ℕ) (size : ℕ) (old new : DiscRegion) (l : LaidOut image image' size old new) where
   -- LAW: what the table and the edited file gain and lose is the change of used bytes
-  pub used-moves : (size + new.size) + usedOf image ≡ (fstSize image + old.size) + usedOf image'
+  pub used-moves : (size + new.size) + used_of image ≡ (fst_size image + old.size) + used_of image'
   used-moves = omega (arith, total-places image, total-places image', l.start, l.table, l.places.total)
 
   -- LAW: the used regions in the words tell the largest free region of the new image
-  largest-moves : longestFrom (discEnd image) (goneOf old) new (fstOffset image + size) 0 (regionsIn w 1 (m - 1)) ≡ largestSize (freeOf image')
-  unfolding freeOf
+  largest-moves : longest_from (disc_end image) (gone_of old) new (fst_offset image + size) 0 (regions_in w 1 (m - 1)) ≡ largest_size (free_space_of image')
+  unfolding free_space_of
   largest-moves =
       let q = opened image (length w) o.known.passed o.known.bytes in
       let u = used-places image in
-      let e : table_end image' ≡ fstOffset image + size = omega (arith, l.start, l.table) in
-      largest-after w m (discEnd image) (table_end image) (fstOffset image + size) (placesIn image) (placesIn image') old new o.used.sorted (omega (arith, q.bounds.after-header))
+      let e : table_end image' ≡ fst_offset image + size = omega (arith, l.start, l.table) in
+      largest-after w m (disc_end image) (table_end image) (fst_offset image + size) (places_in image) (places_in image') old new o.used.sorted (omega (arith, q.bounds.after-header))
       (λ r. rw (← u) (used-regions image w m o.used r)) (rw (← u) q.regions) l.held l.fits l.clear l.places
       ∙ rw (used-places image', e, l.end)
 
   -- LAW: so the record moves to the totals of the new image
-  pub moves : (t : Totals) → enteredAs image (regionsIn w 1 (m - 1)) t size old new ≡ movedBy t (usedOf image) (usedOf image') (largestSize (freeOf image'))
+  pub moves : (t : Totals) → entered_as image (regions_in w 1 (m - 1)) t size old new ≡ moved_by t (used_of image) (used_of image') (largest_size (free_space_of image'))
   moves t =
-      let before : ℕ = fstSize image + old.size in
+      let before : ℕ = fst_size image + old.size in
       let after : ℕ = size + new.size in
-      rw (largest-moves, same-verdict t before after (usedOf image) (usedOf image') used-moves, same-moved t before after (usedOf image) (usedOf image') used-moves (largestSize (freeOf image')))
+      rw (largest-moves, same-verdict t before after (used_of image) (used_of image') used-moves, same-moved t before after (used_of image) (used_of image') used-moves (largest_size (free_space_of image')))
 
 -- ---- what is decided on
 
@@ -82,9 +82,9 @@ table-size bytes table room size long held e = ap length (sym e) ∙ length-span
 module _ (image w : List ℕ) (m room : ℕ) (bytes : List ℕ) (long : length bytes ≡ room) (t : Totals) (o : IsOpen image w m) (image' : List ℕ) where
   -- the plan's tests, and then 25
   abbrev pub tested : Plan → Verdict
-  tested p = first (planVerdict p image (length w) room) (totalsVerdict t (usedOf image) (usedOf image'))
+  tested p = first (plan_verdict p image (length w) room) (totals_verdict t (used_of image) (used_of image'))
 
-  refused-entered : (p : Plan) (c : Refusal) → Err c ≡ planVerdict p image (length w) room → Entered (tested p) (Err c) t (totalsTo t image image') (accounted (Err c) t)
+  refused-entered : (p : Plan) (c : Refusal) → Err c ≡ plan_verdict p image (length w) room → Entered (tested p) (Err c) t (totals_to t image image') (accounted (Err c) t)
   refused-entered p c h =
       let e : tested p ≡ Err c = rw (← h) in
       record {
@@ -92,34 +92,34 @@ module _ (image w : List ℕ) (m room : ℕ) (bytes : List ℕ) (long : length b
         refused = λ x q. let y : Err c ≡ Err x = sym e ∙ q in cc;
       }
 
-  moved-entered : (p : Plan) (d : Decision) (a : Accounted) → Ok tt ≡ planVerdict p image (length w) room → a ≡ settledAs d (movedBy t (usedOf image) (usedOf image') (largestSize (freeOf image'))) →
-      Entered (tested p) (Ok d) t (totalsTo t image image') a
+  moved-entered : (p : Plan) (d : Decision) (a : Accounted) → Ok tt ≡ plan_verdict p image (length w) room → a ≡ settled_as d (moved_by t (used_of image) (used_of image') (largest_size (free_space_of image'))) →
+      Entered (tested p) (Ok d) t (totals_to t image image') a
   moved-entered p d a h e = record { passed = λ q. e ∙ go q; refused = λ c q. e ∙ stop c q }
     where
-      25-is : tested p ≡ totalsVerdict t (usedOf image) (usedOf image')
+      25-is : tested p ≡ totals_verdict t (used_of image) (used_of image')
       25-is = rw (← h)
 
-      go : tested p ≡ Ok tt → settledAs d (movedBy t (usedOf image) (usedOf image') (largestSize (freeOf image'))) ≡ accounted (Ok d) (totalsTo t image image')
+      go : tested p ≡ Ok tt → settled_as d (moved_by t (used_of image) (used_of image') (largest_size (free_space_of image'))) ≡ accounted (Ok d) (totals_to t image image')
       go q = rw (sym 25-is ∙ q)
 
-      stop : (c : Refusal) → tested p ≡ Err c → settledAs d (movedBy t (usedOf image) (usedOf image') (largestSize (freeOf image'))) ≡ accounted (Err c) t
+      stop : (c : Refusal) → tested p ≡ Err c → settled_as d (moved_by t (used_of image) (used_of image') (largest_size (free_space_of image'))) ≡ accounted (Err c) t
       stop c q = rw (sym 25-is ∙ q)
 
   -- nothing is written but a clip
-  none-entered : (p : Plan) (d : Decision) → Ok tt ≡ planVerdict p image (length w) room → Lays nothing image image' →
-      Entered (tested p) (Ok d) t (totalsTo t image image') (settledAs d (enteredAs image (regionsIn w 1 (m - 1)) t (fstSize image) noPlace noPlace))
-  none-entered p d h l = moved-entered p d _ h (ap (settledAs d) (moves image w m o image' (fstSize image) noPlace noPlace l.0 t))
+  none-entered : (p : Plan) (d : Decision) → Ok tt ≡ plan_verdict p image (length w) room → Lays nothing image image' →
+      Entered (tested p) (Ok d) t (totals_to t image image') (settled_as d (entered_as image (regions_in w 1 (m - 1)) t (fst_size image) no_place no_place))
+  none-entered p d h l = moved-entered p d _ h (ap (settled_as d) (moves image w m o image' (fst_size image) no_place no_place l.0 t))
 
   -- a table is
-  write-entered : (p : Plan) (k : ℕ) (c : Change) (n size : ℕ) (x : Writing) → Ok tt ≡ planVerdict p image (length w) room → Lays (change k c) image image' → length (encode c.nodes) ≡ size → c.old ≡ x.old → c.place ≡ x.place →
-      Entered (tested p) (Ok (decision.Write n size x)) t (totalsTo t image image') (accountOf image (regionsIn w 1 (m - 1)) (Ok (decision.Write n size x)) t)
+  write-entered : (p : Plan) (k : ℕ) (c : Change) (n size : ℕ) (x : Writing) → Ok tt ≡ plan_verdict p image (length w) room → Lays (change k c) image image' → length (encode c.nodes) ≡ size → c.old ≡ x.old → c.place ≡ x.place →
+      Entered (tested p) (Ok (decision.Write n size x)) t (totals_to t image image') (account_of image (regions_in w 1 (m - 1)) (Ok (decision.Write n size x)) t)
   write-entered p k c n size x h l l₀ eo ep =
       let s : LaidOut image image' size x.old x.place = rw (l₀, eo, ep) at l in
-      moved-entered p (decision.Write n size x) _ h (ap (settledAs (decision.Write n size x)) (moves image w m o image' size x.old x.place s t))
+      moved-entered p (decision.Write n size x) _ h (ap (settled_as (decision.Write n size x)) (moves image w m o image' size x.old x.place s t))
 
   -- LAW: of what a plan comes to, whose layout the new image has
-  pub entered : (p : Plan) (clip : List ℕ) (d : Result Decision Refusal) → DecidedAs (planVerdict p image (length w) room) p image room bytes clip d → (planVerdict p image (length w) room ≡ Ok tt → Lays p image image') →
-      Entered (tested p) d t (totalsTo t image image') (accountOf image (regionsIn w 1 (m - 1)) d t)
+  pub entered : (p : Plan) (clip : List ℕ) (d : Result Decision Refusal) → DecidedAs (plan_verdict p image (length w) room) p image room bytes clip d → (plan_verdict p image (length w) room ≡ Ok tt → Lays p image image') →
+      Entered (tested p) d t (totals_to t image image') (account_of image (regions_in w 1 (m - 1)) d t)
   entered p clip (Err c) h l = refused-entered p c h.answer
   entered (refused v) clip (Ok decision.Nothing) h l = absurd h.carries
   entered nothing clip (Ok decision.Nothing) h l = none-entered nothing decision.Nothing refl (l refl)
@@ -147,13 +147,13 @@ module _ (image w : List ℕ) (m room : ℕ) (bytes : List ℕ) (long : length b
 
 -- LAW: a table that is to be written ends on the disc
 module _ (d : Disc) (image : List ℕ) (m : Means image d) (room : ℕ) (bytes clip : List ℕ) (long : length bytes ≡ room) where
-  table-ends : (c : Change) (size : ℕ) → tableVerdict c image d.words room ≡ Ok tt → size ≤ room → span bytes 0 size ≡ encode c.nodes → d.start + size ≤ d.end
+  table-ends : (c : Change) (size : ℕ) → table_verdict_in c image d.words room ≡ Ok tt → size ≤ room → span bytes 0 size ≡ encode c.nodes → d.start + size ≤ d.end
   table-ends c size v held e =
-      let start : fstOffset image ≡ d.start = ap (λ (x : Disc). x.start) m.is in
-      let end : discEnd image ≡ d.end = ap (λ (x : Disc). x.end) m.is in
+      let start : fst_offset image ≡ d.start = ap (λ (x : Disc). x.start) m.is in
+      let end : disc_end image ≡ d.end = ap (λ (x : Disc). x.end) m.is in
       rw (start, end, table-size bytes (encode c.nodes) room size long held e) at (room-law.room c image d.words room (opened image d.words m.known.passed m.known.bytes) v).end
 
-  pub on-disc : (p : Plan) (r : Result Decision Refusal) → DecidedAs (planVerdict p image d.words room) p image room bytes clip r → OnDisc d r
+  pub on-disc : (p : Plan) (r : Result Decision Refusal) → DecidedAs (plan_verdict p image d.words room) p image room bytes clip r → OnDisc d r
   on-disc p (Err c) h = tt
   on-disc p (Ok decision.Nothing) h = tt
   on-disc p (Ok (decision.Clip n at)) h = tt
@@ -166,7 +166,7 @@ module _ (d : Disc) (image : List ℕ) (m : Means image d) (room : ℕ) (bytes c
   on-disc (filled k y (filled j z p)) (Ok (decision.Write n size w)) h = absurd h.carries
 
 -- LAW: what is decided on may be entered in the record
-pub may-account : (p : Plan) (image w : List ℕ) (m room : ℕ) (bytes clip : List ℕ) (d : Result Decision Refusal) → DecidedAs (planVerdict p image (length w) room) p image room bytes clip d → IsOpen image w m → length bytes ≡ room →
+pub may-account : (p : Plan) (image w : List ℕ) (m room : ℕ) (bytes clip : List ℕ) (d : Result Decision Refusal) → DecidedAs (plan_verdict p image (length w) room) p image room bytes clip d → IsOpen image w m → length bytes ≡ room →
     IsOpen image w m × OnDisc (disc_of image (length w)) d
 may-account p image w m room bytes clip d h o long =
     (o, on-disc (disc_of image (length w)) image (record { known = o.known; is = refl }) room bytes clip long p d h)

@@ -8,11 +8,11 @@ use Rattle.refusal.specs.declared.Refusal.{Refusal}
 use Rattle.refusal.specs.declared.Refusal.TheVariants.{UnsafeName, NoSuchEntry, ExpectedDirectory, AlreadyExists}
 use Rattle.refusal.specs.Laws.Chains.{refuse-passed}
 use Rattle.tree.specs.Table.{Node, directory, name_of, none, safe}
-use Rattle.tree.specs.Lookup.{isDirectory, childOf, lookup}
-use Rattle.tree.specs.Insert.{insertAt, shifted}
+use Rattle.tree.specs.Lookup.{is_directory, child_of, lookup}
+use Rattle.tree.specs.Insert.{insert_at, shifted}
 use Rattle.tree.proofs.Laws.InsertedList.{Nested, Fresh, inserted-at, p<q}
 use Rattle.tree.proofs.Laws.ChildInsert.{shifted-low, child-new}
-use Rattle.edits.specs.Edits.{newNumber, isFound, insertVerdict}
+use Rattle.edits.specs.Edits.{new_number, is_found, insert_verdict}
 use Rattle.tree.proofs.Laws.Renumbered.{directory-is, Renumbered, renumbered-insert, looked-up}
 use Rattle.tree.proofs.Laws.Paths.{lookup-child, lookup-behind}
 
@@ -20,27 +20,27 @@ use Rattle.tree.proofs.Laws.Paths.{lookup-child, lookup-behind}
 record Open (nodes : List Node) (p : ℕ) (nm : List ℕ) : Type 0 where
   inside : p < length nodes
   good : safe nm ≡ true
-  parent : isDirectory (get_or nodes p none) ≡ true
+  parent : is_directory (get_or nodes p none) ≡ true
   cause : Refusal
-  missing : childOf nodes p nm ≡ Err cause
+  missing : child_of nodes p nm ≡ Err cause
 
-opened : (nodes : List Node) (p : ℕ) (nm : List ℕ) → insertVerdict nodes p nm ≡ Ok tt → Open nodes p nm
-unfolding insertVerdict
+opened : (nodes : List Node) (p : ℕ) (nm : List ℕ) → insert_verdict nodes p nm ≡ Ok tt → Open nodes p nm
+unfolding insert_verdict
 opened nodes p nm v =
     let v₁ = refuse-passed (leb (length nodes) p) NoSuchEntry _ v in
     let v₂ = refuse-passed (not (safe nm)) UnsafeName _ v₁.1 in
-    let v₃ = refuse-passed (not (isDirectory (get_or nodes p none))) ExpectedDirectory _ v₂.1 in
-    let v₄ = refuse-passed (isFound (childOf nodes p nm)) AlreadyExists _ v₃.1 in
-    let m = missing (childOf nodes p nm) v₄.0 in
-    record { inside = leb-false _ _ v₁.0; good = not-false (safe nm) v₂.0; parent = not-false (isDirectory (get_or nodes p none)) v₃.0; cause = m.0; missing = m.1 }
+    let v₃ = refuse-passed (not (is_directory (get_or nodes p none))) ExpectedDirectory _ v₂.1 in
+    let v₄ = refuse-passed (is_found (child_of nodes p nm)) AlreadyExists _ v₃.1 in
+    let m = missing (child_of nodes p nm) v₄.0 in
+    record { inside = leb-false _ _ v₁.0; good = not-false (safe nm) v₂.0; parent = not-false (is_directory (get_or nodes p none)) v₃.0; cause = m.0; missing = m.1 }
   where
-    missing : (a : Result ℕ Refusal) → isFound a ≡ false → (r : Refusal) × (a ≡ Err r)
+    missing : (a : Result ℕ Refusal) → is_found a ≡ false → (r : Refusal) × (a ≡ Err r)
     missing (Ok k) e = let z : ◌≡◌ {A = ℕ} 0 1 = cc in absurd (omega arith)
     missing (Err r) e = (r, refl)
 
-module _ (nodes : List Node) (w : Nested nodes) (p : ℕ) (new : Node) (v : insertVerdict nodes p (name_of new) ≡ Ok tt) (fresh : Fresh (newNumber nodes p) new) where
+module _ (nodes : List Node) (w : Nested nodes) (p : ℕ) (new : Node) (v : insert_verdict nodes p (name_of new) ≡ Ok tt) (fresh : Fresh (new_number nodes p) new) where
   abbrev q : ℕ
-  q = newNumber nodes p
+  q = new_number nodes p
 
   o : Open nodes p (name_of new)
   o = opened nodes p (name_of new) v
@@ -51,30 +51,30 @@ module _ (nodes : List Node) (w : Nested nodes) (p : ℕ) (new : Node) (v : inse
   low : shifted q p ≡ p
   low = shifted-low q p (p<q nodes p q dir.0 new w dir.1 o.inside)
 
-  numbers : Renumbered nodes (insertAt p new nodes) (shifted q)
+  numbers : Renumbered nodes (insert_at p new nodes) (shifted q)
   numbers = renumbered-insert nodes p q dir.0 new w dir.1 o.inside fresh
 
-  parent-there : (isDirectory (get_or (insertAt p new nodes) p none) ≡ true) × (p < length (insertAt p new nodes))
+  parent-there : (is_directory (get_or (insert_at p new nodes) p none) ≡ true) × (p < length (insert_at p new nodes))
   parent-there = (rw low at (numbers.kinds p o.inside) ∙ o.parent, rw low at (numbers.inside p o.inside))
 
-  child : childOf (insertAt p new nodes) p (name_of new) ≡ Ok q
+  child : child_of (insert_at p new nodes) p (name_of new) ≡ Ok q
   child = child-new nodes p q dir.0 new w dir.1 o.inside fresh o.cause o.missing
 
   -- THEOREM: the entry with the number is the new one
-  pub new-entry : get_or (insertAt p new nodes) q none ≡ new
+  pub new-entry : get_or (insert_at p new nodes) q none ≡ new
   new-entry = inserted-at nodes p q dir.0 new w dir.1 o.inside
 
   -- THEOREM: the name, from the parent, leads to it
-  pub new-found : lookup (insertAt p new nodes) p (name_of new) ≡ Ok q
-  new-found = lookup-child (insertAt p new nodes) p (name_of new) q parent-there.0 o.good child parent-there.1
+  pub new-found : lookup (insert_at p new nodes) p (name_of new) ≡ Ok q
+  new-found = lookup-child (insert_at p new nodes) p (name_of new) q parent-there.0 o.good child parent-there.1
 
   -- THEOREM: and so does a path that led to the parent, with the name behind it; the path's start may have moved
-  pub new-behind : (start : ℕ) (path : List ℕ) → lookup nodes start path ≡ Ok p → lookup (insertAt p new nodes) (shifted q start) (path ++ (0x2F ∷ name_of new)) ≡ Ok q
+  pub new-behind : (start : ℕ) (path : List ℕ) → lookup nodes start path ≡ Ok p → lookup (insert_at p new nodes) (shifted q start) (path ++ (0x2F ∷ name_of new)) ≡ Ok q
   new-behind start path e =
-      lookup-behind (insertAt p new nodes) p (name_of new) q parent-there.0 o.good child (shifted q start) path (rw low at (looked-up nodes (insertAt p new nodes) (shifted q) w numbers start path p e))
+      lookup-behind (insert_at p new nodes) p (name_of new) q parent-there.0 o.good child (shifted q start) path (rw low at (looked-up nodes (insert_at p new nodes) (shifted q) w numbers start path p e))
 
   -- the root's number stays
-  pub new-from-root : (path : List ℕ) → lookup nodes 0 path ≡ Ok p → lookup (insertAt p new nodes) 0 (path ++ (0x2F ∷ name_of new)) ≡ Ok q
+  pub new-from-root : (path : List ℕ) → lookup nodes 0 path ≡ Ok p → lookup (insert_at p new nodes) 0 (path ++ (0x2F ∷ name_of new)) ≡ Ok q
   new-from-root path e =
       let z : shifted q 0 ≡ 0 = shifted-low q 0 (omega (arith, p<q nodes p q dir.0 new w dir.1 o.inside)) in
       rw z at (new-behind 0 path e)

@@ -6,13 +6,13 @@ use Rattle.std.proofs.Common.{arith}
 use Rattle.refusal.specs.declared.Refusal.TheVariants.{UnsafeName, ExpectedDirectory}
 use Rattle.tree.specs.Table.{Node, directory, none, plain, safe}
 use Rattle.tree.specs.Inner.WellFormed.{WellFormed}
-use Rattle.tree.specs.Lookup.{isDirectory, stays, goesBack, childOf}
-use Rattle.tree.specs.Insert.{insertAt, emptyDirectory}
+use Rattle.tree.specs.Lookup.{is_directory, stays, goes_back, child_of}
+use Rattle.tree.specs.Insert.{insert_at, empty_directory}
 use Rattle.tree.proofs.Laws.LookupLaws.{child-inside}
 use Rattle.tree.proofs.Laws.WellNested.{next-bounds}
 use Rattle.tree.proofs.Laws.InsertLaws.{length-insert}
 use Rattle.tree.proofs.Laws.Growing.{Bigger, bigger-same, bigger-trans, bigger-insert}
-use Rattle.edits.specs.Edits.{newNumber, stopped, made, madeBack, ifFound, make}
+use Rattle.edits.specs.Edits.{new_number, stopped, made, made_back, if_found, make}
 use Rattle.edits.proofs.Laws.Troubles.{directory-is}
 use Rattle.edits.proofs.Laws.Making.{or-not}
 
@@ -21,22 +21,22 @@ use Rattle.edits.proofs.Laws.Making.{or-not}
 -- a bad name is not forgotten
 pub bad-stays : (cs : List (List ℕ)) (M : List Node) (trail : List ℕ) (k : ℕ) (F : List Node) (j : ℕ) → make M trail k true cs ≡ made F j false → ⊥
 unfolding make
-bad-stays [] M trail k F j e = go (isDirectory (get_or M k none)) e
+bad-stays [] M trail k F j e = go (is_directory (get_or M k none)) e
   where
     go : (t : Bool) → cond t (made M k true) (stopped ExpectedDirectory) ≡ made F j false → ⊥
     go true q = let z : ◌≡◌ {A = ℕ} 0 1 = cc in omega arith
     go false q = let z : ◌≡◌ {A = ℕ} 0 1 = cc in omega arith
-bad-stays (c ∷ cs) M trail k F j e = go (isDirectory (get_or M k none)) (stays c) (goesBack c) trail (childOf M k c) (safe c) (λ m t i. bad-stays cs m t i F j) e
+bad-stays (c ∷ cs) M trail k F j e = go (is_directory (get_or M k none)) (stays c) (goes_back c) trail (child_of M k c) (safe c) (λ m t i. bad-stays cs m t i F j) e
   where
     go : (t u v : Bool) (tr : List ℕ) (a : Result ℕ Refusal) (w : Bool) → ((m : List Node) (t : List ℕ) (i : ℕ) → make m t i true cs ≡ made F j false → ⊥) →
-        cond t (cond u (make M trail k true cs) (cond v (madeBack tr (λ i rest. make M rest i true cs)) (ifFound a (λ i. make M (k ∷ trail) i true cs)
-        (cond w (make (insertAt k (emptyDirectory c (newNumber M k)) M) (k ∷ trail) (newNumber M k) true cs) (stopped UnsafeName))))) (stopped ExpectedDirectory) ≡ made F j false → ⊥
+        cond t (cond u (make M trail k true cs) (cond v (made_back tr (λ i rest. make M rest i true cs)) (if_found a (λ i. make M (k ∷ trail) i true cs)
+        (cond w (make (insert_at k (empty_directory c (new_number M k)) M) (k ∷ trail) (new_number M k) true cs) (stopped UnsafeName))))) (stopped ExpectedDirectory) ≡ made F j false → ⊥
     go false u v tr a w ih q = let z : ◌≡◌ {A = ℕ} 0 1 = cc in omega arith
     go true true v tr a w ih q = ih M trail k q
     go true false true [] a w ih q = let z : ◌≡◌ {A = ℕ} 0 1 = cc in omega arith
     go true false true (i ∷ rest) a w ih q = ih M rest i q
     go true false false tr (Ok i) w ih q = ih M (k ∷ trail) i q
-    go true false false tr (Err r) true ih q = ih (insertAt k (emptyDirectory c (newNumber M k)) M) (k ∷ trail) (newNumber M k) q
+    go true false false tr (Err r) true ih q = ih (insert_at k (empty_directory c (new_number M k)) M) (k ∷ trail) (new_number M k) q
     go true false false tr (Err r) false ih q = let z : ◌≡◌ {A = ℕ} 0 1 = cc in omega arith
 
 abbrev pub AllLt : ℕ → List ℕ → Type 0
@@ -50,7 +50,7 @@ lt-more n m (t ∷ trail) h a = (omega arith, lt-more n m trail h a.1)
 grows : (cs : List (List ℕ)) (M : List Node) (trail : List ℕ) (k : ℕ) (bad : Bool) (F : List Node) (j : ℕ) → WellFormed M → k < length M → AllLt (length M) trail →
     make M trail k bad cs ≡ made F j false → Bigger M F × (j < length F)
 unfolding make
-grows [] M trail k bad F j w h a e = go (isDirectory (get_or M k none)) e
+grows [] M trail k bad F j w h a e = go (is_directory (get_or M k none)) e
   where
     go : (t : Bool) → cond t (made M k bad) (stopped ExpectedDirectory) ≡ made F j false → Bigger M F × (j < length F)
     go true q =
@@ -59,24 +59,24 @@ grows [] M trail k bad F j w h a e = go (isDirectory (get_or M k none)) e
         rw (← m, ← k≡) (bigger-same M w, h)
     go false q = let z : ◌≡◌ {A = ℕ} 0 1 = cc in absurd (omega arith)
 grows (c ∷ cs) M trail k bad F j w h a e =
-    go (isDirectory (get_or M k none)) refl (stays c) (goesBack c) trail a (childOf M k c) refl (safe c) refl (λ m t i b. grows cs m t i b F j) e
+    go (is_directory (get_or M k none)) refl (stays c) (goes_back c) trail a (child_of M k c) refl (safe c) refl (λ m t i b. grows cs m t i b F j) e
   where
-    more : (nm : List ℕ) → get_or M k none ≡ directory nm (newNumber M k) → safe c ≡ true → (b : Bool) → plain c ≡ b →
+    more : (nm : List ℕ) → get_or M k none ≡ directory nm (new_number M k) → safe c ≡ true → (b : Bool) → plain c ≡ b →
         ((m : List Node) (t : List ℕ) (i : ℕ) (bd : Bool) → WellFormed m → i < length m → AllLt (length m) t → make m t i bd cs ≡ made F j false → Bigger m F × (j < length F)) →
-        make (insertAt k (emptyDirectory c (newNumber M k)) M) (k ∷ trail) (newNumber M k) (bad || not b) cs ≡ made F j false → Bigger M F × (j < length F)
+        make (insert_at k (empty_directory c (new_number M k)) M) (k ∷ trail) (new_number M k) (bad || not b) cs ≡ made F j false → Bigger M F × (j < length F)
     more nm d ok true pl ih q =
-        let n : ℕ = newNumber M k in
-        let g : Bigger M (insertAt k (emptyDirectory c n) M) = bigger-insert M k n nm (emptyDirectory c n) w d h (pl, ok) refl in
-        let l : length (insertAt k (emptyDirectory c n) M) ≡ suc (length M) = length-insert M k n nm (emptyDirectory c n) w d h in
+        let n : ℕ = new_number M k in
+        let g : Bigger M (insert_at k (empty_directory c n) M) = bigger-insert M k n nm (empty_directory c n) w d h (pl, ok) refl in
+        let l : length (insert_at k (empty_directory c n) M) ≡ suc (length M) = length-insert M k n nm (empty_directory c n) w d h in
         let b : (k < n) × (n ≤ length M) = next-bounds M k n nm w d h in
-        let f = ih (insertAt k (emptyDirectory c n) M) (k ∷ trail) n (bad || false) g.well (omega arith) (omega arith, lt-more (length M) _ trail (omega arith) a) q in
-        (bigger-trans M (insertAt k (emptyDirectory c n) M) F g f.0, f.1)
-    more nm d ok false pl ih q = absurd (bad-stays cs (insertAt k (emptyDirectory c (newNumber M k)) M) (k ∷ trail) (newNumber M k) F j (rw (or-not bad false refl) at q))
+        let f = ih (insert_at k (empty_directory c n) M) (k ∷ trail) n (bad || false) g.well (omega arith) (omega arith, lt-more (length M) _ trail (omega arith) a) q in
+        (bigger-trans M (insert_at k (empty_directory c n) M) F g f.0, f.1)
+    more nm d ok false pl ih q = absurd (bad-stays cs (insert_at k (empty_directory c (new_number M k)) M) (k ∷ trail) (new_number M k) F j (rw (or-not bad false refl) at q))
 
-    go : (t : Bool) → isDirectory (get_or M k none) ≡ t → (u v : Bool) (tr : List ℕ) → AllLt (length M) tr → (x : Result ℕ Refusal) → childOf M k c ≡ x → (y : Bool) → safe c ≡ y →
+    go : (t : Bool) → is_directory (get_or M k none) ≡ t → (u v : Bool) (tr : List ℕ) → AllLt (length M) tr → (x : Result ℕ Refusal) → child_of M k c ≡ x → (y : Bool) → safe c ≡ y →
         ((m : List Node) (t : List ℕ) (i : ℕ) (bd : Bool) → WellFormed m → i < length m → AllLt (length m) t → make m t i bd cs ≡ made F j false → Bigger m F × (j < length F)) →
-        cond t (cond u (make M trail k bad cs) (cond v (madeBack tr (λ i rest. make M rest i bad cs)) (ifFound x (λ i. make M (k ∷ trail) i bad cs)
-        (cond y (make (insertAt k (emptyDirectory c (newNumber M k)) M) (k ∷ trail) (newNumber M k) (bad || not (plain c)) cs) (stopped UnsafeName))))) (stopped ExpectedDirectory) ≡ made F j false → Bigger M F × (j < length F)
+        cond t (cond u (make M trail k bad cs) (cond v (made_back tr (λ i rest. make M rest i bad cs)) (if_found x (λ i. make M (k ∷ trail) i bad cs)
+        (cond y (make (insert_at k (empty_directory c (new_number M k)) M) (k ∷ trail) (new_number M k) (bad || not (plain c)) cs) (stopped UnsafeName))))) (stopped ExpectedDirectory) ≡ made F j false → Bigger M F × (j < length F)
     go false d u v tr al x x≡ y y≡ ih q = let z : ◌≡◌ {A = ℕ} 0 1 = cc in absurd (omega arith)
     go true d true v tr al x x≡ y y≡ ih q = ih M trail k bad w h a q
     go true d false true [] al x x≡ y y≡ ih q = let z : ◌≡◌ {A = ℕ} 0 1 = cc in absurd (omega arith)

@@ -11,12 +11,12 @@ use Rattle.std.proofs.Math.ListN.{length}
 use Rattle.refusal.specs.declared.Refusal.{Refusal}
 use Rattle.refusal.specs.declared.Refusal.TheVariants.{ExpectedDirectory, UnsafeName}
 use Rattle.tree.specs.Table.{Node, none, plain, safe}
-use Rattle.tree.specs.Lookup.{isDirectory, components, stays, goesBack, childOf, follow, lookup}
-use Rattle.tree.specs.Insert.{insertAt, emptyDirectory, shifted}
+use Rattle.tree.specs.Lookup.{is_directory, components, stays, goes_back, child_of, follow, lookup}
+use Rattle.tree.specs.Insert.{insert_at, empty_directory, shifted}
 use Rattle.tree.proofs.Laws.InsertedList.{Nested, length_inserted, p<q, q≤n}
 use Rattle.tree.proofs.Laws.NestedInsert.{nested-insert}
 use Rattle.tree.proofs.Laws.ChildInsert.{shifted-low, child-new}
-use Rattle.edits.specs.Edits.{newNumber, stopped, made, madeBack, ifFound, make}
+use Rattle.edits.specs.Edits.{new_number, stopped, made, made_back, if_found, make}
 use Rattle.tree.proofs.Laws.Renumbered.{directory-is, Renumbered, renumbered-same, renumbered-then, renumbered-insert, Falling, from_start, child-within}
 
 -- the numbers of a trail that stand before q stay
@@ -30,13 +30,13 @@ record Walked (M : List Node) (start : ℕ) (trail : List ℕ) (k : ℕ) (cs : L
   numbers : Renumbered M F φ
   begins : φ start ≡ start
   ends : follow F (map φ trail) (φ k) cs ≡ Ok j
-  kind : isDirectory (get_or F j none) ≡ true
+  kind : is_directory (get_or F j none) ≡ true
 
 abbrev Walks : ℕ → List Node → ℕ → Bool → List (List ℕ) → Type 0
 Walks start F j b cs = (M : List Node) (trail : List ℕ) (k : ℕ) (bad : Bool) → Nested M → k < length M → Falling start trail k → make M trail k bad cs ≡ made F j b → Walked M start trail k cs F j
 
 module _ (start : ℕ) (F : List Node) (j : ℕ) (b : Bool) (c : List ℕ) (cs : List (List ℕ)) (ih : Walks start F j b cs) (M : List Node) (k : ℕ) (bad : Bool) (n : Nested M) (h : k < length M)
-    (dir : isDirectory (get_or M k none) ≡ true) where
+    (dir : is_directory (get_or M k none) ≡ true) where
   stay : (trail : List ℕ) → stays c ≡ true → Falling start trail k → make M trail k bad cs ≡ made F j b → Walked M start trail k (c ∷ cs) F j
   unfolding follow
   stay trail s f e =
@@ -44,37 +44,37 @@ module _ (start : ℕ) (F : List Node) (j : ℕ) (b : Bool) (c : List ℕ) (cs :
       record { φ = w.φ; numbers = w.numbers; begins = w.begins; ends = rw (w.numbers.kinds k h, dir, s) w.ends; kind = w.kind }
 
   module _ (s : stays c ≡ false) where
-    back : goesBack c ≡ true → (trail : List ℕ) → Falling start trail k → madeBack trail (λ i rest. make M rest i bad cs) ≡ made F j b → Walked M start trail k (c ∷ cs) F j
+    back : goes_back c ≡ true → (trail : List ℕ) → Falling start trail k → made_back trail (λ i rest. make M rest i bad cs) ≡ made F j b → Walked M start trail k (c ∷ cs) F j
     unfolding follow
     back g [] f e = let z : ◌≡◌ {A = ℕ} 0 1 = cc in absurd (omega arith)
     back g (i ∷ rest) f e =
         let w = ih M rest i bad n (omega (arith, f.0)) f.1 e in
         record { φ = w.φ; numbers = w.numbers; begins = w.begins; ends = rw (w.numbers.kinds k h, dir, s, g) w.ends; kind = w.kind }
 
-    module _ (g : goesBack c ≡ false) (trail : List ℕ) (f : Falling start trail k) where
-      found : (i : ℕ) → childOf M k c ≡ Ok i → make M (k ∷ trail) i bad cs ≡ made F j b → Walked M start trail k (c ∷ cs) F j
+    module _ (g : goes_back c ≡ false) (trail : List ℕ) (f : Falling start trail k) where
+      found : (i : ℕ) → child_of M k c ≡ Ok i → make M (k ∷ trail) i bad cs ≡ made F j b → Walked M start trail k (c ∷ cs) F j
       unfolding follow
       found i a e =
           let x = child-within M k c i n h dir a in
           let w = ih M (k ∷ trail) i bad n x.1 (x.0, f) e in
           record { φ = w.φ; numbers = w.numbers; begins = w.begins; ends = rw (w.numbers.kinds k h, dir, s, g, w.numbers.children k c i h a) w.ends; kind = w.kind }
 
-      added : (r : Refusal) → childOf M k c ≡ Err r → (bad' : Bool) → make (insertAt k (emptyDirectory c (newNumber M k)) M) (k ∷ trail) (newNumber M k) bad' cs ≡ made F j b →
+      added : (r : Refusal) → child_of M k c ≡ Err r → (bad' : Bool) → make (insert_at k (empty_directory c (new_number M k)) M) (k ∷ trail) (new_number M k) bad' cs ≡ made F j b →
           Walked M start trail k (c ∷ cs) F j
       unfolding follow
       added r a bad' e =
-          let q : ℕ = newNumber M k in
-          let new : Node = emptyDirectory c q in
+          let q : ℕ = new_number M k in
+          let new : Node = empty_directory c q in
           let x = directory-is (get_or M k none) dir in
           let l : k < q = p<q M k q x.0 new n x.1 h in
           let u : q ≤ length M = q≤n M k q x.0 new n x.1 h in
           let n' = nested-insert M k q x.0 new n x.1 h refl in
-          let w = ih (insertAt k new M) (k ∷ trail) q bad' n' (omega (arith, length_inserted M k q x.0 new n x.1 h)) (l, f) e in
+          let w = ih (insert_at k new M) (k ∷ trail) q bad' n' (omega (arith, length_inserted M k q x.0 new n x.1 h)) (l, f) e in
           let m = renumbered-insert M k q x.0 new n x.1 h refl in
           let k≡ : shifted q k ≡ k = shifted-low q k l in
           let s≡ : shifted q start ≡ start = shifted-low q start (omega (arith, from_start start trail k f)) in
-          let a' : childOf (insertAt k new M) k c ≡ Ok q = child-new M k q x.0 new n x.1 h refl r a in
-          let t = renumbered-then M (insertAt k new M) F (shifted q) w.φ m w.numbers in
+          let a' : child_of (insert_at k new M) k c ≡ Ok q = child-new M k q x.0 new n x.1 h refl r a in
+          let t = renumbered-then M (insert_at k new M) F (shifted q) w.φ m w.numbers in
           record {
             φ = λ i. w.φ (shifted q i);
             numbers = t;
@@ -85,23 +85,23 @@ module _ (start : ℕ) (F : List Node) (j : ℕ) (b : Bool) (c : List ℕ) (cs :
 
 walks : (start : ℕ) (F : List Node) (j : ℕ) (b : Bool) (cs : List (List ℕ)) → Walks start F j b cs
 unfolding make
-walks start F j b [] M trail k bad n h f e = go (isDirectory (get_or M k none)) refl e
+walks start F j b [] M trail k bad n h f e = go (is_directory (get_or M k none)) refl e
   where
     same : (xs : List ℕ) → map (λ (i : ℕ). i) xs ≡ xs
     same [] = refl
     same (x ∷ xs) = rw (same xs)
 
-    go : (t : Bool) → isDirectory (get_or M k none) ≡ t → cond t (made M k bad) (stopped ExpectedDirectory) ≡ made F j b → Walked M start trail k [] F j
+    go : (t : Bool) → is_directory (get_or M k none) ≡ t → cond t (made M k bad) (stopped ExpectedDirectory) ≡ made F j b → Walked M start trail k [] F j
     go true d q =
         let m : M ≡ F = cc in
         let k≡ : k ≡ j = cc in
         rw (← m, ← k≡) (record { φ = λ i. i; numbers = renumbered-same M; begins = refl; ends = unfold follow in refl; kind = d })
     go false d q = let z : ◌≡◌ {A = ℕ} 0 1 = cc in absurd (omega arith)
-walks start F j b (c ∷ cs) M trail k bad n h f e = go (isDirectory (get_or M k none)) refl (stays c) refl (goesBack c) refl (childOf M k c) refl (safe c) (walks start F j b cs) e
+walks start F j b (c ∷ cs) M trail k bad n h f e = go (is_directory (get_or M k none)) refl (stays c) refl (goes_back c) refl (child_of M k c) refl (safe c) (walks start F j b cs) e
   where
-    go : (t : Bool) → isDirectory (get_or M k none) ≡ t → (u : Bool) → stays c ≡ u → (v : Bool) → goesBack c ≡ v → (a : Result ℕ Refusal) → childOf M k c ≡ a → (y : Bool) → Walks start F j b cs →
-        cond t (cond u (make M trail k bad cs) (cond v (madeBack trail (λ i rest. make M rest i bad cs)) (ifFound a (λ i. make M (k ∷ trail) i bad cs)
-        (cond y (make (insertAt k (emptyDirectory c (newNumber M k)) M) (k ∷ trail) (newNumber M k) (bad || not (plain c)) cs) (stopped UnsafeName))))) (stopped ExpectedDirectory) ≡ made F j b →
+    go : (t : Bool) → is_directory (get_or M k none) ≡ t → (u : Bool) → stays c ≡ u → (v : Bool) → goes_back c ≡ v → (a : Result ℕ Refusal) → child_of M k c ≡ a → (y : Bool) → Walks start F j b cs →
+        cond t (cond u (make M trail k bad cs) (cond v (made_back trail (λ i rest. make M rest i bad cs)) (if_found a (λ i. make M (k ∷ trail) i bad cs)
+        (cond y (make (insert_at k (empty_directory c (new_number M k)) M) (k ∷ trail) (new_number M k) (bad || not (plain c)) cs) (stopped UnsafeName))))) (stopped ExpectedDirectory) ≡ made F j b →
         Walked M start trail k (c ∷ cs) F j
     go false d u u≡ v v≡ a a≡ y ih q = let z : ◌≡◌ {A = ℕ} 0 1 = cc in absurd (omega arith)
     go true d true u≡ v v≡ a a≡ y ih q = stay start F j b c cs ih M k bad n h d trail u≡ f q
@@ -112,7 +112,7 @@ walks start F j b (c ∷ cs) M trail k bad n h f e = go (isDirectory (get_or M k
 
 -- THEOREM: the path from the start leads to the number in the tree that was made, and a directory is there
 pub made_found : (nodes : List Node) (start : ℕ) (path : List ℕ) (F : List Node) (j : ℕ) (b : Bool) → Nested nodes → start < length nodes → make nodes [] start false (components path) ≡ made F j b →
-    (lookup F start path ≡ Ok j) × (isDirectory (get_or F j none) ≡ true)
+    (lookup F start path ≡ Ok j) × (is_directory (get_or F j none) ≡ true)
 unfolding lookup
 made_found nodes start path F j b n h e =
     let w = walks start F j b (components path) nodes [] start false n h refl e in

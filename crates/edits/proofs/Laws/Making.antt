@@ -3,14 +3,14 @@ use Rattle.std.specs.Prelude.{Ok, Err}
 use Rattle.std.specs.Prelude.{ℕ, zero, suc, ◌-◌, ◌<◌, ◌≤◌, ◌≡◌, refl, ◌⊎◌, Bool, true, false, cond, not, ◌||◌, List, [], ◌∷◌, length, get_or, ltb, eqb}
 use Rattle.std.proofs.Common.{sym, ap, ◌∙◌, inl, inr, ⊎_elim, arith, lt-ltb, le-ltb, eqb-true, eq-eqb, ne_eqb}
 use Rattle.std.proofs.lemmas.Bool.{eqb-false}
-use Rattle.endian.specs.Bytes.{sameBytes}
+use Rattle.endian.specs.Bytes.{same_bytes}
 use Rattle.endian.specs.Laws.Stored.{same-eq}
 use Rattle.refusal.specs.Laws.Tests.{lt-or-le, or_left}
 use Rattle.refusal.specs.declared.Refusal.{Refusal}
 use Rattle.refusal.specs.declared.Refusal.TheVariants.{NotFound}
 use Rattle.tree.specs.Table.{Node, directory, none, plain, safe, parent_of}
-use Rattle.tree.specs.Lookup.{isDirectory, childOf}
-use Rattle.tree.specs.Insert.{insertAt, emptyDirectory, shifted}
+use Rattle.tree.specs.Lookup.{is_directory, child_of}
+use Rattle.tree.specs.Insert.{insert_at, empty_directory, shifted}
 use Rattle.tree.proofs.Laws.InsertedList.{Nested, shifted-min, length_inserted, inserted-at}
 use Rattle.tree.proofs.Laws.NestedInsert.{nested-insert}
 use Rattle.tree.proofs.Laws.Children.{child-is}
@@ -20,17 +20,17 @@ use Rattle.tree.proofs.Laws.ChildInsert.{moved, shifted-low, shifted-high, kept-
 
 -- what is found under a name that no old entry has: nothing, or a directory made for that name
 abbrev pub Where : List Node → (ℕ → Bool) → Bool → ℕ → List ℕ → Type 0
-Where M ν bad d c = (childOf M d c ≡ Err NotFound) ⊎ ((j : ℕ) × (childOf M d c ≡ Ok j) × (ν j ≡ true) × (safe c ≡ true) × (plain c ≡ false → bad ≡ true))
+Where M ν bad d c = (child_of M d c ≡ Err NotFound) ⊎ ((j : ℕ) × (child_of M d c ≡ Ok j) × (ν j ≡ true) × (safe c ≡ true) × (plain c ≡ false → bad ≡ true))
 
 pub record Grown (nodes M : List Node) (φ : ℕ → ℕ) (ν : ℕ → Bool) (bad : Bool) : Type 0 where
   pub first : Nested nodes
   pub nested : Nested M
   pub low : (k : ℕ) → k < length nodes → φ k < length M
   pub mono : (i j : ℕ) → i < j → φ i < φ j
-  pub kinds : (k : ℕ) → k < length nodes → isDirectory (get_or M (φ k) none) ≡ isDirectory (get_or nodes k none)
-  pub old : (d : ℕ) (c : List ℕ) (j : ℕ) → d < length nodes → childOf nodes d c ≡ Ok j → childOf M (φ d) c ≡ Ok (φ j)
-  pub missing : (d : ℕ) (c : List ℕ) (r : Refusal) → d < length nodes → childOf nodes d c ≡ Err r → Where M ν bad (φ d) c
-  pub dirs : (j : ℕ) → j < length M → ν j ≡ true → isDirectory (get_or M j none) ≡ true
+  pub kinds : (k : ℕ) → k < length nodes → is_directory (get_or M (φ k) none) ≡ is_directory (get_or nodes k none)
+  pub old : (d : ℕ) (c : List ℕ) (j : ℕ) → d < length nodes → child_of nodes d c ≡ Ok j → child_of M (φ d) c ≡ Ok (φ j)
+  pub missing : (d : ℕ) (c : List ℕ) (r : Refusal) → d < length nodes → child_of nodes d c ≡ Err r → Where M ν bad (φ d) c
+  pub dirs : (j : ℕ) → j < length M → ν j ≡ true → is_directory (get_or M j none) ≡ true
   pub below : (j : ℕ) → j < length M → ν j ≡ true → (c : List ℕ) → Where M ν bad j c
 
 -- the walk's place: its trail goes up the new levels, then the old parents to the start
@@ -77,12 +77,12 @@ or_same false true f = refl
 or_same false false f = sym (f refl)
 
 module _ (nodes M : List Node) (φ : ℕ → ℕ) (ν : ℕ → Bool) (bad : Bool) (g : Grown nodes M φ ν bad)
-    (p : ℕ) (nm : List ℕ) (q : ℕ) (dir : get_or M p none ≡ directory nm q) (p<n : p < length M) (c : List ℕ) (ok : safe c ≡ true) (gone : childOf M p c ≡ Err NotFound) where
+    (p : ℕ) (nm : List ℕ) (q : ℕ) (dir : get_or M p none ≡ directory nm q) (p<n : p < length M) (c : List ℕ) (ok : safe c ≡ true) (gone : child_of M p c ≡ Err NotFound) where
   abbrev new : Node
-  new = emptyDirectory c q
+  new = empty_directory c q
 
   abbrev M' : List Node
-  M' = insertAt p new M
+  M' = insert_at p new M
 
   abbrev bad' : Bool
   bad' = bad || not (plain c)
@@ -98,17 +98,17 @@ module _ (nodes M : List Node) (φ : ℕ → ℕ) (ν : ℕ → Bool) (bad : Boo
     where
       same : d ≡ p → Where M ν bad d name → Where M' (marked q ν) bad' (shifted q d) name
       same e (inl f) =
-          let f' : childOf M p name ≡ Err NotFound = rw e at f in
+          let f' : child_of M p name ≡ Err NotFound = rw e at f in
           let s : shifted q p ≡ p = shifted-low q p q≤.0 in
-          rw (e, s) (named (sameBytes c name) refl f')
+          rw (e, s) (named (same_bytes c name) refl f')
         where
-          named : (t : Bool) → sameBytes c name ≡ t → childOf M p name ≡ Err NotFound → Where M' (marked q ν) bad' p name
+          named : (t : Bool) → same_bytes c name ≡ t → child_of M p name ≡ Err NotFound → Where M' (marked q ν) bad' p name
           named true u f =
               let n : c ≡ name = same-eq c name u in
               rw (← n) (inr (q, child-new M p q nm new g.nested dir p<n refl NotFound gone, marked-new q ν, ok, λ z. or-not bad (plain c) z))
           named false u f = inl (child-other M p q nm new g.nested dir p<n refl name NotFound f u)
       same e (inr (j, f, v, s, b)) =
-          let f' : childOf M p name ≡ Ok j = rw e at f in
+          let f' : child_of M p name ≡ Ok j = rw e at f in
           let l : j < q = rw dir at (child-is M p name j f').before in
           let k : shifted q j ≡ j = shifted-low q j l in
           let s' : shifted q p ≡ p = shifted-low q p q≤.0 in
@@ -123,13 +123,13 @@ module _ (nodes M : List Node) (φ : ℕ → ℕ) (ν : ℕ → Bool) (bad : Boo
       go true e s = same (eqb-true d p e) s
       go false e s = other (eqb-false d p e) s
 
-  found-moved : (d : ℕ) → d < length M → (name : List ℕ) (j : ℕ) → childOf M d name ≡ Ok j → childOf M' (shifted q d) name ≡ Ok (shifted q j)
+  found-moved : (d : ℕ) → d < length M → (name : List ℕ) (j : ℕ) → child_of M d name ≡ Ok j → child_of M' (shifted q d) name ≡ Ok (shifted q j)
   found-moved d h name j f = go (eqb d p) refl
     where
-      go : (t : Bool) → eqb d p ≡ t → childOf M' (shifted q d) name ≡ Ok (shifted q j)
+      go : (t : Bool) → eqb d p ≡ t → child_of M' (shifted q d) name ≡ Ok (shifted q j)
       go true e =
           let d≡ : d ≡ p = eqb-true d p e in
-          let f' : childOf M p name ≡ Ok j = rw d≡ at f in
+          let f' : child_of M p name ≡ Ok j = rw d≡ at f in
           let l : j < q = rw dir at (child-is M p name j f').before in
           rw (d≡, shifted-low q p q≤.0, shifted-low q j l) (child-kept M p q nm new g.nested dir p<n refl name j f')
       go false e = child-moved M p q nm new g.nested dir p<n refl d h name (eqb-false d p e) ∙ ap (moved q) f
@@ -147,7 +147,7 @@ module _ (nodes M : List Node) (φ : ℕ → ℕ) (ν : ℕ → Bool) (bad : Boo
     below = λ j h v name. new-below j h v name (unshift q j);
   }
     where
-      new-dir : (j : ℕ) → j < length M' → marked q ν j ≡ true → (j ≡ q) ⊎ ((i : ℕ) × (shifted q i ≡ j)) → isDirectory (get_or M' j none) ≡ true
+      new-dir : (j : ℕ) → j < length M' → marked q ν j ≡ true → (j ≡ q) ⊎ ((i : ℕ) × (shifted q i ≡ j)) → is_directory (get_or M' j none) ≡ true
       new-dir j h v (inl e) = rw (e, inserted-at M p q nm new g.nested dir p<n)
       new-dir j h v (inr (i, e)) =
           let i< : i < length M = omega (arith, len, shifted-min q i, q≤.1) in

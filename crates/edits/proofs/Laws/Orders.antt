@@ -8,10 +8,10 @@ use borrow.Author.Tests.{lt-ltb, le-ltb, le-leb, lt-leb}
 use Rattle.refusal.specs.declared.Refusal.{Refusal}
 use Rattle.refusal.specs.declared.Refusal.TheVariants.{LimitOrMemory, InvalidNameByte, UnsafeName, NoSuchEntry, ExpectedFile, ExpectedDirectory, AlreadyExists, NotEnoughSpace}
 use Rattle.tree.specs.Table.{none, plain, safe}
-use Rattle.tree.specs.Lookup.{isDirectory, childOf}
+use Rattle.tree.specs.Lookup.{is_directory, child_of}
 use Rattle.space.specs.declared.totals.Totals.{Totals}
-use Rattle.opened.specs.Opening.{opening, nodesIn}
-use Rattle.edits.specs.Edits.{insertFile, insertDirectory, makeDirectories, fillFile, insertVerdict, planMakeDirectories, planFill, verdictOf}
+use Rattle.opened.specs.Opening.{opening, nodes_in}
+use Rattle.edits.specs.Edits.{insert_file, insert_directory, make_directories, fill_file, insert_verdict, plan_make_directories, plan_fill, verdict_of}
 use Rattle.edits.proofs.Laws.Accepted.{own_first}
 
 module _ (t : Totals) (image : List ℕ) (words bytes : ℕ) (opens : opening image words ≡ Ok tt) where
@@ -19,62 +19,62 @@ module _ (t : Totals) (image : List ℕ) (words bytes : ℕ) (opens : opening im
 
   module _ (k : ℕ) (clip : List ℕ) where
     -- LAW: no such entry is 15, however long the clip is
-    pub fill-no-entry : length (nodesIn image) ≤ k → verdictOf (fillFile k clip) t image words bytes ≡ Err NoSuchEntry
-    fill-no-entry past = own_first (fillFile k clip) t image words bytes NoSuchEntry opens (unfold planFill in rw (le-leb (length (nodesIn image)) k past))
+    pub fill-no-entry : length (nodes_in image) ≤ k → verdict_of (fill_file k clip) t image words bytes ≡ Err NoSuchEntry
+    fill-no-entry past = own_first (fill_file k clip) t image words bytes NoSuchEntry opens (unfold plan_fill in rw (le-leb (length (nodes_in image)) k past))
 
-    module _ (there : k < length (nodesIn image)) where
+    module _ (there : k < length (nodes_in image)) where
       -- LAW: a directory is 16, however long the clip is
-      pub fill-directory : isDirectory (get_or (nodesIn image) k none) ≡ true → verdictOf (fillFile k clip) t image words bytes ≡ Err ExpectedFile
-      fill-directory is = own_first (fillFile k clip) t image words bytes ExpectedFile opens (unfold planFill in rw (lt-leb (length (nodesIn image)) k there, is))
+      pub fill-directory : is_directory (get_or (nodes_in image) k none) ≡ true → verdict_of (fill_file k clip) t image words bytes ≡ Err ExpectedFile
+      fill-directory is = own_first (fill_file k clip) t image words bytes ExpectedFile opens (unfold plan_fill in rw (lt-leb (length (nodes_in image)) k there, is))
 
       -- LAW: a file is 21 where the clip has 2^32 bytes or more
-      pub fill-too-long : isDirectory (get_or (nodesIn image) k none) ≡ false → 2 ^ 32 ≤ length clip → verdictOf (fillFile k clip) t image words bytes ≡ Err NotEnoughSpace
+      pub fill-too-long : is_directory (get_or (nodes_in image) k none) ≡ false → 2 ^ 32 ≤ length clip → verdict_of (fill_file k clip) t image words bytes ≡ Err NotEnoughSpace
       fill-too-long is long =
-          own_first (fillFile k clip) t image words bytes NotEnoughSpace opens
-          (unfold planFill in rw (lt-leb (length (nodesIn image)) k there, is, lt-ltb 0xFFFFFFFF (length clip) (omega arith)))
+          own_first (fill_file k clip) t image words bytes NotEnoughSpace opens
+          (unfold plan_fill in rw (lt-leb (length (nodes_in image)) k there, is, lt-ltb 0xFFFFFFFF (length clip) (omega arith)))
 
   -- ---- make-directories: 9 for the path, 15
 
   module _ (start : ℕ) (path : List ℕ) where
     -- LAW: a path over 1,024 bytes is 9, whatever the start
-    pub make-long-path : 1024 < length path → verdictOf (makeDirectories start path) t image words bytes ≡ Err LimitOrMemory
-    make-long-path long = own_first (makeDirectories start path) t image words bytes LimitOrMemory opens (unfold planMakeDirectories in rw (lt-ltb 1024 (length path) long))
+    pub make-long-path : 1024 < length path → verdict_of (make_directories start path) t image words bytes ≡ Err LimitOrMemory
+    make-long-path long = own_first (make_directories start path) t image words bytes LimitOrMemory opens (unfold plan_make_directories in rw (lt-ltb 1024 (length path) long))
 
     -- LAW: then no such start is 15, whatever the path
-    pub make-no-entry : length path ≤ 1024 → length (nodesIn image) ≤ start → verdictOf (makeDirectories start path) t image words bytes ≡ Err NoSuchEntry
+    pub make-no-entry : length path ≤ 1024 → length (nodes_in image) ≤ start → verdict_of (make_directories start path) t image words bytes ≡ Err NoSuchEntry
     make-no-entry short past =
-        own_first (makeDirectories start path) t image words bytes NoSuchEntry opens
-        (unfold planMakeDirectories in rw (le-ltb 1024 (length path) short, le-leb (length (nodesIn image)) start past))
+        own_first (make_directories start path) t image words bytes NoSuchEntry opens
+        (unfold plan_make_directories in rw (le-ltb 1024 (length path) short, le-leb (length (nodes_in image)) start past))
 
   -- ---- an insert: 15, 13, 17, 19, 12
 
   module _ (p : ℕ) (nm : List ℕ) where
     -- both kinds are refused with this cause
     abbrev InsertRefused : Refusal → Type 0
-    InsertRefused c = (verdictOf (insertFile p nm) t image words bytes ≡ Err c) × (verdictOf (insertDirectory p nm) t image words bytes ≡ Err c)
+    InsertRefused c = (verdict_of (insert_file p nm) t image words bytes ≡ Err c) × (verdict_of (insert_directory p nm) t image words bytes ≡ Err c)
 
-    both : (c : Refusal) → insertVerdict (nodesIn image) p nm ≡ Err c → InsertRefused c
-    both c e = (own_first (insertFile p nm) t image words bytes c opens (rw e), own_first (insertDirectory p nm) t image words bytes c opens (rw e))
+    both : (c : Refusal) → insert_verdict (nodes_in image) p nm ≡ Err c → InsertRefused c
+    both c e = (own_first (insert_file p nm) t image words bytes c opens (rw e), own_first (insert_directory p nm) t image words bytes c opens (rw e))
 
     -- LAW: no such parent is 15, whatever the name
-    pub insert-no-entry : length (nodesIn image) ≤ p → InsertRefused NoSuchEntry
-    insert-no-entry past = both NoSuchEntry (unfold insertVerdict in rw (le-leb (length (nodesIn image)) p past))
+    pub insert-no-entry : length (nodes_in image) ≤ p → InsertRefused NoSuchEntry
+    insert-no-entry past = both NoSuchEntry (unfold insert_verdict in rw (le-leb (length (nodes_in image)) p past))
 
-    module _ (there : p < length (nodesIn image)) where
+    module _ (there : p < length (nodes_in image)) where
       -- LAW: an unsafe name is 13, under a file too, and whatever bytes it has
       pub insert-unsafe : safe nm ≡ false → InsertRefused UnsafeName
-      insert-unsafe u = both UnsafeName (unfold insertVerdict in rw (lt-leb (length (nodesIn image)) p there, u))
+      insert-unsafe u = both UnsafeName (unfold insert_verdict in rw (lt-leb (length (nodes_in image)) p there, u))
 
       module _ (s : safe nm ≡ true) where
         -- LAW: a safe name under a file is 17, whatever bytes it has
-        pub insert-under-file : isDirectory (get_or (nodesIn image) p none) ≡ false → InsertRefused ExpectedDirectory
-        insert-under-file f = both ExpectedDirectory (unfold insertVerdict in rw (lt-leb (length (nodesIn image)) p there, s, f))
+        pub insert-under-file : is_directory (get_or (nodes_in image) p none) ≡ false → InsertRefused ExpectedDirectory
+        insert-under-file f = both ExpectedDirectory (unfold insert_verdict in rw (lt-leb (length (nodes_in image)) p there, s, f))
 
-        module _ (d : isDirectory (get_or (nodesIn image) p none) ≡ true) where
+        module _ (d : is_directory (get_or (nodes_in image) p none) ≡ true) where
           -- LAW: a name that a child has is 19, whatever bytes it has
-          pub insert-exists : (k : ℕ) → childOf (nodesIn image) p nm ≡ Ok k → InsertRefused AlreadyExists
-          insert-exists k e = both AlreadyExists (unfold insertVerdict in rw (lt-leb (length (nodesIn image)) p there, s, d, e))
+          pub insert-exists : (k : ℕ) → child_of (nodes_in image) p nm ≡ Ok k → InsertRefused AlreadyExists
+          insert-exists k e = both AlreadyExists (unfold insert_verdict in rw (lt-leb (length (nodes_in image)) p there, s, d, e))
 
           -- LAW: a name byte is 12, last
-          pub insert-byte : (c : Refusal) → childOf (nodesIn image) p nm ≡ Err c → plain nm ≡ false → InsertRefused InvalidNameByte
-          insert-byte c e b = both InvalidNameByte (unfold insertVerdict in rw (lt-leb (length (nodesIn image)) p there, s, d, e, b))
+          pub insert-byte : (c : Refusal) → child_of (nodes_in image) p nm ≡ Err c → plain nm ≡ false → InsertRefused InvalidNameByte
+          insert-byte c e b = both InvalidNameByte (unfold insert_verdict in rw (lt-leb (length (nodes_in image)) p there, s, d, e, b))

@@ -10,32 +10,32 @@ use Rattle.refusal.specs.declared.Refusal.TheVariants.{LimitOrMemory, NotEnoughS
 use Rattle.refusal.specs.Refusal.{refuse}
 use Rattle.refusal.specs.Laws.Chains.{refuse-passed}
 use Rattle.refusal.specs.Laws.Tests.{or-false}
-use Rattle.header.specs.Verdicts.{fstOffset, fstSize, fstMaxSize}
+use Rattle.header.specs.Verdicts.{fst_offset, fst_size, fst_max_size}
 use Rattle.space.specs.declared.region.DiscRegion.{DiscRegion}
-use Rattle.space.specs.Used.{usesByte, usedRegions}
-use Rattle.space.specs.Free.{freeIn}
+use Rattle.space.specs.Used.{uses_byte, used_regions}
+use Rattle.space.specs.Free.{free_in}
 use Rattle.space.specs.Laws.UsedLaws.{used-is}
 use Rattle.space.specs.Laws.FreeLaws.{In}
-use Rattle.space.specs.MaxRegionSize.{maxRegionSize}
-use Rattle.opened.specs.Opening.{freeOf}
-use Rattle.edits.specs.Change.{aboveMaximum, roomVerdict, placeVerdict}
-use Rattle.edits.specs.Edits.{noPlace}
+use Rattle.space.specs.MaxRegionSize.{max_region_size}
+use Rattle.opened.specs.Opening.{free_space_of}
+use Rattle.edits.specs.Change.{above_maximum, room_verdict, place_verdict_in}
+use Rattle.edits.specs.Edits.{no_place}
 
 -- ---- the stated maximum
 
 module _ (image : List ℕ) (room size : ℕ) (place : DiscRegion) where
   -- LAW: "tested just before the table's 21": a table above the maximum that the working bytes hold is 26, whatever room there is
-  pub stated-first : size ≤ room → aboveMaximum image size ≡ true → placeVerdict image room size place ≡ Err TableAboveMaximum
-  unfolding placeVerdict
+  pub stated-first : size ≤ room → above_maximum image size ≡ true → place_verdict_in image room size place ≡ Err TableAboveMaximum
+  unfolding place_verdict_in
   stated-first held above = rw (le-ltb room size held, above)
 
   -- LAW: "a publisher who sets the field to 0 sees the old rule", and so does a table that is no larger than the maximum
-  pub stated-apart : (fstMaxSize image ≡ 0) ⊎ (size ≤ fstMaxSize image) → placeVerdict image room size place ≡ refuse (ltb room size) LimitOrMemory (roomVerdict image size place)
-  unfolding placeVerdict
+  pub stated-apart : (fst_max_size image ≡ 0) ⊎ (size ≤ fst_max_size image) → place_verdict_in image room size place ≡ refuse (ltb room size) LimitOrMemory (room_verdict image size place)
+  unfolding place_verdict_in
   stated-apart (inl none) = rw none
-  stated-apart (inr within) = rw (le-ltb (fstMaxSize image) size within) (go (ltb 0 (fstMaxSize image)))
+  stated-apart (inr within) = rw (le-ltb (fst_max_size image) size within) (go (ltb 0 (fst_max_size image)))
     where
-      go : (b : Bool) → refuse (ltb room size) LimitOrMemory (refuse (b && false) TableAboveMaximum (roomVerdict image size place)) ≡ refuse (ltb room size) LimitOrMemory (roomVerdict image size place)
+      go : (b : Bool) → refuse (ltb room size) LimitOrMemory (refuse (b && false) TableAboveMaximum (room_verdict image size place)) ≡ refuse (ltb room size) LimitOrMemory (room_verdict image size place)
       go true = refl
       go false = refl
 
@@ -43,33 +43,33 @@ module _ (image : List ℕ) (room size : ℕ) (place : DiscRegion) where
 
 pub record PlacePassed (image : List ℕ) (room size : ℕ) (place : DiscRegion) : Type 0 where
   pub held : size ≤ room
-  pub within : 0 < fstMaxSize image → size ≤ fstMaxSize image
-  pub grows : size ≤ maxRegionSize (fstOffset image) (fstSize image) (freeOf image)
-  pub before : 0 < place.size → fstOffset image + size ≤ place.offset
+  pub within : 0 < fst_max_size image → size ≤ fst_max_size image
+  pub grows : size ≤ max_region_size (fst_offset image) (fst_size image) (free_space_of image)
+  pub before : 0 < place.size → fst_offset image + size ≤ place.offset
 
-pub place-passed : (image : List ℕ) (room size : ℕ) (place : DiscRegion) → placeVerdict image room size place ≡ Ok tt → PlacePassed image room size place
-unfolding placeVerdict
+pub place-passed : (image : List ℕ) (room size : ℕ) (place : DiscRegion) → place_verdict_in image room size place ≡ Ok tt → PlacePassed image room size place
+unfolding place_verdict_in
 place-passed image room size place e =
     let a = refuse-passed (ltb room size) LimitOrMemory _ e in
-    let b = refuse-passed (aboveMaximum image size) TableAboveMaximum _ a.1 in
-    let c = refuse-passed (ltb (maxRegionSize (fstOffset image) (fstSize image) (freeOf image)) size) NotEnoughSpace _ b.1 in
-    let d = refuse-passed (ltb 0 place.size && ltb place.offset (fstOffset image + size)) NotEnoughSpace (Ok tt) c.1 in
+    let b = refuse-passed (above_maximum image size) TableAboveMaximum _ a.1 in
+    let c = refuse-passed (ltb (max_region_size (fst_offset image) (fst_size image) (free_space_of image)) size) NotEnoughSpace _ b.1 in
+    let d = refuse-passed (ltb 0 place.size && ltb place.offset (fst_offset image + size)) NotEnoughSpace (Ok tt) c.1 in
     record {
       held = ltb-false room size a.0;
-      within = λ z. ltb-false (fstMaxSize image) size (rw (lt-ltb 0 (fstMaxSize image) z) at b.0);
+      within = λ z. ltb-false (fst_max_size image) size (rw (lt-ltb 0 (fst_max_size image) z) at b.0);
       grows = ltb-false _ size c.0;
-      before = λ z. ltb-false place.offset (fstOffset image + size) (rw (lt-ltb 0 place.size z) at d.0);
+      before = λ z. ltb-false place.offset (fst_offset image + size) (rw (lt-ltb 0 place.size z) at d.0);
     }
 
 -- a region of a list, by its number
-pub in-region : (fs : List DiscRegion) (r : ℕ) → r < length fs → In (get_or fs r noPlace) fs
+pub in-region : (fs : List DiscRegion) (r : ℕ) → r < length fs → In (get_or fs r no_place) fs
 in-region [] r h = absurd (omega arith)
 in-region (x ∷ fs) zero h = inl refl
 in-region (x ∷ fs) (suc r) h = inr (in-region fs r (omega arith))
 
 -- a free byte is behind the table, and none of what lies there
-pub free-byte : (t : ℕ) (fs : List DiscRegion) (i : ℕ) → freeIn (usedRegions t fs) i ≡ true → (t ≤ i) × (usesByte fs i ≡ false)
-free-byte t fs i f = let o = or-false (ltb i t) (usesByte fs i) (sym (used-is t fs i) ∙ not-true (usesByte (usedRegions t fs) i) f) in (ltb-false i t o.0, o.1)
+pub free-byte : (t : ℕ) (fs : List DiscRegion) (i : ℕ) → free_in (used_regions t fs) i ≡ true → (t ≤ i) × (uses_byte fs i ≡ false)
+free-byte t fs i f = let o = or-false (ltb i t) (uses_byte fs i) (sym (used-is t fs i) ∙ not-true (uses_byte (used_regions t fs) i) f) in (ltb-false i t o.0, o.1)
   where
     not-true : (a : Bool) → not a ≡ true → a ≡ false
     not-true true e = absurd (false≢true e)

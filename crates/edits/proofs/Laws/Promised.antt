@@ -6,20 +6,20 @@ use Rattle.std.specs.Prelude.{ℕ, ◌≡◌, List, length}
 use Rattle.std.proofs.Common.{◌∙◌}
 use Rattle.refusal.specs.declared.Refusal.{Refusal}
 use Rattle.opened.specs.Opening.{zeros}
-use Rattle.edits.specs.Edits.{Edit, plan_of, planNumber, planImage, totalsTo, verdictOf, imageAfter, totalsAfter}
+use Rattle.edits.specs.Edits.{Edit, plan_of, plan_number, plan_image, totals_to, verdict_of, image_after, totals_after}
 use Rattle.edits.specs.Promise.{Lent, Edited}
 use Rattle.edits.proofs.Laws.Accepted.{refused-back}
 
 module _ {A : Type 0} (answer : Verdict → ℕ → A) (ed : Edit) (before after : Lent) (r : A) (p : Edited answer ed before after r) where
   -- the verdict on it, and the number of the entry
   abbrev verdict : Verdict
-  verdict = verdictOf ed before.totals before.image (length before.words) (length before.bytes)
+  verdict = verdict_of ed before.totals before.image (length before.words) (length before.bytes)
 
   abbrev number : ℕ
-  number = planNumber (plan_of ed before.image)
+  number = plan_number (plan_of ed before.image)
 
   abbrev new : List ℕ
-  new = planImage (plan_of ed before.image) before.image
+  new = plan_image (plan_of ed before.image) before.image
 
   -- THEOREM: "A refusal returns one of document 01's numbers, with image .. unchanged and working memory zero", and the record
   pub edit-refused : (c : Refusal) → verdict ≡ Err c →
@@ -30,6 +30,6 @@ module _ {A : Type 0} (answer : Verdict → ℕ → A) (ed : Edit) (before after
 
   -- THEOREM: an accepted edit
   pub edit-accepted : verdict ≡ Ok tt →
-      (r ≡ answer (Ok tt) number) × (after.image ≡ new) × (after.totals ≡ totalsTo before.totals before.image new) × (after.words ≡ zeros before.words) × (after.bytes ≡ zeros before.bytes)
-  unfolding imageAfter totalsAfter
+      (r ≡ answer (Ok tt) number) × (after.image ≡ new) × (after.totals ≡ totals_to before.totals before.image new) × (after.words ≡ zeros before.words) × (after.bytes ≡ zeros before.bytes)
+  unfolding image_after totals_after
   edit-accepted e = (p.answered ∙ rw e, p.image ∙ rw e, p.totals ∙ rw e, p.words, p.bytes)

@@ -7,39 +7,39 @@ use Rattle.std.proofs.Common.{sym, ap, ◌∙◌, inl, inr, arith, eq-eqb, ne_eq
 use Rattle.refusal.specs.declared.Refusal.TheVariants.{InvalidNameByte, UnsafeName, ExpectedDirectory, NotFound}
 use Rattle.refusal.specs.Refusal.{refuse}
 use Rattle.tree.specs.Table.{Node, file, directory, none, plain, safe, parent_of}
-use Rattle.tree.specs.Lookup.{isDirectory, next_of, stays, goesBack, childOf}
-use Rattle.tree.specs.Insert.{insertAt, emptyDirectory, shifted}
+use Rattle.tree.specs.Lookup.{is_directory, next_of, stays, goes_back, child_of}
+use Rattle.tree.specs.Insert.{insert_at, empty_directory, shifted}
 use Rattle.tree.proofs.Laws.InsertedList.{Nested}
 use Rattle.tree.proofs.Laws.Children.{Child, child-is, child-missing}
-use Rattle.edits.specs.Edits.{newNumber, stopped, made, madeBack, ifFound, make}
-use Rattle.edits.specs.Inner.Troubles.{ifChild, troubleOf, madeVerdict}
+use Rattle.edits.specs.Edits.{new_number, stopped, made, made_back, if_found, make}
+use Rattle.edits.specs.Inner.Troubles.{if_child, trouble_of, made_verdict}
 use Rattle.edits.proofs.Laws.Making.{Where, Grown, Trail, State, trail-from, marked, marked-new, or_same, q≤, len, grown-more, state-more}
 
 -- ---- the two walks agree
 
 abbrev Same : List Node → ℕ → List (List ℕ) → Type 0
 Same nodes start cs = (M : List Node) (φ : ℕ → ℕ) (ν : ℕ → Bool) (bad : Bool) (level : ℕ) (trail : List ℕ) (m k : ℕ) → Grown nodes M φ ν bad →
-    State nodes start φ ν level trail m k → m < length M → madeVerdict (make M trail m bad cs) ≡ troubleOf nodes start k level bad cs
+    State nodes start φ ν level trail m k → m < length M → made_verdict (make M trail m bad cs) ≡ trouble_of nodes start k level bad cs
 
-pub directory-is : (x : Node) → isDirectory x ≡ true → (nm : List ℕ) × (x ≡ directory nm (next_of x))
+pub directory-is : (x : Node) → is_directory x ≡ true → (nm : List ℕ) × (x ≡ directory nm (next_of x))
 directory-is (file nm a b) e = let z : ◌≡◌ {A = ℕ} 0 1 = cc in absurd (omega arith)
 directory-is (directory nm n) e = (nm, refl)
 
 module _ (nodes : List Node) (start : ℕ) (c : List ℕ) (cs : List (List ℕ)) (ih : Same nodes start cs) (M : List Node) (φ : ℕ → ℕ) (ν : ℕ → Bool) (bad : Bool) (trail : List ℕ) (m k : ℕ)
-    (g : Grown nodes M φ ν bad) (m<n : m < length M) (dir : isDirectory (get_or M m none) ≡ true) where
+    (g : Grown nodes M φ ν bad) (m<n : m < length M) (dir : is_directory (get_or M m none) ≡ true) where
   -- a name that no old entry has
   dive : (level : ℕ) → State nodes start φ ν level trail m k → Where M ν bad m c →
-      madeVerdict (ifFound (childOf M m c) (λ j. make M (m ∷ trail) j bad cs) (cond (safe c) (make (insertAt m (emptyDirectory c (newNumber M m)) M) (m ∷ trail) (newNumber M m) (bad || not (plain c)) cs) (stopped UnsafeName))) ≡
-      cond (safe c) (troubleOf nodes start k (suc level) (bad || not (plain c)) cs) (Err UnsafeName)
+      made_verdict (if_found (child_of M m c) (λ j. make M (m ∷ trail) j bad cs) (cond (safe c) (make (insert_at m (empty_directory c (new_number M m)) M) (m ∷ trail) (new_number M m) (bad || not (plain c)) cs) (stopped UnsafeName))) ≡
+      cond (safe c) (trouble_of nodes start k (suc level) (bad || not (plain c)) cs) (Err UnsafeName)
   dive level s (inl e) = rw e (go (safe c) refl (directory-is (get_or M m none) dir))
     where
-      go : (t : Bool) → safe c ≡ t → (nm : List ℕ) × (get_or M m none ≡ directory nm (newNumber M m)) →
-          madeVerdict (cond t (make (insertAt m (emptyDirectory c (newNumber M m)) M) (m ∷ trail) (newNumber M m) (bad || not (plain c)) cs) (stopped UnsafeName)) ≡
-          cond t (troubleOf nodes start k (suc level) (bad || not (plain c)) cs) (Err UnsafeName)
+      go : (t : Bool) → safe c ≡ t → (nm : List ℕ) × (get_or M m none ≡ directory nm (new_number M m)) →
+          made_verdict (cond t (make (insert_at m (empty_directory c (new_number M m)) M) (m ∷ trail) (new_number M m) (bad || not (plain c)) cs) (stopped UnsafeName)) ≡
+          cond t (trouble_of nodes start k (suc level) (bad || not (plain c)) cs) (Err UnsafeName)
       go true ok (nm, d) =
-          let q : ℕ = newNumber M m in
+          let q : ℕ = new_number M m in
           let b : (m < q) × (q ≤ length M) = q≤ nodes M φ ν bad g m nm q d m<n c ok e in
-          ih (insertAt m (emptyDirectory c q) M) (λ i. shifted q (φ i)) (marked q ν) (bad || not (plain c)) (suc level) (m ∷ trail) q k (grown-more nodes M φ ν bad g m nm q d m<n c ok e)
+          ih (insert_at m (empty_directory c q) M) (λ i. shifted q (φ i)) (marked q ν) (bad || not (plain c)) (suc level) (m ∷ trail) q k (grown-more nodes M φ ν bad g m nm q d m<n c ok e)
           (marked-new q ν, b.0, state-more nodes M φ ν bad g m nm q d m<n c ok e start level trail m k b.0 s) (omega (arith, len nodes M φ ν bad g m nm q d m<n c ok e))
       go false ok d = refl
   dive level s (inr (j, e, v, ok, b)) =
@@ -49,70 +49,70 @@ module _ (nodes : List Node) (start : ℕ) (c : List ℕ) (cs : List (List ℕ))
 
   -- ---- in the old tree
   module _ (s : State nodes start φ ν zero trail m k) where
-    back-old : madeVerdict (madeBack trail (λ j rest. make M rest j bad cs)) ≡ cond (eqb k start) (Err NotFound) (troubleOf nodes start (parent_of nodes k) zero bad cs)
+    back-old : made_verdict (made_back trail (λ j rest. make M rest j bad cs)) ≡ cond (eqb k start) (Err NotFound) (trouble_of nodes start (parent_of nodes k) zero bad cs)
     back-old = go trail s.2
       where
-        go : (t : List ℕ) → Trail nodes start φ t k → madeVerdict (madeBack t (λ j rest. make M rest j bad cs)) ≡ cond (eqb k start) (Err NotFound) (troubleOf nodes start (parent_of nodes k) zero bad cs)
+        go : (t : List ℕ) → Trail nodes start φ t k → made_verdict (made_back t (λ j rest. make M rest j bad cs)) ≡ cond (eqb k start) (Err NotFound) (trouble_of nodes start (parent_of nodes k) zero bad cs)
         go [] t = rw (eq-eqb k start t)
         go (j ∷ rest) t =
             let l : start ≤ parent_of nodes k = trail-from nodes start φ rest (parent_of nodes k) t.2 in
             let p< : parent_of nodes k < length nodes = omega (arith, s.1, t.1) in
             rw (ne_eqb k start (λ e. omega (arith, t.1))) (ih M φ ν bad zero rest j (parent_of nodes k) g (t.0, p<, t.2) (rw t.0 (g.low (parent_of nodes k) p<)))
 
-    child-old : madeVerdict (ifFound (childOf M m c) (λ j. make M (m ∷ trail) j bad cs) (cond (safe c) (make (insertAt m (emptyDirectory c (newNumber M m)) M) (m ∷ trail) (newNumber M m) (bad || not (plain c)) cs) (stopped UnsafeName))) ≡
-        ifChild (childOf nodes k c) (λ j. troubleOf nodes start j zero bad cs) (cond (safe c) (troubleOf nodes start k 1 (bad || not (plain c)) cs) (Err UnsafeName))
-    child-old = go (childOf nodes k c) refl
+    child-old : made_verdict (if_found (child_of M m c) (λ j. make M (m ∷ trail) j bad cs) (cond (safe c) (make (insert_at m (empty_directory c (new_number M m)) M) (m ∷ trail) (new_number M m) (bad || not (plain c)) cs) (stopped UnsafeName))) ≡
+        if_child (child_of nodes k c) (λ j. trouble_of nodes start j zero bad cs) (cond (safe c) (trouble_of nodes start k 1 (bad || not (plain c)) cs) (Err UnsafeName))
+    child-old = go (child_of nodes k c) refl
       where
-        go : (a : Result ℕ Refusal) → childOf nodes k c ≡ a →
-            madeVerdict (ifFound (childOf M m c) (λ j. make M (m ∷ trail) j bad cs) (cond (safe c) (make (insertAt m (emptyDirectory c (newNumber M m)) M) (m ∷ trail) (newNumber M m) (bad || not (plain c)) cs) (stopped UnsafeName))) ≡
-            ifChild a (λ j. troubleOf nodes start j zero bad cs) (cond (safe c) (troubleOf nodes start k 1 (bad || not (plain c)) cs) (Err UnsafeName))
+        go : (a : Result ℕ Refusal) → child_of nodes k c ≡ a →
+            made_verdict (if_found (child_of M m c) (λ j. make M (m ∷ trail) j bad cs) (cond (safe c) (make (insert_at m (empty_directory c (new_number M m)) M) (m ∷ trail) (new_number M m) (bad || not (plain c)) cs) (stopped UnsafeName))) ≡
+            if_child a (λ j. trouble_of nodes start j zero bad cs) (cond (safe c) (trouble_of nodes start k 1 (bad || not (plain c)) cs) (Err UnsafeName))
         go (Ok j) e =
             let x : Child nodes k c j = child-is nodes k c j e in
-            let f : childOf M m c ≡ Ok (φ j) = rw s.0 (g.old k c j s.1 e) in
+            let f : child_of M m c ≡ Ok (φ j) = rw s.0 (g.old k c j s.1 e) in
             let y : Child M m c (φ j) = child-is M m c (φ j) f in
             let n : next_of (get_or M m none) ≤ length M = (g.nested.bounds m m<n dir).1 in
-            let d : isDirectory (get_or nodes k none) ≡ true = sym (g.kinds k s.1) ∙ (rw s.0 at dir) in
+            let d : is_directory (get_or nodes k none) ≡ true = sym (g.kinds k s.1) ∙ (rw s.0 at dir) in
             let o : next_of (get_or nodes k none) ≤ length nodes = (g.first.bounds k s.1 d).1 in
             rw f (ih M φ ν bad zero (m ∷ trail) (φ j) j g (refl, omega (arith, x.before), rw x.parent (s.0, x.after, s.2)) (omega (arith, y.before)))
         go (Err r) e = dive zero s (rw s.0 (g.missing k c r s.1 e))
 
 same : (nodes : List Node) (start : ℕ) (cs : List (List ℕ)) → Same nodes start cs
-unfolding make troubleOf
+unfolding make trouble_of
 same nodes start [] M φ ν bad zero trail m k g s h =
-    let e : isDirectory (get_or M m none) ≡ isDirectory (get_or nodes k none) = rw s.0 (g.kinds k s.1) in
-    rw e (go (isDirectory (get_or nodes k none)))
+    let e : is_directory (get_or M m none) ≡ is_directory (get_or nodes k none) = rw s.0 (g.kinds k s.1) in
+    rw e (go (is_directory (get_or nodes k none)))
   where
-    go : (t : Bool) → madeVerdict (cond t (made M m bad) (stopped ExpectedDirectory)) ≡ cond t (refuse bad InvalidNameByte (Ok tt)) (Err ExpectedDirectory)
+    go : (t : Bool) → made_verdict (cond t (made M m bad) (stopped ExpectedDirectory)) ≡ cond t (refuse bad InvalidNameByte (Ok tt)) (Err ExpectedDirectory)
     go true = refl
     go false = refl
 same nodes start [] M φ ν bad (suc level) [] m k g s h = absurd s
 same nodes start [] M φ ν bad (suc level) (j ∷ trail) m k g s h = rw (g.dirs m h s.0)
 same nodes start (c ∷ cs) M φ ν bad zero trail m k g s h =
-    let e : isDirectory (get_or M m none) ≡ isDirectory (get_or nodes k none) = rw s.0 (g.kinds k s.1) in
-    rw (← e) (go (isDirectory (get_or M m none)) refl (stays c) (goesBack c) (same nodes start cs))
+    let e : is_directory (get_or M m none) ≡ is_directory (get_or nodes k none) = rw s.0 (g.kinds k s.1) in
+    rw (← e) (go (is_directory (get_or M m none)) refl (stays c) (goes_back c) (same nodes start cs))
   where
-    go : (t : Bool) → isDirectory (get_or M m none) ≡ t → (u v : Bool) → Same nodes start cs →
-        madeVerdict (cond t (cond u (make M trail m bad cs) (cond v (madeBack trail (λ j rest. make M rest j bad cs))
-        (ifFound (childOf M m c) (λ j. make M (m ∷ trail) j bad cs) (cond (safe c) (make (insertAt m (emptyDirectory c (newNumber M m)) M) (m ∷ trail) (newNumber M m) (bad || not (plain c)) cs) (stopped UnsafeName))))) (stopped ExpectedDirectory)) ≡
-        cond t (cond u (troubleOf nodes start k zero bad cs) (cond v (cond (eqb k start) (Err NotFound) (troubleOf nodes start (parent_of nodes k) zero bad cs))
-        (ifChild (childOf nodes k c) (λ j. troubleOf nodes start j zero bad cs) (cond (safe c) (troubleOf nodes start k 1 (bad || not (plain c)) cs) (Err UnsafeName))))) (Err ExpectedDirectory)
+    go : (t : Bool) → is_directory (get_or M m none) ≡ t → (u v : Bool) → Same nodes start cs →
+        made_verdict (cond t (cond u (make M trail m bad cs) (cond v (made_back trail (λ j rest. make M rest j bad cs))
+        (if_found (child_of M m c) (λ j. make M (m ∷ trail) j bad cs) (cond (safe c) (make (insert_at m (empty_directory c (new_number M m)) M) (m ∷ trail) (new_number M m) (bad || not (plain c)) cs) (stopped UnsafeName))))) (stopped ExpectedDirectory)) ≡
+        cond t (cond u (trouble_of nodes start k zero bad cs) (cond v (cond (eqb k start) (Err NotFound) (trouble_of nodes start (parent_of nodes k) zero bad cs))
+        (if_child (child_of nodes k c) (λ j. trouble_of nodes start j zero bad cs) (cond (safe c) (trouble_of nodes start k 1 (bad || not (plain c)) cs) (Err UnsafeName))))) (Err ExpectedDirectory)
     go false d u v ih = refl
     go true d true v ih = ih M φ ν bad zero trail m k g s h
     go true d false true ih = back-old nodes start c cs ih M φ ν bad trail m k g h d s
     go true d false false ih = child-old nodes start c cs ih M φ ν bad trail m k g h d s
 same nodes start (c ∷ cs) M φ ν bad (suc level) [] m k g s h = absurd s
-same nodes start (c ∷ cs) M φ ν bad (suc level) (j ∷ trail) m k g s h = rw (g.dirs m h s.0) (go (stays c) (goesBack c) (same nodes start cs))
+same nodes start (c ∷ cs) M φ ν bad (suc level) (j ∷ trail) m k g s h = rw (g.dirs m h s.0) (go (stays c) (goes_back c) (same nodes start cs))
   where
     go : (u v : Bool) → Same nodes start cs →
-        madeVerdict (cond u (make M (j ∷ trail) m bad cs) (cond v (make M trail j bad cs)
-        (ifFound (childOf M m c) (λ i. make M (m ∷ j ∷ trail) i bad cs) (cond (safe c) (make (insertAt m (emptyDirectory c (newNumber M m)) M) (m ∷ j ∷ trail) (newNumber M m) (bad || not (plain c)) cs) (stopped UnsafeName))))) ≡
-        cond u (troubleOf nodes start k (suc level) bad cs) (cond v (troubleOf nodes start k level bad cs)
-        (cond (safe c) (troubleOf nodes start k (suc (suc level)) (bad || not (plain c)) cs) (Err UnsafeName)))
+        made_verdict (cond u (make M (j ∷ trail) m bad cs) (cond v (make M trail j bad cs)
+        (if_found (child_of M m c) (λ i. make M (m ∷ j ∷ trail) i bad cs) (cond (safe c) (make (insert_at m (empty_directory c (new_number M m)) M) (m ∷ j ∷ trail) (new_number M m) (bad || not (plain c)) cs) (stopped UnsafeName))))) ≡
+        cond u (trouble_of nodes start k (suc level) bad cs) (cond v (trouble_of nodes start k level bad cs)
+        (cond (safe c) (trouble_of nodes start k (suc (suc level)) (bad || not (plain c)) cs) (Err UnsafeName)))
     go true v ih = ih M φ ν bad (suc level) (j ∷ trail) m k g s h
     go false true ih = ih M φ ν bad level trail j k g s.2 (omega (arith, s.1))
     go false false ih = dive nodes start c cs ih M φ ν bad (j ∷ trail) m k g h (g.dirs m h s.0) (suc level) s (g.below m h s.0 c)
 
-pub make-trouble : (nodes : List Node) (start : ℕ) (cs : List (List ℕ)) → Nested nodes → start < length nodes → madeVerdict (make nodes [] start false cs) ≡ troubleOf nodes start start 0 false cs
+pub make-trouble : (nodes : List Node) (start : ℕ) (cs : List (List ℕ)) → Nested nodes → start < length nodes → made_verdict (make nodes [] start false cs) ≡ trouble_of nodes start start 0 false cs
 make-trouble nodes start cs n h = same nodes start cs nodes (λ k. k) (λ j. false) false 0 [] start start none_yet (refl, h, refl) h
   where
     never : false ≡ true → ⊥

@@ -7,28 +7,28 @@ use Rattle.std.specs.Prelude.{ℕ, zero, suc, Bool, cond, not, ◌||◌, List, [
 use Rattle.refusal.specs.declared.Refusal.TheVariants.{InvalidNameByte, UnsafeName, ExpectedDirectory, NotFound}
 use Rattle.refusal.specs.Refusal.{refuse}
 use Rattle.tree.specs.Table.{Node, none, plain, safe, parent_of}
-use Rattle.tree.specs.Lookup.{isDirectory, stays, goesBack, childOf}
+use Rattle.tree.specs.Lookup.{is_directory, stays, goes_back, child_of}
 use Rattle.edits.specs.Edits.{Made, stopped, made}
 
-abbrev pub ifChild : Result ℕ Refusal → (ℕ → Verdict) → Verdict → Verdict
-ifChild (Ok k) f missing = f k
-ifChild (Err c) f missing = missing
+abbrev pub if_child : Result ℕ Refusal → (ℕ → Verdict) → Verdict → Verdict
+if_child (Ok k) f missing = f k
+if_child (Err c) f missing = missing
 
-unfoldable pub troubleOf : List Node → ℕ → ℕ → ℕ → Bool → List (List ℕ) → Verdict
-troubleOf nodes start k zero bad [] = cond (isDirectory (get_or nodes k none)) (refuse bad InvalidNameByte (Ok tt)) (Err ExpectedDirectory)
-troubleOf nodes start k (suc level) bad [] = refuse bad InvalidNameByte (Ok tt)
-troubleOf nodes start k zero bad (c ∷ cs) =
-    cond (isDirectory (get_or nodes k none))
-    (cond (stays c) (troubleOf nodes start k zero bad cs)
-    (cond (goesBack c) (cond (eqb k start) (Err NotFound) (troubleOf nodes start (parent_of nodes k) zero bad cs))
-    (ifChild (childOf nodes k c) (λ j. troubleOf nodes start j zero bad cs)
-    (cond (safe c) (troubleOf nodes start k 1 (bad || not (plain c)) cs) (Err UnsafeName)))))
+unfoldable pub trouble_of : List Node → ℕ → ℕ → ℕ → Bool → List (List ℕ) → Verdict
+trouble_of nodes start k zero bad [] = cond (is_directory (get_or nodes k none)) (refuse bad InvalidNameByte (Ok tt)) (Err ExpectedDirectory)
+trouble_of nodes start k (suc level) bad [] = refuse bad InvalidNameByte (Ok tt)
+trouble_of nodes start k zero bad (c ∷ cs) =
+    cond (is_directory (get_or nodes k none))
+    (cond (stays c) (trouble_of nodes start k zero bad cs)
+    (cond (goes_back c) (cond (eqb k start) (Err NotFound) (trouble_of nodes start (parent_of nodes k) zero bad cs))
+    (if_child (child_of nodes k c) (λ j. trouble_of nodes start j zero bad cs)
+    (cond (safe c) (trouble_of nodes start k 1 (bad || not (plain c)) cs) (Err UnsafeName)))))
     (Err ExpectedDirectory)
-troubleOf nodes start k (suc level) bad (c ∷ cs) =
-    cond (stays c) (troubleOf nodes start k (suc level) bad cs)
-    (cond (goesBack c) (troubleOf nodes start k level bad cs)
-    (cond (safe c) (troubleOf nodes start k (suc (suc level)) (bad || not (plain c)) cs) (Err UnsafeName)))
+trouble_of nodes start k (suc level) bad (c ∷ cs) =
+    cond (stays c) (trouble_of nodes start k (suc level) bad cs)
+    (cond (goes_back c) (trouble_of nodes start k level bad cs)
+    (cond (safe c) (trouble_of nodes start k (suc (suc level)) (bad || not (plain c)) cs) (Err UnsafeName)))
 
-abbrev pub madeVerdict : Made → Verdict
-madeVerdict (stopped c) = Err c
-madeVerdict (made nodes k bad) = refuse bad InvalidNameByte (Ok tt)
+abbrev pub made_verdict : Made → Verdict
+made_verdict (stopped c) = Err c
+made_verdict (made nodes k bad) = refuse bad InvalidNameByte (Ok tt)

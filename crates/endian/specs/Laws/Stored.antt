@@ -11,7 +11,7 @@ use Rattle.std.proofs.Math.ListN.{length, drop, length-append, length-drop, get_
 use Rattle.std.proofs.lemmas.List.Edits.{sets, sets-eq}
 use Rattle.std.proofs.Math.Seq.{get_or-take, take-append_seam, drop-drop, append_snoc}
 use Rattle.std.proofs.lemmas.List.{set_at}
-use Rattle.endian.specs.Bytes.{be24, be32, be24Bytes, be32Bytes, put, span, sameBytes, AllBytes}
+use Rattle.endian.specs.Bytes.{be24, be32, be24_bytes, be32_bytes, put, span, same_bytes, AllBytes}
 use Rattle.refusal.specs.Laws.Tests.{lt-or-le}
 
 -- ---- numbers: their bytes give the number back
@@ -97,15 +97,15 @@ unfolding put
 put-none s at = rw (add-zero at) (take-append-drop at s)
 
 -- a number put is read
-pub be24-put : (s : List ℕ) (at v : ℕ) → at + 3 ≤ length s → v < 2 ^ 24 → be24 (put s at (be24Bytes v)) at ≡ v
+pub be24-put : (s : List ℕ) (at v : ℕ) → at + 3 ≤ length s → v < 2 ^ 24 → be24 (put s at (be24_bytes v)) at ≡ v
 unfolding be24
 be24-put s at v h small =
-    rw (rw (add-zero at) at (put_in s at (be24Bytes v) h 0 (omega arith)), put_in s at (be24Bytes v) h 1 (omega arith), put_in s at (be24Bytes v) h 2 (omega arith)) (be24-value v small)
+    rw (rw (add-zero at) at (put_in s at (be24_bytes v) h 0 (omega arith)), put_in s at (be24_bytes v) h 1 (omega arith), put_in s at (be24_bytes v) h 2 (omega arith)) (be24-value v small)
 
-pub be32-put : (s : List ℕ) (at v : ℕ) → at + 4 ≤ length s → v < 2 ^ 32 → be32 (put s at (be32Bytes v)) at ≡ v
+pub be32-put : (s : List ℕ) (at v : ℕ) → at + 4 ≤ length s → v < 2 ^ 32 → be32 (put s at (be32_bytes v)) at ≡ v
 unfolding be32
 be32-put s at v h small =
-    rw (rw (add-zero at) at (put_in s at (be32Bytes v) h 0 (omega arith)), put_in s at (be32Bytes v) h 1 (omega arith), put_in s at (be32Bytes v) h 2 (omega arith), put_in s at (be32Bytes v) h 3 (omega arith)) (be32-value v small)
+    rw (rw (add-zero at) at (put_in s at (be32_bytes v) h 0 (omega arith)), put_in s at (be32_bytes v) h 1 (omega arith), put_in s at (be32_bytes v) h 2 (omega arith), put_in s at (be32_bytes v) h 3 (omega arith)) (be32-value v small)
 
 -- two lists that agree on the bytes of a field have the same number there
 pub be24-same : (l m : List ℕ) (at : ℕ) → Same l m at 3 → be24 l at ≡ be24 m at
@@ -160,8 +160,8 @@ put-cons s at bs b h =
 pub length-span : (s : List ℕ) (at n : ℕ) → at + n ≤ length s → length (span s at n) ≡ n
 length-span s at n h = length-take-le n (drop at s) (rw length-drop (omega arith))
 
-pub getD-span : (s : List ℕ) (at n i : ℕ) → i < n → get_or (span s at n) i 0 ≡ get_or s (at + i) 0
-getD-span s at n i h = get_or-take n (drop at s) i 0 h ∙ get_or-drop at s i 0
+pub get_d-span : (s : List ℕ) (at n i : ℕ) → i < n → get_or (span s at n) i 0 ≡ get_or s (at + i) 0
+get_d-span s at n i h = get_or-take n (drop at s) i 0 h ∙ get_or-drop at s i 0
 
 pub span-snoc : (s : List ℕ) (at n : ℕ) → at + n < length s → span s at (suc n) ≡ span s at n ++ (get_or s (at + n) 0 ∷ [])
 span-snoc s at n h = rw (← get_or-drop at s n 0) (take-suc (drop at s) n 0 (rw length-drop (omega arith)))
@@ -173,22 +173,22 @@ span-cons s at n h = rw (drop-cons s at 0 h)
 pub span_ext : (l m : List ℕ) (at n : ℕ) → at + n ≤ length l → at + n ≤ length m → Same l m at n → span l at n ≡ span m at n
 span_ext l m at n h k f =
     ext_get_or 0 (span l at n) (span m at n) (length-span l at n h ∙ sym (length-span m at n k))
-    (λ i j. let i' : i < n = rw (length-span l at n h) at j in getD-span l at n i i' ∙ f i i' ∙ sym (getD-span m at n i i'))
+    (λ i j. let i' : i < n = rw (length-span l at n h) at j in get_d-span l at n i i' ∙ f i i' ∙ sym (get_d-span m at n i i'))
 
 -- ---- bytes compared
 
-pub same_refl : (s : List ℕ) → sameBytes s s ≡ true
-unfolding sameBytes
+pub same_refl : (s : List ℕ) → same_bytes s s ≡ true
+unfolding same_bytes
 same_refl [] = refl
 same_refl (x ∷ xs) = rw (eq-eqb x x refl) (same_refl xs)
 
-pub same-eq : (s t : List ℕ) → sameBytes s t ≡ true → s ≡ t
-unfolding sameBytes
+pub same-eq : (s t : List ℕ) → same_bytes s t ≡ true → s ≡ t
+unfolding same_bytes
 same-eq [] [] h = refl
 same-eq [] (y ∷ ys) h = let z : ◌≡◌ {A = ℕ} 0 1 = cc in absurd (omega arith)
 same-eq (x ∷ xs) [] h = let z : ◌≡◌ {A = ℕ} 0 1 = cc in absurd (omega arith)
 same-eq (x ∷ xs) (y ∷ ys) h = go (eqb x y) refl h (same-eq xs ys)
   where
-    go : (t : Bool) → eqb x y ≡ t → (t && sameBytes xs ys) ≡ true → (sameBytes xs ys ≡ true → xs ≡ ys) → x ∷ xs ≡ y ∷ ys
+    go : (t : Bool) → eqb x y ≡ t → (t && same_bytes xs ys) ≡ true → (same_bytes xs ys ≡ true → xs ≡ ys) → x ∷ xs ≡ y ∷ ys
     go true e q f = rw (eqb-true x y e, f q)
     go false e q f = let z : ◌≡◌ {A = ℕ} 0 1 = cc in absurd (omega arith)

@@ -5,10 +5,10 @@ use Rattle.endian.specs.Bytes.{be32}
 use Rattle.refusal.specs.declared.Refusal.TheVariants.{OverlappingRegions}
 use Rattle.refusal.specs.Refusal.{number_of, Verdict}
 use Rattle.space.specs.declared.region.DiscRegion.{DiscRegion}
-use Rattle.space.specs.Used.{nonempty, totalSize, usedRegions, usedTotal}
-use Rattle.space.specs.Layout.{disjoint, disjointFromAll, pairwise_disjoint, endBy, disjointBelow, regionsVerdict}
-use Rattle.executable.specs.Dol.{wordsAt, largestOf}
-use Rattle.executable.specs.Program.{programFrom, ownRegion}
+use Rattle.space.specs.Used.{nonempty, total_size, used_regions, used_total}
+use Rattle.space.specs.Layout.{disjoint, disjoint_from_all, pairwise_disjoint, end_by, disjoint_below, regions_verdict}
+use Rattle.executable.specs.Dol.{words_at, largest_of}
+use Rattle.executable.specs.Program.{program_from, own_region}
 
 abbrev at : ℕ → ℕ → DiscRegion
 at o n = record { offset = o; size = n }
@@ -18,10 +18,10 @@ file = at 0x600 0x100
 
 -- 14 or not, with a table of 0x1A bytes at 0x440 and the file; with one at 0x600 and no file
 abbrev behind : ℕ → ℕ → Verdict
-behind o n = regionsVerdict 0x900 (usedRegions 0x45A (ownRegion 0x440 (at o n) ∷ file ∷ []))
+behind o n = regions_verdict 0x900 (used_regions 0x45A (own_region 0x440 (at o n) ∷ file ∷ []))
 
 abbrev before : ℕ → ℕ → Verdict
-before o n = regionsVerdict 0x900 (usedRegions 0x61A (ownRegion 0x600 (at o n) ∷ []))
+before o n = regions_verdict 0x900 (used_regions 0x61A (own_region 0x600 (at o n) ∷ []))
 
 pub record Places : Type 0 where
   -- "wholly from the table end on": from the table's end on, and one byte of the table
@@ -34,11 +34,11 @@ pub record Places : Type 0 where
   -- "wholly between 0x440 and the FST offset", one byte before, one byte into the table, and across it
   pub between : (before 0x440 0x1C0 ≡ Ok tt) × (before 0x43F 0x1C0 ≡ Err OverlappingRegions) × (before 0x440 0x1C1 ≡ Err OverlappingRegions) × (before 0x500 0x200 ≡ Err OverlappingRegions)
   -- "Used totals .. gain the program where it lies past the table"
-  pub totals : (usedTotal 0x45A (ownRegion 0x440 (at 0x700 0x100) ∷ file ∷ []) ≡ 0x65A) × (usedTotal 0x61A (ownRegion 0x600 (at 0x440 0x1C0) ∷ []) ≡ 0x61A)
+  pub totals : (used_total 0x45A (own_region 0x440 (at 0x700 0x100) ∷ file ∷ []) ≡ 0x65A) × (used_total 0x61A (own_region 0x600 (at 0x440 0x1C0) ∷ []) ≡ 0x61A)
   pub fourteen : number_of OverlappingRegions ≡ 14
 
 pub places : Places
-unfolding ownRegion nonempty totalSize disjointBelow pairwise_disjoint disjointFromAll disjoint endBy
+unfolding own_region nonempty total_size disjoint_below pairwise_disjoint disjoint_from_all disjoint end_by
 places = record {
   abuts-table = refl;
   in_table = refl;
@@ -54,6 +54,6 @@ abbrev header : ℕ → ℕ → List ℕ
 header offset size = (0 ∷ 0 ∷ 0 ∷ offset ∷ []) ++ (replicate 0x8C 0 ++ ((0 ∷ 0 ∷ 0 ∷ size ∷ []) ++ replicate 0x50 0))
 
 -- "as long as the DOL's file size and at least 0xE4": 0xE3, 0xE4 and 0xE5 bytes
-pub least : ((programFrom (header 0xE0 3) 0).size ≡ 0xE4) × ((programFrom (header 0xE0 4) 0).size ≡ 0xE4) × ((programFrom (header 0xE0 5) 0).size ≡ 0xE5)
-unfolding be32 wordsAt largestOf
+pub least : ((program_from (header 0xE0 3) 0).size ≡ 0xE4) × ((program_from (header 0xE0 4) 0).size ≡ 0xE4) × ((program_from (header 0xE0 5) 0).size ≡ 0xE5)
+unfolding be32 words_at largest_of
 least = (refl, refl, refl)

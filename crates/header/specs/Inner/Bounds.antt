@@ -2,13 +2,13 @@
 use Rattle.std.specs.Prelude.{Ok, ℕ, ◌-◌, ◌^◌, List, ltb}
 use Rattle.refusal.specs.declared.Refusal.TheVariants.{InvalidBounds}
 use Rattle.refusal.specs.Refusal.{Verdict, refuse}
-use Rattle.header.specs.Verdicts.{fstOffset, discEnd, table_end}
+use Rattle.header.specs.Verdicts.{fst_offset, disc_end, table_end}
 
--- of a whole image, with its own length, this is `boundsVerdict`
-unfoldable pub boundsWithin : List ℕ → ℕ → Verdict
-boundsWithin header image-length =
-    refuse (ltb (fstOffset header) 0x440) InvalidBounds
-    (refuse (ltb (2 ^ 32 - 1) (discEnd header)) InvalidBounds
-    (refuse (ltb (discEnd header) (table_end header)) InvalidBounds
-    (refuse (ltb image-length (discEnd header)) InvalidBounds
+-- of a whole image, with its own length, this is `bounds_verdict`
+unfoldable pub bounds_within : List ℕ → ℕ → Verdict
+bounds_within header image-length =
+    refuse (ltb (fst_offset header) 0x440) InvalidBounds
+    (refuse (ltb (2 ^ 32 - 1) (disc_end header)) InvalidBounds
+    (refuse (ltb (disc_end header) (table_end header)) InvalidBounds
+    (refuse (ltb image-length (disc_end header)) InvalidBounds
     (Ok tt))))

@@ -5,15 +5,15 @@ use Rattle.std.proofs.Math.Path.{sym, ap}
 use Rattle.std.proofs.Common.{◌∙◌, arith, add-zero, take-append-drop, drop-drop, le-ltb}
 use mathlib.Core.List.{List, [], ◌∷◌, map}
 use Rattle.std.proofs.Math.Nat.{div-div-eq-div-mul}
-use Rattle.endian.specs.Bytes.{be32, be32Bytes, put, span, AllBytes}
-use Rattle.endian.specs.Laws.Stored.{be32-value, length-put, put-before, put-after, span-put, length-span, getD-span, span-cons, span_ext}
+use Rattle.endian.specs.Bytes.{be32, be32_bytes, put, span, AllBytes}
+use Rattle.endian.specs.Laws.Stored.{be32-value, length-put, put-before, put-after, span-put, length-span, get_d-span, span-cons, span_ext}
 use Rattle.refusal.specs.Refusal.{Verdict}
 use Rattle.header.specs.declared.fields.Field.{Field}
 use Rattle.header.specs.declared.value.DiscHeader.{DiscHeader}
-use Rattle.header.specs.Fields.{fields, gameCodeField, makerCodeField, discIdField, versionField, audioStreamingField, streamBufferSizeField, unused00aField, wiiMagicField, gcnMagicField, gameNameField, debugMonitorOffsetField, debugMonitorAddrField, unused408Field, dolOffsetField, fstOffsetField, fstSizeField, fstMaxSizeField, userPositionField, userSizeField, discSizeField, unused43cField}
+use Rattle.header.specs.Fields.{fields, game_code_field, maker_code_field, disc_id_field, version_field, audio_streaming_field, stream_buffer_size_field, unused00a_field, wii_magic_field, gcn_magic_field, game_name_field, debug_monitor_offset_field, debug_monitor_addr_field, unused408_field, dol_offset_field, fst_offset_field, fst_size_field, fst_max_size_field, user_position_field, user_size_field, disc_size_field, unused43c_field}
 use Rattle.header.specs.Inner.Judged.{nth}
-use Rattle.header.specs.Verdicts.{gcnMagic, wiiMagic, word_of, headerVerdict}
-use Rattle.header.specs.Header.{bytes_of, byte_of, headerOf, headerAnswer, headerRead, fieldBytes, putFields, putHeader, headerWritten}
+use Rattle.header.specs.Verdicts.{gcn_magic, wii_magic, word_of, header_verdict}
+use Rattle.header.specs.Header.{bytes_of, byte_of, header_of, header_answer, header_read, field_bytes, put_fields, put_header, header_written}
 use Rattle.header.specs.Laws.FieldTests.{GoodHeader, header-passed, header-passes}
 use Rattle.header.specs.Laws.Tiling.{fields-tile, tile-start, tile-rest, tile-le, tile}
 
@@ -34,55 +34,55 @@ module _ (a b : ℕ) (f : Field) (fs : List Field) (t : tile a b (f ∷ fs) ≡ 
   still : b ≤ length (put image f.at bs)
   still = rw (length-put image f.at bs inside) fits
 
-pub length-putFields : (a b : ℕ) (fs : List Field) (bss : List (List ℕ)) (image : List ℕ) → tile a b fs ≡ true → Fills fs bss → b ≤ length image → length (putFields fs bss image) ≡ length image
-unfolding putFields
-length-putFields a b [] bss image t s fits = refl
-length-putFields a b (f ∷ fs) [] image t s fits = refl
-length-putFields a b (f ∷ fs) (bs ∷ bss) image t s fits =
-    length-putFields (a + f.len) b fs bss (put image f.at bs) (tile-rest a b f fs t) s.1 (still a b f fs t bs s.0 image fits)
+pub length-put_fields : (a b : ℕ) (fs : List Field) (bss : List (List ℕ)) (image : List ℕ) → tile a b fs ≡ true → Fills fs bss → b ≤ length image → length (put_fields fs bss image) ≡ length image
+unfolding put_fields
+length-put_fields a b [] bss image t s fits = refl
+length-put_fields a b (f ∷ fs) [] image t s fits = refl
+length-put_fields a b (f ∷ fs) (bs ∷ bss) image t s fits =
+    length-put_fields (a + f.len) b fs bss (put image f.at bs) (tile-rest a b f fs t) s.1 (still a b f fs t bs s.0 image fits)
     ∙ length-put image f.at bs (inside a b f fs t bs s.0 image fits)
 
 -- what lies before the fields, and what lies behind them, stays
-pub putFields-before : (a b : ℕ) (fs : List Field) (bss : List (List ℕ)) (image : List ℕ) → tile a b fs ≡ true → Fills fs bss → b ≤ length image → (i : ℕ) → i < a → get_or (putFields fs bss image) i 0 ≡ get_or image i 0
-unfolding putFields
-putFields-before a b [] bss image t s fits i h = refl
-putFields-before a b (f ∷ fs) [] image t s fits i h = refl
-putFields-before a b (f ∷ fs) (bs ∷ bss) image t s fits i h =
-    putFields-before (a + f.len) b fs bss (put image f.at bs) (tile-rest a b f fs t) s.1 (still a b f fs t bs s.0 image fits) i (omega arith)
+pub put_fields-before : (a b : ℕ) (fs : List Field) (bss : List (List ℕ)) (image : List ℕ) → tile a b fs ≡ true → Fills fs bss → b ≤ length image → (i : ℕ) → i < a → get_or (put_fields fs bss image) i 0 ≡ get_or image i 0
+unfolding put_fields
+put_fields-before a b [] bss image t s fits i h = refl
+put_fields-before a b (f ∷ fs) [] image t s fits i h = refl
+put_fields-before a b (f ∷ fs) (bs ∷ bss) image t s fits i h =
+    put_fields-before (a + f.len) b fs bss (put image f.at bs) (tile-rest a b f fs t) s.1 (still a b f fs t bs s.0 image fits) i (omega arith)
     ∙ put-before image f.at bs (inside a b f fs t bs s.0 image fits) i (omega (arith, tile-start a b f fs t))
 
-pub putFields-after : (a b : ℕ) (fs : List Field) (bss : List (List ℕ)) (image : List ℕ) → tile a b fs ≡ true → Fills fs bss → b ≤ length image → (i : ℕ) → b ≤ i → get_or (putFields fs bss image) i 0 ≡ get_or image i 0
-unfolding putFields
-putFields-after a b [] bss image t s fits i h = refl
-putFields-after a b (f ∷ fs) [] image t s fits i h = refl
-putFields-after a b (f ∷ fs) (bs ∷ bss) image t s fits i h =
-    putFields-after (a + f.len) b fs bss (put image f.at bs) (tile-rest a b f fs t) s.1 (still a b f fs t bs s.0 image fits) i h
+pub put_fields-after : (a b : ℕ) (fs : List Field) (bss : List (List ℕ)) (image : List ℕ) → tile a b fs ≡ true → Fills fs bss → b ≤ length image → (i : ℕ) → b ≤ i → get_or (put_fields fs bss image) i 0 ≡ get_or image i 0
+unfolding put_fields
+put_fields-after a b [] bss image t s fits i h = refl
+put_fields-after a b (f ∷ fs) [] image t s fits i h = refl
+put_fields-after a b (f ∷ fs) (bs ∷ bss) image t s fits i h =
+    put_fields-after (a + f.len) b fs bss (put image f.at bs) (tile-rest a b f fs t) s.1 (still a b f fs t bs s.0 image fits) i h
     ∙ put-after image f.at bs (inside a b f fs t bs s.0 image fits) i (omega (arith, tile-start a b f fs t, s.0, tile-le (a + f.len) b fs (tile-rest a b f fs t)))
 
 -- each field holds its bytes
-pub putFields-in : (a b : ℕ) (fs : List Field) (bss : List (List ℕ)) (image : List ℕ) → tile a b fs ≡ true → Fills fs bss → b ≤ length image → (k : ℕ) → k < length fs → bytes_of (nth fs k) (putFields fs bss image) ≡ get_or bss k []
-unfolding putFields
-putFields-in a b [] bss image t s fits k h = absurd (omega arith)
-putFields-in a b (f ∷ fs) [] image t s fits k h = absurd s
-putFields-in a b (f ∷ fs) (bs ∷ bss) image t s fits zero h =
+pub put_fields-in : (a b : ℕ) (fs : List Field) (bss : List (List ℕ)) (image : List ℕ) → tile a b fs ≡ true → Fills fs bss → b ≤ length image → (k : ℕ) → k < length fs → bytes_of (nth fs k) (put_fields fs bss image) ≡ get_or bss k []
+unfolding put_fields
+put_fields-in a b [] bss image t s fits k h = absurd (omega arith)
+put_fields-in a b (f ∷ fs) [] image t s fits k h = absurd s
+put_fields-in a b (f ∷ fs) (bs ∷ bss) image t s fits zero h =
     let j : List ℕ = put image f.at bs in
     let r = tile-rest a b f fs t in
     let w = still a b f fs t bs s.0 image fits in
     let o : f.at ≡ a = tile-start a b f fs t in
-    let l = length-putFields (a + f.len) b fs bss j r s.1 w in
+    let l = length-put_fields (a + f.len) b fs bss j r s.1 w in
     let n : f.at + f.len ≤ length j = omega (arith, tile-le (a + f.len) b fs r) in
-    span_ext (putFields fs bss j) j f.at f.len (rw l n) n (λ i g. putFields-before (a + f.len) b fs bss j r s.1 w (f.at + i) (omega arith))
+    span_ext (put_fields fs bss j) j f.at f.len (rw l n) n (λ i g. put_fields-before (a + f.len) b fs bss j r s.1 w (f.at + i) (omega arith))
     ∙ rw s.0 at (span-put image f.at bs (inside a b f fs t bs s.0 image fits))
-putFields-in a b (f ∷ fs) (bs ∷ bss) image t s fits (suc k) h =
-    putFields-in (a + f.len) b fs bss (put image f.at bs) (tile-rest a b f fs t) s.1 (still a b f fs t bs s.0 image fits) k (omega arith)
+put_fields-in a b (f ∷ fs) (bs ∷ bss) image t s fits (suc k) h =
+    put_fields-in (a + f.len) b fs bss (put image f.at bs) (tile-rest a b f fs t) s.1 (still a b f fs t bs s.0 image fits) k (omega arith)
 
 -- a span put back where it is changes nothing
 put-span : (s : List ℕ) (at n : ℕ) → at + n ≤ length s → put s at (span s at n) ≡ s
 unfolding put
 put-span s at n h = rw (length-span s at n h, ← drop-drop n at s, take-append-drop n (drop at s)) (take-append-drop at s)
 
-put-spans : (a b : ℕ) (fs : List Field) (image : List ℕ) → tile a b fs ≡ true → b ≤ length image → putFields fs (map (λ (f : Field). bytes_of f image) fs) image ≡ image
-unfolding putFields
+put-spans : (a b : ℕ) (fs : List Field) (image : List ℕ) → tile a b fs ≡ true → b ≤ length image → put_fields fs (map (λ (f : Field). bytes_of f image) fs) image ≡ image
+unfolding put_fields
 put-spans a b [] image t fits = refl
 put-spans a b (f ∷ fs) image t fits =
     let h : f.at + f.len ≤ length image = omega (arith, tile-start a b f fs t, tile-le (a + f.len) b fs (tile-rest a b f fs t)) in
@@ -94,12 +94,12 @@ byte-span : (s : List ℕ) (at : ℕ) → at + 1 ≤ length s → span s at 1 �
 byte-span s at h = span-cons s at 0 (omega arith)
 
 read_byte : (s : List ℕ) (at v : ℕ) → span s at 1 ≡ v ∷ [] → get_or s at 0 ≡ v
-read_byte s at v e = rw (add-zero at) at (sym (getD-span s at 1 0 (omega arith))) ∙ ap (λ (l : List ℕ). get_or l 0 0) e
+read_byte s at v e = rw (add-zero at) at (sym (get_d-span s at 1 0 (omega arith))) ∙ ap (λ (l : List ℕ). get_or l 0 0) e
 
-read_word : (s : List ℕ) (at v : ℕ) → span s at 4 ≡ be32Bytes v → v < 2 ^ 32 → be32 s at ≡ v
+read_word : (s : List ℕ) (at v : ℕ) → span s at 4 ≡ be32_bytes v → v < 2 ^ 32 → be32 s at ≡ v
 unfolding be32
 read_word s at v e small =
-    let g : (i : ℕ) → i < 4 → get_or s (at + i) 0 ≡ get_or (be32Bytes v) i 0 = λ i h. sym (getD-span s at 4 i h) ∙ ap (λ (l : List ℕ). get_or l i 0) e in
+    let g : (i : ℕ) → i < 4 → get_or s (at + i) 0 ≡ get_or (be32_bytes v) i 0 = λ i h. sym (get_d-span s at 4 i h) ∙ ap (λ (l : List ℕ). get_or l i 0) e in
     rw (rw (add-zero at) at (g 0 (omega arith)), g 1 (omega arith), g 2 (omega arith), g 3 (omega arith)) (be32-value v small)
 
 low : (m d : ℕ) → d < 256 → (m * 256 + d) % 256 ≡ d
@@ -109,7 +109,7 @@ high : (m d : ℕ) → d < 256 → (m * 256 + d) / 256 ≡ m
 high m d h = omega arith
 
 -- the bytes of a number of four bytes are those bytes
-spelt : (a b c d : ℕ) → b < 256 → c < 256 → d < 256 → a < 256 → be32Bytes (((a * 256 + b) * 256 + c) * 256 + d) ≡ a ∷ b ∷ c ∷ d ∷ []
+spelt : (a b c d : ℕ) → b < 256 → c < 256 → d < 256 → a < 256 → be32_bytes (((a * 256 + b) * 256 + c) * 256 + d) ≡ a ∷ b ∷ c ∷ d ∷ []
 spelt a b c d hb hc hd ha =
     let n : ℕ = ((a * 256 + b) * 256 + c) * 256 + d in
     let e₁ : n / 256 ≡ (a * 256 + b) * 256 + c = high ((a * 256 + b) * 256 + c) d hd in
@@ -121,7 +121,7 @@ spelt a b c d hb hc hd ha =
     let f₀ : n % 256 ≡ d = low ((a * 256 + b) * 256 + c) d hd in
     λ i. f₃ i ∷ f₂ i ∷ f₁ i ∷ f₀ i ∷ []
 
-word-span : (s : List ℕ) (at : ℕ) → AllBytes s → at + 4 ≤ length s → be32Bytes (be32 s at) ≡ span s at 4
+word-span : (s : List ℕ) (at : ℕ) → AllBytes s → at + 4 ≤ length s → be32_bytes (be32 s at) ≡ span s at 4
 unfolding be32
 word-span s at b h =
     let x : ℕ = get_or s at 0 in
@@ -134,30 +134,30 @@ word-span s at b h =
     let a₃ : at + 3 ≡ suc (suc (suc at)) = omega arith in
     let l : span s at 4 ≡ x ∷ y ∷ z ∷ w ∷ [] =
     rw (a₁, a₂, a₃, span-cons s at 3 (omega arith), span-cons s (suc at) 2 (omega arith), span-cons s (suc (suc at)) 1 (omega arith), span-cons s (suc (suc (suc at))) 0 (omega arith)) in
-    ap be32Bytes e ∙ spelt x y z w (b (at + 1)) (b (at + 2)) (b (at + 3)) (b at) ∙ sym l
+    ap be32_bytes e ∙ spelt x y z w (b (at + 1)) (b (at + 2)) (b (at + 3)) (b at) ∙ sym l
 
 -- ---- read and written back
 
 module _ (image : List ℕ) (whole : 0x440 ≤ length image) (bytes : AllBytes image) where
   -- what a header that was read puts in each field is what the field holds
-  spans : fieldBytes (headerOf image) ≡ map (λ (f : Field). bytes_of f image) fields
-  unfolding fields fieldBytes headerOf
+  spans : field_bytes (header_of image) ≡ map (λ (f : Field). bytes_of f image) fields
+  unfolding fields field_bytes header_of
   spans =
       let b : (f : Field) → f.at + 1 ≤ 0x440 → byte_of f image ∷ [] ≡ span image f.at 1 = λ f h. sym (byte-span image f.at (omega arith)) in
-      let w : (f : Field) → f.at + 4 ≤ 0x440 → be32Bytes (word_of f image) ≡ span image f.at 4 = λ f h. word-span image f.at bytes (omega arith) in
-      λ i. bytes_of gameCodeField image ∷ bytes_of makerCodeField image ∷ b discIdField (omega arith) i ∷ b versionField (omega arith) i ∷ b audioStreamingField (omega arith) i ∷ b streamBufferSizeField (omega arith) i ∷ bytes_of unused00aField image ∷ w wiiMagicField (omega arith) i ∷ w gcnMagicField (omega arith) i ∷ bytes_of gameNameField image ∷ w debugMonitorOffsetField (omega arith) i ∷ w debugMonitorAddrField (omega arith) i ∷ bytes_of unused408Field image ∷ w dolOffsetField (omega arith) i ∷ w fstOffsetField (omega arith) i ∷ w fstSizeField (omega arith) i ∷ w fstMaxSizeField (omega arith) i ∷ w userPositionField (omega arith) i ∷ w userSizeField (omega arith) i ∷ w discSizeField (omega arith) i ∷ w unused43cField (omega arith) i ∷ []
+      let w : (f : Field) → f.at + 4 ≤ 0x440 → be32_bytes (word_of f image) ≡ span image f.at 4 = λ f h. word-span image f.at bytes (omega arith) in
+      λ i. bytes_of game_code_field image ∷ bytes_of maker_code_field image ∷ b disc_id_field (omega arith) i ∷ b version_field (omega arith) i ∷ b audio_streaming_field (omega arith) i ∷ b stream_buffer_size_field (omega arith) i ∷ bytes_of unused00a_field image ∷ w wii_magic_field (omega arith) i ∷ w gcn_magic_field (omega arith) i ∷ bytes_of game_name_field image ∷ w debug_monitor_offset_field (omega arith) i ∷ w debug_monitor_addr_field (omega arith) i ∷ bytes_of unused408_field image ∷ w dol_offset_field (omega arith) i ∷ w fst_offset_field (omega arith) i ∷ w fst_size_field (omega arith) i ∷ w fst_max_size_field (omega arith) i ∷ w user_position_field (omega arith) i ∷ w user_size_field (omega arith) i ∷ w disc_size_field (omega arith) i ∷ w unused43c_field (omega arith) i ∷ []
 
-  pub write_read : putHeader (headerOf image) image ≡ image
+  pub write_read : put_header (header_of image) image ≡ image
   write_read = rw spans (put-spans 0 0x440 fields image fields-tile whole)
 
 -- a header that was read as good is written back as it was: the game name, the word at 0x18 and the unused runs too
-pub write-after-read : (image : List ℕ) (h : DiscHeader) → headerRead image ≡ Ok h → AllBytes image → headerWritten h image ≡ image
-write-after-read image h e bytes = go (headerVerdict image) refl e
+pub write-after-read : (image : List ℕ) (h : DiscHeader) → header_read image ≡ Ok h → AllBytes image → header_written h image ≡ image
+write-after-read image h e bytes = go (header_verdict image) refl e
   where
-    go : (v : Verdict) → headerVerdict image ≡ v → headerAnswer v (headerOf image) ≡ Ok h → headerWritten h image ≡ image
+    go : (v : Verdict) → header_verdict image ≡ v → header_answer v (header_of image) ≡ Ok h → header_written h image ≡ image
     go (Ok _) q r =
         let w : 0x440 ≤ length image = (header-passed image q).whole in
-        let f : headerOf image ≡ h = cc in
+        let f : header_of image ≡ h = cc in
         rw (← f, le-ltb (length image) 0x440 w) (write_read image w bytes)
     go (Err c) q r = let z : ◌≡◌ {A = ℕ} 0 1 = cc in absurd (omega arith)
 
@@ -184,51 +184,51 @@ pub record Sized (h : DiscHeader) : Type 0 where
   pub unused-43c : h.unused_43c < 2 ^ 32
 
 module _ (h : DiscHeader) (s : Sized h) (image : List ℕ) (whole : 0x440 ≤ length image) where
-  fills : Fills fields (fieldBytes h)
-  unfolding fields fieldBytes
+  fills : Fills fields (field_bytes h)
+  unfolding fields field_bytes
   fills = (s.game-code, (s.maker-code, (refl, (refl, (refl, (refl, (s.unused-00a, (refl, (refl, (s.game-name, (refl, (refl, (s.unused-408, (refl, (refl, (refl, (refl, (refl, (refl, (refl, (refl, tt)))))))))))))))))))))
 
-  pub length-written : length (putHeader h image) ≡ length image
-  length-written = length-putFields 0 0x440 fields (fieldBytes h) image fields-tile fills whole
+  pub length-written : length (put_header h image) ≡ length image
+  length-written = length-put_fields 0 0x440 fields (field_bytes h) image fields-tile fills whole
 
   -- the bytes behind the header stay
-  pub written_behind : (i : ℕ) → 0x440 ≤ i → get_or (putHeader h image) i 0 ≡ get_or image i 0
-  written_behind i l = putFields-after 0 0x440 fields (fieldBytes h) image fields-tile fills whole i l
+  pub written_behind : (i : ℕ) → 0x440 ≤ i → get_or (put_header h image) i 0 ≡ get_or image i 0
+  written_behind i l = put_fields-after 0 0x440 fields (field_bytes h) image fields-tile fills whole i l
 
-  field : (k : ℕ) → k < length fields → bytes_of (nth fields k) (putHeader h image) ≡ get_or (fieldBytes h) k []
-  field k l = putFields-in 0 0x440 fields (fieldBytes h) image fields-tile fills whole k l
+  field : (k : ℕ) → k < length fields → bytes_of (nth fields k) (put_header h image) ≡ get_or (field_bytes h) k []
+  field k l = put_fields-in 0 0x440 fields (field_bytes h) image fields-tile fills whole k l
 
-  pub read-write : headerOf (putHeader h image) ≡ h
-  unfolding fields fieldBytes headerOf
+  pub read-write : header_of (put_header h image) ≡ h
+  unfolding fields field_bytes header_of
   read-write =
-      let m : List ℕ = putHeader h image in
+      let m : List ℕ = put_header h image in
       λ i. record {
         game_code = field 0 (omega arith) i;
         maker_code = field 1 (omega arith) i;
-        disc_id = read_byte m discIdField.at h.disc_id (field 2 (omega arith)) i;
-        version = read_byte m versionField.at h.version (field 3 (omega arith)) i;
-        audio_streaming = read_byte m audioStreamingField.at h.audio_streaming (field 4 (omega arith)) i;
-        stream_buffer_size = read_byte m streamBufferSizeField.at h.stream_buffer_size (field 5 (omega arith)) i;
+        disc_id = read_byte m disc_id_field.at h.disc_id (field 2 (omega arith)) i;
+        version = read_byte m version_field.at h.version (field 3 (omega arith)) i;
+        audio_streaming = read_byte m audio_streaming_field.at h.audio_streaming (field 4 (omega arith)) i;
+        stream_buffer_size = read_byte m stream_buffer_size_field.at h.stream_buffer_size (field 5 (omega arith)) i;
         unused_00a = field 6 (omega arith) i;
-        wii_magic = read_word m wiiMagicField.at h.wii_magic (field 7 (omega arith)) s.wii-magic i;
-        gcn_magic = read_word m gcnMagicField.at h.gcn_magic (field 8 (omega arith)) s.gcn-magic i;
+        wii_magic = read_word m wii_magic_field.at h.wii_magic (field 7 (omega arith)) s.wii-magic i;
+        gcn_magic = read_word m gcn_magic_field.at h.gcn_magic (field 8 (omega arith)) s.gcn-magic i;
         game_name = field 9 (omega arith) i;
-        debug_monitor_offset = read_word m debugMonitorOffsetField.at h.debug_monitor_offset (field 10 (omega arith)) s.debug-monitor-offset i;
-        debug_monitor_addr = read_word m debugMonitorAddrField.at h.debug_monitor_addr (field 11 (omega arith)) s.debug-monitor-addr i;
+        debug_monitor_offset = read_word m debug_monitor_offset_field.at h.debug_monitor_offset (field 10 (omega arith)) s.debug-monitor-offset i;
+        debug_monitor_addr = read_word m debug_monitor_addr_field.at h.debug_monitor_addr (field 11 (omega arith)) s.debug-monitor-addr i;
         unused_408 = field 12 (omega arith) i;
-        dol_offset = read_word m dolOffsetField.at h.dol_offset (field 13 (omega arith)) s.dol-offset i;
-        fst_offset = read_word m fstOffsetField.at h.fst_offset (field 14 (omega arith)) s.fst-offset i;
-        fst_size = read_word m fstSizeField.at h.fst_size (field 15 (omega arith)) s.fst-size i;
-        fst_max_size = read_word m fstMaxSizeField.at h.fst_max_size (field 16 (omega arith)) s.fst-max-size i;
-        user_position = read_word m userPositionField.at h.user_position (field 17 (omega arith)) s.user-position i;
-        user_size = read_word m userSizeField.at h.user_size (field 18 (omega arith)) s.user-size i;
-        disc_size = read_word m discSizeField.at h.disc_size (field 19 (omega arith)) s.disc-size i;
-        unused_43c = read_word m unused43cField.at h.unused_43c (field 20 (omega arith)) s.unused-43c i;
+        dol_offset = read_word m dol_offset_field.at h.dol_offset (field 13 (omega arith)) s.dol-offset i;
+        fst_offset = read_word m fst_offset_field.at h.fst_offset (field 14 (omega arith)) s.fst-offset i;
+        fst_size = read_word m fst_size_field.at h.fst_size (field 15 (omega arith)) s.fst-size i;
+        fst_max_size = read_word m fst_max_size_field.at h.fst_max_size (field 16 (omega arith)) s.fst-max-size i;
+        user_position = read_word m user_position_field.at h.user_position (field 17 (omega arith)) s.user-position i;
+        user_size = read_word m user_size_field.at h.user_size (field 18 (omega arith)) s.user-size i;
+        disc_size = read_word m disc_size_field.at h.disc_size (field 19 (omega arith)) s.disc-size i;
+        unused_43c = read_word m unused43c_field.at h.unused_43c (field 20 (omega arith)) s.unused-43c i;
       }
 
-  module _ (gcn : h.gcn_magic ≡ gcnMagic) (not-wii : h.wii_magic ≡ wiiMagic → ⊥) where
-    good : GoodHeader (putHeader h image)
-    unfolding headerOf
+  module _ (gcn : h.gcn_magic ≡ gcn_magic) (not-wii : h.wii_magic ≡ wii_magic → ⊥) where
+    good : GoodHeader (put_header h image)
+    unfolding header_of
     good = record {
       whole = rw length-written whole;
       not-wii = λ e. not-wii (sym (ap (λ (x : DiscHeader). x.wii_magic) read-write) ∙ e);
@@ -236,5 +236,5 @@ module _ (h : DiscHeader) (s : Sized h) (image : List ℕ) (whole : 0x440 ≤ le
     }
 
     -- a header whose magics are good is read as it was written
-    pub read-after-write : headerRead (headerWritten h image) ≡ Ok h
-    read-after-write = rw (le-ltb (length image) 0x440 whole, header-passes (putHeader h image) good, read-write)
+    pub read-after-write : header_read (header_written h image) ≡ Ok h
+    read-after-write = rw (le-ltb (length image) 0x440 whole, header-passes (put_header h image) good, read-write)

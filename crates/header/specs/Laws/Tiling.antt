@@ -22,14 +22,14 @@ fields-count = refl
 
 -- ---- a test that all fields of a list pass, computed once, and passed by each of them
 
-abbrev pub everyField : (Field → Bool) → List Field → Bool
-everyField t [] = true
-everyField t (f ∷ fs) = t f && everyField t fs
+abbrev pub every_field : (Field → Bool) → List Field → Bool
+every_field t [] = true
+every_field t (f ∷ fs) = t f && every_field t fs
 
-pub every-at : (t : Field → Bool) (fs : List Field) → everyField t fs ≡ true → (k : ℕ) → k < length fs → t (nth fs k) ≡ true
+pub every-at : (t : Field → Bool) (fs : List Field) → every_field t fs ≡ true → (k : ℕ) → k < length fs → t (nth fs k) ≡ true
 every-at t [] e k h = absurd (omega arith)
-every-at t (f ∷ fs) e zero h = and_left (t f) (everyField t fs) e
-every-at t (f ∷ fs) e (suc k) h = every-at t fs (and_right (t f) (everyField t fs) e) k (omega arith)
+every-at t (f ∷ fs) e zero h = and_left (t f) (every_field t fs) e
+every-at t (f ∷ fs) e (suc k) h = every-at t fs (and_right (t f) (every_field t fs) e) k (omega arith)
 
 -- ---- fields that tile
 

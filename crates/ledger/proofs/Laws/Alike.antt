@@ -6,57 +6,57 @@ use Rattle.std.proofs.Common.{sym, ◌∙◌, inl, inr, arith}
 use Rattle.std.proofs.Math.ListN.{length}
 use Rattle.endian.specs.Bytes.{be32}
 use Rattle.endian.specs.Laws.Stored.{span_ext}
-use Rattle.header.specs.Verdicts.{fstOffset, fstSize, userSize, discSize, discEnd, table_end}
+use Rattle.header.specs.Verdicts.{fst_offset, fst_size, user_size, disc_size, disc_end, table_end}
 use Rattle.header.specs.Laws.FieldTests.{GoodHeader, bounds-same, header-passes, bounds-pass}
-use Rattle.executable.specs.Program.{program_of, programIn}
-use Rattle.opened.specs.Opening.{table_of, nodesIn, behindTable, usedIn, layoutVerdict, freeOf, usedOf, opening}
+use Rattle.executable.specs.Program.{program_of, program_in}
+use Rattle.opened.specs.Opening.{table_of, nodes_in, behind_table, used_in, layout_verdict, free_space_of, used_of, opening}
 use Rattle.opened.proofs.Laws.OpeningLaws.{table-accepted}
 use Rattle.ledger.proofs.Laws.Opened.{Opened}
 
 pub record Alike (image image' : List ℕ) : Type 0 where
   pub len : length image' ≡ length image
   pub field : (at : ℕ) → (at + 4 ≤ 0x42C) ⊎ ((0x430 ≤ at) × (at + 4 ≤ 0x440)) → be32 image' at ≡ be32 image at
-  pub table : (i : ℕ) → fstOffset image ≤ i → i < table_end image → get_or image' i 0 ≡ get_or image i 0
+  pub table : (i : ℕ) → fst_offset image ≤ i → i < table_end image → get_or image' i 0 ≡ get_or image i 0
   pub program : program_of image' ≡ program_of image
 
 module _ (image image' : List ℕ) (a : Alike image image') where
-  pub start-same : fstOffset image' ≡ fstOffset image
+  pub start-same : fst_offset image' ≡ fst_offset image
   start-same = a.field 0x424 (inl (omega arith))
 
-  pub size_same : fstSize image' ≡ fstSize image
+  pub size_same : fst_size image' ≡ fst_size image
   size_same = a.field 0x428 (inl (omega arith))
 
-  user-same : userSize image' ≡ userSize image
+  user-same : user_size image' ≡ user_size image
   user-same = a.field 0x434 (inr (omega arith, omega arith))
 
-  disc-same : discSize image' ≡ discSize image
+  disc-same : disc_size image' ≡ disc_size image
   disc-same = a.field 0x438 (inr (omega arith, omega arith))
 
-  pub end_same : discEnd image' ≡ discEnd image
+  pub end_same : disc_end image' ≡ disc_end image
   end_same = rw (user-same, disc-same)
 
   module _ (o : Opened image) where
     pub table_same : table_of image' ≡ table_of image
     unfolding table_of
     table_same =
-        let e : fstOffset image + fstSize image ≤ length image = omega (arith, o.bounds.table, o.bounds.image_holds) in
-        rw (start-same, size_same) (span_ext image' image (fstOffset image) (fstSize image) (rw a.len e) e (λ i h. a.table (fstOffset image + i) (omega arith) (omega arith)))
+        let e : fst_offset image + fst_size image ≤ length image = omega (arith, o.bounds.table, o.bounds.image_holds) in
+        rw (start-same, size_same) (span_ext image' image (fst_offset image) (fst_size image) (rw a.len e) e (λ i h. a.table (fst_offset image + i) (omega arith) (omega arith)))
 
     -- LAW: the tree, what is used and what is free
-    pub tree-same : nodesIn image' ≡ nodesIn image
-    unfolding nodesIn
+    pub tree-same : nodes_in image' ≡ nodes_in image
+    unfolding nodes_in
     tree-same = rw table_same
 
-    used-same : usedIn image' ≡ usedIn image
-    unfolding usedIn behindTable programIn
+    used-same : used_in image' ≡ used_in image
+    unfolding used_in behind_table program_in
     used-same = rw (tree-same, start-same, size_same, a.program)
 
-    pub total-same : usedOf image' ≡ usedOf image
-    unfolding usedOf behindTable programIn
+    pub total-same : used_of image' ≡ used_of image
+    unfolding used_of behind_table program_in
     total-same = rw (tree-same, start-same, size_same, a.program)
 
-    pub free-same : freeOf image' ≡ freeOf image
-    unfolding freeOf
+    pub free-same : free_space_of image' ≡ free_space_of image
+    unfolding free_space_of
     free-same = rw (used-same, end_same)
 
     header-same : GoodHeader image'
@@ -68,7 +68,7 @@ module _ (image image' : List ℕ) (a : Alike image image') where
 
     -- LAW: with as many words
     pub opens-same : (w : ℕ) → opening image w ≡ Ok tt → opening image' w ≡ Ok tt
-    unfolding opening layoutVerdict
+    unfolding opening layout_verdict
     opens-same w e =
         rw (
           header-passes image' header-same,

@@ -5,7 +5,7 @@ use Rattle.std.specs.Prelude.{ℕ, ◌+◌, ◌≤◌, ◌≡◌, List, length, 
 use Rattle.std.proofs.Common.{inl, inr, ⊎_elim, arith}
 use Rattle.endian.specs.Bytes.{AllBytes}
 use Rattle.endian.specs.Laws.Stored.{be32-same, Outside}
-use Rattle.opened.specs.Opening.{nodesIn, freeOf, opening}
+use Rattle.opened.specs.Opening.{nodes_in, free_space_of, opening}
 use Rattle.ledger.proofs.Laws.Alike.{Alike, tree-same, free-same, opens-same}
 use Rattle.ledger.proofs.Laws.Opened.{Opened, opened}
 use Rattle.ledger.proofs.Laws.ProgramKept.{program-spared}
@@ -27,5 +27,5 @@ module _ (image image' : List ℕ) (w : ℕ) (b : AllBytes image) (e : opening i
   }
 
   -- THEOREM
-  pub any-maximum : (opening image' w ≡ Ok tt) × (nodesIn image' ≡ nodesIn image) × (freeOf image' ≡ freeOf image)
+  pub any-maximum : (opening image' w ≡ Ok tt) × (nodes_in image' ≡ nodes_in image) × (free_space_of image' ≡ free_space_of image)
   any-maximum = (opens-same image image' alike o w e, tree-same image image' alike o, free-same image image' alike o)

@@ -5,12 +5,12 @@ use Rattle.std.specs.Prelude.{ℕ, ◌+◌, ◌^◌, ◌<◌, ◌≡◌, refl, B
 use Rattle.std.proofs.lemmas.Bool.{false≢true}
 use Rattle.std.proofs.Common.{arith, ne_eqb}
 use Rattle.endian.specs.Bytes.{AllBytes}
-use Rattle.header.specs.Verdicts.{fstSize, fstMaxSize}
+use Rattle.header.specs.Verdicts.{fst_size, fst_max_size}
 use Rattle.space.specs.declared.totals.Totals.{Totals}
 use Rattle.opened.specs.Opening.{table_of}
-use Rattle.edits.specs.Edits.{Edit, insertFile, insertDirectory, makeDirectories, moveFile, resizeFile, fillFile, rewrite, totalsAfter}
-use Rattle.ledger.specs.Ledger.{Ledger, filesBefore, Report}
-use Rattle.ledger.specs.Runs.{Call, HandedOn, acceptedIn, AllWithin}
+use Rattle.edits.specs.Edits.{Edit, insert_file, insert_directory, make_directories, move_file, resize_file, fill_file, rewrite, totals_after}
+use Rattle.ledger.specs.Ledger.{Ledger, files_before, Report}
+use Rattle.ledger.specs.Runs.{Call, HandedOn, accepted_in, AllWithin}
 use Rattle.ledger.specs.Spared.{Spared}
 use Rattle.ledger.specs.Theorem.{WithinMaximum}
 
@@ -25,7 +25,7 @@ none_within w = tt
 
 -- LAW: a call of each kind, lent all w words and handed any record; "Offsets and sizes passed in have 32 bits.", and a clip is of bytes
 pub each_within : (w bytes p start k to n : ℕ) (nm path clip : List ℕ) (t : Totals) → to < 2 ^ 32 → n < 2 ^ 32 → AllBytes clip →
-    AllWithin w (call (insertFile p nm) t w bytes ∷ call (insertDirectory p nm) t w bytes ∷ call (makeDirectories start path) t w bytes ∷ call (moveFile k to) t w bytes ∷ call (resizeFile k n) t w bytes ∷ call (fillFile k clip) t w bytes ∷ call rewrite t w bytes ∷ [])
+    AllWithin w (call (insert_file p nm) t w bytes ∷ call (insert_directory p nm) t w bytes ∷ call (make_directories start path) t w bytes ∷ call (move_file k to) t w bytes ∷ call (resize_file k n) t w bytes ∷ call (fill_file k clip) t w bytes ∷ call rewrite t w bytes ∷ [])
 each_within w bytes p start k to n nm path clip t ht hn c = (omega arith, tt, (omega arith, tt, (omega arith, tt, (omega arith, ht, (omega arith, hn, (omega arith, c, (omega arith, tt, tt)))))))
 
 -- ---- the record
@@ -34,7 +34,7 @@ each_within w bytes p start k to n nm path clip t ht hn c = (omega arith, tt, (o
 pub handed-none : (t : Totals) (image : List ℕ) → HandedOn t [] image
 handed-none t image = tt
 
-pub handed-two : (t : Totals) (image : List ℕ) (a b : Edit) (words bytes : ℕ) → HandedOn t (call a t words bytes ∷ call b (totalsAfter a t image words bytes) words bytes ∷ []) image
+pub handed-two : (t : Totals) (image : List ℕ) (a b : Edit) (words bytes : ℕ) → HandedOn t (call a t words bytes ∷ call b (totals_after a t image words bytes) words bytes ∷ []) image
 handed-two t image a b words bytes = (refl, (refl, tt))
 
 -- ---- the files that no accepted edit names: file f, whatever the ledger holds
@@ -48,28 +48,28 @@ module _ (l : Ledger) (f : ℕ) where
   spared-none = tt
 
   -- LAW: by accepted inserts, made directories and rewrites
-  pub spared-unnaming : (p start : ℕ) (nm path : List ℕ) → Spared (report (insertFile p nm) true ∷ report (insertDirectory p nm) true ∷ report (makeDirectories start path) true ∷ report rewrite true ∷ []) l f
+  pub spared-unnaming : (p start : ℕ) (nm path : List ℕ) → Spared (report (insert_file p nm) true ∷ report (insert_directory p nm) true ∷ report (make_directories start path) true ∷ report rewrite true ∷ []) l f
   spared-unnaming p start nm path = (λ e. refl, (λ e. refl, (λ e. refl, (λ e. refl, tt))))
 
   -- LAW: by refused edits, though of file f itself
-  pub spared-refused : (k to n : ℕ) (clip : List ℕ) → Spared (report (moveFile k to) false ∷ report (resizeFile k n) false ∷ report (fillFile k clip) false ∷ []) l f
+  pub spared-refused : (k to n : ℕ) (clip : List ℕ) → Spared (report (move_file k to) false ∷ report (resize_file k n) false ∷ report (fill_file k clip) false ∷ []) l f
   spared-refused k to n clip = (λ e. absurd (false≢true e), (λ e. absurd (false≢true e), (λ e. absurd (false≢true e), tt)))
 
   -- LAW: by an accepted move, resize or fill of another file
-  pub spared_other : (k to n : ℕ) (clip : List ℕ) → (f ≡ filesBefore k l.nodes → ⊥) →
-      Spared (report (moveFile k to) true ∷ []) l f × Spared (report (resizeFile k n) true ∷ []) l f × Spared (report (fillFile k clip) true ∷ []) l f
+  pub spared_other : (k to n : ℕ) (clip : List ℕ) → (f ≡ files_before k l.nodes → ⊥) →
+      Spared (report (move_file k to) true ∷ []) l f × Spared (report (resize_file k n) true ∷ []) l f × Spared (report (fill_file k clip) true ∷ []) l f
   spared_other k to n clip other =
-      let e = ne_eqb f (filesBefore k l.nodes) other in
+      let e = ne_eqb f (files_before k l.nodes) other in
       ((λ a. e, tt), (λ a. e, tt), (λ a. e, tt))
 
 -- ---- accepted edits are counted, refused ones not
 
-counted : (a b c : Edit) → acceptedIn (report a true ∷ report b false ∷ report c true ∷ []) ≡ 2
-unfolding acceptedIn
+counted : (a b c : Edit) → accepted_in (report a true ∷ report b false ∷ report c true ∷ []) ≡ 2
+unfolding accepted_in
 counted a b c = refl
 
 -- ---- the maximum
 
 -- LAW: a table one byte above the maximum is the first one
-pub one-above : (first last : List ℕ) → WithinMaximum first last → 0 < fstMaxSize first → fstSize last ≡ fstMaxSize first + 1 → table_of last ≡ table_of first
+pub one-above : (first last : List ℕ) → WithinMaximum first last → 0 < fst_max_size first → fst_size last ≡ fst_max_size first + 1 → table_of last ≡ table_of first
 one-above first last m stated e = (m.larger stated (omega arith)).1

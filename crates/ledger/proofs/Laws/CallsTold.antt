@@ -8,14 +8,14 @@ use Rattle.endian.specs.Bytes.{span, AllBytes}
 use Rattle.refusal.specs.Refusal.{is_refused, first}
 use Rattle.refusal.specs.Laws.Chains.{first-passed}
 use Rattle.tree.specs.Table.{file, none}
-use Rattle.tree.specs.Lookup.{isDirectory}
+use Rattle.tree.specs.Lookup.{is_directory}
 use Rattle.space.specs.declared.region.DiscRegion.{DiscRegion}
 use Rattle.space.specs.declared.totals.Totals.{Totals}
-use Rattle.opened.specs.Opening.{nodesIn, freeOf, opening}
-use Rattle.edits.specs.Edits.{Edit, insertFile, insertDirectory, makeDirectories, moveFile, resizeFile, fillFile, rewrite, fileVerdict, relocateVerdict, clipVerdict, planMove, planResize, planFill, verdictOf, imageAfter}
+use Rattle.opened.specs.Opening.{nodes_in, free_space_of, opening}
+use Rattle.edits.specs.Edits.{Edit, insert_file, insert_directory, make_directories, move_file, resize_file, fill_file, rewrite, file_verdict, relocate_verdict, clip_verdict, plan_move, plan_resize, plan_fill, verdict_of, image_after}
 use Rattle.edits.proofs.Laws.Accepted.{accepted}
-use Rattle.ledger.specs.Ledger.{Ledger, filesBefore, firstLedger, entered, Report, ledgerAfter}
-use Rattle.ledger.specs.Runs.{Call, reportsOf, AllWithin}
+use Rattle.ledger.specs.Ledger.{Ledger, files_before, first_ledger, entered, Report, ledger_after}
+use Rattle.ledger.specs.Runs.{Call, reports_of, AllWithin}
 use Rattle.ledger.proofs.Laws.Bare.{kind-bare}
 use Rattle.ledger.proofs.Laws.Kept.{Kept}
 use Rattle.ledger.proofs.Laws.Placed.{place_in}
@@ -23,8 +23,8 @@ use Rattle.ledger.proofs.Laws.PlaceEdits.{is-file}
 use Rattle.ledger.proofs.Laws.Steps.{step}
 use Rattle.ledger.proofs.Laws.Sequence.{start}
 use Rattle.ledger.proofs.Laws.PlacesAfter.{passed-plan}
-use Rattle.ledger.specs.Spared.{numberAfter}
-use Rattle.ledger.specs.Inner.Told.{named_in, Given, givenIn, leastOf, last_of, start_of, ofFile, OfFiles}
+use Rattle.ledger.specs.Spared.{number_after}
+use Rattle.ledger.specs.Inner.Told.{named_in, Given, given_in, least_of, last_of, start_of, of_file, OfFiles}
 use Rattle.ledger.proofs.Laws.FilesTold.{FileIs, first-told}
 
 accepted-passed : (v : Verdict) → not (is_refused v) ≡ true → v ≡ Ok tt
@@ -32,45 +32,45 @@ accepted-passed (Ok _) e = refl
 accepted-passed (Err c) e = let z : ◌≡◌ {A = ℕ} 0 1 = cc in absurd (omega arith)
 
 module _ (w : ℕ) (image : List ℕ) (l : Ledger) (K : Kept w image l) (words bytes : ℕ) where
-  kind-is : (k : ℕ) → fileVerdict (nodesIn image) k ≡ Ok tt → isDirectory (get_or l.nodes k none) ≡ false
-  kind-is k v = rw (← K.shape) (kind-bare (nodesIn image) k ∙ is-file (nodesIn image) k v)
+  kind-is : (k : ℕ) → file_verdict (nodes_in image) k ≡ Ok tt → is_directory (get_or l.nodes k none) ≡ false
+  kind-is k v = rw (← K.shape) (kind-bare (nodes_in image) k ∙ is-file (nodes_in image) k v)
 
   -- "file wanted" is 16
-  of-file : (totals : Totals) (ed : Edit) → verdictOf ed totals image words bytes ≡ Ok tt → ofFile ed l
-  unfolding planMove planResize planFill
-  of-file totals (insertFile p nm) v = tt
-  of-file totals (insertDirectory p nm) v = tt
-  of-file totals (makeDirectories from path) v = tt
-  of-file totals (moveFile k to) v =
+  of-file : (totals : Totals) (ed : Edit) → verdict_of ed totals image words bytes ≡ Ok tt → of_file ed l
+  unfolding plan_move plan_resize plan_fill
+  of-file totals (insert_file p nm) v = tt
+  of-file totals (insert_directory p nm) v = tt
+  of-file totals (make_directories from path) v = tt
+  of-file totals (move_file k to) v =
       let new : DiscRegion = record { offset = to; size = (place_in image k).size } in
-      let t = passed-plan (first (fileVerdict (nodesIn image) k) (relocateVerdict (freeOf image) (place_in image k) new)) _ image words bytes (accepted (moveFile k to) totals image words bytes v).own in
-      kind-is k (first-passed (fileVerdict (nodesIn image) k) _ t.0).0
-  of-file totals (resizeFile k n) v = kind-is k (passed-plan (fileVerdict (nodesIn image) k) _ image words bytes (accepted (resizeFile k n) totals image words bytes v).own).0
-  of-file totals (fillFile k clip) v =
-      let t = passed-plan (clipVerdict (nodesIn image) k (length clip)) _ image words bytes (accepted (fillFile k clip) totals image words bytes v).own in
-      kind-is k (first-passed (fileVerdict (nodesIn image) k) _ t.0).0
+      let t = passed-plan (first (file_verdict (nodes_in image) k) (relocate_verdict (free_space_of image) (place_in image k) new)) _ image words bytes (accepted (move_file k to) totals image words bytes v).own in
+      kind-is k (first-passed (file_verdict (nodes_in image) k) _ t.0).0
+  of-file totals (resize_file k n) v = kind-is k (passed-plan (file_verdict (nodes_in image) k) _ image words bytes (accepted (resize_file k n) totals image words bytes v).own).0
+  of-file totals (fill_file k clip) v =
+      let t = passed-plan (clip_verdict (nodes_in image) k (length clip)) _ image words bytes (accepted (fill_file k clip) totals image words bytes v).own in
+      kind-is k (first-passed (file_verdict (nodes_in image) k) _ t.0).0
   of-file totals rewrite v = tt
 
-of-files : (w : ℕ) (calls : List Call) (image : List ℕ) (l : Ledger) → AllWithin w calls → Kept w image l → OfFiles (reportsOf calls image) l
-unfolding reportsOf
+of-files : (w : ℕ) (calls : List Call) (image : List ℕ) (l : Ledger) → AllWithin w calls → Kept w image l → OfFiles (reports_of calls image) l
+unfolding reports_of
 of-files w [] image l a K = tt
 of-files w (c ∷ calls) image l a K = (
-  λ e. of-file w image l K c.words c.bytes c.totals c.edit (accepted-passed (verdictOf c.edit c.totals image c.words c.bytes) e),
-  of-files w calls (imageAfter c.edit c.totals image c.words c.bytes) (cond (not (is_refused (verdictOf c.edit c.totals image c.words c.bytes))) (entered c.edit l) l) a.2
+  λ e. of-file w image l K c.words c.bytes c.totals c.edit (accepted-passed (verdict_of c.edit c.totals image c.words c.bytes) e),
+  of-files w calls (image_after c.edit c.totals image c.words c.bytes) (cond (not (is_refused (verdict_of c.edit c.totals image c.words c.bytes))) (entered c.edit l) l) a.2
       (step w image l K c.words c.bytes a.0 c.totals c.edit a.1),
 )
 
 -- LAW: the reports of any list of calls
-pub calls-of-files : (image : List ℕ) (w₀ w : ℕ) (calls : List Call) → AllBytes image → opening image w₀ ≡ Ok tt → w₀ ≤ w → AllWithin w calls → OfFiles (reportsOf calls image) (firstLedger image)
-calls-of-files image w₀ w calls b e h a = of-files w calls image (firstLedger image) a (start image w₀ w h b e)
+pub calls-of-files : (image : List ℕ) (w₀ w : ℕ) (calls : List Call) → AllBytes image → opening image w₀ ≡ Ok tt → w₀ ≤ w → AllWithin w calls → OfFiles (reports_of calls image) (first_ledger image)
+calls-of-files image w₀ w calls b e h a = of-files w calls image (first_ledger image) a (start image w₀ w h b e)
 
 -- THEOREM: the file with entry number k of the first image, in the ledger after any list of calls
 pub calls-told : (image : List ℕ) (w₀ w : ℕ) (calls : List Call) → AllBytes image → opening image w₀ ≡ Ok tt → w₀ ≤ w → AllWithin w calls →
-    (k : ℕ) (nm : List ℕ) (offset size : ℕ) → get_or (nodesIn image) k none ≡ file nm offset size →
-    let l : Ledger = firstLedger image in
-    let f : ℕ = filesBefore k (nodesIn image) in
-    let reports : List Report = reportsOf calls image in
-    let gs : List Given = givenIn reports l f in
-    FileIs (ledgerAfter reports l) (numberAfter reports l f) nm (last_of size gs)
-    (record { place = offset; bytes = start_of (span image offset size) gs; m = leastOf size gs; named = named_in reports l f })
-calls-told image w₀ w calls b e h a k nm offset size q = first-told image (reportsOf calls image) k nm offset size q (calls-of-files image w₀ w calls b e h a)
+    (k : ℕ) (nm : List ℕ) (offset size : ℕ) → get_or (nodes_in image) k none ≡ file nm offset size →
+    let l : Ledger = first_ledger image in
+    let f : ℕ = files_before k (nodes_in image) in
+    let reports : List Report = reports_of calls image in
+    let gs : List Given = given_in reports l f in
+    FileIs (ledger_after reports l) (number_after reports l f) nm (last_of size gs)
+    (record { place = offset; bytes = start_of (span image offset size) gs; m = least_of size gs; named = named_in reports l f })
+calls-told image w₀ w calls b e h a k nm offset size q = first-told image (reports_of calls image) k nm offset size q (calls-of-files image w₀ w calls b e h a)

@@ -1,10 +1,10 @@
 -- Demand 3 holds of any list of calls, and a file that no accepted edit named lies where it lay. Assumes nothing.
 use Rattle.std.specs.Prelude.{ℕ, List}
 use Rattle.endian.specs.Bytes.{span}
-use Rattle.opened.specs.Opening.{nodesIn}
-use Rattle.ledger.specs.Ledger.{Ledger, filesBefore, firstLedger, Report, ledgerAfter}
-use Rattle.ledger.specs.Runs.{imageAfterAll, reportsOf}
-use Rattle.ledger.specs.Spared.{numberAfter}
+use Rattle.opened.specs.Opening.{nodes_in}
+use Rattle.ledger.specs.Ledger.{Ledger, files_before, first_ledger, Report, ledger_after}
+use Rattle.ledger.specs.Runs.{image_after_all, reports_of}
+use Rattle.ledger.specs.Spared.{number_after}
 use Rattle.ledger.proofs.Laws.SparedLaws.{spared, begins}
 use Rattle.ledger.proofs.Laws.Kept.{Kept}
 use Rattle.ledger.proofs.Laws.Sequence.{start, along, no-byte-twice, sum, used-reported, free-reported, free-listed, entry-least, entry_known, entry_first, entry_place, still-there}
@@ -15,8 +15,8 @@ use Rattle.ledger.specs.Theorem.{Demand3, AnyList, UnnamedStays}
 
 pub demand-3 : AnyList
 demand-3 image w₀ w calls b e h a =
-    let k : Kept w image (firstLedger image) = start image w₀ w h b e in
-    claim (imageAfterAll calls image) (ledgerAfter (reportsOf calls image) (firstLedger image)) (along w calls image (firstLedger image) a k) (program-along w calls image (firstLedger image) a k)
+    let k : Kept w image (first_ledger image) = start image w₀ w h b e in
+    claim (image_after_all calls image) (ledger_after (reports_of calls image) (first_ledger image)) (along w calls image (first_ledger image) a k) (program-along w calls image (first_ledger image) a k)
   where
     claim : (last : List ℕ) (l : Ledger) → Kept w last l → ProgramKept image last → Demand3 w image last l
     claim last l k p = record {
@@ -39,10 +39,10 @@ demand-3 image w₀ w calls b e h a =
 
 pub unnamed-stays : UnnamedStays
 unnamed-stays image w₀ w calls b e h a k nm offset size q s =
-    let reports : List Report = reportsOf calls image in
-    let last : List ℕ = imageAfterAll calls image in
-    let l : Ledger = ledgerAfter reports (firstLedger image) in
-    let f : ℕ = numberAfter reports (firstLedger image) (filesBefore k (nodesIn image)) in
-    let g = spared reports (firstLedger image) (filesBefore k (nodesIn image)) _ nm s (begins image k nm offset size q) in
-    let t = still-there w last l (along w calls image (firstLedger image) a (start image w₀ w h b e)) f (record { offset = offset; size = size }) nm (span image offset size) g.0.0 g.0.1 g.1.1 in
+    let reports : List Report = reports_of calls image in
+    let last : List ℕ = image_after_all calls image in
+    let l : Ledger = ledger_after reports (first_ledger image) in
+    let f : ℕ = number_after reports (first_ledger image) (files_before k (nodes_in image)) in
+    let g = spared reports (first_ledger image) (files_before k (nodes_in image)) _ nm s (begins image k nm offset size q) in
+    let t = still-there w last l (along w calls image (first_ledger image) a (start image w₀ w h b e)) f (record { offset = offset; size = size }) nm (span image offset size) g.0.0 g.0.1 g.1.1 in
     record { entry = t.0; number = t.1; lies = t.2; bytes = t.3 }

@@ -6,33 +6,33 @@ use Rattle.std.proofs.Math.Path.{refl}
 use Rattle.std.proofs.Common.{ap, true≢false, arith}
 use mathlib.Core.List.{List, [], ◌∷◌, map}
 use Rattle.tree.specs.Table.{Node, file, directory, none}
-use Rattle.tree.specs.Lookup.{isDirectory, next_of}
-use Rattle.tree.specs.Insert.{later, splice, insertAt, placed, setPlace}
+use Rattle.tree.specs.Lookup.{is_directory, next_of}
+use Rattle.tree.specs.Insert.{later, splice, insert_at, placed, set_place}
 use Rattle.space.specs.declared.region.DiscRegion.{DiscRegion}
-use Rattle.space.specs.Used.{nonempty, usedRegions}
-use Rattle.executable.specs.Program.{programBehind}
-use Rattle.opened.specs.Opening.{nodesIn, regionOf}
-use Rattle.edits.specs.Edits.{noPlace}
+use Rattle.space.specs.Used.{nonempty, used_regions}
+use Rattle.executable.specs.Program.{program_behind}
+use Rattle.opened.specs.Opening.{nodes_in, region_of}
+use Rattle.edits.specs.Edits.{no_place}
 use Rattle.ledger.specs.Inner.Files.{pick, files_of, names_of}
-use Rattle.ledger.specs.Ledger.{bare, filesBefore, put_in}
+use Rattle.ledger.specs.Ledger.{bare, files_before, put_in}
 
-nonempty-files : (xs : List Node) → nonempty (map regionOf xs) ≡ nonempty (files_of xs)
+nonempty-files : (xs : List Node) → nonempty (map region_of xs) ≡ nonempty (files_of xs)
 unfolding nonempty pick
 nonempty-files [] = refl
 nonempty-files (file nm offset size ∷ xs) = rw (nonempty-files xs)
 nonempty-files (directory nm next ∷ xs) = nonempty-files xs
 
 -- LAW: the used regions of a tree are those of its files, whatever else is used
-pub used-files : (t : ℕ) (p : DiscRegion) (xs : List Node) → usedRegions t (p ∷ map regionOf xs) ≡ usedRegions t (p ∷ files_of xs)
+pub used-files : (t : ℕ) (p : DiscRegion) (xs : List Node) → used_regions t (p ∷ map region_of xs) ≡ used_regions t (p ∷ files_of xs)
 unfolding nonempty
 used-files t p xs = rw (nonempty-files xs)
 
 -- the files of an image as regions, and what lies behind its table: the program, which is number 0, and the files
-abbrev pub filesIn : List ℕ → List DiscRegion
-filesIn image = files_of (nodesIn image)
+abbrev pub files_in : List ℕ → List DiscRegion
+files_in image = files_of (nodes_in image)
 
-abbrev pub placesIn : List ℕ → List DiscRegion
-placesIn image = programBehind image ∷ filesIn image
+abbrev pub places_in : List ℕ → List DiscRegion
+places_in image = program_behind image ∷ files_in image
 
 -- ---- an entry put in
 
@@ -50,19 +50,19 @@ module _ {A : Type 0} (g : List ℕ → ℕ → ℕ → A) where
   splice-directory p nm n k (suc j) (file nm' offset size ∷ xs) = rw (splice-directory p nm n (suc k) j xs)
   splice-directory p nm n k (suc j) (directory nm' next ∷ xs) = splice-directory p nm n (suc k) j xs
 
-  splice-file : (p : ℕ) (nm : List ℕ) (a n k j : ℕ) (xs : List Node) → pick g (splice p (file nm a n) k j xs) ≡ put_in (filesBefore j xs) (g nm a n) (pick g xs)
-  unfolding splice pick filesBefore put_in
+  splice-file : (p : ℕ) (nm : List ℕ) (a n k j : ℕ) (xs : List Node) → pick g (splice p (file nm a n) k j xs) ≡ put_in (files_before j xs) (g nm a n) (pick g xs)
+  unfolding splice pick files_before put_in
   splice-file p nm a n k zero xs = rw (pick-later xs)
   splice-file p nm a n k (suc j) [] = refl
   splice-file p nm a n k (suc j) (file nm' offset size ∷ xs) = rw (splice-file p nm a n (suc k) j xs)
   splice-file p nm a n k (suc j) (directory nm' next ∷ xs) = splice-file p nm a n (suc k) j xs
 
-  pub insert-directory : (p : ℕ) (nm : List ℕ) (n : ℕ) (nodes : List Node) → pick g (insertAt p (directory nm n) nodes) ≡ pick g nodes
-  unfolding insertAt
+  pub insert-directory : (p : ℕ) (nm : List ℕ) (n : ℕ) (nodes : List Node) → pick g (insert_at p (directory nm n) nodes) ≡ pick g nodes
+  unfolding insert_at
   insert-directory p nm n nodes = splice-directory p nm n 0 (next_of (get_or nodes p none)) nodes
 
-  pub insert-file : (p : ℕ) (nm : List ℕ) (a n : ℕ) (nodes : List Node) → pick g (insertAt p (file nm a n) nodes) ≡ put_in (filesBefore (next_of (get_or nodes p none)) nodes) (g nm a n) (pick g nodes)
-  unfolding insertAt
+  pub insert-file : (p : ℕ) (nm : List ℕ) (a n : ℕ) (nodes : List Node) → pick g (insert_at p (file nm a n) nodes) ≡ put_in (files_before (next_of (get_or nodes p none)) nodes) (g nm a n) (pick g nodes)
+  unfolding insert_at
   insert-file p nm a n nodes = splice-file p nm a n 0 (next_of (get_or nodes p none)) nodes
 
 -- an empty file put in uses no byte
@@ -72,37 +72,37 @@ nonempty-put-in zero a fs = refl
 nonempty-put-in (suc j) a [] = refl
 nonempty-put-in (suc j) a (x ∷ fs) = rw (nonempty-put-in j a fs)
 
-pub used-put-in : (t j a : ℕ) (p : DiscRegion) (fs : List DiscRegion) → usedRegions t (p ∷ put_in j (record { offset = a; size = 0 }) fs) ≡ usedRegions t (p ∷ fs)
+pub used-put-in : (t j a : ℕ) (p : DiscRegion) (fs : List DiscRegion) → used_regions t (p ∷ put_in j (record { offset = a; size = 0 }) fs) ≡ used_regions t (p ∷ fs)
 unfolding nonempty
 used-put-in t j a p fs = rw (nonempty-put-in j a fs)
 
 -- ---- a file's place
 
-files-set : (o n k : ℕ) (xs : List Node) → isDirectory (get_or xs k none) ≡ false →
-    files_of (set xs k (placed o n (get_or xs k none))) ≡ set (files_of xs) (filesBefore k xs) (record { offset = o; size = n })
-unfolding pick filesBefore
+files-set : (o n k : ℕ) (xs : List Node) → is_directory (get_or xs k none) ≡ false →
+    files_of (set xs k (placed o n (get_or xs k none))) ≡ set (files_of xs) (files_before k xs) (record { offset = o; size = n })
+unfolding pick files_before
 files-set o n k [] e = absurd (true≢false e)
 files-set o n zero (file nm offset size ∷ xs) e = refl
 files-set o n zero (directory nm next ∷ xs) e = absurd (true≢false e)
 files-set o n (suc k) (file nm offset size ∷ xs) e = rw (files-set o n k xs e)
 files-set o n (suc k) (directory nm next ∷ xs) e = files-set o n k xs e
 
-pub files-setPlace : (o n k : ℕ) (nodes : List Node) → isDirectory (get_or nodes k none) ≡ false →
-    files_of (setPlace k o n nodes) ≡ set (files_of nodes) (filesBefore k nodes) (record { offset = o; size = n })
-unfolding setPlace
-files-setPlace o n k nodes e = files-set o n k nodes e
+pub files-set_place : (o n k : ℕ) (nodes : List Node) → is_directory (get_or nodes k none) ≡ false →
+    files_of (set_place k o n nodes) ≡ set (files_of nodes) (files_before k nodes) (record { offset = o; size = n })
+unfolding set_place
+files-set_place o n k nodes e = files-set o n k nodes e
 
 -- file k's region stands at its number among the files
-pub files-at : (k : ℕ) (xs : List Node) → isDirectory (get_or xs k none) ≡ false → get_or (files_of xs) (filesBefore k xs) noPlace ≡ regionOf (get_or xs k none)
-unfolding pick filesBefore
+pub files-at : (k : ℕ) (xs : List Node) → is_directory (get_or xs k none) ≡ false → get_or (files_of xs) (files_before k xs) no_place ≡ region_of (get_or xs k none)
+unfolding pick files_before
 files-at k [] e = absurd (true≢false e)
 files-at zero (file nm offset size ∷ xs) e = refl
 files-at zero (directory nm next ∷ xs) e = absurd (true≢false e)
 files-at (suc k) (file nm offset size ∷ xs) e = files-at k xs e
 files-at (suc k) (directory nm next ∷ xs) e = files-at k xs e
 
-pub files-count : (k : ℕ) (xs : List Node) → isDirectory (get_or xs k none) ≡ false → filesBefore k xs < length (files_of xs)
-unfolding pick filesBefore
+pub files-count : (k : ℕ) (xs : List Node) → is_directory (get_or xs k none) ≡ false → files_before k xs < length (files_of xs)
+unfolding pick files_before
 files-count k [] e = absurd (true≢false e)
 files-count zero (file nm offset size ∷ xs) e = omega arith
 files-count zero (directory nm next ∷ xs) e = absurd (true≢false e)
@@ -111,8 +111,8 @@ files-count (suc k) (directory nm next ∷ xs) e = files-count k xs e
 
 -- the entry of the f-th file
 pub entry_of : (f : ℕ) (xs : List Node) → f < length (files_of xs) →
-    (k : ℕ) × (filesBefore k xs ≡ f) × (get_or xs k none ≡ file (get_or (names_of xs) f []) (get_or (files_of xs) f noPlace).offset (get_or (files_of xs) f noPlace).size)
-unfolding pick filesBefore
+    (k : ℕ) × (files_before k xs ≡ f) × (get_or xs k none ≡ file (get_or (names_of xs) f []) (get_or (files_of xs) f no_place).offset (get_or (files_of xs) f no_place).size)
+unfolding pick files_before
 entry_of f [] h = absurd (omega arith)
 entry_of zero (file nm offset size ∷ xs) h = (0, refl, refl)
 entry_of (suc f) (file nm offset size ∷ xs) h = let e = entry_of f xs (omega arith) in (suc e.0, ap suc e.1, e.2)
@@ -120,8 +120,8 @@ entry_of f (directory nm next ∷ xs) h = let e = entry_of f xs h in (suc e.0, e
 
 -- ---- names
 
-pub names_at : (k : ℕ) (xs : List Node) (nm : List ℕ) (a n : ℕ) → get_or xs k none ≡ file nm a n → (filesBefore k xs < length (names_of xs)) × (get_or (names_of xs) (filesBefore k xs) [] ≡ nm)
-unfolding pick filesBefore
+pub names_at : (k : ℕ) (xs : List Node) (nm : List ℕ) (a n : ℕ) → get_or xs k none ≡ file nm a n → (files_before k xs < length (names_of xs)) × (get_or (names_of xs) (files_before k xs) [] ≡ nm)
+unfolding pick files_before
 names_at k [] nm a n e = let z : ◌≡◌ {A = ℕ} 0 1 = cc in absurd (omega arith)
 names_at zero (file nm' offset size ∷ xs) nm a n e = (omega arith, cc)
 names_at zero (directory nm' next ∷ xs) nm a n e = let z : ◌≡◌ {A = ℕ} 0 1 = cc in absurd (omega arith)
@@ -136,9 +136,9 @@ names-set o n zero (directory nm next ∷ xs) = refl
 names-set o n (suc k) (file nm offset size ∷ xs) = rw (names-set o n k xs)
 names-set o n (suc k) (directory nm next ∷ xs) = names-set o n k xs
 
-pub names-setPlace : (o n k : ℕ) (nodes : List Node) → names_of (setPlace k o n nodes) ≡ names_of nodes
-unfolding setPlace
-names-setPlace o n k nodes = names-set o n k nodes
+pub names-set_place : (o n k : ℕ) (nodes : List Node) → names_of (set_place k o n nodes) ≡ names_of nodes
+unfolding set_place
+names-set_place o n k nodes = names-set o n k nodes
 
 pub names-bare : (xs : List Node) → names_of (map bare xs) ≡ names_of xs
 unfolding pick

@@ -7,12 +7,12 @@ use Rattle.std.proofs.Common.{◌∙◌, arith}
 use Rattle.endian.specs.Bytes.{put, AllBytes}
 use Rattle.tree.specs.Table.{none}
 use Rattle.space.specs.declared.totals.Totals.{Totals}
-use Rattle.opened.specs.Opening.{nodesIn, freeOf, usedOf, regionOf, opening}
-use Rattle.disc.specs.Calls.{totalsOf}
+use Rattle.opened.specs.Opening.{nodes_in, free_space_of, used_of, region_of, opening}
+use Rattle.disc.specs.Calls.{totals_of}
 use Rattle.edits.specs.Change.{filled}
-use Rattle.edits.specs.Edits.{resizeFile, fillFile, fileVerdict, clipVerdict, planResize, planFill, plan_of, planVerdict, planImage, countedVerdict, verdictOf, imageAfter, totalsAfter}
+use Rattle.edits.specs.Edits.{resize_file, fill_file, file_verdict, clip_verdict, plan_resize, plan_fill, plan_of, plan_verdict, plan_image, counted_verdict, verdict_of, image_after, totals_after}
 use Rattle.edits.proofs.Laws.Fills.{fill-verdict, own-size}
-use Rattle.ledger.specs.Ledger.{Ledger, firstLedger}
+use Rattle.ledger.specs.Ledger.{Ledger, first_ledger}
 use Rattle.ledger.proofs.Laws.Kept.{Kept}
 use Rattle.ledger.proofs.Laws.FillEdits.{fill-used, fill-free}
 use Rattle.ledger.proofs.Laws.Sequence.{start}
@@ -20,39 +20,39 @@ use Rattle.ledger.proofs.Laws.PlacesAfter.{passed-plan}
 use Rattle.ledger.proofs.Laws.RecordTells.{own-record}
 
 -- where the image opens and the fill's own tests pass, the resize leaves as many bytes used, and the same free
-same-space : (image clip : List ℕ) (k words bytes : ℕ) → AllBytes image → AllBytes clip → opening image words ≡ Ok tt → planVerdict (plan_of (fillFile k clip) image) image words bytes ≡ Ok tt →
-    (usedOf (planImage (plan_of (fillFile k clip) image) image) ≡ usedOf (planImage (plan_of (resizeFile k (length clip)) image) image))
-    × (freeOf (planImage (plan_of (fillFile k clip) image) image) ≡ freeOf (planImage (plan_of (resizeFile k (length clip)) image) image))
-unfolding planFill
+same-space : (image clip : List ℕ) (k words bytes : ℕ) → AllBytes image → AllBytes clip → opening image words ≡ Ok tt → plan_verdict (plan_of (fill_file k clip) image) image words bytes ≡ Ok tt →
+    (used_of (plan_image (plan_of (fill_file k clip) image) image) ≡ used_of (plan_image (plan_of (resize_file k (length clip)) image) image))
+    × (free_space_of (plan_image (plan_of (fill_file k clip) image) image) ≡ free_space_of (plan_image (plan_of (resize_file k (length clip)) image) image))
+unfolding plan_fill
 same-space image clip k words bytes b c o v =
-    let l : Ledger = firstLedger image in
+    let l : Ledger = first_ledger image in
     let K : Kept words image l = start image words words (omega arith) b o in
-    let q = passed-plan (clipVerdict (nodesIn image) k (length clip)) (filled k clip (planResize (freeOf image) (nodesIn image) k (length clip))) image words bytes v in
+    let q = passed-plan (clip_verdict (nodes_in image) k (length clip)) (filled k clip (plan_resize (free_space_of image) (nodes_in image) k (length clip))) image words bytes v in
     (fill-used words image l K words bytes (omega arith) k clip c q.0 q.1, fill-free words image l K words bytes (omega arith) k clip c q.0 q.1)
 
 -- THEOREM: up to 2^32 - 1 bytes a fill's answer is that of a resize to the clip's length, and so is the record that comes back
 pub fill-as-resize : (t : Totals) (image clip : List ℕ) (k words bytes : ℕ) → AllBytes image → AllBytes clip → length clip ≤ 0xFFFFFFFF →
-    (verdictOf (fillFile k clip) t image words bytes ≡ verdictOf (resizeFile k (length clip)) t image words bytes)
-    × (totalsAfter (fillFile k clip) t image words bytes ≡ totalsAfter (resizeFile k (length clip)) t image words bytes)
-unfolding totalsAfter verdictOf countedVerdict
-fill-as-resize t image clip k words bytes b c short = go (opening image words) refl (planVerdict (plan_of (fillFile k clip) image) image words bytes) refl
+    (verdict_of (fill_file k clip) t image words bytes ≡ verdict_of (resize_file k (length clip)) t image words bytes)
+    × (totals_after (fill_file k clip) t image words bytes ≡ totals_after (resize_file k (length clip)) t image words bytes)
+unfolding totals_after verdict_of counted_verdict
+fill-as-resize t image clip k words bytes b c short = go (opening image words) refl (plan_verdict (plan_of (fill_file k clip) image) image words bytes) refl
   where
-    tests : planVerdict (plan_of (fillFile k clip) image) image words bytes ≡ planVerdict (plan_of (resizeFile k (length clip)) image) image words bytes
+    tests : plan_verdict (plan_of (fill_file k clip) image) image words bytes ≡ plan_verdict (plan_of (resize_file k (length clip)) image) image words bytes
     tests = fill-verdict image words bytes k clip short
 
-    go : (o : Verdict) → opening image words ≡ o → (v : Verdict) → planVerdict (plan_of (fillFile k clip) image) image words bytes ≡ v →
-        (verdictOf (fillFile k clip) t image words bytes ≡ verdictOf (resizeFile k (length clip)) t image words bytes)
-        × (totalsAfter (fillFile k clip) t image words bytes ≡ totalsAfter (resizeFile k (length clip)) t image words bytes)
+    go : (o : Verdict) → opening image words ≡ o → (v : Verdict) → plan_verdict (plan_of (fill_file k clip) image) image words bytes ≡ v →
+        (verdict_of (fill_file k clip) t image words bytes ≡ verdict_of (resize_file k (length clip)) t image words bytes)
+        × (totals_after (fill_file k clip) t image words bytes ≡ totals_after (resize_file k (length clip)) t image words bytes)
     go (Err x) o v e = (rw o, rw o)
     go (Ok _) o (Err x) e = (rw (o, ← tests, e), rw (o, ← tests, e))
     go (Ok _) o (Ok _) e = let s = same-space image clip k words bytes b c o e in (rw (← tests, s.0), rw (← tests, s.0, s.1))
 
 -- THEOREM: a clip of the file's own size, with a record that is the image's and a count that can rise, is accepted with any number of working bytes,
 -- and nothing but the clip is written
-pub own-size-filled : (image clip : List ℕ) (k words bytes n : ℕ) → AllBytes image → AllBytes clip → opening image words ≡ Ok tt → fileVerdict (nodesIn image) k ≡ Ok tt → length clip ≡ (regionOf (get_or (nodesIn image) k none)).size → length clip ≤ 0xFFFFFFFF → n + 1 < 2 ^ 32 →
-    (verdictOf (fillFile k clip) (totalsOf image n) image words bytes ≡ Ok tt) × (imageAfter (fillFile k clip) (totalsOf image n) image words bytes ≡ put image (regionOf (get_or (nodesIn image) k none)).offset clip)
-unfolding imageAfter
+pub own-size-filled : (image clip : List ℕ) (k words bytes n : ℕ) → AllBytes image → AllBytes clip → opening image words ≡ Ok tt → file_verdict (nodes_in image) k ≡ Ok tt → length clip ≡ (region_of (get_or (nodes_in image) k none)).size → length clip ≤ 0xFFFFFFFF → n + 1 < 2 ^ 32 →
+    (verdict_of (fill_file k clip) (totals_of image n) image words bytes ≡ Ok tt) × (image_after (fill_file k clip) (totals_of image n) image words bytes ≡ put image (region_of (get_or (nodes_in image) k none)).offset clip)
+unfolding image_after
 own-size-filled image clip k words bytes n b c o f e h l =
     let s = own-size image words bytes k clip f e h in
-    let v : verdictOf (fillFile k clip) (totalsOf image n) image words bytes ≡ Ok tt = own-record image words bytes b o (fillFile k clip) c n l ∙ s.0 in
+    let v : verdict_of (fill_file k clip) (totals_of image n) image words bytes ≡ Ok tt = own-record image words bytes b o (fill_file k clip) c n l ∙ s.0 in
     (v, rw v s.1)

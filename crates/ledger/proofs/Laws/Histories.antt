@@ -2,11 +2,11 @@
 use Rattle.std.specs.Prelude.{ℕ, zero, suc, ◌+◌, ◌<◌, ◌≤◌, min, ◌≡◌, refl, false, List, [], ◌∷◌, length, get_or, set}
 use Rattle.std.proofs.Common.{sym, ap, ◌∙◌, true≢false, arith}
 use Rattle.endian.specs.Bytes.{span}
-use Rattle.endian.specs.Laws.Stored.{getD-span}
+use Rattle.endian.specs.Laws.Stored.{get_d-span}
 use Rattle.tree.specs.Table.{Node, file, directory}
 use Rattle.space.specs.declared.region.DiscRegion.{DiscRegion}
-use Rattle.edits.specs.Edits.{noPlace}
-use Rattle.ledger.specs.Ledger.{History, newHistory, lowered, put_in, firstHistories}
+use Rattle.edits.specs.Edits.{no_place}
+use Rattle.ledger.specs.Ledger.{History, new_history, lowered, put_in, first_histories}
 use Rattle.edits.proofs.Laws.Puts.{span-length}
 use Rattle.ledger.specs.Inner.Files.{pick, files_of}
 use Rattle.ledger.proofs.Laws.Apart.{Has, region}
@@ -57,10 +57,10 @@ trues-put-in image (suc j) y g [] (h ∷ hs) n t = absurd t
 trues-put-in image (suc j) y g (x ∷ fs) [] n t = absurd t
 trues-put-in image (suc j) y g (x ∷ fs) (h ∷ hs) n t = (t.0, trues-put-in image j y g fs hs n t.1)
 
-pub true-new : (image : List ℕ) → True image noPlace newHistory
+pub true-new : (image : List ℕ) → True image no_place new_history
 true-new image = record { least = omega arith; known = omega arith; same = λ i l. absurd (omega arith); unnamed = λ z. (refl, refl, refl) }
 
-pub trues-at : (image : List ℕ) (fs : List DiscRegion) (hs : List History) (k : ℕ) → Trues image fs hs → k < length fs → True image (region fs k) (get_or hs k newHistory)
+pub trues-at : (image : List ℕ) (fs : List DiscRegion) (hs : List History) (k : ℕ) → Trues image fs hs → k < length fs → True image (region fs k) (get_or hs k new_history)
 trues-at image [] hs k t l = absurd (omega arith)
 trues-at image (x ∷ fs) [] k t l = absurd t
 trues-at image (x ∷ fs) (h ∷ hs) zero t l = t.0
@@ -85,12 +85,12 @@ true-lowered image image' x y h s t = record {
 -- ---- the start
 
 pub starts : (image : List ℕ) (xs : List Node) → ((k : ℕ) → 0 < (region (files_of xs) k).size → (region (files_of xs) k).offset + (region (files_of xs) k).size ≤ length image) →
-    Trues image (files_of xs) (firstHistories image xs)
-unfolding pick firstHistories
+    Trues image (files_of xs) (first_histories image xs)
+unfolding pick first_histories
 starts image [] f = tt
 starts image (file nm offset size ∷ xs) f =
     let n : length (span image offset size) ≡ size = span-length image offset size (f 0) in (
-      record { least = omega arith; known = omega arith; same = λ i l. sym (getD-span image offset size i l); unnamed = λ z. (refl, refl, n) },
+      record { least = omega arith; known = omega arith; same = λ i l. sym (get_d-span image offset size i l); unnamed = λ z. (refl, refl, n) },
       starts image xs (λ k. f (suc k)),
     )
 starts image (directory nm next ∷ xs) f = starts image xs f

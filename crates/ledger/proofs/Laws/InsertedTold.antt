@@ -5,15 +5,15 @@ use Rattle.std.proofs.Common.{sym, ap, ◌∙◌, arith, length-set}
 use Rattle.tree.specs.Table.{Node, file, directory}
 use Rattle.tree.specs.Lookup.{components}
 use Rattle.space.specs.declared.region.DiscRegion.{DiscRegion}
-use Rattle.opened.specs.Opening.{nodesIn}
-use Rattle.edits.specs.Edits.{Edit, insertFile, insertDirectory, makeDirectories, moveFile, resizeFile, fillFile, rewrite, newNumber, noPlace}
-use Rattle.ledger.specs.Ledger.{Ledger, filesBefore, newHistory, firstHistories, firstLedger, put_in, entered, Report, ledgerAfter}
-use Rattle.ledger.specs.Inner.Files.{pick, place_of, files_of, ownName, names_of}
-use Rattle.ledger.proofs.Laws.Files.{insert-directory, insert-file, names-setPlace, names-bare}
+use Rattle.opened.specs.Opening.{nodes_in}
+use Rattle.edits.specs.Edits.{Edit, insert_file, insert_directory, make_directories, move_file, resize_file, fill_file, rewrite, new_number, no_place}
+use Rattle.ledger.specs.Ledger.{Ledger, files_before, new_history, first_histories, first_ledger, put_in, entered, Report, ledger_after}
+use Rattle.ledger.specs.Inner.Files.{pick, place_of, files_of, own_name, names_of}
+use Rattle.ledger.proofs.Laws.Files.{insert-directory, insert-file, names-set_place, names-bare}
 use Rattle.ledger.proofs.Laws.Making.{made-same}
-use Rattle.ledger.specs.Spared.{ledgerNext, numberAfter}
+use Rattle.ledger.specs.Spared.{ledger_next, number_after}
 use Rattle.ledger.proofs.Laws.SparedLaws.{Holds}
-use Rattle.ledger.specs.Inner.Told.{named_in, givenIn, leastOf, last_of, start_of, historyAt, name_at, size_at, OfFiles}
+use Rattle.ledger.specs.Inner.Told.{named_in, given_in, least_of, last_of, start_of, history_at, name_at, size_at, OfFiles}
 use Rattle.ledger.proofs.Laws.ToldLaws.{Exists}
 use Rattle.ledger.proofs.Laws.FilesTold.{FileIs, told}
 
@@ -29,33 +29,33 @@ length-put-in (suc j) x [] = refl
 length-put-in (suc j) x (y ∷ xs) = ap suc (length-put-in j x xs)
 
 matched-entered : (ed : Edit) (l : Ledger) → Matched l → Matched (entered ed l)
-matched-entered (insertFile p nm) l m =
-    let j : ℕ = filesBefore (newNumber l.nodes p) l.nodes in
-    rw (insert-file ownName p nm 0 0 l.nodes, length-put-in j newHistory l.histories, length-put-in j nm (names_of l.nodes), m)
-matched-entered (insertDirectory p nm) l m = rw (insert-directory ownName p nm (suc (newNumber l.nodes p)) l.nodes) m
-matched-entered (makeDirectories start path) l m = rw (made-same ownName l.nodes start (components path)) m
-matched-entered (moveFile k to) l m = length-set l.histories (filesBefore k l.nodes) _ ∙ m
-matched-entered (resizeFile k n) l m = rw (names-setPlace 0 n k l.nodes) (length-set l.histories (filesBefore k l.nodes) _ ∙ m)
-matched-entered (fillFile k clip) l m = rw (names-setPlace 0 (length clip) k l.nodes) (length-set l.histories (filesBefore k l.nodes) _ ∙ m)
+matched-entered (insert_file p nm) l m =
+    let j : ℕ = files_before (new_number l.nodes p) l.nodes in
+    rw (insert-file own_name p nm 0 0 l.nodes, length-put-in j new_history l.histories, length-put-in j nm (names_of l.nodes), m)
+matched-entered (insert_directory p nm) l m = rw (insert-directory own_name p nm (suc (new_number l.nodes p)) l.nodes) m
+matched-entered (make_directories start path) l m = rw (made-same own_name l.nodes start (components path)) m
+matched-entered (move_file k to) l m = length-set l.histories (files_before k l.nodes) _ ∙ m
+matched-entered (resize_file k n) l m = rw (names-set_place 0 n k l.nodes) (length-set l.histories (files_before k l.nodes) _ ∙ m)
+matched-entered (fill_file k clip) l m = rw (names-set_place 0 (length clip) k l.nodes) (length-set l.histories (files_before k l.nodes) _ ∙ m)
 matched-entered rewrite l m = m
 
 matched-next : (a : Bool) (ed : Edit) (l : Ledger) → Matched l → Matched (cond a (entered ed l) l)
 matched-next true ed l m = matched-entered ed l m
 matched-next false ed l m = m
 
-matched-after : (reports : List Report) (l : Ledger) → Matched l → Matched (ledgerAfter reports l)
-unfolding ledgerAfter
+matched-after : (reports : List Report) (l : Ledger) → Matched l → Matched (ledger_after reports l)
+unfolding ledger_after
 matched-after [] l m = m
-matched-after (r ∷ reports) l m = matched-after reports (ledgerNext r l) (matched-next r.accepted r.edit l m)
+matched-after (r ∷ reports) l m = matched-after reports (ledger_next r l) (matched-next r.accepted r.edit l m)
 
-first-length : (image : List ℕ) (xs : List Node) → length (firstHistories image xs) ≡ length (names_of xs)
-unfolding firstHistories pick
+first-length : (image : List ℕ) (xs : List Node) → length (first_histories image xs) ≡ length (names_of xs)
+unfolding first_histories pick
 first-length image [] = refl
 first-length image (file nm offset size ∷ xs) = ap suc (first-length image xs)
 first-length image (directory nm next ∷ xs) = first-length image xs
 
-pub matched-first : (image : List ℕ) → Matched (firstLedger image)
-matched-first image = first-length image (nodesIn image) ∙ ap length (sym (names-bare (nodesIn image)))
+pub matched-first : (image : List ℕ) → Matched (first_ledger image)
+matched-first image = first-length image (nodes_in image) ∙ ap length (sym (names-bare (nodes_in image)))
 
 -- ---- the new file
 
@@ -65,8 +65,8 @@ put-in-at d zero x xs h = (omega arith, refl)
 put-in-at d (suc j) x [] h = absurd (omega arith)
 put-in-at d (suc j) x (y ∷ xs) h = let t = put-in-at d j x xs (omega arith) in (omega (arith, t.0), t.1)
 
-before-most : (k : ℕ) (xs : List Node) → filesBefore k xs ≤ length (names_of xs)
-unfolding filesBefore pick
+before-most : (k : ℕ) (xs : List Node) → files_before k xs ≤ length (names_of xs)
+unfolding files_before pick
 before-most zero xs = omega arith
 before-most (suc k) [] = omega arith
 before-most (suc k) (file nm offset size ∷ xs) = omega (arith, before-most k xs)
@@ -79,46 +79,46 @@ as_many (file nm offset size ∷ xs) = ap suc (as_many xs)
 as_many (directory nm next ∷ xs) = as_many xs
 
 -- the number among the files that a file put in below p gets
-abbrev pub newFile : Ledger → ℕ → ℕ
-newFile l p = filesBefore (newNumber l.nodes p) l.nodes
+abbrev pub new_file : Ledger → ℕ → ℕ
+new_file l p = files_before (new_number l.nodes p) l.nodes
 
 record New (l : Ledger) (f : ℕ) (nm : List ℕ) : Type 0 where
   exists : Exists l f
-  history : historyAt l f ≡ newHistory
+  history : history_at l f ≡ new_history
   name : name_at l f ≡ nm
   size : size_at l f ≡ 0
 
-new-file : (l : Ledger) (p : ℕ) (nm : List ℕ) → Matched l → New (entered (insertFile p nm) l) (newFile l p) nm
+new-file : (l : Ledger) (p : ℕ) (nm : List ℕ) → Matched l → New (entered (insert_file p nm) l) (new_file l p) nm
 new-file l p nm m =
-    let j : ℕ = newFile l p in
-    let b : j ≤ length (names_of l.nodes) = before-most (newNumber l.nodes p) l.nodes in
-    let h = put-in-at newHistory j newHistory l.histories (omega arith) in
-    let n : Holds [] (names_of (entered (insertFile p nm) l).nodes) j nm = rw (insert-file ownName p nm 0 0 l.nodes) (put-in-at [] j nm (names_of l.nodes) b) in
-    let s : Holds noPlace (files_of (entered (insertFile p nm) l).nodes) j noPlace = rw (insert-file place_of p nm 0 0 l.nodes) (put-in-at noPlace j noPlace (files_of l.nodes) (omega (arith, as_many l.nodes))) in
+    let j : ℕ = new_file l p in
+    let b : j ≤ length (names_of l.nodes) = before-most (new_number l.nodes p) l.nodes in
+    let h = put-in-at new_history j new_history l.histories (omega arith) in
+    let n : Holds [] (names_of (entered (insert_file p nm) l).nodes) j nm = rw (insert-file own_name p nm 0 0 l.nodes) (put-in-at [] j nm (names_of l.nodes) b) in
+    let s : Holds no_place (files_of (entered (insert_file p nm) l).nodes) j no_place = rw (insert-file place_of p nm 0 0 l.nodes) (put-in-at no_place j no_place (files_of l.nodes) (omega (arith, as_many l.nodes))) in
     record { exists = (h.0, n.0, s.0); history = h.1; name = n.1; size = ap (λ (r : DiscRegion). r.size) s.1 }
 
 -- ---- the list
 
-ledger-then : (xs ys : List Report) (l : Ledger) → ledgerAfter (xs ++ ys) l ≡ ledgerAfter ys (ledgerAfter xs l)
-unfolding ledgerAfter
+ledger-then : (xs ys : List Report) (l : Ledger) → ledger_after (xs ++ ys) l ≡ ledger_after ys (ledger_after xs l)
+unfolding ledger_after
 ledger-then [] ys l = refl
-ledger-then (r ∷ xs) ys l = ledger-then xs ys (ledgerNext r l)
+ledger-then (r ∷ xs) ys l = ledger-then xs ys (ledger_next r l)
 
 -- an accepted insert of a file
 abbrev pub inserting : ℕ → List ℕ → Report
-inserting p nm = record { edit = insertFile p nm; accepted = true }
+inserting p nm = record { edit = insert_file p nm; accepted = true }
 
 -- THEOREM: `before` and `after` are the reports before and after the insert
 pub inserted-told : (before after : List Report) (l : Ledger) (p : ℕ) (nm : List ℕ) → Matched l →
-    let l₀ : Ledger = ledgerAfter before l in
-    let l₁ : Ledger = ledgerNext (inserting p nm) l₀ in
-    let f : ℕ = newFile l₀ p in
+    let l₀ : Ledger = ledger_after before l in
+    let l₁ : Ledger = ledger_next (inserting p nm) l₀ in
+    let f : ℕ = new_file l₀ p in
     OfFiles after l₁ →
-    FileIs (ledgerAfter (before ++ (inserting p nm ∷ after)) l) (numberAfter after l₁ f) nm (last_of 0 (givenIn after l₁ f)) (record { place = 0; bytes = start_of [] (givenIn after l₁ f); m = leastOf 0 (givenIn after l₁ f); named = named_in after l₁ f })
-unfolding ledgerAfter
+    FileIs (ledger_after (before ++ (inserting p nm ∷ after)) l) (number_after after l₁ f) nm (last_of 0 (given_in after l₁ f)) (record { place = 0; bytes = start_of [] (given_in after l₁ f); m = least_of 0 (given_in after l₁ f); named = named_in after l₁ f })
+unfolding ledger_after
 inserted-told before after l p nm m o =
-    let l₁ : Ledger = ledgerNext (inserting p nm) (ledgerAfter before l) in
-    let f : ℕ = newFile (ledgerAfter before l) p in
-    let n = new-file (ledgerAfter before l) p nm (matched-after before l m) in
+    let l₁ : Ledger = ledger_next (inserting p nm) (ledger_after before l) in
+    let f : ℕ = new_file (ledger_after before l) p in
+    let n = new-file (ledger_after before l) p nm (matched-after before l m) in
     let t = told after l₁ f o n.exists in
     rw (ledger-then before (inserting p nm ∷ after) l) (rw (n.history, n.name, n.size) at t)

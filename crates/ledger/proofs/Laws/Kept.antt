@@ -4,19 +4,19 @@ use Rattle.std.specs.Prelude.{Ok}
 use Rattle.std.specs.Prelude.{ℕ, suc, ◌≤◌, ◌≡◌, true, List, ◌∷◌, map}
 use Rattle.std.proofs.Common.{arith}
 use Rattle.endian.specs.Bytes.{AllBytes}
-use Rattle.header.specs.Verdicts.{discEnd, table_end}
+use Rattle.header.specs.Verdicts.{disc_end, table_end}
 use Rattle.tree.specs.Table.{Node}
 use Rattle.tree.specs.Inner.WellFormed.{WellFormed}
-use Rattle.space.specs.Used.{usedRegions}
-use Rattle.space.specs.Layout.{disjointBelow}
-use Rattle.executable.specs.Program.{programBehind}
-use Rattle.opened.specs.Opening.{nodesIn, opening}
+use Rattle.space.specs.Used.{used_regions}
+use Rattle.space.specs.Layout.{disjoint_below}
+use Rattle.executable.specs.Program.{program_behind}
+use Rattle.opened.specs.Opening.{nodes_in, opening}
 use Rattle.edits.specs.Change.{written}
-use Rattle.edits.specs.Edits.{tableOnly}
+use Rattle.edits.specs.Edits.{table_only}
 use Rattle.ledger.specs.Ledger.{History, Ledger, bare}
-use Rattle.ledger.proofs.Laws.Written.{newEnd, Safe, bytes-written, rest-written}
+use Rattle.ledger.proofs.Laws.Written.{new_end, Safe, bytes-written, rest-written}
 use Rattle.ledger.specs.Inner.Files.{files_of}
-use Rattle.ledger.proofs.Laws.Files.{filesIn, placesIn}
+use Rattle.ledger.proofs.Laws.Files.{files_in, places_in}
 use Rattle.ledger.proofs.Laws.Apart.{region, apart-test, apart-table}
 use Rattle.ledger.proofs.Laws.Histories.{Trues, SameIn, trues-same}
 use Rattle.ledger.proofs.Laws.Opened.{Opened, opened, nodes-written, opens-written}
@@ -26,25 +26,25 @@ use Rattle.ledger.proofs.Laws.ProgramKept.{ProgramKept, program-kept}
 pub record Kept (w : ℕ) (image : List ℕ) (l : Ledger) : Type 0 where
   pub bytes : AllBytes image
   pub opens : opening image w ≡ Ok tt
-  pub shape : map bare (nodesIn image) ≡ l.nodes
-  pub trues : Trues image (filesIn image) l.histories
+  pub shape : map bare (nodes_in image) ≡ l.nodes
+  pub trues : Trues image (files_in image) l.histories
 
 -- ---- only the table is written
 
 pub record Tabled (w : ℕ) (image : List ℕ) (nodes : List Node) (hs : List History) (image' : List ℕ) : Type 0 where
   pub bytes : AllBytes image'
   pub opens : opening image' w ≡ Ok tt
-  pub tree : nodesIn image' ≡ nodes
+  pub tree : nodes_in image' ≡ nodes
   pub program : ProgramKept image image'
   -- the old files are still true
-  pub trues : Trues image' (filesIn image) hs
+  pub trues : Trues image' (files_in image) hs
 
 module _ (w : ℕ) (image : List ℕ) (l : Ledger) (K : Kept w image l) where
   pub opened-kept : Opened image
   opened-kept = opened image w K.opens K.bytes
 
-  module _ (words : ℕ) (lent : words ≤ w) (nodes : List Node) (well : WellFormed nodes) (r : TableRoom (tableOnly nodes) image words) where
-    pub table-safe : Safe (tableOnly nodes) image
+  module _ (words : ℕ) (lent : words ≤ w) (nodes : List Node) (well : WellFormed nodes) (r : TableRoom (table_only nodes) image words) where
+    pub table-safe : Safe (table_only nodes) image
     table-safe = record {
       bytes = K.bytes;
       header = opened-kept.header;
@@ -56,18 +56,18 @@ module _ (w : ℕ) (image : List ℕ) (l : Ledger) (K : Kept w image l) where
     }
 
     -- what lies behind the table stays
-    pub table-spares : (k : ℕ) → SameIn image (written (tableOnly nodes) image) (region (placesIn image) k)
-    table-spares k i h = rest-written (tableOnly nodes) image table-safe i (opened-kept.places.lie k i h).0 (r.clear k i h) (λ z. absurd (omega arith)) (λ z. absurd (omega arith))
+    pub table-spares : (k : ℕ) → SameIn image (written (table_only nodes) image) (region (places_in image) k)
+    table-spares k i h = rest-written (table_only nodes) image table-safe i (opened-kept.places.lie k i h).0 (r.clear k i h) (λ z. absurd (omega arith)) (λ z. absurd (omega arith))
 
-    pub tabled : usedRegions (newEnd (tableOnly nodes) image) (programBehind image ∷ files_of nodes) ≡ usedRegions (newEnd (tableOnly nodes) image) (placesIn image) → Tabled w image nodes l.histories (written (tableOnly nodes) image)
+    pub tabled : used_regions (new_end (table_only nodes) image) (program_behind image ∷ files_of nodes) ≡ used_regions (new_end (table_only nodes) image) (places_in image) → Tabled w image nodes l.histories (written (table_only nodes) image)
     tabled same =
-        let a = apart-table (table_end image) (newEnd (tableOnly nodes) image) (discEnd image) (placesIn image) opened-kept.places r.end r.clear in
-        let d : disjointBelow (discEnd image) (usedRegions (newEnd (tableOnly nodes) image) (placesIn image)) ≡ true = apart-test (newEnd (tableOnly nodes) image) (discEnd image) (placesIn image) (omega (arith, opened-kept.bounds.after-header)) a in
-        let p = program-kept (tableOnly nodes) image opened-kept table-safe (table-spares 0) in
+        let a = apart-table (table_end image) (new_end (table_only nodes) image) (disc_end image) (places_in image) opened-kept.places r.end r.clear in
+        let d : disjoint_below (disc_end image) (used_regions (new_end (table_only nodes) image) (places_in image)) ≡ true = apart-test (new_end (table_only nodes) image) (disc_end image) (places_in image) (omega (arith, opened-kept.bounds.after-header)) a in
+        let p = program-kept (table_only nodes) image opened-kept table-safe (table-spares 0) in
         record {
-          bytes = bytes-written (tableOnly nodes) image table-safe;
-          opens = opens-written (tableOnly nodes) image table-safe words w lent r.within opened-kept.program p.program (rw same d);
-          tree = nodes-written (tableOnly nodes) image table-safe words w lent r.within;
+          bytes = bytes-written (table_only nodes) image table-safe;
+          opens = opens-written (table_only nodes) image table-safe words w lent r.within opened-kept.program p.program (rw same d);
+          tree = nodes-written (table_only nodes) image table-safe words w lent r.within;
           program = p;
-          trues = trues-same image (written (tableOnly nodes) image) (filesIn image) l.histories (λ k. table-spares (suc k)) K.trues;
+          trues = trues-same image (written (table_only nodes) image) (files_in image) l.histories (λ k. table-spares (suc k)) K.trues;
         }

@@ -4,20 +4,20 @@ use Rattle.std.proofs.Common.{sym, ap, ◌∙◌, ⊎_elim, arith, eqb-true, eq-
 use Rattle.std.proofs.lemmas.Bool.{eqb-false}
 use Rattle.refusal.specs.Refusal.{is_refused}
 use Rattle.refusal.specs.Laws.Tests.{and_left, and_right, and_both, or_cases, or_left, or_right, is_false, never_both, same_test}
-use Rattle.header.specs.Verdicts.{fstOffset, fstSize, fstMaxSize, discEnd}
+use Rattle.header.specs.Verdicts.{fst_offset, fst_size, fst_max_size, disc_end}
 use Rattle.tree.specs.Table.{encode}
 use Rattle.space.specs.declared.region.DiscRegion.{DiscRegion}
-use Rattle.space.specs.Used.{inside, usesByte, nonempty, totalSize}
+use Rattle.space.specs.Used.{inside, uses_byte, nonempty, total_size}
 use Rattle.space.specs.Inner.Sort.{holds}
 use Rattle.space.specs.Laws.UsedLaws.{inside-in, inside-high, used-nonempty}
 use Rattle.space.specs.Laws.LayoutLaws.{inside-from, inside-to}
 use Rattle.space.specs.Laws.TotalLaws.{total-nonempty}
 use Rattle.space.specs.Laws.LargestLaws.{Exchanged}
-use Rattle.executable.specs.Program.{program_of, programBehind}
+use Rattle.executable.specs.Program.{program_of, program_behind}
 use Rattle.opened.specs.Opening.{table_of}
 use Rattle.edits.specs.Change.{Plan, refused, nothing, change, filled}
-use Rattle.edits.specs.Edits.{noPlace}
-use Rattle.ledger.proofs.Laws.Files.{filesIn, placesIn}
+use Rattle.edits.specs.Edits.{no_place}
+use Rattle.ledger.proofs.Laws.Files.{files_in, places_in}
 use Rattle.ledger.proofs.Laws.Apart.{Has, region, Apart, some-used, used-some}
 use Rattle.ledger.proofs.Laws.Alike.{Alike, start-same, size_same, end_same, table_same, tree-same}
 use Rattle.ledger.proofs.Laws.Opened.{Opened}
@@ -25,38 +25,38 @@ use Rattle.ledger.proofs.Laws.ProgramKept.{same_place}
 
 -- the table then has that size, its stated maximum is as it was, and of what lies behind it `new` stands in the place of `old`
 pub record LaidOut (image image' : List ℕ) (size : ℕ) (old new : DiscRegion) : Type 0 where
-  pub end : discEnd image' ≡ discEnd image
-  pub start : fstOffset image' ≡ fstOffset image
-  pub table : fstSize image' ≡ size
-  pub maximum : fstMaxSize image' ≡ fstMaxSize image
-  pub fits : fstOffset image + size ≤ discEnd image
-  pub clear : (i : ℕ) → usesByte (placesIn image) i ≡ true → fstOffset image + size ≤ i
-  pub held : 0 < old.size → holds old (placesIn image) ≡ true
-  pub places : Exchanged (placesIn image) (placesIn image') old new
+  pub end : disc_end image' ≡ disc_end image
+  pub start : fst_offset image' ≡ fst_offset image
+  pub table : fst_size image' ≡ size
+  pub maximum : fst_max_size image' ≡ fst_max_size image
+  pub fits : fst_offset image + size ≤ disc_end image
+  pub clear : (i : ℕ) → uses_byte (places_in image) i ≡ true → fst_offset image + size ≤ i
+  pub held : 0 < old.size → holds old (places_in image) ≡ true
+  pub places : Exchanged (places_in image) (places_in image') old new
 
 -- the image afterwards has the layout of the plan: one that is refused has none, and one that writes no table leaves it byte for byte
 abbrev pub Lays : Plan → List ℕ → List ℕ → Type 0
 Lays (refused v) image image' = is_refused v ≡ true
-Lays nothing image image' = LaidOut image image' (fstSize image) noPlace noPlace × (table_of image' ≡ table_of image)
+Lays nothing image image' = LaidOut image image' (fst_size image) no_place no_place × (table_of image' ≡ table_of image)
 Lays (change k c) image image' = LaidOut image image' (length (encode c.nodes)) c.old c.place
 Lays (filled k clip p) image image' = Lays p image image'
 
 -- ---- no place is changed
 
-exchanged-none : (fs fs' : List DiscRegion) → nonempty fs' ≡ nonempty fs → Exchanged fs fs' noPlace noPlace
+exchanged-none : (fs fs' : List DiscRegion) → nonempty fs' ≡ nonempty fs → Exchanged fs fs' no_place no_place
 exchanged-none fs fs' e = record {
-  total = let z : totalSize fs' ≡ totalSize fs = sym (total-nonempty fs') ∙ ap totalSize e ∙ total-nonempty fs in omega arith;
-  bytes = λ i. sym (used-nonempty fs' i) ∙ ap (λ (xs : List DiscRegion). usesByte xs i) e ∙ used-nonempty fs i ∙ none i (usesByte fs i);
+  total = let z : total_size fs' ≡ total_size fs = sym (total-nonempty fs') ∙ ap total_size e ∙ total-nonempty fs in omega arith;
+  bytes = λ i. sym (used-nonempty fs' i) ∙ ap (λ (xs : List DiscRegion). uses_byte xs i) e ∙ used-nonempty fs i ∙ none i (uses_byte fs i);
 }
   where
-    none : (i : ℕ) (u : Bool) → u ≡ (inside noPlace i || (u && not (inside noPlace i)))
-    none i true = rw (inside-high noPlace i (omega arith))
-    none i false = rw (inside-high noPlace i (omega arith))
+    none : (i : ℕ) (u : Bool) → u ≡ (inside no_place i || (u && not (inside no_place i)))
+    none i true = rw (inside-high no_place i (omega arith))
+    none i false = rw (inside-high no_place i (omega arith))
 
 -- ---- one place is changed
 
-total-set : (fs : List DiscRegion) (r : ℕ) (y : DiscRegion) → r < length fs → totalSize (set fs r y) + (region fs r).size ≡ totalSize fs + y.size
-unfolding totalSize
+total-set : (fs : List DiscRegion) (r : ℕ) (y : DiscRegion) → r < length fs → total_size (set fs r y) + (region fs r).size ≡ total_size fs + y.size
+unfolding total_size
 total-set [] r y h = absurd (omega arith)
 total-set (x ∷ fs) zero y h = omega arith
 total-set (x ∷ fs) (suc r) y h = omega (arith, total-set fs r y (omega arith))
@@ -69,49 +69,49 @@ holds_at (x ∷ fs) (suc r) h = or_right (eqb x.offset (region fs r).offset && e
 
 module _ (t e : ℕ) (fs : List DiscRegion) (a : Apart t e fs) (r : ℕ) (y : DiscRegion) (inb : r < length fs) where
   -- a byte of the changed list
-  to-old : (i : ℕ) → usesByte (set fs r y) i ≡ true → (inside y i || (usesByte fs i && not (inside (region fs r) i))) ≡ true
+  to-old : (i : ℕ) → uses_byte (set fs r y) i ≡ true → (inside y i || (uses_byte fs i && not (inside (region fs r) i))) ≡ true
   to-old i u = let s = used-some (set fs r y) i u in go s.0 s.1 (eqb s.0 r) refl
     where
-      go : (k : ℕ) → Has (region (set fs r y) k) i → (b : Bool) → eqb k r ≡ b → (inside y i || (usesByte fs i && not (inside (region fs r) i))) ≡ true
+      go : (k : ℕ) → Has (region (set fs r y) k) i → (b : Bool) → eqb k r ≡ b → (inside y i || (uses_byte fs i && not (inside (region fs r) i))) ≡ true
       go k h true q =
           let z : k ≡ r = eqb-true k r q in
-          let g : Has y i = rw (get_or-set_same fs r y noPlace inb) at (rw z at h) in
+          let g : Has y i = rw (get_or-set_same fs r y no_place inb) at (rw z at h) in
           or_left (inside y i) _ (inside-in y i g.0 g.1)
       go k h false q =
           let d : k ≡ r → ⊥ = eqb-false k r q in
-          let g : Has (region fs k) i = rw (get_or-set_other fs r k y noPlace d) at h in
+          let g : Has (region fs k) i = rw (get_or-set_other fs r k y no_place d) at h in
           let o : inside (region fs r) i ≡ false = is_false (inside (region fs r) i) (λ v. d (a.apart k r i g (inside-from (region fs r) i v, inside-to (region fs r) i v))) in
-          or_right (inside y i) _ (and_both (usesByte fs i) (not (inside (region fs r) i)) (some-used fs k i g) (rw o))
+          or_right (inside y i) _ (and_both (uses_byte fs i) (not (inside (region fs r) i)) (some-used fs k i g) (rw o))
 
-  to-new : (i : ℕ) → (inside y i || (usesByte fs i && not (inside (region fs r) i))) ≡ true → usesByte (set fs r y) i ≡ true
+  to-new : (i : ℕ) → (inside y i || (uses_byte fs i && not (inside (region fs r) i))) ≡ true → uses_byte (set fs r y) i ≡ true
   to-new i u =
-      ⊎_elim (λ v. some-used (set fs r y) r i (rw (get_or-set_same fs r y noPlace inb) (inside-from y i v, inside-to y i v)))
-      (λ v. let s = used-some fs i (and_left (usesByte fs i) _ v) in go s.0 s.1 (and_right (usesByte fs i) _ v) (eqb s.0 r) refl) (or_cases (inside y i) _ u)
+      ⊎_elim (λ v. some-used (set fs r y) r i (rw (get_or-set_same fs r y no_place inb) (inside-from y i v, inside-to y i v)))
+      (λ v. let s = used-some fs i (and_left (uses_byte fs i) _ v) in go s.0 s.1 (and_right (uses_byte fs i) _ v) (eqb s.0 r) refl) (or_cases (inside y i) _ u)
     where
-      go : (k : ℕ) → Has (region fs k) i → not (inside (region fs r) i) ≡ true → (b : Bool) → eqb k r ≡ b → usesByte (set fs r y) i ≡ true
+      go : (k : ℕ) → Has (region fs k) i → not (inside (region fs r) i) ≡ true → (b : Bool) → eqb k r ≡ b → uses_byte (set fs r y) i ≡ true
       go k h n true q =
           let z : k ≡ r = eqb-true k r q in
           let g : Has (region fs r) i = rw z at h in
           let v : not (inside (region fs r) i) ≡ false = rw (inside-in (region fs r) i g.0 g.1) in
           absurd (never_both (not (inside (region fs r) i)) n v)
-      go k h n false q = some-used (set fs r y) k i (rw (get_or-set_other fs r k y noPlace (eqb-false k r q)) h)
+      go k h n false q = some-used (set fs r y) k i (rw (get_or-set_other fs r k y no_place (eqb-false k r q)) h)
 
   pub exchanged-set : Exchanged fs (set fs r y) (region fs r) y
-  exchanged-set = record { total = total-set fs r y inb; bytes = λ i. same_test (usesByte (set fs r y) i) _ (to-old i) (to-new i) }
+  exchanged-set = record { total = total-set fs r y inb; bytes = λ i. same_test (uses_byte (set fs r y) i) _ (to-old i) (to-new i) }
 
 -- ---- of images
 
-module _ (image image' : List ℕ) (end : discEnd image' ≡ discEnd image) (start : fstOffset image' ≡ fstOffset image) (program : program_of image' ≡ program_of image) where
+module _ (image image' : List ℕ) (end : disc_end image' ≡ disc_end image) (start : fst_offset image' ≡ fst_offset image) (program : program_of image' ≡ program_of image) where
   -- what lies behind the table
-  pub places-are : (fs : List DiscRegion) → filesIn image' ≡ fs → placesIn image' ≡ programBehind image ∷ fs
+  pub places-are : (fs : List DiscRegion) → files_in image' ≡ fs → places_in image' ≡ program_behind image ∷ fs
   places-are fs e = rw (start, same_place image image' program, e)
 
-  module _ (size : ℕ) (table : fstSize image' ≡ size) (maximum : fstMaxSize image' ≡ fstMaxSize image) (fits : fstOffset image + size ≤ discEnd image) (clear : (k i : ℕ) → Has (region (placesIn image) k) i → fstOffset image + size ≤ i) where
-    clear_of : (i : ℕ) → usesByte (placesIn image) i ≡ true → fstOffset image + size ≤ i
-    clear_of i u = let s = used-some (placesIn image) i u in clear s.0 i s.1
+  module _ (size : ℕ) (table : fst_size image' ≡ size) (maximum : fst_max_size image' ≡ fst_max_size image) (fits : fst_offset image + size ≤ disc_end image) (clear : (k i : ℕ) → Has (region (places_in image) k) i → fst_offset image + size ≤ i) where
+    clear_of : (i : ℕ) → uses_byte (places_in image) i ≡ true → fst_offset image + size ≤ i
+    clear_of i u = let s = used-some (places_in image) i u in clear s.0 i s.1
 
     -- LAW: the files' bytes are the same
-    pub laid_same : nonempty (filesIn image') ≡ nonempty (filesIn image) → LaidOut image image' size noPlace noPlace
+    pub laid_same : nonempty (files_in image') ≡ nonempty (files_in image) → LaidOut image image' size no_place no_place
     laid_same e = record {
       end = end;
       start = start;
@@ -120,11 +120,11 @@ module _ (image image' : List ℕ) (end : discEnd image' ≡ discEnd image) (sta
       fits = fits;
       clear = clear_of;
       held = λ h. absurd (omega arith);
-      places = rw (places-are (filesIn image') refl) (exchanged-none (placesIn image) (programBehind image ∷ filesIn image') (unfold nonempty in rw e));
+      places = rw (places-are (files_in image') refl) (exchanged-none (places_in image) (program_behind image ∷ files_in image') (unfold nonempty in rw e));
     }
 
     -- LAW: the r-th place is another
-    pub laid-place : Opened image → (r : ℕ) (new : DiscRegion) → r < length (filesIn image) → filesIn image' ≡ set (filesIn image) r new → LaidOut image image' size (region (filesIn image) r) new
+    pub laid-place : Opened image → (r : ℕ) (new : DiscRegion) → r < length (files_in image) → files_in image' ≡ set (files_in image) r new → LaidOut image image' size (region (files_in image) r) new
     laid-place o r new h e = record {
       end = end;
       start = start;
@@ -132,13 +132,13 @@ module _ (image image' : List ℕ) (end : discEnd image' ≡ discEnd image) (sta
       maximum = maximum;
       fits = fits;
       clear = clear_of;
-      held = λ z. holds_at (placesIn image) (suc r) (omega arith);
-      places = rw (places-are (set (filesIn image) r new) e) (exchanged-set _ _ (placesIn image) o.places (suc r) new (omega arith));
+      held = λ z. holds_at (places_in image) (suc r) (omega arith);
+      places = rw (places-are (set (files_in image) r new) e) (exchanged-set _ _ (places_in image) o.places (suc r) new (omega arith));
     }
 
 -- ---- another image that opens alike
 
-module _ (image image' image'' : List ℕ) (o : Opened image') (a : Alike image' image'') (m : fstMaxSize image'' ≡ fstMaxSize image') where
+module _ (image image' image'' : List ℕ) (o : Opened image') (a : Alike image' image'') (m : fst_max_size image'' ≡ fst_max_size image') where
   laid-out-on : (size : ℕ) (old new : DiscRegion) → LaidOut image image' size old new → LaidOut image image'' size old new
   laid-out-on size old new l = record {
     end = end_same image' image'' a ∙ l.end;
@@ -148,12 +148,12 @@ module _ (image image' image'' : List ℕ) (o : Opened image') (a : Alike image'
     fits = l.fits;
     clear = l.clear;
     held = l.held;
-    places = rw (places-are image' image'' (end_same image' image'' a) (start-same image' image'' a) a.program (filesIn image') (rw (tree-same image' image'' a o))) l.places;
+    places = rw (places-are image' image'' (end_same image' image'' a) (start-same image' image'' a) a.program (files_in image') (rw (tree-same image' image'' a o))) l.places;
   }
 
   -- LAW: what does not touch header, table and program leaves the layout as it is
   pub laid_on : (p : Plan) → Lays p image image' → Lays p image image''
   laid_on (refused v) l = l
-  laid_on nothing l = (laid-out-on (fstSize image) noPlace noPlace l.0, table_same image' image'' a o ∙ l.1)
+  laid_on nothing l = (laid-out-on (fst_size image) no_place no_place l.0, table_same image' image'' a o ∙ l.1)
   laid_on (change k c) l = laid-out-on (length (encode c.nodes)) c.old c.place l
   laid_on (filled k clip p) l = laid_on p l

@@ -8,16 +8,16 @@ use Rattle.endian.specs.Bytes.{AllBytes}
 use Rattle.refusal.specs.Refusal.{is_refused}
 use Rattle.refusal.specs.Laws.Chains.{first-passed}
 use Rattle.refusal.specs.Laws.Tests.{lt-or-le}
-use Rattle.header.specs.Verdicts.{fstSize, fstMaxSize}
+use Rattle.header.specs.Verdicts.{fst_size, fst_max_size}
 use Rattle.tree.specs.Table.{encode, limits}
 use Rattle.opened.specs.Opening.{table_of}
-use Rattle.edits.specs.Change.{Change, tableVerdict, Plan, refused, nothing, change, filled}
-use Rattle.edits.specs.Edits.{Edit, plan_of, planVerdict, planImage, verdictOf, imageAfter}
+use Rattle.edits.specs.Change.{Change, table_verdict_in, Plan, refused, nothing, change, filled}
+use Rattle.edits.specs.Edits.{Edit, plan_of, plan_verdict, plan_image, verdict_of, image_after}
 use Rattle.edits.proofs.Laws.Accepted.{accepted}
 use Rattle.edits.proofs.Laws.PlaceTests.{place-passed}
 use Rattle.space.specs.declared.totals.Totals.{Totals}
-use Rattle.ledger.specs.Ledger.{Ledger, firstLedger, entered}
-use Rattle.ledger.specs.Runs.{Call, imageAfterAll, Passable, AllWithin}
+use Rattle.ledger.specs.Ledger.{Ledger, first_ledger, entered}
+use Rattle.ledger.specs.Runs.{Call, image_after_all, Passable, AllWithin}
 use Rattle.ledger.specs.Theorem.{WithinMaximum, MaximumKept}
 use Rattle.ledger.proofs.Laws.Kept.{Kept}
 use Rattle.ledger.proofs.Laws.Layout.{Lays}
@@ -26,10 +26,10 @@ use Rattle.ledger.proofs.Laws.Steps.{step}
 use Rattle.ledger.proofs.Laws.TreeAfter.{arrives}
 
 -- LAW: where a larger table is the first one, a table within the maximum at first is within it at last
-kept-within : (first last : List ℕ) → fstMaxSize last ≡ fstMaxSize first → (0 < fstMaxSize first → fstMaxSize first < fstSize last → (fstSize last ≡ fstSize first) × (table_of last ≡ table_of first)) → WithinMaximum first last
+kept-within : (first last : List ℕ) → fst_max_size last ≡ fst_max_size first → (0 < fst_max_size first → fst_max_size first < fst_size last → (fst_size last ≡ fst_size first) × (table_of last ≡ table_of first)) → WithinMaximum first last
 kept-within first last same larger = record {
   field = same;
-  within = λ z h. ⊎_elim (λ l. absurd (omega (arith, (larger z l).0))) (λ l. l) (lt-or-le (fstMaxSize first) (fstSize last));
+  within = λ z h. ⊎_elim (λ l. absurd (omega (arith, (larger z l).0))) (λ l. l) (lt-or-le (fst_max_size first) (fst_size last));
   larger = larger;
 }
 
@@ -46,12 +46,12 @@ trans a b c p q =
 -- ---- one call
 
 -- a change that passed its tests has a table within a nonzero maximum
-table-within : (c : Change) (image : List ℕ) (words bytes : ℕ) → tableVerdict c image words bytes ≡ Ok tt → 0 < fstMaxSize image → length (encode c.nodes) ≤ fstMaxSize image
-unfolding tableVerdict
+table-within : (c : Change) (image : List ℕ) (words bytes : ℕ) → table_verdict_in c image words bytes ≡ Ok tt → 0 < fst_max_size image → length (encode c.nodes) ≤ fst_max_size image
+unfolding table_verdict_in
 table-within c image words bytes v = (place-passed image bytes (length (encode c.nodes)) c.place (first-passed (limits c.nodes words) _ v).1).within
 
 -- an image that has the layout of a plan whose tests pass
-laid-within : (p : Plan) (image image' : List ℕ) (words bytes : ℕ) → planVerdict p image words bytes ≡ Ok tt → Lays p image image' → WithinMaximum image image'
+laid-within : (p : Plan) (image image' : List ℕ) (words bytes : ℕ) → plan_verdict p image words bytes ≡ Ok tt → Lays p image image' → WithinMaximum image image'
 laid-within (refused (Err c)) image image' words bytes v l = let z : ◌≡◌ {A = ℕ} 0 1 = cc in absurd (omega arith)
 laid-within (refused (Ok _)) image image' words bytes v l = let z : ◌≡◌ {A = ℕ} 0 1 = cc in absurd (omega arith)
 laid-within nothing image image' words bytes v l = kept-within image image' l.0.maximum (λ z h. (l.0.table, l.1))
@@ -59,26 +59,26 @@ laid-within (change k c) image image' words bytes v l = kept-within image image'
 laid-within (filled k clip p) image image' words bytes v l = laid-within p image image' words bytes v l
 
 -- LAW: accepted or refused
-pub call-within : (ed : Edit) (totals : Totals) (image : List ℕ) (words bytes : ℕ) → AllBytes image → Passable ed → WithinMaximum image (imageAfter ed totals image words bytes)
-unfolding imageAfter
-call-within ed totals image words bytes b h = go (verdictOf ed totals image words bytes) refl
+pub call-within : (ed : Edit) (totals : Totals) (image : List ℕ) (words bytes : ℕ) → AllBytes image → Passable ed → WithinMaximum image (image_after ed totals image words bytes)
+unfolding image_after
+call-within ed totals image words bytes b h = go (verdict_of ed totals image words bytes) refl
   where
-    go : (v : Verdict) → verdictOf ed totals image words bytes ≡ v → WithinMaximum image (cond (is_refused v) image (planImage (plan_of ed image) image))
+    go : (v : Verdict) → verdict_of ed totals image words bytes ≡ v → WithinMaximum image (cond (is_refused v) image (plan_image (plan_of ed image) image))
     go (Ok tt) e =
         let a = accepted ed totals image words bytes e in
-        laid-within (plan_of ed image) image (planImage (plan_of ed image) image) words bytes a.own (arrives image words bytes b a.opens ed h a.own).2
+        laid-within (plan_of ed image) image (plan_image (plan_of ed image) image) words bytes a.own (arrives image words bytes b a.opens ed h a.own).2
     go (Err c) e = same image
 
 -- ---- any list
 
-within-along : (w : ℕ) (calls : List Call) (image : List ℕ) (l : Ledger) → AllWithin w calls → Kept w image l → WithinMaximum image (imageAfterAll calls image)
-unfolding imageAfterAll
+within-along : (w : ℕ) (calls : List Call) (image : List ℕ) (l : Ledger) → AllWithin w calls → Kept w image l → WithinMaximum image (image_after_all calls image)
+unfolding image_after_all
 within-along w [] image l a k = same image
 within-along w (c ∷ calls) image l a k =
-    let next : List ℕ = imageAfter c.edit c.totals image c.words c.bytes in
-    trans image next (imageAfterAll calls next) (call-within c.edit c.totals image c.words c.bytes k.bytes a.1)
-    (within-along w calls next (cond (not (is_refused (verdictOf c.edit c.totals image c.words c.bytes))) (entered c.edit l) l) a.2 (step w image l k c.words c.bytes a.0 c.totals c.edit a.1))
+    let next : List ℕ = image_after c.edit c.totals image c.words c.bytes in
+    trans image next (image_after_all calls next) (call-within c.edit c.totals image c.words c.bytes k.bytes a.1)
+    (within-along w calls next (cond (not (is_refused (verdict_of c.edit c.totals image c.words c.bytes))) (entered c.edit l) l) a.2 (step w image l k c.words c.bytes a.0 c.totals c.edit a.1))
 
 -- THEOREM
 pub maximum-kept : MaximumKept
-maximum-kept image w₀ w calls b e h a = within-along w calls image (firstLedger image) a (start image w₀ w h b e)
+maximum-kept image w₀ w calls b e h a = within-along w calls image (first_ledger image) a (start image w₀ w h b e)

@@ -12,15 +12,15 @@ use Rattle.refusal.specs.declared.Refusal.TheVariants.{LimitOrMemory, NoSuchEntr
 use Rattle.refusal.specs.Refusal.{refuse}
 use Rattle.refusal.specs.Laws.Chains.{refuse-passed}
 use Rattle.tree.specs.Table.{Node, name_of, none}
-use Rattle.tree.specs.Lookup.{isDirectory, components, lookup}
-use Rattle.tree.specs.Insert.{insertAt, emptyFile, emptyDirectory}
+use Rattle.tree.specs.Lookup.{is_directory, components, lookup}
+use Rattle.tree.specs.Insert.{insert_at, empty_file, empty_directory}
 use Rattle.tree.proofs.Laws.InsertedList.{Nested, Fresh, well-nested}
 use Rattle.space.specs.declared.totals.Totals.{Totals}
-use Rattle.opened.specs.Opening.{nodesIn, opening}
+use Rattle.opened.specs.Opening.{nodes_in, opening}
 use Rattle.edits.specs.Change.{Plan, change}
-use Rattle.edits.specs.Edits.{insertFile, insertDirectory, makeDirectories, tableOnly, newNumber, insertVerdict, Made, stopped, made, make, planMade, planMakeDirectories, planVerdict, planTree, verdictOf, imageAfter, planNumber, plan_of, numberedAs, Edit}
+use Rattle.edits.specs.Edits.{insert_file, insert_directory, make_directories, table_only, new_number, insert_verdict, Made, stopped, made, make, plan_made, plan_make_directories, plan_verdict, plan_tree, verdict_of, image_after, plan_number, plan_of, numbered_as, Edit}
 use Rattle.edits.proofs.Laws.Accepted.{accepted}
-use Rattle.ledger.specs.Ledger.{madeNodes}
+use Rattle.ledger.specs.Ledger.{made_nodes}
 use Rattle.ledger.proofs.Laws.Opened.{opened}
 use Rattle.ledger.proofs.Laws.TreeAfter.{tree-after}
 use Rattle.ledger.proofs.Laws.PlacesAfter.{passed-plan}
@@ -29,42 +29,42 @@ use Rattle.edits.proofs.Laws.InsertNumber.{new-entry, new-found, new-from-root}
 
 -- what the edits that give an entry's number answer
 abbrev answer_of : Edit → Totals → List ℕ → ℕ → ℕ → Result ℕ Refusal
-answer_of ed totals image words bytes = numberedAs (verdictOf ed totals image words bytes) (planNumber (plan_of ed image))
+answer_of ed totals image words bytes = numbered_as (verdict_of ed totals image words bytes) (plan_number (plan_of ed image))
 
 -- what an insert of `new` below p, which answered so, leaves in the image
 pub record Inserted (image after : List ℕ) (answer : Result ℕ Refusal) (p : ℕ) (new : Node) : Type 0 where
   pub number : ℕ
   pub answered : answer ≡ Ok number
   -- the new entry was put in as the last child, and nothing else is changed
-  pub tree : nodesIn after ≡ insertAt p new (nodesIn image)
+  pub tree : nodes_in after ≡ insert_at p new (nodes_in image)
   -- the entry with that number is the new one
-  pub entry : get_or (nodesIn after) number none ≡ new
+  pub entry : get_or (nodes_in after) number none ≡ new
   -- its name, from the parent, leads to it
-  pub found : lookup (nodesIn after) p (name_of new) ≡ Ok number
+  pub found : lookup (nodes_in after) p (name_of new) ≡ Ok number
   -- and so does every path that led to the parent from the root, with the name behind it
-  pub behind : (path : List ℕ) → lookup (nodesIn image) 0 path ≡ Ok p → lookup (nodesIn after) 0 (path ++ (0x2F ∷ name_of new)) ≡ Ok number
+  pub behind : (path : List ℕ) → lookup (nodes_in image) 0 path ≡ Ok p → lookup (nodes_in after) 0 (path ++ (0x2F ∷ name_of new)) ≡ Ok number
 
 -- what a make-directories along the path, which answered so, leaves
 pub record MadeFrom (image after : List ℕ) (answer : Result ℕ Refusal) (start : ℕ) (path : List ℕ) : Type 0 where
   pub number : ℕ
   pub answered : answer ≡ Ok number
   -- the tree is the one that the walk made
-  pub tree : nodesIn after ≡ madeNodes (nodesIn image) (make (nodesIn image) [] start false (components path))
+  pub tree : nodes_in after ≡ made_nodes (nodes_in image) (make (nodes_in image) [] start false (components path))
   -- "walks its path by Lookup's rules": the path leads to that number, and a directory is there
-  pub found : lookup (nodesIn after) start path ≡ Ok number
-  pub kind : isDirectory (get_or (nodesIn after) number none) ≡ true
+  pub found : lookup (nodes_in after) start path ≡ Ok number
+  pub kind : is_directory (get_or (nodes_in after) number none) ≡ true
 
 module _ (totals : Totals) (image : List ℕ) (words bytes : ℕ) (b : AllBytes image) where
-  nested : opening image words ≡ Ok tt → Nested (nodesIn image)
-  nested e = well-nested (nodesIn image) (opened image words e b).well
+  nested : opening image words ≡ Ok tt → Nested (nodes_in image)
+  nested e = well-nested (nodes_in image) (opened image words e b).well
 
-  inserted : (after : List ℕ) (answer : Result ℕ Refusal) (p : ℕ) (new : Node) → opening image words ≡ Ok tt → insertVerdict (nodesIn image) p (name_of new) ≡ Ok tt → Fresh (newNumber (nodesIn image) p) new →
-      answer ≡ Ok (newNumber (nodesIn image) p) → nodesIn after ≡ insertAt p new (nodesIn image) → Inserted image after answer p new
+  inserted : (after : List ℕ) (answer : Result ℕ Refusal) (p : ℕ) (new : Node) → opening image words ≡ Ok tt → insert_verdict (nodes_in image) p (name_of new) ≡ Ok tt → Fresh (new_number (nodes_in image) p) new →
+      answer ≡ Ok (new_number (nodes_in image) p) → nodes_in after ≡ insert_at p new (nodes_in image) → Inserted image after answer p new
   inserted after answer p new e v fresh a t =
-      let nodes : List Node = nodesIn image in
+      let nodes : List Node = nodes_in image in
       let n : Nested nodes = nested e in
       record {
-        number = newNumber nodes p;
+        number = new_number nodes p;
         answered = a;
         tree = t;
         entry = rw t (new-entry nodes n p new v fresh);
@@ -73,42 +73,42 @@ module _ (totals : Totals) (image : List ℕ) (words bytes : ℕ) (b : AllBytes 
       }
 
   -- THEOREM: an accepted insert of a file
-  pub inserted-file : (p : ℕ) (nm : List ℕ) → verdictOf (insertFile p nm) totals image words bytes ≡ Ok tt →
-      Inserted image (imageAfter (insertFile p nm) totals image words bytes) (answer_of (insertFile p nm) totals image words bytes) p (emptyFile nm)
+  pub inserted-file : (p : ℕ) (nm : List ℕ) → verdict_of (insert_file p nm) totals image words bytes ≡ Ok tt →
+      Inserted image (image_after (insert_file p nm) totals image words bytes) (answer_of (insert_file p nm) totals image words bytes) p (empty_file nm)
   inserted-file p nm v =
-      let o = accepted (insertFile p nm) totals image words bytes v in
-      let t = passed-plan (insertVerdict (nodesIn image) p nm) (change (newNumber (nodesIn image) p) (tableOnly (insertAt p (emptyFile nm) (nodesIn image)))) image words bytes o.own in
-      inserted (imageAfter (insertFile p nm) totals image words bytes) _ p (emptyFile nm) o.opens t.0 (omega arith, omega arith) (rw (v, t.2))
-      (tree-after (insertFile p nm) totals image words bytes b tt v ∙ ap (λ (x : Plan). planTree x (nodesIn image)) t.2)
+      let o = accepted (insert_file p nm) totals image words bytes v in
+      let t = passed-plan (insert_verdict (nodes_in image) p nm) (change (new_number (nodes_in image) p) (table_only (insert_at p (empty_file nm) (nodes_in image)))) image words bytes o.own in
+      inserted (image_after (insert_file p nm) totals image words bytes) _ p (empty_file nm) o.opens t.0 (omega arith, omega arith) (rw (v, t.2))
+      (tree-after (insert_file p nm) totals image words bytes b tt v ∙ ap (λ (x : Plan). plan_tree x (nodes_in image)) t.2)
 
   -- THEOREM: and of a directory
-  pub inserted-directory : (p : ℕ) (nm : List ℕ) → verdictOf (insertDirectory p nm) totals image words bytes ≡ Ok tt →
-      Inserted image (imageAfter (insertDirectory p nm) totals image words bytes) (answer_of (insertDirectory p nm) totals image words bytes) p (emptyDirectory nm (newNumber (nodesIn image) p))
+  pub inserted-directory : (p : ℕ) (nm : List ℕ) → verdict_of (insert_directory p nm) totals image words bytes ≡ Ok tt →
+      Inserted image (image_after (insert_directory p nm) totals image words bytes) (answer_of (insert_directory p nm) totals image words bytes) p (empty_directory nm (new_number (nodes_in image) p))
   inserted-directory p nm v =
-      let q : ℕ = newNumber (nodesIn image) p in
-      let o = accepted (insertDirectory p nm) totals image words bytes v in
-      let t = passed-plan (insertVerdict (nodesIn image) p nm) (change q (tableOnly (insertAt p (emptyDirectory nm q) (nodesIn image)))) image words bytes o.own in
-      inserted (imageAfter (insertDirectory p nm) totals image words bytes) _ p (emptyDirectory nm q) o.opens t.0 refl (rw (v, t.2))
-      (tree-after (insertDirectory p nm) totals image words bytes b tt v ∙ ap (λ (x : Plan). planTree x (nodesIn image)) t.2)
+      let q : ℕ = new_number (nodes_in image) p in
+      let o = accepted (insert_directory p nm) totals image words bytes v in
+      let t = passed-plan (insert_verdict (nodes_in image) p nm) (change q (table_only (insert_at p (empty_directory nm q) (nodes_in image)))) image words bytes o.own in
+      inserted (image_after (insert_directory p nm) totals image words bytes) _ p (empty_directory nm q) o.opens t.0 refl (rw (v, t.2))
+      (tree-after (insert_directory p nm) totals image words bytes b tt v ∙ ap (λ (x : Plan). plan_tree x (nodes_in image)) t.2)
 
-  made_as : (start : ℕ) (path : List ℕ) (m : Made) → opening image words ≡ Ok tt → make (nodesIn image) [] start false (components path) ≡ m → start < length (nodesIn image) →
-      planVerdict (planMade m) image words bytes ≡ Ok tt → (after : List ℕ) → nodesIn after ≡ planTree (planMade m) (nodesIn image) → (answer : Result ℕ Refusal) → answer ≡ Ok (planNumber (planMade m)) →
+  made_as : (start : ℕ) (path : List ℕ) (m : Made) → opening image words ≡ Ok tt → make (nodes_in image) [] start false (components path) ≡ m → start < length (nodes_in image) →
+      plan_verdict (plan_made m) image words bytes ≡ Ok tt → (after : List ℕ) → nodes_in after ≡ plan_tree (plan_made m) (nodes_in image) → (answer : Result ℕ Refusal) → answer ≡ Ok (plan_number (plan_made m)) →
       MadeFrom image after answer start path
   made_as start path (stopped c) e q h v after t answer a = let z : ◌≡◌ {A = ℕ} 0 1 = cc in absurd (omega arith)
   made_as start path (made new k true) e q h v after t answer a = let z : ◌≡◌ {A = ℕ} 0 1 = cc in absurd (omega arith)
   made_as start path (made new k false) e q h v after t answer a =
-      let f = made_found (nodesIn image) start path new k false (nested e) h q in
+      let f = made_found (nodes_in image) start path new k false (nested e) h q in
       record { number = k; answered = a; tree = t ∙ rw q; found = rw t f.0; kind = rw t f.1 }
 
   -- THEOREM: an accepted make-directories
-  pub made-directories : (start : ℕ) (path : List ℕ) → verdictOf (makeDirectories start path) totals image words bytes ≡ Ok tt →
-      MadeFrom image (imageAfter (makeDirectories start path) totals image words bytes) (answer_of (makeDirectories start path) totals image words bytes) start path
-  unfolding planMakeDirectories
+  pub made-directories : (start : ℕ) (path : List ℕ) → verdict_of (make_directories start path) totals image words bytes ≡ Ok tt →
+      MadeFrom image (image_after (make_directories start path) totals image words bytes) (answer_of (make_directories start path) totals image words bytes) start path
+  unfolding plan_make_directories
   made-directories start path v =
-      let nodes : List Node = nodesIn image in
-      let o = accepted (makeDirectories start path) totals image words bytes v in
-      let t = passed-plan (refuse (ltb 1024 (length path)) LimitOrMemory (refuse (leb (length nodes) start) NoSuchEntry (Ok tt))) (planMade (make nodes [] start false (components path))) image words bytes o.own in
+      let nodes : List Node = nodes_in image in
+      let o = accepted (make_directories start path) totals image words bytes v in
+      let t = passed-plan (refuse (ltb 1024 (length path)) LimitOrMemory (refuse (leb (length nodes) start) NoSuchEntry (Ok tt))) (plan_made (make nodes [] start false (components path))) image words bytes o.own in
       let v₁ = refuse-passed (ltb 1024 (length path)) LimitOrMemory _ t.0 in
       let v₂ = refuse-passed (leb (length nodes) start) NoSuchEntry (Ok tt) v₁.1 in
-      made_as start path (make nodes [] start false (components path)) o.opens refl (leb-false _ _ v₂.0) t.1 (imageAfter (makeDirectories start path) totals image words bytes)
-      (tree-after (makeDirectories start path) totals image words bytes b tt v ∙ ap (λ (x : Plan). planTree x nodes) t.2) _ (rw (v, t.2))
+      made_as start path (make nodes [] start false (components path)) o.opens refl (leb-false _ _ v₂.0) t.1 (image_after (make_directories start path) totals image words bytes)
+      (tree-after (make_directories start path) totals image words bytes b tt v ∙ ap (λ (x : Plan). plan_tree x nodes) t.2) _ (rw (v, t.2))

@@ -17,24 +17,24 @@ use Rattle.refusal.specs.Refusal.{first}
 use Rattle.refusal.specs.Laws.Chains.{refuse-passed, first-passed}
 use Rattle.refusal.specs.Laws.Tests.{or_cases, or-false}
 use Rattle.tree.specs.Table.{Node, file, none}
-use Rattle.tree.specs.Insert.{setPlace}
-use Rattle.tree.proofs.Laws.PlaceLaws.{setPlace-at, setPlace-other}
+use Rattle.tree.specs.Insert.{set_place}
+use Rattle.tree.proofs.Laws.PlaceLaws.{set_place-at, set_place-other}
 use Rattle.space.specs.declared.region.DiscRegion.{DiscRegion}
-use Rattle.space.specs.MaxRegionSize.{maxRegionSize}
-use Rattle.space.specs.Allocate.{allocationOf}
+use Rattle.space.specs.MaxRegionSize.{max_region_size}
+use Rattle.space.specs.Allocate.{allocation_of}
 use Rattle.space.specs.Laws.AllocateLaws.{found-region}
-use Rattle.header.specs.Verdicts.{discEnd}
+use Rattle.header.specs.Verdicts.{disc_end}
 use Rattle.space.specs.declared.totals.Totals.{Totals}
-use Rattle.opened.specs.Opening.{nodesIn, usedIn, freeOf, regionOf}
+use Rattle.opened.specs.Opening.{nodes_in, used_in, free_space_of, region_of}
 use Rattle.edits.specs.Change.{Plan, nothing, change, filled}
-use Rattle.edits.specs.Edits.{moveFile, resizeFile, fillFile, planned, fileVerdict, relocated, relocateVerdict, planMove, resized, planElsewhere, clipVerdict, planResize, planFill, planVerdict, planTree, verdictOf, imageAfter}
+use Rattle.edits.specs.Edits.{move_file, resize_file, fill_file, planned, file_verdict, relocated, relocate_verdict, plan_move, resized, plan_elsewhere, clip_verdict, plan_resize, plan_fill, plan_verdict, plan_tree, verdict_of, image_after}
 use Rattle.edits.proofs.Laws.Accepted.{accepted}
 use Rattle.ledger.proofs.Laws.TreeAfter.{tree-after}
 
 -- entry k of the tree afterwards is a file at this place, and every other entry is as it was
 pub record PlacedAt (image after : List ℕ) (k : ℕ) (nm : List ℕ) (offset size : ℕ) : Type 0 where
-  pub lies : get_or (nodesIn after) k none ≡ file nm offset size
-  pub others : (j : ℕ) → (j ≡ k → ⊥) → get_or (nodesIn after) j none ≡ get_or (nodesIn image) j none
+  pub lies : get_or (nodes_in after) k none ≡ file nm offset size
+  pub others : (j : ℕ) → (j ≡ k → ⊥) → get_or (nodes_in after) j none ≡ get_or (nodes_in image) j none
 
 -- the file afterwards, where it has n bytes
 pub record ResizedTo (image after : List ℕ) (k : ℕ) (nm : List ℕ) (offset size n : ℕ) : Type 0 where
@@ -42,54 +42,54 @@ pub record ResizedTo (image after : List ℕ) (k : ℕ) (nm : List ℕ) (offset 
   pub place : PlacedAt image after k nm at n
   -- a shrink, and growth that fits where the file is, leave it there
   pub shrinks : n ≤ size → at ≡ offset
-  pub grows : n ≤ maxRegionSize offset size (freeOf image) → at ≡ offset
+  pub grows : n ≤ max_region_size offset size (free_space_of image) → at ≡ offset
   -- "Growth finds a place with alignment 0x8000 where the file can't grow where it is."
-  pub found : size < n → maxRegionSize offset size (freeOf image) < n → (r : DiscRegion) × (allocationOf 0x8000 n (freeOf image) ≡ Ok r) × (at ≡ r.offset)
-  pub multiple : size < n → maxRegionSize offset size (freeOf image) < n → (j : ℕ) × (at ≡ j * 0x8000)
+  pub found : size < n → max_region_size offset size (free_space_of image) < n → (r : DiscRegion) × (allocation_of 0x8000 n (free_space_of image) ≡ Ok r) × (at ≡ r.offset)
+  pub multiple : size < n → max_region_size offset size (free_space_of image) < n → (j : ℕ) × (at ≡ j * 0x8000)
 
 -- a plan behind tests that passes
-pub passed-plan : (v : Verdict) (p : Plan) (image : List ℕ) (words bytes : ℕ) → planVerdict (planned v p) image words bytes ≡ Ok tt → (v ≡ Ok tt) × (planVerdict p image words bytes ≡ Ok tt) × (planned v p ≡ p)
+pub passed-plan : (v : Verdict) (p : Plan) (image : List ℕ) (words bytes : ℕ) → plan_verdict (planned v p) image words bytes ≡ Ok tt → (v ≡ Ok tt) × (plan_verdict p image words bytes ≡ Ok tt) × (planned v p ≡ p)
 passed-plan (Ok _) p image words bytes e = (refl, e, refl)
 passed-plan (Err c) p image words bytes e = let z : ◌≡◌ {A = ℕ} 0 1 = cc in absurd (omega arith)
 
-file-number : (nodes : List Node) (k : ℕ) → fileVerdict nodes k ≡ Ok tt → k < length nodes
+file-number : (nodes : List Node) (k : ℕ) → file_verdict nodes k ≡ Ok tt → k < length nodes
 file-number nodes k v = leb-false _ _ (refuse-passed (leb (length nodes) k) NoSuchEntry _ v).0
 
 -- a file put where it is
-same_place : (nodes : List Node) (k : ℕ) (nm : List ℕ) (o n : ℕ) → get_or nodes k none ≡ file nm o n → setPlace k o n nodes ≡ nodes
-unfolding setPlace
+same_place : (nodes : List Node) (k : ℕ) (nm : List ℕ) (o n : ℕ) → get_or nodes k none ≡ file nm o n → set_place k o n nodes ≡ nodes
+unfolding set_place
 same_place nodes k nm o n e = rw e (rw e at (set-get_or nodes k none))
 
-module _ (totals : Totals) (image : List ℕ) (words bytes : ℕ) (b : AllBytes image) (k : ℕ) (nm : List ℕ) (offset size : ℕ) (here : get_or (nodesIn image) k none ≡ file nm offset size) where
-  place_is : regionOf (get_or (nodesIn image) k none) ≡ record { offset = offset; size = size }
+module _ (totals : Totals) (image : List ℕ) (words bytes : ℕ) (b : AllBytes image) (k : ℕ) (nm : List ℕ) (offset size : ℕ) (here : get_or (nodes_in image) k none ≡ file nm offset size) where
+  place_is : region_of (get_or (nodes_in image) k none) ≡ record { offset = offset; size = size }
   place_is = rw here
 
-  placed_at : (after : List ℕ) (o n : ℕ) → k < length (nodesIn image) → nodesIn after ≡ setPlace k o n (nodesIn image) → PlacedAt image after k nm o n
+  placed_at : (after : List ℕ) (o n : ℕ) → k < length (nodes_in image) → nodes_in after ≡ set_place k o n (nodes_in image) → PlacedAt image after k nm o n
   placed_at after o n h t = record {
-    lies = rw t (setPlace-at o n k (nodesIn image) h ∙ rw here);
-    others = λ j d. rw t (setPlace-other o n k j (nodesIn image) d);
+    lies = rw t (set_place-at o n k (nodes_in image) h ∙ rw here);
+    others = λ j d. rw t (set_place-other o n k j (nodes_in image) d);
   }
 
   -- THEOREM: an accepted move of the file to `to`
-  pub moved : (to : ℕ) → to < 2 ^ 32 → verdictOf (moveFile k to) totals image words bytes ≡ Ok tt → PlacedAt image (imageAfter (moveFile k to) totals image words bytes) k nm to size
-  unfolding planMove
+  pub moved : (to : ℕ) → to < 2 ^ 32 → verdict_of (move_file k to) totals image words bytes ≡ Ok tt → PlacedAt image (image_after (move_file k to) totals image words bytes) k nm to size
+  unfolding plan_move
   moved to h v =
-      let old : DiscRegion = regionOf (get_or (nodesIn image) k none) in
+      let old : DiscRegion = region_of (get_or (nodes_in image) k none) in
       let new : DiscRegion = record { offset = to; size = old.size } in
-      let t = first (fileVerdict (nodesIn image) k) (relocateVerdict (freeOf image) old new) in
-      let p = passed-plan t (change k (relocated (nodesIn image) k old new)) image words bytes (accepted (moveFile k to) totals image words bytes v).own in
-      let e : nodesIn (imageAfter (moveFile k to) totals image words bytes) ≡ setPlace k to size (nodesIn image) =
-      tree-after (moveFile k to) totals image words bytes b h v ∙ ap (λ (x : Plan). planTree x (nodesIn image)) p.2 ∙ rw here in
-      placed_at (imageAfter (moveFile k to) totals image words bytes) to size (file-number (nodesIn image) k (first-passed (fileVerdict (nodesIn image) k) _ p.0).0) e
+      let t = first (file_verdict (nodes_in image) k) (relocate_verdict (free_space_of image) old new) in
+      let p = passed-plan t (change k (relocated (nodes_in image) k old new)) image words bytes (accepted (move_file k to) totals image words bytes v).own in
+      let e : nodes_in (image_after (move_file k to) totals image words bytes) ≡ set_place k to size (nodes_in image) =
+      tree-after (move_file k to) totals image words bytes b h v ∙ ap (λ (x : Plan). plan_tree x (nodes_in image)) p.2 ∙ rw here in
+      placed_at (image_after (move_file k to) totals image words bytes) to size (file-number (nodes_in image) k (first-passed (file_verdict (nodes_in image) k) _ p.0).0) e
 
   -- ---- a resize
 
-  module _ (n : ℕ) (after : List ℕ) (inside : k < length (nodesIn image)) where
+  module _ (n : ℕ) (after : List ℕ) (inside : k < length (nodes_in image)) where
     abbrev old : DiscRegion
     old = record { offset = offset; size = size }
 
     -- it stays where it is
-    there : nodesIn after ≡ setPlace k offset n (nodesIn image) → (size < n → maxRegionSize offset size (freeOf image) < n → ⊥) → ResizedTo image after k nm offset size n
+    there : nodes_in after ≡ set_place k offset n (nodes_in image) → (size < n → max_region_size offset size (free_space_of image) < n → ⊥) → ResizedTo image after k nm offset size n
     there t f = record {
       at = offset;
       place = placed_at after offset n inside t;
@@ -100,51 +100,51 @@ module _ (totals : Totals) (image : List ℕ) (words bytes : ℕ) (b : AllBytes 
     }
 
     -- it goes where allocation found room
-    away : (r : DiscRegion) → allocationOf 0x8000 n (freeOf image) ≡ Ok r → size < n → maxRegionSize offset size (freeOf image) < n →
-        nodesIn after ≡ setPlace k r.offset n (nodesIn image) → ResizedTo image after k nm offset size n
-    unfolding freeOf
+    away : (r : DiscRegion) → allocation_of 0x8000 n (free_space_of image) ≡ Ok r → size < n → max_region_size offset size (free_space_of image) < n →
+        nodes_in after ≡ set_place k r.offset n (nodes_in image) → ResizedTo image after k nm offset size n
+    unfolding free_space_of
     away r e h l t = record {
       at = r.offset;
       place = placed_at after r.offset n inside t;
       shrinks = λ z. absurd (omega arith);
       grows = λ z. absurd (omega arith);
       found = λ a c. (r, e, refl);
-      multiple = λ a c. (found-region (discEnd image) (usedIn image) 0x8000 n r e).multiple;
+      multiple = λ a c. (found-region (disc_end image) (used_in image) 0x8000 n r e).multiple;
     }
 
-    by_cases : (a : Bool) → eqb n size ≡ a → (t : Bool) → (leb n size || leb n (maxRegionSize offset size (freeOf image))) ≡ t → (al : Result DiscRegion Refusal) → allocationOf 0x8000 n (freeOf image) ≡ al →
-        planVerdict (cond a nothing (cond t (change k (resized (nodesIn image) k old n)) (planElsewhere (nodesIn image) (freeOf image) k old n al))) image words bytes ≡ Ok tt →
-        nodesIn after ≡ planTree (cond a nothing (cond t (change k (resized (nodesIn image) k old n)) (planElsewhere (nodesIn image) (freeOf image) k old n al))) (nodesIn image) →
+    by_cases : (a : Bool) → eqb n size ≡ a → (t : Bool) → (leb n size || leb n (max_region_size offset size (free_space_of image))) ≡ t → (al : Result DiscRegion Refusal) → allocation_of 0x8000 n (free_space_of image) ≡ al →
+        plan_verdict (cond a nothing (cond t (change k (resized (nodes_in image) k old n)) (plan_elsewhere (nodes_in image) (free_space_of image) k old n al))) image words bytes ≡ Ok tt →
+        nodes_in after ≡ plan_tree (cond a nothing (cond t (change k (resized (nodes_in image) k old n)) (plan_elsewhere (nodes_in image) (free_space_of image) k old n al))) (nodes_in image) →
         ResizedTo image after k nm offset size n
     by_cases true e t u al q v w =
         let n≡ : n ≡ size = eqb-true n size e in
-        there (w ∙ sym (same_place (nodesIn image) k nm offset n (rw n≡ here))) (λ h l. omega arith)
+        there (w ∙ sym (same_place (nodes_in image) k nm offset n (rw n≡ here))) (λ h l. omega arith)
     by_cases false e true u al q v w = there w (λ h l. ⊎_elim (λ c. omega (arith, leb-true n size c)) (λ c. omega (arith, leb-true n _ c)) (or_cases (leb n size) _ u))
     by_cases false e false u (Err c) q v w = let z : ◌≡◌ {A = ℕ} 0 1 = cc in absurd (omega arith)
     by_cases false e false u (Ok r) q v w =
         let new : DiscRegion = record { offset = r.offset; size = n } in
-        let p = passed-plan (relocateVerdict (freeOf image) old new) (change k (relocated (nodesIn image) k old new)) image words bytes v in
+        let p = passed-plan (relocate_verdict (free_space_of image) old new) (change k (relocated (nodes_in image) k old new)) image words bytes v in
         let o = or-false (leb n size) _ u in
-        away r q (leb-false n size o.0) (leb-false n _ o.1) (w ∙ ap (λ (x : Plan). planTree x (nodesIn image)) p.2)
+        away r q (leb-false n size o.0) (leb-false n _ o.1) (w ∙ ap (λ (x : Plan). plan_tree x (nodes_in image)) p.2)
 
   -- THEOREM: an accepted resize of the file to n bytes
-  pub sized : (n : ℕ) → n < 2 ^ 32 → verdictOf (resizeFile k n) totals image words bytes ≡ Ok tt → ResizedTo image (imageAfter (resizeFile k n) totals image words bytes) k nm offset size n
-  unfolding planResize
+  pub sized : (n : ℕ) → n < 2 ^ 32 → verdict_of (resize_file k n) totals image words bytes ≡ Ok tt → ResizedTo image (image_after (resize_file k n) totals image words bytes) k nm offset size n
+  unfolding plan_resize
   sized n h v =
-      let after : List ℕ = imageAfter (resizeFile k n) totals image words bytes in
-      let p = passed-plan (fileVerdict (nodesIn image) k) _ image words bytes (accepted (resizeFile k n) totals image words bytes v).own in
-      let t = tree-after (resizeFile k n) totals image words bytes b h v ∙ ap (λ (x : Plan). planTree x (nodesIn image)) p.2 in
-      by_cases n after (file-number (nodesIn image) k p.0) (eqb n size) refl (leb n size || leb n (maxRegionSize offset size (freeOf image))) refl (allocationOf 0x8000 n (freeOf image)) refl
+      let after : List ℕ = image_after (resize_file k n) totals image words bytes in
+      let p = passed-plan (file_verdict (nodes_in image) k) _ image words bytes (accepted (resize_file k n) totals image words bytes v).own in
+      let t = tree-after (resize_file k n) totals image words bytes b h v ∙ ap (λ (x : Plan). plan_tree x (nodes_in image)) p.2 in
+      by_cases n after (file-number (nodes_in image) k p.0) (eqb n size) refl (leb n size || leb n (max_region_size offset size (free_space_of image))) refl (allocation_of 0x8000 n (free_space_of image)) refl
       (rw place_is at p.1) (rw place_is at t)
 
   -- THEOREM: an accepted fill of the file: it lies where a resize to the clip's length would leave it
-  pub filled-to : (clip : List ℕ) → AllBytes clip → verdictOf (fillFile k clip) totals image words bytes ≡ Ok tt → ResizedTo image (imageAfter (fillFile k clip) totals image words bytes) k nm offset size (length clip)
-  unfolding planResize planFill
+  pub filled-to : (clip : List ℕ) → AllBytes clip → verdict_of (fill_file k clip) totals image words bytes ≡ Ok tt → ResizedTo image (image_after (fill_file k clip) totals image words bytes) k nm offset size (length clip)
+  unfolding plan_resize plan_fill
   filled-to clip c v =
       let n : ℕ = length clip in
-      let after : List ℕ = imageAfter (fillFile k clip) totals image words bytes in
-      let f = passed-plan (clipVerdict (nodesIn image) k n) (filled k clip (planResize (freeOf image) (nodesIn image) k n)) image words bytes (accepted (fillFile k clip) totals image words bytes v).own in
-      let p = passed-plan (fileVerdict (nodesIn image) k) _ image words bytes f.1 in
-      let t = tree-after (fillFile k clip) totals image words bytes b c v ∙ ap (λ (x : Plan). planTree x (nodesIn image)) f.2 ∙ ap (λ (x : Plan). planTree x (nodesIn image)) p.2 in
-      by_cases n after (file-number (nodesIn image) k p.0) (eqb n size) refl (leb n size || leb n (maxRegionSize offset size (freeOf image))) refl (allocationOf 0x8000 n (freeOf image)) refl
+      let after : List ℕ = image_after (fill_file k clip) totals image words bytes in
+      let f = passed-plan (clip_verdict (nodes_in image) k n) (filled k clip (plan_resize (free_space_of image) (nodes_in image) k n)) image words bytes (accepted (fill_file k clip) totals image words bytes v).own in
+      let p = passed-plan (file_verdict (nodes_in image) k) _ image words bytes f.1 in
+      let t = tree-after (fill_file k clip) totals image words bytes b c v ∙ ap (λ (x : Plan). plan_tree x (nodes_in image)) f.2 ∙ ap (λ (x : Plan). plan_tree x (nodes_in image)) p.2 in
+      by_cases n after (file-number (nodes_in image) k p.0) (eqb n size) refl (leb n size || leb n (max_region_size offset size (free_space_of image))) refl (allocation_of 0x8000 n (free_space_of image)) refl
       (rw place_is at p.1) (rw place_is at t)

@@ -2,8 +2,8 @@
 use Rattle.std.specs.Prelude.{ℕ, ◌+◌, ◌<◌, ◌≤◌, ◌≡◌, refl, List, length, get_or}
 use Rattle.std.proofs.Common.{ap, ◌∙◌, ⊎_elim, arith}
 use Rattle.endian.specs.Laws.Stored.{be32-same}
-use Rattle.header.specs.Verdicts.{fstOffset, dolOffset}
-use Rattle.executable.specs.Program.{program_of, place_of, programIn, programBehind}
+use Rattle.header.specs.Verdicts.{fst_offset, dol_offset}
+use Rattle.executable.specs.Program.{program_of, place_of, program_in, program_behind}
 use Rattle.executable.specs.Laws.ProgramLaws.{own-cases, program-same}
 use Rattle.edits.specs.Change.{Change, written}
 use Rattle.ledger.proofs.Laws.Written.{Safe, length-written, header-low, system-written}
@@ -12,15 +12,15 @@ use Rattle.ledger.proofs.Laws.Opened.{Opened}
 
 pub record ProgramKept (image image' : List ℕ) : Type 0 where
   pub len : length image' ≡ length image
-  pub offset : dolOffset image' ≡ dolOffset image
+  pub offset : dol_offset image' ≡ dol_offset image
   pub program : program_of image' ≡ program_of image
-  pub bytes : SameIn image image' (programIn image)
+  pub bytes : SameIn image image' (program_in image)
 
 pub nothing-done : (image : List ℕ) → ProgramKept image image
 nothing-done image = record { len = refl; offset = refl; program = refl; bytes = λ i h. refl }
 
-pub same_place : (image image' : List ℕ) → program_of image' ≡ program_of image → programIn image' ≡ programIn image
-unfolding programIn
+pub same_place : (image image' : List ℕ) → program_of image' ≡ program_of image → program_in image' ≡ program_in image
+unfolding program_in
 same_place image image' e = ap place_of e
 
 pub kept_trans : (a b c : List ℕ) → ProgramKept a b → ProgramKept b c → ProgramKept a c
@@ -32,8 +32,8 @@ kept_trans a b c p q = record {
 }
 
 -- LAW: an image of the same length, that has the bytes before the table and the program's behind it
-pub program-spared : (image image' : List ℕ) → Opened image → length image' ≡ length image → ((i : ℕ) → i < 0x428 → get_or image' i 0 ≡ get_or image i 0) → ((i : ℕ) → 0x440 ≤ i → i < fstOffset image → get_or image' i 0 ≡ get_or image i 0) →
-    SameIn image image' (programBehind image) → ProgramKept image image'
+pub program-spared : (image image' : List ℕ) → Opened image → length image' ≡ length image → ((i : ℕ) → i < 0x428 → get_or image' i 0 ≡ get_or image i 0) → ((i : ℕ) → 0x440 ≤ i → i < fst_offset image → get_or image' i 0 ≡ get_or image i 0) →
+    SameIn image image' (program_behind image) → ProgramKept image image'
 program-spared image image' o len header system behind = record {
   len = len;
   offset = offset;
@@ -41,13 +41,13 @@ program-spared image image' o len header system behind = record {
   bytes = bytes;
 }
   where
-    offset : dolOffset image' ≡ dolOffset image
+    offset : dol_offset image' ≡ dol_offset image
     offset = be32-same image' image 0x420 (λ i l. header (0x420 + i) (omega arith))
 
-    bytes : SameIn image image' (programIn image)
-    bytes i h = ⊎_elim (λ b. system i (omega (arith, b.0)) (omega (arith, b.1))) (λ e. behind i (rw e h)) (own-cases (fstOffset image) (programIn image))
+    bytes : SameIn image image' (program_in image)
+    bytes i h = ⊎_elim (λ b. system i (omega (arith, b.0)) (omega (arith, b.1))) (λ e. behind i (rw e h)) (own-cases (fst_offset image) (program_in image))
 
-module _ (c : Change) (image : List ℕ) (o : Opened image) (s : Safe c image) (behind : SameIn image (written c image) (programBehind image)) where
+module _ (c : Change) (image : List ℕ) (o : Opened image) (s : Safe c image) (behind : SameIn image (written c image) (program_behind image)) where
   -- LAW: wherever the program lies
   pub program-kept : ProgramKept image (written c image)
   program-kept = program-spared image (written c image) o (length-written c image s) (header-low c image s) (λ i h. system-written c image s i (omega arith)) behind

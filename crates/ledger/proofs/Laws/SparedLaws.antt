@@ -7,13 +7,13 @@ use Rattle.tree.specs.Table.{Node, file, directory, none}
 use Rattle.tree.specs.Lookup.{components}
 use Rattle.tree.specs.Insert.{shifted}
 use Rattle.tree.proofs.Laws.InsertLaws.{shifted-min}
-use Rattle.opened.specs.Opening.{nodesIn}
-use Rattle.edits.specs.Edits.{Edit, insertFile, insertDirectory, makeDirectories, moveFile, resizeFile, fillFile, rewrite, newNumber}
-use Rattle.ledger.specs.Ledger.{History, Ledger, filesBefore, newHistory, put_in, entered, Report, ledgerAfter, firstHistories, firstLedger}
-use Rattle.ledger.specs.Inner.Files.{ownName, names_of}
-use Rattle.ledger.proofs.Laws.Files.{insert-directory, insert-file, names_at, names-setPlace, names-bare}
+use Rattle.opened.specs.Opening.{nodes_in}
+use Rattle.edits.specs.Edits.{Edit, insert_file, insert_directory, make_directories, move_file, resize_file, fill_file, rewrite, new_number}
+use Rattle.ledger.specs.Ledger.{History, Ledger, files_before, new_history, put_in, entered, Report, ledger_after, first_histories, first_ledger}
+use Rattle.ledger.specs.Inner.Files.{own_name, names_of}
+use Rattle.ledger.proofs.Laws.Files.{insert-directory, insert-file, names_at, names-set_place, names-bare}
 use Rattle.ledger.proofs.Laws.Making.{made-same}
-use Rattle.ledger.specs.Spared.{names, shifted_by, ledgerNext, numberNext, numberAfter, Spared}
+use Rattle.ledger.specs.Spared.{names, shifted_by, ledger_next, number_next, number_after, Spared}
 
 shifted-suc : (q k : ℕ) → shifted (suc q) (suc k) ≡ suc (shifted q k)
 shifted-suc q k = omega (arith, shifted-min (suc q) (suc k), shifted-min q k)
@@ -37,23 +37,23 @@ put-in-holds d (suc j) x (z ∷ xs) (suc f) y h = rw (shifted-suc j f) (let t = 
 
 -- file f has history g and name nm
 abbrev Begun : Ledger → ℕ → History → List ℕ → Type 0
-Begun l f g nm = Holds newHistory l.histories f g × Holds [] (names_of l.nodes) f nm
+Begun l f g nm = Holds new_history l.histories f g × Holds [] (names_of l.nodes) f nm
 
-set_holds : (hs : List History) (f k : ℕ) (g x : History) → eqb f k ≡ false → Holds newHistory hs f g → Holds newHistory (set hs k x) f g
-set_holds hs f k g x e h = (rw (length-set hs k x) h.0, get_or-set_other hs k f x newHistory (eqb-false f k e) ∙ h.1)
+set_holds : (hs : List History) (f k : ℕ) (g x : History) → eqb f k ≡ false → Holds new_history hs f g → Holds new_history (set hs k x) f g
+set_holds hs f k g x e h = (rw (length-set hs k x) h.0, get_or-set_other hs k f x new_history (eqb-false f k e) ∙ h.1)
 
 spared-entered : (ed : Edit) (l : Ledger) (f : ℕ) (g : History) (nm : List ℕ) → names ed l f ≡ false → Begun l f g nm → Begun (entered ed l) (shifted_by ed l f) g nm
-spared-entered (insertFile p new) l f g nm e b =
-    let j : ℕ = filesBefore (newNumber l.nodes p) l.nodes in
-    (put-in-holds newHistory j newHistory l.histories f g b.0, rw (insert-file ownName p new 0 0 l.nodes) (put-in-holds [] j new (names_of l.nodes) f nm b.1))
-spared-entered (insertDirectory p new) l f g nm e b = (b.0, rw (insert-directory ownName p new (suc (newNumber l.nodes p)) l.nodes) b.1)
-spared-entered (makeDirectories start path) l f g nm e b = (b.0, rw (made-same ownName l.nodes start (components path)) b.1)
-spared-entered (moveFile k to) l f g nm e b = (set_holds l.histories f (filesBefore k l.nodes) g _ e b.0, b.1)
-spared-entered (resizeFile k n) l f g nm e b = (set_holds l.histories f (filesBefore k l.nodes) g _ e b.0, rw (names-setPlace 0 n k l.nodes) b.1)
-spared-entered (fillFile k clip) l f g nm e b = (set_holds l.histories f (filesBefore k l.nodes) g _ e b.0, rw (names-setPlace 0 (length clip) k l.nodes) b.1)
+spared-entered (insert_file p new) l f g nm e b =
+    let j : ℕ = files_before (new_number l.nodes p) l.nodes in
+    (put-in-holds new_history j new_history l.histories f g b.0, rw (insert-file own_name p new 0 0 l.nodes) (put-in-holds [] j new (names_of l.nodes) f nm b.1))
+spared-entered (insert_directory p new) l f g nm e b = (b.0, rw (insert-directory own_name p new (suc (new_number l.nodes p)) l.nodes) b.1)
+spared-entered (make_directories start path) l f g nm e b = (b.0, rw (made-same own_name l.nodes start (components path)) b.1)
+spared-entered (move_file k to) l f g nm e b = (set_holds l.histories f (files_before k l.nodes) g _ e b.0, b.1)
+spared-entered (resize_file k n) l f g nm e b = (set_holds l.histories f (files_before k l.nodes) g _ e b.0, rw (names-set_place 0 n k l.nodes) b.1)
+spared-entered (fill_file k clip) l f g nm e b = (set_holds l.histories f (files_before k l.nodes) g _ e b.0, rw (names-set_place 0 (length clip) k l.nodes) b.1)
 spared-entered rewrite l f g nm e b = b
 
-spared-next : (r : Report) (l : Ledger) (f : ℕ) (g : History) (nm : List ℕ) → (r.accepted ≡ true → names r.edit l f ≡ false) → Begun l f g nm → Begun (ledgerNext r l) (numberNext r l f) g nm
+spared-next : (r : Report) (l : Ledger) (f : ℕ) (g : History) (nm : List ℕ) → (r.accepted ≡ true → names r.edit l f ≡ false) → Begun l f g nm → Begun (ledger_next r l) (number_next r l f) g nm
 spared-next r l f g nm e b = go r.accepted refl
   where
     go : (a : Bool) → r.accepted ≡ a → Begun (cond a (entered r.edit l) l) (cond a (shifted_by r.edit l f) f) g nm
@@ -61,16 +61,16 @@ spared-next r l f g nm e b = go r.accepted refl
     go false q = b
 
 -- LAW: the history and the name of a file that is spared are those it began with
-pub spared : (reports : List Report) (l : Ledger) (f : ℕ) (g : History) (nm : List ℕ) → Spared reports l f → Begun l f g nm → Begun (ledgerAfter reports l) (numberAfter reports l f) g nm
-unfolding ledgerAfter numberAfter
+pub spared : (reports : List Report) (l : Ledger) (f : ℕ) (g : History) (nm : List ℕ) → Spared reports l f → Begun l f g nm → Begun (ledger_after reports l) (number_after reports l f) g nm
+unfolding ledger_after number_after
 spared [] l f g nm s b = b
-spared (r ∷ reports) l f g nm s b = spared reports (ledgerNext r l) (numberNext r l f) g nm s.1 (spared-next r l f g nm s.0 b)
+spared (r ∷ reports) l f g nm s b = spared reports (ledger_next r l) (number_next r l f) g nm s.1 (spared-next r l f g nm s.0 b)
 
 -- ---- the first image
 
 first-history : (image : List ℕ) (k : ℕ) (xs : List Node) (nm : List ℕ) (offset size : ℕ) → get_or xs k none ≡ file nm offset size →
-    Holds newHistory (firstHistories image xs) (filesBefore k xs) (record { place = offset; bytes = span image offset size; m = size; named = false })
-unfolding firstHistories filesBefore
+    Holds new_history (first_histories image xs) (files_before k xs) (record { place = offset; bytes = span image offset size; m = size; named = false })
+unfolding first_histories files_before
 first-history image k [] nm offset size e = let z : ◌≡◌ {A = ℕ} 0 1 = cc in absurd (omega arith)
 first-history image zero (file nm' a n ∷ xs) nm offset size e = let p : a ≡ offset = cc in let q : n ≡ size = cc in (omega arith, rw (p, q))
 first-history image zero (directory nm' next ∷ xs) nm offset size e = let z : ◌≡◌ {A = ℕ} 0 1 = cc in absurd (omega arith)
@@ -78,6 +78,6 @@ first-history image (suc k) (file nm' a n ∷ xs) nm offset size e = let t = fir
 first-history image (suc k) (directory nm' next ∷ xs) nm offset size e = first-history image k xs nm offset size e
 
 -- LAW: so it begins
-pub begins : (image : List ℕ) (k : ℕ) (nm : List ℕ) (offset size : ℕ) → get_or (nodesIn image) k none ≡ file nm offset size →
-    Begun (firstLedger image) (filesBefore k (nodesIn image)) (record { place = offset; bytes = span image offset size; m = size; named = false }) nm
-begins image k nm offset size e = (first-history image k (nodesIn image) nm offset size e, rw (names-bare (nodesIn image)) (names_at k (nodesIn image) nm offset size e))
+pub begins : (image : List ℕ) (k : ℕ) (nm : List ℕ) (offset size : ℕ) → get_or (nodes_in image) k none ≡ file nm offset size →
+    Begun (first_ledger image) (files_before k (nodes_in image)) (record { place = offset; bytes = span image offset size; m = size; named = false }) nm
+begins image k nm offset size e = (first-history image k (nodes_in image) nm offset size e, rw (names-bare (nodes_in image)) (names_at k (nodes_in image) nm offset size e))

@@ -5,7 +5,7 @@ use Rattle.std.specs.Prelude.{ℕ, ◌≤◌, ◌≡◌, cond, not, List}
 use Rattle.std.proofs.Math.Path.{refl}
 use Rattle.refusal.specs.Refusal.{is_refused}
 use Rattle.space.specs.declared.totals.Totals.{Totals}
-use Rattle.edits.specs.Edits.{Edit, insertFile, insertDirectory, makeDirectories, moveFile, resizeFile, fillFile, rewrite, plan_of, verdictOf, planImage, imageAfter}
+use Rattle.edits.specs.Edits.{Edit, insert_file, insert_directory, make_directories, move_file, resize_file, fill_file, rewrite, plan_of, verdict_of, plan_image, image_after}
 use Rattle.edits.proofs.Laws.Accepted.{accepted}
 use Rattle.ledger.specs.Ledger.{Ledger, entered}
 use Rattle.ledger.specs.Runs.{Passable}
@@ -18,19 +18,19 @@ use Rattle.ledger.proofs.Laws.FillEdits.{step-fill}
 module _ (w : ℕ) (image : List ℕ) (l : Ledger) (K : Kept w image l) (words bytes : ℕ) (lent : words ≤ w) where
   -- LAW: a plan whose own tests pass keeps what holds
   pub step-accepted : (ed : Edit) → Passable ed → Good w image words bytes (plan_of ed image) (entered ed l)
-  step-accepted (insertFile p nm) h = step-insert-file w image l K words bytes lent p nm
-  step-accepted (insertDirectory p nm) h = step-insert-directory w image l K words bytes lent p nm
-  step-accepted (makeDirectories start path) h = step-make-directories w image l K words bytes lent start path
-  step-accepted (moveFile k to) h = step_move w image l K words bytes lent k to h
-  step-accepted (resizeFile k n) h = step-resize w image l K words bytes lent k n h
-  step-accepted (fillFile k clip) h = step-fill w image l K words bytes lent k clip h
+  step-accepted (insert_file p nm) h = step-insert-file w image l K words bytes lent p nm
+  step-accepted (insert_directory p nm) h = step-insert-directory w image l K words bytes lent p nm
+  step-accepted (make_directories start path) h = step-make-directories w image l K words bytes lent start path
+  step-accepted (move_file k to) h = step_move w image l K words bytes lent k to h
+  step-accepted (resize_file k n) h = step-resize w image l K words bytes lent k n h
+  step-accepted (fill_file k clip) h = step-fill w image l K words bytes lent k clip h
   step-accepted rewrite h = step-rewrite w image l K words bytes lent
 
   -- LAW: a call keeps what holds; a refused one changes neither image nor ledger
-  pub step : (totals : Totals) (ed : Edit) → Passable ed → Kept w (imageAfter ed totals image words bytes) (cond (not (is_refused (verdictOf ed totals image words bytes))) (entered ed l) l)
-  unfolding imageAfter
-  step totals ed h = go (verdictOf ed totals image words bytes) refl
+  pub step : (totals : Totals) (ed : Edit) → Passable ed → Kept w (image_after ed totals image words bytes) (cond (not (is_refused (verdict_of ed totals image words bytes))) (entered ed l) l)
+  unfolding image_after
+  step totals ed h = go (verdict_of ed totals image words bytes) refl
     where
-      go : (v : Verdict) → verdictOf ed totals image words bytes ≡ v → Kept w (cond (is_refused v) image (planImage (plan_of ed image) image)) (cond (not (is_refused v)) (entered ed l) l)
+      go : (v : Verdict) → verdict_of ed totals image words bytes ≡ v → Kept w (cond (is_refused v) image (plan_image (plan_of ed image) image)) (cond (not (is_refused v)) (entered ed l) l)
       go (Ok _) e = step-accepted ed h (accepted ed totals image words bytes e).own
       go (Err c) e = K

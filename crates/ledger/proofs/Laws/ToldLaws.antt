@@ -3,23 +3,23 @@ use Rattle.std.specs.Prelude.{ℕ, suc, ◌<◌, min, ◌≡◌, refl, Bool, tru
 use Rattle.std.proofs.Common.{ap, ◌∙◌, eqb-true, length-set, get_or-set_same, get_or-set_other}
 use Rattle.std.proofs.lemmas.Bool.{eqb-false}
 use Rattle.tree.specs.Table.{none}
-use Rattle.tree.specs.Lookup.{components, isDirectory}
-use Rattle.tree.specs.Insert.{setPlace}
+use Rattle.tree.specs.Lookup.{components, is_directory}
+use Rattle.tree.specs.Insert.{set_place}
 use Rattle.space.specs.declared.region.DiscRegion.{DiscRegion}
-use Rattle.edits.specs.Edits.{Edit, insertFile, insertDirectory, makeDirectories, moveFile, resizeFile, fillFile, rewrite, newNumber, noPlace}
-use Rattle.ledger.specs.Ledger.{History, Ledger, filesBefore, newHistory, marked, lowered, refilled, entered, Report, ledgerAfter}
-use Rattle.ledger.specs.Inner.Files.{place_of, files_of, ownName, names_of}
-use Rattle.ledger.proofs.Laws.Files.{insert-directory, insert-file, names-setPlace, files-setPlace}
+use Rattle.edits.specs.Edits.{Edit, insert_file, insert_directory, make_directories, move_file, resize_file, fill_file, rewrite, new_number, no_place}
+use Rattle.ledger.specs.Ledger.{History, Ledger, files_before, new_history, marked, lowered, refilled, entered, Report, ledger_after}
+use Rattle.ledger.specs.Inner.Files.{place_of, files_of, own_name, names_of}
+use Rattle.ledger.proofs.Laws.Files.{insert-directory, insert-file, names-set_place, files-set_place}
 use Rattle.ledger.proofs.Laws.Making.{made-same}
-use Rattle.ledger.specs.Spared.{names, shifted_by, ledgerNext, numberNext, numberAfter}
+use Rattle.ledger.specs.Spared.{names, shifted_by, ledger_next, number_next, number_after}
 use Rattle.ledger.proofs.Laws.SparedLaws.{Holds, put-in-holds}
-use Rattle.ledger.specs.Inner.Told.{named_in, Given, sized, clipped, given, givenIn, leastOf, last_of, start_of, historyAt, name_at, size_at, ofFile, OfFiles}
+use Rattle.ledger.specs.Inner.Told.{named_in, Given, sized, clipped, given, given_in, least_of, last_of, start_of, history_at, name_at, size_at, of_file, OfFiles}
 
 -- ---- the history
 
 -- a history, once the file was named so and given these sizes and clips
 abbrev pub changed : Bool → List Given → History → History
-changed named gs h = record { place = h.place; bytes = start_of h.bytes gs; m = leastOf h.m gs; named = h.named || named }
+changed named gs h = record { place = h.place; bytes = start_of h.bytes gs; m = least_of h.m gs; named = h.named || named }
 
 pub or-none : (a : Bool) → (a || false) ≡ a
 or-none true = refl
@@ -33,8 +33,8 @@ or-then : (a b c : Bool) → ((a || b) || c) ≡ (a || (b || c))
 or-then true b c = refl
 or-then false b c = refl
 
-least-then : (m : ℕ) (xs ys : List Given) → leastOf (leastOf m xs) ys ≡ leastOf m (xs ++ ys)
-unfolding leastOf
+least-then : (m : ℕ) (xs ys : List Given) → least_of (least_of m xs) ys ≡ least_of m (xs ++ ys)
+unfolding least_of
 least-then m [] ys = refl
 least-then m (sized n ∷ xs) ys = least-then (min m n) xs ys
 least-then m (clipped clip ∷ xs) ys = least-then (length clip) xs ys
@@ -52,76 +52,76 @@ start-then bs (sized n ∷ xs) ys = start-then bs xs ys
 start-then bs (clipped clip ∷ xs) ys = start-then clip xs ys
 
 changed-none : (h : History) → h ≡ changed false [] h
-unfolding leastOf start_of
+unfolding least_of start_of
 changed-none h = rw (or-none h.named)
 
 changed_then : (a b : Bool) (xs ys : List Given) (h : History) → changed b ys (changed a xs h) ≡ changed (a || b) (xs ++ ys) h
 changed_then a b xs ys h = rw (least-then h.m xs ys, start-then h.bytes xs ys, or-then h.named a b)
 
 -- one history is set: that of file f, or another
-set_same : (hs : List History) (f k : ℕ) (x y : History) → f < length hs → f ≡ k → x ≡ y → Holds newHistory (set hs k x) f y
-set_same hs f k x y h e g = (rw (length-set hs k x) h, rw (← e) (get_or-set_same hs f x newHistory h ∙ g))
+set_same : (hs : List History) (f k : ℕ) (x y : History) → f < length hs → f ≡ k → x ≡ y → Holds new_history (set hs k x) f y
+set_same hs f k x y h e g = (rw (length-set hs k x) h, rw (← e) (get_or-set_same hs f x new_history h ∙ g))
 
-set_other : (hs : List History) (f k : ℕ) (x : History) → f < length hs → (f ≡ k → ⊥) → Holds newHistory (set hs k x) f (changed false [] (get_or hs f newHistory))
-set_other hs f k x h d = (rw (length-set hs k x) h, get_or-set_other hs k f x newHistory d ∙ changed-none (get_or hs f newHistory))
+set_other : (hs : List History) (f k : ℕ) (x : History) → f < length hs → (f ≡ k → ⊥) → Holds new_history (set hs k x) f (changed false [] (get_or hs f new_history))
+set_other hs f k x h d = (rw (length-set hs k x) h, get_or-set_other hs k f x new_history d ∙ changed-none (get_or hs f new_history))
 
 -- an accepted edit
-history-entered : (ed : Edit) (l : Ledger) (f : ℕ) → f < length l.histories → Holds newHistory (entered ed l).histories (shifted_by ed l f) (changed (names ed l f) (given ed l f) (historyAt l f))
-history-entered (insertFile p nm) l f h =
-    put-in-holds newHistory (filesBefore (newNumber l.nodes p) l.nodes) newHistory l.histories f _ (h, changed-none (historyAt l f))
-history-entered (insertDirectory p nm) l f h = (h, changed-none (historyAt l f))
-history-entered (makeDirectories start path) l f h = (h, changed-none (historyAt l f))
-history-entered (moveFile k to) l f h = go (eqb f (filesBefore k l.nodes)) refl
+history-entered : (ed : Edit) (l : Ledger) (f : ℕ) → f < length l.histories → Holds new_history (entered ed l).histories (shifted_by ed l f) (changed (names ed l f) (given ed l f) (history_at l f))
+history-entered (insert_file p nm) l f h =
+    put-in-holds new_history (files_before (new_number l.nodes p) l.nodes) new_history l.histories f _ (h, changed-none (history_at l f))
+history-entered (insert_directory p nm) l f h = (h, changed-none (history_at l f))
+history-entered (make_directories start path) l f h = (h, changed-none (history_at l f))
+history-entered (move_file k to) l f h = go (eqb f (files_before k l.nodes)) refl
   where
-    same : f ≡ filesBefore k l.nodes → marked (historyAt l (filesBefore k l.nodes)) ≡ changed true [] (historyAt l f)
-    same e = unfold leastOf start_of in rw (← e, or_some (historyAt l f).named)
+    same : f ≡ files_before k l.nodes → marked (history_at l (files_before k l.nodes)) ≡ changed true [] (history_at l f)
+    same e = unfold least_of start_of in rw (← e, or_some (history_at l f).named)
 
-    go : (t : Bool) → eqb f (filesBefore k l.nodes) ≡ t →
-        Holds newHistory (set l.histories (filesBefore k l.nodes) (marked (historyAt l (filesBefore k l.nodes)))) f (changed t [] (historyAt l f))
-    go true e = let e' : f ≡ filesBefore k l.nodes = eqb-true _ _ e in set_same l.histories f _ _ _ h e' (same e')
+    go : (t : Bool) → eqb f (files_before k l.nodes) ≡ t →
+        Holds new_history (set l.histories (files_before k l.nodes) (marked (history_at l (files_before k l.nodes)))) f (changed t [] (history_at l f))
+    go true e = let e' : f ≡ files_before k l.nodes = eqb-true _ _ e in set_same l.histories f _ _ _ h e' (same e')
     go false e = set_other l.histories f _ _ h (eqb-false _ _ e)
-history-entered (resizeFile k n) l f h = go (eqb f (filesBefore k l.nodes)) refl
+history-entered (resize_file k n) l f h = go (eqb f (files_before k l.nodes)) refl
   where
-    same : f ≡ filesBefore k l.nodes → lowered n (historyAt l (filesBefore k l.nodes)) ≡ changed true (sized n ∷ []) (historyAt l f)
-    same e = unfold leastOf start_of in rw (← e, or_some (historyAt l f).named)
+    same : f ≡ files_before k l.nodes → lowered n (history_at l (files_before k l.nodes)) ≡ changed true (sized n ∷ []) (history_at l f)
+    same e = unfold least_of start_of in rw (← e, or_some (history_at l f).named)
 
-    go : (t : Bool) → eqb f (filesBefore k l.nodes) ≡ t →
-        Holds newHistory (set l.histories (filesBefore k l.nodes) (lowered n (historyAt l (filesBefore k l.nodes)))) f (changed t (cond t (sized n ∷ []) []) (historyAt l f))
-    go true e = let e' : f ≡ filesBefore k l.nodes = eqb-true _ _ e in set_same l.histories f _ _ _ h e' (same e')
+    go : (t : Bool) → eqb f (files_before k l.nodes) ≡ t →
+        Holds new_history (set l.histories (files_before k l.nodes) (lowered n (history_at l (files_before k l.nodes)))) f (changed t (cond t (sized n ∷ []) []) (history_at l f))
+    go true e = let e' : f ≡ files_before k l.nodes = eqb-true _ _ e in set_same l.histories f _ _ _ h e' (same e')
     go false e = set_other l.histories f _ _ h (eqb-false _ _ e)
-history-entered (fillFile k clip) l f h = go (eqb f (filesBefore k l.nodes)) refl
+history-entered (fill_file k clip) l f h = go (eqb f (files_before k l.nodes)) refl
   where
-    same : f ≡ filesBefore k l.nodes → refilled clip (historyAt l (filesBefore k l.nodes)) ≡ changed true (clipped clip ∷ []) (historyAt l f)
-    same e = unfold leastOf start_of in rw (← e, or_some (historyAt l f).named)
+    same : f ≡ files_before k l.nodes → refilled clip (history_at l (files_before k l.nodes)) ≡ changed true (clipped clip ∷ []) (history_at l f)
+    same e = unfold least_of start_of in rw (← e, or_some (history_at l f).named)
 
-    go : (t : Bool) → eqb f (filesBefore k l.nodes) ≡ t →
-        Holds newHistory (set l.histories (filesBefore k l.nodes) (refilled clip (historyAt l (filesBefore k l.nodes)))) f (changed t (cond t (clipped clip ∷ []) []) (historyAt l f))
-    go true e = let e' : f ≡ filesBefore k l.nodes = eqb-true _ _ e in set_same l.histories f _ _ _ h e' (same e')
+    go : (t : Bool) → eqb f (files_before k l.nodes) ≡ t →
+        Holds new_history (set l.histories (files_before k l.nodes) (refilled clip (history_at l (files_before k l.nodes)))) f (changed t (cond t (clipped clip ∷ []) []) (history_at l f))
+    go true e = let e' : f ≡ files_before k l.nodes = eqb-true _ _ e in set_same l.histories f _ _ _ h e' (same e')
     go false e = set_other l.histories f _ _ h (eqb-false _ _ e)
-history-entered rewrite l f h = (h, changed-none (historyAt l f))
+history-entered rewrite l f h = (h, changed-none (history_at l f))
 
 -- ---- the name
 
 name-entered : (ed : Edit) (l : Ledger) (f : ℕ) (nm : List ℕ) → Holds [] (names_of l.nodes) f nm → Holds [] (names_of (entered ed l).nodes) (shifted_by ed l f) nm
-name-entered (insertFile p new) l f nm h =
-    rw (insert-file ownName p new 0 0 l.nodes) (put-in-holds [] (filesBefore (newNumber l.nodes p) l.nodes) new (names_of l.nodes) f nm h)
-name-entered (insertDirectory p new) l f nm h = rw (insert-directory ownName p new (suc (newNumber l.nodes p)) l.nodes) h
-name-entered (makeDirectories start path) l f nm h = rw (made-same ownName l.nodes start (components path)) h
-name-entered (moveFile k to) l f nm h = h
-name-entered (resizeFile k n) l f nm h = rw (names-setPlace 0 n k l.nodes) h
-name-entered (fillFile k clip) l f nm h = rw (names-setPlace 0 (length clip) k l.nodes) h
+name-entered (insert_file p new) l f nm h =
+    rw (insert-file own_name p new 0 0 l.nodes) (put-in-holds [] (files_before (new_number l.nodes p) l.nodes) new (names_of l.nodes) f nm h)
+name-entered (insert_directory p new) l f nm h = rw (insert-directory own_name p new (suc (new_number l.nodes p)) l.nodes) h
+name-entered (make_directories start path) l f nm h = rw (made-same own_name l.nodes start (components path)) h
+name-entered (move_file k to) l f nm h = h
+name-entered (resize_file k n) l f nm h = rw (names-set_place 0 n k l.nodes) h
+name-entered (fill_file k clip) l f nm h = rw (names-set_place 0 (length clip) k l.nodes) h
 name-entered rewrite l f nm h = h
 
 -- ---- the size
 
 -- file f is one of them, and has this size
 abbrev HasSize : List DiscRegion → ℕ → ℕ → Type 0
-HasSize rs f n = (f < length rs) × ((get_or rs f noPlace).size ≡ n)
+HasSize rs f n = (f < length rs) × ((get_or rs f no_place).size ≡ n)
 
 -- the size of file k set
-set-size : (k n : ℕ) (l : Ledger) (f : ℕ) (gs : List Given) → last_of (size_at l f) gs ≡ n → isDirectory (get_or l.nodes k none) ≡ false → f < length (files_of l.nodes) →
-    HasSize (files_of (setPlace k 0 n l.nodes)) f (last_of (size_at l f) (cond (eqb f (filesBefore k l.nodes)) gs []))
-set-size k n l f gs g o h = rw (files-setPlace 0 n k l.nodes o) (go (eqb f r) refl)
+set-size : (k n : ℕ) (l : Ledger) (f : ℕ) (gs : List Given) → last_of (size_at l f) gs ≡ n → is_directory (get_or l.nodes k none) ≡ false → f < length (files_of l.nodes) →
+    HasSize (files_of (set_place k 0 n l.nodes)) f (last_of (size_at l f) (cond (eqb f (files_before k l.nodes)) gs []))
+set-size k n l f gs g o h = rw (files-set_place 0 n k l.nodes o) (go (eqb f r) refl)
   where
     new : DiscRegion
     new = record { offset = 0; size = n }
@@ -130,22 +130,22 @@ set-size k n l f gs g o h = rw (files-setPlace 0 n k l.nodes o) (go (eqb f r) re
     rs = files_of l.nodes
 
     r : ℕ
-    r = filesBefore k l.nodes
+    r = files_before k l.nodes
 
     go : (t : Bool) → eqb f r ≡ t → HasSize (set rs r new) f (last_of (size_at l f) (cond t gs []))
-    go true e = let e' : f ≡ r = eqb-true f r e in (rw (length-set rs r new) h, rw (g, ← e', get_or-set_same rs f new noPlace h))
-    go false e = unfold last_of in (rw (length-set rs r new) h, rw (get_or-set_other rs r f new noPlace (eqb-false f r e)))
+    go true e = let e' : f ≡ r = eqb-true f r e in (rw (length-set rs r new) h, rw (g, ← e', get_or-set_same rs f new no_place h))
+    go false e = unfold last_of in (rw (length-set rs r new) h, rw (get_or-set_other rs r f new no_place (eqb-false f r e)))
 
-size-entered : (ed : Edit) (l : Ledger) (f : ℕ) → ofFile ed l → f < length (files_of l.nodes) → HasSize (files_of (entered ed l).nodes) (shifted_by ed l f) (last_of (size_at l f) (given ed l f))
+size-entered : (ed : Edit) (l : Ledger) (f : ℕ) → of_file ed l → f < length (files_of l.nodes) → HasSize (files_of (entered ed l).nodes) (shifted_by ed l f) (last_of (size_at l f) (given ed l f))
 unfolding last_of
-size-entered (insertFile p nm) l f o h =
-    let t = put-in-holds noPlace (filesBefore (newNumber l.nodes p) l.nodes) noPlace (files_of l.nodes) f _ (h, refl) in
+size-entered (insert_file p nm) l f o h =
+    let t = put-in-holds no_place (files_before (new_number l.nodes p) l.nodes) no_place (files_of l.nodes) f _ (h, refl) in
     rw (insert-file place_of p nm 0 0 l.nodes) (t.0, ap (λ (r : DiscRegion). r.size) t.1)
-size-entered (insertDirectory p nm) l f o h = rw (insert-directory place_of p nm (suc (newNumber l.nodes p)) l.nodes) (h, refl)
-size-entered (makeDirectories start path) l f o h = rw (made-same place_of l.nodes start (components path)) (h, refl)
-size-entered (moveFile k to) l f o h = (h, refl)
-size-entered (resizeFile k n) l f o h = set-size k n l f (sized n ∷ []) refl o h
-size-entered (fillFile k clip) l f o h = set-size k (length clip) l f (clipped clip ∷ []) refl o h
+size-entered (insert_directory p nm) l f o h = rw (insert-directory place_of p nm (suc (new_number l.nodes p)) l.nodes) (h, refl)
+size-entered (make_directories start path) l f o h = rw (made-same place_of l.nodes start (components path)) (h, refl)
+size-entered (move_file k to) l f o h = (h, refl)
+size-entered (resize_file k n) l f o h = set-size k n l f (sized n ∷ []) refl o h
+size-entered (fill_file k clip) l f o h = set-size k (length clip) l f (clipped clip ∷ []) refl o h
 size-entered rewrite l f o h = (h, refl)
 
 -- ---- a report, and a list of them
@@ -157,16 +157,16 @@ Exists l f = (f < length l.histories) × (f < length (names_of l.nodes)) × (f <
 -- file f of l is file f' of l', after a list in which it was named so and given these sizes and clips
 pub record Goes (l l' : Ledger) (f f' : ℕ) (named : Bool) (gs : List Given) : Type 0 where
   pub exists : Exists l' f'
-  pub history : historyAt l' f' ≡ changed named gs (historyAt l f)
+  pub history : history_at l' f' ≡ changed named gs (history_at l f)
   pub name : name_at l' f' ≡ name_at l f
   pub size : size_at l' f' ≡ last_of (size_at l f) gs
 
 goes-nowhere : (l : Ledger) (f : ℕ) → Exists l f → Goes l l f f false []
 unfolding last_of
-goes-nowhere l f x = record { exists = x; history = changed-none (historyAt l f); name = refl; size = refl }
+goes-nowhere l f x = record { exists = x; history = changed-none (history_at l f); name = refl; size = refl }
 
-goes-next : (r : Report) (l : Ledger) (f : ℕ) → (r.accepted ≡ true → ofFile r.edit l) → Exists l f →
-    Goes l (ledgerNext r l) f (numberNext r l f) (r.accepted && names r.edit l f) (cond r.accepted (given r.edit l f) [])
+goes-next : (r : Report) (l : Ledger) (f : ℕ) → (r.accepted ≡ true → of_file r.edit l) → Exists l f →
+    Goes l (ledger_next r l) f (number_next r l f) (r.accepted && names r.edit l f) (cond r.accepted (given r.edit l f) [])
 goes-next r l f o x = go r.accepted refl
   where
     go : (a : Bool) → r.accepted ≡ a → Goes l (cond a (entered r.edit l) l) f (cond a (shifted_by r.edit l f) f) (a && names r.edit l f) (cond a (given r.edit l f) [])
@@ -180,15 +180,15 @@ goes-next r l f o x = go r.accepted refl
 goes_then : (l l' l'' : Ledger) (f f' f'' : ℕ) (a b : Bool) (xs ys : List Given) → Goes l l' f f' a xs → Goes l' l'' f' f'' b ys → Goes l l'' f f'' (a || b) (xs ++ ys)
 goes_then l l' l'' f f' f'' a b xs ys g h = record {
   exists = h.exists;
-  history = h.history ∙ ap (changed b ys) g.history ∙ changed_then a b xs ys (historyAt l f);
+  history = h.history ∙ ap (changed b ys) g.history ∙ changed_then a b xs ys (history_at l f);
   name = h.name ∙ g.name;
   size = h.size ∙ ap (λ (n : ℕ). last_of n ys) g.size ∙ last_then (size_at l f) xs ys;
 }
 
 -- LAW: any list of reports
-pub goes : (reports : List Report) (l : Ledger) (f : ℕ) → OfFiles reports l → Exists l f → Goes l (ledgerAfter reports l) f (numberAfter reports l f) (named_in reports l f) (givenIn reports l f)
-unfolding ledgerAfter numberAfter named_in givenIn
+pub goes : (reports : List Report) (l : Ledger) (f : ℕ) → OfFiles reports l → Exists l f → Goes l (ledger_after reports l) f (number_after reports l f) (named_in reports l f) (given_in reports l f)
+unfolding ledger_after number_after named_in given_in
 goes [] l f o x = goes-nowhere l f x
 goes (r ∷ reports) l f o x =
     let g = goes-next r l f o.0 x in
-    goes_then l (ledgerNext r l) _ f (numberNext r l f) _ _ _ _ _ g (goes reports (ledgerNext r l) (numberNext r l f) o.1 g.exists)
+    goes_then l (ledger_next r l) _ f (number_next r l f) _ _ _ _ _ g (goes reports (ledger_next r l) (number_next r l f) o.1 g.exists)

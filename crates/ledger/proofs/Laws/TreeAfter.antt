@@ -8,10 +8,10 @@ use Rattle.std.proofs.Common.{arith}
 use Rattle.endian.specs.Bytes.{AllBytes}
 use Rattle.refusal.specs.Refusal.{is_refused}
 use Rattle.space.specs.declared.totals.Totals.{Totals}
-use Rattle.opened.specs.Opening.{nodesIn, opening}
-use Rattle.edits.specs.Edits.{Edit, insertFile, insertDirectory, makeDirectories, moveFile, resizeFile, fillFile, rewrite, plan_of, verdictOf, planTree, planImage, imageAfter}
+use Rattle.opened.specs.Opening.{nodes_in, opening}
+use Rattle.edits.specs.Edits.{Edit, insert_file, insert_directory, make_directories, move_file, resize_file, fill_file, rewrite, plan_of, verdict_of, plan_tree, plan_image, image_after}
 use Rattle.edits.proofs.Laws.Accepted.{accepted}
-use Rattle.ledger.specs.Ledger.{firstLedger}
+use Rattle.ledger.specs.Ledger.{first_ledger}
 use Rattle.ledger.specs.Runs.{Passable}
 use Rattle.ledger.proofs.Laws.Opened.{opened}
 use Rattle.ledger.proofs.Laws.Kept.{Kept}
@@ -25,37 +25,37 @@ module _ (image : List ℕ) (words bytes : ℕ) (b : AllBytes image) (e : openin
   same : words ≤ words
   same = omega arith
 
-  K : Kept words image (firstLedger image)
+  K : Kept words image (first_ledger image)
   K = start image words words same b e
 
   -- LAW
   pub arrives : (ed : Edit) → Passable ed → Arrives image words bytes (plan_of ed image)
-  arrives (insertFile p nm) h = insert-file image words bytes words (firstLedger image) K same p nm
-  arrives (insertDirectory p nm) h = insert-directory image words bytes words (firstLedger image) K same p nm
-  arrives (makeDirectories from path) h = make-directories image words bytes words (firstLedger image) K same from path
-  arrives (moveFile k to) h = move image words bytes words (firstLedger image) K same k to h
-  arrives (resizeFile k n) h = resize image words bytes words (firstLedger image) K same k n h
-  arrives (fillFile k clip) h = fill words image (firstLedger image) K words bytes same k clip h
-  arrives rewrite h = on-table image words bytes words (firstLedger image) K same (nodesIn image) (opened image words e b).well refl 0
+  arrives (insert_file p nm) h = insert-file image words bytes words (first_ledger image) K same p nm
+  arrives (insert_directory p nm) h = insert-directory image words bytes words (first_ledger image) K same p nm
+  arrives (make_directories from path) h = make-directories image words bytes words (first_ledger image) K same from path
+  arrives (move_file k to) h = move image words bytes words (first_ledger image) K same k to h
+  arrives (resize_file k n) h = resize image words bytes words (first_ledger image) K same k n h
+  arrives (fill_file k clip) h = fill words image (first_ledger image) K words bytes same k clip h
+  arrives rewrite h = on-table image words bytes words (first_ledger image) K same (nodes_in image) (opened image words e b).well refl 0
 
 module _ (ed : Edit) (totals : Totals) (image : List ℕ) (words bytes : ℕ) (b : AllBytes image) (h : Passable ed) where
-  after : verdictOf ed totals image words bytes ≡ Ok tt → (nodesIn (planImage (plan_of ed image) image) ≡ planTree (plan_of ed image) (nodesIn image)) × ProgramKept image (planImage (plan_of ed image) image) × Lays (plan_of ed image) image (planImage (plan_of ed image) image)
+  after : verdict_of ed totals image words bytes ≡ Ok tt → (nodes_in (plan_image (plan_of ed image) image) ≡ plan_tree (plan_of ed image) (nodes_in image)) × ProgramKept image (plan_image (plan_of ed image) image) × Lays (plan_of ed image) image (plan_image (plan_of ed image) image)
   after v = let a = accepted ed totals image words bytes v in arrives image words bytes b a.opens ed h a.own
 
   -- THEOREM: of every edit: if it is accepted, the tree read from the image afterwards is the planned one
-  pub tree-after : verdictOf ed totals image words bytes ≡ Ok tt → nodesIn (imageAfter ed totals image words bytes) ≡ planTree (plan_of ed image) (nodesIn image)
-  unfolding imageAfter
+  pub tree-after : verdict_of ed totals image words bytes ≡ Ok tt → nodes_in (image_after ed totals image words bytes) ≡ plan_tree (plan_of ed image) (nodes_in image)
+  unfolding image_after
   tree-after v = rw v (after v).0
 
   -- THEOREM: "no edit alters its bytes": accepted or refused, it leaves the program as it was
-  pub program-after : ProgramKept image (imageAfter ed totals image words bytes)
-  unfolding imageAfter
-  program-after = go (verdictOf ed totals image words bytes) refl
+  pub program-after : ProgramKept image (image_after ed totals image words bytes)
+  unfolding image_after
+  program-after = go (verdict_of ed totals image words bytes) refl
     where
-      go : (v : Verdict) → verdictOf ed totals image words bytes ≡ v → ProgramKept image (cond (is_refused v) image (planImage (plan_of ed image) image))
+      go : (v : Verdict) → verdict_of ed totals image words bytes ≡ v → ProgramKept image (cond (is_refused v) image (plan_image (plan_of ed image) image))
       go (Ok _) e = (after e).1
       go (Err c) e = nothing-done image
 
 -- THEOREM: a rewrite leaves the tree as it is
-pub rewritten : (totals : Totals) (image : List ℕ) (words bytes : ℕ) → AllBytes image → verdictOf rewrite totals image words bytes ≡ Ok tt → nodesIn (imageAfter rewrite totals image words bytes) ≡ nodesIn image
+pub rewritten : (totals : Totals) (image : List ℕ) (words bytes : ℕ) → AllBytes image → verdict_of rewrite totals image words bytes ≡ Ok tt → nodes_in (image_after rewrite totals image words bytes) ≡ nodes_in image
 rewritten totals image words bytes b v = tree-after rewrite totals image words bytes b tt v

@@ -5,21 +5,21 @@ use Rattle.std.specs.Prelude.{◌≡◌, refl, List, get_or, replicate}
 use Rattle.std.proofs.Common.{sym, ap, ◌∙◌, inl, arith, length-append, ext_get_or}
 use Rattle.std.proofs.Math.ListN.{length, get_or-append}
 use Rattle.std.proofs.lemmas.List.{length-replicate}
-use Rattle.endian.specs.Bytes.{put, span, be32, be32Bytes, AllBytes}
-use Rattle.endian.specs.Laws.Stored.{put_in, put-bytes, put-before, put-after, length-put, be32-put, be32-same, Outside, length-span, getD-span}
-use Rattle.header.specs.Verdicts.{fstOffset, fstSize, fstMaxSize, discEnd, table_end}
+use Rattle.endian.specs.Bytes.{put, span, be32, be32_bytes, AllBytes}
+use Rattle.endian.specs.Laws.Stored.{put_in, put-bytes, put-before, put-after, length-put, be32-put, be32-same, Outside, length-span, get_d-span}
+use Rattle.header.specs.Verdicts.{fst_offset, fst_size, fst_max_size, disc_end, table_end}
 use Rattle.header.specs.Laws.FieldTests.{GoodHeader, Bounded}
 use Rattle.tree.specs.Table.{encode}
 use Rattle.tree.specs.Inner.WellFormed.{WellFormed}
 use Rattle.tree.proofs.Laws.WrittenBytes.{encode-all, be32-all}
 use Rattle.opened.specs.Opening.{table_of}
 use Rattle.opened.proofs.Laws.OpeningLaws.{span-bytes}
-use Rattle.edits.specs.Change.{Change, padded, withTable, written}
+use Rattle.edits.specs.Change.{Change, padded, with_table, written}
 use Rattle.edits.proofs.Laws.Puts.{Fits, put-length, put_all, put-else, span-length, zeros-all, append-all}
 
 -- the new table's end
-abbrev pub newEnd : Change → List ℕ → ℕ
-newEnd c image = fstOffset image + length (encode c.nodes)
+abbrev pub new_end : Change → List ℕ → ℕ
+new_end c image = fst_offset image + length (encode c.nodes)
 
 -- a change that writes only behind both tables, and on the disc
 pub record Safe (c : Change) (image : List ℕ) : Type 0 where
@@ -27,9 +27,9 @@ pub record Safe (c : Change) (image : List ℕ) : Type 0 where
   pub header : GoodHeader image
   pub bounds : Bounded image
   pub well : WellFormed c.nodes
-  pub table : newEnd c image ≤ discEnd image
-  pub copied : 0 < c.kept → (table_end image ≤ c.place.offset) × (newEnd c image ≤ c.place.offset) × (c.place.offset + c.kept ≤ discEnd image) × (c.old.offset + c.kept ≤ discEnd image)
-  pub zeroed : 0 < c.lost.size → (table_end image ≤ c.lost.offset) × (newEnd c image ≤ c.lost.offset) × (c.lost.offset + c.lost.size ≤ discEnd image)
+  pub table : new_end c image ≤ disc_end image
+  pub copied : 0 < c.kept → (table_end image ≤ c.place.offset) × (new_end c image ≤ c.place.offset) × (c.place.offset + c.kept ≤ disc_end image) × (c.old.offset + c.kept ≤ disc_end image)
+  pub zeroed : 0 < c.lost.size → (table_end image ≤ c.lost.offset) × (new_end c image ≤ c.lost.offset) × (c.lost.offset + c.lost.size ≤ disc_end image)
 
 length-padded : (tab : List ℕ) (n : ℕ) → length (padded tab n) ≡ length tab + (n - length tab)
 length-padded tab n = length-append tab (replicate (n - length tab) 0) ∙ ap (λ (k : ℕ). length tab + k) (length-replicate {A = ℕ} (n - length tab) 0)
@@ -40,13 +40,13 @@ abbrev image₁ : Change → List ℕ → List ℕ
 image₁ c image = put image c.place.offset (span image c.old.offset c.kept)
 
 abbrev image₂ : Change → List ℕ → List ℕ
-image₂ c image = put (image₁ c image) (fstOffset image) (padded (encode c.nodes) (fstSize image))
+image₂ c image = put (image₁ c image) (fst_offset image) (padded (encode c.nodes) (fst_size image))
 
 abbrev image₃ : Change → List ℕ → List ℕ
-image₃ c image = put (image₂ c image) 0x428 (be32Bytes (length (encode c.nodes)))
+image₃ c image = put (image₂ c image) 0x428 (be32_bytes (length (encode c.nodes)))
 
 is-written : (c : Change) (image : List ℕ) → written c image ≡ put (image₃ c image) c.lost.offset (replicate c.lost.size 0)
-unfolding written withTable
+unfolding written with_table
 is-written c image = refl
 
 module _ (c : Change) (image : List ℕ) (s : Safe c image) where
@@ -65,24 +65,24 @@ module _ (c : Change) (image : List ℕ) (s : Safe c image) where
   all₁ : AllBytes (image₁ c image)
   all₁ = put_all image c.place.offset (span image c.old.offset c.kept) fits₁ s.bytes (span-bytes image c.old.offset c.kept s.bytes)
 
-  fits₂ : fstOffset image + length (padded (encode c.nodes) (fstSize image)) ≤ length (image₁ c image)
-  fits₂ = rw length₁ (omega (arith, length-padded (encode c.nodes) (fstSize image), s.table, s.bounds.table, s.bounds.image_holds))
+  fits₂ : fst_offset image + length (padded (encode c.nodes) (fst_size image)) ≤ length (image₁ c image)
+  fits₂ = rw length₁ (omega (arith, length-padded (encode c.nodes) (fst_size image), s.table, s.bounds.table, s.bounds.image_holds))
 
   length₂ : length (image₂ c image) ≡ length image
-  length₂ = length-put (image₁ c image) (fstOffset image) (padded (encode c.nodes) (fstSize image)) fits₂ ∙ length₁
+  length₂ = length-put (image₁ c image) (fst_offset image) (padded (encode c.nodes) (fst_size image)) fits₂ ∙ length₁
 
   all₂ : AllBytes (image₂ c image)
-  all₂ = put-bytes (image₁ c image) (fstOffset image) (padded (encode c.nodes) (fstSize image)) fits₂ all₁
-      (append-all (encode c.nodes) (replicate (fstSize image - length (encode c.nodes)) 0) (encode-all c.nodes s.well) (zeros-all (fstSize image - length (encode c.nodes))))
+  all₂ = put-bytes (image₁ c image) (fst_offset image) (padded (encode c.nodes) (fst_size image)) fits₂ all₁
+      (append-all (encode c.nodes) (replicate (fst_size image - length (encode c.nodes)) 0) (encode-all c.nodes s.well) (zeros-all (fst_size image - length (encode c.nodes))))
 
   fits₃ : 0x428 + 4 ≤ length (image₂ c image)
   fits₃ = rw length₂ (omega (arith, s.header.whole))
 
   length₃ : length (image₃ c image) ≡ length image
-  length₃ = length-put (image₂ c image) 0x428 (be32Bytes (length (encode c.nodes))) fits₃ ∙ length₂
+  length₃ = length-put (image₂ c image) 0x428 (be32_bytes (length (encode c.nodes))) fits₃ ∙ length₂
 
   all₃ : AllBytes (image₃ c image)
-  all₃ = put-bytes (image₂ c image) 0x428 (be32Bytes (length (encode c.nodes))) fits₃ all₂ (be32-all (length (encode c.nodes)))
+  all₃ = put-bytes (image₂ c image) 0x428 (be32_bytes (length (encode c.nodes))) fits₃ all₂ (be32-all (length (encode c.nodes)))
 
   zeros-length : length (replicate {A = ℕ} c.lost.size 0) ≡ c.lost.size
   zeros-length = length-replicate {A = ℕ} c.lost.size 0
@@ -102,42 +102,42 @@ module _ (c : Change) (image : List ℕ) (s : Safe c image) where
   at₁ : (i : ℕ) → (0 < c.kept → Outside c.place.offset c.kept i) → get_or (image₁ c image) i 0 ≡ get_or image i 0
   at₁ i o = put-else image c.place.offset (span image c.old.offset c.kept) fits₁ i (λ h. rw copy-length (o (rw copy-length at h)))
 
-  below₂ : (i : ℕ) → i < fstOffset image → get_or (image₂ c image) i 0 ≡ get_or (image₁ c image) i 0
-  below₂ i h = put-before (image₁ c image) (fstOffset image) (padded (encode c.nodes) (fstSize image)) fits₂ i h
+  below₂ : (i : ℕ) → i < fst_offset image → get_or (image₂ c image) i 0 ≡ get_or (image₁ c image) i 0
+  below₂ i h = put-before (image₁ c image) (fst_offset image) (padded (encode c.nodes) (fst_size image)) fits₂ i h
 
-  behind₂ : (i : ℕ) → table_end image ≤ i → newEnd c image ≤ i → get_or (image₂ c image) i 0 ≡ get_or (image₁ c image) i 0
-  behind₂ i h k = put-after (image₁ c image) (fstOffset image) (padded (encode c.nodes) (fstSize image)) fits₂ i (omega (arith, length-padded (encode c.nodes) (fstSize image)))
+  behind₂ : (i : ℕ) → table_end image ≤ i → new_end c image ≤ i → get_or (image₂ c image) i 0 ≡ get_or (image₁ c image) i 0
+  behind₂ i h k = put-after (image₁ c image) (fst_offset image) (padded (encode c.nodes) (fst_size image)) fits₂ i (omega (arith, length-padded (encode c.nodes) (fst_size image)))
 
-  in₂ : (i : ℕ) → i < length (encode c.nodes) → get_or (image₂ c image) (fstOffset image + i) 0 ≡ get_or (encode c.nodes) i 0
+  in₂ : (i : ℕ) → i < length (encode c.nodes) → get_or (image₂ c image) (fst_offset image + i) 0 ≡ get_or (encode c.nodes) i 0
   in₂ i h =
-      put_in (image₁ c image) (fstOffset image) (padded (encode c.nodes) (fstSize image)) fits₂ i (omega (arith, length-padded (encode c.nodes) (fstSize image)))
-      ∙ get_or-append (encode c.nodes) (replicate (fstSize image - length (encode c.nodes)) 0) 0 i h
+      put_in (image₁ c image) (fst_offset image) (padded (encode c.nodes) (fst_size image)) fits₂ i (omega (arith, length-padded (encode c.nodes) (fst_size image)))
+      ∙ get_or-append (encode c.nodes) (replicate (fst_size image - length (encode c.nodes)) 0) 0 i h
 
   below₃ : (i : ℕ) → i < 0x428 → get_or (image₃ c image) i 0 ≡ get_or (image₂ c image) i 0
-  below₃ i h = put-before (image₂ c image) 0x428 (be32Bytes (length (encode c.nodes))) fits₃ i h
+  below₃ i h = put-before (image₂ c image) 0x428 (be32_bytes (length (encode c.nodes))) fits₃ i h
 
   behind₃ : (i : ℕ) → 0x42C ≤ i → get_or (image₃ c image) i 0 ≡ get_or (image₂ c image) i 0
-  behind₃ i h = put-after (image₂ c image) 0x428 (be32Bytes (length (encode c.nodes))) fits₃ i h
+  behind₃ i h = put-after (image₂ c image) 0x428 (be32_bytes (length (encode c.nodes))) fits₃ i h
 
   at₄ : (i : ℕ) → (0 < c.lost.size → Outside c.lost.offset c.lost.size i) → get_or (written c image) i 0 ≡ get_or (image₃ c image) i 0
   at₄ i o = rw (is-written c image) (put-else (image₃ c image) c.lost.offset (replicate c.lost.size 0) fits₄ i (λ h. rw zeros-length (o (rw zeros-length at h))))
 
   -- below the table nothing is copied or zeroed
-  not-copied : (i : ℕ) → i < fstOffset image → 0 < c.kept → Outside c.place.offset c.kept i
+  not-copied : (i : ℕ) → i < fst_offset image → 0 < c.kept → Outside c.place.offset c.kept i
   not-copied i h z = inl (omega (arith, (s.copied z).1))
 
-  not-zeroed : (i : ℕ) → i < newEnd c image → 0 < c.lost.size → Outside c.lost.offset c.lost.size i
+  not-zeroed : (i : ℕ) → i < new_end c image → 0 < c.lost.size → Outside c.lost.offset c.lost.size i
   not-zeroed i h z = inl (omega (arith, (s.zeroed z).1))
 
   -- ---- the header
 
   pub header-low : (i : ℕ) → i < 0x428 → get_or (written c image) i 0 ≡ get_or image i 0
   header-low i h =
-      let l : i < fstOffset image = omega (arith, s.bounds.after-header) in
+      let l : i < fst_offset image = omega (arith, s.bounds.after-header) in
       at₄ i (not-zeroed i (omega arith)) ∙ below₃ i h ∙ below₂ i l ∙ at₁ i (not-copied i l)
 
   -- and what lies between it and the table
-  pub system-written : (i : ℕ) → 0x42C ≤ i → i < fstOffset image → get_or (written c image) i 0 ≡ get_or image i 0
+  pub system-written : (i : ℕ) → 0x42C ≤ i → i < fst_offset image → get_or (written c image) i 0 ≡ get_or image i 0
   system-written i h l = at₄ i (not-zeroed i (omega arith)) ∙ behind₃ i h ∙ below₂ i l ∙ at₁ i (not-copied i l)
 
   pub field-low : (at : ℕ) → at + 4 ≤ 0x428 → be32 (written c image) at ≡ be32 image at
@@ -146,20 +146,20 @@ module _ (c : Change) (image : List ℕ) (s : Safe c image) where
   pub field-high : (at : ℕ) → 0x42C ≤ at → at + 4 ≤ 0x440 → be32 (written c image) at ≡ be32 image at
   field-high at h k = be32-same (written c image) image at (λ i l. system-written (at + i) (omega arith) (omega (arith, s.bounds.after-header)))
 
-  pub fst-offset-written : fstOffset (written c image) ≡ fstOffset image
+  pub fst-offset-written : fst_offset (written c image) ≡ fst_offset image
   fst-offset-written = field-low 0x424 (omega arith)
 
-  pub disc-end-written : discEnd (written c image) ≡ discEnd image
+  pub disc-end-written : disc_end (written c image) ≡ disc_end image
   disc-end-written = rw (field-high 0x434 (omega arith) (omega arith), field-high 0x438 (omega arith) (omega arith))
 
   -- the FST maximum is never written
-  pub fst-max-size-written : fstMaxSize (written c image) ≡ fstMaxSize image
+  pub fst-max-size-written : fst_max_size (written c image) ≡ fst_max_size image
   fst-max-size-written = field-high 0x42C (omega arith) (omega arith)
 
   small : length (encode c.nodes) < 2 ^ 32
   small = omega (arith, s.table, s.bounds.small)
 
-  pub fst-size-written : fstSize (written c image) ≡ length (encode c.nodes)
+  pub fst-size-written : fst_size (written c image) ≡ length (encode c.nodes)
   fst-size-written =
       be32-same (written c image) (image₃ c image) 0x428 (λ i l. at₄ (0x428 + i) (not-zeroed (0x428 + i) (omega (arith, s.bounds.after-header))))
       ∙ be32-put (image₂ c image) 0x428 (length (encode c.nodes)) fits₃ small
@@ -181,22 +181,22 @@ module _ (c : Change) (image : List ℕ) (s : Safe c image) where
 
   -- ---- the table
 
-  table_at : (i : ℕ) → i < length (encode c.nodes) → get_or (written c image) (fstOffset image + i) 0 ≡ get_or (encode c.nodes) i 0
+  table_at : (i : ℕ) → i < length (encode c.nodes) → get_or (written c image) (fst_offset image + i) 0 ≡ get_or (encode c.nodes) i 0
   table_at i h =
-      at₄ (fstOffset image + i) (not-zeroed (fstOffset image + i) (omega arith)) ∙ behind₃ (fstOffset image + i) (omega (arith, s.bounds.after-header)) ∙ in₂ i h
+      at₄ (fst_offset image + i) (not-zeroed (fst_offset image + i) (omega arith)) ∙ behind₃ (fst_offset image + i) (omega (arith, s.bounds.after-header)) ∙ in₂ i h
 
   pub table-written : table_of (written c image) ≡ encode c.nodes
   unfolding table_of
   table-written =
       let n : ℕ = length (encode c.nodes) in
-      let e : length (span (written c image) (fstOffset image) n) ≡ n = length-span (written c image) (fstOffset image) n (rw length-written (omega (arith, s.table, s.bounds.image_holds))) in
+      let e : length (span (written c image) (fst_offset image) n) ≡ n = length-span (written c image) (fst_offset image) n (rw length-written (omega (arith, s.table, s.bounds.image_holds))) in
       rw (fst-offset-written, fst-size-written)
-      (ext_get_or 0 (span (written c image) (fstOffset image) n) (encode c.nodes) e
-      (λ i h. let h' : i < n = rw e at h in getD-span (written c image) (fstOffset image) n i h' ∙ table_at i h'))
+      (ext_get_or 0 (span (written c image) (fst_offset image) n) (encode c.nodes) e
+      (λ i h. let h' : i < n = rw e at h in get_d-span (written c image) (fst_offset image) n i h' ∙ table_at i h'))
 
   -- ---- behind the tables
 
-  pub rest-written : (i : ℕ) → table_end image ≤ i → newEnd c image ≤ i → (0 < c.kept → Outside c.place.offset c.kept i) → (0 < c.lost.size → Outside c.lost.offset c.lost.size i) →
+  pub rest-written : (i : ℕ) → table_end image ≤ i → new_end c image ≤ i → (0 < c.kept → Outside c.place.offset c.kept i) → (0 < c.lost.size → Outside c.lost.offset c.lost.size i) →
       get_or (written c image) i 0 ≡ get_or image i 0
   rest-written i h k p l = at₄ i l ∙ behind₃ i (omega (arith, s.bounds.after-header)) ∙ behind₂ i h k ∙ at₁ i p
 
@@ -205,6 +205,6 @@ module _ (c : Change) (image : List ℕ) (s : Safe c image) where
   copy_written i h l =
       let z : 0 < c.kept = omega arith in
       let t : table_end image ≤ c.place.offset = (s.copied z).0 in
-      let t' : newEnd c image ≤ c.place.offset = (s.copied z).1 in
+      let t' : new_end c image ≤ c.place.offset = (s.copied z).1 in
       at₄ (c.place.offset + i) l ∙ behind₃ (c.place.offset + i) (omega (arith, s.bounds.after-header)) ∙ behind₂ (c.place.offset + i) (omega arith) (omega arith)
-      ∙ put_in image c.place.offset (span image c.old.offset c.kept) (fits₁ (rw copy-length z)) i (rw copy-length h) ∙ getD-span image c.old.offset c.kept i h
+      ∙ put_in image c.place.offset (span image c.old.offset c.kept) (fits₁ (rw copy-length z)) i (rw copy-length h) ∙ get_d-span image c.old.offset c.kept i h

@@ -15,8 +15,8 @@ place_of nm offset size = record { offset = offset; size = size }
 abbrev pub files_of : List Node → List DiscRegion
 files_of xs = pick place_of xs
 
-abbrev pub ownName : List ℕ → ℕ → ℕ → List ℕ
-ownName nm offset size = nm
+abbrev pub own_name : List ℕ → ℕ → ℕ → List ℕ
+own_name nm offset size = nm
 
 abbrev pub names_of : List Node → List (List ℕ)
-names_of xs = pick ownName xs
+names_of xs = pick own_name xs

@@ -1,8 +1,8 @@
 -- The directories around an entry, as the functions inside keep them.
 -- Assumes nothing: these are definitions.
 use Rattle.std.specs.Prelude.{ℕ, ◌+◌, ◌-◌, ◌<◌, ◌≤◌, ◌≡◌, true, List, length, get_or}
-use Rattle.tree.specs.Table.{Node, none, parentBelow, parent_of}
-use Rattle.tree.specs.Lookup.{isDirectory}
+use Rattle.tree.specs.Table.{Node, none, parent_below, parent_of}
+use Rattle.tree.specs.Lookup.{is_directory}
 use Rattle.listing.specs.declared.entries.Directories.{Directories}
 
 -- the first d words hold directories before entry k: the root, and each the one that the next is nested in
@@ -12,12 +12,12 @@ pub record Chain (nodes : List Node) (dirs : List ℕ) (d k : ℕ) : Type 0 wher
   pub few : d ≤ 65
   pub root : get_or dirs 0 0 ≡ 0
   pub before : (i : ℕ) → i < d → get_or dirs i 0 < k
-  pub directories : (i : ℕ) → i < d → isDirectory (get_or nodes (get_or dirs i 0) none) ≡ true
+  pub directories : (i : ℕ) → i < d → is_directory (get_or nodes (get_or dirs i 0) none) ≡ true
   pub nested : (i : ℕ) → i + 1 < d → (0 < get_or dirs (i + 1) 0) × (parent_of nodes (get_or dirs (i + 1) 0) ≡ get_or dirs i 0)
 
 -- entry k's parent is the last of d directories, or one around that
 abbrev pub Climbs : List Node → List ℕ → ℕ → ℕ → Type 0
-Climbs nodes dirs d k = parent_of nodes k ≡ parentBelow nodes k (get_or dirs (d - 1) 0 + 1)
+Climbs nodes dirs d k = parent_of nodes k ≡ parent_below nodes k (get_or dirs (d - 1) 0 + 1)
 
 -- the last of d directories is the one that entry k is nested in
 pub record Ends (nodes : List Node) (dirs : List ℕ) (d k : ℕ) : Type 0 where

@@ -3,9 +3,9 @@ use Rattle.std.specs.Prelude.{Option, Some, None, Result, Ok, Err, ℕ, cond, Li
 use Rattle.endian.specs.Bytes.{put}
 use Rattle.refusal.specs.declared.Refusal.{Refusal}
 use Rattle.refusal.specs.declared.Refusal.TheVariants.{LimitOrMemory}
-use Rattle.space.specs.Used.{totalSize}
+use Rattle.space.specs.Used.{total_size}
 use Rattle.opened.specs.Inner.Disc.{Disc, free_of}
-use Rattle.listing.specs.Lines.{totalsLine, entryLines, regionLines}
+use Rattle.listing.specs.Lines.{totals_line, entry_lines, region_lines}
 
 -- how long it is, if there is room for it
 abbrev pub size_or : ℕ → List ℕ → Option ℕ
@@ -25,4 +25,4 @@ Laid text text' size bs = (size ≡ size_or (length text) bs) × (text' ≡ laid
 
 -- the lines of a disc
 unfoldable pub text_of : Disc → List ℕ
-text_of d = totalsLine d.end (totalSize d.used) ++ (entryLines d.nodes (length d.nodes) ++ regionLines (free_of d))
+text_of d = totals_line d.end (total_size d.used) ++ (entry_lines d.nodes (length d.nodes) ++ region_lines (free_of d))

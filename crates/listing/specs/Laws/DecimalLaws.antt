@@ -65,30 +65,30 @@ decimal-spells n = digits-spell (suc n) n (omega arith)
 
 -- ---- `0` to `9`
 
-abbrev pub isDigit : ℕ → Bool
-isDigit b = leb 0x30 b && leb b 0x39
+abbrev pub is_digit : ℕ → Bool
+is_digit b = leb 0x30 b && leb b 0x39
 
-every_append : (a b : List ℕ) → every isDigit a ≡ true → every isDigit b ≡ true → every isDigit (a ++ b) ≡ true
+every_append : (a b : List ℕ) → every is_digit a ≡ true → every is_digit b ≡ true → every is_digit (a ++ b) ≡ true
 every_append [] b p q = q
-every_append (d ∷ a) b p q = go (isDigit d) p (every_append a b)
+every_append (d ∷ a) b p q = go (is_digit d) p (every_append a b)
   where
-    go : (t : Bool) → (t && every isDigit a) ≡ true → (every isDigit a ≡ true → every isDigit b ≡ true → every isDigit (a ++ b) ≡ true) → (t && every isDigit (a ++ b)) ≡ true
+    go : (t : Bool) → (t && every is_digit a) ≡ true → (every is_digit a ≡ true → every is_digit b ≡ true → every is_digit (a ++ b) ≡ true) → (t && every is_digit (a ++ b)) ≡ true
     go true r ih = ih r q
     go false r ih = r
 
-digit-is : (n : ℕ) → n < 10 → every isDigit ((0x30 + n) ∷ []) ≡ true
+digit-is : (n : ℕ) → n < 10 → every is_digit ((0x30 + n) ∷ []) ≡ true
 digit-is n h = rw (le-leb 0x30 (0x30 + n) (omega arith), le-leb (0x30 + n) 0x39 (omega arith))
 
-digits-digits : (f n : ℕ) → every isDigit (digits f n) ≡ true
+digits-digits : (f n : ℕ) → every is_digit (digits f n) ≡ true
 unfolding digits
 digits-digits zero n = refl
 digits-digits (suc f) n = go (ltb n 10) refl (digits-digits f (n / 10))
   where
-    go : (t : Bool) → ltb n 10 ≡ t → every isDigit (digits f (n / 10)) ≡ true → every isDigit (cond t ((0x30 + n) ∷ []) (digits f (n / 10) ++ ((0x30 + n % 10) ∷ []))) ≡ true
+    go : (t : Bool) → ltb n 10 ≡ t → every is_digit (digits f (n / 10)) ≡ true → every is_digit (cond t ((0x30 + n) ∷ []) (digits f (n / 10) ++ ((0x30 + n % 10) ∷ []))) ≡ true
     go true e ih = digit-is n (ltb-true n 10 e)
     go false e ih = every_append (digits f (n / 10)) ((0x30 + n % 10) ∷ []) ih (digit-is (n % 10) (omega arith))
 
-pub decimal-digits : (n : ℕ) → every isDigit (decimal n) ≡ true
+pub decimal-digits : (n : ℕ) → every is_digit (decimal n) ≡ true
 decimal-digits n = digits-digits (suc n) n
 
 -- ---- only 0 begins with `0`

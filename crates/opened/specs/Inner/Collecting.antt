@@ -1,6 +1,6 @@
 -- What the functions that collect the used regions promise. Assumes nothing: these are definitions.
 use Rattle.std.specs.Prelude.{Option, None, Some, ℕ, ◌≤◌, ◌<◌, ◌≡◌, List}
-use Rattle.tree.specs.Table.{kind, offsetOrParent, sizeOrNext}
+use Rattle.tree.specs.Table.{kind, offset_or_parent, size_or_next}
 use Rattle.space.specs.declared.region.DiscRegion.{DiscRegion}
 use Rattle.space.specs.Inner.Words.{Added}
 use Rattle.opened.specs.Inner.Prepared.{AddedEntry, CollectedTo}
@@ -8,7 +8,7 @@ use Rattle.opened.specs.declared.regions.Collected.{Collected}
 
 -- where the bytes of entry k stand: a file's offset and size, and none of a directory
 abbrev pub RegionOf : List ℕ → ℕ → Option DiscRegion → Type 0
-RegionOf tab k (Some region) = (kind tab k ≡ 0) × (region ≡ record { offset = offsetOrParent tab k; size = sizeOrNext tab k })
+RegionOf tab k (Some region) = (kind tab k ≡ 0) × (region ≡ record { offset = offset_or_parent tab k; size = size_or_next tab k })
 RegionOf tab k None = kind tab k ≡ 0 → ⊥
 
 -- the number of an entry from k on and before `end`, if any

@@ -1,13 +1,13 @@
 -- What an image that opens means: all that the questions and the edits read of it. Assumes nothing: these are definitions.
 use Rattle.std.specs.Prelude.{Result, Ok, Err, ℕ, ◌≡◌, List, ◌∷◌, map}
 use Rattle.refusal.specs.declared.Refusal.{Refusal}
-use Rattle.header.specs.Verdicts.{fstOffset, fstSize, fstMaxSize, discEnd, table_end}
-use Rattle.tree.specs.Table.{Node, nodesOf}
+use Rattle.header.specs.Verdicts.{fst_offset, fst_size, fst_max_size, disc_end, table_end}
+use Rattle.tree.specs.Table.{Node, nodes_of}
 use Rattle.space.specs.declared.region.DiscRegion.{DiscRegion}
-use Rattle.space.specs.Used.{usedRegions}
-use Rattle.space.specs.Free.{freeRegions}
-use Rattle.executable.specs.Program.{programBehind}
-use Rattle.opened.specs.Opening.{table_of, regionOf, opening}
+use Rattle.space.specs.Used.{used_regions}
+use Rattle.space.specs.Free.{free_regions}
+use Rattle.executable.specs.Program.{program_behind}
+use Rattle.opened.specs.Opening.{table_of, region_of, opening}
 use Rattle.opened.specs.Inner.Prepared.{OpenImage}
 
 pub record Disc : Type 0 where
@@ -27,20 +27,20 @@ pub record Disc : Type 0 where
 abbrev pub disc_in : List ℕ → List ℕ → DiscRegion → ℕ → Disc
 disc_in header table own words = record {
   table = table;
-  nodes = nodesOf table;
-  start = fstOffset header;
-  room = fstSize header;
-  maximum = fstMaxSize header;
-  end = discEnd header;
-  used = usedRegions (table_end header) (own ∷ map regionOf (nodesOf table));
+  nodes = nodes_of table;
+  start = fst_offset header;
+  room = fst_size header;
+  maximum = fst_max_size header;
+  end = disc_end header;
+  used = used_regions (table_end header) (own ∷ map region_of (nodes_of table));
   words = words;
 }
 
 abbrev pub disc_of : List ℕ → ℕ → Disc
-disc_of image words = disc_in image (table_of image) (programBehind image) words
+disc_of image words = disc_in image (table_of image) (program_behind image) words
 
 abbrev pub free_of : Disc → List DiscRegion
-free_of d = freeRegions d.end d.used
+free_of d = free_regions d.end d.used
 
 -- ---- an image and its disc
 

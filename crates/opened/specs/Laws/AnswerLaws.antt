@@ -7,7 +7,7 @@ use Rattle.refusal.specs.declared.Refusal.{Refusal}
 use Rattle.opened.specs.Opening.{opening}
 use Rattle.opened.specs.Inner.Disc.{Disc, Means, OpensAs}
 use Rattle.opened.specs.Laws.Meant.{start_meant, room_meant, end_meant, entries_meant, total_meant}
-use Rattle.opened.specs.Answers.{behind, discOf}
+use Rattle.opened.specs.Answers.{behind, disc_of}
 use Rattle.opened.specs.Inner.Told.{told_of}
 
 pub behind-passed : {A : Type 0} (v : Verdict) (f : Refusal → A) (a : A) → v ≡ Ok tt → a ≡ behind v f a
@@ -37,6 +37,6 @@ module _ {A : Type 0} (f : Refusal → A) (a : A) (image : List ℕ) (words : �
   not_asked c e = let o : OpensAs image words (Err c) = rw e at h in behind-refused (opening image words) f a c o
 
 -- what it tells of itself
-pub told_meant : (image : List ℕ) (d : Disc) → Means image d → told_of d ≡ discOf image
+pub told_meant : (image : List ℕ) (d : Disc) → Means image d → told_of d ≡ disc_of image
 told_meant image d m =
     rw (start_meant image d m, room_meant image d m, end_meant image d m, entries_meant image d m, total_meant image d m)

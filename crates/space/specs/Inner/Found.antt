@@ -4,5 +4,5 @@ use Rattle.std.specs.Prelude.{cond, eqb, Option, Some, None}
 use Rattle.space.specs.declared.region.DiscRegion.{DiscRegion}
 
 -- a region that was found has a byte, so size 0 means that there is none
-abbrev pub foundOrNone : DiscRegion → Option DiscRegion
-foundOrNone b = cond (eqb b.size 0) None (Some b)
+abbrev pub found_or_none : DiscRegion → Option DiscRegion
+found_or_none b = cond (eqb b.size 0) None (Some b)

@@ -7,20 +7,20 @@ use Rattle.space.specs.Used.{end_of}
 use Rattle.space.specs.declared.totals.Totals.{Totals}
 
 -- the longest run of the bytes from a up to b that has none of r's bytes
-unfoldable pub longestBeside : ℕ → ℕ → DiscRegion → ℕ
-longestBeside a b r = cond (eqb r.size 0 || (leb (end_of r) a || leb b r.offset)) (b - a) (max (r.offset - a) (b - end_of r))
+unfoldable pub longest_beside : ℕ → ℕ → DiscRegion → ℕ
+longest_beside a b r = cond (eqb r.size 0 || (leb (end_of r) a || leb b r.offset)) (b - a) (max (r.offset - a) (b - end_of r))
 
 -- along regions in order from byte `at` on, on a disc that ends at e: the region at `gone` is passed over, the bytes of `new` are cut out, and
 -- `best` is the longest run so far
-unfoldable pub longestFrom : ℕ → ℕ → DiscRegion → ℕ → ℕ → List DiscRegion → ℕ
-longestFrom e gone new at best [] = max best (longestBeside at e new)
-longestFrom e gone new at best (x ∷ xs) =
-    cond (eqb x.offset gone) (longestFrom e gone new at best xs)
-    (longestFrom e gone new (end_of x) (max best (longestBeside at x.offset new)) xs)
+unfoldable pub longest_from : ℕ → ℕ → DiscRegion → ℕ → ℕ → List DiscRegion → ℕ
+longest_from e gone new at best [] = max best (longest_beside at e new)
+longest_from e gone new at best (x ∷ xs) =
+    cond (eqb x.offset gone) (longest_from e gone new at best xs)
+    (longest_from e gone new (end_of x) (max best (longest_beside at x.offset new)) xs)
 
 -- where the old place starts; 0, where no file can, if there is none
-abbrev pub goneOf : DiscRegion → ℕ
-goneOf old = cond (eqb old.size 0) 0 old.offset
+abbrev pub gone_of : DiscRegion → ℕ
+gone_of old = cond (eqb old.size 0) 0 old.offset
 
 -- whether the record can move on, and the record then
 pub record Moved : Type 0 where
@@ -31,6 +31,6 @@ abbrev pub moved : Verdict → Totals → Moved
 moved v t = record { verdict = v; totals = t }
 
 -- by the verdict: the next record, or the one that came in
-abbrev pub movedAs : Verdict → Totals → Totals → Moved
-movedAs (Ok _) t next = moved (Ok tt) next
-movedAs (Err c) t next = moved (Err c) t
+abbrev pub moved_as : Verdict → Totals → Totals → Moved
+moved_as (Ok _) t next = moved (Ok tt) next
+moved_as (Err c) t next = moved (Err c) t

@@ -2,8 +2,8 @@
 -- Assumes nothing: these are definitions.
 use Rattle.std.specs.Prelude.{ℕ, ◌^◌, ◌<◌, List}
 use Rattle.space.specs.declared.region.DiscRegion.{DiscRegion}
-use Rattle.space.specs.Free.{freeRegions}
-use Rattle.space.specs.Inner.Sort.{regionsIn}
+use Rattle.space.specs.Free.{free_regions}
+use Rattle.space.specs.Inner.Sort.{regions_in}
 use Rattle.space.specs.Inner.Words.{SortedDisjoint}
 
 pub record UsedSpace : Type 0 where
@@ -17,8 +17,8 @@ pub record InWords (w : List ℕ) (m e : ℕ) : Type 0 where
 
 -- the first m regions in words, on a disc that ends at e
 abbrev pub used_in : List ℕ → ℕ → ℕ → UsedSpace
-used_in w m e = record { regions = regionsIn w 0 m; disc_end = e }
+used_in w m e = record { regions = regions_in w 0 m; disc_end = e }
 
 -- the free regions that they leave
 abbrev pub free_in : UsedSpace → List DiscRegion
-free_in u = freeRegions u.disc_end u.regions
+free_in u = free_regions u.disc_end u.regions

@@ -9,16 +9,16 @@ use borrow.Author.Tests.{leb-true, leb-false, eqb-true, eqb-false, eq-eqb, ne_eq
 use Rattle.std.proofs.Math.Dec.{leb, eqb}
 use Rattle.space.specs.declared.region.DiscRegion.{DiscRegion}
 use Rattle.space.specs.Used.{end_of, inside}
-use Rattle.space.specs.Free.{join, runs, largestSize}
+use Rattle.space.specs.Free.{join, runs, largest_size}
 use Rattle.space.specs.Laws.RunLaws.{FirstFrom, runs-from}
 use Rattle.space.specs.Laws.UsedLaws.{inside-low, inside-in, inside-high}
 use Rattle.refusal.specs.Laws.Tests.{lt-or-le}
-use Rattle.space.specs.Inner.Scan.{longestBeside}
+use Rattle.space.specs.Inner.Scan.{longest_beside}
 
 -- ---- runs, cut at a byte that does not pass
 
-largest-append : (xs ys : List DiscRegion) → largestSize (xs ++ ys) ≡ max (largestSize xs) (largestSize ys)
-unfolding largestSize
+largest-append : (xs ys : List DiscRegion) → largest_size (xs ++ ys) ≡ max (largest_size xs) (largest_size ys)
+unfolding largest_size
 largest-append [] ys = omega arith
 largest-append (x ∷ xs) ys = omega (arith, largest-append xs ys)
 
@@ -56,7 +56,7 @@ runs-false-first p i zero e = tt
 runs-false-first p i (suc n) e = rw e (runs-from p (suc i) n)
 
 -- the largest of two stretches, where a byte that does not pass starts the second
-pub largest-split : (p : ℕ → Bool) (i a b : ℕ) → p (i + a) ≡ false → largestSize (runs p i (a + b)) ≡ max (largestSize (runs p i a)) (largestSize (runs p (i + a) b))
+pub largest-split : (p : ℕ → Bool) (i a b : ℕ) → p (i + a) ≡ false → largest_size (runs p i (a + b)) ≡ max (largest_size (runs p i a)) (largest_size (runs p (i + a) b))
 largest-split p i a b e = rw (runs_append p i a b (runs-false-first p (i + a) b e)) (largest-append (runs p i a) (runs p (i + a) b))
 
 -- a stretch that does not pass adds nothing
@@ -75,8 +75,8 @@ runs-whole p i zero h = rw (h i (omega arith) (omega arith))
 runs-whole p i (suc n) h =
     rw (h i (omega arith) (omega arith), runs-whole p (suc i) n (λ j u v. h j (omega arith) (omega arith)), eq-eqb (suc i) (suc i) refl)
 
-largest-whole : (p : ℕ → Bool) (i n : ℕ) → ((j : ℕ) → i ≤ j → j < i + n → p j ≡ true) → largestSize (runs p i n) ≡ n
-unfolding largestSize
+largest-whole : (p : ℕ → Bool) (i n : ℕ) → ((j : ℕ) → i ≤ j → j < i + n → p j ≡ true) → largest_size (runs p i n) ≡ n
+unfolding largest_size
 largest-whole p i zero h = unfold runs in refl
 largest-whole p i (suc n) h = rw (runs-whole p i n h) (omega arith)
 
@@ -88,10 +88,10 @@ module _ (p : ℕ → Bool) (a b : ℕ) (r : DiscRegion) (h : (j : ℕ) → a �
       h j u v ∙ ap not (⊎_elim (λ z. ⊎_elim (λ k. inside-low r j k) (λ k. inside-high r j (omega arith)) (lt-or-le j r.offset))
       (λ d. ⊎_elim (λ z. inside-high r j (omega arith)) (λ z. inside-low r j (omega arith)) d) c)
 
-  whole-gap : (r.size ≡ 0) ⊎ ((end_of r ≤ a) ⊎ (b ≤ r.offset)) → largestSize (runs p a (b - a)) ≡ b - a
+  whole-gap : (r.size ≡ 0) ⊎ ((end_of r ≤ a) ⊎ (b ≤ r.offset)) → largest_size (runs p a (b - a)) ≡ b - a
   whole-gap c = largest-whole p a (b - a) (λ j u v. apart c j u (omega arith))
 
-  cut-gap : 0 < r.size → a < end_of r → r.offset < b → a < b → largestSize (runs p a (b - a)) ≡ max (r.offset - a) (b - end_of r)
+  cut-gap : 0 < r.size → a < end_of r → r.offset < b → a < b → largest_size (runs p a (b - a)) ≡ max (r.offset - a) (b - end_of r)
   cut-gap s u v w =
       let n : b - a ≡ (r.offset - a) + ((min (end_of r) b - max a r.offset) + (b - end_of r)) = omega arith in
       let m : a + (r.offset - a) ≡ max a r.offset = omega arith in
@@ -106,16 +106,16 @@ module _ (p : ℕ → Bool) (a b : ℕ) (r : DiscRegion) (h : (j : ℕ) → a �
         largest-whole p (min (end_of r) b) (b - end_of r) (λ j x y. h j (omega arith) (omega arith) ∙ rw (inside-high r j (omega arith))),
       )
 
-  no_gap : a ≡ b → r.offset < b → a < end_of r → largestSize (runs p a (b - a)) ≡ max (r.offset - a) (b - end_of r)
-  no_gap q u v = let z : b - a ≡ 0 = omega arith in rw z (unfold runs largestSize in omega arith)
+  no_gap : a ≡ b → r.offset < b → a < end_of r → largest_size (runs p a (b - a)) ≡ max (r.offset - a) (b - end_of r)
+  no_gap q u v = let z : b - a ≡ 0 = omega arith in rw z (unfold runs largest_size in omega arith)
 
   -- the longest run of a gap, of the bytes that are not the region's
-  pub longest-gap : a ≤ b → largestSize (runs p a (b - a)) ≡ longestBeside a b r
-  unfolding longestBeside
+  pub longest-gap : a ≤ b → largest_size (runs p a (b - a)) ≡ longest_beside a b r
+  unfolding longest_beside
   longest-gap w = go (eqb r.size 0) refl (leb (end_of r) a) refl (leb b r.offset) refl
     where
       go : (x : Bool) → eqb r.size 0 ≡ x → (y : Bool) → leb (end_of r) a ≡ y → (z : Bool) → leb b r.offset ≡ z →
-          largestSize (runs p a (b - a)) ≡ cond (x || (y || z)) (b - a) (max (r.offset - a) (b - end_of r))
+          largest_size (runs p a (b - a)) ≡ cond (x || (y || z)) (b - a) (max (r.offset - a) (b - end_of r))
       go true q y _ z _ = whole-gap (inl (eqb-true r.size 0 q))
       go false q true k z _ = whole-gap (inr (inl (leb-true (end_of r) a k)))
       go false q false k true l = whole-gap (inr (inr (leb-true b r.offset l)))

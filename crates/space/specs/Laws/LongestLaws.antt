@@ -7,12 +7,12 @@ use Rattle.std.proofs.Math.Bool.{not}
 use mathlib.Core.List.{List, [], ◌∷◌}
 use borrow.Author.Tests.{leb-true, le-leb}
 use Rattle.space.specs.declared.region.DiscRegion.{DiscRegion}
-use Rattle.space.specs.Used.{end_of, inside, usesByte}
-use Rattle.space.specs.Free.{runs, largestSize}
-use Rattle.space.specs.Inner.Words.{AllNonempty, inSequence}
+use Rattle.space.specs.Used.{end_of, inside, uses_byte}
+use Rattle.space.specs.Free.{runs, largest_size}
+use Rattle.space.specs.Inner.Words.{AllNonempty, in_sequence}
 use Rattle.space.specs.Laws.UsedLaws.{inside-low, inside-in, inside-high}
 use Rattle.refusal.specs.Laws.Tests.{and_left, and_right, and_both, or_right}
-use Rattle.space.specs.Inner.Scan.{longestBeside, longestFrom}
+use Rattle.space.specs.Inner.Scan.{longest_beside, longest_from}
 use Rattle.space.specs.Laws.CutLaws.{largest-split, runs_past, longest-gap}
 
 -- the regions that do not start at `gone`
@@ -24,39 +24,39 @@ or-none : (t : Bool) → (t || false) ≡ t
 or-none true = refl
 or-none false = refl
 
-pub sequence-first : (a e : ℕ) (x : DiscRegion) (xs : List DiscRegion) → inSequence a e (x ∷ xs) ≡ true → a ≤ x.offset
-unfolding inSequence
+pub sequence-first : (a e : ℕ) (x : DiscRegion) (xs : List DiscRegion) → in_sequence a e (x ∷ xs) ≡ true → a ≤ x.offset
+unfolding in_sequence
 sequence-first a e x xs c = leb-true a x.offset (and_left (leb a x.offset) _ c)
 
-pub sequence-rest : (a e : ℕ) (x : DiscRegion) (xs : List DiscRegion) → inSequence a e (x ∷ xs) ≡ true → inSequence (end_of x) e xs ≡ true
-unfolding inSequence
+pub sequence-rest : (a e : ℕ) (x : DiscRegion) (xs : List DiscRegion) → in_sequence a e (x ∷ xs) ≡ true → in_sequence (end_of x) e xs ≡ true
+unfolding in_sequence
 sequence-rest a e x xs c = and_right (leb a x.offset) _ c
 
-pub sequence-le : (a e : ℕ) (xs : List DiscRegion) → inSequence a e xs ≡ true → a ≤ e
-sequence-le a e [] c = unfold inSequence in leb-true a e c
+pub sequence-le : (a e : ℕ) (xs : List DiscRegion) → in_sequence a e xs ≡ true → a ≤ e
+sequence-le a e [] c = unfold in_sequence in leb-true a e c
 sequence-le a e (x ∷ xs) c = omega (arith, sequence-first a e x xs c, sequence-le (end_of x) e xs (sequence-rest a e x xs c))
 
-sequence-earlier : (a b e : ℕ) (xs : List DiscRegion) → a ≤ b → inSequence b e xs ≡ true → inSequence a e xs ≡ true
-unfolding inSequence
+sequence-earlier : (a b e : ℕ) (xs : List DiscRegion) → a ≤ b → in_sequence b e xs ≡ true → in_sequence a e xs ≡ true
+unfolding in_sequence
 sequence-earlier a b e [] h c = le-leb a e (omega (arith, leb-true b e c))
 sequence-earlier a b e (x ∷ xs) h c = and_both _ _ (le-leb a x.offset (omega (arith, sequence-first b e x xs c))) (sequence-rest b e x xs c)
 
 -- no byte before the first of regions in order is used, whichever of them are left out
-pub without-low : (gone a e : ℕ) (xs : List DiscRegion) (i : ℕ) → inSequence a e xs ≡ true → i < a → usesByte (without gone xs) i ≡ false
-unfolding usesByte without
+pub without-low : (gone a e : ℕ) (xs : List DiscRegion) (i : ℕ) → in_sequence a e xs ≡ true → i < a → uses_byte (without gone xs) i ≡ false
+unfolding uses_byte without
 without-low gone a e [] i c h = refl
 without-low gone a e (x ∷ xs) i c h =
     go (eqb x.offset gone) (without-low gone (end_of x) e xs i (sequence-rest a e x xs c) (omega (arith, sequence-first a e x xs c)))
   where
-    go : (t : Bool) → usesByte (without gone xs) i ≡ false → usesByte (cond t (without gone xs) (x ∷ without gone xs)) i ≡ false
+    go : (t : Bool) → uses_byte (without gone xs) i ≡ false → uses_byte (cond t (without gone xs) (x ∷ without gone xs)) i ≡ false
     go true r = r
     go false r = rw (inside-low x i (omega (arith, sequence-first a e x xs c))) r
 
 module _ (e gone : ℕ) (new : DiscRegion) (p : ℕ → Bool) where
   -- the gap before a region, and what is behind the region
-  gap-and-rest : (at best : ℕ) (x : DiscRegion) (xs : List DiscRegion) → 0 < x.size → at ≤ x.offset → inSequence (end_of x) e xs ≡ true →
-      ((i : ℕ) → at ≤ i → p i ≡ not (inside new i || (inside x i || usesByte (without gone xs) i))) →
-      max (max best (longestBeside at x.offset new)) (largestSize (runs p (end_of x) (e - end_of x))) ≡ max best (largestSize (runs p at (e - at)))
+  gap-and-rest : (at best : ℕ) (x : DiscRegion) (xs : List DiscRegion) → 0 < x.size → at ≤ x.offset → in_sequence (end_of x) e xs ≡ true →
+      ((i : ℕ) → at ≤ i → p i ≡ not (inside new i || (inside x i || uses_byte (without gone xs) i))) →
+      max (max best (longest_beside at x.offset new)) (largest_size (runs p (end_of x) (e - end_of x))) ≡ max best (largest_size (runs p at (e - at)))
   gap-and-rest at best x xs f a c h =
       let n : e - at ≡ (x.offset - at) + (x.size + (e - end_of x)) = omega (arith, sequence-le (end_of x) e xs c) in
       let m : at + (x.offset - at) ≡ x.offset = omega arith in
@@ -71,32 +71,32 @@ module _ (e gone : ℕ) (new : DiscRegion) (p : ℕ → Bool) where
       gap : (j : ℕ) → at ≤ j → j < x.offset → p j ≡ not (inside new j)
       gap j u v = h j u ∙ rw (inside-low x j v, without-low gone (end_of x) e xs j c (omega arith)) (ap not (or-none (inside new j)))
 
-  longest-from : (at best : ℕ) (xs : List DiscRegion) → AllNonempty xs → inSequence at e xs ≡ true →
-      ((i : ℕ) → at ≤ i → p i ≡ not (inside new i || usesByte (without gone xs) i)) → longestFrom e gone new at best xs ≡ max best (largestSize (runs p at (e - at)))
-  unfolding longestFrom without usesByte
+  longest-from : (at best : ℕ) (xs : List DiscRegion) → AllNonempty xs → in_sequence at e xs ≡ true →
+      ((i : ℕ) → at ≤ i → p i ≡ not (inside new i || uses_byte (without gone xs) i)) → longest_from e gone new at best xs ≡ max best (largest_size (runs p at (e - at)))
+  unfolding longest_from without uses_byte
   longest-from at best [] f c h = ap (max best) (sym (longest-gap p at e new (λ j u v. h j u ∙ ap not (or-none (inside new j))) (sequence-le at e [] c)))
   longest-from at best (x ∷ xs) f c h =
       go (eqb x.offset gone) h
       (longest-from at best xs f.1 (sequence-earlier at (end_of x) e xs (omega (arith, sequence-first at e x xs c)) (sequence-rest at e x xs c)))
-      (longest-from (end_of x) (max best (longestBeside at x.offset new)) xs f.1 (sequence-rest at e x xs c))
+      (longest-from (end_of x) (max best (longest_beside at x.offset new)) xs f.1 (sequence-rest at e x xs c))
     where
       from : at ≤ x.offset
       from = sequence-first at e x xs c
 
-      go : (t : Bool) → ((i : ℕ) → at ≤ i → p i ≡ not (inside new i || usesByte (cond t (without gone xs) (x ∷ without gone xs)) i)) →
-          (((i : ℕ) → at ≤ i → p i ≡ not (inside new i || usesByte (without gone xs) i)) → longestFrom e gone new at best xs ≡ max best (largestSize (runs p at (e - at)))) →
-          (((i : ℕ) → end_of x ≤ i → p i ≡ not (inside new i || usesByte (without gone xs) i)) →
-          longestFrom e gone new (end_of x) (max best (longestBeside at x.offset new)) xs ≡ max (max best (longestBeside at x.offset new)) (largestSize (runs p (end_of x) (e - end_of x)))) →
-          cond t (longestFrom e gone new at best xs) (longestFrom e gone new (end_of x) (max best (longestBeside at x.offset new)) xs) ≡ max best (largestSize (runs p at (e - at)))
+      go : (t : Bool) → ((i : ℕ) → at ≤ i → p i ≡ not (inside new i || uses_byte (cond t (without gone xs) (x ∷ without gone xs)) i)) →
+          (((i : ℕ) → at ≤ i → p i ≡ not (inside new i || uses_byte (without gone xs) i)) → longest_from e gone new at best xs ≡ max best (largest_size (runs p at (e - at)))) →
+          (((i : ℕ) → end_of x ≤ i → p i ≡ not (inside new i || uses_byte (without gone xs) i)) →
+          longest_from e gone new (end_of x) (max best (longest_beside at x.offset new)) xs ≡ max (max best (longest_beside at x.offset new)) (largest_size (runs p (end_of x) (e - end_of x)))) →
+          cond t (longest_from e gone new at best xs) (longest_from e gone new (end_of x) (max best (longest_beside at x.offset new)) xs) ≡ max best (largest_size (runs p at (e - at)))
       go true g past kept = past g
       go false g past kept = kept (λ i u. g i (omega (arith, from)) ∙ rw (inside-high x i u)) ∙ gap-and-rest at best x xs f.0 from (sequence-rest at e x xs c) g
 
 -- LAW: one look along the regions finds the size of the largest run
-pub longest-runs : (e t gone : ℕ) (new : DiscRegion) (xs : List DiscRegion) (p : ℕ → Bool) → AllNonempty xs → inSequence t e xs ≡ true →
-    ((i : ℕ) → i < t → p i ≡ false) → ((i : ℕ) → t ≤ i → p i ≡ not (inside new i || usesByte (without gone xs) i)) →
-    longestFrom e gone new t 0 xs ≡ largestSize (runs p 0 e)
+pub longest-runs : (e t gone : ℕ) (new : DiscRegion) (xs : List DiscRegion) (p : ℕ → Bool) → AllNonempty xs → in_sequence t e xs ≡ true →
+    ((i : ℕ) → i < t → p i ≡ false) → ((i : ℕ) → t ≤ i → p i ≡ not (inside new i || uses_byte (without gone xs) i)) →
+    longest_from e gone new t 0 xs ≡ largest_size (runs p 0 e)
 longest-runs e t gone new xs p f c low h =
     let n : e ≡ t + (e - t) = omega (arith, sequence-le t e xs c) in
     let z : 0 + t ≡ t = omega arith in
     let s : runs p 0 (t + (e - t)) ≡ runs p t (e - t) = rw z at (runs_past p 0 t (e - t) (λ j u v. low j (omega arith))) in
-    longest-from e gone new p t 0 xs f c h ∙ omega (arith, ap largestSize (ap (runs p 0) n ∙ s))
+    longest-from e gone new p t 0 xs f c h ∙ omega (arith, ap largest_size (ap (runs p 0) n ∙ s))

@@ -1,22 +1,22 @@
 -- The marks of the blocks of 1,024 bytes that the texts of a table are cut into. Assumes nothing: these are definitions.
 use Rattle.std.specs.Prelude.{Option, Some, None, ℕ, ◌+◌, ◌*◌, ◌/◌, ◌%◌, ◌≤◌, ◌≡◌, Bool, true, false, List, length, get_or}
 use Rattle.tree.specs.Units.{units}
-use Rattle.tree.specs.Table.{every, plainUnit, safeUnit}
-use Rattle.table.specs.Inner.Texts.{textAt, cleanFrom, NoLead}
+use Rattle.tree.specs.Table.{every, plain_unit, safe_unit}
+use Rattle.table.specs.Inner.Texts.{text_at, clean_from, NoLead}
 
 -- no unit of the text at `at` is one that a name is refused for
 pub record Fit (tab : List ℕ) (at : ℕ) : Type 0 where
-  pub plain : every plainUnit (units (textAt tab at)) ≡ true
-  pub safe : every safeUnit (units (textAt tab at)) ≡ true
+  pub plain : every plain_unit (units (text_at tab at)) ≡ true
+  pub safe : every safe_unit (units (text_at tab at)) ≡ true
 
 -- the place that a mark is about: two to a block, its first byte and its second
-abbrev pub markPlace : ℕ → ℕ
-markPlace mark = 1024 * (mark / 2) + mark % 2
+abbrev pub mark_place : ℕ → ℕ
+mark_place mark = 1024 * (mark / 2) + mark % 2
 
 -- where a mark is set, the text that starts at its place is fit; a mark that is not set says nothing
 pub record Marked (tab : List ℕ) (base : ℕ) (marks : List Bool) : Type 0 where
   pub long : length marks ≡ 2048
-  pub fit : (mark : ℕ) → get_or marks mark false ≡ true → Fit tab (base + markPlace mark)
+  pub fit : (mark : ℕ) → get_or marks mark false ≡ true → Fit tab (base + mark_place mark)
 
 -- a table, and where its texts start
 pub record TextsFrom : Type 0 where
@@ -32,5 +32,5 @@ pub record HasMarks (tab : List ℕ) (base : ℕ) (marks : List Bool) : Type 0 w
 pub record Surveyed (tab : List ℕ) (base first : ℕ) (marks : Option TextsFrom) : Type 0 where
   pub near : base ≤ 196608
   pub early : NoLead tab base first
-  pub clean : marks ≡ None → cleanFrom tab base ≡ true
+  pub clean : marks ≡ None → clean_from tab base ≡ true
   pub same : (m : TextsFrom) → marks ≡ Some m → m ≡ record { table = tab; base = base }

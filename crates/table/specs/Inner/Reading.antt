@@ -4,7 +4,7 @@ use Rattle.refusal.specs.Refusal.{Verdict}
 use Rattle.std.specs.Prelude.{ℕ, zero, suc, ◌+◌, ◌-◌, ◌*◌, ◌<◌, ◌≤◌, ◌≡◌, not, List, [], ◌∷◌, length, get_or, leb, ltb}
 use Rattle.refusal.specs.declared.Refusal.TheVariants.{MissingNullTerminator, LimitOrMemory, InvalidNextIndex, InvalidNameByte, UnsafeName}
 use Rattle.refusal.specs.Refusal.{refuse, first}
-use Rattle.tree.specs.Table.{plain, safe, nameOffset, sizeOrNext, name_at, nodeAt, nodesFrom, unended, nameVerdict, nextVerdict, walk, check}
+use Rattle.tree.specs.Table.{plain, safe, name_offset, size_or_next, name_at, node_at, nodes_from, unended, name_verdict, next_verdict, walk, check}
 
 -- the table is accepted, where some number of working words is lent
 pub record Opens (tab : List ℕ) : Type 0 where
@@ -27,18 +27,18 @@ pub record Stacked (words : List ℕ) (depth : ℕ) : Type 0 where
   pub fits : depth ≤ 65
 
 -- the tests of a table of c entries after those of its entries: 8, texts and working words, then the walk
-unfoldable pub textsVerdict : List ℕ → ℕ → ℕ → Verdict
-textsVerdict tab c words =
+unfoldable pub texts_verdict : List ℕ → ℕ → ℕ → Verdict
+texts_verdict tab c words =
     refuse (unended tab c) MissingNullTerminator
     (refuse (ltb 1048576 (length tab - 12 * c)) LimitOrMemory
     (refuse (ltb words (4 * (c + 2))) LimitOrMemory
-    (refuse (leb (sizeOrNext tab 0) 0) InvalidNextIndex
-    (walk tab c (c ∷ []) 1 (nodesFrom tab c 1 (c - 1))))))
+    (refuse (leb (size_or_next tab 0) 0) InvalidNextIndex
+    (walk tab c (c ∷ []) 1 (nodes_from tab c 1 (c - 1))))))
 
 -- the walk's tests of entry k, where the directories `dirs` are open
-abbrev pub nodeVerdict : List ℕ → ℕ → List ℕ → ℕ → Verdict
-nodeVerdict tab c dirs k = first (nameVerdict tab c k (name_at tab c (nameOffset tab k))) (nextVerdict c dirs k (nodeAt tab c k))
+abbrev pub node_verdict : List ℕ → ℕ → List ℕ → ℕ → Verdict
+node_verdict tab c dirs k = first (name_verdict tab c k (name_at tab c (name_offset tab k))) (next_verdict c dirs k (node_at tab c k))
 
 -- the tests of a name's units: whether each may stand in a name, then whether the name is safe
-abbrev pub textVerdict : List ℕ → Verdict
-textVerdict nm = refuse (not (plain nm)) InvalidNameByte (refuse (not (safe nm)) UnsafeName (Ok tt))
+abbrev pub text_verdict : List ℕ → Verdict
+text_verdict nm = refuse (not (plain nm)) InvalidNameByte (refuse (not (safe nm)) UnsafeName (Ok tt))

@@ -8,8 +8,8 @@ use Rattle.tree.specs.Inner.Depths.{depth_of}
 use Rattle.tree.specs.Lookup.{components, follow}
 
 -- the components of a path behind the one that ends at e
-abbrev pub componentsAfter : List ℕ → ℕ → List (List ℕ)
-componentsAfter path e = cond (ltb e (length path)) (components (drop (e + 1) path)) []
+abbrev pub components_after : List ℕ → ℕ → List (List ℕ)
+components_after path e = cond (ltb e (length path)) (components (drop (e + 1) path)) []
 
 -- the components of the rest of a path, if any is left
 abbrev pub left_of : Option (Bor (List ℕ)) → List (List ℕ)

@@ -1,11 +1,11 @@
 -- The texts of a table and the units that a name may have, as the functions look at them. Assumes nothing: these are definitions.
 use Rattle.std.specs.Prelude.{ℕ, ◌<◌, ◌≤◌, ◌≡◌, Bool, true, false, ◌&&◌, ◌||◌, List, [], ◌∷◌, length, get_or, drop, eqb}
-use Rattle.tree.specs.Units.{leadByte, TextUnit, single, pair, units}
-use Rattle.tree.specs.Table.{every, plain_byte, safeByte, dots, upTo0}
+use Rattle.tree.specs.Units.{lead_byte, TextUnit, single, pair, units}
+use Rattle.tree.specs.Table.{every, plain_byte, safe_byte, dots, up_to0}
 
 -- the text that starts at byte `at` of a table
-abbrev pub textAt : List ℕ → ℕ → List ℕ
-textAt tab at = upTo0 (drop at tab)
+abbrev pub text_at : List ℕ → ℕ → List ℕ
+text_at tab at = up_to0 (drop at tab)
 
 -- empty, `.` or `..`
 abbrev pub nameless : List ℕ → Bool
@@ -13,27 +13,27 @@ nameless [] = true
 nameless (x ∷ xs) = dots (x ∷ xs)
 
 -- a byte that no name is refused for where it is a unit: the end of a text, or plain and safe
-abbrev pub cleanByte : ℕ → Bool
-cleanByte b = eqb b 0 || (plain_byte b && safeByte b)
+abbrev pub clean_byte : ℕ → Bool
+clean_byte b = eqb b 0 || (plain_byte b && safe_byte b)
 
-abbrev pub cleanUnit : TextUnit → Bool
-cleanUnit (single b) = cleanByte b
-cleanUnit (pair a b) = true
+abbrev pub clean_unit : TextUnit → Bool
+clean_unit (single b) = clean_byte b
+clean_unit (pair a b) = true
 
 -- the end of a text: a zero byte
-abbrev pub endUnit : TextUnit → Bool
-endUnit (single b) = eqb b 0
-endUnit (pair a b) = false
+abbrev pub end_unit : TextUnit → Bool
+end_unit (single b) = eqb b 0
+end_unit (pair a b) = false
 
 -- all bytes from `from` on, zero bytes too, cut into units from there
-unfoldable pub cleanFrom : List ℕ → ℕ → Bool
-cleanFrom tab from = every cleanUnit (units (drop from tab))
+unfoldable pub clean_from : List ℕ → ℕ → Bool
+clean_from tab from = every clean_unit (units (drop from tab))
 
 -- no lead byte stands from `from` up to `end`
 pub record NoLead (tab : List ℕ) (from end : ℕ) : Type 0 where
   pub before : from ≤ end
-  pub none : (i : ℕ) → from ≤ i → i < end → leadByte (get_or tab i 0) ≡ false
+  pub none : (i : ℕ) → from ≤ i → i < end → lead_byte (get_or tab i 0) ≡ false
 
 -- clean bytes from `from` up to `end`, which is the table's end or a byte that is not clean
 abbrev pub CleanTo : List ℕ → ℕ → ℕ → Type 0
-CleanTo tab from end = NoLead tab from end × (cleanFrom tab from ≡ cleanFrom tab end) × ((end < length tab) → cleanByte (get_or tab end 0) ≡ false)
+CleanTo tab from end = NoLead tab from end × (clean_from tab from ≡ clean_from tab end) × ((end < length tab) → clean_byte (get_or tab end 0) ≡ false)

@@ -1,6 +1,6 @@
 -- Names that no text is: those with a zero byte, since a text ends there. Assumes nothing: this is a definition.
 use Rattle.std.specs.Prelude.{ℕ, Bool, false, ◌||◌, List, [], ◌∷◌, eqb}
 
-abbrev pub hasZero : List ℕ → Bool
-hasZero [] = false
-hasZero (b ∷ s) = eqb b 0 || hasZero s
+abbrev pub has_zero : List ℕ → Bool
+has_zero [] = false
+has_zero (b ∷ s) = eqb b 0 || has_zero s

@@ -1,46 +1,46 @@
 -- The entries of a table of n entries written one after another, as the writers' contracts say it. That the whole of it is `encode` of
 -- the table's entries is a law (`Whole`). Assumes nothing: these are definitions.
 use Rattle.std.specs.Prelude.{ℕ, zero, suc, ◌+◌, ◌-◌, ◌*◌, ◌≤◌, ◌^◌, cond, List, [], ◌∷◌, ◌++◌, eqb}
-use Rattle.endian.specs.Bytes.{put, be24Bytes, be32Bytes}
-use Rattle.tree.specs.Table.{kind, nameOffset, offsetOrParent, sizeOrNext, name_at, nodeAt, nodesOf, parent_of, nodeBytes, directory}
-use Rattle.table_writing.specs.Inner.Valid.{nameSize}
+use Rattle.endian.specs.Bytes.{put, be24_bytes, be32_bytes}
+use Rattle.tree.specs.Table.{kind, name_offset, offset_or_parent, size_or_next, name_at, node_at, nodes_of, parent_of, node_bytes, directory}
+use Rattle.table_writing.specs.Inner.Valid.{name_size}
 
 -- the entry after k in its directory
-abbrev pub afterIn : List ℕ → ℕ → ℕ
-afterIn tab k = cond (eqb (kind tab k) 1) (sizeOrNext tab k) (k + 1)
+abbrev pub after_in : List ℕ → ℕ → ℕ
+after_in tab k = cond (eqb (kind tab k) 1) (size_or_next tab k) (k + 1)
 
 -- "offset or parent": a file keeps its offset, a directory gets the parent that it is nested in
 abbrev pub place_of : List ℕ → ℕ → ℕ → ℕ
-place_of tab parent k = cond (eqb (kind tab k) 0) (offsetOrParent tab k) parent
+place_of tab parent k = cond (eqb (kind tab k) 0) (offset_or_parent tab k) parent
 
 -- the record of entry k, whose name is to stand at `text`
-unfoldable pub recordAt : List ℕ → ℕ → ℕ → ℕ → ℕ → List ℕ → List ℕ
-recordAt tab n parent k text out = put out (12 * k) (nodeBytes parent (text - 12 * n) (nodeAt tab n k))
+unfoldable pub record_at : List ℕ → ℕ → ℕ → ℕ → ℕ → List ℕ → List ℕ
+record_at tab n parent k text out = put out (12 * k) (node_bytes parent (text - 12 * n) (node_at tab n k))
 
 -- its name, ended by a zero byte
-unfoldable pub putText : List ℕ → ℕ → ℕ → ℕ → List ℕ → List ℕ
-putText tab n k text out = put out text (name_at tab n (nameOffset tab k) ++ (0 ∷ []))
+unfoldable pub put_text : List ℕ → ℕ → ℕ → ℕ → List ℕ → List ℕ
+put_text tab n k text out = put out text (name_at tab n (name_offset tab k) ++ (0 ∷ []))
 
 -- m entries from k on, their names from `text` on: where the last name ends, and what is then written
-unfoldable pub textFlat : List ℕ → ℕ → ℕ → ℕ → ℕ → ℕ
-textFlat tab n zero k text = text
-textFlat tab n (suc m) k text = textFlat tab n m (k + 1) (text + nameSize tab n k + 1)
+unfoldable pub text_flat : List ℕ → ℕ → ℕ → ℕ → ℕ → ℕ
+text_flat tab n zero k text = text
+text_flat tab n (suc m) k text = text_flat tab n m (k + 1) (text + name_size tab n k + 1)
 
-unfoldable pub writeFlat : List ℕ → ℕ → ℕ → ℕ → ℕ → List ℕ → List ℕ
-writeFlat tab n zero k text out = out
-writeFlat tab n (suc m) k text out =
-    writeFlat tab n m (k + 1) (text + nameSize tab n k + 1) (putText tab n k text (recordAt tab n (parent_of (nodesOf tab) k) k text out))
+unfoldable pub write_flat : List ℕ → ℕ → ℕ → ℕ → ℕ → List ℕ → List ℕ
+write_flat tab n zero k text out = out
+write_flat tab n (suc m) k text out =
+    write_flat tab n m (k + 1) (text + name_size tab n k + 1) (put_text tab n k text (record_at tab n (parent_of (nodes_of tab) k) k text out))
 
 -- the entries from a up to b
-abbrev pub textTo : List ℕ → ℕ → ℕ → ℕ → ℕ → ℕ
-textTo tab n a b text = textFlat tab n (b - a) a text
+abbrev pub text_to : List ℕ → ℕ → ℕ → ℕ → ℕ → ℕ
+text_to tab n a b text = text_flat tab n (b - a) a text
 
-abbrev pub writeTo : List ℕ → ℕ → ℕ → ℕ → ℕ → List ℕ → List ℕ
-writeTo tab n a b text out = writeFlat tab n (b - a) a text out
+abbrev pub write_to : List ℕ → ℕ → ℕ → ℕ → ℕ → List ℕ → List ℕ
+write_to tab n a b text out = write_flat tab n (b - a) a text out
 
 -- "root name and parent 0"
-unfoldable pub rootAt : ℕ → List ℕ → List ℕ
-rootAt n out = put out 0 (nodeBytes 0 0 (directory [] n))
+unfoldable pub root_at : ℕ → List ℕ → List ℕ
+root_at n out = put out 0 (node_bytes 0 0 (directory [] n))
 
 -- names from `text` on that end at `end` stand behind the entries and fit
 pub record Room (n text end room : ℕ) : Type 0 where
@@ -49,5 +49,5 @@ pub record Room (n text end room : ℕ) : Type 0 where
   pub small : end ≤ 2 ^ 24
 
 -- the four fields of an entry
-abbrev pub recordBytes : ℕ → ℕ → ℕ → ℕ → List ℕ
-recordBytes kind o a b = kind ∷ (be24Bytes o ++ (be32Bytes a ++ be32Bytes b))
+abbrev pub record_bytes : ℕ → ℕ → ℕ → ℕ → List ℕ
+record_bytes kind o a b = kind ∷ (be24_bytes o ++ (be32_bytes a ++ be32_bytes b))

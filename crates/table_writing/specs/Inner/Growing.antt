@@ -1,25 +1,25 @@
 -- A table that grows, by what stands in its bytes. Assumes nothing: these are definitions.
 use Rattle.std.specs.Prelude.{ℕ, List, Result, Ok, Err}
 use Rattle.table_writing.specs.declared.kind.Kind.{Kind}
-use Rattle.table_writing.specs.Inner.Kind.{is_directory}
+use Rattle.table_writing.specs.Inner.Kind.{kind_is_directory}
 use Rattle.refusal.specs.declared.Refusal.{Refusal}
 use Rattle.tree.specs.Table.{Node}
 use Rattle.table_writing.specs.declared.growing.Growing.{Growing}
-use Rattle.table_writing.specs.Inner.Growth.{treeIn, added, Built}
+use Rattle.table_writing.specs.Inner.Growth.{tree_in, added, Built}
 
 -- its entries
 abbrev pub tree_of : Growing → List Node
-tree_of g = treeIn g.bytes.now g.size
+tree_of g = tree_in g.bytes.now g.size
 
 -- an answer with the size of the table for its number
-abbrev pub sizedAs : Result ℕ Refusal → ℕ → Result ℕ Refusal
-sizedAs (Ok number) size = Ok size
-sizedAs (Err cause) size = Err cause
+abbrev pub sized_as : Result ℕ Refusal → ℕ → Result ℕ Refusal
+sized_as (Ok number) size = Ok size
+sized_as (Err cause) size = Err cause
 
 -- its entries with an empty directory, or an empty file, as last child of p
 abbrev pub added_to : Growing → Kind → ℕ → List ℕ → List Node
-added_to g kind p nm = added (tree_of g) (is_directory kind) p nm
+added_to g kind p nm = added (tree_of g) (kind_is_directory kind) p nm
 
 -- the tree F stands in it afterwards, or cannot
 abbrev pub HasBuilt : Growing → Growing → List Node → Result ℕ Refusal → Type 0
-HasBuilt old new F result = Built F old.words old.bytes.now new.bytes.now (sizedAs result new.size)
+HasBuilt old new F result = Built F old.words old.bytes.now new.bytes.now (sized_as result new.size)

@@ -4,36 +4,36 @@ use Rattle.refusal.specs.declared.Refusal.{Refusal}
 use Rattle.std.specs.Prelude.{ℕ, ◌<◌, ◌≤◌, ◌≡◌, Bool, true, false, List, ltb, length, get_or, take}
 use Rattle.endian.specs.Bytes.{put}
 use Rattle.refusal.specs.declared.Refusal.TheVariants.{LimitOrMemory}
-use Rattle.tree.specs.Table.{Node, none, nodesOf, encode, limits}
+use Rattle.tree.specs.Table.{Node, none, nodes_of, encode, limits}
 use Rattle.tree.specs.Inner.WellFormed.{WellFormed}
-use Rattle.tree.specs.Lookup.{isDirectory, next_of}
-use Rattle.tree.specs.Insert.{insertAt}
-use Rattle.table_writing.specs.Inner.Inserting.{newNode}
+use Rattle.tree.specs.Lookup.{is_directory, next_of}
+use Rattle.tree.specs.Insert.{insert_at}
+use Rattle.table_writing.specs.Inner.Inserting.{new_node}
 
 -- the tree of the table that stands in the first `size` of these bytes
-unfoldable pub treeIn : List ℕ → ℕ → List Node
-treeIn bytes size = nodesOf (take size bytes)
+unfoldable pub tree_in : List ℕ → ℕ → List Node
+tree_in bytes size = nodes_of (take size bytes)
 
 -- a table written anew stands there, and passes no limit where so many words are lent
 pub record Stands (bytes : List ℕ) (size words : ℕ) : Type 0 where
-  pub well : WellFormed (treeIn bytes size)
-  pub same : take size bytes ≡ encode (treeIn bytes size)
+  pub well : WellFormed (tree_in bytes size)
+  pub same : take size bytes ≡ encode (tree_in bytes size)
   pub held : size ≤ length bytes
-  pub within : limits (treeIn bytes size) words ≡ Ok tt
+  pub within : limits (tree_in bytes size) words ≡ Ok tt
 
 -- entry p is a directory
 pub record IsDirectory (nodes : List Node) (p : ℕ) : Type 0 where
   pub inside : p < length nodes
-  pub kind : isDirectory (get_or nodes p none) ≡ true
+  pub kind : is_directory (get_or nodes p none) ≡ true
 
 -- the tree with an empty directory, or an empty file, as last child of p
 abbrev pub added : List Node → Bool → ℕ → List ℕ → List Node
-added nodes d p nm = insertAt p (newNode d nm (next_of (get_or nodes p none))) nodes
+added nodes d p nm = insert_at p (new_node d nm (next_of (get_or nodes p none))) nodes
 
 -- a new child of a directory of that depth is not too deep: "directory deeper than 64 (root 0; 9)"
-abbrev pub depthAllows : Bool → ℕ → Bool
-depthAllows true depth = ltb depth 64
-depthAllows false depth = true
+abbrev pub depth_allows : Bool → ℕ → Bool
+depth_allows true depth = ltb depth 64
+depth_allows false depth = true
 
 -- the tree F stands in the bytes, or cannot: it passes a limit (9), or its table is longer than they are (9)
 abbrev pub Built : List Node → ℕ → List ℕ → List ℕ → Result ℕ Refusal → Type 0

@@ -7,6 +7,6 @@ abbrev pub number_of : Kind → ℕ
 number_of File = 0
 number_of Directory = 1
 
-abbrev pub is_directory : Kind → Bool
-is_directory File = false
-is_directory Directory = true
+abbrev pub kind_is_directory : Kind → Bool
+kind_is_directory File = false
+kind_is_directory Directory = true

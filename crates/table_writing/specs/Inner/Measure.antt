@@ -3,9 +3,9 @@
 -- Assumes nothing: these are definitions.
 use Rattle.std.specs.Prelude.{ℕ, cond, length, ltb, Result, Ok, Err}
 use mathlib.Core.List.{List, tail}
-use Rattle.tree.specs.Table.{nodesOf, textsOf, encode}
+use Rattle.tree.specs.Table.{nodes_of, texts_of, encode}
 use Rattle.refusal.specs.declared.Refusal.{Refusal}
 use Rattle.refusal.specs.declared.Refusal.TheVariants.{LimitOrMemory}
 
-unfoldable pub measureOf : List ℕ → Result ℕ Refusal
-measureOf tab = cond (ltb 1048576 (length (textsOf (tail (nodesOf tab))))) (Err LimitOrMemory) (Ok (length (encode (nodesOf tab))))
+unfoldable pub measure_of : List ℕ → Result ℕ Refusal
+measure_of tab = cond (ltb 1048576 (length (texts_of (tail (nodes_of tab))))) (Err LimitOrMemory) (Ok (length (encode (nodes_of tab))))

@@ -7,32 +7,32 @@ use Rattle.refusal.specs.Laws.Tests.{lt-or-le}
 use Rattle.refusal.specs.declared.Refusal.TheVariants.{EntryPastTable, UnrecognizedKind, RootIsNotDirectory, MissingNullTerminator, LimitOrMemory, InvalidNextIndex, InvalidNameOffset}
 use Rattle.refusal.specs.Refusal.{refuse}
 use Rattle.refusal.specs.Laws.Chains.{refuse-passed, first-passed}
-use Rattle.tree.specs.Table.{Node, file, directory, name_of, kind, nameOffset, sizeOrNext, count, upTo0, name_at, nodeAt, nodesFrom, entryVerdict, entriesVerdict, unended, top, shut, enter, nameVerdict, nextVerdict, walk, check}
-use Rattle.table_writing.specs.Inner.Valid.{nameSize, Nests, Valid}
+use Rattle.tree.specs.Table.{Node, file, directory, name_of, kind, name_offset, size_or_next, count, up_to0, name_at, node_at, nodes_from, entry_verdict, entries_verdict, unended, top, shut, enter, name_verdict, next_verdict, walk, check}
+use Rattle.table_writing.specs.Inner.Valid.{name_size, Nests, Valid}
 
 -- ---- the first zero byte is not behind any zero byte
 
-run-le : (l : List ℕ) (j : ℕ) → get_or l j 0 ≡ 0 → length (upTo0 l) ≤ j
+run-le : (l : List ℕ) (j : ℕ) → get_or l j 0 ≡ 0 → length (up_to0 l) ≤ j
 run-le [] j e = omega arith
 run-le (zero ∷ l) j e = omega arith
 run-le (suc x ∷ l) zero e = omega (arith, e)
 run-le (suc x ∷ l) (suc j) e = omega (arith, run-le l j e)
 
-name-ends : (tab : List ℕ) (n k : ℕ) → 12 * n + nameOffset tab k < length tab → get_or tab (length tab - 1) 0 ≡ 0 → 12 * n + nameOffset tab k + nameSize tab n k < length tab
-unfolding nameSize name_at
+name-ends : (tab : List ℕ) (n k : ℕ) → 12 * n + name_offset tab k < length tab → get_or tab (length tab - 1) 0 ≡ 0 → 12 * n + name_offset tab k + name_size tab n k < length tab
+unfolding name_size name_at
 name-ends tab n k h e =
-    let at : ℕ = 12 * n + nameOffset tab k in
+    let at : ℕ = 12 * n + name_offset tab k in
     let i : at + (length tab - 1 - at) ≡ length tab - 1 = omega arith in
     let z : get_or (drop at tab) (length tab - 1 - at) 0 ≡ 0 = get_or-drop at tab (length tab - 1 - at) 0 ∙ rw i e in
     omega (arith, run-le (drop at tab) (length tab - 1 - at) z)
 
 -- ---- the entry tests
 
-entries_at : (tab : List ℕ) (k m : ℕ) → entriesVerdict tab k m ≡ Ok tt → (i : ℕ) → k ≤ i → i < k + m → (12 * i + 12 ≤ length tab) × (kind tab i ≤ 1)
-unfolding entriesVerdict entryVerdict
+entries_at : (tab : List ℕ) (k m : ℕ) → entries_verdict tab k m ≡ Ok tt → (i : ℕ) → k ≤ i → i < k + m → (12 * i + 12 ≤ length tab) × (kind tab i ≤ 1)
+unfolding entries_verdict entry_verdict
 entries_at tab k zero e i p q = absurd (omega arith)
 entries_at tab k (suc m) e i p q =
-    let f = first-passed (entryVerdict tab k) (entriesVerdict tab (suc k) m) e in
+    let f = first-passed (entry_verdict tab k) (entries_verdict tab (suc k) m) e in
     let a = refuse-passed (ltb (length tab) (12 * k + 12)) EntryPastTable (refuse (ltb 1 (kind tab k)) UnrecognizedKind (Ok tt)) f.0 in
     let b = refuse-passed (ltb 1 (kind tab k)) UnrecognizedKind (Ok tt) a.1 in
     ⊎_elim (λ (h : k < i). entries_at tab (suc k) m f.1 i (omega arith) (omega arith))
@@ -44,21 +44,21 @@ entries_at tab k (suc m) e i p q =
 -- ---- the walk
 
 pub record Step (tab : List ℕ) (c : ℕ) (dirs : List ℕ) (k : ℕ) (x : Node) (xs : List Node) : Type 0 where
-  pub name : nameOffset tab k < length tab - 12 * c
-  pub next : nextVerdict c (shut k dirs) k x ≡ Ok tt
+  pub name : name_offset tab k < length tab - 12 * c
+  pub next : next_verdict c (shut k dirs) k x ≡ Ok tt
   pub rest : walk tab c (enter (shut k dirs) x) (suc k) xs ≡ Ok tt
 
 walk_step : (tab : List ℕ) (c : ℕ) (dirs : List ℕ) (k : ℕ) (x : Node) (xs : List Node) → walk tab c dirs k (x ∷ xs) ≡ Ok tt → Step tab c dirs k x xs
-unfolding walk nameVerdict
+unfolding walk name_verdict
 walk_step tab c dirs k x xs e =
-    let a = first-passed (nameVerdict tab c k (name_of x)) _ e in
-    let b = first-passed (nextVerdict c (shut k dirs) k x) _ a.1 in
-    let d = refuse-passed (leb (length tab - 12 * c) (nameOffset tab k)) InvalidNameOffset _ a.0 in
-    record { name = leb-false (length tab - 12 * c) (nameOffset tab k) d.0; next = b.0; rest = b.1 }
+    let a = first-passed (name_verdict tab c k (name_of x)) _ e in
+    let b = first-passed (next_verdict c (shut k dirs) k x) _ a.1 in
+    let d = refuse-passed (leb (length tab - 12 * c) (name_offset tab k)) InvalidNameOffset _ a.0 in
+    record { name = leb-false (length tab - 12 * c) (name_offset tab k) d.0; next = b.0; rest = b.1 }
 
 -- what the tests of "next" say
-next-says : (c : ℕ) (dirs : List ℕ) (k : ℕ) (nm : List ℕ) (next : ℕ) → nextVerdict c dirs k (directory nm next) ≡ Ok tt → (k < next) × (next ≤ c) × (next ≤ top dirs)
-unfolding nextVerdict
+next-says : (c : ℕ) (dirs : List ℕ) (k : ℕ) (nm : List ℕ) (next : ℕ) → next_verdict c dirs k (directory nm next) ≡ Ok tt → (k < next) × (next ≤ c) × (next ≤ top dirs)
+unfolding next_verdict
 next-says c dirs k nm next e =
     let a = refuse-passed (leb next k) InvalidNextIndex _ e in
     let b = refuse-passed (ltb c next) InvalidNextIndex _ a.1 in
@@ -86,7 +86,7 @@ shut-past j n dirs h = rw (le-leb n j h)
 abbrev Under : ℕ → ℕ → List ℕ → Type 0
 Under b k dirs = (j : ℕ) → k ≤ j → j < b → top (shut j dirs) ≤ b
 
-under-step : (b c k : ℕ) (dirs : List ℕ) (x : Node) → nextVerdict c (shut k dirs) k x ≡ Ok tt → Under b k dirs → Under b (suc k) (enter (shut k dirs) x)
+under-step : (b c k : ℕ) (dirs : List ℕ) (x : Node) → next_verdict c (shut k dirs) k x ≡ Ok tt → Under b k dirs → Under b (suc k) (enter (shut k dirs) x)
 under-step b c k dirs (file nm offset size) e u j p q = rw (shut-shut k j dirs (omega arith)) (u j (omega arith) q)
 under-step b c k dirs (directory nm next) e u j p q =
     ⊎_elim
@@ -96,44 +96,44 @@ under-step b c k dirs (directory nm next) e u j p q =
     (λ (h : next ≤ j). rw (shut-past j next (shut k dirs) h, shut-shut k j dirs (omega arith)) (u j (omega arith) q))
     (lt-or-le j next)
 
-node-directory : (tab : List ℕ) (c k : ℕ) → kind tab k ≡ 1 → nodeAt tab c k ≡ directory (name_at tab c (nameOffset tab k)) (sizeOrNext tab k)
-unfolding nodeAt
+node-directory : (tab : List ℕ) (c k : ℕ) → kind tab k ≡ 1 → node_at tab c k ≡ directory (name_at tab c (name_offset tab k)) (size_or_next tab k)
+unfolding node_at
 node-directory tab c k h = rw h
 
 module _ (tab : List ℕ) (c : ℕ) where
-  step-at : (dirs : List ℕ) (k m : ℕ) → walk tab c dirs k (nodesFrom tab c k (suc m)) ≡ Ok tt → Step tab c dirs k (nodeAt tab c k) (nodesFrom tab c (suc k) m)
-  unfolding nodesFrom
-  step-at dirs k m e = walk_step tab c dirs k (nodeAt tab c k) (nodesFrom tab c (suc k) m) e
+  step-at : (dirs : List ℕ) (k m : ℕ) → walk tab c dirs k (nodes_from tab c k (suc m)) ≡ Ok tt → Step tab c dirs k (node_at tab c k) (nodes_from tab c (suc k) m)
+  unfolding nodes_from
+  step-at dirs k m e = walk_step tab c dirs k (node_at tab c k) (nodes_from tab c (suc k) m) e
 
-  says_at : (dirs : List ℕ) (k m : ℕ) → walk tab c dirs k (nodesFrom tab c k (suc m)) ≡ Ok tt → kind tab k ≡ 1 → (k < sizeOrNext tab k) × (sizeOrNext tab k ≤ c) × (sizeOrNext tab k ≤ top (shut k dirs))
+  says_at : (dirs : List ℕ) (k m : ℕ) → walk tab c dirs k (nodes_from tab c k (suc m)) ≡ Ok tt → kind tab k ≡ 1 → (k < size_or_next tab k) × (size_or_next tab k ≤ c) × (size_or_next tab k ≤ top (shut k dirs))
   says_at dirs k m e h =
-      next-says c (shut k dirs) k (name_at tab c (nameOffset tab k)) (sizeOrNext tab k) (rw (node-directory tab c k h) at (step-at dirs k m e).next)
+      next-says c (shut k dirs) k (name_at tab c (name_offset tab k)) (size_or_next tab k) (rw (node-directory tab c k h) at (step-at dirs k m e).next)
 
   -- a directory that starts before b, which is the end of an open one, ends there or before
-  bound : (b m k : ℕ) (dirs : List ℕ) → walk tab c dirs k (nodesFrom tab c k m) ≡ Ok tt → Under b k dirs → (j : ℕ) → k ≤ j → j < k + m → j < b → kind tab j ≡ 1 → sizeOrNext tab j ≤ b
+  bound : (b m k : ℕ) (dirs : List ℕ) → walk tab c dirs k (nodes_from tab c k m) ≡ Ok tt → Under b k dirs → (j : ℕ) → k ≤ j → j < k + m → j < b → kind tab j ≡ 1 → size_or_next tab j ≤ b
   bound b zero k dirs e u j p q r h = absurd (omega arith)
   bound b (suc m) k dirs e u j p q r h =
       let s = step-at dirs k m e in
       ⊎_elim
-      (λ (l : k < j). bound b m (suc k) (enter (shut k dirs) (nodeAt tab c k)) s.rest (under-step b c k dirs (nodeAt tab c k) s.next u) j (omega arith) (omega arith) r h)
+      (λ (l : k < j). bound b m (suc k) (enter (shut k dirs) (node_at tab c k)) s.rest (under-step b c k dirs (node_at tab c k) s.next u) j (omega arith) (omega arith) r h)
       (λ (l : j ≤ k).
       let i : j ≡ k = omega arith in
       let d = says_at dirs k m e (rw i at h) in
       rw i (omega (arith, d.2, u k (omega arith) (omega arith))))
       (lt-or-le k j)
 
-  nests : (m k : ℕ) (dirs : List ℕ) → k + m ≡ c → walk tab c dirs k (nodesFrom tab c k m) ≡ Ok tt → (i : ℕ) → k ≤ i → i < c → kind tab i ≡ 1 → Nests tab c i
+  nests : (m k : ℕ) (dirs : List ℕ) → k + m ≡ c → walk tab c dirs k (nodes_from tab c k m) ≡ Ok tt → (i : ℕ) → k ≤ i → i < c → kind tab i ≡ 1 → Nests tab c i
   nests zero k dirs t e i p q h = absurd (omega arith)
   nests (suc m) k dirs t e i p q h =
       let s = step-at dirs k m e in
       ⊎_elim
-      (λ (l : k < i). nests m (suc k) (enter (shut k dirs) (nodeAt tab c k)) (omega arith) s.rest i (omega arith) q h)
+      (λ (l : k < i). nests m (suc k) (enter (shut k dirs) (node_at tab c k)) (omega arith) s.rest i (omega arith) q h)
       (λ (l : i ≤ k).
       let z : k ≡ i = omega arith in
       let h' : kind tab k ≡ 1 = rw (sym z) at h in
       let d = says_at dirs k m e h' in
-      let n : ℕ = sizeOrNext tab k in
-      let w : walk tab c (n ∷ shut k dirs) (suc k) (nodesFrom tab c (suc k) m) ≡ Ok tt = rw (node-directory tab c k h') at s.rest in
+      let n : ℕ = size_or_next tab k in
+      let w : walk tab c (n ∷ shut k dirs) (suc k) (nodes_from tab c (suc k) m) ≡ Ok tt = rw (node-directory tab c k h') at s.rest in
       let r : Nests tab c k =
       record {
         later = d.0;
@@ -143,12 +143,12 @@ module _ (tab : List ℕ) (c : ℕ) where
       rw z at r)
       (lt-or-le k i)
 
-  names : (m k : ℕ) (dirs : List ℕ) → walk tab c dirs k (nodesFrom tab c k m) ≡ Ok tt → (i : ℕ) → k ≤ i → i < k + m → nameOffset tab i < length tab - 12 * c
+  names : (m k : ℕ) (dirs : List ℕ) → walk tab c dirs k (nodes_from tab c k m) ≡ Ok tt → (i : ℕ) → k ≤ i → i < k + m → name_offset tab i < length tab - 12 * c
   names zero k dirs e i p q = absurd (omega arith)
   names (suc m) k dirs e i p q =
       let s = step-at dirs k m e in
       ⊎_elim
-      (λ (l : k < i). names m (suc k) (enter (shut k dirs) (nodeAt tab c k)) s.rest i (omega arith) (omega arith))
+      (λ (l : k < i). names m (suc k) (enter (shut k dirs) (node_at tab c k)) s.rest i (omega arith) (omega arith))
       (λ (l : i ≤ k). let z : k ≡ i = omega arith in rw z at s.name)
       (lt-or-le k i)
 
@@ -164,10 +164,10 @@ pub record Tests (tab : List ℕ) : Type 0 where
   pub long : 12 ≤ length tab
   pub root : kind tab 0 ≡ 1
   pub few : count tab ≤ 16384
-  pub entries : entriesVerdict tab 1 (count tab - 1) ≡ Ok tt
+  pub entries : entries_verdict tab 1 (count tab - 1) ≡ Ok tt
   pub last : unended tab (count tab) ≡ false
-  pub reach : 0 < sizeOrNext tab 0
-  pub walked : walk tab (count tab) (count tab ∷ []) 1 (nodesFrom tab (count tab) 1 (count tab - 1)) ≡ Ok tt
+  pub reach : 0 < size_or_next tab 0
+  pub walked : walk tab (count tab) (count tab ∷ []) 1 (nodes_from tab (count tab) 1 (count tab - 1)) ≡ Ok tt
 
 tests : (tab : List ℕ) (words : ℕ) → check tab words ≡ Ok tt → Tests tab
 unfolding check
@@ -176,11 +176,11 @@ tests tab words e =
     let b = refuse-passed (ltb 1 (kind tab 0)) UnrecognizedKind _ a.1 in
     let d = refuse-passed (eqb (kind tab 0) 0) RootIsNotDirectory _ b.1 in
     let f = refuse-passed (ltb 16384 (count tab)) LimitOrMemory _ d.1 in
-    let g = first-passed (entriesVerdict tab 1 (count tab - 1)) _ f.1 in
+    let g = first-passed (entries_verdict tab 1 (count tab - 1)) _ f.1 in
     let h = refuse-passed (unended tab (count tab)) MissingNullTerminator _ g.1 in
     let i = refuse-passed (ltb 1048576 (length tab - 12 * count tab)) LimitOrMemory _ h.1 in
     let j = refuse-passed (ltb words (4 * (count tab + 2))) LimitOrMemory _ i.1 in
-    let k = refuse-passed (leb (sizeOrNext tab 0) 0) InvalidNextIndex _ j.1 in
+    let k = refuse-passed (leb (size_or_next tab 0) 0) InvalidNextIndex _ j.1 in
     let one : kind tab 0 ≤ 1 = ltb-false 1 (kind tab 0) b.0 in
     record {
       long = ltb-false (length tab) 12 a.0;
@@ -188,7 +188,7 @@ tests tab words e =
       few = ltb-false 16384 (count tab) f.0;
       entries = g.0;
       last = h.0;
-      reach = leb-false (sizeOrNext tab 0) 0 k.0;
+      reach = leb-false (size_or_next tab 0) 0 k.0;
       walked = k.1;
     }
   where
@@ -197,7 +197,7 @@ tests tab words e =
     not-zero (suc zero) p f = refl
     not-zero (suc (suc n)) p f = absurd (omega arith)
 
-counted : (tab : List ℕ) → 0 < sizeOrNext tab 0 → sizeOrNext tab 0 ≡ count tab
+counted : (tab : List ℕ) → 0 < size_or_next tab 0 → size_or_next tab 0 ≡ count tab
 unfolding count
 counted tab h = omega arith
 
@@ -205,7 +205,7 @@ last-zero : (tab : List ℕ) (c : ℕ) → unended tab c ≡ false → 12 * c < 
 unfolding unended
 last-zero tab c e h = eqb-true (get_or tab (length tab - 1) 0) 0 (ended (ltb (12 * c) (length tab)) (eqb (get_or tab (length tab - 1) 0) 0) (lt-ltb (12 * c) (length tab) h) e)
 
-root-nests : (tab : List ℕ) → sizeOrNext tab 0 ≡ count tab → 0 < count tab → walk tab (count tab) (count tab ∷ []) 1 (nodesFrom tab (count tab) 1 (count tab - 1)) ≡ Ok tt → Nests tab (count tab) 0
+root-nests : (tab : List ℕ) → size_or_next tab 0 ≡ count tab → 0 < count tab → walk tab (count tab) (count tab ∷ []) 1 (nodes_from tab (count tab) 1 (count tab - 1)) ≡ Ok tt → Nests tab (count tab) 0
 root-nests tab r some w =
     record {
       later = omega arith;
@@ -219,7 +219,7 @@ pub accepted-valid : (tab : List ℕ) (words : ℕ) → check tab words ≡ Ok t
 accepted-valid tab words e =
     let t = tests tab words e in
     let n : ℕ = count tab in
-    let r : sizeOrNext tab 0 ≡ n = counted tab t.reach in
+    let r : size_or_next tab 0 ≡ n = counted tab t.reach in
     let some : 0 < n = omega (arith, t.reach) in
     let each : (i : ℕ) → 1 ≤ i → i < n → (12 * i + 12 ≤ length tab) × (kind tab i ≤ 1) = λ i p q. entries_at tab 1 (n - 1) t.entries i p (omega arith) in
     record {

@@ -3,14 +3,14 @@ use Rattle.std.specs.Prelude.{Result, Ok, Err}
 use Rattle.std.specs.Prelude.{ℕ, suc, ◌+◌, ◌-◌, ◌<◌, ◌≤◌, min, ◌≡◌, refl, Bool, true, false, List, length, get_or, eqb}
 use Rattle.std.proofs.Common.{sym, ap, ◌∙◌, ⊎_elim, arith, eqb-true, eq-eqb, ne_eqb}
 use Rattle.std.proofs.lemmas.Bool.{eqb-false}
-use Rattle.endian.specs.Bytes.{sameBytes}
+use Rattle.endian.specs.Bytes.{same_bytes}
 use Rattle.endian.specs.Laws.Stored.{same_refl}
 use Rattle.refusal.specs.Laws.Tests.{lt-or-le, and-false}
 use Rattle.refusal.specs.declared.Refusal.{Refusal}
 use Rattle.refusal.specs.declared.Refusal.TheVariants.{NotFound}
 use Rattle.tree.specs.Table.{Node, file, directory, name_of, none, parent_of}
-use Rattle.tree.specs.Lookup.{isDirectory, next_of, childNamed, childOf}
-use Rattle.tree.specs.Insert.{earlier, later, insertAt, shifted}
+use Rattle.tree.specs.Lookup.{is_directory, next_of, child_named, child_of}
+use Rattle.tree.specs.Insert.{earlier, later, insert_at, shifted}
 use Rattle.tree.proofs.Laws.Nesting.{parent-most}
 use Rattle.tree.proofs.Laws.NestedInsert
 use Rattle.tree.proofs.Laws.InsertedList.{Nested, Fresh, name-earlier, name-later, shifted-min, q≤n, p<q, inserted-before, inserted-at, inserted-after}
@@ -39,13 +39,13 @@ shifted-same q a b = go (eqb a b) refl
     go true e = eq-eqb _ _ (ap (shifted q) (eqb-true a b e))
     go false e = ne_eqb _ _ (λ f. eqb-false a b e (back f))
 
-reaching : (x : Node) → 0 < next_of x → isDirectory x ≡ true
+reaching : (x : Node) → 0 < next_of x → is_directory x ≡ true
 reaching (file nm offset size) h = absurd (omega arith)
 reaching (directory nm next) h = refl
 
 module _ (nodes : List Node) (p q : ℕ) (nm : List ℕ) (new : Node) (w : Nested nodes) (dir : get_or nodes p none ≡ directory nm q) (p<n : p < length nodes) (fresh : Fresh q new) where
   abbrev N : List Node
-  N = insertAt p new nodes
+  N = insert_at p new nodes
 
   q≤ : q ≤ length nodes
   q≤ = q≤n nodes p q nm new w dir p<n
@@ -65,16 +65,16 @@ module _ (nodes : List Node) (p q : ℕ) (nm : List ℕ) (new : Node) (w : Neste
       ⊎_elim (λ (l : k < q). rw (shifted-low q k l, inserted-before nodes p q nm new w dir p<n k l) (name-earlier p k (get_or nodes k none)))
       (λ (l : q ≤ k). rw (shifted-high q k l, inserted-after nodes p q nm new w dir p<n k l h) (name-later (get_or nodes k none))) (lt-or-le k q)
 
-  pub kept-kind : (k : ℕ) → k < length nodes → isDirectory (get_or N (shifted q k) none) ≡ isDirectory (get_or nodes k none)
+  pub kept-kind : (k : ℕ) → k < length nodes → is_directory (get_or N (shifted q k) none) ≡ is_directory (get_or nodes k none)
   kept-kind k h =
       ⊎_elim (λ (l : k < q). rw (shifted-low q k l, inserted-before nodes p q nm new w dir p<n k l) (is-earlier p k (get_or nodes k none)))
       (λ (l : q ≤ k). rw (shifted-high q k l, inserted-after nodes p q nm new w dir p<n k l h) (is_later (get_or nodes k none))) (lt-or-le k q)
 
-  named-shifted : (d : ℕ) (name : List ℕ) (k : ℕ) → k < length nodes → childNamed N (shifted q d) name (shifted q k) ≡ childNamed nodes d name k
+  named-shifted : (d : ℕ) (name : List ℕ) (k : ℕ) → k < length nodes → child_named N (shifted q d) name (shifted q k) ≡ child_named nodes d name k
   named-shifted d name k h = rw (parent-shifted k h, shifted-same q (parent_of nodes k) d, kept-name k h)
 
   -- the new entry is no child of another directory
-  new_apart : (d : ℕ) (name : List ℕ) → (d ≡ p → ⊥) → childNamed N (shifted q d) name q ≡ false
+  new_apart : (d : ℕ) (name : List ℕ) → (d ≡ p → ⊥) → child_named N (shifted q d) name q ≡ false
   new_apart d name f = rw (parent-inserted-at nodes p q nm new w dir p<n, ne_eqb p (shifted q d) (λ e. f (back e)))
     where
       back : p ≡ shifted q d → d ≡ p
@@ -112,8 +112,8 @@ module _ (nodes : List Node) (p q : ℕ) (nm : List ℕ) (new : Node) (w : Neste
     inside-all k h = omega (arith, (w.bounds d d<n (reaching (get_or nodes d none) (omega arith))).1)
 
     -- no child with that name at j in the new tree, where there is none in the old one up to m
-    none-new : (m : ℕ) → m ≤ next_of (get_or nodes d none) → ((j : ℕ) → d < j → j < m → childNamed nodes d name j ≡ false) → (d ≡ p → ⊥) →
-        (j : ℕ) → Place q j → shifted q d < j → ((i : ℕ) → d < i → shifted q i ≡ j → i < m) → childNamed N (shifted q d) name j ≡ false
+    none-new : (m : ℕ) → m ≤ next_of (get_or nodes d none) → ((j : ℕ) → d < j → j < m → child_named nodes d name j ≡ false) → (d ≡ p → ⊥) →
+        (j : ℕ) → Place q j → shifted q d < j → ((i : ℕ) → d < i → shifted q i ≡ j → i < m) → child_named N (shifted q d) name j ≡ false
     none-new m h f apart j (before l) a b =
         let e : shifted q j ≡ j = shifted-low q j l in
         let d<j : d < j = shifted_down j (rw e a) in
@@ -127,10 +127,10 @@ module _ (nodes : List Node) (p q : ℕ) (nm : List ℕ) (new : Node) (w : Neste
         rw e at (named-shifted d name i (inside-all i (omega arith)) ∙ f i d<i i<m)
 
     -- a directory other than p has the same children
-    pub child-moved : (d ≡ p → ⊥) → childOf N (shifted q d) name ≡ moved q (childOf nodes d name)
-    child-moved apart = go (childOf nodes d name) refl
+    pub child-moved : (d ≡ p → ⊥) → child_of N (shifted q d) name ≡ moved q (child_of nodes d name)
+    child-moved apart = go (child_of nodes d name) refl
       where
-        go : (a : Result ℕ Refusal) → childOf nodes d name ≡ a → childOf N (shifted q d) name ≡ moved q a
+        go : (a : Result ℕ Refusal) → child_of nodes d name ≡ a → child_of N (shifted q d) name ≡ moved q a
         go (Ok k) e =
             let x : Child nodes d name k = child-is nodes d name k e in
             let k< : k < next_of (get_or nodes d none) = x.before in
@@ -148,7 +148,7 @@ module _ (nodes : List Node) (p q : ℕ) (nm : List ℕ) (new : Node) (w : Neste
       one : q + min 1 (q - p) ≡ suc q
       one = omega (arith, p<)
 
-  named_here : (name : List ℕ) (k : ℕ) → k < q → childNamed N p name k ≡ childNamed nodes p name k
+  named_here : (name : List ℕ) (k : ℕ) → k < q → child_named N p name k ≡ child_named nodes p name k
   named_here name k h =
       let e : shifted q p ≡ p = shifted-low q p p< in
       let f : shifted q k ≡ k = shifted-low q k h in
@@ -157,27 +157,27 @@ module _ (nodes : List Node) (p q : ℕ) (nm : List ℕ) (new : Node) (w : Neste
   old-end : next_of (get_or nodes p none) ≡ q
   old-end = rw dir
 
-  pub child-kept : (name : List ℕ) (k : ℕ) → childOf nodes p name ≡ Ok k → childOf N p name ≡ Ok k
+  pub child-kept : (name : List ℕ) (k : ℕ) → child_of nodes p name ≡ Ok k → child_of N p name ≡ Ok k
   child-kept name k e =
       let x : Child nodes p name k = child-is nodes p name k e in
       let l : k < q = omega (arith, x.before, old-end) in
       child-at N p name k x.after (omega (arith, next_here)) (named_here name k l ∙ child-named nodes p name k x) (λ j a b. named_here name j (omega arith) ∙ x.first j a b)
 
-  none_before : (name : List ℕ) (c : Refusal) → childOf nodes p name ≡ Err c → (j : ℕ) → p < j → j < q → childNamed N p name j ≡ false
+  none_before : (name : List ℕ) (c : Refusal) → child_of nodes p name ≡ Err c → (j : ℕ) → p < j → j < q → child_named N p name j ≡ false
   none_before name c e j a b = named_here name j b ∙ (child-missing nodes p name c e).1 j a (omega (arith, old-end))
 
   -- the new entry is found under its name, if no child had it
-  pub child-new : (c : Refusal) → childOf nodes p (name_of new) ≡ Err c → childOf N p (name_of new) ≡ Ok q
+  pub child-new : (c : Refusal) → child_of nodes p (name_of new) ≡ Err c → child_of N p (name_of new) ≡ Ok q
   child-new c e =
       child-at N p (name_of new) q p< (omega (arith, next_here))
       (rw (parent-inserted-at nodes p q nm new w dir p<n, inserted-at nodes p q nm new w dir p<n, eq-eqb p p refl) (same_refl (name_of new)))
       (none_before (name_of new) c e)
 
-  pub child-other : (name : List ℕ) (c : Refusal) → childOf nodes p name ≡ Err c → sameBytes (name_of new) name ≡ false → childOf N p name ≡ Err NotFound
+  pub child-other : (name : List ℕ) (c : Refusal) → child_of nodes p name ≡ Err c → same_bytes (name_of new) name ≡ false → child_of N p name ≡ Err NotFound
   child-other name c e s =
       child-none N p name (λ j a b. ⊎_elim (λ (l : j < q). none_before name c e j a l)
       (λ (l : q ≤ j). let j≡ : j ≡ q = omega (arith, next_here) in rw (j≡, inserted-at nodes p q nm new w dir p<n, s) (and-false (eqb (parent_of N q) p))) (lt-or-le j q))
 
   -- and has no children
-  pub child-empty : (name : List ℕ) → childOf N q name ≡ Err NotFound
+  pub child-empty : (name : List ℕ) → child_of N q name ≡ Err NotFound
   child-empty name = child-none N q name (λ j a b. absurd (omega (arith, new-most q new fresh, rw (inserted-at nodes p q nm new w dir p<n) at b)))

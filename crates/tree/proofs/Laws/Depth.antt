@@ -5,37 +5,37 @@ use Rattle.std.proofs.Common.{ap, ◌∙◌, arith, ltb-true, ltb-false, lt-ltb,
 use mathlib.Core.List.{List, ◌∷◌, tail}
 use Rattle.refusal.specs.declared.Refusal.TheVariants.{LimitOrMemory}
 use Rattle.refusal.specs.Refusal.{refuse}
-use Rattle.tree.specs.Table.{Node, file, directory, name_of, none, encloses, parentBelow, parent_of, textsOf, shallow, limits}
+use Rattle.tree.specs.Table.{Node, file, directory, name_of, none, encloses, parent_below, parent_of, texts_of, shallow, limits}
 use Rattle.tree.specs.Inner.WellFormed.{GoodName, WellFormed}
 use Rattle.tree.specs.Lookup.{next_of}
 use Rattle.tree.proofs.Laws.Nesting.{Inside}
 use Rattle.tree.proofs.Laws.WellNested.{parent-inside, nests, root_is}
-use Rattle.tree.specs.Inner.Depths.{openDirs, depth_of}
-use Rattle.tree.specs.Insert.{insertAt}
+use Rattle.tree.specs.Inner.Depths.{open_dirs, depth_of}
+use Rattle.tree.specs.Insert.{insert_at}
 use Rattle.tree.proofs.Laws.InsertLaws.{Fresh, length-insert, insert-shallow}
-use Rattle.tree.proofs.Laws.InsertWalk.{depthOk}
+use Rattle.tree.proofs.Laws.InsertWalk.{depth_ok}
 use Rattle.tree.proofs.Laws.Size.{texts-grow}
 
 pub depth-root : (nodes : List Node) → depth_of nodes 0 ≡ 0
-unfolding openDirs
+unfolding open_dirs
 depth-root nodes = refl
 
-open-same : (nodes : List Node) (k d i : ℕ) → ((j : ℕ) → j < i → encloses (get_or nodes j none) k ≡ encloses (get_or nodes j none) d) → openDirs nodes k i ≡ openDirs nodes d i
-unfolding openDirs
+open-same : (nodes : List Node) (k d i : ℕ) → ((j : ℕ) → j < i → encloses (get_or nodes j none) k ≡ encloses (get_or nodes j none) d) → open_dirs nodes k i ≡ open_dirs nodes d i
+unfolding open_dirs
 open-same nodes k d zero f = refl
 open-same nodes k d (suc i) f = rw (f i (omega arith), open-same nodes k d i (λ j h. f j (omega arith)))
 
 -- the innermost directory around an entry is its parent
 open-parent : (nodes : List Node) (k i : ℕ) → 0 < i → encloses (get_or nodes 0 none) k ≡ true →
-    openDirs nodes k i ≡ next_of (get_or nodes (parentBelow nodes k i) none) ∷ openDirs nodes k (parentBelow nodes k i)
-unfolding openDirs parentBelow
+    open_dirs nodes k i ≡ next_of (get_or nodes (parent_below nodes k i) none) ∷ open_dirs nodes k (parent_below nodes k i)
+unfolding open_dirs parent_below
 open-parent nodes k zero h e = absurd (omega arith)
 open-parent nodes k (suc zero) h e = rw e
 open-parent nodes k (suc (suc i)) h e = go (encloses (get_or nodes (suc i) none) k) (open-parent nodes k (suc i) (omega arith) e)
   where
-    go : (t : Bool) → openDirs nodes k (suc i) ≡ next_of (get_or nodes (parentBelow nodes k (suc i)) none) ∷ openDirs nodes k (parentBelow nodes k (suc i)) →
-        cond t (next_of (get_or nodes (suc i) none) ∷ openDirs nodes k (suc i)) (openDirs nodes k (suc i)) ≡
-        next_of (get_or nodes (cond t (suc i) (parentBelow nodes k (suc i))) none) ∷ openDirs nodes k (cond t (suc i) (parentBelow nodes k (suc i)))
+    go : (t : Bool) → open_dirs nodes k (suc i) ≡ next_of (get_or nodes (parent_below nodes k (suc i)) none) ∷ open_dirs nodes k (parent_below nodes k (suc i)) →
+        cond t (next_of (get_or nodes (suc i) none) ∷ open_dirs nodes k (suc i)) (open_dirs nodes k (suc i)) ≡
+        next_of (get_or nodes (cond t (suc i) (parent_below nodes k (suc i))) none) ∷ open_dirs nodes k (cond t (suc i) (parent_below nodes k (suc i)))
     go true ih = refl
     go false ih = ih
 
@@ -62,24 +62,24 @@ depth-parent nodes k w h l = go (get_or nodes (parent_of nodes k) none) refl (pa
     root-around : encloses (get_or nodes 0 none) k ≡ true
     root-around = rw (root_is nodes w) (lt-ltb k (length nodes) l)
 
-    go : (x : Node) → get_or nodes (parentBelow nodes k k) none ≡ x → Inside nodes (parentBelow nodes k k) k → depth_of nodes k ≡ suc (depth_of nodes (parentBelow nodes k k))
+    go : (x : Node) → get_or nodes (parent_below nodes k k) none ≡ x → Inside nodes (parent_below nodes k k) k → depth_of nodes k ≡ suc (depth_of nodes (parent_below nodes k k))
     go (file a b c) e i =
         let z : false ≡ true = rw e at i.1 in
         let n : ◌≡◌ {A = ℕ} 0 1 = cc in
         absurd (omega arith)
     go (directory nm n) e i =
-        let d : ℕ = parentBelow nodes k k in
+        let d : ℕ = parent_below nodes k k in
         let b : k < n = ltb-true k n (rw e at i.1) in
         ap length (open-parent nodes k k h root-around ∙ ap (λ (s : List ℕ). next_of (get_or nodes d none) ∷ s) (open-same nodes k d d (around-both nodes d k n nm w e i.0 b l)))
 
 -- ---- the limits of a tree with one entry more
 
 pub limits-insert : (nodes : List Node) (p q : ℕ) (nm : List ℕ) (new : Node) (words : ℕ) → WellFormed nodes → get_or nodes p none ≡ directory nm q → p < length nodes → GoodName (name_of new) → Fresh q new →
-    limits (insertAt p new nodes) words ≡
+    limits (insert_at p new nodes) words ≡
     refuse (ltb 16384 (suc (length nodes))) LimitOrMemory
-    (refuse (ltb 1048576 (length (textsOf (tail nodes)) + suc (length (name_of new)))) LimitOrMemory
+    (refuse (ltb 1048576 (length (texts_of (tail nodes)) + suc (length (name_of new)))) LimitOrMemory
     (refuse (ltb words (4 * (suc (length nodes) + 2))) LimitOrMemory
-    (refuse (not (depthOk (suc (depth_of nodes p)) new && shallow nodes)) LimitOrMemory (Ok tt))))
+    (refuse (not (depth_ok (suc (depth_of nodes p)) new && shallow nodes)) LimitOrMemory (Ok tt))))
 unfolding limits
 limits-insert nodes p q nm new words w here p<n named fresh =
     rw (length-insert nodes p q nm new w here p<n, texts-grow nodes p q nm new w here p<n, insert-shallow nodes p q nm new w here p<n named fresh)

@@ -2,23 +2,23 @@
 use Rattle.std.specs.Prelude.{ℕ, zero, suc, ◌+◌, ◌-◌, ◌<◌, ◌≤◌, ◌≡◌, refl, ◌&&◌, length, get_or}
 use Rattle.std.proofs.Common.{zero-le, sym, ap, ◌∙◌, arith, le-leb}
 use mathlib.Core.List.{List, [], ◌∷◌, tail}
-use Rattle.tree.specs.Table.{Node, directory, name_of, none, parent_of, shallowFrom, shallow}
+use Rattle.tree.specs.Table.{Node, directory, name_of, none, parent_of, shallow_from, shallow}
 use Rattle.tree.specs.Inner.WellFormed.{GoodName, GoodEntry, Sound, WellFormed}
 use Rattle.tree.specs.Lookup.{next_of}
-use Rattle.tree.specs.Insert.{bump, earlier, later, splice, insertAt, shifted}
+use Rattle.tree.specs.Insert.{bump, earlier, later, splice, insert_at, shifted}
 pub use Rattle.tree.proofs.Laws.InsertedList.{Fresh, bump-min, shifted-min, name-earlier, name-later}
 use Rattle.tree.proofs.Laws.InsertedList.{well-nested, length-splice, length_inserted, inserted-before, inserted-at, inserted-after}
 use Rattle.tree.proofs.Laws.InsertedParents.{parent-inserted-before, parent-inserted-at, parent-inserted-after}
 use Rattle.tree.proofs.Laws.OpenDirectories.{open_at, sound-at, stack_is}
-use Rattle.tree.specs.Inner.Depths.{openDirs, depth_of}
-use Rattle.tree.proofs.Laws.InsertWalk.{sound-between, sound-before, depthOk}
+use Rattle.tree.specs.Inner.Depths.{open_dirs, depth_of}
+use Rattle.tree.proofs.Laws.InsertWalk.{sound-between, sound-before, depth_ok}
 
 -- ---- the tree stays well-formed, and only the new entry can be too deep
 
 -- the depth of entry p by the walk's stack, where the entries past the root are xs
-abbrev stackDepth : ℕ → List Node → ℕ → ℕ
-stackDepth c xs zero = 0
-stackDepth c xs (suc i) = length (open_at (c ∷ []) 1 xs i)
+abbrev stack_depth : ℕ → List Node → ℕ → ℕ
+stack_depth c xs zero = 0
+stack_depth c xs (suc i) = length (open_at (c ∷ []) 1 xs i)
 
 record Kept (c p q : ℕ) (new : Node) (xs : List Node) : Type 0 where
   j : ℕ
@@ -26,7 +26,7 @@ record Kept (c p q : ℕ) (new : Node) (xs : List Node) : Type 0 where
   inside : j ≤ length xs
   raised : bump p c ≡ suc c
   sound : Sound (suc c) (suc c ∷ []) 1 (splice p new 1 j xs)
-  depth : shallowFrom (suc c ∷ []) 1 (splice p new 1 j xs) ≡ (depthOk (suc (stackDepth c xs p)) new && shallowFrom (c ∷ []) 1 xs)
+  depth : shallow_from (suc c ∷ []) 1 (splice p new 1 j xs) ≡ (depth_ok (suc (stack_depth c xs p)) new && shallow_from (c ∷ []) 1 xs)
 
 kept : (c p q : ℕ) (nm : List ℕ) (new : Node) (xs : List Node) → c ≡ suc (length xs) →
     Sound c (c ∷ []) 1 xs → get_or (directory [] c ∷ xs) p none ≡ directory nm q → p < c → GoodName (name_of new) → Fresh q new → Kept c p q new xs
@@ -42,8 +42,8 @@ kept c (suc i) q nm new xs l g e h named f =
     record { j = q - 1; next = omega arith; inside = omega arith; raised = b; sound = rw b at s.0; depth = rw b at s.1 }
 
 kept_whole : (c p q : ℕ) (nm : List ℕ) (new : Node) (xs : List Node) → c ≡ suc (length xs) → get_or (directory [] c ∷ xs) p none ≡ directory nm q → Kept c p q new xs →
-    WellFormed (insertAt p new (directory [] c ∷ xs)) × (shallow (insertAt p new (directory [] c ∷ xs)) ≡ (depthOk (suc (stackDepth c xs p)) new && shallow (directory [] c ∷ xs)))
-unfolding insertAt splice shallow
+    WellFormed (insert_at p new (directory [] c ∷ xs)) × (shallow (insert_at p new (directory [] c ∷ xs)) ≡ (depth_ok (suc (stack_depth c xs p)) new && shallow (directory [] c ∷ xs)))
+unfolding insert_at splice shallow
 kept_whole c p q nm new xs l e s =
     let len : suc (length (splice p new 1 s.j xs)) ≡ suc c = rw (length-splice p new 1 s.j xs s.inside, ← l) in
     rw (e, s.next) (
@@ -51,13 +51,13 @@ kept_whole c p q nm new xs l e s =
       rw (len, ← l) s.depth,
     )
 
-depth_is : (nodes : List Node) (p : ℕ) → WellFormed nodes → p < length nodes → depth_of nodes p ≡ stackDepth (length nodes) (tail nodes) p
-unfolding openDirs
+depth_is : (nodes : List Node) (p : ℕ) → WellFormed nodes → p < length nodes → depth_of nodes p ≡ stack_depth (length nodes) (tail nodes) p
+unfolding open_dirs
 depth_is nodes zero w h = refl
 depth_is nodes (suc i) w h = ap length (stack_is nodes w i h)
 
 insert-whole : (nodes : List Node) (p q : ℕ) (nm : List ℕ) (new : Node) → WellFormed nodes → get_or nodes p none ≡ directory nm q → p < length nodes → GoodName (name_of new) → Fresh q new →
-    WellFormed (insertAt p new nodes) × (shallow (insertAt p new nodes) ≡ (depthOk (suc (depth_of nodes p)) new && shallow nodes))
+    WellFormed (insert_at p new nodes) × (shallow (insert_at p new nodes) ≡ (depth_ok (suc (depth_of nodes p)) new && shallow nodes))
 insert-whole [] p q nm new w e h named f = absurd (omega arith)
 insert-whole (r ∷ xs) p q nm new w e h named f =
     let c : ℕ = suc (length xs) in
@@ -66,35 +66,35 @@ insert-whole (r ∷ xs) p q nm new w e h named f =
     rw (depth_is (r ∷ xs) p w h, r≡) (kept_whole c p q nm new xs refl e' (kept c p q nm new xs refl w.sound e' h named f))
 
 pub insert-sound : (nodes : List Node) (p q : ℕ) (nm : List ℕ) (new : Node) → WellFormed nodes → get_or nodes p none ≡ directory nm q → p < length nodes → GoodName (name_of new) → Fresh q new →
-    WellFormed (insertAt p new nodes)
+    WellFormed (insert_at p new nodes)
 insert-sound nodes p q nm new w e h named f = (insert-whole nodes p q nm new w e h named f).0
 
 pub insert-shallow : (nodes : List Node) (p q : ℕ) (nm : List ℕ) (new : Node) → WellFormed nodes → get_or nodes p none ≡ directory nm q → p < length nodes → GoodName (name_of new) → Fresh q new →
-    shallow (insertAt p new nodes) ≡ (depthOk (suc (depth_of nodes p)) new && shallow nodes)
+    shallow (insert_at p new nodes) ≡ (depth_ok (suc (depth_of nodes p)) new && shallow nodes)
 insert-shallow nodes p q nm new w e h named f = (insert-whole nodes p q nm new w e h named f).1
 
 -- ---- the new list by numbers; p is a directory with next q
 
 module _ (nodes : List Node) (p q : ℕ) (nm : List ℕ) (new : Node) (w : WellFormed nodes) (here : get_or nodes p none ≡ directory nm q) (p<n : p < length nodes) where
-  pub length-insert : length (insertAt p new nodes) ≡ suc (length nodes)
+  pub length-insert : length (insert_at p new nodes) ≡ suc (length nodes)
   length-insert = length_inserted nodes p q nm new (well-nested nodes w) here p<n
 
   -- entry k, before the new one; the new one; and entry k, which comes after it
-  pub insert-before : (k : ℕ) → k < q → get_or (insertAt p new nodes) k none ≡ earlier p k (get_or nodes k none)
+  pub insert-before : (k : ℕ) → k < q → get_or (insert_at p new nodes) k none ≡ earlier p k (get_or nodes k none)
   insert-before = inserted-before nodes p q nm new (well-nested nodes w) here p<n
 
-  pub insert-at : get_or (insertAt p new nodes) q none ≡ new
+  pub insert-at : get_or (insert_at p new nodes) q none ≡ new
   insert-at = inserted-at nodes p q nm new (well-nested nodes w) here p<n
 
-  pub insert-after : (k : ℕ) → q ≤ k → k < length nodes → get_or (insertAt p new nodes) (suc k) none ≡ later (get_or nodes k none)
+  pub insert-after : (k : ℕ) → q ≤ k → k < length nodes → get_or (insert_at p new nodes) (suc k) none ≡ later (get_or nodes k none)
   insert-after = inserted-after nodes p q nm new (well-nested nodes w) here p<n
 
   -- their parents
-  pub parent-insert-before : (k : ℕ) → k < q → parent_of (insertAt p new nodes) k ≡ parent_of nodes k
+  pub parent-insert-before : (k : ℕ) → k < q → parent_of (insert_at p new nodes) k ≡ parent_of nodes k
   parent-insert-before = parent-inserted-before nodes p q nm new (well-nested nodes w) here p<n
 
-  pub parent-insert-at : parent_of (insertAt p new nodes) q ≡ p
+  pub parent-insert-at : parent_of (insert_at p new nodes) q ≡ p
   parent-insert-at = parent-inserted-at nodes p q nm new (well-nested nodes w) here p<n
 
-  pub parent-insert-after : Fresh q new → (k : ℕ) → q ≤ k → k < length nodes → parent_of (insertAt p new nodes) (suc k) ≡ shifted q (parent_of nodes k)
+  pub parent-insert-after : Fresh q new → (k : ℕ) → q ≤ k → k < length nodes → parent_of (insert_at p new nodes) (suc k) ≡ shifted q (parent_of nodes k)
   parent-insert-after = parent-inserted-after nodes p q nm new (well-nested nodes w) here p<n

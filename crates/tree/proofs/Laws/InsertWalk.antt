@@ -7,7 +7,7 @@ use mathlib.Core.List.{List, [], ◌∷◌, ◌++◌, map}
 use native.Mathlib.Omega.{arith}
 use Rattle.std.proofs.lemmas.Bool.{lt-leb}
 use Rattle.std.proofs.lemmas.List.{length-map}
-use Rattle.tree.specs.Table.{Node, file, directory, name_of, none, top, shut, enter, shallowEntry, shallowFrom}
+use Rattle.tree.specs.Table.{Node, file, directory, name_of, none, top, shut, enter, shallow_entry, shallow_from}
 use Rattle.tree.specs.Inner.WellFormed.{GoodName, GoodEntry, Sound}
 use Rattle.tree.specs.Insert.{bump, earlier, later, splice}
 use Rattle.tree.proofs.Laws.Steps.{shut_open, shut-pop}
@@ -15,9 +15,9 @@ pub use Rattle.tree.proofs.Laws.InsertedList.{Fresh, bump-min, shifted-min, name
 use Rattle.tree.proofs.Laws.OpenDirectories.{open_at}
 
 -- a directory at depth d is not too deep
-abbrev pub depthOk : ℕ → Node → Bool
-depthOk d (file nm offset size) = true
-depthOk d (directory nm next) = leb d 64
+abbrev pub depth_ok : ℕ → Node → Bool
+depth_ok d (file nm offset size) = true
+depth_ok d (directory nm next) = leb d 64
 
 and-swap : (a b c : Bool) → (a && (b && c)) ≡ (b && (a && c))
 and-swap true b c = refl
@@ -123,7 +123,7 @@ module _ (p : ℕ) where
   enter-after c k s t (directory nm next) h g = ap (λ (n : ℕ). n ∷ map (bump p) s) (omega (arith, bump-min p next))
 
   -- the same depth
-  same_length : (s s' : List ℕ) (x : Node) → length s' ≡ length s → (shallowEntry s' (later x) ≡ shallowEntry s x) × ((k : ℕ) → shallowEntry s' (earlier p k x) ≡ shallowEntry s x)
+  same_length : (s s' : List ℕ) (x : Node) → length s' ≡ length s → (shallow_entry s' (later x) ≡ shallow_entry s x) × ((k : ℕ) → shallow_entry s' (earlier p k x) ≡ shallow_entry s x)
   same_length s s' (file nm offset size) e = (refl, λ k. refl)
   same_length s s' (directory nm next) e = (rw e, λ k. rw e)
 
@@ -132,8 +132,8 @@ module _ (p : ℕ) where
   enter-between k s (directory nm next) h = rw (lt-leb k p h)
 
   sound-after : (c k : ℕ) (dirs dirs' : List ℕ) (xs : List Node) → p < k → shut (suc k) dirs' ≡ map (bump p) (shut k dirs) → Sound c dirs k xs →
-      Sound (suc c) dirs' (suc k) (map later xs) × (shallowFrom dirs' (suc k) (map later xs) ≡ shallowFrom dirs k xs)
-  unfolding shallowFrom
+      Sound (suc c) dirs' (suc k) (map later xs) × (shallow_from dirs' (suc k) (map later xs) ≡ shallow_from dirs k xs)
+  unfolding shallow_from
   sound-after c k dirs dirs' [] h e g = (tt, refl)
   sound-after c k dirs dirs' (x ∷ xs) h e g =
       let ih = sound-after c (suc k) (enter (shut k dirs) x) (map (bump p) (enter (shut k dirs) x)) xs (omega arith) (after-shut (suc k) _ (omega arith)) g.2 in
@@ -165,14 +165,14 @@ module _ (p : ℕ) where
     length-between : (ds : List ℕ) → length (ds ++ (suc q ∷ map (bump p) up)) ≡ length (ds ++ (q ∷ up))
     length-between ds = simp (length-append, length-map)
 
-    depth-new : (new' : Node) → shallowEntry (suc q ∷ map (bump p) up) new' ≡ depthOk (suc (length up)) new'
+    depth-new : (new' : Node) → shallow_entry (suc q ∷ map (bump p) up) new' ≡ depth_ok (suc (length up)) new'
     depth-new (file nm offset size) = refl
     depth-new (directory nm next) = rw (length-map up (bump p))
 
     pub sound-between : (j k : ℕ) (ds : List ℕ) (xs : List Node) → k + j ≡ q → p < k → k + length xs ≡ c → AllLe q ds →
         Sound c (ds ++ (q ∷ up)) k xs → Sound (suc c) (ds ++ (suc q ∷ map (bump p) up)) k (splice p new k j xs) ×
-        (shallowFrom (ds ++ (suc q ∷ map (bump p) up)) k (splice p new k j xs) ≡ (depthOk (suc (length up)) new && shallowFrom (ds ++ (q ∷ up)) k xs))
-    unfolding splice shallowFrom
+        (shallow_from (ds ++ (suc q ∷ map (bump p) up)) k (splice p new k j xs) ≡ (depth_ok (suc (length up)) new && shallow_from (ds ++ (q ∷ up)) k xs))
+    unfolding splice shallow_from
     sound-between zero k ds xs e h l d g =
         let k≡q : k ≡ q = omega arith in
         let s : shut q (ds ++ (suc q ∷ map (bump p) up)) ≡ suc q ∷ map (bump p) up = shut-past q ds _ d ∙ shut_open q (suc q) _ (omega arith) in
@@ -196,15 +196,15 @@ module _ (p : ℕ) where
           ih.1,
           (same_length (shut k ds ++ (q ∷ up)) (shut k ds ++ (suc q ∷ map (bump p) up)) x (length-between (shut k ds))).1 k,
         )
-        ((g.0, good-between k (shut k ds) x h g₁, ih.0), and-swap (shallowEntry (shut k ds ++ (q ∷ up)) x) (depthOk (suc (length up)) new) _)
+        ((g.0, good-between k (shut k ds) x h g₁, ih.0), and-swap (shallow_entry (shut k ds ++ (q ∷ up)) x) (depth_ok (suc (length up)) new) _)
 
   -- ---- the entries up to p
   module _ (c q : ℕ) (nm : List ℕ) (new : Node) (p<q : p < q) (q≤c : q ≤ c) (named : GoodName (name_of new)) (fresh : Fresh q new) where
     pub sound-before : (i j k : ℕ) (dirs : List ℕ) (xs : List Node) → k + i ≡ p → k + j ≡ q → k + length xs ≡ c →
         get_or xs i none ≡ directory nm q → i < length xs → Sound c dirs k xs →
         Sound (suc c) (map (bump p) dirs) k (splice p new k j xs) ×
-        (shallowFrom (map (bump p) dirs) k (splice p new k j xs) ≡ (depthOk (suc (length (open_at dirs k xs i))) new && shallowFrom dirs k xs))
-    unfolding splice open_at shallowFrom
+        (shallow_from (map (bump p) dirs) k (splice p new k j xs) ≡ (depth_ok (suc (length (open_at dirs k xs i))) new && shallow_from dirs k xs))
+    unfolding splice open_at shallow_from
     sound-before i zero k dirs xs e₁ e₂ l x h g = absurd (omega arith)
     sound-before i (suc j) k dirs [] e₁ e₂ l x h g = absurd (omega arith)
     sound-before zero (suc j) k dirs (y ∷ xs) e₁ e₂ l x h g =
@@ -213,11 +213,11 @@ module _ (p : ℕ) where
         let f = sound-between c q new (shut k dirs) p<q q≤c named fresh j (suc k) [] xs (omega arith) (omega arith) (omega arith) tt g₂ in
         rw (before-shut k dirs (omega arith), name-earlier p k y, (same_length (shut k dirs) (map (bump p) (shut k dirs)) y (length-map (shut k dirs) (bump p))).1 k, enter-before k (shut k dirs) y (omega arith)) (
           (g.0, good-before c k (shut k dirs) y (omega arith) g.1, rw (x, b) f.0),
-          rw (x, b, f.1) (and-swap (shallowEntry (shut k dirs) (directory nm q)) (depthOk (suc (length (shut k dirs))) new) _),
+          rw (x, b, f.1) (and-swap (shallow_entry (shut k dirs) (directory nm q)) (depth_ok (suc (length (shut k dirs))) new) _),
         )
     sound-before (suc i) (suc j) k dirs (y ∷ xs) e₁ e₂ l x h g =
         let ih = sound-before i j (suc k) (enter (shut k dirs) y) xs (omega arith) (omega arith) (omega arith) x (omega arith) g.2 in
         rw (before-shut k dirs (omega arith), name-earlier p k y, (same_length (shut k dirs) (map (bump p) (shut k dirs)) y (length-map (shut k dirs) (bump p))).1 k, enter-before k (shut k dirs) y (omega arith), ih.1) (
           (g.0, good-before c k (shut k dirs) y (omega arith) g.1, ih.0),
-          and-swap (shallowEntry (shut k dirs) y) (depthOk (suc (length (open_at (enter (shut k dirs) y) (suc k) xs i))) new) _,
+          and-swap (shallow_entry (shut k dirs) y) (depth_ok (suc (length (open_at (enter (shut k dirs) y) (suc k) xs i))) new) _,
         )

@@ -4,20 +4,20 @@ use Rattle.std.proofs.Common.{sym, ap, arith, add-zero, ltb-true, leb-true, leb-
 use Rattle.std.proofs.lemmas.List.{length-map}
 use Rattle.tree.specs.Table.{Node, file, directory, name_of, none, encloses}
 use Rattle.tree.specs.Inner.WellFormed.{WellFormed}
-use Rattle.tree.specs.Lookup.{isDirectory, next_of}
-use Rattle.tree.specs.Insert.{bump, earlier, later, splice, insertAt, shifted}
+use Rattle.tree.specs.Lookup.{is_directory, next_of}
+use Rattle.tree.specs.Insert.{bump, earlier, later, splice, insert_at, shifted}
 use Rattle.tree.proofs.Laws.Nesting.{Inside}
 use Rattle.tree.proofs.Laws.WellNested.{next-bounds, nests}
 
 -- directories nest: each ends behind it, and where the directories around it end or before
 pub record Nested (nodes : List Node) : Type 0 where
-  pub bounds : (k : ℕ) → k < length nodes → isDirectory (get_or nodes k none) ≡ true → (k < next_of (get_or nodes k none)) × (next_of (get_or nodes k none) ≤ length nodes)
+  pub bounds : (k : ℕ) → k < length nodes → is_directory (get_or nodes k none) ≡ true → (k < next_of (get_or nodes k none)) × (next_of (get_or nodes k none) ≤ length nodes)
   pub inside : (d k : ℕ) → Inside nodes d k → k < length nodes → next_of (get_or nodes k none) ≤ next_of (get_or nodes d none)
 
 pub well-nested : (nodes : List Node) → WellFormed nodes → Nested nodes
 well-nested nodes w = record { bounds = λ k h d. bounds k h (get_or nodes k none) refl d; inside = λ d k i h. inside d k i h (get_or nodes k none) refl }
   where
-    bounds : (k : ℕ) → k < length nodes → (x : Node) → get_or nodes k none ≡ x → isDirectory x ≡ true → (k < next_of (get_or nodes k none)) × (next_of (get_or nodes k none) ≤ length nodes)
+    bounds : (k : ℕ) → k < length nodes → (x : Node) → get_or nodes k none ≡ x → is_directory x ≡ true → (k < next_of (get_or nodes k none)) × (next_of (get_or nodes k none) ≤ length nodes)
     bounds k h (file nm a b) e d = let z : ◌≡◌ {A = ℕ} 0 1 = cc in absurd (omega arith)
     bounds k h (directory nm n) e d = rw e (next-bounds nodes k n nm w e h)
 
@@ -108,19 +108,19 @@ module _ (nodes : List Node) (p q : ℕ) (nm : List ℕ) (new : Node) (w : Neste
   pub p<q : p < q
   p<q = rw here at (w.bounds p p<n (rw here)).0
 
-  is-splice : insertAt p new nodes ≡ splice p new 0 q nodes
-  unfolding insertAt
+  is-splice : insert_at p new nodes ≡ splice p new 0 q nodes
+  unfolding insert_at
   is-splice = rw here
 
-  pub length_inserted : length (insertAt p new nodes) ≡ suc (length nodes)
+  pub length_inserted : length (insert_at p new nodes) ≡ suc (length nodes)
   length_inserted = rw is-splice (length-splice p new 0 q nodes q≤n)
 
   -- entry k, before the new one; the new one; and entry k, which comes after it
-  pub inserted-before : (k : ℕ) → k < q → get_or (insertAt p new nodes) k none ≡ earlier p k (get_or nodes k none)
+  pub inserted-before : (k : ℕ) → k < q → get_or (insert_at p new nodes) k none ≡ earlier p k (get_or nodes k none)
   inserted-before k h = rw (is-splice, splice-before p new 0 q nodes k h q≤n) (ap (λ (m : ℕ). earlier p m (get_or nodes k none)) (omega arith))
 
-  pub inserted-at : get_or (insertAt p new nodes) q none ≡ new
+  pub inserted-at : get_or (insert_at p new nodes) q none ≡ new
   inserted-at = rw is-splice (splice_at p new 0 q nodes q≤n)
 
-  pub inserted-after : (k : ℕ) → q ≤ k → k < length nodes → get_or (insertAt p new nodes) (suc k) none ≡ later (get_or nodes k none)
+  pub inserted-after : (k : ℕ) → q ≤ k → k < length nodes → get_or (insert_at p new nodes) (suc k) none ≡ later (get_or nodes k none)
   inserted-after k h l = rw is-splice (splice-after p new 0 q nodes k h l)

@@ -2,16 +2,16 @@
 use Rattle.std.specs.Prelude.{ℕ, zero, suc, ◌<◌, ◌≤◌, ◌≡◌, refl, Bool, true, false, cond, List, length, get_or, leb, ltb}
 use Rattle.std.proofs.Common.{sym, ap, ◌∙◌, arith, ltb-true, leb-true, leb-false, ltb-false, le-leb, lt-ltb, le-ltb}
 use Rattle.std.proofs.lemmas.Bool.{lt-leb}
-use Rattle.tree.specs.Table.{Node, file, directory, none, encloses, parentBelow, parent_of}
+use Rattle.tree.specs.Table.{Node, file, directory, none, encloses, parent_below, parent_of}
 use Rattle.tree.specs.Lookup.{next_of}
-use Rattle.tree.specs.Insert.{bump, earlier, later, insertAt, shifted}
+use Rattle.tree.specs.Insert.{bump, earlier, later, insert_at, shifted}
 use Rattle.tree.proofs.Laws.Nesting.{parent-step, parent-lower, below-lt, parent_is, ended}
 use Rattle.tree.proofs.Laws.InsertedList.{Nested, encloses-is, Fresh, bump-min, shifted-min, ltb-suc, q≤n, p<q, inserted-before, inserted-at, inserted-after}
 
 -- ---- every other entry keeps its parent
 
-below-same : (a b : List Node) (k m i : ℕ) → ((j : ℕ) → j < i → encloses (get_or a j none) k ≡ encloses (get_or b j none) m) → parentBelow a k i ≡ parentBelow b m i
-unfolding parentBelow
+below-same : (a b : List Node) (k m i : ℕ) → ((j : ℕ) → j < i → encloses (get_or a j none) k ≡ encloses (get_or b j none) m) → parent_below a k i ≡ parent_below b m i
+unfolding parent_below
 below-same a b k m zero f = refl
 below-same a b k m (suc i) f = rw (f i (omega arith), below-same a b k m i (λ j h. f j (omega arith)))
 
@@ -67,14 +67,14 @@ module _ (nodes : List Node) (p q : ℕ) (nm : List ℕ) (new : Node) (w : Neste
   pub between : (j : ℕ) → p < j → j < q → next_of (get_or nodes j none) ≤ q
   between j h l = rw here at (w.inside p j (h, rw here (lt-ltb j q l)) (omega (arith, q≤n nodes p q nm new w here p<n)))
 
-  pub encl-before : (k : ℕ) → k < q → (j : ℕ) → j < k → encloses (get_or (insertAt p new nodes) j none) k ≡ encloses (get_or nodes j none) k
+  pub encl-before : (k : ℕ) → k < q → (j : ℕ) → j < k → encloses (get_or (insert_at p new nodes) j none) k ≡ encloses (get_or nodes j none) k
   encl-before k h j l = rw (inserted-before nodes p q nm new w here p<n j (omega arith)) (go (leb j p) refl)
     where
       go : (t : Bool) → leb j p ≡ t → encloses (earlier p j (get_or nodes j none)) k ≡ encloses (get_or nodes j none) k
       go true e = up-before p q j k (get_or nodes j none) (leb-true j p e) h (around j (leb-true j p e))
       go false e = between-same p j k (get_or nodes j none) (leb-false j p e)
 
-  pub encl-after : (k : ℕ) → q ≤ k → (j : ℕ) → j < q → encloses (get_or (insertAt p new nodes) j none) (suc k) ≡ encloses (get_or nodes j none) k
+  pub encl-after : (k : ℕ) → q ≤ k → (j : ℕ) → j < q → encloses (get_or (insert_at p new nodes) j none) (suc k) ≡ encloses (get_or nodes j none) k
   encl-after k h j l = rw (inserted-before nodes p q nm new w here p<n j l) (go (leb j p) refl)
     where
       go : (t : Bool) → leb j p ≡ t → encloses (earlier p j (get_or nodes j none)) (suc k) ≡ encloses (get_or nodes j none) k
@@ -83,20 +83,20 @@ module _ (nodes : List Node) (p q : ℕ) (nm : List ℕ) (new : Node) (w : Neste
           let b : next_of (get_or nodes j none) ≤ q = between j (leb-false j p e) l in
           between-same p j (suc k) (get_or nodes j none) (leb-false j p e) ∙ ended (suc k) (get_or nodes j none) (omega arith) ∙ sym (ended k (get_or nodes j none) (omega arith))
 
-  pub parent-inserted-before : (k : ℕ) → k < q → parent_of (insertAt p new nodes) k ≡ parent_of nodes k
+  pub parent-inserted-before : (k : ℕ) → k < q → parent_of (insert_at p new nodes) k ≡ parent_of nodes k
   unfolding parent_of
-  parent-inserted-before k h = below-same (insertAt p new nodes) nodes k k k (encl-before k h)
+  parent-inserted-before k h = below-same (insert_at p new nodes) nodes k k k (encl-before k h)
 
-  pub parent-inserted-at : parent_of (insertAt p new nodes) q ≡ p
+  pub parent-inserted-at : parent_of (insert_at p new nodes) q ≡ p
   parent-inserted-at =
       let h : p < q = p<q nodes p q nm new w here p<n in
       let b : bump p q ≡ suc q = omega (arith, bump-min p q) in
-      parent_is (insertAt p new nodes) q p
+      parent_is (insert_at p new nodes) q p
       (h, rw (inserted-before nodes p q nm new w here p<n p h, here, le-leb p p (omega arith), b) (lt-ltb q (suc q) (omega arith)))
       (λ j a l. rw (inserted-before nodes p q nm new w here p<n j l) (between-same p j q (get_or nodes j none) a ∙ ended q (get_or nodes j none) (between j a l)))
 
   module _ (fresh : Fresh q new) where
-    below-after : (k : ℕ) → q ≤ k → k < length nodes → (m : ℕ) → q ≤ m → m ≤ k → parentBelow (insertAt p new nodes) (suc k) (suc m) ≡ shifted q (parentBelow nodes k m)
+    below-after : (k : ℕ) → q ≤ k → k < length nodes → (m : ℕ) → q ≤ m → m ≤ k → parent_below (insert_at p new nodes) (suc k) (suc m) ≡ shifted q (parent_below nodes k m)
     below-after k h l zero a b = absurd (omega (arith, p<q nodes p q nm new w here p<n))
     below-after k h l (suc m) a b = go (leb q m) refl (λ e. below-after k h l m e (omega arith))
       where
@@ -104,20 +104,20 @@ module _ (nodes : List Node) (p q : ℕ) (nm : List ℕ) (new : Node) (w : Neste
         step true d e = omega (arith, shifted-min q m)
         step false d e = refl
 
-        go : (t : Bool) → leb q m ≡ t → (q ≤ m → parentBelow (insertAt p new nodes) (suc k) (suc m) ≡ shifted q (parentBelow nodes k m)) →
-            parentBelow (insertAt p new nodes) (suc k) (suc (suc m)) ≡ shifted q (parentBelow nodes k (suc m))
+        go : (t : Bool) → leb q m ≡ t → (q ≤ m → parent_below (insert_at p new nodes) (suc k) (suc m) ≡ shifted q (parent_below nodes k m)) →
+            parent_below (insert_at p new nodes) (suc k) (suc (suc m)) ≡ shifted q (parent_below nodes k (suc m))
         go true e ih =
             let r : q ≤ m = leb-true q m e in
-            parent-step (insertAt p new nodes) (suc k) (suc m)
-            ∙ rw (inserted-after nodes p q nm new w here p<n m r (omega arith), later_same k (get_or nodes m none), ih r) (step (encloses (get_or nodes m none) k) (parentBelow nodes k m) r)
+            parent-step (insert_at p new nodes) (suc k) (suc m)
+            ∙ rw (inserted-after nodes p q nm new w here p<n m r (omega arith), later_same k (get_or nodes m none), ih r) (step (encloses (get_or nodes m none) k) (parent_below nodes k m) r)
             ∙ ap (shifted q) (sym (parent-step nodes k m))
         go false e ih =
             let m≡ : suc m ≡ q = omega (arith, leb-false q m e) in
-            let v : parentBelow nodes k (suc m) < suc m = below-lt nodes k (suc m) (omega arith) in
-            parent-lower (insertAt p new nodes) (suc k) (suc m) (rw (m≡, inserted-at nodes p q nm new w here p<n) (new-ended q k new fresh h))
-            ∙ below-same (insertAt p new nodes) nodes (suc k) k (suc m) (λ j l. encl-after k h j (omega arith))
-            ∙ omega (arith, shifted-min q (parentBelow nodes k (suc m)))
+            let v : parent_below nodes k (suc m) < suc m = below-lt nodes k (suc m) (omega arith) in
+            parent-lower (insert_at p new nodes) (suc k) (suc m) (rw (m≡, inserted-at nodes p q nm new w here p<n) (new-ended q k new fresh h))
+            ∙ below-same (insert_at p new nodes) nodes (suc k) k (suc m) (λ j l. encl-after k h j (omega arith))
+            ∙ omega (arith, shifted-min q (parent_below nodes k (suc m)))
 
-    pub parent-inserted-after : (k : ℕ) → q ≤ k → k < length nodes → parent_of (insertAt p new nodes) (suc k) ≡ shifted q (parent_of nodes k)
+    pub parent-inserted-after : (k : ℕ) → q ≤ k → k < length nodes → parent_of (insert_at p new nodes) (suc k) ≡ shifted q (parent_of nodes k)
     unfolding parent_of
     parent-inserted-after k h l = below-after k h l k h (omega arith)

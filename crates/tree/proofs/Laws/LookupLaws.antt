@@ -8,20 +8,20 @@ use Rattle.refusal.specs.declared.Refusal.{Refusal}
 use Rattle.refusal.specs.declared.Refusal.TheVariants.{NoSuchEntry, ExpectedDirectory, NotFound}
 use Rattle.tree.specs.Table.{Node, file, directory, none, parent_of}
 use Rattle.tree.specs.Inner.WellFormed.{WellFormed}
-use Rattle.tree.specs.Lookup.{isDirectory, components, childOf, stays, goesBack, and_then, stepBack, follow, lookup}
+use Rattle.tree.specs.Lookup.{is_directory, components, child_of, stays, goes_back, and_then, step_back, follow, lookup}
 use Rattle.tree.proofs.Laws.Nesting.{parent-before, parent-root}
 use Rattle.tree.proofs.Laws.WellNested.{next-bounds}
 use Rattle.tree.proofs.Laws.Children.{Child, child-is}
 
 -- ---- `..` by the parent: the last named step came from the parent, and there is none at the start
 
-unfoldable pub followUp : List Node → ℕ → ℕ → List (List ℕ) → Result ℕ Refusal
-followUp nodes start k [] = Ok k
-followUp nodes start k (c ∷ cs) =
-    cond (isDirectory (get_or nodes k none))
-    (cond (stays c) (followUp nodes start k cs)
-    (cond (goesBack c) (cond (eqb k start) (Err NotFound) (followUp nodes start (parent_of nodes k) cs))
-    (and_then (childOf nodes k c) (λ j. followUp nodes start j cs))))
+unfoldable pub follow_up : List Node → ℕ → ℕ → List (List ℕ) → Result ℕ Refusal
+follow_up nodes start k [] = Ok k
+follow_up nodes start k (c ∷ cs) =
+    cond (is_directory (get_or nodes k none))
+    (cond (stays c) (follow_up nodes start k cs)
+    (cond (goes_back c) (cond (eqb k start) (Err NotFound) (follow_up nodes start (parent_of nodes k) cs))
+    (and_then (child_of nodes k c) (λ j. follow_up nodes start j cs))))
     (Err ExpectedDirectory)
 
 -- the trail of a walk from start to k: each entry is the parent of the one after it
@@ -33,68 +33,68 @@ trail-from : (nodes : List Node) (start : ℕ) (trail : List ℕ) (k : ℕ) → 
 trail-from nodes start [] k t = omega arith
 trail-from nodes start (j ∷ trail) k t = omega (arith, trail-from nodes start trail j t.2)
 
-step_back : (nodes : List Node) (start k : ℕ) (trail : List ℕ) (cs : List (List ℕ)) → Trail nodes start trail k →
-    ((trail' : List ℕ) (j : ℕ) → Trail nodes start trail' j → follow nodes trail' j cs ≡ followUp nodes start j cs) →
-    stepBack trail (λ j rest. follow nodes rest j cs) ≡ cond (eqb k start) (Err NotFound) (followUp nodes start (parent_of nodes k) cs)
-step_back nodes start k [] cs t ih = rw (eq-eqb k start t)
-step_back nodes start k (j ∷ trail) cs t ih =
+step_back_lem : (nodes : List Node) (start k : ℕ) (trail : List ℕ) (cs : List (List ℕ)) → Trail nodes start trail k →
+    ((trail' : List ℕ) (j : ℕ) → Trail nodes start trail' j → follow nodes trail' j cs ≡ follow_up nodes start j cs) →
+    step_back trail (λ j rest. follow nodes rest j cs) ≡ cond (eqb k start) (Err NotFound) (follow_up nodes start (parent_of nodes k) cs)
+step_back_lem nodes start k [] cs t ih = rw (eq-eqb k start t)
+step_back_lem nodes start k (j ∷ trail) cs t ih =
     let l : start ≤ j = trail-from nodes start trail j t.2 in
     rw (ne_eqb k start (λ e. omega arith), t.0) (ih trail j t.2)
 
 step-child : (nodes : List Node) (start k : ℕ) (trail : List ℕ) (c : List ℕ) (cs : List (List ℕ)) → Trail nodes start trail k →
-    ((trail' : List ℕ) (j : ℕ) → Trail nodes start trail' j → follow nodes trail' j cs ≡ followUp nodes start j cs) →
-    (a : Result ℕ Refusal) → childOf nodes k c ≡ a → and_then a (λ j. follow nodes (k ∷ trail) j cs) ≡ and_then a (λ j. followUp nodes start j cs)
+    ((trail' : List ℕ) (j : ℕ) → Trail nodes start trail' j → follow nodes trail' j cs ≡ follow_up nodes start j cs) →
+    (a : Result ℕ Refusal) → child_of nodes k c ≡ a → and_then a (λ j. follow nodes (k ∷ trail) j cs) ≡ and_then a (λ j. follow_up nodes start j cs)
 step-child nodes start k trail c cs t ih (Ok j) e =
     let x : Child nodes k c j = child-is nodes k c j e in
     ih (k ∷ trail) j (x.parent, x.after, t)
 step-child nodes start k trail c cs t ih (Err r) e = refl
 
-follow-up : (nodes : List Node) (start : ℕ) (cs : List (List ℕ)) (trail : List ℕ) (k : ℕ) → Trail nodes start trail k → follow nodes trail k cs ≡ followUp nodes start k cs
-unfolding follow followUp
+follow-up : (nodes : List Node) (start : ℕ) (cs : List (List ℕ)) (trail : List ℕ) (k : ℕ) → Trail nodes start trail k → follow nodes trail k cs ≡ follow_up nodes start k cs
+unfolding follow follow_up
 follow-up nodes start [] trail k t = refl
 follow-up nodes start (c ∷ cs) trail k t =
-    rw (follow-up nodes start cs trail k t, step_back nodes start k trail cs t (follow-up nodes start cs), step-child nodes start k trail c cs t (follow-up nodes start cs) (childOf nodes k c) refl)
+    rw (follow-up nodes start cs trail k t, step_back_lem nodes start k trail cs t (follow-up nodes start cs), step-child nodes start k trail c cs t (follow-up nodes start cs) (child_of nodes k c) refl)
 
-pub lookup-up : (nodes : List Node) (start : ℕ) (path : List ℕ) → lookup nodes start path ≡ cond (ltb start (length nodes)) (followUp nodes start start (components path)) (Err NoSuchEntry)
+pub lookup-up : (nodes : List Node) (start : ℕ) (path : List ℕ) → lookup nodes start path ≡ cond (ltb start (length nodes)) (follow_up nodes start start (components path)) (Err NoSuchEntry)
 unfolding lookup
 lookup-up nodes start path = rw (follow-up nodes start (components path) [] start refl)
 
 -- ---- one turn of a loop over the parts
 
 module _ (nodes : List Node) (start k : ℕ) (c : List ℕ) (cs : List (List ℕ)) where
-  pub up-file : isDirectory (get_or nodes k none) ≡ false → followUp nodes start k (c ∷ cs) ≡ Err ExpectedDirectory
-  unfolding followUp
+  pub up-file : is_directory (get_or nodes k none) ≡ false → follow_up nodes start k (c ∷ cs) ≡ Err ExpectedDirectory
+  unfolding follow_up
   up-file d = rw d
 
-  module _ (d : isDirectory (get_or nodes k none) ≡ true) where
-    pub up-stays : stays c ≡ true → followUp nodes start k (c ∷ cs) ≡ followUp nodes start k cs
-    unfolding followUp
+  module _ (d : is_directory (get_or nodes k none) ≡ true) where
+    pub up-stays : stays c ≡ true → follow_up nodes start k (c ∷ cs) ≡ follow_up nodes start k cs
+    unfolding follow_up
     up-stays s = rw (d, s)
 
     module _ (s : stays c ≡ false) where
-      pub up-no-back : goesBack c ≡ true → k ≡ start → followUp nodes start k (c ∷ cs) ≡ Err NotFound
-      unfolding followUp
+      pub up-no-back : goes_back c ≡ true → k ≡ start → follow_up nodes start k (c ∷ cs) ≡ Err NotFound
+      unfolding follow_up
       up-no-back b e = rw (d, s, b, eq-eqb k start e)
 
-      pub up-back : goesBack c ≡ true → (k ≡ start → ⊥) → followUp nodes start k (c ∷ cs) ≡ followUp nodes start (parent_of nodes k) cs
-      unfolding followUp
+      pub up-back : goes_back c ≡ true → (k ≡ start → ⊥) → follow_up nodes start k (c ∷ cs) ≡ follow_up nodes start (parent_of nodes k) cs
+      unfolding follow_up
       up-back b e = rw (d, s, b, ne_eqb k start e)
 
-      pub up-missing : goesBack c ≡ false → (r : Refusal) → childOf nodes k c ≡ Err r → followUp nodes start k (c ∷ cs) ≡ Err r
-      unfolding followUp
+      pub up-missing : goes_back c ≡ false → (r : Refusal) → child_of nodes k c ≡ Err r → follow_up nodes start k (c ∷ cs) ≡ Err r
+      unfolding follow_up
       up-missing b r e = rw (d, s, b, e)
 
-      pub up-child : goesBack c ≡ false → (j : ℕ) → childOf nodes k c ≡ Ok j → followUp nodes start k (c ∷ cs) ≡ followUp nodes start j cs
-      unfolding followUp
+      pub up-child : goes_back c ≡ false → (j : ℕ) → child_of nodes k c ≡ Ok j → follow_up nodes start k (c ∷ cs) ≡ follow_up nodes start j cs
+      unfolding follow_up
       up-child b j e = rw (d, s, b, e)
 
-pub up-end : (nodes : List Node) (start k : ℕ) → followUp nodes start k [] ≡ Ok k
-unfolding followUp
+pub up-end : (nodes : List Node) (start k : ℕ) → follow_up nodes start k [] ≡ Ok k
+unfolding follow_up
 up-end nodes start k = refl
 
 -- ---- what is found is an entry of the tree
 
-pub child-inside : (nodes : List Node) (d : ℕ) (nm : List ℕ) (k : ℕ) → WellFormed nodes → d < length nodes → childOf nodes d nm ≡ Ok k → k < length nodes
+pub child-inside : (nodes : List Node) (d : ℕ) (nm : List ℕ) (k : ℕ) → WellFormed nodes → d < length nodes → child_of nodes d nm ≡ Ok k → k < length nodes
 child-inside nodes d nm k w h e = go (get_or nodes d none) refl
   where
     go : (x : Node) → get_or nodes d none ≡ x → k < length nodes
@@ -103,11 +103,11 @@ child-inside nodes d nm k w h e = go (get_or nodes d none) refl
         let b : k < n = rw q at (child-is nodes d nm k e).before in
         omega (arith, (next-bounds nodes d n a w q h).1)
 
-up-inside : (nodes : List Node) (start : ℕ) (cs : List (List ℕ)) (k j : ℕ) → WellFormed nodes → k < length nodes → followUp nodes start k cs ≡ Ok j → j < length nodes
-unfolding followUp
+up-inside : (nodes : List Node) (start : ℕ) (cs : List (List ℕ)) (k j : ℕ) → WellFormed nodes → k < length nodes → follow_up nodes start k cs ≡ Ok j → j < length nodes
+unfolding follow_up
 up-inside nodes start [] k j w h e = let k≡ : k ≡ j = cc in omega arith
 up-inside nodes start (c ∷ cs) k j w h e =
-    go (isDirectory (get_or nodes k none)) (stays c) (goesBack c) (eqb k start) (childOf nodes k c) refl (λ i l q. up-inside nodes start cs i j w l q) e
+    go (is_directory (get_or nodes k none)) (stays c) (goes_back c) (eqb k start) (child_of nodes k c) refl (λ i l q. up-inside nodes start cs i j w l q) e
   where
     lower : parent_of nodes k < length nodes
     lower = ⊎_elim (λ (l : 0 < k). omega (arith, parent-before nodes k l)) (λ (l : k ≤ 0). let k≡ : k ≡ 0 = omega arith in rw k≡ (root-parent (rw k≡ at h))) (lt-or-le 0 k)
@@ -115,8 +115,8 @@ up-inside nodes start (c ∷ cs) k j w h e =
         root-parent : 0 < length nodes → parent_of nodes 0 < length nodes
         root-parent l = rw (parent-root nodes) l
 
-    go : (d s b t : Bool) (a : Result ℕ Refusal) → childOf nodes k c ≡ a → ((i : ℕ) → i < length nodes → followUp nodes start i cs ≡ Ok j → j < length nodes) →
-        cond d (cond s (followUp nodes start k cs) (cond b (cond t (Err NotFound) (followUp nodes start (parent_of nodes k) cs)) (and_then a (λ i. followUp nodes start i cs)))) (Err ExpectedDirectory) ≡ Ok j → j < length nodes
+    go : (d s b t : Bool) (a : Result ℕ Refusal) → child_of nodes k c ≡ a → ((i : ℕ) → i < length nodes → follow_up nodes start i cs ≡ Ok j → j < length nodes) →
+        cond d (cond s (follow_up nodes start k cs) (cond b (cond t (Err NotFound) (follow_up nodes start (parent_of nodes k) cs)) (and_then a (λ i. follow_up nodes start i cs)))) (Err ExpectedDirectory) ≡ Ok j → j < length nodes
     go false s b t a a≡ ih q = let z : ◌≡◌ {A = ℕ} 0 1 = cc in absurd (omega arith)
     go true true b t a a≡ ih q = ih k h q
     go true false true true a a≡ ih q = let z : ◌≡◌ {A = ℕ} 0 1 = cc in absurd (omega arith)
@@ -127,6 +127,6 @@ up-inside nodes start (c ∷ cs) k j w h e =
 pub lookup-inside : (nodes : List Node) (start : ℕ) (path : List ℕ) (j : ℕ) → WellFormed nodes → lookup nodes start path ≡ Ok j → j < length nodes
 lookup-inside nodes start path j w e = go (ltb start (length nodes)) refl (sym (lookup-up nodes start path) ∙ e)
   where
-    go : (t : Bool) → ltb start (length nodes) ≡ t → cond t (followUp nodes start start (components path)) (Err NoSuchEntry) ≡ Ok j → j < length nodes
+    go : (t : Bool) → ltb start (length nodes) ≡ t → cond t (follow_up nodes start start (components path)) (Err NoSuchEntry) ≡ Ok j → j < length nodes
     go true h q = up-inside nodes start (components path) start j w (ltb-true start (length nodes) h) q
     go false h q = let z : ◌≡◌ {A = ℕ} 0 1 = cc in absurd (omega arith)

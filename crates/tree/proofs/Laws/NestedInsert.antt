@@ -4,8 +4,8 @@ use Rattle.std.proofs.Common.{sym, ◌∙◌, ⊎_elim, arith, ltb-true, leb-tru
 use Rattle.std.proofs.lemmas.Bool.{lt-leb}
 use Rattle.refusal.specs.Laws.Tests.{lt-or-le}
 use Rattle.tree.specs.Table.{Node, file, directory, none, encloses}
-use Rattle.tree.specs.Lookup.{isDirectory, next_of}
-use Rattle.tree.specs.Insert.{bump, earlier, later, insertAt}
+use Rattle.tree.specs.Lookup.{is_directory, next_of}
+use Rattle.tree.specs.Insert.{bump, earlier, later, insert_at}
 use Rattle.tree.proofs.Laws.Nesting.{Inside}
 use Rattle.tree.proofs.Laws.InsertedList.{Nested, encloses-is, Fresh, bump-min, q≤n, p<q, length_inserted, inserted-before, inserted-at, inserted-after}
 use Rattle.tree.proofs.Laws.InsertedParents.{later_same, new-ended, between, encl-before, encl-after}
@@ -36,15 +36,15 @@ later-most : (x : Node) → next_of (later x) ≤ suc (next_of x)
 later-most (file nm a b) = omega arith
 later-most (directory nm n) = omega arith
 
-pub is-earlier : (p k : ℕ) (x : Node) → isDirectory (earlier p k x) ≡ isDirectory x
+pub is-earlier : (p k : ℕ) (x : Node) → is_directory (earlier p k x) ≡ is_directory x
 is-earlier p k (file nm a b) = refl
 is-earlier p k (directory nm n) = refl
 
-pub is_later : (x : Node) → isDirectory (later x) ≡ isDirectory x
+pub is_later : (x : Node) → is_directory (later x) ≡ is_directory x
 is_later (file nm a b) = refl
 is_later (directory nm n) = refl
 
-new-next : (q : ℕ) (x : Node) → Fresh q x → isDirectory x ≡ true → next_of x ≡ suc q
+new-next : (q : ℕ) (x : Node) → Fresh q x → is_directory x ≡ true → next_of x ≡ suc q
 new-next q (file nm a b) f d = let z : ◌≡◌ {A = ℕ} 0 1 = cc in absurd (omega arith)
 new-next q (directory nm n) f d = f
 
@@ -72,7 +72,7 @@ place q (suc j) = ⊎_elim (λ (h : j < q). ⊎_elim (λ (l : suc j < q). before
 
 module _ (nodes : List Node) (p q : ℕ) (nm : List ℕ) (new : Node) (w : Nested nodes) (dir : get_or nodes p none ≡ directory nm q) (p<n : p < length nodes) (fresh : Fresh q new) where
   abbrev N : List Node
-  N = insertAt p new nodes
+  N = insert_at p new nodes
 
   len : length N ≡ suc (length nodes)
   len = length_inserted nodes p q nm new w dir p<n
@@ -83,7 +83,7 @@ module _ (nodes : List Node) (p q : ℕ) (nm : List ℕ) (new : Node) (w : Neste
   p< : p < q
   p< = p<q nodes p q nm new w dir p<n
 
-  nested-bounds : (k : ℕ) → Place q k → k < length N → isDirectory (get_or N k none) ≡ true → (k < next_of (get_or N k none)) × (next_of (get_or N k none) ≤ length N)
+  nested-bounds : (k : ℕ) → Place q k → k < length N → is_directory (get_or N k none) ≡ true → (k < next_of (get_or N k none)) × (next_of (get_or N k none) ≤ length N)
   nested-bounds k (before l) h d =
       let e : get_or N k none ≡ earlier p k (get_or nodes k none) = inserted-before nodes p q nm new w dir p<n k l in
       let x : Node = get_or nodes k none in

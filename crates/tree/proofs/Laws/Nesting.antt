@@ -1,7 +1,7 @@
 -- The parent of an entry: the last directory before it that it is in. Assumes nothing.
 use Rattle.std.specs.Prelude.{ℕ, zero, suc, ◌<◌, ◌≤◌, ◌≡◌, refl, Bool, true, false, cond, List, get_or, leb, ltb}
 use Rattle.std.proofs.Common.{sym, ◌∙◌, arith, ltb-true, ltb-false, leb-true, leb-false, le-ltb}
-use Rattle.tree.specs.Table.{Node, file, directory, none, encloses, parentBelow, parent_of}
+use Rattle.tree.specs.Table.{Node, file, directory, none, encloses, parent_below, parent_of}
 use Rattle.tree.specs.Lookup.{next_of}
 
 -- ---- the parent
@@ -16,24 +16,24 @@ Inside nodes d k = (d < k) × (encloses (get_or nodes d none) k ≡ true)
 
 -- the root's own is 0
 pub parent-root : (nodes : List Node) → parent_of nodes 0 ≡ 0
-unfolding parent_of parentBelow
+unfolding parent_of parent_below
 parent-root nodes = refl
 
 -- one step of a search downwards
-pub parent-step : (nodes : List Node) (k i : ℕ) → parentBelow nodes k (suc i) ≡ cond (encloses (get_or nodes i none) k) i (parentBelow nodes k i)
-unfolding parentBelow
+pub parent-step : (nodes : List Node) (k i : ℕ) → parent_below nodes k (suc i) ≡ cond (encloses (get_or nodes i none) k) i (parent_below nodes k i)
+unfolding parent_below
 parent-step nodes k i = refl
 
-pub parent-here : (nodes : List Node) (k i : ℕ) → encloses (get_or nodes i none) k ≡ true → parentBelow nodes k (suc i) ≡ i
-unfolding parentBelow
+pub parent-here : (nodes : List Node) (k i : ℕ) → encloses (get_or nodes i none) k ≡ true → parent_below nodes k (suc i) ≡ i
+unfolding parent_below
 parent-here nodes k i e = rw e
 
-pub parent-lower : (nodes : List Node) (k i : ℕ) → encloses (get_or nodes i none) k ≡ false → parentBelow nodes k (suc i) ≡ parentBelow nodes k i
-unfolding parentBelow
+pub parent-lower : (nodes : List Node) (k i : ℕ) → encloses (get_or nodes i none) k ≡ false → parent_below nodes k (suc i) ≡ parent_below nodes k i
+unfolding parent_below
 parent-lower nodes k i e = rw e
 
-pub below-lt : (nodes : List Node) (k i : ℕ) → 0 < i → parentBelow nodes k i < i
-unfolding parentBelow
+pub below-lt : (nodes : List Node) (k i : ℕ) → 0 < i → parent_below nodes k i < i
+unfolding parent_below
 below-lt nodes k zero h = absurd (omega arith)
 below-lt nodes k (suc zero) h = go (encloses (get_or nodes 0 none) k)
   where
@@ -42,7 +42,7 @@ below-lt nodes k (suc zero) h = go (encloses (get_or nodes 0 none) k)
     go false = omega arith
 below-lt nodes k (suc (suc i)) h = go (encloses (get_or nodes (suc i) none) k) (below-lt nodes k (suc i) (omega arith))
   where
-    go : (t : Bool) → parentBelow nodes k (suc i) < suc i → cond t (suc i) (parentBelow nodes k (suc i)) < suc (suc i)
+    go : (t : Bool) → parent_below nodes k (suc i) < suc i → cond t (suc i) (parent_below nodes k (suc i)) < suc (suc i)
     go true ih = omega arith
     go false ih = omega arith
 
@@ -55,11 +55,11 @@ parent-most nodes zero = rw (parent-root nodes) (omega arith)
 parent-most nodes (suc k) = omega (arith, parent-before nodes (suc k) (omega arith))
 
 -- the last of those that enclose it: none between it and i does
-below_last : (nodes : List Node) (k d i : ℕ) → d < i → encloses (get_or nodes d none) k ≡ true → ((j : ℕ) → d < j → j < i → encloses (get_or nodes j none) k ≡ false) → parentBelow nodes k i ≡ d
+below_last : (nodes : List Node) (k d i : ℕ) → d < i → encloses (get_or nodes d none) k ≡ true → ((j : ℕ) → d < j → j < i → encloses (get_or nodes j none) k ≡ false) → parent_below nodes k i ≡ d
 below_last nodes k d zero h e f = absurd (omega arith)
 below_last nodes k d (suc i) h e f = go (ltb d i) refl (λ q. below_last nodes k d i q e (λ j a b. f j a (omega arith)))
   where
-    go : (t : Bool) → ltb d i ≡ t → (d < i → parentBelow nodes k i ≡ d) → parentBelow nodes k (suc i) ≡ d
+    go : (t : Bool) → ltb d i ≡ t → (d < i → parent_below nodes k i ≡ d) → parent_below nodes k (suc i) ≡ d
     go true q ih = parent-lower nodes k i (f i (ltb-true d i q) (omega arith)) ∙ ih (ltb-true d i q)
     go false q ih =
         let i≡ : i ≡ d = omega (arith, ltb-false d i q) in
@@ -70,11 +70,11 @@ unfolding parent_of
 parent_is nodes k d h f = below_last nodes k d k h.0 h.1 f
 
 -- no directory between its parent and an entry encloses it
-below-clear : (nodes : List Node) (k i j : ℕ) → parentBelow nodes k i < j → j < i → encloses (get_or nodes j none) k ≡ false
+below-clear : (nodes : List Node) (k i j : ℕ) → parent_below nodes k i < j → j < i → encloses (get_or nodes j none) k ≡ false
 below-clear nodes k zero j h l = absurd (omega arith)
 below-clear nodes k (suc i) j h l = go (encloses (get_or nodes i none) k) refl (below-clear nodes k i j)
   where
-    go : (t : Bool) → encloses (get_or nodes i none) k ≡ t → (parentBelow nodes k i < j → j < i → encloses (get_or nodes j none) k ≡ false) → encloses (get_or nodes j none) k ≡ false
+    go : (t : Bool) → encloses (get_or nodes i none) k ≡ t → (parent_below nodes k i < j → j < i → encloses (get_or nodes j none) k ≡ false) → encloses (get_or nodes j none) k ≡ false
     go true e ih = absurd (omega (arith, parent-here nodes k i e))
     go false e ih = last (ltb j i) refl
       where
@@ -100,8 +100,8 @@ parent-at-least nodes d k h = go (leb d (parent_of nodes k)) refl
         absurd (omega arith)
 
 -- one that encloses the entry is found, if the root does
-pub below-encloses : (nodes : List Node) (k i : ℕ) → 0 < i → encloses (get_or nodes 0 none) k ≡ true → encloses (get_or nodes (parentBelow nodes k i) none) k ≡ true
-unfolding parentBelow
+pub below-encloses : (nodes : List Node) (k i : ℕ) → 0 < i → encloses (get_or nodes 0 none) k ≡ true → encloses (get_or nodes (parent_below nodes k i) none) k ≡ true
+unfolding parent_below
 below-encloses nodes k zero h e = absurd (omega arith)
 below-encloses nodes k (suc zero) h e = go (encloses (get_or nodes 0 none) k)
   where
@@ -110,7 +110,7 @@ below-encloses nodes k (suc zero) h e = go (encloses (get_or nodes 0 none) k)
     go false = e
 below-encloses nodes k (suc (suc i)) h e = go (encloses (get_or nodes (suc i) none) k) refl (below-encloses nodes k (suc i) (omega arith) e)
   where
-    go : (t : Bool) → encloses (get_or nodes (suc i) none) k ≡ t → encloses (get_or nodes (parentBelow nodes k (suc i)) none) k ≡ true →
-        encloses (get_or nodes (cond t (suc i) (parentBelow nodes k (suc i))) none) k ≡ true
+    go : (t : Bool) → encloses (get_or nodes (suc i) none) k ≡ t → encloses (get_or nodes (parent_below nodes k (suc i)) none) k ≡ true →
+        encloses (get_or nodes (cond t (suc i) (parent_below nodes k (suc i))) none) k ≡ true
     go true q ih = q
     go false q ih = ih

@@ -3,10 +3,10 @@ use Rattle.std.specs.Prelude.{ℕ, zero, suc, ◌+◌, ◌<◌, ◌≤◌, ◌�
 use Rattle.std.proofs.Common.{ap, ◌∙◌, arith, add-zero, one-add, ltb-true, ltb-false, leb-false, lt-ltb, le-leb}
 use mathlib.Core.List.{List, [], ◌∷◌, tail, head-eq_of_cons-eq, nil≢cons}
 use Rattle.std.proofs.lemmas.Bool.{lt-leb}
-use Rattle.tree.specs.Table.{Node, file, directory, name_of, none, shut, enter, encloses, parentBelow}
+use Rattle.tree.specs.Table.{Node, file, directory, name_of, none, shut, enter, encloses, parent_below}
 use Rattle.tree.specs.Inner.WellFormed.{GoodName, GoodEntry, Sound, WellFormed}
 use Rattle.tree.specs.Lookup.{next_of}
-use Rattle.tree.specs.Inner.Depths.{openDirs}
+use Rattle.tree.specs.Inner.Depths.{open_dirs}
 
 -- the nexts of the directories open at the i-th of the entries k and on
 unfoldable pub open_at : List ℕ → ℕ → List Node → ℕ → List ℕ
@@ -82,25 +82,25 @@ encloses-step (directory nm next) k dirs = go (ltb (suc k) next) refl (ltb k nex
     go false p true q = rw (le-leb next (suc k) (ltb-false (suc k) next p))
     go false p false q = refl
 
-openDirs-keep : (nodes : List Node) (k i : ℕ) → openDirs nodes (suc k) i ≡ keep (suc k) (openDirs nodes k i)
-unfolding openDirs keep
-openDirs-keep nodes k zero = refl
-openDirs-keep nodes k (suc i) = rw (openDirs-keep nodes k i) (encloses-step (get_or nodes i none) k (openDirs nodes k i))
+open_dirs-keep : (nodes : List Node) (k i : ℕ) → open_dirs nodes (suc k) i ≡ keep (suc k) (open_dirs nodes k i)
+unfolding open_dirs keep
+open_dirs-keep nodes k zero = refl
+open_dirs-keep nodes k (suc i) = rw (open_dirs-keep nodes k i) (encloses-step (get_or nodes i none) k (open_dirs nodes k i))
 
 enter-keep : (c k : ℕ) (dirs : List ℕ) (x : Node) → GoodEntry c dirs k x → cond (encloses x k) (next_of x ∷ dirs) dirs ≡ enter dirs x
 enter-keep c k dirs (file nm offset size) g = refl
 enter-keep c k dirs (directory nm next) g = rw (lt-ltb k next g.0)
 
-open_step : (nodes : List Node) (c k : ℕ) (dirs : List ℕ) (x : Node) → get_or nodes k none ≡ x → Sorted dirs → openDirs nodes k k ≡ shut k dirs → GoodEntry c (shut k dirs) k x →
-    openDirs nodes (suc k) (suc k) ≡ shut (suc k) (enter (shut k dirs) x)
-unfolding openDirs
+open_step : (nodes : List Node) (c k : ℕ) (dirs : List ℕ) (x : Node) → get_or nodes k none ≡ x → Sorted dirs → open_dirs nodes k k ≡ shut k dirs → GoodEntry c (shut k dirs) k x →
+    open_dirs nodes (suc k) (suc k) ≡ shut (suc k) (enter (shut k dirs) x)
+unfolding open_dirs
 open_step nodes c k dirs x e s h g =
-    rw (openDirs-keep nodes k k, e, h, encloses-step x k (shut k dirs), enter-keep c k (shut k dirs) x g)
+    rw (open_dirs-keep nodes k k, e, h, encloses-step x k (shut k dirs), enter-keep c k (shut k dirs) x g)
     (keep-shut (suc k) (enter (shut k dirs) x) (sorted-enter c k (shut k dirs) x g (sorted-shut k dirs s)))
 
 -- the stack at entry k + i is the nexts of the directories it is in, and they rise outwards
 open-at : (nodes : List Node) (c k : ℕ) (dirs : List ℕ) (xs : List Node) → ((i : ℕ) → get_or nodes (k + i) none ≡ get_or xs i none) → Sound c dirs k xs → Sorted dirs →
-    openDirs nodes k k ≡ shut k dirs → (i : ℕ) → i < length xs → (openDirs nodes (k + i) (k + i) ≡ open_at dirs k xs i) × Sorted (open_at dirs k xs i)
+    open_dirs nodes k k ≡ shut k dirs → (i : ℕ) → i < length xs → (open_dirs nodes (k + i) (k + i) ≡ open_at dirs k xs i) × Sorted (open_at dirs k xs i)
 unfolding open_at
 open-at nodes c k dirs [] a g s e i h = absurd (omega arith)
 open-at nodes c k dirs (x ∷ xs) a g s e zero h = rw (add-zero k) (e, sorted-shut k dirs s)
@@ -111,29 +111,29 @@ open-at nodes c k dirs (x ∷ xs) a g s e (suc i) h =
     (open-at nodes c (suc k) (enter (shut k dirs) x) xs (λ j. ap (λ (m : ℕ). get_or nodes m none) (omega arith) ∙ a (suc j)) g.2
     (sorted-enter c k (shut k dirs) x g.1 (sorted-shut k dirs s)) (open_step nodes c k dirs x x≡ s e g.1) i (omega arith))
 
-root-open : (r : Node) (xs : List Node) (c : ℕ) → r ≡ directory [] c → 1 < c → openDirs (r ∷ xs) 1 1 ≡ shut 1 (c ∷ [])
-unfolding openDirs shut
+root-open : (r : Node) (xs : List Node) (c : ℕ) → r ≡ directory [] c → 1 < c → open_dirs (r ∷ xs) 1 1 ≡ shut 1 (c ∷ [])
+unfolding open_dirs shut
 root-open r xs c e h = rw (e, lt-ltb 1 c h, lt-leb c 1 h)
 
 pub stack : (nodes : List Node) → WellFormed nodes → (i : ℕ) → suc i < length nodes →
-    (openDirs nodes (suc i) (suc i) ≡ open_at (length nodes ∷ []) 1 (tail nodes) i) × Sorted (open_at (length nodes ∷ []) 1 (tail nodes) i)
-unfolding openDirs
+    (open_dirs nodes (suc i) (suc i) ≡ open_at (length nodes ∷ []) 1 (tail nodes) i) × Sorted (open_at (length nodes ∷ []) 1 (tail nodes) i)
+unfolding open_dirs
 stack [] w i h = absurd (omega arith)
 stack (r ∷ xs) w i h =
-    let e : openDirs (r ∷ xs) 1 1 ≡ shut 1 (suc (length xs) ∷ []) = root-open r xs (suc (length xs)) (head-eq_of_cons-eq w.root) (omega arith) in
+    let e : open_dirs (r ∷ xs) 1 1 ≡ shut 1 (suc (length xs) ∷ []) = root-open r xs (suc (length xs)) (head-eq_of_cons-eq w.root) (omega arith) in
     rw one-add at (open-at (r ∷ xs) (suc (length xs)) 1 (suc (length xs) ∷ []) xs (λ j. rw one-add) w.sound (tt, tt) e i (omega arith))
 
 -- the stack at an entry is the nexts of the directories that it is in
-pub stack_is : (nodes : List Node) → WellFormed nodes → (i : ℕ) → suc i < length nodes → openDirs nodes (suc i) (suc i) ≡ open_at (length nodes ∷ []) 1 (tail nodes) i
+pub stack_is : (nodes : List Node) → WellFormed nodes → (i : ℕ) → suc i < length nodes → open_dirs nodes (suc i) (suc i) ≡ open_at (length nodes ∷ []) 1 (tail nodes) i
 stack_is nodes w i h = (stack nodes w i h).0
 
 -- so the walk's test is against the parent's next
-pub parent-next : (nodes : List Node) (k i n : ℕ) (dirs : List ℕ) → openDirs nodes k i ≡ n ∷ dirs → next_of (get_or nodes (parentBelow nodes k i) none) ≡ n
-unfolding openDirs parentBelow
+pub parent-next : (nodes : List Node) (k i n : ℕ) (dirs : List ℕ) → open_dirs nodes k i ≡ n ∷ dirs → next_of (get_or nodes (parent_below nodes k i) none) ≡ n
+unfolding open_dirs parent_below
 parent-next nodes k zero n dirs e = absurd (nil≢cons e)
 parent-next nodes k (suc i) n dirs e = go (encloses (get_or nodes i none) k) (parent-next nodes k i n dirs) e
   where
-    go : (t : Bool) → (openDirs nodes k i ≡ n ∷ dirs → next_of (get_or nodes (parentBelow nodes k i) none) ≡ n) →
-        cond t (next_of (get_or nodes i none) ∷ openDirs nodes k i) (openDirs nodes k i) ≡ n ∷ dirs → next_of (get_or nodes (cond t i (parentBelow nodes k i)) none) ≡ n
+    go : (t : Bool) → (open_dirs nodes k i ≡ n ∷ dirs → next_of (get_or nodes (parent_below nodes k i) none) ≡ n) →
+        cond t (next_of (get_or nodes i none) ∷ open_dirs nodes k i) (open_dirs nodes k i) ≡ n ∷ dirs → next_of (get_or nodes (cond t i (parent_below nodes k i)) none) ≡ n
     go true ih q = head-eq_of_cons-eq q
     go false ih q = ih q

@@ -3,11 +3,11 @@ use Rattle.std.specs.Prelude.{Err}
 use Rattle.std.specs.Prelude.{ℕ, ◌+◌, ◌-◌, ◌*◌, ◌<◌, ◌≤◌, ◌≡◌, true, false, List, length}
 use borrow.Author.Tests.{lt-ltb, le-ltb, le-leb, lt-leb}
 use Rattle.refusal.specs.declared.Refusal.TheVariants.{EntryPastTable, LimitOrMemory, InvalidNextIndex, InvalidNameOffset, InvalidNameByte, UnsafeName}
-use Rattle.tree.specs.Table.{directory, plain, safe, kind, nameOffset, count, entryVerdict, top, nameVerdict, nextVerdict, check}
+use Rattle.tree.specs.Table.{directory, plain, safe, kind, name_offset, count, entry_verdict, top, name_verdict, next_verdict, check}
 
 -- 5 before 6
-pub past-table : (tab : List ℕ) (k : ℕ) → length tab < 12 * k + 12 → entryVerdict tab k ≡ Err EntryPastTable
-unfolding entryVerdict
+pub past-table : (tab : List ℕ) (k : ℕ) → length tab < 12 * k + 12 → entry_verdict tab k ≡ Err EntryPastTable
+unfolding entry_verdict
 past-table tab k h = rw (lt-ltb (length tab) (12 * k + 12) h)
 
 -- the count's 9 before the further entries
@@ -17,24 +17,24 @@ many-entries tab words h e c = rw (le-ltb (length tab) 12 h, e, lt-ltb 16384 (co
 
 -- 11, 12, 13
 module _ (tab : List ℕ) (c k : ℕ) (nm : List ℕ) where
-  pub bad-offset : length tab - 12 * c ≤ nameOffset tab k → nameVerdict tab c k nm ≡ Err InvalidNameOffset
-  unfolding nameVerdict
-  bad-offset h = rw (le-leb (length tab - 12 * c) (nameOffset tab k) h)
+  pub bad-offset : length tab - 12 * c ≤ name_offset tab k → name_verdict tab c k nm ≡ Err InvalidNameOffset
+  unfolding name_verdict
+  bad-offset h = rw (le-leb (length tab - 12 * c) (name_offset tab k) h)
 
-  pub bad-byte : nameOffset tab k < length tab - 12 * c → plain nm ≡ false → nameVerdict tab c k nm ≡ Err InvalidNameByte
-  unfolding nameVerdict
-  bad-byte h e = rw (lt-leb (length tab - 12 * c) (nameOffset tab k) h, e)
+  pub bad-byte : name_offset tab k < length tab - 12 * c → plain nm ≡ false → name_verdict tab c k nm ≡ Err InvalidNameByte
+  unfolding name_verdict
+  bad-byte h e = rw (lt-leb (length tab - 12 * c) (name_offset tab k) h, e)
 
-  pub bad-name : nameOffset tab k < length tab - 12 * c → plain nm ≡ true → safe nm ≡ false → nameVerdict tab c k nm ≡ Err UnsafeName
-  unfolding nameVerdict
-  bad-name h e s = rw (lt-leb (length tab - 12 * c) (nameOffset tab k) h, e, s)
+  pub bad-name : name_offset tab k < length tab - 12 * c → plain nm ≡ true → safe nm ≡ false → name_verdict tab c k nm ≡ Err UnsafeName
+  unfolding name_verdict
+  bad-name h e s = rw (lt-leb (length tab - 12 * c) (name_offset tab k) h, e, s)
 
 -- 10, then the depth's 9
 module _ (c : ℕ) (dirs : List ℕ) (k : ℕ) (nm : List ℕ) (next : ℕ) where
-  pub bad-next : next ≤ k → nextVerdict c dirs k (directory nm next) ≡ Err InvalidNextIndex
-  unfolding nextVerdict
+  pub bad-next : next ≤ k → next_verdict c dirs k (directory nm next) ≡ Err InvalidNextIndex
+  unfolding next_verdict
   bad-next h = rw (le-leb next k h)
 
-  pub too-deep : k < next → next ≤ c → next ≤ top dirs → 64 < length dirs → nextVerdict c dirs k (directory nm next) ≡ Err LimitOrMemory
-  unfolding nextVerdict
+  pub too-deep : k < next → next ≤ c → next ≤ top dirs → 64 < length dirs → next_verdict c dirs k (directory nm next) ≡ Err LimitOrMemory
+  unfolding next_verdict
   too-deep h l t d = rw (lt-leb next k h, le-ltb c next l, le-ltb (top dirs) next t, lt-ltb 64 (length dirs) d)

@@ -9,14 +9,14 @@ use Rattle.std.proofs.Common.{arith, lt-ltb}
 use Rattle.std.proofs.lemmas.Bool.{not-true}
 use Rattle.refusal.specs.Laws.Tests.{and_left, and_right}
 use Rattle.refusal.specs.declared.Refusal.TheVariants.{NoSuchEntry, ExpectedDirectory}
-use Rattle.tree.specs.Units.{leadByte, trailByte, TextUnit, single, pair, unitBytes, units}
+use Rattle.tree.specs.Units.{lead_byte, trail_byte, TextUnit, single, pair, unit_bytes, units}
 use Rattle.tree.proofs.Laws.UnitLaws.{by_units, units-then}
-use Rattle.tree.specs.Table.{Node, none, every, safeByte, safeUnit, dots, safe}
-use Rattle.tree.specs.Lookup.{isDirectory, separator, separates, longer, componentsOf, components, childOf, stays, goesBack, and_then, stepBack, follow, lookup}
+use Rattle.tree.specs.Table.{Node, none, every, safe_byte, safe_unit, dots, safe}
+use Rattle.tree.specs.Lookup.{is_directory, separator, separates, longer, components_of, components, child_of, stays, goes_back, and_then, step_back, follow, lookup}
 
 -- ---- names
 
-no-separator : (b : ℕ) → safeByte b ≡ true → separator b ≡ false
+no-separator : (b : ℕ) → safe_byte b ≡ true → separator b ≡ false
 no-separator b e = go (eqb b 0x2F) (eqb b 0x5C) (eqb b 0x3A) e
   where
     go : (x y z : Bool) → (not x && not y && not z) ≡ true → (x || y) ≡ false
@@ -24,28 +24,28 @@ no-separator b e = go (eqb b 0x2F) (eqb b 0x5C) (eqb b 0x3A) e
     go false true z e = let n : ◌≡◌ {A = ℕ} 0 1 = cc in absurd (omega arith)
     go false false z e = refl
 
-one-component : (nm : List ℕ) → every safeUnit (units nm) ≡ true → components nm ≡ nm ∷ []
-unfolding components componentsOf units
+one-component : (nm : List ℕ) → every safe_unit (units nm) ≡ true → components nm ≡ nm ∷ []
+unfolding components components_of units
 one-component nm e = by_units One none_left of_pair of-single nm e
   where
     One : List ℕ → Type 0
-    One s = every safeUnit (units s) ≡ true → componentsOf (units s) ≡ s ∷ []
+    One s = every safe_unit (units s) ≡ true → components_of (units s) ≡ s ∷ []
 
     none_left : One []
     none_left q = refl
 
-    of_pair : (a b : ℕ) (s : List ℕ) → leadByte a ≡ true → trailByte b ≡ true → units (a ∷ b ∷ s) ≡ pair a b ∷ units s → One s → One (a ∷ b ∷ s)
-    of_pair a b s l t u ih q = let x : every safeUnit (units s) ≡ true = rw u at q in rw (u, ih x)
+    of_pair : (a b : ℕ) (s : List ℕ) → lead_byte a ≡ true → trail_byte b ≡ true → units (a ∷ b ∷ s) ≡ pair a b ∷ units s → One s → One (a ∷ b ∷ s)
+    of_pair a b s l t u ih q = let x : every safe_unit (units s) ≡ true = rw u at q in rw (u, ih x)
 
     of-single : (a : ℕ) (s : List ℕ) → units (a ∷ s) ≡ single a ∷ units s → One s → One (a ∷ s)
     of-single a s u ih q =
-        let x : (safeByte a && every safeUnit (units s)) ≡ true = rw u at q in
-        rw (u, no-separator a (and_left (safeByte a) _ x), ih (and_right (safeByte a) _ x))
+        let x : (safe_byte a && every safe_unit (units s)) ≡ true = rw u at q in
+        rw (u, no-separator a (and_left (safe_byte a) _ x), ih (and_right (safe_byte a) _ x))
 
 pub record Name (nm : List ℕ) : Type 0 where
   pub one : components nm ≡ nm ∷ []
   pub moves : stays nm ≡ false
-  pub forward : goesBack nm ≡ false
+  pub forward : goes_back nm ≡ false
 
 -- LAW: a safe name
 pub safe-name : (nm : List ℕ) → safe nm ≡ true → Name nm
@@ -59,30 +59,30 @@ safe-name (a ∷ nm) e =
     moves [] d = d
     moves (b ∷ xs) d = refl
 
-    forward : (xs : List ℕ) → dots (a ∷ xs) ≡ false → goesBack (a ∷ xs) ≡ false
+    forward : (xs : List ℕ) → dots (a ∷ xs) ≡ false → goes_back (a ∷ xs) ≡ false
     forward [] d = refl
     forward (b ∷ []) d = d
     forward (b ∷ c ∷ xs) d = refl
 
 -- ---- a path with a name behind it
 
-some-component : (us : List TextUnit) → (c : List ℕ) × (cs : List (List ℕ)) × (componentsOf us ≡ c ∷ cs)
-unfolding componentsOf
+some-component : (us : List TextUnit) → (c : List ℕ) × (cs : List (List ℕ)) × (components_of us ≡ c ∷ cs)
+unfolding components_of
 some-component [] = ([], [], refl)
 some-component (u ∷ us) = go (separates u) (some-component us)
   where
-    go : (t : Bool) → (c : List ℕ) × (cs : List (List ℕ)) × (componentsOf us ≡ c ∷ cs) → (c : List ℕ) × (cs : List (List ℕ)) × (cond t ([] ∷ componentsOf us) (longer u (componentsOf us)) ≡ c ∷ cs)
-    go true (c, cs, e) = ([], componentsOf us, refl)
-    go false (c, cs, e) = (unitBytes u ++ c, cs, rw e)
+    go : (t : Bool) → (c : List ℕ) × (cs : List (List ℕ)) × (components_of us ≡ c ∷ cs) → (c : List ℕ) × (cs : List (List ℕ)) × (cond t ([] ∷ components_of us) (longer u (components_of us)) ≡ c ∷ cs)
+    go true (c, cs, e) = ([], components_of us, refl)
+    go false (c, cs, e) = (unit_bytes u ++ c, cs, rw e)
 
 -- cut at a unit `/`
-cut-then : (us vs : List TextUnit) → componentsOf (us ++ (single 0x2F ∷ vs)) ≡ componentsOf us ++ componentsOf vs
-unfolding componentsOf
+cut-then : (us vs : List TextUnit) → components_of (us ++ (single 0x2F ∷ vs)) ≡ components_of us ++ components_of vs
+unfolding components_of
 cut-then [] vs = refl
 cut-then (u ∷ us) vs = rw (cut-then us vs) (go (separates u) (some-component us))
   where
-    go : (t : Bool) → (c : List ℕ) × (cs : List (List ℕ)) × (componentsOf us ≡ c ∷ cs) →
-        cond t ([] ∷ (componentsOf us ++ componentsOf vs)) (longer u (componentsOf us ++ componentsOf vs)) ≡ cond t ([] ∷ componentsOf us) (longer u (componentsOf us)) ++ componentsOf vs
+    go : (t : Bool) → (c : List ℕ) × (cs : List (List ℕ)) × (components_of us ≡ c ∷ cs) →
+        cond t ([] ∷ (components_of us ++ components_of vs)) (longer u (components_of us ++ components_of vs)) ≡ cond t ([] ∷ components_of us) (longer u (components_of us)) ++ components_of vs
     go true s = refl
     go false (c, cs, e) = rw e
 
@@ -94,11 +94,11 @@ components-then path rest = rw (units-then path rest) (cut-then (units path) (un
 follow-then : (nodes : List Node) (cs ds : List (List ℕ)) (trail : List ℕ) (k j : ℕ) → follow nodes trail k cs ≡ Ok j → (trail' : List ℕ) × (follow nodes trail k (cs ++ ds) ≡ follow nodes trail' j ds)
 unfolding follow
 follow-then nodes [] ds trail k j e = let k≡ : k ≡ j = cc in (trail, rw k≡)
-follow-then nodes (c ∷ cs) ds trail k j e = go (isDirectory (get_or nodes k none)) (stays c) (goesBack c) trail (childOf nodes k c) (λ t i. follow-then nodes cs ds t i j) e
+follow-then nodes (c ∷ cs) ds trail k j e = go (is_directory (get_or nodes k none)) (stays c) (goes_back c) trail (child_of nodes k c) (λ t i. follow-then nodes cs ds t i j) e
   where
     go : (d s b : Bool) (t : List ℕ) (a : Result ℕ Refusal) → ((t : List ℕ) (i : ℕ) → follow nodes t i cs ≡ Ok j → (trail' : List ℕ) × (follow nodes t i (cs ++ ds) ≡ follow nodes trail' j ds)) →
-        cond d (cond s (follow nodes t k cs) (cond b (stepBack t (λ i rest. follow nodes rest i cs)) (and_then a (λ i. follow nodes (k ∷ t) i cs)))) (Err ExpectedDirectory) ≡ Ok j →
-        (trail' : List ℕ) × (cond d (cond s (follow nodes t k (cs ++ ds)) (cond b (stepBack t (λ i rest. follow nodes rest i (cs ++ ds))) (and_then a (λ i. follow nodes (k ∷ t) i (cs ++ ds))))) (Err ExpectedDirectory) ≡ follow nodes trail' j ds)
+        cond d (cond s (follow nodes t k cs) (cond b (step_back t (λ i rest. follow nodes rest i cs)) (and_then a (λ i. follow nodes (k ∷ t) i cs)))) (Err ExpectedDirectory) ≡ Ok j →
+        (trail' : List ℕ) × (cond d (cond s (follow nodes t k (cs ++ ds)) (cond b (step_back t (λ i rest. follow nodes rest i (cs ++ ds))) (and_then a (λ i. follow nodes (k ∷ t) i (cs ++ ds))))) (Err ExpectedDirectory) ≡ follow nodes trail' j ds)
     go false s b t a ih q = let z : ◌≡◌ {A = ℕ} 0 1 = cc in absurd (omega arith)
     go true true b t a ih q = ih t k q
     go true false true [] a ih q = let z : ◌≡◌ {A = ℕ} 0 1 = cc in absurd (omega arith)
@@ -106,7 +106,7 @@ follow-then nodes (c ∷ cs) ds trail k j e = go (isDirectory (get_or nodes k no
     go true false false t (Ok i) ih q = ih (k ∷ t) i q
     go true false false t (Err r) ih q = let z : ◌≡◌ {A = ℕ} 0 1 = cc in absurd (omega arith)
 
-module _ (nodes : List Node) (d : ℕ) (nm : List ℕ) (k : ℕ) (dir : isDirectory (get_or nodes d none) ≡ true) (ok : safe nm ≡ true) (child : childOf nodes d nm ≡ Ok k) where
+module _ (nodes : List Node) (d : ℕ) (nm : List ℕ) (k : ℕ) (dir : is_directory (get_or nodes d none) ≡ true) (ok : safe nm ≡ true) (child : child_of nodes d nm ≡ Ok k) where
   named_step : (trail : List ℕ) → follow nodes trail d (nm ∷ []) ≡ Ok k
   unfolding follow
   named_step trail = let n = safe-name nm ok in rw (dir, n.moves, n.forward, child)

@@ -6,9 +6,9 @@ use Rattle.std.proofs.Math.Path.{refl}
 use mathlib.Core.List.{List, [], ◌∷◌, tail, head-eq_of_cons-eq, nil≢cons}
 use Rattle.std.proofs.Math.ListN.{length, length-set}
 use Rattle.std.proofs.Math.Seq.{get_or-set_same, get_or-set_other}
-use Rattle.tree.specs.Table.{Node, file, directory, name_of, none, shut, enter, encloses, parentBelow, parent_of, textsOf, shallowEntry, shallowFrom, shallow, limits}
+use Rattle.tree.specs.Table.{Node, file, directory, name_of, none, shut, enter, encloses, parent_below, parent_of, texts_of, shallow_entry, shallow_from, shallow, limits}
 use Rattle.tree.specs.Inner.WellFormed.{GoodEntry, Sound, WellFormed}
-use Rattle.tree.specs.Insert.{placed, setPlace}
+use Rattle.tree.specs.Insert.{placed, set_place}
 
 module _ (offset size : ℕ) where
   pub name-placed : (x : Node) → name_of (placed offset size x) ≡ name_of x
@@ -19,7 +19,7 @@ module _ (offset size : ℕ) where
   enter-placed dirs (file nm a b) = refl
   enter-placed dirs (directory nm next) = refl
 
-  shallow-placed : (dirs : List ℕ) (x : Node) → shallowEntry dirs (placed offset size x) ≡ shallowEntry dirs x
+  shallow-placed : (dirs : List ℕ) (x : Node) → shallow_entry dirs (placed offset size x) ≡ shallow_entry dirs x
   shallow-placed dirs (file nm a b) = refl
   shallow-placed dirs (directory nm next) = refl
 
@@ -38,14 +38,14 @@ module _ (offset size : ℕ) where
   sound-set c k dirs (x ∷ xs) zero ho hs g = rw (name-placed x, enter-placed (shut k dirs) x) (g.0, good_placed c k (shut k dirs) x ho hs g.1, g.2)
   sound-set c k dirs (x ∷ xs) (suc i) ho hs g = (g.0, g.1, sound-set c (suc k) (enter (shut k dirs) x) xs i ho hs g.2)
 
-  shallow-set : (k : ℕ) (dirs : List ℕ) (xs : List Node) (i : ℕ) → shallowFrom dirs k (set xs i (placed offset size (get_or xs i none))) ≡ shallowFrom dirs k xs
-  unfolding shallowFrom
+  shallow-set : (k : ℕ) (dirs : List ℕ) (xs : List Node) (i : ℕ) → shallow_from dirs k (set xs i (placed offset size (get_or xs i none))) ≡ shallow_from dirs k xs
+  unfolding shallow_from
   shallow-set k dirs [] i = refl
   shallow-set k dirs (x ∷ xs) zero = rw (shallow-placed (shut k dirs) x, enter-placed (shut k dirs) x)
   shallow-set k dirs (x ∷ xs) (suc i) = rw (shallow-set (suc k) (enter (shut k dirs) x) xs i)
 
-  texts-set : (xs : List Node) (i : ℕ) → textsOf (set xs i (placed offset size (get_or xs i none))) ≡ textsOf xs
-  unfolding textsOf
+  texts-set : (xs : List Node) (i : ℕ) → texts_of (set xs i (placed offset size (get_or xs i none))) ≡ texts_of xs
+  unfolding texts_of
   texts-set [] i = refl
   texts-set (x ∷ xs) zero = rw (name-placed x)
   texts-set (x ∷ xs) (suc i) = rw (texts-set xs i)
@@ -59,60 +59,60 @@ module _ (offset size : ℕ) where
 
   -- ---- the whole tree
 
-  pub length-setPlace : (k : ℕ) (nodes : List Node) → length (setPlace k offset size nodes) ≡ length nodes
-  unfolding setPlace
-  length-setPlace k nodes = simp length-set
+  pub length-set_place : (k : ℕ) (nodes : List Node) → length (set_place k offset size nodes) ≡ length nodes
+  unfolding set_place
+  length-set_place k nodes = simp length-set
 
-  pub setPlace-at : (k : ℕ) (nodes : List Node) → k < length nodes → get_or (setPlace k offset size nodes) k none ≡ placed offset size (get_or nodes k none)
-  unfolding setPlace
-  setPlace-at k nodes h = get_or-set_same nodes k _ none h
+  pub set_place-at : (k : ℕ) (nodes : List Node) → k < length nodes → get_or (set_place k offset size nodes) k none ≡ placed offset size (get_or nodes k none)
+  unfolding set_place
+  set_place-at k nodes h = get_or-set_same nodes k _ none h
 
-  pub setPlace-other : (k j : ℕ) (nodes : List Node) → (j ≡ k → ⊥) → get_or (setPlace k offset size nodes) j none ≡ get_or nodes j none
-  unfolding setPlace
-  setPlace-other k j nodes h = get_or-set_other nodes k j _ none h
+  pub set_place-other : (k j : ℕ) (nodes : List Node) → (j ≡ k → ⊥) → get_or (set_place k offset size nodes) j none ≡ get_or nodes j none
+  unfolding set_place
+  set_place-other k j nodes h = get_or-set_other nodes k j _ none h
 
-  below-setPlace : (k m i : ℕ) (nodes : List Node) → parentBelow (setPlace k offset size nodes) m i ≡ parentBelow nodes m i
-  unfolding parentBelow setPlace
-  below-setPlace k m zero nodes = refl
-  below-setPlace k m (suc i) nodes = rw (encloses-set nodes k i m, below-setPlace k m i nodes)
+  below-set_place : (k m i : ℕ) (nodes : List Node) → parent_below (set_place k offset size nodes) m i ≡ parent_below nodes m i
+  unfolding parent_below set_place
+  below-set_place k m zero nodes = refl
+  below-set_place k m (suc i) nodes = rw (encloses-set nodes k i m, below-set_place k m i nodes)
 
-  pub parent-setPlace : (k m : ℕ) (nodes : List Node) → parent_of (setPlace k offset size nodes) m ≡ parent_of nodes m
+  pub parent-set_place : (k m : ℕ) (nodes : List Node) → parent_of (set_place k offset size nodes) m ≡ parent_of nodes m
   unfolding parent_of
-  parent-setPlace k m nodes = below-setPlace k m m nodes
+  parent-set_place k m nodes = below-set_place k m m nodes
 
   -- the root is a directory and stays; the others are changed past it
-  root-stays : (xs : List Node) (c : ℕ) → setPlace 0 offset size (directory [] c ∷ xs) ≡ directory [] c ∷ xs
-  unfolding setPlace
+  root-stays : (xs : List Node) (c : ℕ) → set_place 0 offset size (directory [] c ∷ xs) ≡ directory [] c ∷ xs
+  unfolding set_place
   root-stays xs c = refl
 
-  past-root : (r : Node) (xs : List Node) (i : ℕ) → setPlace (suc i) offset size (r ∷ xs) ≡ r ∷ set xs i (placed offset size (get_or xs i none))
-  unfolding setPlace
+  past-root : (r : Node) (xs : List Node) (i : ℕ) → set_place (suc i) offset size (r ∷ xs) ≡ r ∷ set xs i (placed offset size (get_or xs i none))
+  unfolding set_place
   past-root r xs i = refl
 
-  pub texts-setPlace : (k : ℕ) (nodes : List Node) → textsOf (tail (setPlace k offset size nodes)) ≡ textsOf (tail nodes)
-  unfolding setPlace
-  texts-setPlace k [] = refl
-  texts-setPlace zero (r ∷ xs) = refl
-  texts-setPlace (suc i) (r ∷ xs) = texts-set xs i
+  pub texts-set_place : (k : ℕ) (nodes : List Node) → texts_of (tail (set_place k offset size nodes)) ≡ texts_of (tail nodes)
+  unfolding set_place
+  texts-set_place k [] = refl
+  texts-set_place zero (r ∷ xs) = refl
+  texts-set_place (suc i) (r ∷ xs) = texts-set xs i
 
-  pub shallow-setPlace : (k : ℕ) (nodes : List Node) → shallow (setPlace k offset size nodes) ≡ shallow nodes
-  unfolding shallow setPlace
-  shallow-setPlace k [] = refl
-  shallow-setPlace zero (r ∷ xs) = refl
-  shallow-setPlace (suc i) (r ∷ xs) =
+  pub shallow-set_place : (k : ℕ) (nodes : List Node) → shallow (set_place k offset size nodes) ≡ shallow nodes
+  unfolding shallow set_place
+  shallow-set_place k [] = refl
+  shallow-set_place zero (r ∷ xs) = refl
+  shallow-set_place (suc i) (r ∷ xs) =
       let l : length (set xs i (placed offset size (get_or xs i none))) ≡ length xs = simp length-set in
       rw l (shallow-set 1 (suc (length xs) ∷ []) xs i)
 
-  pub limits-setPlace : (k : ℕ) (nodes : List Node) (words : ℕ) → limits (setPlace k offset size nodes) words ≡ limits nodes words
+  pub limits-set_place : (k : ℕ) (nodes : List Node) (words : ℕ) → limits (set_place k offset size nodes) words ≡ limits nodes words
   unfolding limits
-  limits-setPlace k nodes words = rw (length-setPlace k nodes, texts-setPlace k nodes, shallow-setPlace k nodes)
+  limits-set_place k nodes words = rw (length-set_place k nodes, texts-set_place k nodes, shallow-set_place k nodes)
 
-  pub setPlace-sound : (k : ℕ) (nodes : List Node) → WellFormed nodes → offset < 2 ^ 32 → size < 2 ^ 32 → WellFormed (setPlace k offset size nodes)
-  setPlace-sound k [] w ho hs = absurd (nil≢cons w.root)
-  setPlace-sound zero (r ∷ xs) w ho hs =
+  pub set_place-sound : (k : ℕ) (nodes : List Node) → WellFormed nodes → offset < 2 ^ 32 → size < 2 ^ 32 → WellFormed (set_place k offset size nodes)
+  set_place-sound k [] w ho hs = absurd (nil≢cons w.root)
+  set_place-sound zero (r ∷ xs) w ho hs =
       let e : r ≡ directory [] (suc (length xs)) = head-eq_of_cons-eq w.root in
       rw (e, root-stays xs (suc (length xs))) (rw e at w)
-  setPlace-sound (suc i) (r ∷ xs) w ho hs =
+  set_place-sound (suc i) (r ∷ xs) w ho hs =
       let l : length (set xs i (placed offset size (get_or xs i none))) ≡ length xs = simp length-set in
       let e : r ≡ directory [] (suc (length xs)) = head-eq_of_cons-eq w.root in
       rw (past-root r xs i) record { root = rw (l, e); sound = rw l (sound-set (suc (length xs)) 1 (suc (length xs) ∷ []) xs i ho hs w.sound) }

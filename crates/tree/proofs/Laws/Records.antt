@@ -77,28 +77,28 @@ abbrev pub up_to : (ℕ → List ℕ) → (ℕ → List ℕ) → ℕ → ℕ →
 up_to new old k j = cond (ltb j k) (new j) (old j)
 
 module _ (new old : ℕ → List ℕ) where
-  pub upTo-start : (n : ℕ) → records (up_to new old 0) 0 n ≡ records old 0 n
-  upTo-start n = records-ext (up_to new old 0) old 0 n (λ i h. rw (le-ltb (0 + i) 0 (omega arith)))
+  pub up_to-start : (n : ℕ) → records (up_to new old 0) 0 n ≡ records old 0 n
+  up_to-start n = records-ext (up_to new old 0) old 0 n (λ i h. rw (le-ltb (0 + i) 0 (omega arith)))
 
-  pub upTo-end : (n : ℕ) → records (up_to new old n) 0 n ≡ records new 0 n
-  upTo-end n = records-ext (up_to new old n) new 0 n (λ i h. rw (lt-ltb (0 + i) n (omega arith)))
+  pub up_to-end : (n : ℕ) → records (up_to new old n) 0 n ≡ records new 0 n
+  up_to-end n = records-ext (up_to new old n) new 0 n (λ i h. rw (lt-ltb (0 + i) n (omega arith)))
 
-  pub upTo-twelve : Twelve new → Twelve old → (k : ℕ) → Twelve (up_to new old k)
-  upTo-twelve a b k j = go (ltb j k)
+  pub up_to-twelve : Twelve new → Twelve old → (k : ℕ) → Twelve (up_to new old k)
+  up_to-twelve a b k j = go (ltb j k)
     where
       go : (t : Bool) → length (cond t (new j) (old j)) ≡ 12
       go true = a j
       go false = b j
 
   -- one turn: record k is put
-  pub upTo-next : Twelve new → Twelve old → (n k : ℕ) (r : List ℕ) → k < n →
+  pub up_to-next : Twelve new → Twelve old → (n k : ℕ) (r : List ℕ) → k < n →
       put (records (up_to new old k) 0 n ++ r) (12 * k) (new k) ≡ records (up_to new old (k + 1)) 0 n ++ r
-  upTo-next a b n k r h =
+  up_to-next a b n k r h =
       let f : ℕ → List ℕ = up_to new old k in
       let g : ℕ → List ℕ = up_to new old (k + 1) in
-      let l : length (records f 0 k) + 0 ≡ 12 * k = omega (arith, length-records f (upTo-twelve a b k) 0 k) in
+      let l : length (records f 0 k) + 0 ≡ 12 * k = omega (arith, length-records f (up_to-twelve a b k) 0 k) in
       let s : records f 0 k ≡ records g 0 k = records-ext f g 0 k (λ i m. rw (lt-ltb (0 + i) k (omega arith), lt-ltb (0 + i) (k + 1) (omega arith))) in
       let t : records f (suc k) (n - suc k) ≡ records g (suc k) (n - suc k) =
       records-ext f g (suc k) (n - suc k) (λ i m. rw (le-ltb (suc k + i) k (omega arith), le-ltb (suc k + i) (k + 1) (omega arith))) in
       let e : g k ≡ new k = rw (lt-ltb k (k + 1) (omega arith)) in
-      rw (records-at f n k r h, records-at g n k r h, put-middle (records f 0 k) (f k) _ (12 * k) 0 (new k) l (omega (arith, a k, upTo-twelve a b k k)), put_whole (f k) (new k) (upTo-twelve a b k k ∙ sym (a k)), s, t, e)
+      rw (records-at f n k r h, records-at g n k r h, put-middle (records f 0 k) (f k) _ (12 * k) 0 (new k) l (omega (arith, a k, up_to-twelve a b k k)), put_whole (f k) (new k) (up_to-twelve a b k k ∙ sym (a k)), s, t, e)

@@ -13,9 +13,9 @@ use Rattle.endian.specs.Laws.Stored.{be32-value}
 use Rattle.refusal.specs.declared.Refusal.TheVariants.{LimitOrMemory}
 use Rattle.refusal.specs.Refusal.{refuse}
 use Rattle.refusal.specs.Laws.Chains.{refuse-passed}
-use Rattle.tree.specs.Table.{Node, directory, kind, sizeOrNext, count, nodesFrom, nodesOf, entriesVerdict, walk, check, nodeBytes, entriesBytes, textsOf, encode, shallowFrom, shallow, limits}
+use Rattle.tree.specs.Table.{Node, directory, kind, size_or_next, count, nodes_from, nodes_of, entries_verdict, walk, check, node_bytes, entries_bytes, texts_of, encode, shallow_from, shallow, limits}
 use Rattle.tree.specs.Inner.WellFormed.{Sound, WellFormed}
-use Rattle.tree.proofs.Laws.WrittenEntries.{length-entriesBytes, length-encode, entries-accepted, Reads, reads, reads-nodes, reads-walk, last-append, last-text, not-unended}
+use Rattle.tree.proofs.Laws.WrittenEntries.{length-entries_bytes, length-encode, entries-accepted, Reads, reads, reads-nodes, reads-walk, last-append, last-text, not-unended}
 
 -- ---- the whole table, of the root and the entries xs
 
@@ -27,19 +27,19 @@ module _ (xs : List Node) (few : suc (length xs) < 2 ^ 32) where
   tab = encode (whole xs)
 
   abbrev front : List ℕ
-  front = nodeBytes 0 0 (directory [] (suc (length xs))) ++ entriesBytes (whole xs) 1 0 xs
+  front = node_bytes 0 0 (directory [] (suc (length xs))) ++ entries_bytes (whole xs) 1 0 xs
 
   front_length : length front ≡ 12 * suc (length xs) + 0
-  front_length = omega (arith, length-append (nodeBytes 0 0 (directory [] (suc (length xs)))) (entriesBytes (whole xs) 1 0 xs), length-entriesBytes (whole xs) 1 0 xs)
+  front_length = omega (arith, length-append (node_bytes 0 0 (directory [] (suc (length xs)))) (entries_bytes (whole xs) 1 0 xs), length-entries_bytes (whole xs) 1 0 xs)
 
-  texts-length : length tab - 12 * suc (length xs) ≡ length (textsOf xs)
+  texts-length : length tab - 12 * suc (length xs) ≡ length (texts_of xs)
   texts-length = omega (arith, length-encode (whole xs))
 
   tab-kind : kind tab 0 ≡ 1
   unfolding encode
   tab-kind = refl
 
-  tab-next : sizeOrNext tab 0 ≡ suc (length xs)
+  tab-next : size_or_next tab 0 ≡ suc (length xs)
   unfolding encode be32
   tab-next = be32-value (suc (length xs)) few
 
@@ -50,22 +50,22 @@ module _ (xs : List Node) (few : suc (length xs) < 2 ^ 32) where
   pred-count : suc (length xs) - 1 ≡ length xs
   pred-count = omega arith
 
-  tab-entries : entriesVerdict tab 1 (length xs) ≡ Ok tt
+  tab-entries : entries_verdict tab 1 (length xs) ≡ Ok tt
   unfolding encode
-  tab-entries = entries-accepted (whole xs) tab 1 0 xs (textsOf xs) refl
+  tab-entries = entries-accepted (whole xs) tab 1 0 xs (texts_of xs) refl
 
   tab-last : 12 * suc (length xs) < length tab → get_or tab (length tab - 1) 0 ≡ 0
   unfolding encode
-  tab-last h = last-append front (textsOf xs) (omega (arith, texts-length)) ∙ last-text xs
+  tab-last h = last-append front (texts_of xs) (omega (arith, texts-length)) ∙ last-text xs
 
   module _ (g : Sound (suc (length xs)) (suc (length xs) ∷ []) 1 xs) where
-    tab-reads : length (textsOf xs) ≤ 2 ^ 24 → Reads tab (suc (length xs)) 1 xs
+    tab-reads : length (texts_of xs) ≤ 2 ^ 24 → Reads tab (suc (length xs)) 1 xs
     unfolding encode
     tab-reads texts =
-        reads (whole xs) tab (suc (length xs)) 1 0 (suc (length xs) ∷ []) (textsOf xs) xs refl (drop_at front (textsOf xs) _ front_length) (omega arith) few g
+        reads (whole xs) tab (suc (length xs)) 1 0 (suc (length xs) ∷ []) (texts_of xs) xs refl (drop_at front (texts_of xs) _ front_length) (omega arith) few g
 
-    back : length (textsOf xs) ≤ 2 ^ 24 → nodesOf tab ≡ whole xs
-    unfolding nodesOf
+    back : length (texts_of xs) ≤ 2 ^ 24 → nodes_of tab ≡ whole xs
+    unfolding nodes_of
     back texts = rw (tab-count, pred-count) (ap (λ (l : List Node). directory [] (suc (length xs)) ∷ l) (reads-nodes tab (suc (length xs)) 1 xs (tab-reads texts)))
 
     judged : (words : ℕ) → check tab words ≡ limits (whole xs) words
@@ -82,18 +82,18 @@ module _ (xs : List Node) (few : suc (length xs) < 2 ^ 32) where
           tab-next,
           lt-leb (suc (length xs)) 0 (omega arith),
         )
-        (ap (refuse (ltb 16384 (suc (length xs))) LimitOrMemory) (go (ltb 1048576 (length (textsOf xs))) refl))
+        (ap (refuse (ltb 16384 (suc (length xs))) LimitOrMemory) (go (ltb 1048576 (length (texts_of xs))) refl))
       where
-        go : (t : Bool) → ltb 1048576 (length (textsOf xs)) ≡ t →
-            refuse t LimitOrMemory (refuse (ltb words (4 * (suc (length xs) + 2))) LimitOrMemory (walk tab (suc (length xs)) (suc (length xs) ∷ []) 1 (nodesFrom tab (suc (length xs)) 1 (length xs)))) ≡
-            refuse t LimitOrMemory (refuse (ltb words (4 * (suc (length xs) + 2))) LimitOrMemory (refuse (not (shallowFrom (suc (length xs) ∷ []) 1 xs)) LimitOrMemory (Ok tt)))
+        go : (t : Bool) → ltb 1048576 (length (texts_of xs)) ≡ t →
+            refuse t LimitOrMemory (refuse (ltb words (4 * (suc (length xs) + 2))) LimitOrMemory (walk tab (suc (length xs)) (suc (length xs) ∷ []) 1 (nodes_from tab (suc (length xs)) 1 (length xs)))) ≡
+            refuse t LimitOrMemory (refuse (ltb words (4 * (suc (length xs) + 2))) LimitOrMemory (refuse (not (shallow_from (suc (length xs) ∷ []) 1 xs)) LimitOrMemory (Ok tt)))
         go true e = refl
         go false e =
-            let h : length (textsOf xs) ≤ 1048576 = ltb-false 1048576 (length (textsOf xs)) e in
+            let h : length (texts_of xs) ≤ 1048576 = ltb-false 1048576 (length (texts_of xs)) e in
             let r : Reads tab (suc (length xs)) 1 xs = tab-reads (omega arith) in
             rw (reads-nodes tab (suc (length xs)) 1 xs r, reads-walk tab (suc (length xs)) 1 (suc (length xs) ∷ []) xs r g)
 
-pub round_trip : (nodes : List Node) → WellFormed nodes → length nodes < 2 ^ 32 → length (textsOf (tail nodes)) ≤ 2 ^ 24 → nodesOf (encode nodes) ≡ nodes
+pub round_trip : (nodes : List Node) → WellFormed nodes → length nodes < 2 ^ 32 → length (texts_of (tail nodes)) ≤ 2 ^ 24 → nodes_of (encode nodes) ≡ nodes
 round_trip [] w few texts = cc w.root
 round_trip (x ∷ xs) w few texts = rw w.root (back xs few w.sound texts)
 
@@ -105,7 +105,7 @@ check-limits (x ∷ xs) words w few = rw w.root (judged xs few w.sound words)
 
 pub record Within (nodes : List Node) (words : ℕ) : Type 0 where
   pub few : length nodes ≤ 16384
-  pub texts : length (textsOf (tail nodes)) ≤ 2 ^ 20
+  pub texts : length (texts_of (tail nodes)) ≤ 2 ^ 20
   pub room : 4 * (length nodes + 2) ≤ words
   pub depth : shallow nodes ≡ true
 
@@ -113,7 +113,7 @@ pub within-limits : (nodes : List Node) (words : ℕ) → limits nodes words ≡
 unfolding limits
 within-limits nodes words e =
     let e₁ = refuse-passed (ltb 16384 (length nodes)) LimitOrMemory _ e in
-    let e₂ = refuse-passed (ltb 1048576 (length (textsOf (tail nodes)))) LimitOrMemory _ e₁.1 in
+    let e₂ = refuse-passed (ltb 1048576 (length (texts_of (tail nodes)))) LimitOrMemory _ e₁.1 in
     let e₃ = refuse-passed (ltb words (4 * (length nodes + 2))) LimitOrMemory _ e₂.1 in
     let e₄ = refuse-passed (not (shallow nodes)) LimitOrMemory _ e₃.1 in
     record { few = ltb-false _ _ e₁.0; texts = ltb-false _ _ e₂.0; room = ltb-false _ _ e₃.0; depth = not-false (shallow nodes) e₄.0 }
@@ -121,11 +121,11 @@ within-limits nodes words e =
 pub limits-within : (nodes : List Node) (words : ℕ) → Within nodes words → limits nodes words ≡ Ok tt
 unfolding limits
 limits-within nodes words w =
-    simp (le-ltb 16384 (length nodes) w.few, le-ltb 1048576 (length (textsOf (tail nodes))) w.texts, le-ltb words (4 * (length nodes + 2)) w.room, w.depth)
+    simp (le-ltb 16384 (length nodes) w.few, le-ltb 1048576 (length (texts_of (tail nodes))) w.texts, le-ltb words (4 * (length nodes + 2)) w.room, w.depth)
 
 -- a tree within the limits: its table is accepted, and reads as the tree
 pub written-accepted : (nodes : List Node) (words : ℕ) → WellFormed nodes → limits nodes words ≡ Ok tt → check (encode nodes) words ≡ Ok tt
 written-accepted nodes words w l = check-limits nodes words w (omega (arith, (within-limits nodes words l).few)) ∙ l
 
-pub written-reads : (nodes : List Node) (words : ℕ) → WellFormed nodes → limits nodes words ≡ Ok tt → nodesOf (encode nodes) ≡ nodes
+pub written-reads : (nodes : List Node) (words : ℕ) → WellFormed nodes → limits nodes words ≡ Ok tt → nodes_of (encode nodes) ≡ nodes
 written-reads nodes words w l = let i : Within nodes words = within-limits nodes words l in round_trip nodes w (omega arith) (omega arith)

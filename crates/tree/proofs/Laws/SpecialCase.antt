@@ -4,13 +4,13 @@ use Rattle.std.specs.Prelude.{ℕ, ◌≡◌, refl, Bool, true, false, cond, not
 use Rattle.std.proofs.Common.{ap, ◌∙◌, arith}
 use Rattle.std.proofs.lemmas.Bool.{not-true}
 use Rattle.refusal.specs.Laws.Tests.{and_left, and_right, is_false}
-use Rattle.tree.specs.Units.{within, leadByte, TextUnit, single, units}
-use Rattle.tree.specs.Table.{every, plain_byte, safeByte, plainUnit, safeUnit, plain, dots, safe}
-use Rattle.tree.specs.Lookup.{separator, longer, componentsOf, components}
+use Rattle.tree.specs.Units.{within, lead_byte, TextUnit, single, units}
+use Rattle.tree.specs.Table.{every, plain_byte, safe_byte, plain_unit, safe_unit, plain, dots, safe}
+use Rattle.tree.specs.Lookup.{separator, longer, components_of, components}
 use Rattle.tree.proofs.Laws.UnitLaws.{within-is, lead_is}
 
 abbrev pub leadless : List ℕ → Bool
-leadless s = every (λ (b : ℕ). not (leadByte b)) s
+leadless s = every (λ (b : ℕ). not (lead_byte b)) s
 
 -- LAW: each byte is a unit
 pub each-single : (s : List ℕ) → leadless s ≡ true → units s ≡ map single s
@@ -18,7 +18,7 @@ unfolding units
 each-single [] e = refl
 each-single (a ∷ []) e = refl
 each-single (a ∷ b ∷ s) e =
-    rw (not-true (leadByte a) (and_left (not (leadByte a)) _ e)) (ap (λ (l : List TextUnit). single a ∷ l) (each-single (b ∷ s) (and_right (not (leadByte a)) _ e)))
+    rw (not-true (lead_byte a) (and_left (not (lead_byte a)) _ e)) (ap (λ (l : List TextUnit). single a ∷ l) (each-single (b ∷ s) (and_right (not (lead_byte a)) _ e)))
 
 every-single : (p : TextUnit → Bool) (s : List ℕ) → every p (map single s) ≡ every (λ (b : ℕ). p (single b)) s
 every-single p [] = refl
@@ -27,11 +27,11 @@ every-single p (b ∷ s) = rw (every-single p s)
 -- LAW: a name is judged byte by byte
 pub plain-leadless : (nm : List ℕ) → leadless nm ≡ true → plain nm ≡ every plain_byte nm
 unfolding plain
-plain-leadless nm e = rw (each-single nm e) (every-single plainUnit nm)
+plain-leadless nm e = rw (each-single nm e) (every-single plain_unit nm)
 
-pub safe-leadless : (a : ℕ) (nm : List ℕ) → leadless (a ∷ nm) ≡ true → safe (a ∷ nm) ≡ (not (dots (a ∷ nm)) && every safeByte (a ∷ nm))
+pub safe-leadless : (a : ℕ) (nm : List ℕ) → leadless (a ∷ nm) ≡ true → safe (a ∷ nm) ≡ (not (dots (a ∷ nm)) && every safe_byte (a ∷ nm))
 unfolding safe
-safe-leadless a nm e = rw (each-single (a ∷ nm) e, every-single safeUnit (a ∷ nm))
+safe-leadless a nm e = rw (each-single (a ∷ nm) e, every-single safe_unit (a ∷ nm))
 
 -- ---- "the path is cut at `/` and `\`", byte by byte
 
@@ -39,14 +39,14 @@ abbrev before : ℕ → List (List ℕ) → List (List ℕ)
 before b [] = (b ∷ []) ∷ []
 before b (c ∷ cs) = (b ∷ c) ∷ cs
 
-abbrev pub cutBytes : List ℕ → List (List ℕ)
-cutBytes [] = [] ∷ []
-cutBytes (b ∷ path) = cond (separator b) ([] ∷ cutBytes path) (before b (cutBytes path))
+abbrev pub cut_bytes : List ℕ → List (List ℕ)
+cut_bytes [] = [] ∷ []
+cut_bytes (b ∷ path) = cond (separator b) ([] ∷ cut_bytes path) (before b (cut_bytes path))
 
-cut-single : (s : List ℕ) → componentsOf (map single s) ≡ cutBytes s
-unfolding componentsOf
+cut-single : (s : List ℕ) → components_of (map single s) ≡ cut_bytes s
+unfolding components_of
 cut-single [] = refl
-cut-single (b ∷ s) = rw (cut-single s) (go (separator b) (cutBytes s))
+cut-single (b ∷ s) = rw (cut-single s) (go (separator b) (cut_bytes s))
   where
     go : (t : Bool) (cs : List (List ℕ)) → cond t ([] ∷ cs) (longer (single b) cs) ≡ cond t ([] ∷ cs) (before b cs)
     go true cs = refl
@@ -54,7 +54,7 @@ cut-single (b ∷ s) = rw (cut-single s) (go (separator b) (cutBytes s))
     go false (c ∷ cs) = refl
 
 -- LAW: a path is cut byte by byte
-pub components-leadless : (path : List ℕ) → leadless path ≡ true → components path ≡ cutBytes path
+pub components-leadless : (path : List ℕ) → leadless path ≡ true → components path ≡ cut_bytes path
 unfolding components
 components-leadless path e = rw (each-single path e) (cut-single path)
 
@@ -64,7 +64,7 @@ below-leadless : (s : List ℕ) → every (within 0 0x7F) s ≡ true → leadles
 below-leadless [] e = refl
 below-leadless (b ∷ s) e =
     let r = within-is 0 0x7F b (and_left (within 0 0x7F b) _ e) in
-    rw (is_false (leadByte b) (λ t. omega (arith, r.1, (lead_is b t).0))) (below-leadless s (and_right (within 0 0x7F b) _ e))
+    rw (is_false (lead_byte b) (λ t. omega (arith, r.1, (lead_is b t).0))) (below-leadless s (and_right (within 0 0x7F b) _ e))
 
 below_plain : (s : List ℕ) → every (within 0 0x7F) s ≡ true → every plain_byte s ≡ every (within 0x20 0x7E) s
 below_plain [] e = refl

@@ -10,7 +10,7 @@ use Rattle.std.proofs.Math.Numerals.{add-one}
 use Rattle.std.proofs.lemmas.Bool.{lt-leb}
 use Rattle.refusal.specs.Refusal.{first, is_refused}
 use Rattle.refusal.specs.Laws.Chains.{first-stop, first-go}
-use Rattle.tree.specs.Table.{Node, name_of, nodeAt, nodesFrom, entryVerdict, entriesVerdict, shut, enter, nameVerdict, nextVerdict, walk}
+use Rattle.tree.specs.Table.{Node, name_of, node_at, nodes_from, entry_verdict, entries_verdict, shut, enter, name_verdict, next_verdict, walk}
 
 first-assoc : (a b c : Verdict) → first a (first b c) ≡ first (first a b) c
 first-assoc (Ok _) b c = refl
@@ -18,51 +18,51 @@ first-assoc (Err r) b c = refl
 
 -- ---- "each further entry in turn (5, 6)"
 
-entries-step : (tab : List ℕ) (k n : ℕ) → k < n → entriesVerdict tab k (n - k) ≡ first (entryVerdict tab k) (entriesVerdict tab (k + 1) (n - (k + 1)))
-unfolding entriesVerdict
+entries-step : (tab : List ℕ) (k n : ℕ) → k < n → entries_verdict tab k (n - k) ≡ first (entry_verdict tab k) (entries_verdict tab (k + 1) (n - (k + 1)))
+unfolding entries_verdict
 entries-step tab k n h =
     let e : n - k ≡ suc (n - (k + 1)) = omega arith in
     rw (e, add-one k)
 
-pub entries-end : (tab : List ℕ) (k n : ℕ) → n ≤ k → entriesVerdict tab k (n - k) ≡ Ok tt
-unfolding entriesVerdict
+pub entries-end : (tab : List ℕ) (k n : ℕ) → n ≤ k → entries_verdict tab k (n - k) ≡ Ok tt
+unfolding entries_verdict
 entries-end tab k n h =
     let e : n - k ≡ 0 = omega arith in
     rw e
 
 -- v is what the entry's own test answered
-pub entries-stop : (tab : List ℕ) (k n : ℕ) (v : Verdict) → k < n → v ≡ entryVerdict tab k → is_refused v ≡ true → entriesVerdict tab k (n - k) ≡ v
+pub entries-stop : (tab : List ℕ) (k n : ℕ) (v : Verdict) → k < n → v ≡ entry_verdict tab k → is_refused v ≡ true → entries_verdict tab k (n - k) ≡ v
 entries-stop tab k n v h q z = entries-step tab k n h ∙ rw (← q) (first-stop v _ z)
 
-pub entries-go : (tab : List ℕ) (k n : ℕ) (v : Verdict) → k < n → v ≡ entryVerdict tab k → is_refused v ≡ false →
-    entriesVerdict tab k (n - k) ≡ entriesVerdict tab (k + 1) (n - (k + 1))
+pub entries-go : (tab : List ℕ) (k n : ℕ) (v : Verdict) → k < n → v ≡ entry_verdict tab k → is_refused v ≡ false →
+    entries_verdict tab k (n - k) ≡ entries_verdict tab (k + 1) (n - (k + 1))
 entries-go tab k n v h q z = entries-step tab k n h ∙ rw (← q) (first-go v _ z)
 
 -- ---- "Then the walk, per entry 11, 12, 13, 10, directory deeper than 64"
 
 -- all tests of entry k, which reads as x
-abbrev pub walkEntry : List ℕ → ℕ → List ℕ → ℕ → Node → Verdict
-walkEntry tab c dirs k x = first (nameVerdict tab c k (name_of x)) (nextVerdict c (shut k dirs) k x)
+abbrev pub walk_entry : List ℕ → ℕ → List ℕ → ℕ → Node → Verdict
+walk_entry tab c dirs k x = first (name_verdict tab c k (name_of x)) (next_verdict c (shut k dirs) k x)
 
 module _ (tab : List ℕ) (c : ℕ) (dirs : List ℕ) (k n : ℕ) where
-  walk_step : k < n → walk tab c dirs k (nodesFrom tab c k (n - k)) ≡
-      first (walkEntry tab c dirs k (nodeAt tab c k)) (walk tab c (enter (shut k dirs) (nodeAt tab c k)) (k + 1) (nodesFrom tab c (k + 1) (n - (k + 1))))
-  unfolding walk nodesFrom
+  walk_step : k < n → walk tab c dirs k (nodes_from tab c k (n - k)) ≡
+      first (walk_entry tab c dirs k (node_at tab c k)) (walk tab c (enter (shut k dirs) (node_at tab c k)) (k + 1) (nodes_from tab c (k + 1) (n - (k + 1))))
+  unfolding walk nodes_from
   walk_step h =
       let e : n - k ≡ suc (n - (k + 1)) = omega arith in
-      rw (e, add-one k) (first-assoc (nameVerdict tab c k (name_of (nodeAt tab c k))) (nextVerdict c (shut k dirs) k (nodeAt tab c k)) _)
+      rw (e, add-one k) (first-assoc (name_verdict tab c k (name_of (node_at tab c k))) (next_verdict c (shut k dirs) k (node_at tab c k)) _)
 
-  pub walk_end : n ≤ k → walk tab c dirs k (nodesFrom tab c k (n - k)) ≡ Ok tt
-  unfolding walk nodesFrom
+  pub walk_end : n ≤ k → walk tab c dirs k (nodes_from tab c k (n - k)) ≡ Ok tt
+  unfolding walk nodes_from
   walk_end h =
       let e : n - k ≡ 0 = omega arith in
       rw e
 
-  pub walk-stop : (v : Verdict) → k < n → v ≡ walkEntry tab c dirs k (nodeAt tab c k) → is_refused v ≡ true → walk tab c dirs k (nodesFrom tab c k (n - k)) ≡ v
+  pub walk-stop : (v : Verdict) → k < n → v ≡ walk_entry tab c dirs k (node_at tab c k) → is_refused v ≡ true → walk tab c dirs k (nodes_from tab c k (n - k)) ≡ v
   walk-stop v h q z = walk_step h ∙ rw (← q) (first-stop v _ z)
 
-  pub walk-go : (v : Verdict) → k < n → v ≡ walkEntry tab c dirs k (nodeAt tab c k) → is_refused v ≡ false →
-      walk tab c dirs k (nodesFrom tab c k (n - k)) ≡ walk tab c (enter (shut k dirs) (nodeAt tab c k)) (k + 1) (nodesFrom tab c (k + 1) (n - (k + 1)))
+  pub walk-go : (v : Verdict) → k < n → v ≡ walk_entry tab c dirs k (node_at tab c k) → is_refused v ≡ false →
+      walk tab c dirs k (nodes_from tab c k (n - k)) ≡ walk tab c (enter (shut k dirs) (node_at tab c k)) (k + 1) (nodes_from tab c (k + 1) (n - (k + 1)))
   walk-go v h q z = walk_step h ∙ rw (← q) (first-go v _ z)
 
 -- ---- the directories that end at an entry are shut one by one

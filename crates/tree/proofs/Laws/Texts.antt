@@ -9,35 +9,35 @@ use Rattle.std.proofs.Math.ListN.{length, get_or, drop, length-drop}
 use Rattle.endian.specs.Bytes.{span}
 use Rattle.refusal.specs.Laws.Tests.{and_right}
 use Rattle.tree.specs.Units.{within}
-use Rattle.tree.specs.Table.{every, upTo0, name_at}
+use Rattle.tree.specs.Table.{every, up_to0, name_at}
 
 -- a name of bytes that are not zero, and its zero byte
-pub upTo0-name : (nm r : List ℕ) → every (within 0x20 0xFC) nm ≡ true → upTo0 (nm ++ (0 ∷ r)) ≡ nm
-upTo0-name [] r e = refl
-upTo0-name (zero ∷ nm) r e = cc
-upTo0-name (suc b ∷ nm) r e = ap (λ (l : List ℕ). suc b ∷ l) (upTo0-name nm r (and_right (within 0x20 0xFC (suc b)) _ e))
+pub up_to0-name : (nm r : List ℕ) → every (within 0x20 0xFC) nm ≡ true → up_to0 (nm ++ (0 ∷ r)) ≡ nm
+up_to0-name [] r e = refl
+up_to0-name (zero ∷ nm) r e = cc
+up_to0-name (suc b ∷ nm) r e = ap (λ (l : List ℕ). suc b ∷ l) (up_to0-name nm r (and_right (within 0x20 0xFC (suc b)) _ e))
 
 -- what a loop that looks for the zero byte has found
-pub upTo0-found : (s : List ℕ) (n : ℕ) → n < length s → ((i : ℕ) → i < n → 0 < get_or s i 0) → get_or s n 0 ≡ 0 → upTo0 s ≡ take n s
-upTo0-found [] n h f z = absurd (omega arith)
-upTo0-found (zero ∷ s) zero h f z = refl
-upTo0-found (zero ∷ s) (suc n) h f z = absurd (omega (arith, f 0 (omega arith)))
-upTo0-found (suc b ∷ s) zero h f z = absurd (omega arith)
-upTo0-found (suc b ∷ s) (suc n) h f z = ap (λ (l : List ℕ). suc b ∷ l) (upTo0-found s n (omega arith) (λ i j. f (suc i) (omega arith)) z)
+pub up_to0-found : (s : List ℕ) (n : ℕ) → n < length s → ((i : ℕ) → i < n → 0 < get_or s i 0) → get_or s n 0 ≡ 0 → up_to0 s ≡ take n s
+up_to0-found [] n h f z = absurd (omega arith)
+up_to0-found (zero ∷ s) zero h f z = refl
+up_to0-found (zero ∷ s) (suc n) h f z = absurd (omega (arith, f 0 (omega arith)))
+up_to0-found (suc b ∷ s) zero h f z = absurd (omega arith)
+up_to0-found (suc b ∷ s) (suc n) h f z = ap (λ (l : List ℕ). suc b ∷ l) (up_to0-found s n (omega arith) (λ i j. f (suc i) (omega arith)) z)
 
-upTo0-at : (s : List ℕ) (i : ℕ) → i < length (upTo0 s) → (get_or (upTo0 s) i 0 ≡ get_or s i 0) × (0 < get_or s i 0)
-upTo0-at [] i h = absurd (omega arith)
-upTo0-at (zero ∷ s) i h = absurd (omega arith)
-upTo0-at (suc b ∷ s) zero h = (refl, omega arith)
-upTo0-at (suc b ∷ s) (suc i) h = upTo0-at s i (omega arith)
+up_to0-at : (s : List ℕ) (i : ℕ) → i < length (up_to0 s) → (get_or (up_to0 s) i 0 ≡ get_or s i 0) × (0 < get_or s i 0)
+up_to0-at [] i h = absurd (omega arith)
+up_to0-at (zero ∷ s) i h = absurd (omega arith)
+up_to0-at (suc b ∷ s) zero h = (refl, omega arith)
+up_to0-at (suc b ∷ s) (suc i) h = up_to0-at s i (omega arith)
 
-upTo0-ends : (s : List ℕ) → 0 < length s → get_or s (length s - 1) 0 ≡ 0 → (length (upTo0 s) < length s) × (get_or s (length (upTo0 s)) 0 ≡ 0)
-upTo0-ends [] h z = absurd (omega arith)
-upTo0-ends (zero ∷ s) h z = (omega arith, refl)
-upTo0-ends (suc b ∷ []) h z = absurd (omega arith)
-upTo0-ends (suc b ∷ x ∷ s) h z =
+up_to0-ends : (s : List ℕ) → 0 < length s → get_or s (length s - 1) 0 ≡ 0 → (length (up_to0 s) < length s) × (get_or s (length (up_to0 s)) 0 ≡ 0)
+up_to0-ends [] h z = absurd (omega arith)
+up_to0-ends (zero ∷ s) h z = (omega arith, refl)
+up_to0-ends (suc b ∷ []) h z = absurd (omega arith)
+up_to0-ends (suc b ∷ x ∷ s) h z =
     let e : suc (suc (length s)) - 1 ≡ suc (suc (length s) - 1) = omega arith in
-    let ih = upTo0-ends (x ∷ s) (omega arith) (rw e at z) in
+    let ih = up_to0-ends (x ∷ s) (omega arith) (rw e at z) in
     (omega arith, ih.1)
 
 -- the same, in the table
@@ -46,12 +46,12 @@ module _ (tab : List ℕ) (c o : ℕ) where
       name_at tab c o ≡ span tab (12 * c + o) n
   unfolding name_at
   name-found n h f z =
-      upTo0-found (drop (12 * c + o) tab) n (rw length-drop (omega arith)) (λ i j. rw (get_or-drop (12 * c + o) tab i 0) (f i j)) (get_or-drop (12 * c + o) tab n 0 ∙ z)
+      up_to0-found (drop (12 * c + o) tab) n (rw length-drop (omega arith)) (λ i j. rw (get_or-drop (12 * c + o) tab i 0) (f i j)) (get_or-drop (12 * c + o) tab n 0 ∙ z)
 
   -- byte i of the name, which is not zero
   pub name-byte : (i : ℕ) → i < length (name_at tab c o) → (get_or (name_at tab c o) i 0 ≡ get_or tab (12 * c + o + i) 0) × (0 < get_or tab (12 * c + o + i) 0)
   unfolding name_at
-  name-byte i h = rw (get_or-drop (12 * c + o) tab i 0) at (upTo0-at (drop (12 * c + o) tab) i h)
+  name-byte i h = rw (get_or-drop (12 * c + o) tab i 0) at (up_to0-at (drop (12 * c + o) tab) i h)
 
   -- texts that end in a zero byte end each name that starts in them
   pub name-ends : 12 * c + o < length tab → get_or tab (length tab - 1) 0 ≡ 0 →
@@ -61,5 +61,5 @@ module _ (tab : List ℕ) (c o : ℕ) where
       let s : List ℕ = drop (12 * c + o) tab in
       let l : length s ≡ length tab - (12 * c + o) = length-drop (12 * c + o) tab in
       let a : 12 * c + o + (length s - 1) ≡ length tab - 1 = omega arith in
-      let e = upTo0-ends s (omega arith) (get_or-drop (12 * c + o) tab (length s - 1) 0 ∙ ap (λ (n : ℕ). get_or tab n 0) a ∙ z) in
-      (omega arith, sym (get_or-drop (12 * c + o) tab (length (upTo0 s)) 0) ∙ e.1)
+      let e = up_to0-ends s (omega arith) (get_or-drop (12 * c + o) tab (length s - 1) 0 ∙ ap (λ (n : ℕ). get_or tab n 0) a ∙ z) in
+      (omega arith, sym (get_or-drop (12 * c + o) tab (length (up_to0 s)) 0) ∙ e.1)

@@ -8,8 +8,8 @@ use mathlib.Core.List.{List, [], ◌∷◌, ◌++◌}
 use native.Mathlib.Omega.{arith}
 use Rattle.std.proofs.Math.ListN.{length}
 use Rattle.refusal.specs.Laws.Tests.{and_left, and_right, and_both, and-false, or_cases}
-use Rattle.tree.specs.Units.{within, leadByte, trailByte, TextUnit, single, pair, units}
-use Rattle.tree.specs.Table.{every, plain_byte, plainUnit, plain}
+use Rattle.tree.specs.Units.{within, lead_byte, trail_byte, TextUnit, single, pair, units}
+use Rattle.tree.specs.Table.{every, plain_byte, plain_unit, plain}
 use Rattle.tree.specs.Inner.Pairs.{pair_at}
 
 -- ---- ranges of bytes
@@ -25,26 +25,26 @@ pub in_either : (low high from to b : ℕ) → (within low high b || within from
 in_either low high from to b e =
     ⊎_elim (λ (t : within low high b ≡ true). inl (within-is low high b t)) (λ (t : within from to b ≡ true). inr (within-is from to b t)) (or_cases (within low high b) (within from to b) e)
 
-pub lead_is : (b : ℕ) → leadByte b ≡ true → (0x81 ≤ b) × (b ≤ 0xFC)
+pub lead_is : (b : ℕ) → lead_byte b ≡ true → (0x81 ≤ b) × (b ≤ 0xFC)
 lead_is b e = ⊎_elim (λ (r : (0x81 ≤ b) × (b ≤ 0x9F)). (omega arith, omega arith)) (λ (r : (0xE0 ≤ b) × (b ≤ 0xFC)). (omega arith, omega arith)) (in_either 0x81 0x9F 0xE0 0xFC b e)
 
-pub trail_is : (b : ℕ) → trailByte b ≡ true → (0x40 ≤ b) × (b ≤ 0xFC)
+pub trail_is : (b : ℕ) → trail_byte b ≡ true → (0x40 ≤ b) × (b ≤ 0xFC)
 trail_is b e = ⊎_elim (λ (r : (0x40 ≤ b) × (b ≤ 0x7E)). (omega arith, omega arith)) (λ (r : (0x80 ≤ b) × (b ≤ 0xFC)). (omega arith, omega arith)) (in_either 0x40 0x7E 0x80 0xFC b e)
 
 -- ---- an induction over the units of a text
 
 -- a text of one unit more, at its start
-module _ (P : List ℕ → Type 0) (none_left : P []) (of_pair : (a b : ℕ) (s : List ℕ) → leadByte a ≡ true → trailByte b ≡ true → units (a ∷ b ∷ s) ≡ pair a b ∷ units s → P s → P (a ∷ b ∷ s))
+module _ (P : List ℕ → Type 0) (none_left : P []) (of_pair : (a b : ℕ) (s : List ℕ) → lead_byte a ≡ true → trail_byte b ≡ true → units (a ∷ b ∷ s) ≡ pair a b ∷ units s → P s → P (a ∷ b ∷ s))
     (of-single : (a : ℕ) (s : List ℕ) → units (a ∷ s) ≡ single a ∷ units s → P s → P (a ∷ s)) where
   -- LAW: what holds of the empty text, and of a text with one unit more wherever it holds of the rest, holds of all texts
   pub by_units : (s : List ℕ) → P s
   unfolding units
   by_units [] = none_left
   by_units (a ∷ []) = of-single a [] refl none_left
-  by_units (a ∷ b ∷ s) = go (leadByte a && trailByte b) refl (by_units s) (by_units (b ∷ s))
+  by_units (a ∷ b ∷ s) = go (lead_byte a && trail_byte b) refl (by_units s) (by_units (b ∷ s))
     where
-      go : (t : Bool) → (leadByte a && trailByte b) ≡ t → P s → P (b ∷ s) → P (a ∷ b ∷ s)
-      go true e p q = of_pair a b s (and_left (leadByte a) _ e) (and_right (leadByte a) _ e) (rw e refl) p
+      go : (t : Bool) → (lead_byte a && trail_byte b) ≡ t → P s → P (b ∷ s) → P (a ∷ b ∷ s)
+      go true e p q = of_pair a b s (and_left (lead_byte a) _ e) (and_right (lead_byte a) _ e) (rw e refl) p
       go false e p q = of-single a (b ∷ s) (rw e refl) q
 
 -- ---- the unit at a place
@@ -56,7 +56,7 @@ module _ (s : List ℕ) (i : ℕ) where
     where
       go : (s : List ℕ) (i : ℕ) → pair_at s i ≡ true → units (drop i s) ≡ pair (get_or s i 0) (get_or s (suc i) 0) ∷ units (drop (suc (suc i)) s)
       go [] i e = absurd (true≢false (sym e))
-      go (a ∷ []) zero e = absurd (true≢false (sym e ∙ and-false (leadByte a)))
+      go (a ∷ []) zero e = absurd (true≢false (sym e ∙ and-false (lead_byte a)))
       go (a ∷ b ∷ s) zero e = rw e
       go (a ∷ s) (suc i) e = go s i e
 
@@ -77,7 +77,7 @@ module _ (s : List ℕ) (i : ℕ) where
 -- both bytes of a pair are in the text
 pub pair_inside : (s : List ℕ) (i : ℕ) → pair_at s i ≡ true → suc i < length s
 pair_inside [] i e = absurd (true≢false (sym e))
-pair_inside (a ∷ []) zero e = absurd (true≢false (sym e ∙ and-false (leadByte a)))
+pair_inside (a ∷ []) zero e = absurd (true≢false (sym e ∙ and-false (lead_byte a)))
 pair_inside (a ∷ b ∷ s) zero e = omega arith
 pair_inside (a ∷ s) (suc i) e = let r : suc i < length s = pair_inside s i e in omega arith
 
@@ -88,8 +88,8 @@ pub units-then : (s t : List ℕ) → units (s ++ (0x2F ∷ t)) ≡ units s ++ (
 unfolding units
 units-then [] [] = refl
 units-then [] (b ∷ t) = refl
-units-then (a ∷ []) t = rw (and-false (leadByte a), ← units-then [] t)
-units-then (a ∷ b ∷ s) t = go (leadByte a && trailByte b) (units-then s t) (units-then (b ∷ s) t)
+units-then (a ∷ []) t = rw (and-false (lead_byte a), ← units-then [] t)
+units-then (a ∷ b ∷ s) t = go (lead_byte a && trail_byte b) (units-then s t) (units-then (b ∷ s) t)
   where
     go : (c : Bool) → units (s ++ (0x2F ∷ t)) ≡ units s ++ (single 0x2F ∷ units t) → units (b ∷ s ++ (0x2F ∷ t)) ≡ units (b ∷ s) ++ (single 0x2F ∷ units t) →
         cond c (pair a b ∷ units (s ++ (0x2F ∷ t))) (single a ∷ units (b ∷ s ++ (0x2F ∷ t))) ≡
@@ -108,16 +108,16 @@ unfolding plain
 plain-bytes nm e = by_units Held (λ q. refl) of_pair of-single nm e
   where
     Held : List ℕ → Type 0
-    Held s = every plainUnit (units s) ≡ true → every (within 0x20 0xFC) s ≡ true
+    Held s = every plain_unit (units s) ≡ true → every (within 0x20 0xFC) s ≡ true
 
-    of_pair : (a b : ℕ) (s : List ℕ) → leadByte a ≡ true → trailByte b ≡ true → units (a ∷ b ∷ s) ≡ pair a b ∷ units s → Held s → Held (a ∷ b ∷ s)
+    of_pair : (a b : ℕ) (s : List ℕ) → lead_byte a ≡ true → trail_byte b ≡ true → units (a ∷ b ∷ s) ≡ pair a b ∷ units s → Held s → Held (a ∷ b ∷ s)
     of_pair a b s l t u ih q =
-        let x : every plainUnit (units s) ≡ true = rw u at q in
+        let x : every plain_unit (units s) ≡ true = rw u at q in
         let la = lead_is a l in
         let tb = trail_is b t in
         rw (is_within 0x20 0xFC a (omega (arith, la.0)) (omega (arith, la.1)), is_within 0x20 0xFC b (omega (arith, tb.0)) (omega (arith, tb.1))) (ih x)
 
     of-single : (a : ℕ) (s : List ℕ) → units (a ∷ s) ≡ single a ∷ units s → Held s → Held (a ∷ s)
     of-single a s u ih q =
-        let x : (plain_byte a && every plainUnit (units s)) ≡ true = rw u at q in
+        let x : (plain_byte a && every plain_unit (units s)) ≡ true = rw u at q in
         rw (plain-byte a (and_left (plain_byte a) _ x)) (ih (and_right (plain_byte a) _ x))

@@ -5,7 +5,7 @@ use mathlib.Core.List.{List, [], ◌∷◌, tail, head-eq_of_cons-eq, nil≢cons
 use Rattle.tree.specs.Table.{Node, directory, name_of, none, top, encloses, parent_of}
 use Rattle.tree.specs.Inner.WellFormed.{GoodName, GoodEntry, WellFormed}
 use Rattle.tree.specs.Lookup.{next_of}
-use Rattle.tree.specs.Inner.Depths.{openDirs}
+use Rattle.tree.specs.Inner.Depths.{open_dirs}
 use Rattle.tree.proofs.Laws.OpenDirectories.{open_at, sound-at, AllGe, Sorted, stack}
 use Rattle.tree.proofs.Laws.Nesting.{Inside, below-lt, below-encloses}
 
@@ -46,13 +46,13 @@ parent-inside nodes k w h l =
     (below-lt nodes k k h, below-encloses nodes k k h e)
 
 -- what is open at an entry has in it each directory around the entry
-open-has : (nodes : List Node) (d k i m : ℕ) → d < i → encloses (get_or nodes d none) k ≡ true → AllGe m (openDirs nodes k i) → m ≤ next_of (get_or nodes d none)
-unfolding openDirs
+open-has : (nodes : List Node) (d k i m : ℕ) → d < i → encloses (get_or nodes d none) k ≡ true → AllGe m (open_dirs nodes k i) → m ≤ next_of (get_or nodes d none)
+unfolding open_dirs
 open-has nodes d k zero m h e g = absurd (omega arith)
 open-has nodes d k (suc i) m h e g = go (encloses (get_or nodes i none) k) refl (ltb d i) refl (λ q. open-has nodes d k i m q e) g
   where
-    go : (t : Bool) → encloses (get_or nodes i none) k ≡ t → (u : Bool) → ltb d i ≡ u → (d < i → AllGe m (openDirs nodes k i) → m ≤ next_of (get_or nodes d none)) →
-        AllGe m (cond t (next_of (get_or nodes i none) ∷ openDirs nodes k i) (openDirs nodes k i)) → m ≤ next_of (get_or nodes d none)
+    go : (t : Bool) → encloses (get_or nodes i none) k ≡ t → (u : Bool) → ltb d i ≡ u → (d < i → AllGe m (open_dirs nodes k i) → m ≤ next_of (get_or nodes d none)) →
+        AllGe m (cond t (next_of (get_or nodes i none) ∷ open_dirs nodes k i) (open_dirs nodes k i)) → m ≤ next_of (get_or nodes d none)
     go true p true q ih g = ih (ltb-true d i q) g.1
     go true p false q ih g =
         let i≡ : i ≡ d = omega (arith, ltb-false d i q) in

@@ -1,8 +1,8 @@
 -- What is written is bytes. Assumes nothing.
 use Rattle.std.specs.Prelude.{ℕ, zero, suc, ◌+◌, ◌/◌, ◌%◌, ◌<◌, ◌≡◌, true, List, [], ◌∷◌, ◌++◌, length}
 use Rattle.std.proofs.Common.{arith}
-use Rattle.endian.specs.Bytes.{be24Bytes, be32Bytes, AllBytes}
-use Rattle.tree.specs.Table.{Node, file, directory, name_of, every, plain, shut, enter, nodeBytes, parent_of, entriesBytes, textsOf, encode}
+use Rattle.endian.specs.Bytes.{be24_bytes, be32_bytes, AllBytes}
+use Rattle.tree.specs.Table.{Node, file, directory, name_of, every, plain, shut, enter, node_bytes, parent_of, entries_bytes, texts_of, encode}
 use Rattle.tree.specs.Units.{within}
 use Rattle.tree.specs.Inner.WellFormed.{Sound, WellFormed}
 use Rattle.tree.proofs.Laws.UnitLaws.{within-is, plain-bytes}
@@ -19,18 +19,18 @@ all_append : (a b : List ℕ) → AllBytes a → AllBytes b → AllBytes (a ++ b
 all_append [] b f g = g
 all_append (x ∷ a) b f g = all_cons x (a ++ b) (f 0) (all_append a b (λ i. f (suc i)) g)
 
-pub be24-all : (n : ℕ) → AllBytes (be24Bytes n)
+pub be24-all : (n : ℕ) → AllBytes (be24_bytes n)
 be24-all n = all_cons (n / 65536 % 256) (n / 256 % 256 ∷ n % 256 ∷ []) (omega arith) (all_cons (n / 256 % 256) (n % 256 ∷ []) (omega arith) (all_cons (n % 256) [] (omega arith) all_nil))
 
-pub be32-all : (n : ℕ) → AllBytes (be32Bytes n)
-be32-all n = all_cons (n / 16777216 % 256) (be24Bytes n) (omega arith) (be24-all n)
+pub be32-all : (n : ℕ) → AllBytes (be32_bytes n)
+be32-all n = all_cons (n / 16777216 % 256) (be24_bytes n) (omega arith) (be24-all n)
 
-fields-all : (b o x y : ℕ) → b < 256 → AllBytes (b ∷ (be24Bytes o ++ (be32Bytes x ++ be32Bytes y)))
+fields-all : (b o x y : ℕ) → b < 256 → AllBytes (b ∷ (be24_bytes o ++ (be32_bytes x ++ be32_bytes y)))
 fields-all b o x y h =
-    all_cons b (be24Bytes o ++ (be32Bytes x ++ be32Bytes y)) h
-    (all_append (be24Bytes o) (be32Bytes x ++ be32Bytes y) (be24-all o) (all_append (be32Bytes x) (be32Bytes y) (be32-all x) (be32-all y)))
+    all_cons b (be24_bytes o ++ (be32_bytes x ++ be32_bytes y)) h
+    (all_append (be24_bytes o) (be32_bytes x ++ be32_bytes y) (be24-all o) (all_append (be32_bytes x) (be32_bytes y) (be32-all x) (be32-all y)))
 
-node-all : (p o : ℕ) (x : Node) → AllBytes (nodeBytes p o x)
+node-all : (p o : ℕ) (x : Node) → AllBytes (node_bytes p o x)
 node-all p o (file nm offset size) = fields-all 0 o offset size (omega arith)
 node-all p o (directory nm next) = fields-all 1 o p next (omega arith)
 
@@ -43,20 +43,20 @@ within_all (b ∷ nm) e =
 pub name-all : (nm : List ℕ) → plain nm ≡ true → AllBytes nm
 name-all nm e = within_all nm (plain-bytes nm e)
 
-entries-all : (nodes : List Node) (k o : ℕ) (xs : List Node) → AllBytes (entriesBytes nodes k o xs)
-unfolding entriesBytes
+entries-all : (nodes : List Node) (k o : ℕ) (xs : List Node) → AllBytes (entries_bytes nodes k o xs)
+unfolding entries_bytes
 entries-all nodes k o [] = all_nil
 entries-all nodes k o (x ∷ xs) =
-    all_append (nodeBytes (parent_of nodes k) o x) (entriesBytes nodes (suc k) (o + suc (length (name_of x))) xs) (node-all (parent_of nodes k) o x) (entries-all nodes (suc k) (o + suc (length (name_of x))) xs)
+    all_append (node_bytes (parent_of nodes k) o x) (entries_bytes nodes (suc k) (o + suc (length (name_of x))) xs) (node-all (parent_of nodes k) o x) (entries-all nodes (suc k) (o + suc (length (name_of x))) xs)
 
-texts-all : (c k : ℕ) (dirs : List ℕ) (xs : List Node) → Sound c dirs k xs → AllBytes (textsOf xs)
-unfolding textsOf
+texts-all : (c k : ℕ) (dirs : List ℕ) (xs : List Node) → Sound c dirs k xs → AllBytes (texts_of xs)
+unfolding texts_of
 texts-all c k dirs [] g = all_nil
 texts-all c k dirs (x ∷ xs) g =
-    all_append (name_of x) (0 ∷ textsOf xs) (name-all (name_of x) g.0.0) (all_cons 0 (textsOf xs) (omega arith) (texts-all c (suc k) (enter (shut k dirs) x) xs g.2))
+    all_append (name_of x) (0 ∷ texts_of xs) (name-all (name_of x) g.0.0) (all_cons 0 (texts_of xs) (omega arith) (texts-all c (suc k) (enter (shut k dirs) x) xs g.2))
 
 pub encode-all : (nodes : List Node) → WellFormed nodes → AllBytes (encode nodes)
 unfolding encode
 encode-all [] w = all_nil
 encode-all (r ∷ xs) w =
-    all_append (nodeBytes 0 0 r) (entriesBytes (r ∷ xs) 1 0 xs ++ textsOf xs) (node-all 0 0 r) (all_append (entriesBytes (r ∷ xs) 1 0 xs) (textsOf xs) (entries-all (r ∷ xs) 1 0 xs) (texts-all (suc (length xs)) 1 (suc (length xs) ∷ []) xs w.sound))
+    all_append (node_bytes 0 0 r) (entries_bytes (r ∷ xs) 1 0 xs ++ texts_of xs) (node-all 0 0 r) (all_append (entries_bytes (r ∷ xs) 1 0 xs) (texts_of xs) (entries-all (r ∷ xs) 1 0 xs) (texts-all (suc (length xs)) 1 (suc (length xs) ∷ []) xs w.sound))

@@ -1,15 +1,15 @@
 -- What acceptance gives of a table, for the contracts above that hold it open. Assumes nothing: this is a definition.
 use Rattle.std.specs.Prelude.{ℕ, ◌+◌, ◌-◌, ◌*◌, ◌^◌, ◌<◌, ◌≤◌, ◌≡◌, true, List, length, get_or}
-use Rattle.tree.specs.Table.{kind, nameOffset, sizeOrNext, count, name_at, nodesOf, shallow}
+use Rattle.tree.specs.Table.{kind, name_offset, size_or_next, count, name_at, nodes_of, shallow}
 use Rattle.tree.specs.Inner.WellFormed.{WellFormed}
 
 -- an accepted table, and how many working words were lent
 pub record Accepted (tab : List ℕ) (words : ℕ) : Type 0 where
-  pub well : WellFormed (nodesOf tab)
-  pub depth : shallow (nodesOf tab) ≡ true
+  pub well : WellFormed (nodes_of tab)
+  pub depth : shallow (nodes_of tab) ≡ true
   -- the entries
   pub root-kind : kind tab 0 ≡ 1
-  pub root-next : sizeOrNext tab 0 ≡ count tab
+  pub root-next : size_or_next tab 0 ≡ count tab
   pub few : count tab ≤ 16384
   pub room : 4 * (count tab + 2) ≤ words
   pub fits : 12 * count tab ≤ length tab
@@ -17,6 +17,6 @@ pub record Accepted (tab : List ℕ) (words : ℕ) : Type 0 where
   -- the texts
   pub texts : length tab - 12 * count tab ≤ 2 ^ 20
   pub ended : 12 * count tab < length tab → get_or tab (length tab - 1) 0 ≡ 0
-  pub offsets : (k : ℕ) → 0 < k → k < count tab → 12 * count tab + nameOffset tab k < length tab
-  pub names : (k : ℕ) → 0 < k → k < count tab → 12 * count tab + nameOffset tab k + length (name_at tab (count tab) (nameOffset tab k)) < length tab
-  pub zeros : (k : ℕ) → 0 < k → k < count tab → get_or tab (12 * count tab + nameOffset tab k + length (name_at tab (count tab) (nameOffset tab k))) 0 ≡ 0
+  pub offsets : (k : ℕ) → 0 < k → k < count tab → 12 * count tab + name_offset tab k < length tab
+  pub names : (k : ℕ) → 0 < k → k < count tab → 12 * count tab + name_offset tab k + length (name_at tab (count tab) (name_offset tab k)) < length tab
+  pub zeros : (k : ℕ) → 0 < k → k < count tab → get_or tab (12 * count tab + name_offset tab k + length (name_at tab (count tab) (name_offset tab k))) 0 ≡ 0

@@ -4,10 +4,10 @@ use Rattle.tree.specs.Table.{Node, none, encloses}
 use Rattle.tree.specs.Lookup.{next_of}
 
 -- the nexts of the directories below i that entry k is in, the last one first
-unfoldable pub openDirs : List Node → ℕ → ℕ → List ℕ
-openDirs nodes k zero = []
-openDirs nodes k (suc i) = cond (encloses (get_or nodes i none) k) (next_of (get_or nodes i none) ∷ openDirs nodes k i) (openDirs nodes k i)
+unfoldable pub open_dirs : List Node → ℕ → ℕ → List ℕ
+open_dirs nodes k zero = []
+open_dirs nodes k (suc i) = cond (encloses (get_or nodes i none) k) (next_of (get_or nodes i none) ∷ open_dirs nodes k i) (open_dirs nodes k i)
 
 -- the number of directories around entry k: its depth
 abbrev pub depth_of : List Node → ℕ → ℕ
-depth_of nodes k = length (openDirs nodes k k)
+depth_of nodes k = length (open_dirs nodes k k)

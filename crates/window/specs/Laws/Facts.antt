@@ -3,35 +3,35 @@
 use Rattle.std.specs.Prelude.{◌≡◌, ℕ, suc, ◌+◌, ◌-◌, ◌^◌, ◌<◌, ◌≤◌, List, length, pos, negsuc, slice_index, Ok, Err}
 use Rattle.std.proofs.Common.{◌∙◌, arith, zero-add, length-take, length-drop, lt-ltb, le-ltb}
 use Rattle.endian.specs.Bytes.{span}
-use Rattle.endian.specs.Laws.Stored.{length-put, put_in, put-after, getD-span}
+use Rattle.endian.specs.Laws.Stored.{length-put, put_in, put-after, get_d-span}
 use Rattle.refusal.specs.declared.Refusal.TheVariants.{InvalidSeek}
 use Rattle.window.specs.declared.Window.{Window}
-use Rattle.window.specs.Window.{movedBy, moveTo, judged, count_of, bufferOf}
+use Rattle.window.specs.Window.{moved_by, move_to, judged, count_of, buffer_of}
 
 -- a distance added modulo 2^64: forward and back, without and with a wrap; `negsuc n` is -(n + 1)
 module _ (p : ℕ) (small : p < 2 ^ 64) where
-  pub on : (n : ℕ) → p + n < 2 ^ 64 → movedBy p (pos n) ≡ p + n
+  pub on : (n : ℕ) → p + n < 2 ^ 64 → moved_by p (pos n) ≡ p + n
   on n h = omega arith
 
-  pub on-around : (n : ℕ) → n < 2 ^ 63 → 2 ^ 64 ≤ p + n → movedBy p (pos n) ≡ p + n - 2 ^ 64
+  pub on-around : (n : ℕ) → n < 2 ^ 63 → 2 ^ 64 ≤ p + n → moved_by p (pos n) ≡ p + n - 2 ^ 64
   on-around n h k = omega arith
 
-  pub back : (n : ℕ) → n < 2 ^ 63 → n < p → movedBy p (negsuc n) ≡ p - suc n
+  pub back : (n : ℕ) → n < 2 ^ 63 → n < p → moved_by p (negsuc n) ≡ p - suc n
   back n h k = omega arith
 
-  pub back-around : (n : ℕ) → n < 2 ^ 63 → p ≤ n → movedBy p (negsuc n) ≡ p + 2 ^ 64 - suc n
+  pub back-around : (n : ℕ) → n < 2 ^ 63 → p ≤ n → moved_by p (negsuc n) ≡ p + 2 ^ 64 - suc n
   back-around n h k = omega arith
 
 -- a seek is judged by the sum of start and the new position
 module _ (w : Window) (p : ℕ) where
-  pub judged-in : w.start + p < 2 ^ 64 → judged w p ≡ Ok (moveTo w p)
+  pub judged-in : w.start + p < 2 ^ 64 → judged w p ≡ Ok (move_to w p)
   judged-in h = let k : w.start + p ≤ 2 ^ 64 - 1 = omega arith in rw (le-ltb (2 ^ 64 - 1) (w.start + p))
 
   pub judged-out : 2 ^ 64 ≤ w.start + p → judged w p ≡ Err InvalidSeek
   judged-out h = let k : 2 ^ 64 - 1 < w.start + p = omega arith in rw (lt-ltb (2 ^ 64 - 1) (w.start + p))
 
   -- a window that starts at 0 refuses no position
-  pub from-0 : w.start ≡ 0 → p < 2 ^ 64 → judged w p ≡ Ok (moveTo w p)
+  pub from-0 : w.start ≡ 0 → p < 2 ^ 64 → judged w p ≡ Ok (move_to w p)
   from-0 e h = judged-in (omega arith)
 
 -- a read gives no more than was asked for, none past the window and none past the image, and stops only at one of the three
@@ -71,11 +71,11 @@ module _ (w : Window) (image buf : List ℕ) where
   fits : 0 + length part ≤ length buf
   fits = omega (arith, length_part)
 
-  pub length-buffer : length (bufferOf w image buf) ≡ length buf
+  pub length-buffer : length (buffer_of w image buf) ≡ length buf
   length-buffer = length-put buf 0 part fits
 
-  pub byte-read : (i : ℕ) → i < n → slice_index (bufferOf w image buf) i ≡ slice_index image (w.start + w.position + i)
-  byte-read i h = rw (zero-add i) at (put_in buf 0 part fits i (rw length_part h)) ∙ getD-span image (w.start + w.position) n i h
+  pub byte-read : (i : ℕ) → i < n → slice_index (buffer_of w image buf) i ≡ slice_index image (w.start + w.position + i)
+  byte-read i h = rw (zero-add i) at (put_in buf 0 part fits i (rw length_part h)) ∙ get_d-span image (w.start + w.position) n i h
 
-  pub byte-stays : (i : ℕ) → n ≤ i → slice_index (bufferOf w image buf) i ≡ slice_index buf i
+  pub byte-stays : (i : ℕ) → n ≤ i → slice_index (buffer_of w image buf) i ≡ slice_index buf i
   byte-stays i h = put-after buf 0 part fits i (omega (arith, length_part))

@@ -5,109 +5,109 @@ use Rattle.std.specs.Prelude.{Some, Ok}
 use Rattle.std.specs.Prelude.{ℕ, zero, suc, ◌≤◌, ◌≡◌, refl, Bool, true, false, ◌&&◌, List, [], ◌∷◌, ◌++◌, map, ltb, length, get_or, take, replicate}
 use Rattle.std.proofs.Common.{sym, ap, ◌∙◌, arith, ltb-true}
 use Rattle.std.proofs.lemmas.Bool.{false≢true}
-use Rattle.endian.specs.Bytes.{be24, be32, be32Bytes, put, span, AllBytes}
+use Rattle.endian.specs.Bytes.{be24, be32, be32_bytes, put, span, AllBytes}
 use Rattle.endian.specs.Laws.Stored.{length-put, put-outside}
 use Rattle.refusal.specs.Laws.Tests.{and_left, and_right}
-use Rattle.header.specs.Verdicts.{dolOffset, fstSize, fstMaxSize}
-use Rattle.tree.specs.Table.{file, directory, none, count, name_at, nodeAt, nodesFrom, nodesOf, parentBelow, parent_of, entriesBytes, textsOf, encode}
-use Rattle.tree.specs.Insert.{shifted, bump, splice, insertAt, setPlace}
-use Rattle.space.specs.Used.{inside, nonempty, totalSize}
-use Rattle.space.specs.Free.{largestSize}
+use Rattle.header.specs.Verdicts.{dol_offset, fst_size, fst_max_size}
+use Rattle.tree.specs.Table.{file, directory, none, count, name_at, node_at, nodes_from, nodes_of, parent_below, parent_of, entries_bytes, texts_of, encode}
+use Rattle.tree.specs.Insert.{shifted, bump, splice, insert_at, set_place}
+use Rattle.space.specs.Used.{inside, nonempty, total_size}
+use Rattle.space.specs.Free.{largest_size}
 use Rattle.space.specs.Listing.{rows_of}
-use Rattle.window.specs.Window.{newWindow, count_of}
+use Rattle.window.specs.Window.{new_window, count_of}
 use Rattle.space.specs.declared.totals.Totals.{Totals}
-use Rattle.executable.specs.Program.{programIn, ownRegion}
-use Rattle.opened.specs.Opening.{table_of, nodesIn, usedIn, freeOf, usedOf, opening}
-use Rattle.disc.specs.Calls.{totalsAnswer, programAnswer, freeRegionsAnswer, freeRegionsList, totalsOf, recordAnswer}
-use Rattle.disc.specs.Files.{openFileAnswer}
+use Rattle.executable.specs.Program.{program_in, own_region}
+use Rattle.opened.specs.Opening.{table_of, nodes_in, used_in, free_space_of, used_of, opening}
+use Rattle.disc.specs.Calls.{totals_answer, program_answer, free_regions_answer, free_regions_list, totals_of, record_answer}
+use Rattle.disc.specs.Files.{open_file_answer}
 use Rattle.edits.specs.Change.{nothing}
-use Rattle.edits.specs.Edits.{Edit, noPlace, rewrite, resizeFile, planResize, plan_of, imageAfter}
+use Rattle.edits.specs.Edits.{Edit, no_place, rewrite, resize_file, plan_resize, plan_of, image_after}
 use Rattle.edits.proofs.Laws.Accepted.{accepted}
-use Rattle.ledger.specs.Ledger.{History, Ledger, bare, filesBefore, historyOf, put_in, firstLedger}
-use Rattle.ledger.specs.Runs.{Call, imageAfterAll, acceptedIn, AllWithin}
-use Rattle.ledger.specs.Spared.{numberAfter, Spared}
+use Rattle.ledger.specs.Ledger.{History, Ledger, bare, files_before, history_of, put_in, first_ledger}
+use Rattle.ledger.specs.Runs.{Call, image_after_all, accepted_in, AllWithin}
+use Rattle.ledger.specs.Spared.{number_after, Spared}
 use Rattle.ledger.specs.Theorem.{Demand3, StillThere, ShowsClip, Tells, WithinMaximum}
 use Rattle.ledger.proofs.Laws.AnyMaximum.{any-maximum}
 use Rattle.ledger.proofs.Laws.Demand3.{demand-3, unnamed-stays}
 use Rattle.ledger.proofs.Laws.EditedDown.{edited-down}
-use Rattle.ledger.proofs.Laws.FillReads.{readInto, fill-reads, read_back}
+use Rattle.ledger.proofs.Laws.FillReads.{read_into, fill-reads, read_back}
 use Rattle.ledger.proofs.Laws.MaximumKept.{maximum-kept}
 use Rattle.ledger.proofs.Laws.RecordTells.{record-tells}
-use Rattle.worked.specs.Image.{master, masterWords}
+use Rattle.worked.specs.Image.{master, master_words}
 use Rattle.worked.specs.Laws.Marked as small
 use Rattle.worked.specs.Laws.Maximum.{stating, slack}
 use Rattle.worked.specs.Laws.Maximum as stated
-use Rattle.worked.specs.Laws.ListImages.{ofA, programBytes, first, clip, with_b, last, program, treeB, used-regions, space, at_first, at_last}
+use Rattle.worked.specs.Laws.ListImages.{of_a, program_bytes, first, clip, with_b, last, program, tree_b, used-regions, space, at_first, at_last}
 use Rattle.worked.specs.Laws.ListSteps.{totals, fresh, filled-b}
 use Rattle.worked.specs.Laws.WorkedList.{list, reports, ledger, first-a, worked}
 
 -- ---- the hypotheses
 
-bytesOnly : List ℕ → Bool
-bytesOnly [] = true
-bytesOnly (x ∷ xs) = ltb x 256 && bytesOnly xs
+bytes_only : List ℕ → Bool
+bytes_only [] = true
+bytes_only (x ∷ xs) = ltb x 256 && bytes_only xs
 
-bytes-only : (s : List ℕ) → bytesOnly s ≡ true → AllBytes s
-unfolding bytesOnly
+bytes-only : (s : List ℕ) → bytes_only s ≡ true → AllBytes s
+unfolding bytes_only
 bytes-only [] e i = omega arith
-bytes-only (x ∷ xs) e zero = ltb-true x 256 (and_left (ltb x 256) (bytesOnly xs) e)
-bytes-only (x ∷ xs) e (suc i) = bytes-only xs (and_right (ltb x 256) (bytesOnly xs) e) i
+bytes-only (x ∷ xs) e zero = ltb-true x 256 (and_left (ltb x 256) (bytes_only xs) e)
+bytes-only (x ∷ xs) e (suc i) = bytes-only xs (and_right (ltb x 256) (bytes_only xs) e) i
 
 bytes : AllBytes first
-unfolding first stating master put bytesOnly
+unfolding first stating master put bytes_only
 bytes = bytes-only first refl
 
 moved-bytes : AllBytes (with_b 0x900 0 [])
-unfolding with_b first stating master put bytesOnly
+unfolding with_b first stating master put bytes_only
 moved-bytes = bytes-only (with_b 0x900 0 []) refl
 
 clip-bytes : AllBytes clip
-unfolding bytesOnly
+unfolding bytes_only
 clip-bytes = bytes-only clip refl
 
 -- no call is lent more words than the first opening
-within : (w : ℕ) → masterWords ≤ w → AllWithin w list
+within : (w : ℕ) → master_words ≤ w → AllWithin w list
 unfolding list
 within w h = (omega arith, tt, (omega arith, tt, (omega arith, omega arith, (omega arith, omega arith, (omega arith, clip-bytes, (omega arith, omega arith, (omega arith, tt, tt)))))))
 
 -- no accepted call names `a`: the one that does is refused
-spared : Spared reports (firstLedger first) 0
-unfolding filesBefore put_in insertAt splice bump setPlace shifted
+spared : Spared reports (first_ledger first) 0
+unfolding files_before put_in insert_at splice bump set_place shifted
 spared = rw at_first.tree (λ e. refl, (λ e. refl, (λ e. absurd (false≢true e), (λ e. refl, (λ e. refl, (λ e. refl, (λ e. refl, tt)))))))
 
 -- ---- demand 3
 
 -- what the claim comes to for the file with entry number k, whichever that is
 any_file : {w : ℕ} {first image : List ℕ} {l : Ledger} → Demand3 w first image l →
-    (k : ℕ) (nm : List ℕ) (offset size : ℕ) → get_or (nodesIn image) k none ≡ file nm offset size → (h : History) → historyOf l k ≡ h →
+    (k : ℕ) (nm : List ℕ) (offset size : ℕ) → get_or (nodes_in image) k none ≡ file nm offset size → (h : History) → history_of l k ≡ h →
     (h.m ≤ size) × (h.m ≤ length h.bytes) × (span image offset h.m ≡ take h.m h.bytes)
     × (h.named ≡ false → (offset ≡ h.place) × (size ≡ length h.bytes) × (span image offset size ≡ h.bytes))
 any_file d k nm offset size e h is = let f = d.files k nm offset size e in (rw is at f.m-size, rw is at f.m-bytes, rw is at f.first-bytes, rw is at f.unnamed)
 
-claim : (w : ℕ) → masterWords ≤ w → Demand3 w first last ledger
-claim w h = rw (worked.image, worked.told, worked.entered) at (demand-3 first masterWords w list bytes at_first.opens h (within w h))
+claim : (w : ℕ) → master_words ≤ w → Demand3 w first last ledger
+claim w h = rw (worked.image, worked.told, worked.entered) at (demand-3 first master_words w list bytes at_first.opens h (within w h))
 
 pub record Demanded (w : ℕ) : Type 0 where
   pub opens : opening last w ≡ Ok tt
-  pub tree : map bare (nodesIn last) ≡ directory [] 3 ∷ file (0x61 ∷ []) 0 0x100 ∷ file (0x62 ∷ []) 0 5 ∷ []
+  pub tree : map bare (nodes_in last) ≡ directory [] 3 ∷ file (0x61 ∷ []) 0 0x100 ∷ file (0x62 ∷ []) 0 5 ∷ []
   -- byte 0x500 is `a`'s, the third used region's, and no other's
-  pub apart : (j : ℕ) → inside (get_or (usedIn last) j noPlace) 0x500 ≡ true → j ≡ 2
-  pub sum : totalSize (freeOf last) ≡ 6543
-  pub used : totalsAnswer last w ≡ Ok (record { disc_end = 8192; used = 1649 })
-  pub free : freeRegionsAnswer last w 8 ≡ Ok 4
-  pub listed : freeRegionsList last w (replicate 9 7) ≡ 1128 ∷ 152 ∷ 1536 ∷ 256 ∷ 2052 ∷ 252 ∷ 2309 ∷ 5883 ∷ 7 ∷ []
-  pub program-stays : (dolOffset last ≡ 0x700) × (programIn last ≡ program) × (span last 0x700 0x104 ≡ programBytes) × (0x804 ≤ length last)
-  pub program-told : programAnswer last w ≡ Ok (Some program)
+  pub apart : (j : ℕ) → inside (get_or (used_in last) j no_place) 0x500 ≡ true → j ≡ 2
+  pub sum : total_size (free_space_of last) ≡ 6543
+  pub used : totals_answer last w ≡ Ok (record { disc_end = 8192; used = 1649 })
+  pub free : free_regions_answer last w 8 ≡ Ok 4
+  pub listed : free_regions_list last w (replicate 9 7) ≡ 1128 ∷ 152 ∷ 1536 ∷ 256 ∷ 2052 ∷ 252 ∷ 2309 ∷ 5883 ∷ 7 ∷ []
+  pub program-stays : (dol_offset last ≡ 0x700) × (program_in last ≡ program) × (span last 0x700 0x104 ≡ program_bytes) × (0x804 ≤ length last)
+  pub program-told : program_answer last w ≡ Ok (Some program)
   -- entry 1, `a`, is unnamed; entry 2, `b`, begins with the clip
-  pub of-a : (nm : List ℕ) (offset size : ℕ) → get_or (nodesIn last) 1 none ≡ file nm offset size → (offset ≡ 0x500) × (size ≡ 0x100) × (span last offset size ≡ ofA ++ replicate 0xF8 0)
-  pub of-b : (nm : List ℕ) (offset size : ℕ) → get_or (nodesIn last) 2 none ≡ file nm offset size → (3 ≤ size) × (3 ≤ length clip) × (span last offset 3 ≡ clip)
+  pub of-a : (nm : List ℕ) (offset size : ℕ) → get_or (nodes_in last) 1 none ≡ file nm offset size → (offset ≡ 0x500) × (size ≡ 0x100) × (span last offset size ≡ of_a ++ replicate 0xF8 0)
+  pub of-b : (nm : List ℕ) (offset size : ℕ) → get_or (nodes_in last) 2 none ≡ file nm offset size → (3 ≤ size) × (3 ≤ length clip) × (span last offset 3 ≡ clip)
 
-first-program : (dolOffset first ≡ 0x700) × (span first 0x700 0x104 ≡ programBytes)
+first-program : (dol_offset first ≡ 0x700) × (span first 0x700 0x104 ≡ program_bytes)
 unfolding first stating master put be32
 first-program = (refl, refl)
 
-pub demanded : (w : ℕ) → masterWords ≤ w → Demanded w
-unfolding put rows_of nonempty programIn ownRegion totalSize filesBefore
+pub demanded : (w : ℕ) → master_words ≤ w → Demanded w
+unfolding put rows_of nonempty program_in own_region total_size files_before
 demanded w h =
     let d = claim w h in
     record {
@@ -126,23 +126,23 @@ demanded w h =
 
 -- ---- `a`, which no accepted call named: it lies where it lay, as the first file of them
 
-found-still : (w : ℕ) → masterWords ≤ w → StillThere first last 0 (0x61 ∷ []) 0x500 0x100
-unfolding filesBefore numberAfter put_in insertAt splice bump setPlace shifted
+found-still : (w : ℕ) → master_words ≤ w → StillThere first last 0 (0x61 ∷ []) 0x500 0x100
+unfolding files_before number_after put_in insert_at splice bump set_place shifted
 found-still w h =
-    let a : get_or (nodesIn first) 1 none ≡ file (0x61 ∷ []) 0x500 0x100 = rw at_first.tree in
-    let k : filesBefore 1 (nodesIn first) ≡ 0 = rw at_first.tree in
-    rw (worked.image, worked.told, k, at_first.tree) at (unnamed-stays first masterWords w list bytes at_first.opens h (within w h) 1 (0x61 ∷ []) 0x500 0x100 a (rw (worked.told, k) spared))
+    let a : get_or (nodes_in first) 1 none ≡ file (0x61 ∷ []) 0x500 0x100 = rw at_first.tree in
+    let k : files_before 1 (nodes_in first) ≡ 0 = rw at_first.tree in
+    rw (worked.image, worked.told, k, at_first.tree) at (unnamed-stays first master_words w list bytes at_first.opens h (within w h) 1 (0x61 ∷ []) 0x500 0x100 a (rw (worked.told, k) spared))
 
 pub still : StillThere first last 0 (0x61 ∷ []) 0x500 0x100
-still = found-still masterWords (omega arith)
+still = found-still master_words (omega arith)
 
 pub record Stays : Type 0 where
   pub entry : still.entry ≡ 1
-  pub number : filesBefore still.entry (nodesIn last) ≡ 0
-  pub bytes : span last 0x500 0x100 ≡ ofA ++ replicate 0xF8 0
+  pub number : files_before still.entry (nodes_in last) ≡ 0
+  pub bytes : span last 0x500 0x100 ≡ of_a ++ replicate 0xF8 0
 
 -- which entry of the last tree that is
-entry-a : (k : ℕ) → get_or (treeB 0x900 5) k none ≡ file (0x61 ∷ []) 0x500 0x100 → k ≡ 1
+entry-a : (k : ℕ) → get_or (tree_b 0x900 5) k none ≡ file (0x61 ∷ []) 0x500 0x100 → k ≡ 1
 entry-a zero e = let z : ◌≡◌ {A = ℕ} 0 1 = cc in absurd (omega arith)
 entry-a (suc zero) e = refl
 entry-a (suc (suc zero)) e = let z : ◌≡◌ {A = ℕ} 0x900 0x500 = cc in absurd (omega arith)
@@ -153,35 +153,35 @@ stays = record { entry = entry-a still.entry (rw at_last.tree at still.lies); nu
 
 -- ---- the record that was handed on, after five accepted calls
 
-tells : (w : ℕ) → masterWords ≤ w → Tells last w 5 (totals 1649 5883 5)
-unfolding acceptedIn
-tells w h = rw (worked.image, worked.told, worked.handed-back) at (record-tells first masterWords w fresh list bytes worked.made h (within w h) worked.handed-on)
+tells : (w : ℕ) → master_words ≤ w → Tells last w 5 (totals 1649 5883 5)
+unfolding accepted_in
+tells w h = rw (worked.image, worked.told, worked.handed-back) at (record-tells first master_words w fresh list bytes worked.made h (within w h) worked.handed-on)
 
 pub record Told (w : ℕ) : Type 0 where
-  pub used : usedOf last ≡ 1649
-  pub largest : largestSize (freeOf last) ≡ 5883
-  pub afresh : recordAnswer last w ≡ Ok (totals 1649 5883 0)
+  pub used : used_of last ≡ 1649
+  pub largest : largest_size (free_space_of last) ≡ 5883
+  pub afresh : record_answer last w ≡ Ok (totals 1649 5883 0)
 
-pub told : (w : ℕ) → masterWords ≤ w → Told w
+pub told : (w : ℕ) → master_words ≤ w → Told w
 told w h =
     let t = tells w h in
-    let u : usedOf last ≡ 1649 = sym (ap (λ (t : Totals). t.used) t.totals) in
-    let l : largestSize (freeOf last) ≡ 5883 = sym (ap (λ (t : Totals). t.largest) t.totals) in
+    let u : used_of last ≡ 1649 = sym (ap (λ (t : Totals). t.used) t.totals) in
+    let l : largest_size (free_space_of last) ≡ 5883 = sym (ap (λ (t : Totals). t.largest) t.totals) in
     record { used = u; largest = l; afresh = t.afresh ∙ rw (u, l) }
 
 -- ---- the stated maximum, which the last table just meets
 
-kept : (w : ℕ) → masterWords ≤ w → WithinMaximum first last
-kept w h = rw worked.image at (maximum-kept first masterWords w list bytes at_first.opens h (within w h))
+kept : (w : ℕ) → master_words ≤ w → WithinMaximum first last
+kept w h = rw worked.image at (maximum-kept first master_words w list bytes at_first.opens h (within w h))
 
 pub record Maximum : Type 0 where
-  pub field : fstMaxSize last ≡ 0x28
-  pub within : fstSize last ≤ 0x28
+  pub field : fst_max_size last ≡ 0x28
+  pub within : fst_size last ≤ 0x28
 
 pub maximum : Maximum
 maximum =
-    let m : fstMaxSize first ≡ 0x28 = at_first.header.2 in
-    let k = kept masterWords (omega arith) in
+    let m : fst_max_size first ≡ 0x28 = at_first.header.2 in
+    let k = kept master_words (omega arith) in
     record { field = k.field ∙ m; within = rw m at (k.within (rw m (omega arith)) (rw (m, at_first.header.1) (omega arith))) }
 
 -- an image whose table is above its maximum: a rewrite, which is refused (26), and a resize to the present size, which writes no table
@@ -189,55 +189,55 @@ maximum =
 abbrev pub over : List ℕ
 over = stating 0x19
 
-abbrev overCall : Edit → Call
-overCall ed = record { edit = ed; totals = small.fresh; words = masterWords; bytes = 0x28 }
+abbrev over_call : Edit → Call
+over_call ed = record { edit = ed; totals = small.fresh; words = master_words; bytes = 0x28 }
 
-abbrev pub overList : List Call
-overList = overCall rewrite ∷ overCall (resizeFile 1 0x100) ∷ []
+abbrev pub over_list : List Call
+over_list = over_call rewrite ∷ over_call (resize_file 1 0x100) ∷ []
 
 over-bytes : AllBytes over
-unfolding stating master put bytesOnly
+unfolding stating master put bytes_only
 over-bytes = bytes-only over refl
 
-over-sizes : (fstMaxSize over ≡ 0x19) × (fstSize over ≡ 0x1A)
+over-sizes : (fst_max_size over ≡ 0x19) × (fst_size over ≡ 0x1A)
 unfolding stating master put be32
 over-sizes = (refl, refl)
 
-over-plan : plan_of (resizeFile 1 0x100) over ≡ nothing
-unfolding planResize stating master put table_of nodesIn nodesOf nodesFrom nodeAt name_at count be24 be32
+over-plan : plan_of (resize_file 1 0x100) over ≡ nothing
+unfolding plan_resize stating master put table_of nodes_in nodes_of nodes_from node_at name_at count be24 be32
 over-plan = refl
 
-over_last : imageAfterAll overList over ≡ over
-unfolding imageAfterAll imageAfter
+over_last : image_after_all over_list over ≡ over
+unfolding image_after_all image_after
 over_last = rw ((stated.maximum).larger.1, (stated.maximum).same_size.0, over-plan)
 
 over-kept : WithinMaximum over over
-over-kept = rw over_last at (maximum-kept over masterWords masterWords overList over-bytes (stated.maximum).larger.0 (omega arith) (omega arith, tt, (omega arith, omega arith, tt)))
+over-kept = rw over_last at (maximum-kept over master_words master_words over_list over-bytes (stated.maximum).larger.0 (omega arith) (omega arith, tt, (omega arith, omega arith, tt)))
 
-pub same-table : (fstSize (imageAfterAll overList over) ≡ 0x1A) × (table_of (imageAfterAll overList over) ≡ table_of over)
+pub same-table : (fst_size (image_after_all over_list over) ≡ 0x1A) × (table_of (image_after_all over_list over) ≡ table_of over)
 same-table = let l = over-kept.larger (rw over-sizes.0 (omega arith)) (rw (over-sizes.0, over-sizes.1) (omega arith)) in rw over_last (l.0 ∙ over-sizes.1, l.1)
 
 -- "may be edited down to the maximum": the small master with a zero byte more behind its texts, 0x1B bytes in all
 
-down-opens : opening (slack 0x1A) masterWords ≡ Ok tt
-down-opens = (accepted rewrite small.fresh (slack 0x1A) masterWords 0x1A (stated.maximum).edited-down).opens
+down-opens : opening (slack 0x1A) master_words ≡ Ok tt
+down-opens = (accepted rewrite small.fresh (slack 0x1A) master_words 0x1A (stated.maximum).edited-down).opens
 
 down-bytes : AllBytes (slack 0x1A)
-unfolding slack stating master put bytesOnly
+unfolding slack stating master put bytes_only
 down-bytes = bytes-only (slack 0x1A) refl
 
-down-sizes : (fstMaxSize (slack 0x1A) ≡ 0x1A) × (fstSize (slack 0x1A) ≡ 0x1B)
+down-sizes : (fst_max_size (slack 0x1A) ≡ 0x1A) × (fst_size (slack 0x1A) ≡ 0x1B)
 unfolding slack stating master put be32
 down-sizes = (refl, refl)
 
-down-table : length (encode (nodesIn (slack 0x1A))) ≡ 0x1A
-unfolding slack stating master put table_of nodesIn nodesOf nodesFrom nodeAt name_at count be24 be32 encode entriesBytes textsOf parent_of parentBelow
+down-table : length (encode (nodes_in (slack 0x1A))) ≡ 0x1A
+unfolding slack stating master put table_of nodes_in nodes_of nodes_from node_at name_at count be24 be32 encode entries_bytes texts_of parent_of parent_below
 down-table = refl
 
-pub down : fstSize (imageAfter rewrite (totalsOf (slack 0x1A) 0) (slack 0x1A) masterWords 0x1A) ≤ 0x1A
+pub down : fst_size (image_after rewrite (totals_of (slack 0x1A) 0) (slack 0x1A) master_words 0x1A) ≤ 0x1A
 down =
     let m = down-sizes.0 in
-    rw m at (edited-down (slack 0x1A) masterWords 0x1A down-bytes down-opens (rw (m, down-sizes.1) (omega arith)) (rw (m, down-table) (omega arith)) (rw down-table (omega arith)) 0 (omega arith)).2
+    rw m at (edited-down (slack 0x1A) master_words 0x1A down-bytes down-opens (rw (m, down-sizes.1) (omega arith)) (rw (m, down-table) (omega arith)) (rw down-table (omega arith)) 0 (omega arith)).2
 
 -- another maximum: the image opens all the same, to the same tree and free regions
 
@@ -246,27 +246,27 @@ unfolding first stating master put
 first-length = refl
 
 abbrev pub restated : List ℕ
-restated = put first 0x42C (be32Bytes 5)
+restated = put first 0x42C (be32_bytes 5)
 
-pub any : (opening restated masterWords ≡ Ok tt) × (nodesIn restated ≡ nodesIn first) × (freeOf restated ≡ freeOf first)
-any = any-maximum first restated masterWords bytes at_first.opens (length-put first 0x42C (be32Bytes 5) (rw first-length (omega arith))) (λ i h. put-outside first 0x42C (be32Bytes 5) (rw first-length (omega arith)) i h)
+pub any : (opening restated master_words ≡ Ok tt) × (nodes_in restated ≡ nodes_in first) × (free_space_of restated ≡ free_space_of first)
+any = any-maximum first restated master_words bytes at_first.opens (length-put first 0x42C (be32_bytes 5) (rw first-length (omega arith))) (λ i h. put-outside first 0x42C (be32_bytes 5) (rw first-length (omega arith)) i h)
 
 -- ---- the clip
 
-pub shows : ShowsClip (with_b 0x900 3 clip) masterWords 2 clip
-shows = rw filled-b.written at (fill-reads (totals 1644 6140 2) (with_b 0x900 0 []) clip 2 masterWords 0x36 masterWords moved-bytes clip-bytes (omega arith) filled-b.answered)
+pub shows : ShowsClip (with_b 0x900 3 clip) master_words 2 clip
+shows = rw filled-b.written at (fill-reads (totals 1644 6140 2) (with_b 0x900 0 []) clip 2 master_words 0x36 master_words moved-bytes clip-bytes (omega arith) filled-b.answered)
 
 pub record Clip : Type 0 where
   -- the window of entry 2 has three bytes, of which a read of four gives three
-  pub window : openFileAnswer (with_b 0x900 3 clip) masterWords 2 ≡ Ok (newWindow shows.offset 3)
-  pub count : count_of (newWindow shows.offset 3) (length (with_b 0x900 3 clip)) 4 ≡ 3
+  pub window : open_file_answer (with_b 0x900 3 clip) master_words 2 ≡ Ok (new_window shows.offset 3)
+  pub count : count_of (new_window shows.offset 3) (length (with_b 0x900 3 clip)) 4 ≡ 3
   -- the file opened and read into four bytes: the clip, and the fourth stays
-  pub read : readInto (openFileAnswer (with_b 0x900 3 clip) masterWords 2) (with_b 0x900 3 clip) (9 ∷ 9 ∷ 9 ∷ 9 ∷ []) ≡ 0x11 ∷ 0x12 ∷ 0x13 ∷ 9 ∷ []
+  pub read : read_into (open_file_answer (with_b 0x900 3 clip) master_words 2) (with_b 0x900 3 clip) (9 ∷ 9 ∷ 9 ∷ 9 ∷ []) ≡ 0x11 ∷ 0x12 ∷ 0x13 ∷ 9 ∷ []
 
 pub clip-read : Clip
 unfolding put
 clip-read = record {
   window = shows.window;
   count = shows.count 4 (omega arith);
-  read = rw filled-b.written at (read_back (totals 1644 6140 2) (with_b 0x900 0 []) clip 2 masterWords 0x36 masterWords moved-bytes clip-bytes (omega arith) filled-b.answered (9 ∷ 9 ∷ 9 ∷ 9 ∷ []) (omega arith));
+  read = rw filled-b.written at (read_back (totals 1644 6140 2) (with_b 0x900 0 []) clip 2 master_words 0x36 master_words moved-bytes clip-bytes (omega arith) filled-b.answered (9 ∷ 9 ∷ 9 ∷ 9 ∷ []) (omega arith));
 }

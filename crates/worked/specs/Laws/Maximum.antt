@@ -3,185 +3,185 @@
 use Rattle.std.specs.Prelude.{Ok, Err}
 use Rattle.refusal.specs.Refusal.{Verdict}
 use Rattle.std.specs.Prelude.{ℕ, ◌-◌, ◌^◌, ◌≡◌, refl, List, [], ◌∷◌, replicate}
-use Rattle.endian.specs.Bytes.{be24, be32, be32Bytes, put, sameBytes}
+use Rattle.endian.specs.Bytes.{be24, be32, be32_bytes, put, same_bytes}
 use Rattle.refusal.specs.declared.Refusal.TheVariants.{LimitOrMemory, NotEnoughSpace, TableAboveMaximum}
 use Rattle.refusal.specs.Refusal.{number_of}
-use Rattle.header.specs.Fields.{fields, fstMaxSizeField}
-use Rattle.header.specs.Verdicts.{fieldVerdict, fieldsVerdict, headerVerdict, boundsVerdict, discEnd, fstOffset, fstSize, fstMaxSize}
+use Rattle.header.specs.Fields.{fields, fst_max_size_field}
+use Rattle.header.specs.Verdicts.{field_verdict, fields_verdict, header_verdict, bounds_verdict, disc_end, fst_offset, fst_size, fst_max_size}
 use Rattle.tree.specs.Units.{units}
-use Rattle.tree.specs.Table.{file, directory, plain, safe, count, name_at, nodeAt, nodesFrom, nodesOf, entryVerdict, entriesVerdict, unended, shut, nameVerdict, nextVerdict, walk, check, parentBelow, parent_of, entriesBytes, textsOf, encode, shallowFrom, shallow, limits}
-use Rattle.tree.specs.Lookup.{firstChild, childOf}
-use Rattle.tree.specs.Insert.{bump, splice, insertAt, setPlace}
-use Rattle.space.specs.Used.{usesByte, nonempty, totalSize}
-use Rattle.space.specs.Layout.{disjoint, disjointFromAll, pairwise_disjoint, endBy, disjointBelow}
-use Rattle.space.specs.Free.{runs, freeRegions}
-use Rattle.space.specs.MaxRegionSize.{besideFree, maxSizeFrom}
-use Rattle.space.specs.Totals.{totalsVerdict}
-use Rattle.executable.specs.Program.{program_of, programIn, ownRegion}
-use Rattle.opened.specs.Opening.{table_of, nodesIn, opening, behindTable, usedIn, freeOf, usedOf, layoutVerdict}
-use Rattle.edits.specs.Change.{Change, nothing, change, filled, withTable, written, tableVerdict, placeVerdict}
-use Rattle.edits.specs.Edits.{Edit, insertFile, moveFile, resizeFile, fillFile, rewrite, tableOnly, insertVerdict, plan_of, planMove, planResize, planFill, countedVerdict, verdictOf}
-use Rattle.worked.specs.Image.{master, masterWords}
+use Rattle.tree.specs.Table.{file, directory, plain, safe, count, name_at, node_at, nodes_from, nodes_of, entry_verdict, entries_verdict, unended, shut, name_verdict, next_verdict, walk, check, parent_below, parent_of, entries_bytes, texts_of, encode, shallow_from, shallow, limits}
+use Rattle.tree.specs.Lookup.{first_child, child_of}
+use Rattle.tree.specs.Insert.{bump, splice, insert_at, set_place}
+use Rattle.space.specs.Used.{uses_byte, nonempty, total_size}
+use Rattle.space.specs.Layout.{disjoint, disjoint_from_all, pairwise_disjoint, end_by, disjoint_below}
+use Rattle.space.specs.Free.{runs, free_regions}
+use Rattle.space.specs.MaxRegionSize.{beside_free, max_size_from}
+use Rattle.space.specs.Totals.{totals_verdict}
+use Rattle.executable.specs.Program.{program_of, program_in, own_region}
+use Rattle.opened.specs.Opening.{table_of, nodes_in, opening, behind_table, used_in, free_space_of, used_of, layout_verdict}
+use Rattle.edits.specs.Change.{Change, nothing, change, filled, with_table, written, table_verdict_in, place_verdict_in}
+use Rattle.edits.specs.Edits.{Edit, insert_file, move_file, resize_file, fill_file, rewrite, table_only, insert_verdict, plan_of, plan_move, plan_resize, plan_fill, counted_verdict, verdict_of}
+use Rattle.worked.specs.Image.{master, master_words}
 use Rattle.worked.specs.Laws.Marked.{at, fresh}
 
 -- the small master with a stated maximum
 unfoldable pub stating : ℕ → List ℕ
-stating m = put master fstMaxSizeField.at (be32Bytes m)
+stating m = put master fst_max_size_field.at (be32_bytes m)
 
 -- whatever it is, the image opens to the same tree with the same free regions
-opens : (m : ℕ) → opening (stating m) masterWords ≡ Ok tt
-unfolding stating master put opening layoutVerdict headerVerdict fieldsVerdict fieldVerdict fields boundsVerdict table_of check nodesIn nodesOf nodesFrom nodeAt name_at count entriesVerdict entryVerdict unended walk nameVerdict nextVerdict shut plain safe be24 be32 usedIn behindTable program_of programIn ownRegion nonempty disjointBelow pairwise_disjoint disjointFromAll disjoint endBy units
+opens : (m : ℕ) → opening (stating m) master_words ≡ Ok tt
+unfolding stating master put opening layout_verdict header_verdict fields_verdict field_verdict fields bounds_verdict table_of check nodes_in nodes_of nodes_from node_at name_at count entries_verdict entry_verdict unended walk name_verdict next_verdict shut plain safe be24 be32 used_in behind_table program_of program_in own_region nonempty disjoint_below pairwise_disjoint disjoint_from_all disjoint end_by units
 opens m = refl
 
-nodes : (m : ℕ) → nodesIn (stating m) ≡ directory [] 2 ∷ file (0x61 ∷ []) 0x500 0x100 ∷ []
-unfolding stating master put table_of nodesIn nodesOf nodesFrom nodeAt name_at count be24 be32
+nodes : (m : ℕ) → nodes_in (stating m) ≡ directory [] 2 ∷ file (0x61 ∷ []) 0x500 0x100 ∷ []
+unfolding stating master put table_of nodes_in nodes_of nodes_from node_at name_at count be24 be32
 nodes m = refl
 
-table : (m : ℕ) → (fstOffset (stating m) ≡ 0x440) × (fstSize (stating m) ≡ 0x1A) × (discEnd (stating m) ≡ 0x2000)
+table : (m : ℕ) → (fst_offset (stating m) ≡ 0x440) × (fst_size (stating m) ≡ 0x1A) × (disc_end (stating m) ≡ 0x2000)
 unfolding stating master put be32
 table m = (refl, refl, refl)
 
-regions : (m : ℕ) → usedIn (stating m) ≡ at 0 0x45A ∷ at 0x500 0x100 ∷ []
-unfolding stating master put table_of nodesIn nodesOf nodesFrom nodeAt name_at count be24 be32 usedIn behindTable program_of programIn ownRegion nonempty
+regions : (m : ℕ) → used_in (stating m) ≡ at 0 0x45A ∷ at 0x500 0x100 ∷ []
+unfolding stating master put table_of nodes_in nodes_of nodes_from node_at name_at count be24 be32 used_in behind_table program_of program_in own_region nonempty
 regions m = refl
 
-runs-between : freeRegions 0x2000 (at 0 0x45A ∷ at 0x500 0x100 ∷ []) ≡ at 1114 166 ∷ at 1536 6656 ∷ []
-unfolding freeRegions runs usesByte
+runs-between : free_regions 0x2000 (at 0 0x45A ∷ at 0x500 0x100 ∷ []) ≡ at 1114 166 ∷ at 1536 6656 ∷ []
+unfolding free_regions runs uses_byte
 runs-between = refl
 
-free : (m : ℕ) → freeOf (stating m) ≡ at 1114 166 ∷ at 1536 6656 ∷ []
-unfolding freeOf
+free : (m : ℕ) → free_space_of (stating m) ≡ at 1114 166 ∷ at 1536 6656 ∷ []
+unfolding free_space_of
 free m = rw (regions m, (table m).2) runs-between
 
-used : (m : ℕ) → usedOf (stating m) ≡ 1370
-unfolding stating master put table_of nodesIn nodesOf nodesFrom nodeAt name_at count be24 be32 usedOf behindTable program_of programIn ownRegion totalSize
+used : (m : ℕ) → used_of (stating m) ≡ 1370
+unfolding stating master put table_of nodes_in nodes_of nodes_from node_at name_at count be24 be32 used_of behind_table program_of program_in own_region total_size
 used m = refl
 
-stated : (fstMaxSize (stating 0x1A) ≡ 0x1A) × (fstMaxSize (stating 0x19) ≡ 0x19) × (fstMaxSize (stating 0) ≡ 0) × (fstMaxSize (stating 0x28) ≡ 0x28) × (fstMaxSize (stating 0x27) ≡ 0x27)
+stated : (fst_max_size (stating 0x1A) ≡ 0x1A) × (fst_max_size (stating 0x19) ≡ 0x19) × (fst_max_size (stating 0) ≡ 0) × (fst_max_size (stating 0x28) ≡ 0x28) × (fst_max_size (stating 0x27) ≡ 0x27)
 unfolding stating master put be32
 stated = (refl, refl, refl, refl, refl)
 
 -- the same, with `a` right behind the table
 unfoldable pub tight : ℕ → List ℕ
-tight m = put (stating m) 0x450 (be32Bytes 0x45A)
+tight m = put (stating m) 0x450 (be32_bytes 0x45A)
 
-tight-opens : (m : ℕ) → opening (tight m) masterWords ≡ Ok tt
-unfolding tight stating master put opening layoutVerdict headerVerdict fieldsVerdict fieldVerdict fields boundsVerdict table_of check nodesIn nodesOf nodesFrom nodeAt name_at count entriesVerdict entryVerdict unended walk nameVerdict nextVerdict shut plain safe be24 be32 usedIn behindTable program_of programIn ownRegion nonempty disjointBelow pairwise_disjoint disjointFromAll disjoint endBy units
+tight-opens : (m : ℕ) → opening (tight m) master_words ≡ Ok tt
+unfolding tight stating master put opening layout_verdict header_verdict fields_verdict field_verdict fields bounds_verdict table_of check nodes_in nodes_of nodes_from node_at name_at count entries_verdict entry_verdict unended walk name_verdict next_verdict shut plain safe be24 be32 used_in behind_table program_of program_in own_region nonempty disjoint_below pairwise_disjoint disjoint_from_all disjoint end_by units
 tight-opens m = refl
 
-tight-nodes : (m : ℕ) → nodesIn (tight m) ≡ directory [] 2 ∷ file (0x61 ∷ []) 0x45A 0x100 ∷ []
-unfolding tight stating master put table_of nodesIn nodesOf nodesFrom nodeAt name_at count be24 be32
+tight-nodes : (m : ℕ) → nodes_in (tight m) ≡ directory [] 2 ∷ file (0x61 ∷ []) 0x45A 0x100 ∷ []
+unfolding tight stating master put table_of nodes_in nodes_of nodes_from node_at name_at count be24 be32
 tight-nodes m = refl
 
-tight-header : (fstOffset (tight 0) ≡ 0x440) × (fstSize (tight 0) ≡ 0x1A) × (fstMaxSize (tight 0) ≡ 0) × (fstMaxSize (tight 0x1A) ≡ 0x1A)
+tight-header : (fst_offset (tight 0) ≡ 0x440) × (fst_size (tight 0) ≡ 0x1A) × (fst_max_size (tight 0) ≡ 0) × (fst_max_size (tight 0x1A) ≡ 0x1A)
 unfolding tight stating master put be32
 tight-header = (refl, refl, refl, refl)
 
-tight-free : freeOf (tight 0) ≡ at 1370 6822 ∷ []
-unfolding tight stating master put table_of nodesIn nodesOf nodesFrom nodeAt name_at count be24 be32 freeOf usedIn behindTable program_of programIn ownRegion freeRegions runs usesByte nonempty
+tight-free : free_space_of (tight 0) ≡ at 1370 6822 ∷ []
+unfolding tight stating master put table_of nodes_in nodes_of nodes_from node_at name_at count be24 be32 free_space_of used_in behind_table program_of program_in own_region free_regions runs uses_byte nonempty
 tight-free = refl
 
 -- the same, with a zero byte more behind the texts: 0x1B bytes, written anew 0x1A
 unfoldable pub slack : ℕ → List ℕ
-slack m = put (stating m) 0x428 (be32Bytes 0x1B)
+slack m = put (stating m) 0x428 (be32_bytes 0x1B)
 
-slack-opens : opening (slack 0x1A) masterWords ≡ Ok tt
-unfolding slack stating master put opening layoutVerdict headerVerdict fieldsVerdict fieldVerdict fields boundsVerdict table_of check nodesIn nodesOf nodesFrom nodeAt name_at count entriesVerdict entryVerdict unended walk nameVerdict nextVerdict shut plain safe be24 be32 usedIn behindTable program_of programIn ownRegion nonempty disjointBelow pairwise_disjoint disjointFromAll disjoint endBy units
+slack-opens : opening (slack 0x1A) master_words ≡ Ok tt
+unfolding slack stating master put opening layout_verdict header_verdict fields_verdict field_verdict fields bounds_verdict table_of check nodes_in nodes_of nodes_from node_at name_at count entries_verdict entry_verdict unended walk name_verdict next_verdict shut plain safe be24 be32 used_in behind_table program_of program_in own_region nonempty disjoint_below pairwise_disjoint disjoint_from_all disjoint end_by units
 slack-opens = refl
 
 few-opens : opening (stating 0x1A) 19 ≡ Ok tt
-unfolding stating master put opening layoutVerdict headerVerdict fieldsVerdict fieldVerdict fields boundsVerdict table_of check nodesIn nodesOf nodesFrom nodeAt name_at count entriesVerdict entryVerdict unended walk nameVerdict nextVerdict shut plain safe be24 be32 usedIn behindTable program_of programIn ownRegion nonempty disjointBelow pairwise_disjoint disjointFromAll disjoint endBy units
+unfolding stating master put opening layout_verdict header_verdict fields_verdict field_verdict fields bounds_verdict table_of check nodes_in nodes_of nodes_from node_at name_at count entries_verdict entry_verdict unended walk name_verdict next_verdict shut plain safe be24 be32 used_in behind_table program_of program_in own_region nonempty disjoint_below pairwise_disjoint disjoint_from_all disjoint end_by units
 few-opens = refl
 
-slack-nodes : nodesIn (slack 0x1A) ≡ directory [] 2 ∷ file (0x61 ∷ []) 0x500 0x100 ∷ []
-unfolding slack stating master put table_of nodesIn nodesOf nodesFrom nodeAt name_at count be24 be32
+slack-nodes : nodes_in (slack 0x1A) ≡ directory [] 2 ∷ file (0x61 ∷ []) 0x500 0x100 ∷ []
+unfolding slack stating master put table_of nodes_in nodes_of nodes_from node_at name_at count be24 be32
 slack-nodes = refl
 
-slack-header : (fstOffset (slack 0x1A) ≡ 0x440) × (fstSize (slack 0x1A) ≡ 0x1B) × (fstMaxSize (slack 0x1A) ≡ 0x1A)
+slack-header : (fst_offset (slack 0x1A) ≡ 0x440) × (fst_size (slack 0x1A) ≡ 0x1B) × (fst_max_size (slack 0x1A) ≡ 0x1A)
 unfolding slack stating master put be32
 slack-header = (refl, refl, refl)
 
-slack-free : freeOf (slack 0x1A) ≡ at 1115 165 ∷ at 1536 6656 ∷ []
-unfolding slack stating master put table_of nodesIn nodesOf nodesFrom nodeAt name_at count be24 be32 freeOf usedIn behindTable program_of programIn ownRegion freeRegions runs usesByte nonempty
+slack-free : free_space_of (slack 0x1A) ≡ at 1115 165 ∷ at 1536 6656 ∷ []
+unfolding slack stating master put table_of nodes_in nodes_of nodes_from node_at name_at count be24 be32 free_space_of used_in behind_table program_of program_in own_region free_regions runs uses_byte nonempty
 slack-free = refl
 
-slack-used : usedOf (slack 0x1A) ≡ 1371
-unfolding slack stating master put table_of nodesIn nodesOf nodesFrom nodeAt name_at count be24 be32 usedOf behindTable program_of programIn ownRegion totalSize
+slack-used : used_of (slack 0x1A) ≡ 1371
+unfolding slack stating master put table_of nodes_in nodes_of nodes_from node_at name_at count be24 be32 used_of behind_table program_of program_in own_region total_size
 slack-used = refl
 
-slack-rewritten : usedOf (written (tableOnly (directory [] 2 ∷ file (0x61 ∷ []) 0x500 0x100 ∷ [])) (slack 0x1A)) ≡ 1370
-unfolding slack stating master put table_of nodesIn nodesOf nodesFrom nodeAt name_at count be24 be32 textsOf encode entriesBytes parent_of parentBelow written withTable usedOf behindTable program_of programIn ownRegion totalSize
+slack-rewritten : used_of (written (table_only (directory [] 2 ∷ file (0x61 ∷ []) 0x500 0x100 ∷ [])) (slack 0x1A)) ≡ 1370
+unfolding slack stating master put table_of nodes_in nodes_of nodes_from node_at name_at count be24 be32 texts_of encode entries_bytes parent_of parent_below written with_table used_of behind_table program_of program_in own_region total_size
 slack-rewritten = refl
 
 -- ---- the images that are written
 
-rewritten : (m : ℕ) → usedOf (written (tableOnly (directory [] 2 ∷ file (0x61 ∷ []) 0x500 0x100 ∷ [])) (stating m)) ≡ 1370
-unfolding stating master put table_of nodesIn nodesOf nodesFrom nodeAt name_at count be24 be32 textsOf encode entriesBytes parent_of parentBelow written withTable usedOf behindTable program_of programIn ownRegion totalSize
+rewritten : (m : ℕ) → used_of (written (table_only (directory [] 2 ∷ file (0x61 ∷ []) 0x500 0x100 ∷ [])) (stating m)) ≡ 1370
+unfolding stating master put table_of nodes_in nodes_of nodes_from node_at name_at count be24 be32 texts_of encode entries_bytes parent_of parent_below written with_table used_of behind_table program_of program_in own_region total_size
 rewritten m = refl
 
-abbrev insertB : Edit
-insertB = insertFile 0 (0x62 ∷ [])
+abbrev insert_b : Edit
+insert_b = insert_file 0 (0x62 ∷ [])
 
 abbrev with_b : Change
-with_b = tableOnly (directory [] 3 ∷ file (0x61 ∷ []) 0x500 0x100 ∷ file (0x62 ∷ []) 0 0 ∷ [])
+with_b = table_only (directory [] 3 ∷ file (0x61 ∷ []) 0x500 0x100 ∷ file (0x62 ∷ []) 0 0 ∷ [])
 
-abbrev tightWithB : Change
-tightWithB = tableOnly (directory [] 3 ∷ file (0x61 ∷ []) 0x45A 0x100 ∷ file (0x62 ∷ []) 0 0 ∷ [])
+abbrev tight_with_b : Change
+tight_with_b = table_only (directory [] 3 ∷ file (0x61 ∷ []) 0x45A 0x100 ∷ file (0x62 ∷ []) 0 0 ∷ [])
 
-plan-b : (m : ℕ) → plan_of insertB (stating m) ≡ change 2 with_b
-unfolding insertVerdict insertAt splice bump childOf firstChild sameBytes plain safe parent_of parentBelow shut units
+plan-b : (m : ℕ) → plan_of insert_b (stating m) ≡ change 2 with_b
+unfolding insert_verdict insert_at splice bump child_of first_child same_bytes plain safe parent_of parent_below shut units
 plan-b m = rw (nodes m)
 
-tight-plan : (m : ℕ) → plan_of insertB (tight m) ≡ change 2 tightWithB
-unfolding insertVerdict insertAt splice bump childOf firstChild sameBytes plain safe parent_of parentBelow shut units
+tight-plan : (m : ℕ) → plan_of insert_b (tight m) ≡ change 2 tight_with_b
+unfolding insert_verdict insert_at splice bump child_of first_child same_bytes plain safe parent_of parent_below shut units
 tight-plan m = rw (tight-nodes m)
 
-inserted : (m : ℕ) → usedOf (written with_b (stating m)) ≡ 1384
-unfolding stating master put table_of nodesIn nodesOf nodesFrom nodeAt name_at count be24 be32 textsOf encode entriesBytes parent_of parentBelow written withTable usedOf behindTable program_of programIn ownRegion totalSize
+inserted : (m : ℕ) → used_of (written with_b (stating m)) ≡ 1384
+unfolding stating master put table_of nodes_in nodes_of nodes_from node_at name_at count be24 be32 texts_of encode entries_bytes parent_of parent_below written with_table used_of behind_table program_of program_in own_region total_size
 inserted m = refl
 
 -- `a` filled with as many bytes as it has
 abbrev clip : List ℕ
 clip = replicate 0x100 7
 
-plan-clip : plan_of (fillFile 1 clip) (stating 0x19) ≡ filled 1 clip nothing
-unfolding planFill planResize
+plan-clip : plan_of (fill_file 1 clip) (stating 0x19) ≡ filled 1 clip nothing
+unfolding plan_fill plan_resize
 plan-clip = rw (nodes 0x19)
 
-clipped : usedOf (put (stating 0x19) 0x500 clip) ≡ 1370
-unfolding stating master put table_of nodesIn nodesOf nodesFrom nodeAt name_at count be24 be32 usedOf behindTable program_of programIn ownRegion totalSize
+clipped : used_of (put (stating 0x19) 0x500 clip) ≡ 1370
+unfolding stating master put table_of nodes_in nodes_of nodes_from node_at name_at count be24 be32 used_of behind_table program_of program_in own_region total_size
 clipped = refl
 
 -- ---- the examples
 
 -- an edit of the small master with that maximum, with its record and 0x28 working bytes
 abbrev on : ℕ → Edit → Verdict
-on m ed = verdictOf ed fresh (stating m) masterWords 0x28
+on m ed = verdict_of ed fresh (stating m) master_words 0x28
 
 pub record Maximum : Type 0 where
   -- a table of exactly the maximum: a rewrite is accepted, an insert is 26
-  pub exact : (on 0x1A rewrite ≡ Ok tt) × (on 0x1A insertB ≡ Err TableAboveMaximum)
+  pub exact : (on 0x1A rewrite ≡ Ok tt) × (on 0x1A insert_b ≡ Err TableAboveMaximum)
   -- "An image whose table is already larger still opens": a rewrite is 26, and so are a move and a shrink
-  pub larger : (opening (stating 0x19) masterWords ≡ Ok tt) × (on 0x19 rewrite ≡ Err TableAboveMaximum) × (on 0x19 (moveFile 1 0x600) ≡ Err TableAboveMaximum) × (on 0x19 (resizeFile 1 0xFF) ≡ Err TableAboveMaximum)
+  pub larger : (opening (stating 0x19) master_words ≡ Ok tt) × (on 0x19 rewrite ≡ Err TableAboveMaximum) × (on 0x19 (move_file 1 0x600) ≡ Err TableAboveMaximum) × (on 0x19 (resize_file 1 0xFF) ≡ Err TableAboveMaximum)
   -- a resize to the present size and a fill of it write no table
-  pub same_size : (on 0x19 (resizeFile 1 0x100) ≡ Ok tt) × (on 0x19 (fillFile 1 clip) ≡ Ok tt)
+  pub same_size : (on 0x19 (resize_file 1 0x100) ≡ Ok tt) × (on 0x19 (fill_file 1 clip) ≡ Ok tt)
   -- 0: as before
-  pub none : (on 0 rewrite ≡ Ok tt) × (on 0 insertB ≡ Ok tt)
+  pub none : (on 0 rewrite ≡ Ok tt) × (on 0 insert_b ≡ Ok tt)
   -- the table with `b` has 0x28 bytes
-  pub grown : (on 0x28 insertB ≡ Ok tt) × (on 0x27 insertB ≡ Err TableAboveMaximum)
+  pub grown : (on 0x28 insert_b ≡ Ok tt) × (on 0x27 insert_b ≡ Err TableAboveMaximum)
   -- "may be edited down to the maximum": a table of 0x1B bytes, one of which no name uses
-  pub edited-down : verdictOf rewrite fresh (slack 0x1A) masterWords 0x1A ≡ Ok tt
+  pub edited-down : verdict_of rewrite fresh (slack 0x1A) master_words 0x1A ≡ Ok tt
   -- 9 comes before 26: one working word too few for three entries, one working byte too few for their table
-  pub limits-first : verdictOf insertB fresh (stating 0x1A) 19 0x28 ≡ Err LimitOrMemory
-  pub bytes-first : verdictOf insertB fresh (stating 0x1A) masterWords 0x27 ≡ Err LimitOrMemory
+  pub limits-first : verdict_of insert_b fresh (stating 0x1A) 19 0x28 ≡ Err LimitOrMemory
+  pub bytes-first : verdict_of insert_b fresh (stating 0x1A) master_words 0x27 ≡ Err LimitOrMemory
   -- 26 comes before the table's 21: `a` lies right behind the table
-  pub room-last : (verdictOf insertB fresh (tight 0x1A) masterWords 0x28 ≡ Err TableAboveMaximum) × (verdictOf insertB fresh (tight 0) masterWords 0x28 ≡ Err NotEnoughSpace)
+  pub room-last : (verdict_of insert_b fresh (tight 0x1A) master_words 0x28 ≡ Err TableAboveMaximum) × (verdict_of insert_b fresh (tight 0) master_words 0x28 ≡ Err NotEnoughSpace)
   -- and before 25: with a record that can count no more edits
-  pub record-last : verdictOf rewrite (record { used = 1370; largest = 6656; edits = 2 ^ 32 - 1 }) (stating 0x19) masterWords 0x28 ≡ Err TableAboveMaximum
+  pub record-last : verdict_of rewrite (record { used = 1370; largest = 6656; edits = 2 ^ 32 - 1 }) (stating 0x19) master_words 0x28 ≡ Err TableAboveMaximum
   pub number : number_of TableAboveMaximum ≡ 26
 
 pub maximum : Maximum
-unfolding verdictOf countedVerdict totalsVerdict planMove planResize maxSizeFrom besideFree tableVerdict placeVerdict limits shallow shallowFrom shut textsOf encode entriesBytes parent_of parentBelow setPlace
+unfolding verdict_of counted_verdict totals_verdict plan_move plan_resize max_size_from beside_free table_verdict_in place_verdict_in limits shallow shallow_from shut texts_of encode entries_bytes parent_of parent_below set_place
 maximum = record {
   exact = (rw (opens 0x1A, nodes 0x1A, free 0x1A, stated.0, (table 0x1A).0, (table 0x1A).1, used 0x1A, rewritten 0x1A), rw (opens 0x1A, plan-b 0x1A, stated.0));
   larger = (

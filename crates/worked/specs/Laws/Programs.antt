@@ -3,39 +3,39 @@
 use Rattle.std.specs.Prelude.{Some, Ok, Err}
 use Rattle.refusal.specs.Refusal.{Verdict}
 use Rattle.std.specs.Prelude.{ℕ, ◌+◌, ◌≡◌, refl, List, [], ◌∷◌, ◌++◌, replicate}
-use Rattle.endian.specs.Bytes.{be24, be32, be32Bytes, put, sameBytes}
+use Rattle.endian.specs.Bytes.{be24, be32, be32_bytes, put, same_bytes}
 use Rattle.refusal.specs.declared.Refusal.TheVariants.{UnsafeName, OverlappingRegions, NotEnoughSpace, InvalidDol}
 use Rattle.refusal.specs.Refusal.{number_of}
-use Rattle.header.specs.Fields.{fields, gcnMagicField, dolOffsetField, fstOffsetField, fstSizeField, userSizeField}
-use Rattle.header.specs.Verdicts.{gcnMagic, fieldVerdict, fieldsVerdict, headerVerdict, boundsVerdict, fstOffset, fstSize, fstMaxSize, discEnd}
+use Rattle.header.specs.Fields.{fields, gcn_magic_field, dol_offset_field, fst_offset_field, fst_size_field, user_size_field}
+use Rattle.header.specs.Verdicts.{gcn_magic, field_verdict, fields_verdict, header_verdict, bounds_verdict, fst_offset, fst_size, fst_max_size, disc_end}
 use Rattle.tree.specs.Units.{units}
-use Rattle.tree.specs.Table.{file, directory, plain, safe, count, name_at, nodeAt, nodesFrom, nodesOf, entryVerdict, entriesVerdict, unended, shut, nameVerdict, nextVerdict, walk, check, parentBelow, parent_of, entriesBytes, textsOf, encode, shallowFrom, shallow, limits}
-use Rattle.tree.specs.Lookup.{firstChild, childOf}
-use Rattle.tree.specs.Insert.{splice, insertAt, setPlace}
+use Rattle.tree.specs.Table.{file, directory, plain, safe, count, name_at, node_at, nodes_from, nodes_of, entry_verdict, entries_verdict, unended, shut, name_verdict, next_verdict, walk, check, parent_below, parent_of, entries_bytes, texts_of, encode, shallow_from, shallow, limits}
+use Rattle.tree.specs.Lookup.{first_child, child_of}
+use Rattle.tree.specs.Insert.{splice, insert_at, set_place}
 use Rattle.space.specs.declared.region.DiscRegion.{DiscRegion}
-use Rattle.space.specs.Used.{usesByte, nonempty, totalSize}
-use Rattle.space.specs.Layout.{disjoint, disjointFromAll, pairwise_disjoint, endBy, disjointBelow}
-use Rattle.space.specs.Free.{runs, freeRegions}
+use Rattle.space.specs.Used.{uses_byte, nonempty, total_size}
+use Rattle.space.specs.Layout.{disjoint, disjoint_from_all, pairwise_disjoint, end_by, disjoint_below}
+use Rattle.space.specs.Free.{runs, free_regions}
 use Rattle.space.specs.Align.{align_up}
-use Rattle.space.specs.MaxRegionSize.{besideFree, maxSizeFrom}
-use Rattle.space.specs.Allocate.{betterOf, largest, powers, allocationOf}
-use Rattle.space.specs.Totals.{totalsVerdict}
-use Rattle.executable.specs.Dol.{wordsAt, largestOf}
-use Rattle.executable.specs.Program.{program_of, programIn, ownRegion}
-use Rattle.opened.specs.Opening.{table_of, nodesIn, behindTable, usedIn, layoutVerdict, opening, freeOf, usedOf}
-use Rattle.edits.specs.Change.{withTable, written, tableVerdict, placeVerdict}
-use Rattle.edits.specs.Edits.{tableOnly, insertFile, moveFile, resizeFile, rewrite, insertVerdict, planMove, planResize, countedVerdict, verdictOf}
-use Rattle.disc.specs.Calls.{totalsOf}
+use Rattle.space.specs.MaxRegionSize.{beside_free, max_size_from}
+use Rattle.space.specs.Allocate.{better_of, largest, powers, allocation_of}
+use Rattle.space.specs.Totals.{totals_verdict}
+use Rattle.executable.specs.Dol.{words_at, largest_of}
+use Rattle.executable.specs.Program.{program_of, program_in, own_region}
+use Rattle.opened.specs.Opening.{table_of, nodes_in, behind_table, used_in, layout_verdict, opening, free_space_of, used_of}
+use Rattle.edits.specs.Change.{with_table, written, table_verdict_in, place_verdict_in}
+use Rattle.edits.specs.Edits.{table_only, insert_file, move_file, resize_file, rewrite, insert_verdict, plan_move, plan_resize, counted_verdict, verdict_of}
+use Rattle.disc.specs.Calls.{totals_of}
 
 -- a disc that ends at 0x900, in an image of so many bytes: the table at `fst`, file `a` of 0x100 bytes at `place`, with this name's byte
 abbrev disc : ℕ → ℕ → ℕ → ℕ → List ℕ
 disc length fst place name =
-    put (put (put (put (put (replicate length 0) gcnMagicField.at (be32Bytes gcnMagic)) fstOffsetField.at (be32Bytes fst)) fstSizeField.at (be32Bytes 0x1A)) userSizeField.at (be32Bytes 0x900))
-    fst ((1 ∷ 0 ∷ 0 ∷ 0 ∷ 0 ∷ 0 ∷ 0 ∷ 0 ∷ 0 ∷ 0 ∷ 0 ∷ 2 ∷ 0 ∷ 0 ∷ 0 ∷ 0 ∷ []) ++ (be32Bytes place ++ (be32Bytes 0x100 ++ (name ∷ 0 ∷ []))))
+    put (put (put (put (put (replicate length 0) gcn_magic_field.at (be32_bytes gcn_magic)) fst_offset_field.at (be32_bytes fst)) fst_size_field.at (be32_bytes 0x1A)) user_size_field.at (be32_bytes 0x900))
+    fst ((1 ∷ 0 ∷ 0 ∷ 0 ∷ 0 ∷ 0 ∷ 0 ∷ 0 ∷ 0 ∷ 0 ∷ 0 ∷ 2 ∷ 0 ∷ 0 ∷ 0 ∷ 0 ∷ []) ++ (be32_bytes place ++ (be32_bytes 0x100 ++ (name ∷ 0 ∷ []))))
 
 -- a program at d, whose first text section has this offset and size
 abbrev with : ℕ → ℕ → ℕ → List ℕ → List ℕ
-with d offset size image = put (put (put image dolOffsetField.at (be32Bytes d)) d (be32Bytes offset)) (d + 0x90) (be32Bytes size)
+with d offset size image = put (put (put image dol_offset_field.at (be32_bytes d)) d (be32_bytes offset)) (d + 0x90) (be32_bytes size)
 
 -- the table at 0x440 and `a` at 0x500, a program behind
 abbrev pub behind : ℕ → ℕ → ℕ → List ℕ
@@ -64,28 +64,28 @@ pub record Opens : Type 0 where
   pub numbers : (number_of InvalidDol ≡ 24) × (number_of UnsafeName ≡ 13) × (number_of OverlappingRegions ≡ 14)
 
 pub opened : Opens
-unfolding one put opening layoutVerdict headerVerdict fieldsVerdict fieldVerdict fields boundsVerdict table_of check nodesIn nodesOf nodesFrom nodeAt name_at count entriesVerdict entryVerdict unended walk nameVerdict nextVerdict shut plain safe be24 be32 usedIn behindTable program_of programIn ownRegion wordsAt largestOf nonempty disjointBelow pairwise_disjoint disjointFromAll disjoint endBy units
+unfolding one put opening layout_verdict header_verdict fields_verdict field_verdict fields bounds_verdict table_of check nodes_in nodes_of nodes_from node_at name_at count entries_verdict entry_verdict unended walk name_verdict next_verdict shut plain safe be24 be32 used_in behind_table program_of program_in own_region words_at largest_of nonempty disjoint_below pairwise_disjoint disjoint_from_all disjoint end_by units
 opened = record { at-file = (refl, refl); sum = refl; walk = refl; past_end = refl; numbers = (refl, refl, refl) }
 
 -- what is free, and the used total
-nodes : nodesIn one ≡ directory [] 2 ∷ file (0x61 ∷ []) 0x500 0x100 ∷ []
-unfolding one put table_of nodesIn nodesOf nodesFrom nodeAt name_at count be24 be32
+nodes : nodes_in one ≡ directory [] 2 ∷ file (0x61 ∷ []) 0x500 0x100 ∷ []
+unfolding one put table_of nodes_in nodes_of nodes_from node_at name_at count be24 be32
 nodes = refl
 
-header : (fstOffset one ≡ 0x440) × (fstSize one ≡ 0x1A) × (discEnd one ≡ 0x900)
+header : (fst_offset one ≡ 0x440) × (fst_size one ≡ 0x1A) × (disc_end one ≡ 0x900)
 unfolding one put be32
 header = (refl, refl, refl)
 
-pub used : (usedIn one ≡ at 0 0x45A ∷ at 0x600 0x123 ∷ at 0x500 0x100 ∷ []) × (usedOf one ≡ 0x45A + 0x100 + 0x123)
-unfolding usedIn usedOf behindTable programIn ownRegion nonempty totalSize
+pub used : (used_in one ≡ at 0 0x45A ∷ at 0x600 0x123 ∷ at 0x500 0x100 ∷ []) × (used_of one ≡ 0x45A + 0x100 + 0x123)
+unfolding used_in used_of behind_table program_in own_region nonempty total_size
 used = (rw (nodes, opened.at-file.1, header.0, header.1), rw (nodes, opened.at-file.1, header.0, header.1))
 
-runs-of-one : freeRegions 0x900 (at 0 0x45A ∷ at 0x600 0x123 ∷ at 0x500 0x100 ∷ []) ≡ at 0x45A 0xA6 ∷ at 0x723 0x1DD ∷ []
-unfolding freeRegions runs usesByte
+runs-of-one : free_regions 0x900 (at 0 0x45A ∷ at 0x600 0x123 ∷ at 0x500 0x100 ∷ []) ≡ at 0x45A 0xA6 ∷ at 0x723 0x1DD ∷ []
+unfolding free_regions runs uses_byte
 runs-of-one = refl
 
-pub free : freeOf one ≡ at 0x45A 0xA6 ∷ at 0x723 0x1DD ∷ []
-unfolding freeOf
+pub free : free_space_of one ≡ at 0x45A 0xA6 ∷ at 0x723 0x1DD ∷ []
+unfolding free_space_of
 free = rw (used.0, header.2) runs-of-one
 
 -- ---- edits keep off it; 40 working bytes are enough for three entries, and the record is one made of the image
@@ -95,45 +95,45 @@ unfoldable pub two : List ℕ
 two = with 0x45A 0 0 (disc 0x900 0x440 0x600 0x61)
 
 two-opens : (opening two 20 ≡ Ok tt) × (program_of two ≡ Ok (Some (at 0x45A 0xE4)))
-unfolding two put opening layoutVerdict headerVerdict fieldsVerdict fieldVerdict fields boundsVerdict table_of check nodesIn nodesOf nodesFrom nodeAt name_at count entriesVerdict entryVerdict unended walk nameVerdict nextVerdict shut plain safe be24 be32 usedIn behindTable program_of programIn ownRegion wordsAt largestOf nonempty disjointBelow pairwise_disjoint disjointFromAll disjoint endBy units
+unfolding two put opening layout_verdict header_verdict fields_verdict field_verdict fields bounds_verdict table_of check nodes_in nodes_of nodes_from node_at name_at count entries_verdict entry_verdict unended walk name_verdict next_verdict shut plain safe be24 be32 used_in behind_table program_of program_in own_region words_at largest_of nonempty disjoint_below pairwise_disjoint disjoint_from_all disjoint end_by units
 two-opens = (refl, refl)
 
-two-nodes : nodesIn two ≡ directory [] 2 ∷ file (0x61 ∷ []) 0x600 0x100 ∷ []
-unfolding two put table_of nodesIn nodesOf nodesFrom nodeAt name_at count be24 be32
+two-nodes : nodes_in two ≡ directory [] 2 ∷ file (0x61 ∷ []) 0x600 0x100 ∷ []
+unfolding two put table_of nodes_in nodes_of nodes_from node_at name_at count be24 be32
 two-nodes = refl
 
-two-header : (fstOffset two ≡ 0x440) × (fstSize two ≡ 0x1A) × (discEnd two ≡ 0x900) × (fstMaxSize two ≡ 0)
+two-header : (fst_offset two ≡ 0x440) × (fst_size two ≡ 0x1A) × (disc_end two ≡ 0x900) × (fst_max_size two ≡ 0)
 unfolding two put be32
 two-header = (refl, refl, refl, refl)
 
-two-used : (usedIn two ≡ at 0 0x45A ∷ at 0x45A 0xE4 ∷ at 0x600 0x100 ∷ []) × (usedOf two ≡ 0x45A + 0xE4 + 0x100)
-unfolding usedIn usedOf behindTable programIn ownRegion nonempty totalSize
+two-used : (used_in two ≡ at 0 0x45A ∷ at 0x45A 0xE4 ∷ at 0x600 0x100 ∷ []) × (used_of two ≡ 0x45A + 0xE4 + 0x100)
+unfolding used_in used_of behind_table program_in own_region nonempty total_size
 two-used = (rw (two-nodes, two-opens.1, two-header.0, two-header.1), rw (two-nodes, two-opens.1, two-header.0, two-header.1))
 
-runs-of-two : freeRegions 0x900 (at 0 0x45A ∷ at 0x45A 0xE4 ∷ at 0x600 0x100 ∷ []) ≡ at 0x53E 0xC2 ∷ at 0x700 0x200 ∷ []
-unfolding freeRegions runs usesByte
+runs-of-two : free_regions 0x900 (at 0 0x45A ∷ at 0x45A 0xE4 ∷ at 0x600 0x100 ∷ []) ≡ at 0x53E 0xC2 ∷ at 0x700 0x200 ∷ []
+unfolding free_regions runs uses_byte
 runs-of-two = refl
 
-two-free : freeOf two ≡ at 0x53E 0xC2 ∷ at 0x700 0x200 ∷ []
-unfolding freeOf
+two-free : free_space_of two ≡ at 0x53E 0xC2 ∷ at 0x700 0x200 ∷ []
+unfolding free_space_of
 two-free = rw (two-used.0, two-header.2) runs-of-two
 
 -- the table written as it is
-two-written : usedOf (written (tableOnly (directory [] 2 ∷ file (0x61 ∷ []) 0x600 0x100 ∷ [])) two) ≡ 0x45A + 0xE4 + 0x100
-unfolding two put table_of nodesIn nodesOf nodesFrom nodeAt name_at count be24 be32 textsOf encode entriesBytes parent_of parentBelow written withTable usedOf behindTable program_of programIn ownRegion wordsAt largestOf totalSize
+two-written : used_of (written (table_only (directory [] 2 ∷ file (0x61 ∷ []) 0x600 0x100 ∷ [])) two) ≡ 0x45A + 0xE4 + 0x100
+unfolding two put table_of nodes_in nodes_of nodes_from node_at name_at count be24 be32 texts_of encode entries_bytes parent_of parent_below written with_table used_of behind_table program_of program_in own_region words_at largest_of total_size
 two-written = refl
 
 pub record Kept : Type 0 where
   -- `a` to where the program lies; grown into it, with no multiple of 0x8000 below the disc end
-  pub move-onto : verdictOf (moveFile 1 0x700) (totalsOf one 0) one 16 40 ≡ Err NotEnoughSpace
-  pub grow-onto : verdictOf (resizeFile 1 0x101) (totalsOf one 0) one 16 40 ≡ Err NotEnoughSpace
+  pub move-onto : verdict_of (move_file 1 0x700) (totals_of one 0) one 16 40 ≡ Err NotEnoughSpace
+  pub grow-onto : verdict_of (resize_file 1 0x101) (totals_of one 0) one 16 40 ≡ Err NotEnoughSpace
   -- a table that a program abuts may be written as it is, and may not grow
-  pub same-table : verdictOf rewrite (totalsOf two 0) two 20 40 ≡ Ok tt
-  pub grown-table : verdictOf (insertFile 0 (0x62 ∷ [])) (totalsOf two 0) two 20 40 ≡ Err NotEnoughSpace
+  pub same-table : verdict_of rewrite (totals_of two 0) two 20 40 ≡ Ok tt
+  pub grown-table : verdict_of (insert_file 0 (0x62 ∷ [])) (totals_of two 0) two 20 40 ≡ Err NotEnoughSpace
   pub twenty-one : number_of NotEnoughSpace ≡ 21
 
 pub kept : Kept
-unfolding verdictOf countedVerdict totalsVerdict planMove planResize insertVerdict insertAt splice childOf firstChild sameBytes plain safe maxSizeFrom besideFree allocationOf powers largest betterOf align_up tableVerdict placeVerdict limits shallow shallowFrom shut textsOf encode entriesBytes parent_of parentBelow setPlace units
+unfolding verdict_of counted_verdict totals_verdict plan_move plan_resize insert_verdict insert_at splice child_of first_child same_bytes plain safe max_size_from beside_free allocation_of powers largest better_of align_up table_verdict_in place_verdict_in limits shallow shallow_from shut texts_of encode entries_bytes parent_of parent_below set_place units
 kept = record {
   move-onto = rw (opened.at-file.0, nodes, free);
   grow-onto = rw (opened.at-file.0, nodes, free);

@@ -6,44 +6,44 @@ use Rattle.std.specs.Prelude.{ℕ, ◌-◌, ◌^◌, ◌≡◌, refl, List, [], 
 use Rattle.endian.specs.Bytes.{be24, be32, put}
 use Rattle.refusal.specs.declared.Refusal.TheVariants.{OverlappingMove, NotEnoughSpace, TotalsOutOfRange}
 use Rattle.refusal.specs.Refusal.{number_of}
-use Rattle.tree.specs.Table.{file, directory, count, name_at, nodeAt, nodesFrom, nodesOf, shut, parentBelow, parent_of, entriesBytes, textsOf, encode, shallowFrom, shallow, limits}
-use Rattle.tree.specs.Insert.{setPlace}
-use Rattle.space.specs.Used.{usesByte, nonempty, totalSize}
-use Rattle.space.specs.Free.{runs, freeRegions, largestSize}
-use Rattle.space.specs.MaxRegionSize.{besideFree, maxSizeFrom}
+use Rattle.tree.specs.Table.{file, directory, count, name_at, node_at, nodes_from, nodes_of, shut, parent_below, parent_of, entries_bytes, texts_of, encode, shallow_from, shallow, limits}
+use Rattle.tree.specs.Insert.{set_place}
+use Rattle.space.specs.Used.{uses_byte, nonempty, total_size}
+use Rattle.space.specs.Free.{runs, free_regions, largest_size}
+use Rattle.space.specs.MaxRegionSize.{beside_free, max_size_from}
 use Rattle.space.specs.declared.totals.Totals.{Totals}
-use Rattle.space.specs.Totals.{totalsVerdict, totalsMoved}
-use Rattle.executable.specs.Program.{program_of, programIn, ownRegion}
-use Rattle.opened.specs.Opening.{table_of, nodesIn, behindTable, usedIn, freeOf, usedOf}
-use Rattle.disc.specs.Calls.{recordAnswer}
-use Rattle.edits.specs.Change.{withTable, written, tableVerdict, placeVerdict}
-use Rattle.edits.specs.Edits.{Edit, moveFile, resizeFile, rewrite, tableOnly, planMove, planResize, countedVerdict, verdictOf, imageAfter, totalsAfter}
-use Rattle.worked.specs.Image.{master, masterWords, masterBytes}
-use Rattle.worked.specs.Laws.Marked.{at, opens, nodes, header, free, used, fresh, resizedA, moved-used, moved-free}
+use Rattle.space.specs.Totals.{totals_verdict, totals_moved}
+use Rattle.executable.specs.Program.{program_of, program_in, own_region}
+use Rattle.opened.specs.Opening.{table_of, nodes_in, behind_table, used_in, free_space_of, used_of}
+use Rattle.disc.specs.Calls.{record_answer}
+use Rattle.edits.specs.Change.{with_table, written, table_verdict_in, place_verdict_in}
+use Rattle.edits.specs.Edits.{Edit, move_file, resize_file, rewrite, table_only, plan_move, plan_resize, counted_verdict, verdict_of, image_after, totals_after}
+use Rattle.worked.specs.Image.{master, master_words, master_bytes}
+use Rattle.worked.specs.Laws.Marked.{at, opens, nodes, header, free, used, fresh, resized_a, moved-used, moved-free}
 
 -- ---- the images that are written
 
-abbrev rewrittenMaster : List ℕ
-rewrittenMaster = written (tableOnly (directory [] 2 ∷ file (0x61 ∷ []) 0x500 0x100 ∷ [])) master
+abbrev rewritten_master : List ℕ
+rewritten_master = written (table_only (directory [] 2 ∷ file (0x61 ∷ []) 0x500 0x100 ∷ [])) master
 
-useds : (usedOf rewrittenMaster ≡ 1370) × (usedOf (resizedA 756) ≡ 1870) × (usedOf (resizedA 0xFF) ≡ 1369) × (usedOf (resizedA 0x101) ≡ 1371)
-unfolding master put table_of nodesIn nodesOf nodesFrom nodeAt name_at count be24 be32 textsOf encode entriesBytes parent_of parentBelow written withTable usedOf behindTable program_of programIn ownRegion totalSize
+useds : (used_of rewritten_master ≡ 1370) × (used_of (resized_a 756) ≡ 1870) × (used_of (resized_a 0xFF) ≡ 1369) × (used_of (resized_a 0x101) ≡ 1371)
+unfolding master put table_of nodes_in nodes_of nodes_from node_at name_at count be24 be32 texts_of encode entries_bytes parent_of parent_below written with_table used_of behind_table program_of program_in own_region total_size
 useds = (refl, refl, refl, refl)
 
-frees : (freeOf rewrittenMaster ≡ at 1114 166 ∷ at 1536 6656 ∷ []) × (freeOf (resizedA 756) ≡ at 1114 166 ∷ at 2036 6156 ∷ [])
-unfolding master put table_of nodesIn nodesOf nodesFrom nodeAt name_at count be24 be32 textsOf encode entriesBytes parent_of parentBelow written withTable freeOf usedIn behindTable program_of programIn ownRegion freeRegions runs usesByte nonempty
+frees : (free_space_of rewritten_master ≡ at 1114 166 ∷ at 1536 6656 ∷ []) × (free_space_of (resized_a 756) ≡ at 1114 166 ∷ at 2036 6156 ∷ [])
+unfolding master put table_of nodes_in nodes_of nodes_from node_at name_at count be24 be32 texts_of encode entries_bytes parent_of parent_below written with_table free_space_of used_in behind_table program_of program_in own_region free_regions runs uses_byte nonempty
 frees = (refl, refl)
 
 -- ---- what an edit of the small master with a record answers, and what image and record it leaves
 
 abbrev answer : Edit → Totals → Verdict
-answer ed t = verdictOf ed t master masterWords masterBytes
+answer ed t = verdict_of ed t master master_words master_bytes
 
 abbrev image : Edit → Totals → List ℕ
-image ed t = imageAfter ed t master masterWords masterBytes
+image ed t = image_after ed t master master_words master_bytes
 
 abbrev after : Edit → Totals → Totals
-after ed t = totalsAfter ed t master masterWords masterBytes
+after ed t = totals_after ed t master master_words master_bytes
 
 abbrev totals : ℕ → ℕ → ℕ → Totals
 totals used largest edits = record { used = used; largest = largest; edits = edits }
@@ -52,15 +52,15 @@ totals used largest edits = record { used = used; largest = largest; edits = edi
 
 module _ (t : Totals) where
   record Counted : Type 0 where
-    pub rewritten : answer rewrite t ≡ totalsVerdict t 1370 1370
-    pub same_size : answer (resizeFile 1 0x100) t ≡ totalsVerdict t 1370 1370
-    pub resized : answer (resizeFile 1 756) t ≡ totalsVerdict t 1370 1870
-    pub less : answer (resizeFile 1 0xFF) t ≡ totalsVerdict t 1370 1369
-    pub more : answer (resizeFile 1 0x101) t ≡ totalsVerdict t 1370 1371
-    pub moved : answer (moveFile 1 0x600) t ≡ totalsVerdict t 1370 1370
+    pub rewritten : answer rewrite t ≡ totals_verdict t 1370 1370
+    pub same_size : answer (resize_file 1 0x100) t ≡ totals_verdict t 1370 1370
+    pub resized : answer (resize_file 1 756) t ≡ totals_verdict t 1370 1870
+    pub less : answer (resize_file 1 0xFF) t ≡ totals_verdict t 1370 1369
+    pub more : answer (resize_file 1 0x101) t ≡ totals_verdict t 1370 1371
+    pub moved : answer (move_file 1 0x600) t ≡ totals_verdict t 1370 1370
 
   counted : Counted
-  unfolding verdictOf countedVerdict planMove planResize maxSizeFrom besideFree tableVerdict placeVerdict limits shallow shallowFrom shut textsOf encode entriesBytes parent_of parentBelow setPlace
+  unfolding verdict_of counted_verdict plan_move plan_resize max_size_from beside_free table_verdict_in place_verdict_in limits shallow shallow_from shut texts_of encode entries_bytes parent_of parent_below set_place
   counted = record {
     rewritten = rw (opens, nodes, free, header.3, header.0, header.1, used, useds.0);
     same_size = rw (opens, nodes, used);
@@ -71,20 +71,20 @@ module _ (t : Totals) where
   }
 
   -- accepted: the new record
-  after-rewrite : totalsVerdict t 1370 1370 ≡ Ok tt → after rewrite t ≡ totalsMoved t 1370 1370 6656
-  unfolding totalsAfter largestSize
+  after-rewrite : totals_verdict t 1370 1370 ≡ Ok tt → after rewrite t ≡ totals_moved t 1370 1370 6656
+  unfolding totals_after largest_size
   after-rewrite e = rw (counted.rewritten, e, nodes, used, useds.0, frees.0)
 
-  after_same : totalsVerdict t 1370 1370 ≡ Ok tt → after (resizeFile 1 0x100) t ≡ totalsMoved t 1370 1370 6656
-  unfolding totalsAfter planResize largestSize
+  after_same : totals_verdict t 1370 1370 ≡ Ok tt → after (resize_file 1 0x100) t ≡ totals_moved t 1370 1370 6656
+  unfolding totals_after plan_resize largest_size
   after_same e = rw (counted.same_size, e, nodes, used, free)
 
-  after-resize : totalsVerdict t 1370 1870 ≡ Ok tt → after (resizeFile 1 756) t ≡ totalsMoved t 1370 1870 6156
-  unfolding totalsAfter planResize maxSizeFrom besideFree setPlace largestSize
+  after-resize : totals_verdict t 1370 1870 ≡ Ok tt → after (resize_file 1 756) t ≡ totals_moved t 1370 1870 6156
+  unfolding totals_after plan_resize max_size_from beside_free set_place largest_size
   after-resize e = rw (counted.resized, e, nodes, free, used, useds.1, frees.1)
 
-  after-move : totalsVerdict t 1370 1370 ≡ Ok tt → after (moveFile 1 0x600) t ≡ totalsMoved t 1370 1370 6400
-  unfolding totalsAfter planMove maxSizeFrom besideFree setPlace largestSize
+  after-move : totals_verdict t 1370 1370 ≡ Ok tt → after (move_file 1 0x600) t ≡ totals_moved t 1370 1370 6400
+  unfolding totals_after plan_move max_size_from beside_free set_place largest_size
   after-move e = rw (counted.moved, e, nodes, free, used, moved-used, moved-free)
 
 -- ---- the examples
@@ -99,40 +99,40 @@ counted-out = totals 1370 6656 most
 
 pub record Records : Type 0 where
   -- "A record made at opening, its count 0"
-  pub made : recordAnswer master masterWords ≡ Ok fresh
+  pub made : record_answer master master_words ≡ Ok fresh
   -- `a` grown by 500 bytes, which the free region behind it loses
-  pub grown : (answer (resizeFile 1 756) fresh ≡ Ok tt) × (after (resizeFile 1 756) fresh ≡ totals 1870 6156 1)
+  pub grown : (answer (resize_file 1 756) fresh ≡ Ok tt) × (after (resize_file 1 756) fresh ≡ totals 1870 6156 1)
   -- a resize to the present size writes nothing, and counts
-  pub same_size : (answer (resizeFile 1 0x100) fresh ≡ Ok tt) × (after (resizeFile 1 0x100) fresh ≡ totals 1370 6656 1) × (image (resizeFile 1 0x100) fresh ≡ master)
+  pub same_size : (answer (resize_file 1 0x100) fresh ≡ Ok tt) × (after (resize_file 1 0x100) fresh ≡ totals 1370 6656 1) × (image (resize_file 1 0x100) fresh ≡ master)
   -- a bare rewrite counts
   pub rewritten : (answer rewrite fresh ≡ Ok tt) × (after rewrite fresh ≡ totals 1370 6656 1)
   -- a move uses no more bytes; of the region behind `a` 6400 are left
-  pub moved : (answer (moveFile 1 0x600) fresh ≡ Ok tt) × (after (moveFile 1 0x600) fresh ≡ totals 1370 6400 1)
+  pub moved : (answer (move_file 1 0x600) fresh ≡ Ok tt) × (after (move_file 1 0x600) fresh ≡ totals 1370 6400 1)
   -- a record that is not the image's: used bytes and count move from what it holds, and "the largest region is the new image's"
-  pub other : after (resizeFile 1 756) (totals 5 7 9) ≡ totals 505 6156 10
-  pub largest : (n : ℕ) → (after rewrite (totals 1370 n 0) ≡ totals 1370 6656 1) × (after (resizeFile 1 0x100) (totals 1370 n 0) ≡ totals 1370 6656 1)
+  pub other : after (resize_file 1 756) (totals 5 7 9) ≡ totals 505 6156 10
+  pub largest : (n : ℕ) → (after rewrite (totals 1370 n 0) ≡ totals 1370 6656 1) × (after (resize_file 1 0x100) (totals 1370 n 0) ≡ totals 1370 6656 1)
   -- the last edit that can be counted, and one more: 25, and all is left as it was
   pub last : (answer rewrite (totals 1370 6656 (most - 1)) ≡ Ok tt) × (after rewrite (totals 1370 6656 (most - 1)) ≡ totals 1370 6656 most)
   pub full : (answer rewrite counted-out ≡ Err TotalsOutOfRange) × (image rewrite counted-out ≡ master) × (after rewrite counted-out ≡ counted-out)
-  pub full-same : answer (resizeFile 1 0x100) counted-out ≡ Err TotalsOutOfRange
+  pub full-same : answer (resize_file 1 0x100) counted-out ≡ Err TotalsOutOfRange
   -- one byte less: a record that says 1 byte is used, and one that says none
-  pub below : (answer (resizeFile 1 0xFF) (totals 1 6656 0) ≡ Ok tt) × (answer (resizeFile 1 0xFF) (totals 0 6656 0) ≡ Err TotalsOutOfRange)
+  pub below : (answer (resize_file 1 0xFF) (totals 1 6656 0) ≡ Ok tt) × (answer (resize_file 1 0xFF) (totals 0 6656 0) ≡ Err TotalsOutOfRange)
   -- one byte more, where there is room for one and for none
-  pub above : (answer (resizeFile 1 0x101) (totals (most - 1) 6656 0) ≡ Ok tt) × (answer (resizeFile 1 0x101) (totals most 6656 0) ≡ Err TotalsOutOfRange)
+  pub above : (answer (resize_file 1 0x101) (totals (most - 1) 6656 0) ≡ Ok tt) × (answer (resize_file 1 0x101) (totals most 6656 0) ≡ Err TotalsOutOfRange)
   -- "tested last": with that record too a move to no free place is 21, and one onto the file itself 20
-  pub before-25 : (answer (moveFile 1 0x400) counted-out ≡ Err NotEnoughSpace) × (answer (moveFile 1 0x580) counted-out ≡ Err OverlappingMove) × (after (moveFile 1 0x400) counted-out ≡ counted-out)
+  pub before-25 : (answer (move_file 1 0x400) counted-out ≡ Err NotEnoughSpace) × (answer (move_file 1 0x580) counted-out ≡ Err OverlappingMove) × (after (move_file 1 0x400) counted-out ≡ counted-out)
   pub numbers : (number_of TotalsOutOfRange ≡ 25) × (number_of NotEnoughSpace ≡ 21) × (number_of OverlappingMove ≡ 20)
 
-no_place : answer (moveFile 1 0x400) counted-out ≡ Err NotEnoughSpace
-unfolding verdictOf countedVerdict planMove maxSizeFrom besideFree
+no_place : answer (move_file 1 0x400) counted-out ≡ Err NotEnoughSpace
+unfolding verdict_of counted_verdict plan_move max_size_from beside_free
 no_place = rw (opens, nodes, free)
 
-onto-itself : answer (moveFile 1 0x580) counted-out ≡ Err OverlappingMove
-unfolding verdictOf countedVerdict planMove
+onto-itself : answer (move_file 1 0x580) counted-out ≡ Err OverlappingMove
+unfolding verdict_of counted_verdict plan_move
 onto-itself = rw (opens, nodes)
 
 pub records : Records
-unfolding recordAnswer largestSize totalsVerdict totalsMoved imageAfter totalsAfter planResize
+unfolding record_answer largest_size totals_verdict totals_moved image_after totals_after plan_resize
 records = record {
   made = rw (opens, free, used);
   grown = ((counted fresh).resized, after-resize fresh refl);

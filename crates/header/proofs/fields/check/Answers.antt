@@ -2,12 +2,12 @@
 use Rattle.std.proofs.Common.{refl, sym, ◌∙◌}
 use Rattle.std.proofs.lemmas.Result.{err_from_is_err_and}
 use Rattle.header.specs.Fields.{fields}
-use Rattle.header.specs.Verdicts.{headerVerdict}
+use Rattle.header.specs.Verdicts.{header_verdict}
 use Rattle.header.proofs.Turns.{fields-end, fields-stop, fields_go}
 use Rattle.header.proofs.fields.check.Goals as goal
 
 pub loop-field-init : goal.loop-field-init
-unfolding headerVerdict
+unfolding header_verdict
 loop-field-init c = refl
 
 pub returns-in_err-check_field : goal.returns-in_err-check_field

@@ -1,6 +1,6 @@
 -- `space_check::in_sequence` meets its contract: the regions that are left decide, from the end of the one before them on.
 use Rattle.std.proofs.Common.{sym, ◌∙◌, arith}
-use Rattle.space.specs.Inner.Words.{inSequence}
+use Rattle.space.specs.Inner.Words.{in_sequence}
 use Rattle.space.proofs.Sweep.{sweep-stop, sweep-go}
 use Rattle.space.proofs.overlaps.in_sequence.Goals as goal
 
@@ -15,5 +15,5 @@ loop-region-preserved c =
     rw c.end-end.ensures (tt, tt, i.2 ∙ sweep-go _ _ _ _ (omega arith))
 
 pub returns : goal.returns
-unfolding inSequence
+unfolding in_sequence
 returns c = rw c.from-2.ensures (sym (rw c.in-None.ensures.steps.0 at c.loop-region.invariant).2)

@@ -1,6 +1,6 @@
 -- `totals::largest_after` meets its contract: the best so far, carried on over the regions that are left, is the best of all.
 use Rattle.std.proofs.Common.{sym, ◌∙◌, arith}
-use Rattle.space.specs.Inner.Scan.{longestFrom}
+use Rattle.space.specs.Inner.Scan.{longest_from}
 use Rattle.space.proofs.Behind.{past-gone, past-used}
 use Rattle.space.proofs.totals.largest_after.Goals as goal
 
@@ -16,7 +16,7 @@ loop-region-preserved c =
     (tt, tt, i.2, sym (past-gone _ _ _ _ _ _ _ (omega arith)) ∙ i.3)
 
 pub returns : goal.returns
-unfolding longestFrom
+unfolding longest_from
 returns c =
     let i = rw c.in-None.ensures.steps.0 at c.loop-region.invariant in
     rw (← c.gone_of-gone.ensures) (c.longer.ensures ∙ i.3)

@@ -6,8 +6,8 @@ use borrow.Author.Tests.{lt-ltb, le-ltb, eq-eqb, ne_eqb}
 use lib.ListN.{length}
 use Rattle.std.specs.Prelude.{Ok, Err}
 use Rattle.std.proofs.lemmas.Result.{err_from_is_err_and}
-use Rattle.tree.specs.Table.{kind, count, entriesVerdict, check}
-use Rattle.table.specs.Inner.Reading.{textsVerdict}
+use Rattle.tree.specs.Table.{kind, count, entries_verdict, check}
+use Rattle.table.specs.Inner.Reading.{texts_verdict}
 use Rattle.table.proofs.Walking.{entries-inside, count-some}
 use borrow.Author.Rules.{rules}
 use Rattle.table.proofs.acceptance.check.Goals as goal
@@ -38,7 +38,7 @@ unfolding check
 returns-in_err-entries_verdict c =
     let T = c.args.table.now in
     let p = err_from_is_err_and c.from_residual.result c.from_residual.ensures.1 in
-    let e : Err c.in_err-entries_verdict.field-0.0 ≡ entriesVerdict T 1 (count T - 1) = rw c.count-count.ensures at c.in_err-entries_verdict.ensures in
+    let e : Err c.in_err-entries_verdict.field-0.0 ≡ entries_verdict T 1 (count T - 1) = rw c.count-count.ensures at c.in_err-entries_verdict.ensures in
     rw (p.1, p.2) (rw (le-ltb (length T) 12 c.if-table-lt12.false, le-ltb 1 (kind T 0) c.if-table-gt1.false, ne_eqb (kind T 0) 0 c.if-table-eq0.false, le-ltb 16384 (count T) (omega arith), ← e))
 
 pub invariant_of-texts_verdict : goal.invariant_of-texts_verdict
@@ -47,9 +47,9 @@ invariant_of-texts_verdict c = record {
 }
 
 pub returns : goal.returns
-unfolding check textsVerdict
+unfolding check texts_verdict
 returns c =
     let T = c.args.table.now in
-    let e : Ok tt ≡ entriesVerdict T 1 (count T - 1) = rw c.count-count.ensures at c.in_ok-entries_verdict.ensures in
-    let t : c.texts_verdict.result ≡ textsVerdict T (count T) c.args.words = rw c.count-count.ensures at c.texts_verdict.ensures in
+    let e : Ok tt ≡ entries_verdict T 1 (count T - 1) = rw c.count-count.ensures at c.in_ok-entries_verdict.ensures in
+    let t : c.texts_verdict.result ≡ texts_verdict T (count T) c.args.words = rw c.count-count.ensures at c.texts_verdict.ensures in
     rw (le-ltb (length T) 12 c.if-table-lt12.false, le-ltb 1 (kind T 0) c.if-table-gt1.false, ne_eqb (kind T 0) 0 c.if-table-eq0.false, le-ltb 16384 (count T) (omega arith), ← e) t

@@ -2,15 +2,15 @@
 use Rattle.std.proofs.Common.{sym, ◌∙◌}
 use Rattle.tree.specs.Table.{plain}
 use Rattle.table.proofs.Judging.{safe-none, safe-fit}
-use Rattle.table.specs.Inner.Texts.{textAt}
+use Rattle.table.specs.Inner.Texts.{text_at}
 use Rattle.table.proofs.acceptance.clean_verdict.Goals as goal
 
 pub returns-then-is_nameless_at : goal.returns-then-is_nameless_at
 unfolding plain
 returns-then-is_nameless_at c =
-    rw (c.requires.plain, safe-none (textAt c.args.table.now c.args.at) (sym c.is_nameless_at.ensures ∙ c.if-is_nameless_at.true))
+    rw (c.requires.plain, safe-none (text_at c.args.table.now c.args.at) (sym c.is_nameless_at.ensures ∙ c.if-is_nameless_at.true))
 
 pub returns : goal.returns
 unfolding plain
 returns c =
-    rw (c.requires.plain, safe-fit (textAt c.args.table.now c.args.at) (sym c.is_nameless_at.ensures ∙ c.if-is_nameless_at.false) c.requires.safe)
+    rw (c.requires.plain, safe-fit (text_at c.args.table.now c.args.at) (sym c.is_nameless_at.ensures ∙ c.if-is_nameless_at.false) c.requires.safe)

@@ -2,7 +2,7 @@
 use Rattle.std.proofs.Common.{rules, ◌∙◌}
 use Rattle.std.proofs.lemmas.Iterator.Consumers.{YieldsList-from_first}
 use Rattle.std.proofs.lemmas.Iterator.Search.{all_from_yields_List}
-use Rattle.tree.specs.Table.{plainUnit}
+use Rattle.tree.specs.Table.{plain_unit}
 use Rattle.tree.specs.Units.{units}
 use Rattle.table.specs.Inner.Read.{unit_of}
 use Rattle.table.proofs.Judging.{plain-is}
@@ -10,5 +10,5 @@ use Rattle.table.proofs.names.is_plain.Goals as goal
 
 pub returns : goal.returns
 returns c =
-    all_from_yields_List plainUnit _ _ _ c.all.ensures.ran (YieldsList-from_first unit_of (λ rest. rest) (units c.args.name.now) c.new.ensures) (λ x b q k. search rules)
+    all_from_yields_List plain_unit _ _ _ c.all.ensures.ran (YieldsList-from_first unit_of (λ rest. rest) (units c.args.name.now) c.new.ensures) (λ x b q k. search rules)
     ∙ plain-is c.args.name.now

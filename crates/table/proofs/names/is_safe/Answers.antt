@@ -2,7 +2,7 @@
 use Rattle.std.proofs.Common.{rules, ◌∙◌, sym}
 use Rattle.std.proofs.lemmas.Iterator.Consumers.{YieldsList-from_first}
 use Rattle.std.proofs.lemmas.Iterator.Search.{all_from_yields_List}
-use Rattle.tree.specs.Table.{safeUnit}
+use Rattle.tree.specs.Table.{safe_unit}
 use Rattle.tree.specs.Units.{units}
 use Rattle.table.specs.Inner.Read.{unit_of}
 use Rattle.table.proofs.Judging.{safe-none, safe-is}
@@ -10,7 +10,7 @@ use Rattle.table.proofs.names.is_safe.Goals as goal
 
 pub returns-then-not-is_nameless : goal.returns-then-not-is_nameless
 returns-then-not-is_nameless c =
-    all_from_yields_List safeUnit _ _ _ c.all.ensures.ran (YieldsList-from_first unit_of (λ rest. rest) (units c.args.name.now) c.new.ensures) (λ x b q k. search rules)
+    all_from_yields_List safe_unit _ _ _ c.all.ensures.ran (YieldsList-from_first unit_of (λ rest. rest) (units c.args.name.now) c.new.ensures) (λ x b q k. search rules)
     ∙ sym (safe-is c.args.name.now (sym c.is_nameless.ensures ∙ c.if-not-is_nameless.true))
 
 pub returns-else-not-is_nameless : goal.returns-else-not-is_nameless

@@ -2,8 +2,8 @@
 use Prim.Native.Nat.{◌+◌, ◌<◌}
 use mathlib.Core.Path.{◌≡◌}
 use lib.ListN.{length}
-use Rattle.table.specs.Inner.Texts.{textAt}
+use Rattle.table.specs.Inner.Texts.{text_at}
 use Rattle.table.proofs.rows.is_without_zero.Given as goal
 
 abbrev pub invariant-loop-i : goal.invariant-loop-i
-invariant-loop-i l = 0 < l.least → length (textAt l.table l.at) ≡ l.i + length (textAt l.table (l.at + l.i))
+invariant-loop-i l = 0 < l.least → length (text_at l.table l.at) ≡ l.i + length (text_at l.table (l.at + l.i))

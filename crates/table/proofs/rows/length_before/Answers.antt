@@ -4,7 +4,7 @@ use Prim.Native.Nat.{◌+◌, ◌-◌, ◌<◌}
 use mathlib.Core.Path.{◌≡◌, ◌∙◌}
 use lib.ListN.{length, drop, length-drop}
 use lib.Seq.{take_all}
-use Rattle.table.specs.Inner.Texts.{textAt}
+use Rattle.table.specs.Inner.Texts.{text_at}
 use Rattle.table.proofs.Lengths.{before-or-with}
 use Rattle.table.proofs.rows.length_before.Goals as goal
 
@@ -14,8 +14,8 @@ returns c =
     let T = a.table.now in
     let near = c.pass_text-near.result in
     let passed = c.pass_text-near.ensures in
-    let inside : near + length (textAt T near) < length T = omega (arith, c.requires.inside, passed.passed, passed.within.0) in
-    let behind : c.unwrap_or.result ≡ length (textAt T near) =
+    let inside : near + length (text_at T near) < length T = omega (arith, c.requires.inside, passed.passed, passed.within.0) in
+    let behind : c.unwrap_or.result ≡ length (text_at T near) =
     c.unwrap_or.ensures
     ∙ rw (c.zero_within.ensures, take_all (length T - near) (drop near T) (omega (arith, length-drop near T))) (before-or-with T near a.stop a.end inside (omega (arith, passed.within.1)) c.requires.ends) in
     omega (arith, behind, passed.passed)

@@ -1,6 +1,6 @@
 -- `fst_patch::patch_up_to` meets its contract: the records from k on are the new ones, and those below are untouched.
 use Prim.Native.Nat.{◌+◌}
-use Rattle.tree.specs.Inner.Patch.{recordBefore}
+use Rattle.tree.specs.Inner.Patch.{record_before}
 use Rattle.table_writing.proofs.Patches.{before-twelve}
 use Rattle.table_writing.proofs.Passes.{fill_start, before-turn, before-again}
 use Rattle.table_writing.proofs.patch.patch_up_to.Goals as goal
@@ -8,7 +8,7 @@ use Rattle.table_writing.proofs.patch.patch_up_to.Goals as goal
 pub loop-k-init : goal.loop-k-init
 loop-k-init c =
     let s = c in
-    fill_start s.args.table.now (recordBefore s.args.table.now s.args.p) (before-twelve s.args.table.now s.args.p) (s.args.p + 1) s.requires.within
+    fill_start s.args.table.now (record_before s.args.table.now s.args.p) (before-twelve s.args.table.now s.args.p) (s.args.p + 1) s.requires.within
 
 pub patch_before-requires : goal.patch_before-requires
 patch_before-requires c =

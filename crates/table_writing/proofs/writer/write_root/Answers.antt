@@ -1,7 +1,7 @@
 -- `fst_write::write_root` meets its contract: its four fields are the root's bytes.
-use Rattle.table_writing.specs.Inner.Flat.{rootAt}
+use Rattle.table_writing.specs.Inner.Flat.{root_at}
 use Rattle.table_writing.proofs.writer.write_root.Goals as goal
 
 pub returns : goal.returns
-unfolding rootAt
+unfolding root_at
 returns c = c.write.ensures

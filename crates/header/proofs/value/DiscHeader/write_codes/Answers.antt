@@ -1,9 +1,9 @@
 -- `disc_header::DiscHeader::write_codes` meets its contract: each call puts one field, in the order of the table.
 use Rattle.header.specs.Fields.{fields}
-use Rattle.header.specs.Header.{fieldBytes, putFields}
+use Rattle.header.specs.Header.{field_bytes, put_fields}
 use Rattle.header.specs.Inner.Writing.{put_some}
 use Rattle.header.proofs.value.DiscHeader.write_codes.Goals as goal
 
 pub returns : goal.returns
-unfolding fields fieldBytes putFields put_some
+unfolding fields field_bytes put_fields put_some
 returns c = rw (c.write_all-3.ensures, c.write_u8-4.ensures, c.write_u8-3.ensures, c.write_u8-2.ensures, c.write_u8.ensures, c.write_all-2.ensures, c.write_all.ensures)

@@ -1,8 +1,8 @@
 -- `Entry::put_path` meets its contract. The invariant of its loop: behind the space stands the path of a directory.
 use Prim.Native.Nat.{◌+◌}
-use Rattle.tree.specs.Table.{nodesOf}
+use Rattle.tree.specs.Table.{nodes_of}
 use Rattle.listing.proofs.LineParts.{Stepping}
 use Rattle.listing.proofs.entries.Entry.put_path.Given as goal
 
 abbrev pub invariant-loop-directory : goal.invariant-loop-directory
-invariant-loop-directory l = Stepping (nodesOf l.self.table.now) l.self.around.now.numbers l.self.around.now.depth l.initial.text l.text (l.directory-index + 1)
+invariant-loop-directory l = Stepping (nodes_of l.self.table.now) l.self.around.now.numbers l.self.around.now.depth l.initial.text l.text (l.directory-index + 1)

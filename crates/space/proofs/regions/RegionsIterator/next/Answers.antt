@@ -1,6 +1,6 @@
 -- `Regions::next` meets its contract: the region at `next` is the first of those that are left.
 use Rattle.std.proofs.Common.{◌-◌, length, sym, ap, ◌∙◌, arith}
-use Rattle.space.specs.Inner.Sort.{regionAt}
+use Rattle.space.specs.Inner.Sort.{region_at}
 use Rattle.space.proofs.Pairs.{regions-more, regions-none}
 use Rattle.space.proofs.regions.RegionsIterator.next.Goals as goal
 
@@ -11,13 +11,13 @@ returns-then-self-clause-steps c =
     (none, none)
 
 pub returns-clause-steps : goal.returns-clause-steps
-unfolding regionAt
+unfolding region_at
 returns-clause-steps c =
     let f = c.self.inside in
     sym c.self.view_is ∙ regions-more f.words.now f.next f.count (omega arith)
 
 pub returns-clause-goes : goal.returns-clause-goes
-unfolding regionAt
+unfolding region_at
 returns-clause-goes c =
     let f = c.self.inside in
     let one = sym c.self.view_is ∙ regions-more f.words.now f.next f.count (omega arith) in

@@ -1,7 +1,7 @@
 -- `UsedRegions::max_region_size` meets its contract: the search over the free regions that are left gives what the search over all gives.
 use Rattle.std.proofs.Common.{refl, ◌∙◌, arith}
 use Rattle.space.specs.Laws.FreeLaws.{free-end}
-use Rattle.space.specs.MaxRegionSize.{maxSizeFrom}
+use Rattle.space.specs.MaxRegionSize.{max_size_from}
 use Rattle.space.proofs.Choice.{grown-more, grown-found}
 use Rattle.space.proofs.used.UsedRegions.max_region_size.Goals as goal
 
@@ -19,5 +19,5 @@ loop-region-preserved c =
     rw c.end-prev_end.ensures (tt, tt, i.2.1, i.2.0, grown-more _ _ _ _ _ c.if-offset-region.false ∙ i.4)
 
 pub returns : goal.returns
-unfolding maxSizeFrom
+unfolding max_size_from
 returns c = c.inside_free.ensures ∙ (rw c.in-None.ensures.steps.0 at c.loop-region.invariant).4

@@ -1,17 +1,17 @@
 -- `UsedRegions::used_size` meets its contract: the sizes so far and those of the regions that are left are all sizes.
 use Rattle.std.proofs.Common.{arith}
-use Rattle.space.specs.Used.{totalSize}
+use Rattle.space.specs.Used.{total_size}
 use Rattle.space.proofs.Kept.{used-fits}
 use Rattle.space.proofs.used.UsedRegions.used_size.Goals as goal
 
 pub overflow_add-used : goal.overflow_add-used
-unfolding totalSize
+unfolding total_size
 overflow_add-used c = omega (arith, (rw c.in-Some.ensures.steps at c.loop-region.invariant).2, used-fits _ _ _ c.self.invariant.sorted _ c.self.view_is, c.self.invariant.small)
 
 pub loop-region-preserved : goal.loop-region-preserved
-unfolding totalSize
+unfolding total_size
 loop-region-preserved c = (tt, tt, omega (arith, (rw c.in-Some.ensures.steps at c.loop-region.invariant).2))
 
 pub returns : goal.returns
-unfolding totalSize
+unfolding total_size
 returns c = omega (arith, (rw c.in-None.ensures.steps.0 at c.loop-region.invariant).2)

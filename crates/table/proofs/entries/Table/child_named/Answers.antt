@@ -6,10 +6,10 @@ use mathlib.Core.Path.{◌≡◌, sym, ◌∙◌}
 use mathlib.Core.Bool.{Bool}
 use mathlib.Core.List.{List}
 use lib.ListN.{length, get_or}
-use Rattle.endian.specs.Bytes.{sameBytes}
-use Rattle.tree.specs.Table.{none, count, name_of, nodesOf, namePlace}
-use Rattle.tree.proofs.Laws.Accepted.{length-nodesOf}
-use Rattle.table.specs.Inner.Texts.{textAt}
+use Rattle.endian.specs.Bytes.{same_bytes}
+use Rattle.tree.specs.Table.{none, count, name_of, nodes_of, name_place}
+use Rattle.tree.proofs.Laws.Accepted.{length-nodes_of}
+use Rattle.table.specs.Inner.Texts.{text_at}
 use Rattle.table.proofs.Nodes.{held}
 use Rattle.table.proofs.NamePlaces.{place_inside}
 use Rattle.table.proofs.Ended.{name-there}
@@ -17,17 +17,17 @@ use Rattle.table.proofs.ChildLaws.{search-start, search-found, search-turn, sear
 use Rattle.table.proofs.Unlike.{unlike-start, unlike-turn}
 use Rattle.table.proofs.entries.Table.child_named.Goals as goal
 
-named : (T nm : List ℕ) (k place : ℕ) (r : Bool) → 0 < k → k < count T → place ≡ namePlace T k → r ≡ sameBytes (textAt T place) nm → sameBytes (name_of (get_or (nodesOf T) k none)) nm ≡ r
+named : (T nm : List ℕ) (k place : ℕ) (r : Bool) → 0 < k → k < count T → place ≡ name_place T k → r ≡ same_bytes (text_at T place) nm → same_bytes (name_of (get_or (nodes_of T) k none)) nm ≡ r
 named T nm k place r h l p e = rw (name-there T k h l) (sym (rw p at e))
 
 pub loop-k-init : goal.loop-k-init
 loop-k-init c =
     let T = c.args.self.now in
     let w = (held (rw c.self.view_is at c.self.invariant)).well in
-    let d = rw (← length-nodesOf T) at c.requires.within in
+    let d = rw (← length-nodes_of T) at c.requires.within in
     record {
-      within = omega (arith, next_le (nodesOf T) c.args.d w d, c.next-stop.ensures, length-nodesOf T);
-      search = search-start (nodesOf T) c.args.d c.args.name.now c.next-stop.result w d c.next-stop.ensures;
+      within = omega (arith, next_le (nodes_of T) c.args.d w d, c.next-stop.ensures, length-nodes_of T);
+      search = search-start (nodes_of T) c.args.d c.args.name.now c.next-stop.result w d c.next-stop.ensures;
       unlike = unlike-start T c.args.name.now;
     }
 
@@ -47,13 +47,13 @@ returns-then-has_name c =
     let l = c.loop-k in
     let w = (held (rw c.self.view_is at c.self.invariant)).well in
     let e = named T nm l.k c.name_place-place.result c.has_name.result (omega (arith, l.invariant.search.later)) (omega (arith, l.invariant.within)) c.name_place-place.ensures.place (rw c.self.view_is at c.has_name.ensures) in
-    sym (search-found (nodesOf T) c.args.d nm c.next-stop.result w (rw (← length-nodesOf T) at c.requires.within) c.next-stop.ensures l.k l.invariant.search (omega (arith, c.loop-k-test.true, l.invariant.search.later)) (e ∙ c.if-has_name.true))
+    sym (search-found (nodes_of T) c.args.d nm c.next-stop.result w (rw (← length-nodes_of T) at c.requires.within) c.next-stop.ensures l.k l.invariant.search (omega (arith, c.loop-k-test.true, l.invariant.search.later)) (e ∙ c.if-has_name.true))
 
 pub loop-k-smaller : goal.loop-k-smaller
 loop-k-smaller c =
     let T = c.args.self.now in
     let w = (held (rw c.self.view_is at c.self.invariant)).well in
-    omega (arith, c.after-k.ensures, c.loop-k-test.true, c.loop-k.invariant.search.later, after-past (nodesOf T) c.loop-k.k w (rw (length-nodesOf T) (omega (arith, c.loop-k.invariant.within))))
+    omega (arith, c.after-k.ensures, c.loop-k-test.true, c.loop-k.invariant.search.later, after-past (nodes_of T) c.loop-k.k w (rw (length-nodes_of T) (omega (arith, c.loop-k.invariant.within))))
 
 pub loop-k-preserved : goal.loop-k-preserved
 loop-k-preserved c =
@@ -67,7 +67,7 @@ loop-k-preserved c =
     record {
       within = l.invariant.within;
       search =
-          rw c.after-k.ensures (search-turn (nodesOf T) c.args.d nm c.next-stop.result w (rw (← length-nodesOf T) at c.requires.within) c.next-stop.ensures l.k l.invariant.search (omega (arith, c.loop-k-test.true, l.invariant.search.later)) (e ∙ c.if-has_name.false));
+          rw c.after-k.ensures (search-turn (nodes_of T) c.args.d nm c.next-stop.result w (rw (← length-nodes_of T) at c.requires.within) c.next-stop.ensures l.k l.invariant.search (omega (arith, c.loop-k-test.true, l.invariant.search.later)) (e ∙ c.if-has_name.false));
       unlike = unlike-turn T nm l.differs (p.result / 65536 % 32) p.result l.invariant.unlike (omega arith) (sym h ∙ c.if-has_name.false);
     }
 
@@ -75,4 +75,4 @@ pub returns : goal.returns
 returns c =
     let T = c.args.self.now in
     let w = (held (rw c.self.view_is at c.self.invariant)).well in
-    sym (search-end (nodesOf T) c.args.d c.args.name.now c.next-stop.result w (rw (← length-nodesOf T) at c.requires.within) c.next-stop.ensures c.loop-k.k c.loop-k.invariant.search c.loop-k-test.false)
+    sym (search-end (nodes_of T) c.args.d c.args.name.now c.next-stop.result w (rw (← length-nodes_of T) at c.requires.within) c.next-stop.ensures c.loop-k.k c.loop-k.invariant.search c.loop-k-test.false)

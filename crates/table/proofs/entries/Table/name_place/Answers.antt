@@ -1,7 +1,7 @@
 -- `Table::name_place` meets its contract: the name offset behind the entries, and the name ends in the table.
 use native.Mathlib.Omega.{arith}
 use mathlib.Core.Path.{◌≡◌}
-use Rattle.tree.specs.Table.{namePlace}
+use Rattle.tree.specs.Table.{name_place}
 use Rattle.table.proofs.Nodes.{held, name-short}
 use Rattle.table.proofs.NamePlaces.{place_is}
 use Rattle.table.proofs.Ended.{name-there, name-ended}
@@ -13,7 +13,7 @@ returns-clause-ended c =
     let T = c.args.self.now in
     let k = c.args.k in
     let h = rw c.self.view_is at c.self.invariant in
-    let e : 12 * c.len.result + c.read_u24.result ≡ namePlace T k = omega (arith, place_is T k (λ e. omega (arith, c.requires.not_root)), c.len.ensures.len, rw c.self.view_is at c.read_u24.ensures.0) in
+    let e : 12 * c.len.result + c.read_u24.result ≡ name_place T k = omega (arith, place_is T k (λ e. omega (arith, c.requires.not_root)), c.len.ensures.len, rw c.self.view_is at c.read_u24.ensures.0) in
     rw e (name-ended (held h) k c.requires.not_root c.requires.within)
 
 pub returns-clause-short : goal.returns-clause-short
@@ -21,5 +21,5 @@ returns-clause-short c =
     let T = c.args.self.now in
     let k = c.args.k in
     let h = rw c.self.view_is at c.self.invariant in
-    let e : 12 * c.len.result + c.read_u24.result ≡ namePlace T k = omega (arith, place_is T k (λ e. omega (arith, c.requires.not_root)), c.len.ensures.len, rw c.self.view_is at c.read_u24.ensures.0) in
+    let e : 12 * c.len.result + c.read_u24.result ≡ name_place T k = omega (arith, place_is T k (λ e. omega (arith, c.requires.not_root)), c.len.ensures.len, rw c.self.view_is at c.read_u24.ensures.0) in
     rw (e, ← name-there T k c.requires.not_root c.requires.within) (name-short (held h) k c.requires.not_root c.requires.within)

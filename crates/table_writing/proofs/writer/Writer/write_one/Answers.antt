@@ -1,4 +1,4 @@
--- `Writer::write_one` meets its contract: a record and then a name are what one step of `writeFlat` writes.
+-- `Writer::write_one` meets its contract: a record and then a name are what one step of `write_flat` writes.
 use mathlib.Core.Path.{refl}
 use native.Mathlib.Omega.{arith}
 use Rattle.tree.specs.Table.{count}
