@@ -1,7 +1,7 @@
 -- What the calls give back in C: for each answer of the crates below its number (document 01: "Causes and their numbers"; 0 where the call
 -- is accepted), and the slots that the caller lends, as many as the answer has words. With a refusal they are "left as it was".
 -- Assumes nothing: these are definitions.
-use Rattle.std.specs.Prelude.{Some, None, Result, Ok, Err, ℕ, ◌≡◌, List, [], ◌∷◌, ◌++◌, get_or}
+use Rattle.std.specs.Prelude.{Some, None, Result, Ok, Err, ℕ, ◌≡◌, List, [], ◌∷◌, ◌++◌, slice_index}
 use Rattle.refusal.specs.declared.Refusal.{Refusal}
 use Rattle.refusal.specs.Refusal.{Verdict, number_of}
 use Rattle.opened.specs.declared.summary.Disc.{Disc}
@@ -74,7 +74,7 @@ one n = n ∷ []
 
 -- a window's start, length and position
 abbrev pub window_in : List ℕ → Window
-window_in slots = record { start = get_or slots 0 0; len = get_or slots 1 0; position = get_or slots 2 0 }
+window_in slots = record { start = slice_index slots 0; len = slice_index slots 1; position = slice_index slots 2 }
 
 abbrev pub window_words : Window → List ℕ
 window_words w = w.start ∷ w.len ∷ w.position ∷ []

@@ -1,11 +1,11 @@
 -- The answers of the calls on entries, files and the executable (document 01; the order of refusals: "Calls go on: path over 1,024 bytes or
 -- result list short 9, then 15, 16 or 17"). Assumes nothing: these are definitions.
-use Rattle.std.specs.Prelude.{Result, Ok, Err}
+use Rattle.std.specs.Prelude.{Result, Ok, Err, nat_lt}
 use Rattle.refusal.specs.Refusal.{Verdict}
 use Rattle.refusal.specs.declared.Refusal.{Refusal}
 use Rattle.opened.specs.declared.summary.Disc.{Disc}
 use Rattle.window.specs.declared.Window.{Window}
-use Rattle.std.specs.Prelude.{ℕ, List, ltb, length}
+use Rattle.std.specs.Prelude.{ℕ, List, length}
 use Rattle.refusal.specs.declared.Refusal.TheVariants.{LimitOrMemory, ExpectedFile}
 use Rattle.refusal.specs.Refusal.{refuse, first}
 use Rattle.header.specs.Verdicts.{dol_offset, fst_offset}
@@ -28,7 +28,7 @@ entry_answer image words k = behind (opening image words) found.Refused (entry_f
 -- the entry of a tree that a path leads to: "path over 1,024 bytes .. 9"
 abbrev pub path_found : List Node → ℕ → List ℕ → Found
 path_found nodes start path =
-    behind (refuse (ltb 1024 (length path)) LimitOrMemory (Ok tt)) found.Refused (found_at nodes (lookup nodes start path))
+    behind (refuse (nat_lt 1024 (length path)) LimitOrMemory (Ok tt)) found.Refused (found_at nodes (lookup nodes start path))
 
 unfoldable pub lookup_answer : List ℕ → ℕ → ℕ → List ℕ → Found
 lookup_answer image words start path = behind (opening image words) found.Refused (path_found (nodes_in image) start path)

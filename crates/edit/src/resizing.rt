@@ -1,5 +1,5 @@
 // What a resize decides on, for every image that means the disc.
-ghost use Rattle.std.specs.Prelude.{◌≡◌, ◌||◌, leb, length};
+ghost use Rattle.std.specs.Prelude.{◌≡◌, ◌||◌, length, ◌==◌, nat_le};
 ghost use Rattle.space.specs.MaxRegionSize.{max_region_size};
 ghost use Rattle.space.specs.Allocate.{allocation_of};
 ghost use Rattle.edits.specs.Change.{change};
@@ -19,7 +19,7 @@ use space::DiscRegion;
 // Whether a file keeps its place: it gets smaller, or can grow there.
 fn stays(disc: &OpenDisc<'_>, place: DiscRegion, new_size: u32) -> bool
     ensures { let most = max_region_size place.offset place.size (free_of disc.now) in
-        result ≡ (leb new_size place.size || leb new_size most) }
+        result ≡ (nat_le new_size place.size || nat_le new_size most) }
 {
     new_size <= place.size || new_size <= disc.max_region_size(place.offset, place.size)
 }

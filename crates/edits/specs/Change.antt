@@ -1,8 +1,8 @@
 -- What an accepted edit does to an image, and the tests that each edit which writes a table ends with (document 01, "Edits"; document 02, Point 7).
 -- Assumes nothing: these are definitions.
-use Rattle.std.specs.Prelude.{Ok}
+use Rattle.std.specs.Prelude.{Ok, nat_lt}
 use Rattle.refusal.specs.Refusal.{Verdict}
-use Rattle.std.specs.Prelude.{ℕ, ◌+◌, ◌-◌, Bool, ◌&&◌, List, ◌++◌, ltb, length, replicate}
+use Rattle.std.specs.Prelude.{ℕ, ◌+◌, ◌-◌, Bool, ◌&&◌, List, ◌++◌, length, replicate}
 use Rattle.endian.specs.Bytes.{put, span, be32_bytes}
 use Rattle.refusal.specs.declared.Refusal.TheVariants.{LimitOrMemory, NotEnoughSpace, TableAboveMaximum}
 use Rattle.refusal.specs.Refusal.{refuse, first}
@@ -40,21 +40,21 @@ written c image =
 
 -- document 02, Point 7: "If it is nonzero, no edit may write a larger table."
 abbrev pub above_maximum : List ℕ → ℕ → Bool
-above_maximum image size = ltb 0 (fst_max_size image) && ltb (fst_max_size image) size
+above_maximum image size = nat_lt 0 (fst_max_size image) && nat_lt (fst_max_size image) size
 
 -- "A new table must fit the table's own `max_region_size`, taken from the free regions before the edit, and end at or before the edited
 -- file's new nonempty place, else 21."
 abbrev pub room_verdict : List ℕ → ℕ → DiscRegion → Verdict
 room_verdict image size place =
-    refuse (ltb (max_region_size (fst_offset image) (fst_size image) (free_space_of image)) size) NotEnoughSpace
-    (refuse (ltb 0 place.size && ltb place.offset (fst_offset image + size)) NotEnoughSpace
+    refuse (nat_lt (max_region_size (fst_offset image) (fst_size image) (free_space_of image)) size) NotEnoughSpace
+    (refuse (nat_lt 0 place.size && nat_lt place.offset (fst_offset image + size)) NotEnoughSpace
     (Ok tt))
 
 -- "working bytes fewer than the new table's size (9), then the table's place (21)"; "26, new table above the maximum, tested just before the
 -- table's 21"
 unfoldable pub place_verdict_in : List ℕ → ℕ → ℕ → DiscRegion → Verdict
 place_verdict_in image room size place =
-    refuse (ltb room size) LimitOrMemory
+    refuse (nat_lt room size) LimitOrMemory
     (refuse (above_maximum image size) TableAboveMaximum
     (room_verdict image size place))
 

@@ -1,8 +1,8 @@
 -- The edits (document 01, "Edits"; the orders of their refusals: "Calls go on: .. insert 15, 13, 17, 19, 12; move 20, 21; resize 21, 20 .."
 -- and "Make-directories gives the first trouble along the path, 12 last"; document 02, Points 4 and 6). Assumes nothing: these are definitions.
-use Rattle.std.specs.Prelude.{Result, Ok, Err}
+use Rattle.std.specs.Prelude.{Result, Ok, Err, if◌then◌else◌, ◌==◌, nat_lt, nat_le, slice_index_or}
 use Rattle.refusal.specs.Refusal.{Verdict}
-use Rattle.std.specs.Prelude.{ℕ, ◌+◌, ◌-◌, ◌^◌, min, Bool, true, false, cond, not, ◌&&◌, ◌||◌, List, [], ◌∷◌, ltb, leb, eqb, length, get_or}
+use Rattle.std.specs.Prelude.{ℕ, ◌+◌, ◌-◌, ◌^◌, min, Bool, true, false, not, ◌&&◌, ◌||◌, List, [], ◌∷◌, length}
 use Rattle.endian.specs.Bytes.{put}
 use Rattle.refusal.specs.declared.Refusal.{Refusal}
 use Rattle.refusal.specs.declared.Refusal.TheVariants.{LimitOrMemory, InvalidNameByte, UnsafeName, NoSuchEntry, ExpectedFile, ExpectedDirectory, NotFound, AlreadyExists, OverlappingMove, NotEnoughSpace}
@@ -45,7 +45,7 @@ planned (Err c) p = refused (Err c)
 
 -- the number that a new last child of p gets
 abbrev pub new_number : List Node → ℕ → ℕ
-new_number nodes p = next_of (get_or nodes p none)
+new_number nodes p = next_of (slice_index_or nodes p none)
 
 -- a child of p has that name
 abbrev pub is_found : Result ℕ Refusal → Bool
@@ -55,7 +55,7 @@ is_found (Err c) = false
 -- the last three of "insert 15, 13, 17, 19, 12"
 abbrev pub child_verdict : List Node → ℕ → List ℕ → Verdict
 child_verdict nodes p nm =
-    refuse (not (is_directory (get_or nodes p none))) ExpectedDirectory
+    refuse (not (is_directory (slice_index_or nodes p none))) ExpectedDirectory
     (refuse (is_found (child_of nodes p nm)) AlreadyExists
     (refuse (not (plain nm)) InvalidNameByte
     (Ok tt)))
@@ -63,7 +63,7 @@ child_verdict nodes p nm =
 -- "insert 15, 13, 17, 19, 12"
 unfoldable pub insert_verdict : List Node → ℕ → List ℕ → Verdict
 insert_verdict nodes p nm =
-    refuse (leb (length nodes) p) NoSuchEntry
+    refuse (nat_le (length nodes) p) NoSuchEntry
     (refuse (not (safe nm)) UnsafeName
     (child_verdict nodes p nm))
 
@@ -89,16 +89,16 @@ if_found (Err c) f missing = missing
 
 -- along the components from entry k; a directory made earlier is found again; the walk must end on a directory
 unfoldable pub make : List Node → List ℕ → ℕ → Bool → List (List ℕ) → Made
-make nodes trail k bad [] = cond (is_directory (get_or nodes k none)) (made nodes k bad) (stopped ExpectedDirectory)
+make nodes trail k bad [] = if is_directory (slice_index_or nodes k none) then made nodes k bad else stopped ExpectedDirectory
 make nodes trail k bad (c ∷ cs) =
-    cond (is_directory (get_or nodes k none))
-    (cond (stays c) (make nodes trail k bad cs)
-    (cond (goes_back c) (made_back trail (λ j rest. make nodes rest j bad cs))
-    (if_found (child_of nodes k c) (λ j. make nodes (k ∷ trail) j bad cs)
-    (cond (safe c)
-    (make (insert_at k (empty_directory c (new_number nodes k)) nodes) (k ∷ trail) (new_number nodes k) (bad || not (plain c)) cs)
-    (stopped UnsafeName)))))
-    (stopped ExpectedDirectory)
+    if is_directory (slice_index_or nodes k none)
+    then (if stays c then make nodes trail k bad cs
+    else if goes_back c then made_back trail (λ j rest. make nodes rest j bad cs)
+    else if_found (child_of nodes k c) (λ j. make nodes (k ∷ trail) j bad cs)
+    (if safe c
+    then make (insert_at k (empty_directory c (new_number nodes k)) nodes) (k ∷ trail) (new_number nodes k) (bad || not (plain c)) cs
+    else stopped UnsafeName))
+    else stopped ExpectedDirectory
 
 abbrev pub plan_made : Made → Plan
 plan_made (stopped c) = refused (Err c)
@@ -107,18 +107,18 @@ plan_made (made nodes k true) = refused (Err InvalidNameByte)
 
 unfoldable pub plan_make_directories : List Node → ℕ → List ℕ → Plan
 plan_make_directories nodes start path =
-    planned (refuse (ltb 1024 (length path)) LimitOrMemory (refuse (leb (length nodes) start) NoSuchEntry (Ok tt)))
+    planned (refuse (nat_lt 1024 (length path)) LimitOrMemory (refuse (nat_le (length nodes) start) NoSuchEntry (Ok tt)))
     (plan_made (make nodes [] start false (components path)))
 
 -- ---- moves and resizes
 
 -- 15, then 16
 abbrev pub file_verdict : List Node → ℕ → Verdict
-file_verdict nodes k = refuse (leb (length nodes) k) NoSuchEntry (refuse (is_directory (get_or nodes k none)) ExpectedFile (Ok tt))
+file_verdict nodes k = refuse (nat_le (length nodes) k) NoSuchEntry (refuse (is_directory (slice_index_or nodes k none)) ExpectedFile (Ok tt))
 
 -- "20 means: new offset below old offset + old size, and new offset + new size above old offset"
 abbrev pub overlaps_itself : DiscRegion → DiscRegion → Bool
-overlaps_itself old new = ltb new.offset (old.offset + old.size) && ltb old.offset (new.offset + new.size)
+overlaps_itself old new = nat_lt new.offset (old.offset + old.size) && nat_lt old.offset (new.offset + new.size)
 
 -- the file k, which lies at `old`, goes to `new`; the smaller of both sizes is copied, and the old place is zeroed
 abbrev pub relocated : List Node → ℕ → DiscRegion → DiscRegion → Change
@@ -134,11 +134,11 @@ relocated nodes k old new = record {
 abbrev pub relocate_verdict : List DiscRegion → DiscRegion → DiscRegion → Verdict
 relocate_verdict free old new =
     refuse (overlaps_itself old new) OverlappingMove
-    (refuse (ltb (max_region_size new.offset 0 free) new.size) NotEnoughSpace (Ok tt))
+    (refuse (nat_lt (max_region_size new.offset 0 free) new.size) NotEnoughSpace (Ok tt))
 
 unfoldable pub plan_move : List DiscRegion → List Node → ℕ → ℕ → Plan
 plan_move free nodes k to =
-    let old : DiscRegion = region_of (get_or nodes k none) in
+    let old : DiscRegion = region_of (slice_index_or nodes k none) in
     let new : DiscRegion = record { offset = to; size = old.size } in
     planned (first (file_verdict nodes k) (relocate_verdict free old new)) (change k (relocated nodes k old new))
 
@@ -162,19 +162,19 @@ plan_elsewhere nodes free k old n (Ok r) =
 -- a resize, once the file's place is known
 abbrev pub plan_sized : List DiscRegion → List Node → ℕ → DiscRegion → ℕ → Plan
 plan_sized free nodes k old n =
-    cond (eqb n old.size) nothing
-    (cond (leb n old.size || leb n (max_region_size old.offset old.size free))
-    (change k (resized nodes k old n))
-    (plan_elsewhere nodes free k old n (allocation_of 0x8000 n free)))
+    if n == old.size then nothing
+    else if nat_le n old.size || nat_le n (max_region_size old.offset old.size free)
+    then change k (resized nodes k old n)
+    else plan_elsewhere nodes free k old n (allocation_of 0x8000 n free)
 
 unfoldable pub plan_resize : List DiscRegion → List Node → ℕ → ℕ → Plan
-plan_resize free nodes k n = planned (file_verdict nodes k) (plan_sized free nodes k (region_of (get_or nodes k none)) n)
+plan_resize free nodes k n = planned (file_verdict nodes k) (plan_sized free nodes k (region_of (slice_index_or nodes k none)) n)
 
 -- ---- "Fill a file from given bytes": "Resize the file to the clip, then write it; a refused resize writes nothing."
 
 -- 15, 16, then "A clip above 2^32 - 1 bytes finds no place and is 21."
 abbrev pub clip_verdict : List Node → ℕ → ℕ → Verdict
-clip_verdict nodes k n = first (file_verdict nodes k) (refuse (ltb (2 ^ 32 - 1) n) NotEnoughSpace (Ok tt))
+clip_verdict nodes k n = first (file_verdict nodes k) (refuse (nat_lt (2 ^ 32 - 1) n) NotEnoughSpace (Ok tt))
 
 unfoldable pub plan_fill : List DiscRegion → List Node → ℕ → List ℕ → Plan
 plan_fill free nodes k clip = planned (clip_verdict nodes k (length clip)) (filled k clip (plan_resize free nodes k (length clip)))
@@ -208,7 +208,7 @@ abbrev pub plan_image : Plan → List ℕ → List ℕ
 plan_image (refused v) image = image
 plan_image nothing image = image
 plan_image (change k c) image = written c image
-plan_image (filled k clip p) image = put (plan_image p image) (region_of (get_or (plan_tree p (nodes_in image)) k none)).offset clip
+plan_image (filled k clip p) image = put (plan_image p image) (region_of (slice_index_or (plan_tree p (nodes_in image)) k none)).offset clip
 
 -- "25, used bytes or edit count would leave 0 to 2^32 - 1, tested last"; t is the record that the edit is handed
 unfoldable pub counted_verdict : Plan → Totals → List ℕ → ℕ → ℕ → Verdict
@@ -220,7 +220,7 @@ verdict_of ed t image words bytes = first (opening image words) (counted_verdict
 
 -- the image afterwards: a refused edit leaves it as it is
 unfoldable pub image_after : Edit → Totals → List ℕ → ℕ → ℕ → List ℕ
-image_after ed t image words bytes = cond (is_refused (verdict_of ed t image words bytes)) image (plan_image (plan_of ed image) image)
+image_after ed t image words bytes = if is_refused (verdict_of ed t image words bytes) then image else plan_image (plan_of ed image) image
 
 -- the record with the totals of the new image: "Used bytes move by the edit's change, the count by one; the largest region is the new image's."
 abbrev pub totals_to : Totals → List ℕ → List ℕ → Totals
@@ -228,7 +228,7 @@ totals_to t image new = totals_moved t (used_of image) (used_of new) (largest_si
 
 -- the record afterwards: "A refused edit hands the record back unaltered."
 unfoldable pub totals_after : Edit → Totals → List ℕ → ℕ → ℕ → Totals
-totals_after ed t image words bytes = cond (is_refused (verdict_of ed t image words bytes)) t (totals_to t image (plan_image (plan_of ed image) image))
+totals_after ed t image words bytes = if is_refused (verdict_of ed t image words bytes) then t else totals_to t image (plan_image (plan_of ed image) image)
 
 -- the answer of an edit that gives an entry's number
 abbrev pub plan_number : Plan → ℕ

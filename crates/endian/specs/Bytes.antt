@@ -1,14 +1,14 @@
 -- Numbers of 3 and 4 bytes in a list of bytes, highest byte first, and bytes put over a part of a list.
 -- A byte past the end reads as 0. Assumes nothing: these are definitions.
-use Rattle.std.specs.Prelude.{ℕ, ◌+◌, ◌*◌, ◌/◌, ◌%◌, ◌<◌, Bool, true, false, ◌&&◌, List, [], ◌∷◌, ◌++◌, eqb, length, get_or, take, drop}
+use Rattle.std.specs.Prelude.{ℕ, ◌+◌, ◌*◌, ◌/◌, ◌%◌, ◌<◌, Bool, true, false, ◌&&◌, List, [], ◌∷◌, ◌++◌, length, take, drop, ◌==◌, slice_index}
 
 -- the number in the 3 bytes at `at`
 unfoldable pub be24 : List ℕ → ℕ → ℕ
-be24 s at = get_or s at 0 * 65536 + get_or s (at + 1) 0 * 256 + get_or s (at + 2) 0
+be24 s at = slice_index s at * 65536 + slice_index s (at + 1) * 256 + slice_index s (at + 2)
 
 -- the number in the 4 bytes at `at`
 unfoldable pub be32 : List ℕ → ℕ → ℕ
-be32 s at = get_or s at 0 * 16777216 + get_or s (at + 1) 0 * 65536 + get_or s (at + 2) 0 * 256 + get_or s (at + 3) 0
+be32 s at = slice_index s at * 16777216 + slice_index s (at + 1) * 65536 + slice_index s (at + 2) * 256 + slice_index s (at + 3)
 
 -- a number in 3 bytes, and in 4
 abbrev pub be24_bytes : ℕ → List ℕ
@@ -30,8 +30,8 @@ unfoldable pub same_bytes : List ℕ → List ℕ → Bool
 same_bytes [] [] = true
 same_bytes [] (y ∷ ys) = false
 same_bytes (x ∷ xs) [] = false
-same_bytes (x ∷ xs) (y ∷ ys) = eqb x y && same_bytes xs ys
+same_bytes (x ∷ xs) (y ∷ ys) = x == y && same_bytes xs ys
 
 -- every element is a byte
 abbrev pub AllBytes : List ℕ → Type 0
-AllBytes s = (i : ℕ) → get_or s i 0 < 256
+AllBytes s = (i : ℕ) → slice_index s i < 256

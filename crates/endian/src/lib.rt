@@ -2,14 +2,14 @@
 // and spans of bytes: copied, filled, compared.
 #![tactic(auto)]
 
-ghost use Rattle.std.specs.Prelude.{◌≡◌, [], ◌∷◌, ◌+◌, ◌-◌, ◌*◌, ◌≤◌, ◌<◌, ◌^◌};
-ghost use Rattle.std.specs.Prelude.{min, length, get_or, replicate};
+ghost use Rattle.std.specs.Prelude.{◌≡◌, [], ◌∷◌, ◌+◌, ◌-◌, ◌*◌, ◌≤◌, ◌<◌, ◌^◌, ◌==◌, slice_index};
+ghost use Rattle.std.specs.Prelude.{min, length, replicate};
 ghost use Rattle.endian.specs.Bytes.{be24, be32, be24_bytes, be32_bytes, put, span, same_bytes};
 
 /// The byte at `at`.
 pub fn read_u8(s: &[u8], at: usize) -> u8
     requires { at < length s.now }
-    ensures { result ≡ get_or s.now at 0 }
+    ensures { result ≡ slice_index s.now at }
 {
     s[at]
 }

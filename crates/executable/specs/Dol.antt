@@ -3,7 +3,7 @@
 -- above 2^32 - 1. Assumes nothing: these are definitions.
 use Rattle.refusal.specs.Refusal.{Verdict, refuse}
 use Rattle.refusal.specs.declared.Refusal.{Refusal}
-use Rattle.std.specs.Prelude.{ℕ, zero, suc, ◌+◌, ◌-◌, ◌^◌, max, List, [], ◌∷◌, ltb, length, replicate, Result, Ok, Err}
+use Rattle.std.specs.Prelude.{ℕ, zero, suc, ◌+◌, ◌-◌, ◌^◌, max, List, [], ◌∷◌, length, replicate, Result, Ok, Err, nat_lt}
 use Rattle.endian.specs.Bytes.{be32}
 use Rattle.refusal.specs.declared.Refusal.TheVariants.{InvalidDol}
 use Rattle.executable.specs.declared.dol.DolHeader.{DolHeader}
@@ -40,7 +40,7 @@ file_size_of h = max (largest_of h.text_offsets h.text_sizes) (largest_of h.data
 
 -- "DOL header past the image, or a sum above 2^32 - 1", which is the largest sum above it
 abbrev pub dol_verdict_of : List ℕ → ℕ → Verdict
-dol_verdict_of s at = refuse (ltb (length s) (at + 0xE4)) InvalidDol (refuse (ltb (2 ^ 32 - 1) (file_size_of (dol_header_of s at))) InvalidDol (Ok tt))
+dol_verdict_of s at = refuse (nat_lt (length s) (at + 0xE4)) InvalidDol (refuse (nat_lt (2 ^ 32 - 1) (file_size_of (dol_header_of s at))) InvalidDol (Ok tt))
 
 -- a header of zeros
 abbrev pub new_header : DolHeader

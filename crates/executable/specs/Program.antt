@@ -4,7 +4,7 @@
 -- Assumes nothing: these are definitions.
 use Rattle.refusal.specs.declared.Refusal.{Refusal}
 use Rattle.refusal.specs.Refusal.{Verdict}
-use Rattle.std.specs.Prelude.{ℕ, ◌+◌, max, Bool, cond, ◌&&◌, List, leb, eqb, Option, None, Some, Result, Ok, Err, unwrap_or}
+use Rattle.std.specs.Prelude.{ℕ, ◌+◌, max, Bool, ◌&&◌, List, Option, None, Some, Result, Ok, Err, unwrap_or, if◌then◌else◌, ◌==◌, nat_le}
 use Rattle.header.specs.Verdicts.{dol_offset, fst_offset}
 use Rattle.space.specs.declared.region.DiscRegion.{DiscRegion}
 use Rattle.executable.specs.Dol.{dol_header_of, file_size_of, dol_verdict_of}
@@ -24,7 +24,7 @@ program_as (Err c) r = Err c
 
 -- "a nonzero DOL offset means a program"; its header may be refused, 24
 unfoldable pub program_of : List ℕ → Program
-program_of image = cond (eqb (dol_offset image) 0) (Ok None) (program_as (dol_verdict_of image (dol_offset image)) (program_from image (dol_offset image)))
+program_of image = if dol_offset image == 0 then Ok None else program_as (dol_verdict_of image (dol_offset image)) (program_from image (dol_offset image))
 
 abbrev pub program_verdict : Program → Verdict
 program_verdict (Ok _) = Ok tt
@@ -45,11 +45,11 @@ program_in image = place_of (program_of image)
 
 -- "wholly between 0x440 and the FST offset, as part of the used bytes 0 up to the table end"
 abbrev pub before_table : ℕ → DiscRegion → Bool
-before_table fst r = leb 0x440 r.offset && leb (r.offset + r.size) fst
+before_table fst r = nat_le 0x440 r.offset && nat_le (r.offset + r.size) fst
 
 -- "as a used region of its own": wherever else it lies. One that is not "wholly from the table end on" shares a byte with those before it, 14
 unfoldable pub own_region : ℕ → DiscRegion → DiscRegion
-own_region fst r = cond (before_table fst r) nowhere r
+own_region fst r = if before_table fst r then nowhere else r
 
 abbrev pub program_behind : List ℕ → DiscRegion
 program_behind image = own_region (fst_offset image) (program_in image)

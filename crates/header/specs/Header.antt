@@ -1,6 +1,6 @@
 -- The header as it is read, made and written. Assumes nothing: these are definitions.
 use Rattle.refusal.specs.Refusal.{Verdict, refuse}
-use Rattle.std.specs.Prelude.{ℕ, List, [], ◌∷◌, ltb, length, get_or, replicate, Result, Ok, Err}
+use Rattle.std.specs.Prelude.{ℕ, List, [], ◌∷◌, length, replicate, Result, Ok, Err, nat_lt, slice_index}
 use Rattle.endian.specs.Bytes.{be32_bytes, put, span}
 use Rattle.refusal.specs.declared.Refusal.{Refusal}
 use Rattle.refusal.specs.declared.Refusal.TheVariants.{HeaderPastImage}
@@ -14,7 +14,7 @@ abbrev pub bytes_of : Field → List ℕ → List ℕ
 bytes_of f image = span image f.at f.len
 
 abbrev pub byte_of : Field → List ℕ → ℕ
-byte_of f image = get_or image f.at 0
+byte_of f image = slice_index image f.at
 
 -- "Fields are big-endian." "The game name is opaque."
 unfoldable pub header_of : List ℕ → DiscHeader
@@ -116,7 +116,7 @@ put_header h image = put_fields fields (field_bytes h) image
 
 -- an image that is too short is refused, and left as it was
 abbrev pub write_verdict : List ℕ → Verdict
-write_verdict image = refuse (ltb (length image) 0x440) HeaderPastImage (Ok tt)
+write_verdict image = refuse (nat_lt (length image) 0x440) HeaderPastImage (Ok tt)
 
 abbrev pub written_by : Verdict → DiscHeader → List ℕ → List ℕ
 written_by (Ok _) h image = put_header h image

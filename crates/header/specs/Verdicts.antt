@@ -1,7 +1,7 @@
 -- The header's refusals: 1 to 3 as its fields are read in order, and 4 for the places that it gives. Assumes nothing: these are definitions.
-use Rattle.std.specs.Prelude.{Ok}
+use Rattle.std.specs.Prelude.{Ok, ◌==◌, nat_lt}
 use Rattle.refusal.specs.Refusal.{Verdict}
-use Rattle.std.specs.Prelude.{ℕ, ◌+◌, ◌-◌, ◌^◌, ◌&&◌, not, List, [], ◌∷◌, eqb, ltb, length}
+use Rattle.std.specs.Prelude.{ℕ, ◌+◌, ◌-◌, ◌^◌, ◌&&◌, not, List, [], ◌∷◌, length}
 use Rattle.endian.specs.Bytes.{be32}
 use Rattle.refusal.specs.declared.Refusal.TheVariants.{HeaderPastImage, WiiNotSupported, InvalidMagic, InvalidBounds}
 use Rattle.refusal.specs.Refusal.{refuse, first}
@@ -22,9 +22,9 @@ word_of f image = be32 image f.at
 -- "header field past the image", "Wii magic", "not GameCube magic": the tests made as a field is read
 unfoldable pub field_verdict : List ℕ → Field → Verdict
 field_verdict image f =
-    refuse (ltb (length image) (f.at + f.len)) HeaderPastImage
-    (refuse (eqb f.at wii_magic_field.at && eqb (word_of f image) wii_magic) WiiNotSupported
-    (refuse (eqb f.at gcn_magic_field.at && not (eqb (word_of f image) gcn_magic)) InvalidMagic
+    refuse (nat_lt (length image) (f.at + f.len)) HeaderPastImage
+    (refuse (f.at == wii_magic_field.at && word_of f image == wii_magic) WiiNotSupported
+    (refuse (f.at == gcn_magic_field.at && not (word_of f image == gcn_magic)) InvalidMagic
     (Ok tt)))
 
 -- "header fields in order (Wii before GameCube)"
@@ -66,8 +66,8 @@ table_end image = fst_offset image + fst_size image
 -- "FST offset below 0x440, disc end above 2^32 - 1, table end past it, or image shorter than it": it is the disc end both times
 unfoldable pub bounds_verdict : List ℕ → Verdict
 bounds_verdict image =
-    refuse (ltb (fst_offset image) 0x440) InvalidBounds
-    (refuse (ltb (2 ^ 32 - 1) (disc_end image)) InvalidBounds
-    (refuse (ltb (disc_end image) (table_end image)) InvalidBounds
-    (refuse (ltb (length image) (disc_end image)) InvalidBounds
+    refuse (nat_lt (fst_offset image) 0x440) InvalidBounds
+    (refuse (nat_lt (2 ^ 32 - 1) (disc_end image)) InvalidBounds
+    (refuse (nat_lt (disc_end image) (table_end image)) InvalidBounds
+    (refuse (nat_lt (length image) (disc_end image)) InvalidBounds
     (Ok tt))))

@@ -1,6 +1,6 @@
 -- The ledger (document 01, "The ledger of demand 3"): "Beyond the first image it is fed only each call's kind, its numbers and name or
 -- path, and whether it was accepted."; document 02, Point 4: it is "given the clip too". Assumes nothing: these are definitions.
-use Rattle.std.specs.Prelude.{ℕ, zero, suc, min, Bool, true, false, cond, List, [], ◌∷◌, map, length, get_or, set}
+use Rattle.std.specs.Prelude.{ℕ, zero, suc, min, Bool, true, false, List, [], ◌∷◌, map, length, set, if◌then◌else◌, slice_index_or}
 use Rattle.endian.specs.Bytes.{span}
 use Rattle.tree.specs.Table.{Node, file, directory}
 use Rattle.tree.specs.Lookup.{components}
@@ -39,7 +39,7 @@ new_history = record { place = 0; bytes = []; m = 0; named = false }
 
 -- "the history of the file with entry number k is what the ledger holds for its file k"
 abbrev pub history_of : Ledger → ℕ → History
-history_of l k = get_or l.histories (files_before k l.nodes) new_history
+history_of l k = slice_index_or l.histories (files_before k l.nodes) new_history
 
 -- ---- "It starts as the tree opening reads from the first image, m each file's size, none named."
 
@@ -111,4 +111,4 @@ pub record Report : Type 0 where
 
 unfoldable pub ledger_after : List Report → Ledger → Ledger
 ledger_after [] l = l
-ledger_after (r ∷ reports) l = ledger_after reports (cond r.accepted (entered r.edit l) l)
+ledger_after (r ∷ reports) l = ledger_after reports (if r.accepted then entered r.edit l else l)

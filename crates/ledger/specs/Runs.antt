@@ -1,5 +1,5 @@
 -- A list of calls on an image: the image after it, what the ledger is told of it, and the record that is handed on through it. Assumes nothing: these are definitions.
-use Rattle.std.specs.Prelude.{ℕ, ◌+◌, ◌^◌, ◌<◌, ◌≤◌, ◌≡◌, not, cond, List, [], ◌∷◌}
+use Rattle.std.specs.Prelude.{ℕ, ◌+◌, ◌^◌, ◌<◌, ◌≤◌, ◌≡◌, not, List, [], ◌∷◌, if◌then◌else◌}
 use Rattle.endian.specs.Bytes.{AllBytes}
 use Rattle.refusal.specs.Refusal.{is_refused}
 use Rattle.space.specs.declared.totals.Totals.{Totals}
@@ -43,7 +43,7 @@ HandedOn t (c ∷ calls) image =
 -- how many edits were accepted
 unfoldable pub accepted_in : List Report → ℕ
 accepted_in [] = 0
-accepted_in (r ∷ reports) = cond r.accepted 1 0 + accepted_in reports
+accepted_in (r ∷ reports) = (if r.accepted then 1 else 0) + accepted_in reports
 
 -- ---- what a call may be
 

@@ -3,8 +3,8 @@
 -- handed on through the list; and what the stated maximum keeps the table to. All are proved: `demand-3` and `unnamed-stays` of
 -- Laws/Demand3, `fill-reads` of Laws/FillReads, `record-tells` of Laws/RecordTells, `maximum-kept` of Laws/MaximumKept. Assumes nothing: these
 -- are definitions.
-use Rattle.std.specs.Prelude.{Ok}
-use Rattle.std.specs.Prelude.{ℕ, ◌+◌, ◌<◌, ◌≤◌, ◌≡◌, true, false, List, map, length, get_or, take}
+use Rattle.std.specs.Prelude.{Ok, slice_index_or}
+use Rattle.std.specs.Prelude.{ℕ, ◌+◌, ◌<◌, ◌≤◌, ◌≡◌, true, false, List, map, length, take}
 use Rattle.endian.specs.Bytes.{put, span, AllBytes}
 use Rattle.header.specs.Verdicts.{dol_offset, fst_size, fst_max_size, table_end, disc_end}
 use Rattle.tree.specs.Table.{file, none}
@@ -45,7 +45,7 @@ pub record Demand3 (w : ℕ) (first image : List ℕ) (l : Ledger) : Type 0 wher
   -- "After the list, opening reads the ledger's names, kinds, nesting, order and sizes"
   pub tree : map bare (nodes_in image) ≡ l.nodes
   -- no two used regions share a byte: used regions i and j that both have byte n are one
-  pub apart : (i j n : ℕ) → inside (get_or (used_in image) i no_place) n ≡ true → inside (get_or (used_in image) j no_place) n ≡ true → i ≡ j
+  pub apart : (i j n : ℕ) → inside (slice_index_or (used_in image) i no_place) n ≡ true → inside (slice_index_or (used_in image) j no_place) n ≡ true → i ≡ j
   -- table end + the program "where it lies past the table" + all file sizes + free bytes = disc end; "Free bytes are the free regions' sizes together"
   pub sum : table_end image + (program_behind image).size + total_size (map region_of (nodes_in image)) + total_size (free_space_of image) ≡ disc_end image
   -- "a used total or free region reported then is the one defined above"
@@ -56,7 +56,7 @@ pub record Demand3 (w : ℕ) (first image : List ℕ) (l : Ledger) : Type 0 wher
   pub program : SameProgram first image
   pub program-reported : program_answer image w ≡ program_of first
   -- each file is true to its history
-  pub files : (k : ℕ) (nm : List ℕ) (offset size : ℕ) → get_or (nodes_in image) k none ≡ file nm offset size → TrueTo image l k offset size
+  pub files : (k : ℕ) (nm : List ℕ) (offset size : ℕ) → slice_index_or (nodes_in image) k none ≡ file nm offset size → TrueTo image l k offset size
 
 -- THEOREM: an image of bytes that opening accepts with w₀ words, any list of calls, and w words, which are no fewer than w₀ and than any call of
 -- the list was lent
@@ -72,14 +72,14 @@ pub record StillThere (first last : List ℕ) (f : ℕ) (nm : List ℕ) (offset 
   -- its entry number now; it is file f of them
   pub entry : ℕ
   pub number : files_before entry (nodes_in last) ≡ f
-  pub lies : get_or (nodes_in last) entry none ≡ file nm offset size
+  pub lies : slice_index_or (nodes_in last) entry none ≡ file nm offset size
   pub bytes : span last offset size ≡ span first offset size
 
 -- THEOREM
 abbrev pub UnnamedStays : Type 0
 UnnamedStays =
     (image : List ℕ) (w₀ w : ℕ) (calls : List Call) → AllBytes image → opening image w₀ ≡ Ok tt → w₀ ≤ w → AllWithin w calls →
-    (k : ℕ) (nm : List ℕ) (offset size : ℕ) → get_or (nodes_in image) k none ≡ file nm offset size → Spared (reports_of calls image) (first_ledger image) (files_before k (nodes_in image)) →
+    (k : ℕ) (nm : List ℕ) (offset size : ℕ) → slice_index_or (nodes_in image) k none ≡ file nm offset size → Spared (reports_of calls image) (first_ledger image) (files_before k (nodes_in image)) →
     StillThere image (image_after_all calls image) (number_after (reports_of calls image) (first_ledger image) (files_before k (nodes_in image))) nm offset size
 
 -- ---- "Afterwards the file is exactly the clip." (document 02, Point 4)

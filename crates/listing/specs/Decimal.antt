@@ -1,10 +1,10 @@
 -- A number in a line of a listing: in base ten, without leading zeros. Assumes nothing: these are definitions.
-use Rattle.std.specs.Prelude.{ℕ, zero, suc, ◌+◌, ◌/◌, ◌%◌, cond, List, [], ◌∷◌, ◌++◌, ltb}
+use Rattle.std.specs.Prelude.{ℕ, zero, suc, ◌+◌, ◌/◌, ◌%◌, List, [], ◌∷◌, ◌++◌, if◌then◌else◌, nat_lt}
 
 -- the digits of n, where f of them are enough
 unfoldable pub digits : ℕ → ℕ → List ℕ
 digits zero n = []
-digits (suc f) n = cond (ltb n 10) ((0x30 + n) ∷ []) (digits f (n / 10) ++ ((0x30 + n % 10) ∷ []))
+digits (suc f) n = if nat_lt n 10 then (0x30 + n) ∷ [] else digits f (n / 10) ++ ((0x30 + n % 10) ∷ [])
 
 -- no number has more digits than it counts, 0 aside
 abbrev pub decimal : ℕ → List ℕ

@@ -1,7 +1,7 @@
 -- The lines of a listing, each ended by a line feed: disc end and used total; the entries in table order, a directory with its number, the
 -- parent it is nested in (root 0), its next and its path, which ends in `/`, a file with number, offset, size and path; the free regions with
 -- offset and size; all numbers in base ten. Assumes nothing: these are definitions.
-use Rattle.std.specs.Prelude.{ℕ, zero, suc, cond, List, [], ◌∷◌, ◌++◌, eqb, get_or}
+use Rattle.std.specs.Prelude.{ℕ, zero, suc, List, [], ◌∷◌, ◌++◌, if◌then◌else◌, ◌==◌, slice_index_or}
 use Rattle.tree.specs.Table.{Node, file, directory, name_of, none, parent_of}
 use Rattle.space.specs.declared.region.DiscRegion.{DiscRegion}
 use Rattle.listing.specs.Decimal.{field}
@@ -26,7 +26,7 @@ ending (directory nm next) = 0x2F ∷ []
 unfoldable pub path_within : ℕ → List Node → ℕ → List ℕ
 path_within zero nodes k = 0x2F ∷ []
 path_within (suc f) nodes k =
-    cond (eqb k 0) (0x2F ∷ []) (path_within f nodes (parent_of nodes k) ++ (name_of (get_or nodes k none) ++ ending (get_or nodes k none)))
+    if k == 0 then 0x2F ∷ [] else path_within f nodes (parent_of nodes k) ++ (name_of (slice_index_or nodes k none) ++ ending (slice_index_or nodes k none))
 
 -- an entry is nested in entries before it
 abbrev pub path_of : List Node → ℕ → List ℕ
@@ -38,7 +38,7 @@ entry_fields k parent (file nm offset size) = 0x66 ∷ (field k ++ (field offset
 entry_fields k parent (directory nm next) = 0x64 ∷ (field k ++ (field parent ++ field next))
 
 unfoldable pub entry_line : List Node → ℕ → List ℕ
-entry_line nodes k = entry_fields k (parent_of nodes k) (get_or nodes k none) ++ (0x20 ∷ (path_of nodes k ++ line_feed))
+entry_line nodes k = entry_fields k (parent_of nodes k) (slice_index_or nodes k none) ++ (0x20 ∷ (path_of nodes k ++ line_feed))
 
 -- the lines of the entries below k
 unfoldable pub entry_lines : List Node → ℕ → List ℕ

@@ -1,8 +1,8 @@
 -- The listing of an image: its text (the listing program reads up to 65,536 bytes from standard input, refuses more with 9, and prints the
 -- lines), and what the two calls answer. Assumes nothing: these are definitions.
-use Rattle.std.specs.Prelude.{Result, Ok, Err}
+use Rattle.std.specs.Prelude.{Result, Ok, Err, if◌then◌else◌, nat_lt}
 use Rattle.refusal.specs.Refusal.{Verdict}
-use Rattle.std.specs.Prelude.{ℕ, cond, List, [], ◌∷◌, ◌++◌, ltb, length}
+use Rattle.std.specs.Prelude.{ℕ, List, [], ◌∷◌, ◌++◌, length}
 use Rattle.endian.specs.Bytes.{put}
 use Rattle.refusal.specs.declared.Refusal.{Refusal}
 use Rattle.refusal.specs.declared.Refusal.TheVariants.{LimitOrMemory}
@@ -19,7 +19,7 @@ listing_text image = totals_line (disc_end image) (used_of image) ++ (entry_line
 
 -- `list`: opening's refusals; then 9 where the text does not fit the buffer
 unfoldable pub listing_verdict : List ℕ → ℕ → ℕ → Verdict
-listing_verdict image words room = first (opening image words) (refuse (ltb room (length (listing_text image))) LimitOrMemory (Ok tt))
+listing_verdict image words room = first (opening image words) (refuse (nat_lt room (length (listing_text image))) LimitOrMemory (Ok tt))
 
 unfoldable pub list_answer : List ℕ → ℕ → ℕ → Result ℕ Refusal
 list_answer image words room = behind (listing_verdict image words room) Err (Ok (length (listing_text image)))
@@ -36,14 +36,14 @@ refused_text c = (0x72 ∷ 0x65 ∷ 0x66 ∷ 0x75 ∷ 0x73 ∷ 0x65 ∷ 0x64 ∷
 
 -- "reads up to 65,536 bytes from standard input (more: 9)"
 unfoldable pub report_verdict : List ℕ → ℕ → ℕ → Verdict
-report_verdict image words room = first (refuse (ltb 65536 (length image)) LimitOrMemory (Ok tt)) (listing_verdict image words room)
+report_verdict image words room = first (refuse (nat_lt 65536 (length image)) LimitOrMemory (Ok tt)) (listing_verdict image words room)
 
 unfoldable pub report_text : List ℕ → ℕ → ℕ → List ℕ
 report_text image words room = behind (report_verdict image words room) refused_text (listing_text image)
 
 -- the length of the text; a buffer that has not even room for a refusal stays as it is, and the answer is 0
 unfoldable pub report_answer : List ℕ → ℕ → ℕ → ℕ
-report_answer image words room = cond (ltb room (length (report_text image words room))) 0 (length (report_text image words room))
+report_answer image words room = if nat_lt room (length (report_text image words room)) then 0 else length (report_text image words room)
 
 unfoldable pub report_buffer : List ℕ → ℕ → List ℕ → List ℕ
-report_buffer image words text = cond (ltb (length text) (length (report_text image words (length text)))) text (put text 0 (report_text image words (length text)))
+report_buffer image words text = if nat_lt (length text) (length (report_text image words (length text))) then text else put text 0 (report_text image words (length text))

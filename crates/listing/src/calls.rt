@@ -1,5 +1,5 @@
 // The listing of an image as text, and what the listing program writes.
-ghost use Rattle.std.specs.Prelude.{◌≡◌, ℕ, List, cond, ltb, length};
+ghost use Rattle.std.specs.Prelude.{◌≡◌, ℕ, List, length, if◌then◌else◌, nat_lt};
 ghost use Rattle.endian.specs.Bytes.{put};
 ghost use Rattle.opened.specs.Opening.{zeros};
 ghost use Rattle.opened.specs.Answers.{behind};
@@ -83,7 +83,7 @@ fn push_refused(text: &mut TextBuffer<'_>, cause: Refusal)
 
 // The same for a buffer that has room for it; otherwise nothing.
 fn write_refused(text: &mut [u8], cause: Refusal) -> usize
-    ensures answer { result ≡ cond (ltb (length text.old) (length (refused_text cause))) 0 (length (refused_text cause)) }
+    ensures answer { result ≡ (if nat_lt (length text.old) (length (refused_text cause)) then 0 else length (refused_text cause)) }
     ensures text_after { text.new ≡ laid_or text.old (refused_text cause) }
 {
     put_whole(text, |buffer| push_refused(buffer, cause)).unwrap_or(0)

@@ -1,6 +1,6 @@
 // The lines of the entries of an accepted table. The directories around an entry are kept, so that a line costs no more than its path: 65 at
 // most, since no directory is deeper than 64.
-ghost use Rattle.std.specs.Prelude.{◌≡◌, ◌∷◌, ◌++◌, ◌+◌, ◌<◌, ◌≤◌, ◌^◌, get_or, replicate};
+ghost use Rattle.std.specs.Prelude.{◌≡◌, ◌∷◌, ◌++◌, ◌+◌, ◌<◌, ◌≤◌, ◌^◌, replicate, slice_index_or};
 ghost use Rattle.tree.specs.Table as table_of;
 ghost use Rattle.tree.specs.Table.{none, nodes_of, name_of, parent_of};
 ghost use Rattle.listing.specs.Lines.{ending, entry_fields, path_of, entry_line, entry_lines};
@@ -107,7 +107,7 @@ fn put_fields(table: &Table<'_>, k: usize, parent: usize, text: &mut TextBuffer<
     requires within { k < table_of.count table.now }
     requires few { k < 2 ^ 32 }
     requires before { parent ≤ k }
-    ensures { Appends text.old text.new (entry_fields k parent (get_or (nodes_of table.now) k none)) }
+    ensures { Appends text.old text.new (entry_fields k parent (slice_index_or (nodes_of table.now) k none)) }
 {
     let last = table.last(k);
     if table.is_directory(k) {
@@ -123,7 +123,7 @@ fn put_fields(table: &Table<'_>, k: usize, parent: usize, text: &mut TextBuffer<
 // The last part of entry k's path: its name, and `/` if it is a directory.
 fn put_name(table: &Table<'_>, k: usize, text: &mut TextBuffer<'_>)
     requires { k < table_of.count table.now }
-    ensures { let node = get_or (nodes_of table.now) k none in Appends text.old text.new (name_of node ++ ending node) }
+    ensures { let node = slice_index_or (nodes_of table.now) k none in Appends text.old text.new (name_of node ++ ending node) }
 {
     text.push_text(table.name(k));
     if table.is_directory(k) {

@@ -1,7 +1,7 @@
 -- An allocation: each free region from its first multiple of the alignment on, left out if the padding reaches its size or the rest is below the
 -- wish; of the others the largest rest, the last among equals. 22 is tested before 21. Assumes nothing: these are definitions.
 use Rattle.refusal.specs.declared.Refusal.{Refusal}
-use Rattle.std.specs.Prelude.{ℕ, zero, suc, ◌-◌, ◌^◌, Bool, false, cond, ◌&&◌, ◌||◌, List, [], ◌∷◌, leb, ltb, eqb, Result, Ok, Err}
+use Rattle.std.specs.Prelude.{ℕ, zero, suc, ◌-◌, ◌^◌, Bool, false, ◌&&◌, ◌||◌, List, [], ◌∷◌, Result, Ok, Err, if◌then◌else◌, ◌==◌, nat_lt, nat_le}
 use Rattle.refusal.specs.declared.Refusal.TheVariants.{NotEnoughSpace, InvalidAlignment}
 use Rattle.space.specs.declared.region.DiscRegion.{DiscRegion}
 use Rattle.space.specs.Used.{end_of}
@@ -13,11 +13,11 @@ rest align r = record { offset = align_up align r.offset; size = end_of r - alig
 
 -- the padding does not reach its size, and the rest is not below the wish
 abbrev pub fits : ℕ → ℕ → DiscRegion → Bool
-fits align wish r = ltb 0 (rest align r).size && leb wish (rest align r).size
+fits align wish r = nat_lt 0 (rest align r).size && nat_le wish (rest align r).size
 
 -- the better of the best so far and the rest of r; r among equals
 unfoldable pub better_of : ℕ → ℕ → DiscRegion → DiscRegion → DiscRegion
-better_of align wish best r = cond (fits align wish r && leb best.size (rest align r).size) (rest align r) best
+better_of align wish best r = if fits align wish r && nat_le best.size (rest align r).size then rest align r else best
 
 abbrev pub no_region : DiscRegion
 no_region = record { offset = 0; size = 0 }
@@ -30,7 +30,7 @@ largest align wish best (r ∷ rs) = largest align wish (better_of align wish be
 -- x is one of the n powers of two from 2 ^ k on
 unfoldable pub powers : ℕ → ℕ → ℕ → Bool
 powers zero k x = false
-powers (suc n) k x = eqb (2 ^ k) x || powers n (suc k) x
+powers (suc n) k x = 2 ^ k == x || powers n (suc k) x
 
 -- an alignment has 32 bits
 abbrev pub is_power_of_two : ℕ → Bool
@@ -38,8 +38,8 @@ is_power_of_two x = powers 32 0 x
 
 -- a rest has a byte, so size 0 means that there is none
 abbrev pub found_or_refused : DiscRegion → Result DiscRegion Refusal
-found_or_refused b = cond (eqb b.size 0) (Err NotEnoughSpace) (Ok b)
+found_or_refused b = if b.size == 0 then Err NotEnoughSpace else Ok b
 
 -- the answer of `allocate`, among the free regions rs
 unfoldable pub allocation_of : ℕ → ℕ → List DiscRegion → Result DiscRegion Refusal
-allocation_of align wish rs = cond (is_power_of_two align) (found_or_refused (largest align wish no_region rs)) (Err InvalidAlignment)
+allocation_of align wish rs = if is_power_of_two align then found_or_refused (largest align wish no_region rs) else Err InvalidAlignment

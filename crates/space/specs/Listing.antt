@@ -1,7 +1,7 @@
 -- Free regions in a result list, some words for each: "result list short 9", "Result words past an answer stay". Nothing is written to a short list.
 -- Assumes nothing: these are definitions.
 use Rattle.refusal.specs.declared.Refusal.{Refusal}
-use Rattle.std.specs.Prelude.{ℕ, cond, List, [], ◌∷◌, ◌++◌, length, ltb, Result, Ok, Err}
+use Rattle.std.specs.Prelude.{ℕ, List, [], ◌∷◌, ◌++◌, length, Result, Ok, Err, if◌then◌else◌, nat_lt}
 use Rattle.refusal.specs.declared.Refusal.TheVariants.{LimitOrMemory}
 use Rattle.endian.specs.Bytes.{put}
 use Rattle.space.specs.declared.region.DiscRegion.{DiscRegion}
@@ -22,8 +22,8 @@ rows_of row (r ∷ rs) = row r ++ rows_of row rs
 
 -- how many regions are listed, in a list of n words
 abbrev pub listing_of : (DiscRegion → List ℕ) → List DiscRegion → ℕ → Result ℕ Refusal
-listing_of row rs n = cond (ltb n (length (rows_of row rs))) (Err LimitOrMemory) (Ok (length rs))
+listing_of row rs n = if nat_lt n (length (rows_of row rs)) then Err LimitOrMemory else Ok (length rs)
 
 -- the result list afterwards
 abbrev pub list_after : (DiscRegion → List ℕ) → List DiscRegion → List ℕ → List ℕ
-list_after row rs list = cond (ltb (length list) (length (rows_of row rs))) list (put list 0 (rows_of row rs))
+list_after row rs list = if nat_lt (length list) (length (rows_of row rs)) then list else put list 0 (rows_of row rs)

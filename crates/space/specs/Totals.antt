@@ -1,21 +1,21 @@
 -- The totals record: used bytes, the largest free region and the count of edits, which go into an edit and come back. Whatever the record holds
 -- joins here. Assumes nothing: these are definitions.
 use Rattle.refusal.specs.Refusal.{Verdict, refuse}
-use Rattle.std.specs.Prelude.{ℕ, ◌+◌, ◌-◌, ◌^◌, List, ltb, get_or, Ok}
+use Rattle.std.specs.Prelude.{ℕ, ◌+◌, ◌-◌, ◌^◌, List, Ok, nat_lt, slice_index}
 use Rattle.refusal.specs.declared.Refusal.TheVariants.{TotalsOutOfRange}
 use Rattle.space.specs.declared.totals.Totals.{Totals}
 
 -- a totals record in its slots: used bytes, the largest free region's size, accepted edits
 abbrev pub totals_in : List ℕ → Totals
-totals_in slots = record { used = get_or slots 0 0; largest = get_or slots 1 0; edits = get_or slots 2 0 }
+totals_in slots = record { used = slice_index slots 0; largest = slice_index slots 1; edits = slice_index slots 2 }
 
 -- "25, used bytes or edit count would leave 0 to 2^32 - 1": on the record's own numbers, for an edit after which `after` bytes are used where
 -- `before` were
 unfoldable pub totals_verdict : Totals → ℕ → ℕ → Verdict
 totals_verdict t before after =
-    refuse (ltb (t.used + after) before) TotalsOutOfRange
-    (refuse (ltb (2 ^ 32 - 1) (t.used + after - before)) TotalsOutOfRange
-    (refuse (ltb (2 ^ 32 - 1) (t.edits + 1)) TotalsOutOfRange
+    refuse (nat_lt (t.used + after) before) TotalsOutOfRange
+    (refuse (nat_lt (2 ^ 32 - 1) (t.used + after - before)) TotalsOutOfRange
+    (refuse (nat_lt (2 ^ 32 - 1) (t.edits + 1)) TotalsOutOfRange
     (Ok tt)))
 
 -- "Used bytes move by the edit's change, the count by one; the largest region is the new image's."

@@ -1,7 +1,7 @@
 -- All entries of an accepted table at once, six words an entry. Assumes nothing: these are definitions.
-use Rattle.std.specs.Prelude.{Ok}
+use Rattle.std.specs.Prelude.{Ok, if◌then◌else◌, nat_lt, slice_index_or}
 use Rattle.refusal.specs.Refusal.{Verdict}
-use Rattle.std.specs.Prelude.{ℕ, zero, suc, ◌+◌, ◌*◌, cond, List, [], ◌∷◌, ◌++◌, length, get_or, ltb}
+use Rattle.std.specs.Prelude.{ℕ, zero, suc, ◌+◌, ◌*◌, List, [], ◌∷◌, ◌++◌, length}
 use Rattle.endian.specs.Bytes.{put}
 use Rattle.refusal.specs.declared.Refusal.TheVariants.{LimitOrMemory}
 use Rattle.refusal.specs.Refusal.{refuse}
@@ -19,7 +19,7 @@ image_place base tab (suc k) = base + name_place tab (suc k)
 
 -- the row of entry k of a table that stands at `base`
 unfoldable pub row_of : ℕ → List ℕ → ℕ → List ℕ
-row_of base tab k = row_with (parent_of (nodes_of tab) k) (image_place base tab k) (get_or (nodes_of tab) k none)
+row_of base tab k = row_with (parent_of (nodes_of tab) k) (image_place base tab k) (slice_index_or (nodes_of tab) k none)
 
 -- the rows of the entries below k
 unfoldable pub rows_below : ℕ → List ℕ → ℕ → List ℕ
@@ -28,7 +28,7 @@ rows_below base tab (suc k) = rows_below base tab k ++ row_of base tab k
 
 -- "result list short 9": nothing is written then; words past the answer stay
 unfoldable pub list_verdict : List ℕ → ℕ → Verdict
-list_verdict tab room = refuse (ltb room (6 * count tab)) LimitOrMemory (Ok tt)
+list_verdict tab room = refuse (nat_lt room (6 * count tab)) LimitOrMemory (Ok tt)
 
 unfoldable pub listed : ℕ → List ℕ → List ℕ → List ℕ
-listed base tab list = cond (ltb (length list) (6 * count tab)) list (put list 0 (rows_below base tab (count tab)))
+listed base tab list = if nat_lt (length list) (6 * count tab) then list else put list 0 (rows_below base tab (count tab))

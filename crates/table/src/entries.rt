@@ -1,5 +1,5 @@
 // An accepted file table as a type. Contracts see its bytes.
-ghost use Rattle.std.specs.Prelude.{◌≡◌, ◌+◌, ◌≤◌, ◌<◌, ◌^◌, length, get_or};
+ghost use Rattle.std.specs.Prelude.{◌≡◌, ◌+◌, ◌≤◌, ◌<◌, ◌^◌, length, ◌==◌, slice_index_or};
 ghost use Rattle.tree.specs.Table as table_of;
 ghost use Rattle.tree.specs.Table.{none, nodes_of, name_of, parent_of, name_place, size_or_next};
 ghost use Rattle.tree.specs.Lookup.{is_directory, next_of, entry_of, entry_found};
@@ -61,7 +61,7 @@ impl<'a> Table<'a> {
     /// Whether entry `k` is a directory. An accepted table has the kinds 0 and 1 only.
     pub fn is_directory(&self, k: usize) -> bool
         requires { k < table_of.count self.now }
-        ensures { result ≡ is_directory (get_or (nodes_of self.now) k none) }
+        ensures { result ≡ is_directory (slice_index_or (nodes_of self.now) k none) }
     {
         let table = self.bytes;
         table[12 * k] != 0
@@ -70,7 +70,7 @@ impl<'a> Table<'a> {
     /// A file's offset; 0 for a directory.
     pub fn offset(&self, k: usize) -> u32
         requires { k < table_of.count self.now }
-        ensures { result ≡ offset_of (get_or (nodes_of self.now) k none) }
+        ensures { result ≡ offset_of (slice_index_or (nodes_of self.now) k none) }
     {
         let table = self.bytes;
         if table[12 * k] != 0 {
@@ -83,7 +83,7 @@ impl<'a> Table<'a> {
     pub fn last(&self, k: usize) -> u32
         requires { k < table_of.count self.now }
         ensures stored { result ≡ size_or_next self.now k }
-        ensures last { result ≡ last_of (get_or (nodes_of self.now) k none) }
+        ensures last { result ≡ last_of (slice_index_or (nodes_of self.now) k none) }
         ensures held { Held self.now }
     {
         endian::read_u32(self.bytes, 12 * k + 8)
@@ -92,7 +92,7 @@ impl<'a> Table<'a> {
     /// A directory's next, the number of the entry after its last one; 0 for a file.
     pub fn next(&self, k: usize) -> usize
         requires { k < table_of.count self.now }
-        ensures { result ≡ next_of (get_or (nodes_of self.now) k none) }
+        ensures { result ≡ next_of (slice_index_or (nodes_of self.now) k none) }
     {
         let table = self.bytes;
         if table[12 * k] == 0 {
@@ -117,7 +117,7 @@ impl<'a> Table<'a> {
     /// The name of entry `k`; the root has none.
     pub fn name(&self, k: usize) -> &'a [u8]
         requires { k < table_of.count self.now }
-        ensures { result.now ≡ name_of (get_or (nodes_of self.now) k none) }
+        ensures { result.now ≡ name_of (slice_index_or (nodes_of self.now) k none) }
     {
         let table = self.bytes;
         if k == 0 {

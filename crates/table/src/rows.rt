@@ -1,5 +1,5 @@
 // All entries of an accepted table at once.
-ghost use Rattle.std.specs.Prelude.{◌≡◌, true, [], ◌∷◌, ◌+◌, ◌-◌, ◌*◌, ◌≤◌, ◌<◌, ◌^◌, eqb, length, take, get_or};
+ghost use Rattle.std.specs.Prelude.{◌≡◌, true, [], ◌∷◌, ◌+◌, ◌-◌, ◌*◌, ◌≤◌, ◌<◌, ◌^◌, length, take, ◌==◌, slice_index_or};
 ghost use Rattle.std.specs.List.{position};
 ghost use Rattle.endian.specs.Bytes.{put};
 ghost use Rattle.tree.specs.Table as table_of;
@@ -15,7 +15,7 @@ use refusal::{Refusal, Verdict};
 
 // Where the first zero byte is, if it is one of so many bytes.
 fn zero_within(text: &[u8], most: usize) -> Option<usize>
-    ensures { result ≡ position (λ byte. eqb byte 0) (take most text.now) }
+    ensures { result ≡ position (λ byte. (byte == 0)) (take most text.now) }
 {
     text.iter().take(most).position(|&byte| byte == 0)
 }
@@ -111,7 +111,7 @@ impl<'a> Ends<'a> {
     // The length of the name of entry k; the root has none.
     fn name_length(&mut self, k: usize) -> usize
         requires { k < table_of.count self.old.table.now }
-        ensures value { result ≡ length (name_of (get_or (nodes_of self.old.table.now) k none)) }
+        ensures value { result ≡ length (name_of (slice_index_or (nodes_of self.old.table.now) k none)) }
         ensures short { result ≤ 2 ^ 20 }
         ensures table { self.new.table ≡ self.old.table }
     {
@@ -195,7 +195,7 @@ impl Rows<'_> {
     fn read(&self, k: usize, parent: u32, size: u32) -> Row
         requires within { k < table_of.count self.now.table.now }
         requires parent { parent ≡ parent_of (nodes_of self.now.table.now) k }
-        requires size { size ≡ length (name_of (get_or (nodes_of self.now.table.now) k none)) }
+        requires size { size ≡ length (name_of (slice_index_or (nodes_of self.now.table.now) k none)) }
         ensures { row_of self.now.base self.now.table.now k ≡ result.kind ∷ result.parent ∷ result.offset ∷ result.last ∷ result.place ∷ result.size ∷ [] }
     {
         Row {
@@ -214,7 +214,7 @@ impl Rows<'_> {
         requires few { k < 2 ^ 32 }
         requires room { 6 * table_of.count self.now.table.now ≤ length list.old }
         requires parents_in { ParentsIn self.now.table.now k list.old }
-        requires size { size ≡ length (name_of (get_or (nodes_of self.now.table.now) k none)) }
+        requires size { size ≡ length (name_of (slice_index_or (nodes_of self.now.table.now) k none)) }
         ensures { list.new ≡ put list.old (6 * k) (row_of self.now.base self.now.table.now k) }
     {
         let parent = self.parent_in(list, k) as u32;

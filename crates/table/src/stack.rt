@@ -1,5 +1,5 @@
 // Numbers kept for later, the last one on top. Directories are at most 64 deep, so there is room for one more than that.
-ghost use Rattle.std.specs.Prelude.{◌≡◌, [], ◌∷◌, ◌<◌, length, drop, eqb, slice_get};
+ghost use Rattle.std.specs.Prelude.{◌≡◌, [], ◌∷◌, ◌<◌, length, drop, slice_get, ◌==◌};
 ghost use Rattle.tree.specs.Table as table_of;
 
 use std::marker::Model;
@@ -43,7 +43,7 @@ impl Stack {
 
     // Whether there is none.
     pub(crate) fn is_empty(&self) -> bool
-        ensures { result ≡ eqb (length self.now) 0 }
+        ensures { result ≡ (length self.now == 0) }
     {
         self.depth == 0
     }

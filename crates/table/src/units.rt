@@ -1,6 +1,6 @@
 // The units of a text: a lead byte with its trail byte is one, and so is any other byte.
 // A name is judged, and a path is cut, by units.
-ghost use Rattle.std.specs.Prelude.{◌≡◌, get_or};
+ghost use Rattle.std.specs.Prelude.{◌≡◌, ◌==◌, slice_index};
 ghost use Rattle.std.specs.Iterator.{YieldsFirstBy, item_count};
 ghost use Rattle.tree.specs.Units.{lead_byte, trail_byte, units};
 ghost use Rattle.tree.specs.Table.{plain_byte, safe_byte, plain_unit, safe_unit};
@@ -12,7 +12,7 @@ use std::marker::Model;
 
 /// The byte at `at`; a text ends at the slice's end as it does at a zero byte.
 pub fn byte_at(text: &[u8], at: usize) -> u8
-    ensures { result ≡ get_or text.now at 0 }
+    ensures { result ≡ slice_index text.now at }
 {
     if at < text.len() { text[at] } else { 0 }
 }

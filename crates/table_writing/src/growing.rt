@@ -1,5 +1,5 @@
 // A written table that grows in lent bytes by one entry at a time.
-ghost use Rattle.std.specs.Prelude.{◌≡◌, ◌<◌, get_or, length, IfOk, OnOk, OnErr};
+ghost use Rattle.std.specs.Prelude.{◌≡◌, ◌<◌, length, IfOk, OnOk, OnErr, ◌==◌, slice_index_or};
 ghost use Rattle.std.proofs.Props.{props};
 ghost use Rattle.table_writing.specs.Inner.Kind.{kind_is_directory};
 ghost use Rattle.tree.specs.Table.{none, parent_of, limits};
@@ -115,7 +115,7 @@ impl<'a> Growing<'a> {
     pub fn grow(&mut self, p: usize, kind: Kind, name: &[u8]) -> Result<usize, Refusal>
         requires directory { IsDirectory (tree_of self.old) p }
         requires name { GoodName name.now }
-        ensures number { IfOk result (λ number. number ≡ next_of (get_or (tree_of self.old) p none)) }
+        ensures number { IfOk result (λ number. number ≡ next_of (slice_index_or (tree_of self.old) p none)) }
         ensures tree { OnOk result (tree_of self.new ≡ added_to self.old kind p name.now) }
         ensures built { HasBuilt self.old self.new (added_to self.old kind p name.now) result }
         ensures err_bytes { OnErr result (self.new.bytes.now ≡ self.old.bytes.now) }

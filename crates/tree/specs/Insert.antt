@@ -1,5 +1,5 @@
 -- A tree with one entry more, and with a file's place changed (document 01, "Edits"). Assumes nothing: these are definitions.
-use Rattle.std.specs.Prelude.{ℕ, zero, suc, cond, List, [], ◌∷◌, map, get_or, set, leb, ltb}
+use Rattle.std.specs.Prelude.{ℕ, zero, suc, List, [], ◌∷◌, map, set, if◌then◌else◌, nat_lt, nat_le, slice_index_or}
 use Rattle.tree.specs.Table.{Node, file, directory, none}
 use Rattle.tree.specs.Lookup.{next_of}
 
@@ -14,12 +14,12 @@ empty_directory nm k = directory nm (suc k)
 
 -- one more for a next that is past p
 unfoldable pub bump : ℕ → ℕ → ℕ
-bump p n = cond (ltb p n) (suc n) n
+bump p n = if nat_lt p n then suc n else n
 
 -- entry k, which stays before the new one: directory p and those around it end one later
 abbrev pub earlier : ℕ → ℕ → Node → Node
 earlier p k (file nm offset size) = file nm offset size
-earlier p k (directory nm next) = directory nm (cond (leb k p) (bump p next) next)
+earlier p k (directory nm next) = directory nm (if nat_le k p then bump p next else next)
 
 -- an entry that comes after the new one
 abbrev pub later : Node → Node
@@ -34,11 +34,11 @@ splice p new k (suc j) (x ∷ xs) = earlier p k x ∷ splice p new (suc k) j xs
 
 -- `new` as the last child of directory p: its number is p's next
 unfoldable pub insert_at : ℕ → Node → List Node → List Node
-insert_at p new nodes = splice p new 0 (next_of (get_or nodes p none)) nodes
+insert_at p new nodes = splice p new 0 (next_of (slice_index_or nodes p none)) nodes
 
 -- the number that entry k has after an insert at q
 unfoldable pub shifted : ℕ → ℕ → ℕ
-shifted q k = cond (leb q k) (suc k) k
+shifted q k = if nat_le q k then suc k else k
 
 -- ---- move and resize: a file's offset and size
 
@@ -48,4 +48,4 @@ placed offset size (directory nm next) = directory nm next
 
 -- entry k has this offset and size
 unfoldable pub set_place : ℕ → ℕ → ℕ → List Node → List Node
-set_place k offset size nodes = set nodes k (placed offset size (get_or nodes k none))
+set_place k offset size nodes = set nodes k (placed offset size (slice_index_or nodes k none))

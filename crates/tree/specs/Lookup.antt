@@ -1,7 +1,7 @@
 -- Entries by number and by path (document 01, "Lookup (`at_descendant`)"). Assumes nothing: these are definitions.
-use Rattle.std.specs.Prelude.{Result, Ok, Err}
+use Rattle.std.specs.Prelude.{Result, Ok, Err, if◌then◌else◌, ◌==◌, nat_lt, slice_index_or}
 use Rattle.refusal.specs.declared.Refusal.{Refusal}
-use Rattle.std.specs.Prelude.{ℕ, zero, suc, ◌-◌, Bool, true, false, cond, ◌&&◌, ◌||◌, List, [], ◌∷◌, ◌++◌, length, get_or, ltb, eqb}
+use Rattle.std.specs.Prelude.{ℕ, zero, suc, ◌-◌, Bool, true, false, ◌&&◌, ◌||◌, List, [], ◌∷◌, ◌++◌, length}
 use Rattle.endian.specs.Bytes.{same_bytes}
 use Rattle.refusal.specs.declared.Refusal.TheVariants.{NoSuchEntry, ExpectedDirectory, NotFound}
 use Rattle.tree.specs.declared.Entry.{Entry}
@@ -19,7 +19,7 @@ entry_with parent (directory nm next) = Directory (record { parent = parent; nex
 
 -- the parent in an answer is the directory that the entry is nested in, never the stored one
 abbrev pub entry_of : List Node → ℕ → Entry
-entry_of nodes k = entry_with (parent_of nodes k) (get_or nodes k none)
+entry_of nodes k = entry_with (parent_of nodes k) (slice_index_or nodes k none)
 
 abbrev pub is_directory : Node → Bool
 is_directory (file nm offset size) = false
@@ -32,7 +32,7 @@ next_of (directory nm next) = next
 -- ---- "the path is cut at `/` and `\`", and document 02: "A trail byte 0x5C is not a backslash, .. when a path is cut."
 
 abbrev pub separator : ℕ → Bool
-separator b = eqb b 0x2F || eqb b 0x5C
+separator b = b == 0x2F || b == 0x5C
 
 abbrev pub separates : TextUnit → Bool
 separates (single b) = separator b
@@ -45,7 +45,7 @@ longer u (c ∷ cs) = (unit_bytes u ++ c) ∷ cs
 -- an empty path has one empty component
 unfoldable pub components_of : List TextUnit → List (List ℕ)
 components_of [] = [] ∷ []
-components_of (u ∷ us) = cond (separates u) ([] ∷ components_of us) (longer u (components_of us))
+components_of (u ∷ us) = if separates u then [] ∷ components_of us else longer u (components_of us)
 
 unfoldable pub components : List ℕ → List (List ℕ)
 components path = components_of (units path)
@@ -53,29 +53,29 @@ components path = components_of (units path)
 -- ---- "Otherwise the first child with equal bytes, else 18."
 
 abbrev pub child_named : List Node → ℕ → List ℕ → ℕ → Bool
-child_named nodes d nm k = eqb (parent_of nodes k) d && same_bytes (name_of (get_or nodes k none)) nm
+child_named nodes d nm k = parent_of nodes k == d && same_bytes (name_of (slice_index_or nodes k none)) nm
 
 -- among the n entries from k on
 unfoldable pub first_child : List Node → ℕ → List ℕ → ℕ → ℕ → Result ℕ Refusal
 first_child nodes d nm k zero = Err NotFound
-first_child nodes d nm k (suc n) = cond (child_named nodes d nm k) (Ok k) (first_child nodes d nm (suc k) n)
+first_child nodes d nm k (suc n) = if child_named nodes d nm k then Ok k else first_child nodes d nm (suc k) n
 
 -- the first child of directory d with that name: among the entries after d and before its next
 unfoldable pub child_of : List Node → ℕ → List ℕ → Result ℕ Refusal
-child_of nodes d nm = first_child nodes d nm (suc d) (next_of (get_or nodes d none) - suc d)
+child_of nodes d nm = first_child nodes d nm (suc d) (next_of (slice_index_or nodes d none) - suc d)
 
 -- ---- "before each component the current entry must be a directory (17). Empty and `.` stay. `..` goes back over the last named step,
 -- 18 if there is none."
 
 abbrev pub stays : List ℕ → Bool
 stays [] = true
-stays (a ∷ []) = eqb a 0x2E
+stays (a ∷ []) = a == 0x2E
 stays (a ∷ b ∷ c) = false
 
 abbrev pub goes_back : List ℕ → Bool
 goes_back [] = false
 goes_back (a ∷ []) = false
-goes_back (a ∷ b ∷ []) = eqb a 0x2E && eqb b 0x2E
+goes_back (a ∷ b ∷ []) = a == 0x2E && b == 0x2E
 goes_back (a ∷ b ∷ c ∷ d) = false
 
 abbrev pub and_then : Result ℕ Refusal → (ℕ → Result ℕ Refusal) → Result ℕ Refusal
@@ -91,15 +91,15 @@ step_back (k ∷ trail) f = f k trail
 unfoldable pub follow : List Node → List ℕ → ℕ → List (List ℕ) → Result ℕ Refusal
 follow nodes trail k [] = Ok k
 follow nodes trail k (c ∷ cs) =
-    cond (is_directory (get_or nodes k none))
-    (cond (stays c) (follow nodes trail k cs)
-    (cond (goes_back c) (step_back trail (λ j rest. follow nodes rest j cs))
-    (and_then (child_of nodes k c) (λ j. follow nodes (k ∷ trail) j cs))))
-    (Err ExpectedDirectory)
+    if is_directory (slice_index_or nodes k none)
+    then (if stays c then follow nodes trail k cs
+    else if goes_back c then step_back trail (λ j rest. follow nodes rest j cs)
+    else and_then (child_of nodes k c) (λ j. follow nodes (k ∷ trail) j cs))
+    else Err ExpectedDirectory
 
 -- 15, then along the path 17 and 18
 unfoldable pub lookup : List Node → ℕ → List ℕ → Result ℕ Refusal
-lookup nodes start path = cond (ltb start (length nodes)) (follow nodes [] start (components path)) (Err NoSuchEntry)
+lookup nodes start path = if nat_lt start (length nodes) then follow nodes [] start (components path) else Err NoSuchEntry
 
 -- ---- the answers with the entry
 
@@ -108,4 +108,4 @@ found_at nodes (Ok k) = found.At k (entry_of nodes k)
 found_at nodes (Err c) = found.Refused c
 
 abbrev pub entry_found : List Node → ℕ → Found
-entry_found nodes k = found_at nodes (cond (ltb k (length nodes)) (Ok k) (Err NoSuchEntry))
+entry_found nodes k = found_at nodes (if nat_lt k (length nodes) then Ok k else Err NoSuchEntry)

@@ -1,9 +1,9 @@
 -- The file table (document 01, "The tree"): what its bytes say, when it is accepted, and how it is written.
 -- The table is in preorder and a directory's "next" says where its entries end, so the tree is the list of its entries.
 -- Assumes nothing: these are definitions.
-use Rattle.std.specs.Prelude.{Ok}
+use Rattle.std.specs.Prelude.{Ok, if◌then◌else◌, ◌==◌, nat_lt, nat_le, slice_index, slice_index_or}
 use Rattle.refusal.specs.Refusal.{Verdict}
-use Rattle.std.specs.Prelude.{ℕ, zero, suc, ◌+◌, ◌-◌, ◌*◌, max, Bool, true, false, cond, not, ◌&&◌, ◌||◌, length, get_or, drop, leb, ltb, eqb}
+use Rattle.std.specs.Prelude.{ℕ, zero, suc, ◌+◌, ◌-◌, ◌*◌, max, Bool, true, false, not, ◌&&◌, ◌||◌, length, drop}
 use mathlib.Core.List.{List, [], ◌∷◌, ◌++◌, tail}
 use Rattle.endian.specs.Bytes.{be24, be32, be24_bytes, be32_bytes}
 use Rattle.refusal.specs.declared.Refusal.TheVariants.{EntryPastTable, UnrecognizedKind, RootIsNotDirectory, MissingNullTerminator, LimitOrMemory, InvalidNextIndex, InvalidNameOffset, InvalidNameByte, UnsafeName}
@@ -34,7 +34,7 @@ abbrev pub plain_byte : ℕ → Bool
 plain_byte b = within 0x20 0x7E b || within 0xA1 0xDF b
 
 abbrev pub safe_byte : ℕ → Bool
-safe_byte b = not (eqb b 0x2F) && not (eqb b 0x5C) && not (eqb b 0x3A)
+safe_byte b = not (b == 0x2F) && not (b == 0x5C) && not (b == 0x3A)
 
 abbrev pub plain_unit : TextUnit → Bool
 plain_unit (single b) = plain_byte b
@@ -51,8 +51,8 @@ plain nm = every plain_unit (units nm)
 -- `.` or `..`
 abbrev pub dots : List ℕ → Bool
 dots [] = false
-dots (a ∷ []) = eqb a 0x2E
-dots (a ∷ b ∷ []) = eqb a 0x2E && eqb b 0x2E
+dots (a ∷ []) = a == 0x2E
+dots (a ∷ b ∷ []) = a == 0x2E && b == 0x2E
 dots (a ∷ b ∷ c ∷ xs) = false
 
 -- not empty, not `.` or `..`, without `/`, `\` and `:` as units
@@ -63,7 +63,7 @@ safe (x ∷ xs) = not (dots (x ∷ xs)) && every safe_unit (units (x ∷ xs))
 -- ---- "An entry has 12 bytes: kind (1; 0 file, 1 directory), name offset (3), offset or parent (4), size or next (4)."
 
 abbrev pub kind : List ℕ → ℕ → ℕ
-kind tab k = get_or tab (12 * k) 0
+kind tab k = slice_index tab (12 * k)
 
 abbrev pub name_offset : List ℕ → ℕ → ℕ
 name_offset tab k = be24 tab (12 * k + 1)
@@ -115,7 +115,7 @@ nodes_of tab = directory [] (count tab) ∷ nodes_from tab (count tab) 1 (count 
 -- for the root), 10, directory deeper than 64 (root 0; 9)."
 
 unfoldable pub entry_verdict : List ℕ → ℕ → Verdict
-entry_verdict tab k = refuse (ltb (length tab) (12 * k + 12)) EntryPastTable (refuse (ltb 1 (kind tab k)) UnrecognizedKind (Ok tt))
+entry_verdict tab k = refuse (nat_lt (length tab) (12 * k + 12)) EntryPastTable (refuse (nat_lt 1 (kind tab k)) UnrecognizedKind (Ok tt))
 
 -- n entries from k on, each in turn
 unfoldable pub entries_verdict : List ℕ → ℕ → ℕ → Verdict
@@ -124,7 +124,7 @@ entries_verdict tab k (suc n) = first (entry_verdict tab k) (entries_verdict tab
 
 -- the last text, if there are texts after c entries, has no zero byte at its end
 unfoldable pub unended : List ℕ → ℕ → Bool
-unended tab c = ltb (12 * c) (length tab) && not (eqb (get_or tab (length tab - 1) 0) 0)
+unended tab c = nat_lt (12 * c) (length tab) && not ((slice_index tab (length tab - 1)) == 0)
 
 -- the walk keeps the "next" of each directory that is open, the innermost first; this is the innermost one's
 abbrev pub top : List ℕ → ℕ
@@ -134,7 +134,7 @@ top (n ∷ dirs) = n
 -- the directories still open at entry k
 unfoldable pub shut : ℕ → List ℕ → List ℕ
 shut k [] = []
-shut k (n ∷ dirs) = cond (leb n k) (shut k dirs) (n ∷ dirs)
+shut k (n ∷ dirs) = if nat_le n k then shut k dirs else n ∷ dirs
 
 abbrev pub enter : List ℕ → Node → List ℕ
 enter dirs (file nm offset size) = dirs
@@ -142,7 +142,7 @@ enter dirs (directory nm next) = next ∷ dirs
 
 unfoldable pub name_verdict : List ℕ → ℕ → ℕ → List ℕ → Verdict
 name_verdict tab c k nm =
-    refuse (leb (length tab - 12 * c) (name_offset tab k)) InvalidNameOffset
+    refuse (nat_le (length tab - 12 * c) (name_offset tab k)) InvalidNameOffset
     (refuse (not (plain nm)) InvalidNameByte
     (refuse (not (safe nm)) UnsafeName (Ok tt)))
 
@@ -150,10 +150,10 @@ name_verdict tab c k nm =
 unfoldable pub next_verdict : ℕ → List ℕ → ℕ → Node → Verdict
 next_verdict c dirs k (file nm offset size) = Ok tt
 next_verdict c dirs k (directory nm next) =
-    refuse (leb next k) InvalidNextIndex
-    (refuse (ltb c next) InvalidNextIndex
-    (refuse (ltb (top dirs) next) InvalidNextIndex
-    (refuse (ltb 64 (length dirs)) LimitOrMemory (Ok tt))))
+    refuse (nat_le next k) InvalidNextIndex
+    (refuse (nat_lt c next) InvalidNextIndex
+    (refuse (nat_lt (top dirs) next) InvalidNextIndex
+    (refuse (nat_lt 64 (length dirs)) LimitOrMemory (Ok tt))))
 
 -- the walk over entries k and on, which read as xs
 unfoldable pub walk : List ℕ → ℕ → List ℕ → ℕ → List Node → Verdict
@@ -166,27 +166,27 @@ walk tab c dirs k (x ∷ xs) =
 -- a table, with so many working words lent
 unfoldable pub check : List ℕ → ℕ → Verdict
 check tab words =
-    refuse (ltb (length tab) 12) EntryPastTable
-    (refuse (ltb 1 (kind tab 0)) UnrecognizedKind
-    (refuse (eqb (kind tab 0) 0) RootIsNotDirectory
-    (refuse (ltb 16384 (count tab)) LimitOrMemory
+    refuse (nat_lt (length tab) 12) EntryPastTable
+    (refuse (nat_lt 1 (kind tab 0)) UnrecognizedKind
+    (refuse (kind tab 0 == 0) RootIsNotDirectory
+    (refuse (nat_lt 16384 (count tab)) LimitOrMemory
     (first (entries_verdict tab 1 (count tab - 1))
     (refuse (unended tab (count tab)) MissingNullTerminator
-    (refuse (ltb 1048576 (length tab - 12 * count tab)) LimitOrMemory
-    (refuse (ltb words (4 * (count tab + 2))) LimitOrMemory
-    (refuse (leb (size_or_next tab 0) 0) InvalidNextIndex
+    (refuse (nat_lt 1048576 (length tab - 12 * count tab)) LimitOrMemory
+    (refuse (nat_lt words (4 * (count tab + 2))) LimitOrMemory
+    (refuse (nat_le (size_or_next tab 0) 0) InvalidNextIndex
     (walk tab (count tab) (count tab ∷ []) 1 (nodes_from tab (count tab) 1 (count tab - 1)))))))))))
 
 -- ---- nesting
 
 abbrev pub encloses : Node → ℕ → Bool
 encloses (file nm offset size) k = false
-encloses (directory nm next) k = ltb k next
+encloses (directory nm next) k = nat_lt k next
 
 -- the last directory below i whose entries k is among, 0 where there is none
 unfoldable pub parent_below : List Node → ℕ → ℕ → ℕ
 parent_below nodes k zero = 0
-parent_below nodes k (suc i) = cond (encloses (get_or nodes i none) k) i (parent_below nodes k i)
+parent_below nodes k (suc i) = if encloses (slice_index_or nodes i none) k then i else parent_below nodes k i
 
 -- the directory that entry k is nested in; 0 for the root
 unfoldable pub parent_of : List Node → ℕ → ℕ
@@ -218,7 +218,7 @@ encode (root ∷ xs) = node_bytes 0 0 root ++ (entries_bytes (root ∷ xs) 1 0 x
 -- an entry below those directories is no directory deeper than 64
 abbrev pub shallow_entry : List ℕ → Node → Bool
 shallow_entry dirs (file nm offset size) = true
-shallow_entry dirs (directory nm next) = leb (length dirs) 64
+shallow_entry dirs (directory nm next) = nat_le (length dirs) 64
 
 -- no directory among entries k and on is deeper than 64
 unfoldable pub shallow_from : List ℕ → ℕ → List Node → Bool
@@ -231,7 +231,7 @@ shallow nodes = shallow_from (length nodes ∷ []) 1 (tail nodes)
 -- "the new tree's limits as at opening (entries, texts, working words, depth)"; the texts are the written ones
 unfoldable pub limits : List Node → ℕ → Verdict
 limits nodes words =
-    refuse (ltb 16384 (length nodes)) LimitOrMemory
-    (refuse (ltb 1048576 (length (texts_of (tail nodes)))) LimitOrMemory
-    (refuse (ltb words (4 * (length nodes + 2))) LimitOrMemory
+    refuse (nat_lt 16384 (length nodes)) LimitOrMemory
+    (refuse (nat_lt 1048576 (length (texts_of (tail nodes)))) LimitOrMemory
+    (refuse (nat_lt words (4 * (length nodes + 2))) LimitOrMemory
     (refuse (not (shallow nodes)) LimitOrMemory (Ok tt))))

@@ -1,8 +1,8 @@
 -- The units of a text (document 02, Point 5): names are judged, and paths are cut, by them. Assumes nothing: these are definitions.
-use Rattle.std.specs.Prelude.{ℕ, Bool, cond, ◌&&◌, ◌||◌, List, [], ◌∷◌, leb}
+use Rattle.std.specs.Prelude.{ℕ, Bool, ◌&&◌, ◌||◌, List, [], ◌∷◌, if◌then◌else◌, nat_le}
 
 abbrev pub within : ℕ → ℕ → ℕ → Bool
-within low high b = leb low b && leb b high
+within low high b = nat_le low b && nat_le b high
 
 -- "pairs of a lead byte (0x81 to 0x9F, 0xE0 to 0xFC)"
 abbrev pub lead_byte : ℕ → Bool
@@ -26,4 +26,4 @@ unit_bytes (pair a b) = a ∷ b ∷ []
 unfoldable pub units : List ℕ → List TextUnit
 units [] = []
 units (a ∷ []) = single a ∷ []
-units (a ∷ b ∷ s) = cond (lead_byte a && trail_byte b) (pair a b ∷ units s) (single a ∷ units (b ∷ s))
+units (a ∷ b ∷ s) = if lead_byte a && trail_byte b then pair a b ∷ units s else single a ∷ units (b ∷ s)

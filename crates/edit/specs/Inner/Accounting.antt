@@ -1,5 +1,5 @@
 -- What is decided on, or why it is refused, entered in the totals record. Assumes nothing: these are definitions.
-use Rattle.std.specs.Prelude.{Result, Ok, Err, ℕ, ◌+◌, ◌-◌, ◌≤◌, ◌≡◌, cond, List, length}
+use Rattle.std.specs.Prelude.{Result, Ok, Err, ℕ, ◌+◌, ◌-◌, ◌≤◌, ◌≡◌, List, length, if◌then◌else◌}
 use Rattle.refusal.specs.declared.Refusal.{Refusal}
 use Rattle.refusal.specs.Refusal.{Verdict, is_refused}
 use Rattle.header.specs.Verdicts.{fst_offset, fst_size, disc_end}
@@ -68,7 +68,7 @@ account_of image xs (Ok d) t = settled_as d (entered_for image xs d t)
 
 -- the record afterwards
 abbrev pub counted_totals : Plan → Totals → List ℕ → ℕ → ℕ → Totals
-counted_totals p t image words room = cond (is_refused (counted_verdict p t image words room)) t (totals_to t image (plan_image p image))
+counted_totals p t image words room = if is_refused (counted_verdict p t image words room) then t else totals_to t image (plan_image p image)
 
 -- a, with these working bytes and this clip, is what the plan comes to by all its tests, 25 too, where the record t went in
 pub record AccountedFor (p : Plan) (image : List ℕ) (words room : ℕ) (bytes clip : List ℕ) (t : Totals) (a : Accounted) : Type 0 where

@@ -1,6 +1,6 @@
 -- What an edit decides on before it writes, or why it is refused, and what that does to an image. The new table stands in the working bytes by then.
 -- Assumes nothing: these are definitions.
-use Rattle.std.specs.Prelude.{Result, Ok, Err, ℕ, ◌+◌, ◌<◌, ◌≤◌, ◌^◌, ◌≡◌, cond, List, [], ◌∷◌, length, replicate}
+use Rattle.std.specs.Prelude.{Result, Ok, Err, ℕ, ◌+◌, ◌<◌, ◌≤◌, ◌^◌, ◌≡◌, List, [], ◌∷◌, length, replicate, if◌then◌else◌}
 use Rattle.refusal.specs.Refusal.{Verdict, is_refused}
 use Rattle.refusal.specs.declared.Refusal.{Refusal}
 use Rattle.endian.specs.Bytes.{put, span}
@@ -146,7 +146,7 @@ pub record DecidedAs (v : Verdict) (p : Plan) (image : List ℕ) (room : ℕ) (b
   pub fits : CanCarry image room clip d
   pub carries : Carries d bytes p
   pub answer : carried_verdict d ≡ v
-  pub after : carried_image d bytes clip image ≡ cond (is_refused v) image (plan_image p image)
+  pub after : carried_image d bytes clip image ≡ (if is_refused v then image else plan_image p image)
 
 -- by all tests but 25, with no clip
 abbrev pub Decided : Plan → List ℕ → ℕ → ℕ → List ℕ → Result Decision Refusal → Type 0

@@ -1,5 +1,5 @@
 -- A file and its place, as the edits of a place ask for them. Assumes nothing: these are definitions.
-use Rattle.std.specs.Prelude.{Result, Ok, Err, ℕ, ◌<◌, ◌≡◌, false, min, List, length, get_or}
+use Rattle.std.specs.Prelude.{Result, Ok, Err, ℕ, ◌<◌, ◌≡◌, false, min, List, length, slice_index_or}
 use Rattle.refusal.specs.declared.Refusal.{Refusal}
 use Rattle.refusal.specs.declared.Refusal.TheVariants.{ExpectedFile}
 use Rattle.tree.specs.Table.{Node, none}
@@ -14,11 +14,11 @@ use Rattle.edit.specs.declared.file.File.{File}
 
 pub record IsFile (nodes : List Node) (k : ℕ) : Type 0 where
   pub inside : k < length nodes
-  pub kind : is_directory (get_or nodes k none) ≡ false
+  pub kind : is_directory (slice_index_or nodes k none) ≡ false
 
 -- entry k, where it is a file
 abbrev pub file_in : List Node → ℕ → File
-file_in nodes k = record { number = k; place = region_of (get_or nodes k none) }
+file_in nodes k = record { number = k; place = region_of (slice_index_or nodes k none) }
 
 abbrev pub file_of : ℕ → Entry → Result File Refusal
 file_of k (entry.File f) = Ok (record { number = k; place = record { offset = f.offset; size = f.size } })
@@ -29,7 +29,7 @@ pub record IsFileOf (d : Disc) (f : File) : Type 0 where
   pub image : List ℕ
   pub means : Means image d
   pub is : IsFile d.nodes f.number
-  pub place : region_of (get_or d.nodes f.number none) ≡ f.place
+  pub place : region_of (slice_index_or d.nodes f.number none) ≡ f.place
 
 -- what a move writes besides the table: the smaller of both sizes is copied, and the old place is zeroed
 abbrev pub relocation_of : DiscRegion → DiscRegion → Writing

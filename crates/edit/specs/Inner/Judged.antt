@@ -1,5 +1,5 @@
 -- The tests of a new table as functions of the disc, in place of the image, as `edits` has them. Assumes nothing: these are definitions.
-use Rattle.std.specs.Prelude.{Result, Ok, ℕ, ◌+◌, ◌&&◌, ltb, length}
+use Rattle.std.specs.Prelude.{Result, Ok, ℕ, ◌+◌, ◌&&◌, length, nat_lt}
 use Rattle.refusal.specs.Refusal.{Verdict, refuse, first}
 use Rattle.refusal.specs.declared.Refusal.{Refusal}
 use Rattle.refusal.specs.declared.Refusal.TheVariants.{LimitOrMemory, NotEnoughSpace, TableAboveMaximum}
@@ -13,10 +13,10 @@ use Rattle.edit.specs.Inner.Decision.{placing, behind_tests}
 -- of a table of that size
 unfoldable pub place_verdict : Disc → ℕ → ℕ → DiscRegion → Verdict
 place_verdict d bytes size place =
-    refuse (ltb bytes size) LimitOrMemory
-    (refuse (ltb 0 d.maximum && ltb d.maximum size) TableAboveMaximum
-    (refuse (ltb (max_region_size d.start d.room (free_of d)) size) NotEnoughSpace
-    (refuse (ltb 0 place.size && ltb place.offset (d.start + size)) NotEnoughSpace
+    refuse (nat_lt bytes size) LimitOrMemory
+    (refuse (nat_lt 0 d.maximum && nat_lt d.maximum size) TableAboveMaximum
+    (refuse (nat_lt (max_region_size d.start d.room (free_of d)) size) NotEnoughSpace
+    (refuse (nat_lt 0 place.size && nat_lt place.offset (d.start + size)) NotEnoughSpace
     (Ok tt))))
 
 -- of a change's

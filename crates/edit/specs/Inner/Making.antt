@@ -1,5 +1,5 @@
 -- Make-directories in the table that grows, a component at a time. Assumes nothing: these are definitions.
-use Rattle.std.specs.Prelude.{Result, Ok, Err, ℕ, ◌<◌, ◌≡◌, false, cond, List, [], length}
+use Rattle.std.specs.Prelude.{Result, Ok, Err, ℕ, ◌<◌, ◌≡◌, false, List, [], length, if◌then◌else◌}
 use Rattle.refusal.specs.declared.Refusal.{Refusal}
 use Rattle.refusal.specs.declared.Refusal.TheVariants.{LimitOrMemory}
 use Rattle.tree.specs.Table.{Node, parent_of, encode, limits}
@@ -31,9 +31,9 @@ into_of nodes k nm = if_found (child_of nodes k nm) (λ j. made nodes j false) (
 -- one component, from directory k
 unfoldable pub turn_of : List Node → ℕ → List ℕ → Made
 turn_of nodes k nm =
-    cond (stays nm) (made nodes k false)
-    (cond (goes_back nm) (made nodes (parent_of nodes k) false)
-    (into_of nodes k nm))
+    if stays nm then made nodes k false
+    else if goes_back nm then made nodes (parent_of nodes k) false
+    else into_of nodes k nm
 
 -- a name that directory k lacks may be given
 pub record MayName (nodes : List Node) (k : ℕ) (nm : List ℕ) : Type 0 where

@@ -1,6 +1,6 @@
 -- Make-directories' tests that need no memory, and its troubles a component at a time: where the walk of `trouble_of` goes from an entry of the tree as it is, with so many new
 -- directories below it. Assumes nothing: these are definitions.
-use Rattle.std.specs.Prelude.{Result, Ok, Err, ℕ, ◌+◌, ◌-◌, false, cond, not, ◌&&◌, List, [], length, get_or, ltb, leb, eqb}
+use Rattle.std.specs.Prelude.{Result, Ok, Err, ℕ, ◌+◌, ◌-◌, false, not, ◌&&◌, List, [], length, if◌then◌else◌, ◌==◌, nat_lt, nat_le, slice_index_or}
 use Rattle.refusal.specs.declared.Refusal.{Refusal}
 use Rattle.refusal.specs.declared.Refusal.TheVariants.{LimitOrMemory, InvalidNameByte, UnsafeName, NoSuchEntry, ExpectedDirectory, NotFound}
 use Rattle.refusal.specs.Refusal.{Verdict, refuse, first}
@@ -24,7 +24,7 @@ abbrev pub at_start : List Node → ℕ → Place
 at_start nodes start = record { nodes = nodes; start = start; entry = start; level = 0; names = Ok tt }
 
 abbrev pub walk_from : List Node → ℕ → Result Place Refusal
-walk_from nodes start = cond (leb (length nodes) start) (Err NoSuchEntry) (Ok (at_start nodes start))
+walk_from nodes start = if nat_le (length nodes) start then Err NoSuchEntry else Ok (at_start nodes start)
 
 abbrev pub moved : Place → ℕ → ℕ → Place
 moved p k level = record { nodes = p.nodes; start = p.start; entry = k; level = level; names = p.names }
@@ -35,20 +35,20 @@ plain_verdict nm = refuse (not (plain nm)) InvalidNameByte (Ok tt)
 
 -- each step is from a directory, and the walk must end on one: at an entry of the tree that is to be seen, and a new level is one
 abbrev pub directory_verdict : Place → Verdict
-directory_verdict p = refuse (eqb p.level 0 && not (is_directory (get_or p.nodes p.entry none))) ExpectedDirectory (Ok tt)
+directory_verdict p = refuse (p.level == 0 && not (is_directory (slice_index_or p.nodes p.entry none))) ExpectedDirectory (Ok tt)
 
 -- into a directory that is not there yet
 abbrev pub new_step : Place → List ℕ → Result Place Refusal
 new_step p nm =
-    cond (safe nm)
-    (Ok (record { nodes = p.nodes; start = p.start; entry = p.entry; level = p.level + 1; names = first p.names (plain_verdict nm) }))
-    (Err UnsafeName)
+    if safe nm
+    then Ok (record { nodes = p.nodes; start = p.start; entry = p.entry; level = p.level + 1; names = first p.names (plain_verdict nm) })
+    else Err UnsafeName
 
 abbrev pub back_step : Place → Result Place Refusal
 back_step p =
-    cond (eqb p.level 0)
-    (cond (eqb p.entry p.start) (Err NotFound) (Ok (moved p (parent_of p.nodes p.entry) 0)))
-    (Ok (moved p p.entry (p.level - 1)))
+    if p.level == 0
+    then (if p.entry == p.start then Err NotFound else Ok (moved p (parent_of p.nodes p.entry) 0))
+    else Ok (moved p p.entry (p.level - 1))
 
 abbrev pub child_step : Place → Result ℕ Refusal → Result Place Refusal → Result Place Refusal
 child_step p (Ok j) missing = Ok (moved p j 0)
@@ -56,7 +56,7 @@ child_step p (Err c) missing = missing
 
 -- below the tree no name is there yet
 abbrev pub into_step : Place → List ℕ → Result Place Refusal
-into_step p nm = cond (eqb p.level 0) (child_step p (child_of p.nodes p.entry nm) (new_step p nm)) (new_step p nm)
+into_step p nm = if p.level == 0 then child_step p (child_of p.nodes p.entry nm) (new_step p nm) else new_step p nm
 
 abbrev pub behind : Verdict → Result Place Refusal → Result Place Refusal
 behind (Ok _) r = r
@@ -65,9 +65,9 @@ behind (Err c) r = Err c
 unfoldable pub step_of : Place → List ℕ → Result Place Refusal
 step_of p nm =
     behind (directory_verdict p)
-    (cond (stays nm) (Ok p)
-    (cond (goes_back nm) (back_step p)
-    (into_step p nm)))
+    (if stays nm then Ok p
+    else if goes_back nm then back_step p
+    else into_step p nm)
 
 -- the walk must end on a directory; 12 comes last
 abbrev pub last_verdict : Place → Verdict
@@ -76,12 +76,12 @@ last_verdict p = first (directory_verdict p) p.names
 -- 15, then the troubles along the path
 abbrev pub path_trouble : List Node → ℕ → List ℕ → Verdict
 path_trouble nodes start path =
-    refuse (leb (length nodes) start) NoSuchEntry
+    refuse (nat_le (length nodes) start) NoSuchEntry
     (trouble_of nodes start start 0 false (components path))
 
 -- a path over 1,024 bytes, 15, then the troubles along the path
 unfoldable pub path_verdict : List Node → ℕ → List ℕ → Verdict
 path_verdict nodes start path =
-    refuse (ltb 1024 (length path)) LimitOrMemory
-    (refuse (leb (length nodes) start) NoSuchEntry
+    refuse (nat_lt 1024 (length path)) LimitOrMemory
+    (refuse (nat_le (length nodes) start) NoSuchEntry
     (made_verdict (make nodes [] start false (components path))))

@@ -1,9 +1,9 @@
 -- The first trouble along the path of make-directories, found with no memory: at entry k of the tree as it is, `level` new directories below it.
 -- That it is the trouble of the walk that makes them is `make-trouble`. Assumes nothing: these are definitions.
-use Rattle.std.specs.Prelude.{Result, Ok, Err}
+use Rattle.std.specs.Prelude.{Result, Ok, Err, if◌then◌else◌, ◌==◌, slice_index_or}
 use Rattle.refusal.specs.Refusal.{Verdict}
 use Rattle.refusal.specs.declared.Refusal.{Refusal}
-use Rattle.std.specs.Prelude.{ℕ, zero, suc, Bool, cond, not, ◌||◌, List, [], ◌∷◌, get_or, eqb}
+use Rattle.std.specs.Prelude.{ℕ, zero, suc, Bool, not, ◌||◌, List, [], ◌∷◌}
 use Rattle.refusal.specs.declared.Refusal.TheVariants.{InvalidNameByte, UnsafeName, ExpectedDirectory, NotFound}
 use Rattle.refusal.specs.Refusal.{refuse}
 use Rattle.tree.specs.Table.{Node, none, plain, safe, parent_of}
@@ -15,19 +15,19 @@ if_child (Ok k) f missing = f k
 if_child (Err c) f missing = missing
 
 unfoldable pub trouble_of : List Node → ℕ → ℕ → ℕ → Bool → List (List ℕ) → Verdict
-trouble_of nodes start k zero bad [] = cond (is_directory (get_or nodes k none)) (refuse bad InvalidNameByte (Ok tt)) (Err ExpectedDirectory)
+trouble_of nodes start k zero bad [] = if is_directory (slice_index_or nodes k none) then refuse bad InvalidNameByte (Ok tt) else Err ExpectedDirectory
 trouble_of nodes start k (suc level) bad [] = refuse bad InvalidNameByte (Ok tt)
 trouble_of nodes start k zero bad (c ∷ cs) =
-    cond (is_directory (get_or nodes k none))
-    (cond (stays c) (trouble_of nodes start k zero bad cs)
-    (cond (goes_back c) (cond (eqb k start) (Err NotFound) (trouble_of nodes start (parent_of nodes k) zero bad cs))
-    (if_child (child_of nodes k c) (λ j. trouble_of nodes start j zero bad cs)
-    (cond (safe c) (trouble_of nodes start k 1 (bad || not (plain c)) cs) (Err UnsafeName)))))
-    (Err ExpectedDirectory)
+    if is_directory (slice_index_or nodes k none)
+    then (if stays c then trouble_of nodes start k zero bad cs
+    else if goes_back c then (if k == start then Err NotFound else trouble_of nodes start (parent_of nodes k) zero bad cs)
+    else if_child (child_of nodes k c) (λ j. trouble_of nodes start j zero bad cs)
+    (if safe c then trouble_of nodes start k 1 (bad || not (plain c)) cs else Err UnsafeName))
+    else Err ExpectedDirectory
 trouble_of nodes start k (suc level) bad (c ∷ cs) =
-    cond (stays c) (trouble_of nodes start k (suc level) bad cs)
-    (cond (goes_back c) (trouble_of nodes start k level bad cs)
-    (cond (safe c) (trouble_of nodes start k (suc (suc level)) (bad || not (plain c)) cs) (Err UnsafeName)))
+    if stays c then trouble_of nodes start k (suc level) bad cs
+    else if goes_back c then trouble_of nodes start k level bad cs
+    else if safe c then trouble_of nodes start k (suc (suc level)) (bad || not (plain c)) cs else Err UnsafeName
 
 abbrev pub made_verdict : Made → Verdict
 made_verdict (stopped c) = Err c

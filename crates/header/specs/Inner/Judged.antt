@@ -1,11 +1,11 @@
 -- A field by its number, and what its test asks of its place. Assumes nothing: these are definitions.
-use Rattle.std.specs.Prelude.{ℕ, ◌+◌, ◌≤◌, ◌≡◌, List, get_or}
+use Rattle.std.specs.Prelude.{ℕ, ◌+◌, ◌≤◌, ◌≡◌, List, slice_index_or}
 use Rattle.header.specs.declared.fields.Field.{Field}
 use Rattle.header.specs.Fields.{place, fields, wii_magic_field, gcn_magic_field}
 
 -- the field with number k, counted from 0
 abbrev pub nth : List Field → ℕ → Field
-nth fs k = get_or fs k (place 0 0)
+nth fs k = slice_index_or fs k (place 0 0)
 
 abbrev pub field_at : ℕ → Field
 field_at k = nth fields k

@@ -1,6 +1,6 @@
 -- What a list of reports tells of one file: whether an accepted edit named it, and the sizes and clips that accepted edits gave it. The file is
 -- followed by its number among the files, as in Spared. Assumes nothing: these are definitions.
-use Rattle.std.specs.Prelude.{ℕ, min, ◌≡◌, Bool, true, false, cond, ◌&&◌, ◌||◌, List, [], ◌∷◌, ◌++◌, length, get_or, eqb}
+use Rattle.std.specs.Prelude.{ℕ, min, ◌≡◌, Bool, true, false, ◌&&◌, ◌||◌, List, [], ◌∷◌, ◌++◌, length, if◌then◌else◌, ◌==◌, slice_index_or}
 use Rattle.tree.specs.Table.{none}
 use Rattle.tree.specs.Lookup.{is_directory}
 use Rattle.edits.specs.Edits.{Edit, insert_file, insert_directory, make_directories, move_file, resize_file, fill_file, rewrite, no_place}
@@ -24,14 +24,14 @@ given (insert_file p nm) l f = []
 given (insert_directory p nm) l f = []
 given (make_directories start path) l f = []
 given (move_file k to) l f = []
-given (resize_file k n) l f = cond (eqb f (files_before k l.nodes)) (sized n ∷ []) []
-given (fill_file k clip) l f = cond (eqb f (files_before k l.nodes)) (clipped clip ∷ []) []
+given (resize_file k n) l f = if f == files_before k l.nodes then sized n ∷ [] else []
+given (fill_file k clip) l f = if f == files_before k l.nodes then clipped clip ∷ [] else []
 given rewrite l f = []
 
 -- what the accepted resizes and fills of the list gave file f, in their order
 unfoldable pub given_in : List Report → Ledger → ℕ → List Given
 given_in [] l f = []
-given_in (r ∷ reports) l f = cond r.accepted (given r.edit l f) [] ++ given_in reports (ledger_next r l) (number_next r l f)
+given_in (r ∷ reports) l f = (if r.accepted then given r.edit l f else []) ++ given_in reports (ledger_next r l) (number_next r l f)
 
 -- m, after these: the least of the sizes since the last clip, and of its length, or where there was none of the first m
 unfoldable pub least_of : ℕ → List Given → ℕ
@@ -53,22 +53,22 @@ start_of bs (clipped clip ∷ gs) = start_of clip gs
 
 -- file f of a ledger: its history, name and size
 abbrev pub history_at : Ledger → ℕ → History
-history_at l f = get_or l.histories f new_history
+history_at l f = slice_index_or l.histories f new_history
 
 abbrev pub name_at : Ledger → ℕ → List ℕ
-name_at l f = get_or (names_of l.nodes) f []
+name_at l f = slice_index_or (names_of l.nodes) f []
 
 abbrev pub size_at : Ledger → ℕ → ℕ
-size_at l f = (get_or (files_of l.nodes) f no_place).size
+size_at l f = (slice_index_or (files_of l.nodes) f no_place).size
 
 -- the accepted moves, resizes and fills of the list have the numbers of files, as 16 makes sure
 abbrev pub of_file : Edit → Ledger → Type 0
 of_file (insert_file p nm) l = Unit {0}
 of_file (insert_directory p nm) l = Unit {0}
 of_file (make_directories start path) l = Unit {0}
-of_file (move_file k to) l = is_directory (get_or l.nodes k none) ≡ false
-of_file (resize_file k n) l = is_directory (get_or l.nodes k none) ≡ false
-of_file (fill_file k clip) l = is_directory (get_or l.nodes k none) ≡ false
+of_file (move_file k to) l = is_directory (slice_index_or l.nodes k none) ≡ false
+of_file (resize_file k n) l = is_directory (slice_index_or l.nodes k none) ≡ false
+of_file (fill_file k clip) l = is_directory (slice_index_or l.nodes k none) ≡ false
 of_file rewrite l = Unit {0}
 
 abbrev pub OfFiles : List Report → Ledger → Type 0

@@ -1,6 +1,6 @@
 -- The directories around an entry, as the functions inside keep them.
 -- Assumes nothing: these are definitions.
-use Rattle.std.specs.Prelude.{ℕ, ◌+◌, ◌-◌, ◌<◌, ◌≤◌, ◌≡◌, true, List, length, get_or}
+use Rattle.std.specs.Prelude.{ℕ, ◌+◌, ◌-◌, ◌<◌, ◌≤◌, ◌≡◌, true, List, length, slice_index, slice_index_or}
 use Rattle.tree.specs.Table.{Node, none, parent_below, parent_of}
 use Rattle.tree.specs.Lookup.{is_directory}
 use Rattle.listing.specs.declared.entries.Directories.{Directories}
@@ -10,19 +10,19 @@ pub record Chain (nodes : List Node) (dirs : List ℕ) (d k : ℕ) : Type 0 wher
   pub long : length dirs ≡ 65
   pub some : 0 < d
   pub few : d ≤ 65
-  pub root : get_or dirs 0 0 ≡ 0
-  pub before : (i : ℕ) → i < d → get_or dirs i 0 < k
-  pub directories : (i : ℕ) → i < d → is_directory (get_or nodes (get_or dirs i 0) none) ≡ true
-  pub nested : (i : ℕ) → i + 1 < d → (0 < get_or dirs (i + 1) 0) × (parent_of nodes (get_or dirs (i + 1) 0) ≡ get_or dirs i 0)
+  pub root : slice_index dirs 0 ≡ 0
+  pub before : (i : ℕ) → i < d → slice_index dirs i < k
+  pub directories : (i : ℕ) → i < d → is_directory (slice_index_or nodes (slice_index dirs i) none) ≡ true
+  pub nested : (i : ℕ) → i + 1 < d → (0 < slice_index dirs (i + 1)) × (parent_of nodes (slice_index dirs (i + 1)) ≡ slice_index dirs i)
 
 -- entry k's parent is the last of d directories, or one around that
 abbrev pub Climbs : List Node → List ℕ → ℕ → ℕ → Type 0
-Climbs nodes dirs d k = parent_of nodes k ≡ parent_below nodes k (get_or dirs (d - 1) 0 + 1)
+Climbs nodes dirs d k = parent_of nodes k ≡ parent_below nodes k (slice_index dirs (d - 1) + 1)
 
 -- the last of d directories is the one that entry k is nested in
 pub record Ends (nodes : List Node) (dirs : List ℕ) (d k : ℕ) : Type 0 where
   pub chain : Chain nodes dirs d k
-  pub last : parent_of nodes k ≡ get_or dirs (d - 1) 0
+  pub last : parent_of nodes k ≡ slice_index dirs (d - 1)
 
 -- entry k is nested in the last of the directories, or in one around that
 abbrev pub Before : List Node → Directories → ℕ → Type 0

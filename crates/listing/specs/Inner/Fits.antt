@@ -1,5 +1,5 @@
 -- A text in front of a buffer, if the buffer has room for it; and the text of a disc. Assumes nothing: these are definitions.
-use Rattle.std.specs.Prelude.{Option, Some, None, Result, Ok, Err, ℕ, cond, List, ◌++◌, ltb, length, ◌≡◌}
+use Rattle.std.specs.Prelude.{Option, Some, None, Result, Ok, Err, ℕ, List, ◌++◌, length, ◌≡◌, if◌then◌else◌, nat_lt}
 use Rattle.endian.specs.Bytes.{put}
 use Rattle.refusal.specs.declared.Refusal.{Refusal}
 use Rattle.refusal.specs.declared.Refusal.TheVariants.{LimitOrMemory}
@@ -9,15 +9,15 @@ use Rattle.listing.specs.Lines.{totals_line, entry_lines, region_lines}
 
 -- how long it is, if there is room for it
 abbrev pub size_or : ℕ → List ℕ → Option ℕ
-size_or room bs = cond (ltb room (length bs)) None (Some (length bs))
+size_or room bs = if nat_lt room (length bs) then None else Some (length bs)
 
 -- how long it is, or 9
 abbrev pub listed_or : ℕ → List ℕ → Result ℕ Refusal
-listed_or room bs = cond (ltb room (length bs)) (Err LimitOrMemory) (Ok (length bs))
+listed_or room bs = if nat_lt room (length bs) then Err LimitOrMemory else Ok (length bs)
 
 -- the buffer with the text in front, or as it was
 abbrev pub laid_or : List ℕ → List ℕ → List ℕ
-laid_or text bs = cond (ltb (length text) (length bs)) text (put text 0 bs)
+laid_or text bs = if nat_lt (length text) (length bs) then text else put text 0 bs
 
 -- the length that is given, and the buffer afterwards
 abbrev pub Laid : List ℕ → List ℕ → Option ℕ → List ℕ → Type 0

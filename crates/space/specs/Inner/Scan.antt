@@ -1,26 +1,26 @@
 -- The largest free region once an edit is made, by one look at the used regions of before: the edited file's old place is passed over, and its
 -- new place cut out. Assumes nothing: these are definitions.
 use Rattle.refusal.specs.Refusal.{Verdict}
-use Rattle.std.specs.Prelude.{ℕ, ◌-◌, max, cond, ◌||◌, List, [], ◌∷◌, leb, eqb, Ok, Err}
+use Rattle.std.specs.Prelude.{ℕ, ◌-◌, max, ◌||◌, List, [], ◌∷◌, Ok, Err, if◌then◌else◌, ◌==◌, nat_le}
 use Rattle.space.specs.declared.region.DiscRegion.{DiscRegion}
 use Rattle.space.specs.Used.{end_of}
 use Rattle.space.specs.declared.totals.Totals.{Totals}
 
 -- the longest run of the bytes from a up to b that has none of r's bytes
 unfoldable pub longest_beside : ℕ → ℕ → DiscRegion → ℕ
-longest_beside a b r = cond (eqb r.size 0 || (leb (end_of r) a || leb b r.offset)) (b - a) (max (r.offset - a) (b - end_of r))
+longest_beside a b r = if r.size == 0 || (nat_le (end_of r) a || nat_le b r.offset) then b - a else max (r.offset - a) (b - end_of r)
 
 -- along regions in order from byte `at` on, on a disc that ends at e: the region at `gone` is passed over, the bytes of `new` are cut out, and
 -- `best` is the longest run so far
 unfoldable pub longest_from : ℕ → ℕ → DiscRegion → ℕ → ℕ → List DiscRegion → ℕ
 longest_from e gone new at best [] = max best (longest_beside at e new)
 longest_from e gone new at best (x ∷ xs) =
-    cond (eqb x.offset gone) (longest_from e gone new at best xs)
-    (longest_from e gone new (end_of x) (max best (longest_beside at x.offset new)) xs)
+    if x.offset == gone then longest_from e gone new at best xs
+    else longest_from e gone new (end_of x) (max best (longest_beside at x.offset new)) xs
 
 -- where the old place starts; 0, where no file can, if there is none
 abbrev pub gone_of : DiscRegion → ℕ
-gone_of old = cond (eqb old.size 0) 0 old.offset
+gone_of old = if old.size == 0 then 0 else old.offset
 
 -- whether the record can move on, and the record then
 pub record Moved : Type 0 where

@@ -1,5 +1,5 @@
 -- The marks of the blocks of 1,024 bytes that the texts of a table are cut into. Assumes nothing: these are definitions.
-use Rattle.std.specs.Prelude.{Option, Some, None, ℕ, ◌+◌, ◌*◌, ◌/◌, ◌%◌, ◌≤◌, ◌≡◌, Bool, true, false, List, length, get_or}
+use Rattle.std.specs.Prelude.{Option, Some, None, ℕ, ◌+◌, ◌*◌, ◌/◌, ◌%◌, ◌≤◌, ◌≡◌, Bool, true, false, List, length, slice_index_or}
 use Rattle.tree.specs.Units.{units}
 use Rattle.tree.specs.Table.{every, plain_unit, safe_unit}
 use Rattle.table.specs.Inner.Texts.{text_at, clean_from, NoLead}
@@ -16,7 +16,7 @@ mark_place mark = 1024 * (mark / 2) + mark % 2
 -- where a mark is set, the text that starts at its place is fit; a mark that is not set says nothing
 pub record Marked (tab : List ℕ) (base : ℕ) (marks : List Bool) : Type 0 where
   pub long : length marks ≡ 2048
-  pub fit : (mark : ℕ) → get_or marks mark false ≡ true → Fit tab (base + mark_place mark)
+  pub fit : (mark : ℕ) → slice_index_or marks mark false ≡ true → Fit tab (base + mark_place mark)
 
 -- a table, and where its texts start
 pub record TextsFrom : Type 0 where

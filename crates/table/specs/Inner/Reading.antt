@@ -1,7 +1,7 @@
 -- What the functions that read a table compute on the way to the definitions of the file table. Assumes nothing: these are definitions.
-use Rattle.std.specs.Prelude.{Ok}
+use Rattle.std.specs.Prelude.{Ok, nat_lt, nat_le, slice_index}
 use Rattle.refusal.specs.Refusal.{Verdict}
-use Rattle.std.specs.Prelude.{ℕ, zero, suc, ◌+◌, ◌-◌, ◌*◌, ◌<◌, ◌≤◌, ◌≡◌, not, List, [], ◌∷◌, length, get_or, leb, ltb}
+use Rattle.std.specs.Prelude.{ℕ, zero, suc, ◌+◌, ◌-◌, ◌*◌, ◌<◌, ◌≤◌, ◌≡◌, not, List, [], ◌∷◌, length}
 use Rattle.refusal.specs.declared.Refusal.TheVariants.{MissingNullTerminator, LimitOrMemory, InvalidNextIndex, InvalidNameByte, UnsafeName}
 use Rattle.refusal.specs.Refusal.{refuse, first}
 use Rattle.tree.specs.Table.{plain, safe, name_offset, size_or_next, name_at, node_at, nodes_from, unended, name_verdict, next_verdict, walk, check}
@@ -20,7 +20,7 @@ pub record Inside (tab : List ℕ) (c : ℕ) : Type 0 where
 -- the numbers of a stack, which stand in words, the top one last
 unfoldable pub open_in : List ℕ → ℕ → List ℕ
 open_in words zero = []
-open_in words (suc d) = get_or words d 0 ∷ open_in words d
+open_in words (suc d) = slice_index words d ∷ open_in words d
 
 pub record Stacked (words : List ℕ) (depth : ℕ) : Type 0 where
   pub long : length words ≡ 65
@@ -30,9 +30,9 @@ pub record Stacked (words : List ℕ) (depth : ℕ) : Type 0 where
 unfoldable pub texts_verdict : List ℕ → ℕ → ℕ → Verdict
 texts_verdict tab c words =
     refuse (unended tab c) MissingNullTerminator
-    (refuse (ltb 1048576 (length tab - 12 * c)) LimitOrMemory
-    (refuse (ltb words (4 * (c + 2))) LimitOrMemory
-    (refuse (leb (size_or_next tab 0) 0) InvalidNextIndex
+    (refuse (nat_lt 1048576 (length tab - 12 * c)) LimitOrMemory
+    (refuse (nat_lt words (4 * (c + 2))) LimitOrMemory
+    (refuse (nat_le (size_or_next tab 0) 0) InvalidNextIndex
     (walk tab c (c ∷ []) 1 (nodes_from tab c 1 (c - 1))))))
 
 -- the walk's tests of entry k, where the directories `dirs` are open

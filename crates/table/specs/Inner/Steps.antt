@@ -1,15 +1,15 @@
 -- What is left of a path, and where a lookup is on the way along it. Assumes nothing: these are definitions.
-use Rattle.std.specs.Prelude.{Result, Ok, Err, Option, Some, None}
+use Rattle.std.specs.Prelude.{Result, Ok, Err, Option, Some, None, if◌then◌else◌, nat_lt}
 use Rattle.std.specs.Borrow.{Bor}
 use Rattle.refusal.specs.declared.Refusal.{Refusal}
-use Rattle.std.specs.Prelude.{ℕ, ◌+◌, ◌<◌, ◌≤◌, cond, List, [], ◌∷◌, length, drop, ltb}
+use Rattle.std.specs.Prelude.{ℕ, ◌+◌, ◌<◌, ◌≤◌, List, [], ◌∷◌, length, drop}
 use Rattle.tree.specs.Table.{Node}
 use Rattle.tree.specs.Inner.Depths.{depth_of}
 use Rattle.tree.specs.Lookup.{components, follow}
 
 -- the components of a path behind the one that ends at e
 abbrev pub components_after : List ℕ → ℕ → List (List ℕ)
-components_after path e = cond (ltb e (length path)) (components (drop (e + 1) path)) []
+components_after path e = if nat_lt e (length path) then components (drop (e + 1) path) else []
 
 -- the components of the rest of a path, if any is left
 abbrev pub left_of : Option (Bor (List ℕ)) → List (List ℕ)

@@ -1,5 +1,5 @@
 -- The texts of a table and the units that a name may have, as the functions look at them. Assumes nothing: these are definitions.
-use Rattle.std.specs.Prelude.{ℕ, ◌<◌, ◌≤◌, ◌≡◌, Bool, true, false, ◌&&◌, ◌||◌, List, [], ◌∷◌, length, get_or, drop, eqb}
+use Rattle.std.specs.Prelude.{ℕ, ◌<◌, ◌≤◌, ◌≡◌, Bool, true, false, ◌&&◌, ◌||◌, List, [], ◌∷◌, length, drop, ◌==◌, slice_index}
 use Rattle.tree.specs.Units.{lead_byte, TextUnit, single, pair, units}
 use Rattle.tree.specs.Table.{every, plain_byte, safe_byte, dots, up_to0}
 
@@ -14,7 +14,7 @@ nameless (x ∷ xs) = dots (x ∷ xs)
 
 -- a byte that no name is refused for where it is a unit: the end of a text, or plain and safe
 abbrev pub clean_byte : ℕ → Bool
-clean_byte b = eqb b 0 || (plain_byte b && safe_byte b)
+clean_byte b = b == 0 || (plain_byte b && safe_byte b)
 
 abbrev pub clean_unit : TextUnit → Bool
 clean_unit (single b) = clean_byte b
@@ -22,7 +22,7 @@ clean_unit (pair a b) = true
 
 -- the end of a text: a zero byte
 abbrev pub end_unit : TextUnit → Bool
-end_unit (single b) = eqb b 0
+end_unit (single b) = b == 0
 end_unit (pair a b) = false
 
 -- all bytes from `from` on, zero bytes too, cut into units from there
@@ -32,8 +32,8 @@ clean_from tab from = every clean_unit (units (drop from tab))
 -- no lead byte stands from `from` up to `end`
 pub record NoLead (tab : List ℕ) (from end : ℕ) : Type 0 where
   pub before : from ≤ end
-  pub none : (i : ℕ) → from ≤ i → i < end → lead_byte (get_or tab i 0) ≡ false
+  pub none : (i : ℕ) → from ≤ i → i < end → lead_byte (slice_index tab i) ≡ false
 
 -- clean bytes from `from` up to `end`, which is the table's end or a byte that is not clean
 abbrev pub CleanTo : List ℕ → ℕ → ℕ → Type 0
-CleanTo tab from end = NoLead tab from end × (clean_from tab from ≡ clean_from tab end) × ((end < length tab) → clean_byte (get_or tab end 0) ≡ false)
+CleanTo tab from end = NoLead tab from end × (clean_from tab from ≡ clean_from tab end) × ((end < length tab) → clean_byte (slice_index tab end) ≡ false)

@@ -1,17 +1,17 @@
 -- The entries of a table of n entries written one after another, as the writers' contracts say it. That the whole of it is `encode` of
 -- the table's entries is a law (`Whole`). Assumes nothing: these are definitions.
-use Rattle.std.specs.Prelude.{ℕ, zero, suc, ◌+◌, ◌-◌, ◌*◌, ◌≤◌, ◌^◌, cond, List, [], ◌∷◌, ◌++◌, eqb}
+use Rattle.std.specs.Prelude.{ℕ, zero, suc, ◌+◌, ◌-◌, ◌*◌, ◌≤◌, ◌^◌, List, [], ◌∷◌, ◌++◌, if◌then◌else◌, ◌==◌}
 use Rattle.endian.specs.Bytes.{put, be24_bytes, be32_bytes}
 use Rattle.tree.specs.Table.{kind, name_offset, offset_or_parent, size_or_next, name_at, node_at, nodes_of, parent_of, node_bytes, directory}
 use Rattle.table_writing.specs.Inner.Valid.{name_size}
 
 -- the entry after k in its directory
 abbrev pub after_in : List ℕ → ℕ → ℕ
-after_in tab k = cond (eqb (kind tab k) 1) (size_or_next tab k) (k + 1)
+after_in tab k = if kind tab k == 1 then size_or_next tab k else k + 1
 
 -- "offset or parent": a file keeps its offset, a directory gets the parent that it is nested in
 abbrev pub place_of : List ℕ → ℕ → ℕ → ℕ
-place_of tab parent k = cond (eqb (kind tab k) 0) (offset_or_parent tab k) parent
+place_of tab parent k = if kind tab k == 0 then offset_or_parent tab k else parent
 
 -- the record of entry k, whose name is to stand at `text`
 unfoldable pub record_at : List ℕ → ℕ → ℕ → ℕ → ℕ → List ℕ → List ℕ

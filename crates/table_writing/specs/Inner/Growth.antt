@@ -1,7 +1,7 @@
 -- The table that stands in the working bytes while entries are added to it. Assumes nothing: these are definitions.
-use Rattle.std.specs.Prelude.{Result, Ok, Err}
+use Rattle.std.specs.Prelude.{Result, Ok, Err, nat_lt, slice_index_or}
 use Rattle.refusal.specs.declared.Refusal.{Refusal}
-use Rattle.std.specs.Prelude.{ℕ, ◌<◌, ◌≤◌, ◌≡◌, Bool, true, false, List, ltb, length, get_or, take}
+use Rattle.std.specs.Prelude.{ℕ, ◌<◌, ◌≤◌, ◌≡◌, Bool, true, false, List, length, take}
 use Rattle.endian.specs.Bytes.{put}
 use Rattle.refusal.specs.declared.Refusal.TheVariants.{LimitOrMemory}
 use Rattle.tree.specs.Table.{Node, none, nodes_of, encode, limits}
@@ -24,15 +24,15 @@ pub record Stands (bytes : List ℕ) (size words : ℕ) : Type 0 where
 -- entry p is a directory
 pub record IsDirectory (nodes : List Node) (p : ℕ) : Type 0 where
   pub inside : p < length nodes
-  pub kind : is_directory (get_or nodes p none) ≡ true
+  pub kind : is_directory (slice_index_or nodes p none) ≡ true
 
 -- the tree with an empty directory, or an empty file, as last child of p
 abbrev pub added : List Node → Bool → ℕ → List ℕ → List Node
-added nodes d p nm = insert_at p (new_node d nm (next_of (get_or nodes p none))) nodes
+added nodes d p nm = insert_at p (new_node d nm (next_of (slice_index_or nodes p none))) nodes
 
 -- a new child of a directory of that depth is not too deep: "directory deeper than 64 (root 0; 9)"
 abbrev pub depth_allows : Bool → ℕ → Bool
-depth_allows true depth = ltb depth 64
+depth_allows true depth = nat_lt depth 64
 depth_allows false depth = true
 
 -- the tree F stands in the bytes, or cannot: it passes a limit (9), or its table is longer than they are (9)

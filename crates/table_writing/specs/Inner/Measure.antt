@@ -1,11 +1,11 @@
 -- The size of a table as it will be written, no name shared: its length, which is 12 for the root, and for each further
 -- entry 12, its name and one (the law is `Size` of tree), or 9, since its texts are over 1,048,576 bytes.
 -- Assumes nothing: these are definitions.
-use Rattle.std.specs.Prelude.{ℕ, cond, length, ltb, Result, Ok, Err}
+use Rattle.std.specs.Prelude.{ℕ, length, Result, Ok, Err, if◌then◌else◌, nat_lt}
 use mathlib.Core.List.{List, tail}
 use Rattle.tree.specs.Table.{nodes_of, texts_of, encode}
 use Rattle.refusal.specs.declared.Refusal.{Refusal}
 use Rattle.refusal.specs.declared.Refusal.TheVariants.{LimitOrMemory}
 
 unfoldable pub measure_of : List ℕ → Result ℕ Refusal
-measure_of tab = cond (ltb 1048576 (length (texts_of (tail (nodes_of tab))))) (Err LimitOrMemory) (Ok (length (encode (nodes_of tab))))
+measure_of tab = if nat_lt 1048576 (length (texts_of (tail (nodes_of tab)))) then Err LimitOrMemory else Ok (length (encode (nodes_of tab)))

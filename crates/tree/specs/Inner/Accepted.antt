@@ -1,5 +1,5 @@
 -- What acceptance gives of a table, for the contracts above that hold it open. Assumes nothing: this is a definition.
-use Rattle.std.specs.Prelude.{ℕ, ◌+◌, ◌-◌, ◌*◌, ◌^◌, ◌<◌, ◌≤◌, ◌≡◌, true, List, length, get_or}
+use Rattle.std.specs.Prelude.{ℕ, ◌+◌, ◌-◌, ◌*◌, ◌^◌, ◌<◌, ◌≤◌, ◌≡◌, true, List, length, slice_index}
 use Rattle.tree.specs.Table.{kind, name_offset, size_or_next, count, name_at, nodes_of, shallow}
 use Rattle.tree.specs.Inner.WellFormed.{WellFormed}
 
@@ -16,7 +16,7 @@ pub record Accepted (tab : List ℕ) (words : ℕ) : Type 0 where
   pub kinds : (k : ℕ) → k < count tab → kind tab k ≤ 1
   -- the texts
   pub texts : length tab - 12 * count tab ≤ 2 ^ 20
-  pub ended : 12 * count tab < length tab → get_or tab (length tab - 1) 0 ≡ 0
+  pub ended : 12 * count tab < length tab → slice_index tab (length tab - 1) ≡ 0
   pub offsets : (k : ℕ) → 0 < k → k < count tab → 12 * count tab + name_offset tab k < length tab
   pub names : (k : ℕ) → 0 < k → k < count tab → 12 * count tab + name_offset tab k + length (name_at tab (count tab) (name_offset tab k)) < length tab
-  pub zeros : (k : ℕ) → 0 < k → k < count tab → get_or tab (12 * count tab + name_offset tab k + length (name_at tab (count tab) (name_offset tab k))) 0 ≡ 0
+  pub zeros : (k : ℕ) → 0 < k → k < count tab → slice_index tab (12 * count tab + name_offset tab k + length (name_at tab (count tab) (name_offset tab k))) ≡ 0

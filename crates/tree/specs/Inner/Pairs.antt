@@ -1,6 +1,6 @@
 -- A pair at a place of a text, as the functions look for one. Assumes nothing: these are definitions.
-use Rattle.std.specs.Prelude.{ℕ, suc, Bool, ◌&&◌, List, get_or}
+use Rattle.std.specs.Prelude.{ℕ, suc, Bool, ◌&&◌, List, slice_index}
 use Rattle.tree.specs.Units.{lead_byte, trail_byte}
 
 abbrev pub pair_at : List ℕ → ℕ → Bool
-pair_at s i = lead_byte (get_or s i 0) && trail_byte (get_or s (suc i) 0)
+pair_at s i = lead_byte (slice_index s i) && trail_byte (slice_index s (suc i))

@@ -1,5 +1,5 @@
 -- A written table changed in place, so that it is the table of the changed tree. Assumes nothing: these are definitions.
-use Rattle.std.specs.Prelude.{ℕ, suc, ◌+◌, ◌-◌, ◌*◌, zero, cond, List, [], ◌∷◌, ◌++◌, length, take, drop, ltb, eqb}
+use Rattle.std.specs.Prelude.{ℕ, suc, ◌+◌, ◌-◌, ◌*◌, zero, List, [], ◌∷◌, ◌++◌, length, take, drop, if◌then◌else◌, ◌==◌, nat_lt}
 use Rattle.endian.specs.Bytes.{be32_bytes, put}
 use Rattle.tree.specs.Table.{Node, name_of, kind, name_offset, offset_or_parent, size_or_next, node_with, node_bytes}
 use Rattle.tree.specs.Insert.{earlier, later, shifted}
@@ -30,13 +30,13 @@ record_after tab q grow k = node_bytes (shifted q (offset_or_parent tab k)) (nam
 -- record k of the new table; the new entry's text starts at `start`
 unfoldable pub patched_record : List ℕ → ℕ → ℕ → Node → ℕ → ℕ → List ℕ
 patched_record tab p q new start k =
-    cond (ltb k q) (record_before tab p k)
-    (cond (eqb k q) (node_bytes p start new)
-    (record_after tab q (suc (length (name_of new))) (k - 1)))
+    if nat_lt k q then record_before tab p k
+    else if k == q then node_bytes p start new
+    else record_after tab q (suc (length (name_of new))) (k - 1)
 
 -- where the text of the entry at q starts: behind all texts, if q is the number c of entries
 unfoldable pub new_start : List ℕ → ℕ → ℕ → ℕ
-new_start tab c q = cond (ltb q c) (name_offset tab q) (length tab - 12 * c)
+new_start tab c q = if nat_lt q c then name_offset tab q else length tab - 12 * c
 
 -- the table of c entries with `new` put in as the last child of directory p
 unfoldable pub insert_patch : List ℕ → ℕ → ℕ → Node → List ℕ
