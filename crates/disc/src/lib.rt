@@ -2,13 +2,13 @@
 #![tactic(auto)]
 
 mod answers;
-mod executable;
+mod dol;
 mod lookups;
 mod regions;
 mod rows;
 
 pub use answers::{DiscTotals, DolFile};
-pub use executable::open_dol;
+pub use dol::open_dol;
 pub use lookups::{entry, lookup, max_file_size, open_file};
 pub use regions::{
     allocate, free_clusters, free_regions, make_record, max_region_size, open, program, totals,

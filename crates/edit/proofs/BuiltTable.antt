@@ -8,28 +8,28 @@ use lib.ListN.{length}
 use Rattle.refusal.specs.declared.Refusal.{Refusal}
 use Rattle.refusal.specs.declared.Refusal.TheVariants.{LimitOrMemory}
 use Rattle.tree.specs.Table.{encode, limits}
-use Rattle.tree.specs.Inner.WellFormed.{WellFormed}
+use Rattle.tree.specs.Inner.WellFormed.{IsWellFormed}
 use Rattle.tree.proofs.Laws.WrittenEntries.{length-encode}
 use Rattle.tree.proofs.Laws.RoundTrip.{within-limits}
 use Rattle.table_writing.specs.Inner.Measure.{measure_of}
 use Rattle.opened.specs.Opening.{nodes_in}
 use Rattle.opened.specs.Inner.Prepared.{OpenImage}
-use Rattle.opened.specs.Inner.Disc.{Disc, TableOf}
-use Rattle.table_writing.specs.Inner.Growth.{tree_in, Stands, Built}
+use Rattle.opened.specs.Inner.Disc.{Disc, IsTableOf}
+use Rattle.table_writing.specs.Inner.Growth.{tree_in, Stands, IsBuilt}
 use Rattle.table_writing.proofs.StandingTable.{built-stands}
 use Rattle.edit.proofs.Discs.{nodes_are}
 use Rattle.edit.proofs.TableSlice.{limits-past, limits-passed}
 
-well-open : (image : List ℕ) (words : ℕ) → OpenImage image words → WellFormed (nodes_in image)
+well-open : (image : List ℕ) (words : ℕ) → OpenImage image words → IsWellFormed (nodes_in image)
 unfolding nodes_in
 well-open image words known = known.reads.table.well
 
-pub well-disc : (d : Disc) (tab : List ℕ) → TableOf d tab → WellFormed d.nodes
+pub well-disc : (d : Disc) (tab : List ℕ) → IsTableOf d tab → IsWellFormed d.nodes
 well-disc d tab t = rw (nodes_are t.image d t.means) at (well-open t.image d.words t.means.known)
 
 -- ---- the tree, measured
 
-module _ (d : Disc) (tab : List ℕ) (t : TableOf d tab) (r : Result ℕ Refusal) (measured : r ≡ measure_of tab) where
+module _ (d : Disc) (tab : List ℕ) (t : IsTableOf d tab) (r : Result ℕ Refusal) (measured : r ≡ measure_of tab) where
   pub past-limits : (c : Refusal) → r ≡ Err c → limits d.nodes d.words ≡ Err LimitOrMemory
   past-limits c e = rw (nodes_are t.image d t.means) at (limits-past t.image tab t.is d.words t.means.known r measured c e)
 
@@ -51,6 +51,6 @@ module _ (d : Disc) (tab : List ℕ) (t : TableOf d tab) (r : Result ℕ Refusal
 
 -- ---- the tree, written
 
-module _ (d : Disc) (tab : List ℕ) (t : TableOf d tab) (s after : List ℕ) (size : ℕ) (built : Built d.nodes d.words s after (Ok size)) where
+module _ (d : Disc) (tab : List ℕ) (t : IsTableOf d tab) (s after : List ℕ) (size : ℕ) (built : IsBuilt d.nodes d.words s after (Ok size)) where
   pub started : Stands after size d.words × (tree_in after size ≡ d.nodes)
   started = built-stands d.nodes d.words s after (Ok size) size (well-disc d tab t) built refl

@@ -11,10 +11,10 @@ use Rattle.edits.specs.Promise.{Lent, only_verdict, Edited}
 use Rattle.opened.specs.Inner.Disc.{Disc, disc_of, Means}
 use Rattle.edit.specs.declared.decision.Decision.{Decision}
 use Rattle.edit.specs.Inner.Decision.{DecidedAs, verdict_in}
-use Rattle.edit.specs.Inner.Accounting.{OnDisc, OfUsed, Accounted, account_of, AccountedFor}
+use Rattle.edit.specs.Inner.Accounting.{OnDisc, OfUsed, Accounted, account_of, IsAccountedFor}
 use Rattle.edit.specs.Laws.AccountLaws.{on-disc}
 use Rattle.edit.proofs.Edited.{open-accounted}
-use Rattle.edit.specs.Inner.Decides.{plan_on, EditDecided}
+use Rattle.edit.specs.Inner.Decides.{plan_on, IsEditDecided}
 
 -- the plan of an edit is that of the disc which the image means
 plan_same : (ed : edits.Edit) (image : List ℕ) (words : ℕ) → plan_of ed image ≡ plan_on ed (disc_of image words)
@@ -30,15 +30,15 @@ plan_same edits.rewrite image words = refl
 -- ---- on the disc that an image means
 
 module _ (ed : edits.Edit) (image : List ℕ) (words : ℕ) (d : Disc) (o : Means image d × (d.words ≡ words)) (room : ℕ) (bytes clip : List ℕ) where
-  pub decided_as : (r : Result Decision Refusal) → EditDecided ed d room bytes clip r → DecidedAs (plan_verdict (plan_of ed image) image d.words room) (plan_of ed image) image room bytes clip r
+  pub decided_as : (r : Result Decision Refusal) → IsEditDecided ed d room bytes clip r → DecidedAs (plan_verdict (plan_of ed image) image d.words room) (plan_of ed image) image room bytes clip r
   decided_as r h = rw (plan_same ed image d.words ∙ ap (plan_on ed) o.0.is) (h.decided image o.0)
 
-  pub on_disc : (r : Result Decision Refusal) → EditDecided ed d room bytes clip r → length bytes ≡ room → OnDisc d r
+  pub on_disc : (r : Result Decision Refusal) → IsEditDecided ed d room bytes clip r → length bytes ≡ room → OnDisc d r
   on_disc r h long = on-disc d image o.0 room bytes clip long (plan_of ed image) r (decided_as r h)
 
   -- entered in the record
-  pub edit-accounted : (r : Result Decision Refusal) → EditDecided ed d room bytes clip r → (a : Accounted) (t : Totals) → OfUsed d (λ image' behind. a ≡ account_of image' behind r t) → length bytes ≡ room →
-      AccountedFor (planned (opening image words) (plan_of ed image)) image words room bytes clip t a
+  pub edit-accounted : (r : Result Decision Refusal) → IsEditDecided ed d room bytes clip r → (a : Accounted) (t : Totals) → OfUsed d (λ image' behind. a ≡ account_of image' behind r t) → length bytes ≡ room →
+      IsAccountedFor (planned (opening image words) (plan_of ed image)) image words room bytes clip t a
   edit-accounted r h a t q long = rw o.1 at (open-accounted ed h.passable image d o.0 room bytes clip long r (decided_as r h) a t q)
 
 -- ---- an edit that gives only that it is done

@@ -23,20 +23,20 @@ use Rattle.ledger.proofs.Laws.TreeAfter.{arrives}
 use Rattle.edit.specs.declared.decision.Decision.{Decision}
 use Rattle.edit.specs.Inner.Decision.{carried_answer, carried_image, DecidedAs}
 use Rattle.edit.proofs.Decisions.{answered}
-use Rattle.edit.specs.Inner.Accounting.{OfUsed, Accounted, accounted, account_of, AccountedFor}
+use Rattle.edit.specs.Inner.Accounting.{OfUsed, Accounted, accounted, account_of, IsAccountedFor}
 use Rattle.edit.specs.Laws.AccountLaws as laws
 
 -- ---- a plan, of an open image
 
 module _ (p : Plan) (image : List ℕ) (words room : ℕ) (bytes clip : List ℕ) (t : Totals) where
   -- refused by the plan's tests, or by 25
-  pub refused-accounted : (c : Refusal) (a : Accounted) → counted_verdict p t image words room ≡ Err c → a ≡ accounted (Err c) t → AccountedFor p image words room bytes clip t a
+  pub refused-accounted : (c : Refusal) (a : Accounted) → counted_verdict p t image words room ≡ Err c → a ≡ accounted (Err c) t → IsAccountedFor p image words room bytes clip t a
   refused-accounted c a e q = rw q (record {
     decided = record { fits = tt; carries = tt; answer = sym e; after = rw e };
     totals = rw e;
   })
 
-  passed-accounted : (d : Result Decision Refusal) (a : Accounted) → counted_verdict p t image words room ≡ Ok tt → DecidedAs (plan_verdict p image words room) p image room bytes clip d → a ≡ accounted d (totals_to t image (plan_image p image)) → AccountedFor p image words room bytes clip t a
+  passed-accounted : (d : Result Decision Refusal) (a : Accounted) → counted_verdict p t image words room ≡ Ok tt → DecidedAs (plan_verdict p image words room) p image room bytes clip d → a ≡ accounted d (totals_to t image (plan_image p image)) → IsAccountedFor p image words room bytes clip t a
   unfolding counted_verdict
   passed-accounted d a e h q =
       let o : plan_verdict p image words room ≡ Ok tt = (first-passed (plan_verdict p image words room) _ e).0 in
@@ -45,16 +45,16 @@ module _ (p : Plan) (image : List ℕ) (words room : ℕ) (bytes clip : List ℕ
 
   -- as the law of AccountLaws has it
   pub entered-accounted : (d : Result Decision Refusal) (a : Accounted) → DecidedAs (plan_verdict p image words room) p image room bytes clip d →
-      laws.Entered (counted_verdict p t image words room) d t (totals_to t image (plan_image p image)) a → AccountedFor p image words room bytes clip t a
+      laws.IsEntered (counted_verdict p t image words room) d t (totals_to t image (plan_image p image)) a → IsAccountedFor p image words room bytes clip t a
   entered-accounted d a h n = go (counted_verdict p t image words room) refl
     where
-      go : (v : Verdict) → counted_verdict p t image words room ≡ v → AccountedFor p image words room bytes clip t a
+      go : (v : Verdict) → counted_verdict p t image words room ≡ v → IsAccountedFor p image words room bytes clip t a
       go (Ok _) e = passed-accounted d a e h (n.passed e)
       go (Err c) e = refused-accounted c a e (n.refused c e)
 
 -- the record of an account by the words
 counted : (p : Plan) (image : List ℕ) (words room : ℕ) (d : Result Decision Refusal) (a b : Accounted) (t t' : Totals) → a ≡ b →
-    laws.Entered (first (plan_verdict p image words room) (totals_verdict t (used_of image) (used_of (plan_image p image)))) d t t' b → laws.Entered (counted_verdict p t image words room) d t t' a
+    laws.IsEntered (first (plan_verdict p image words room) (totals_verdict t (used_of image) (used_of (plan_image p image)))) d t t' b → laws.IsEntered (counted_verdict p t image words room) d t t' a
 unfolding counted_verdict
 counted p image words room d a b t t' e n = rw e n
 
@@ -67,14 +67,14 @@ module _ (ed : Edit) (h : Passable ed) (image : List ℕ) (d : Disc) (m : Means 
 
     -- entered in the record
     pub open-accounted : (a : Accounted) (t : Totals) → OfUsed d (λ image' behind. a ≡ account_of image' behind r t) →
-        AccountedFor (planned (opening image d.words) (plan_of ed image)) image d.words room bytes clip t a
+        IsAccountedFor (planned (opening image d.words) (plan_of ed image)) image d.words room bytes clip t a
     open-accounted a t q =
         let n = laws.entered image q.words q.count room bytes long t (q.held image m) (plan_image (plan_of ed image) image) (plan_of ed image) clip r (rw (← q.long) at decided) (rw (← q.long) at lays) in
         let f = entered-accounted (plan_of ed image) image d.words room bytes clip t r a decided (counted (plan_of ed image) image d.words room r a _ t _ (q.is image m) (rw q.long at n)) in
         rw (behind-passed (opening image d.words) (plan_of ed image) m.known.passed) f
 
 pub unopened-accounted : (p : Plan) (image : List ℕ) (words : ℕ) (c : Refusal) (room : ℕ) (bytes clip : List ℕ) (t : Totals) (a : Accounted) → opening image words ≡ Err c → a ≡ accounted (Err c) t →
-    AccountedFor (planned (opening image words) p) image words room bytes clip t a
+    IsAccountedFor (planned (opening image words) p) image words room bytes clip t a
 unopened-accounted p image words c room bytes clip t a q e =
     rw (behind-refused (opening image words) p c q) (refused-accounted (refused (Err c)) image words room bytes clip t c a (unfold counted_verdict in refl) e)
 
@@ -82,12 +82,12 @@ unopened-accounted p image words c room bytes clip t a q e =
 
 module _ (ed : Edit) (image : List ℕ) (words room : ℕ) (bytes clip : List ℕ) (t t' : Totals) (d : Result Decision Refusal) where
   -- opening and the plan are the whole edit
-  edit-accounted : AccountedFor (planned (opening image words) (plan_of ed image)) image words room bytes clip t (accounted d t') →
+  edit-accounted : IsAccountedFor (planned (opening image words) (plan_of ed image)) image words room bytes clip t (accounted d t') →
       (carried_answer d ≡ numbered_as (verdict_of ed t image words room) (plan_number (plan_of ed image))) × (carried_image d bytes clip image ≡ image_after ed t image words room) × (t' ≡ totals_after ed t image words room)
   unfolding verdict_of image_after totals_after
   edit-accounted f = go (opening image words) f
     where
-      go : (v : Verdict) → AccountedFor (planned v (plan_of ed image)) image words room bytes clip t (accounted d t') →
+      go : (v : Verdict) → IsAccountedFor (planned v (plan_of ed image)) image words room bytes clip t (accounted d t') →
           (carried_answer d ≡ numbered_as (first v (counted_verdict (plan_of ed image) t image words room)) (plan_number (plan_of ed image)))
           × (carried_image d bytes clip image ≡ cond (is_refused (first v (counted_verdict (plan_of ed image) t image words room))) image (plan_image (plan_of ed image) image))
           × (t' ≡ cond (is_refused (first v (counted_verdict (plan_of ed image) t image words room))) t (totals_to t image (plan_image (plan_of ed image) image)))
@@ -96,7 +96,7 @@ module _ (ed : Edit) (image : List ℕ) (words room : ℕ) (bytes clip : List �
           let e : counted_verdict (refused (Err c)) t image words room ≡ Err c = unfold counted_verdict in refl in
           (answered _ _ _ _ _ _ _ k.decided ∙ rw e, k.decided.after ∙ rw e, k.totals ∙ rw e)
 
-pub edited : (ed : Edit) (image words bytes clip x b image' words' bytes' : List ℕ) (t t' : Totals) (d : Result Decision Refusal) → AccountedFor (planned (opening image (length words)) (plan_of ed image)) image (length words) (length bytes) b clip t (accounted d t') → x ≡ clip →
+pub edited : (ed : Edit) (image words bytes clip x b image' words' bytes' : List ℕ) (t t' : Totals) (d : Result Decision Refusal) → IsAccountedFor (planned (opening image (length words)) (plan_of ed image)) image (length words) (length bytes) b clip t (accounted d t') → x ≡ clip →
     image' ≡ carried_image d b x image → words' ≡ zeros words → bytes' ≡ zeros bytes → (r : Result ℕ Refusal) → r ≡ carried_answer d → Edited numbered_as ed (lent image words bytes t) (lent image' words' bytes' t') r
 edited ed image words bytes clip x b image' words' bytes' t t' d f c i zw zb r q =
     let e = edit-accounted ed image (length words) (length bytes) b clip t t' d f in

@@ -13,7 +13,7 @@ use lib.ListN.{length, get_or}
 use Rattle.refusal.specs.declared.Refusal.TheVariants.{NoSuchEntry, UnsafeName, ExpectedDirectory, AlreadyExists, InvalidNameByte}
 use Rattle.refusal.specs.Laws.Chains.{refuse-passed}
 use Rattle.tree.specs.Table.{Node, none, plain, safe, limits}
-use Rattle.tree.specs.Inner.WellFormed.{GoodName, WellFormed}
+use Rattle.tree.specs.Inner.WellFormed.{IsGoodName, IsWellFormed}
 use Rattle.tree.specs.Lookup.{is_directory, child_of}
 use Rattle.tree.proofs.Laws.Growing.{bigger-same}
 use Rattle.tree.proofs.Laws.Renumbered.{directory-is}
@@ -25,7 +25,7 @@ use Rattle.opened.specs.Inner.Disc.{Disc}
 use Rattle.edit.specs.declared.decision.Decision.{Decision}
 use Rattle.edit.specs.Inner.Decision.{Decides}
 use Rattle.edit.proofs.Decisions.{behind-passed, behind-refused}
-use Rattle.table_writing.specs.Inner.Growth.{IsDirectory, added, Built}
+use Rattle.table_writing.specs.Inner.Growth.{IsDirectory, added, IsBuilt}
 use Rattle.table_writing.proofs.GrowthLaws.{bigger-added}
 use Rattle.edit.proofs.TableChanges.{unbuilt-decides}
 use Rattle.table_writing.specs.Inner.Kind.{kind_is_directory}
@@ -37,7 +37,7 @@ not-off : (t : Bool) → not t ≡ false → t ≡ true
 not-off true e = refl
 not-off false e = let z : ◌≡◌ {A = ℕ} 0 1 = cc in absurd (omega arith)
 
-pub insert-allows : (nodes : List Node) (p : ℕ) (nm : List ℕ) → insert_verdict nodes p nm ≡ Ok tt → IsDirectory nodes p × GoodName nm
+pub insert-allows : (nodes : List Node) (p : ℕ) (nm : List ℕ) → insert_verdict nodes p nm ≡ Ok tt → IsDirectory nodes p × IsGoodName nm
 unfolding insert_verdict
 insert-allows nodes p nm e =
     let a = refuse-passed (leb (length nodes) p) NoSuchEntry _ e in
@@ -48,7 +48,7 @@ insert-allows nodes p nm e =
     (record { inside = leb-false (length nodes) p a.0; kind = not-off _ d.0 }, (not-off _ g.0, not-off _ b.0))
 
 -- the number that a new entry gets fits 32 bits
-pub number-small : (nodes : List Node) (words p : ℕ) → WellFormed nodes → limits nodes words ≡ Ok tt → IsDirectory nodes p → new_number nodes p < 2 ^ 32
+pub number-small : (nodes : List Node) (words p : ℕ) → IsWellFormed nodes → limits nodes words ≡ Ok tt → IsDirectory nodes p → new_number nodes p < 2 ^ 32
 number-small nodes words p w l dir =
     let x = directory-is (get_or nodes p none) dir.kind in
     omega (arith, (next-bounds nodes p _ x.0 w x.1 dir.inside).1, (within-limits nodes words l).few)
@@ -70,21 +70,21 @@ module _ (k : Kind) (d : Disc) (p : ℕ) (nm : List ℕ) (v : Verdict) (judged :
     abbrev N : List Node
     N = added d.nodes (kind_is_directory k) p nm
 
-    pub allowed : IsDirectory d.nodes p × GoodName nm
+    pub allowed : IsDirectory d.nodes p × IsGoodName nm
     allowed = insert-allows d.nodes p nm (sym judged ∙ passed)
 
     pub tests-pass : (room : ℕ) (bytes : List ℕ) (r : Result Decision Refusal) → Decides (change (new_number d.nodes p) (table_only N)) d room bytes r → Decides (plan_inserted k d.nodes p nm) d room bytes r
     tests-pass room bytes r h image m = rw plan-is (behind-passed image d.words room bytes (insert_verdict d.nodes p nm) _ r (sym judged ∙ passed) (h image m))
 
-    module _ (w : WellFormed d.nodes) (room : ℕ) (s after : List ℕ) (held : length s ≡ room) (c : Refusal) where
+    module _ (w : IsWellFormed d.nodes) (room : ℕ) (s after : List ℕ) (held : length s ≡ room) (c : Refusal) where
       -- the tree as it is could not be built
-      pub not-started : Built d.nodes d.words s s (Err c) → Decides (plan_inserted k d.nodes p nm) d room after (Err c)
+      pub not-started : IsBuilt d.nodes d.words s s (Err c) → Decides (plan_inserted k d.nodes p nm) d room after (Err c)
       not-started b =
           rw (← held)
           (tests-pass (length s) after (Err c) (unbuilt-decides d.nodes N d (new_number d.nodes p) s after c (bigger-added d.nodes (kind_is_directory k) p nm w allowed.0 allowed.1) b))
 
       -- nor with the new entry
-      pub not-grown : (T : List Node) (words : ℕ) → T ≡ d.nodes → words ≡ d.words → Built (added T (kind_is_directory k) p nm) words s s (Err c) → Decides (plan_inserted k d.nodes p nm) d room after (Err c)
+      pub not-grown : (T : List Node) (words : ℕ) → T ≡ d.nodes → words ≡ d.words → IsBuilt (added T (kind_is_directory k) p nm) words s s (Err c) → Decides (plan_inserted k d.nodes p nm) d room after (Err c)
       not-grown T words e l b =
           rw (← held)
           (tests-pass (length s) after (Err c)

@@ -14,7 +14,7 @@ use Rattle.refusal.specs.declared.Refusal.TheVariants.{LimitOrMemory, NoSuchEntr
 use Rattle.refusal.specs.Refusal.{refuse}
 use Rattle.refusal.specs.Laws.Chains.{refuse-passed}
 use Rattle.tree.specs.Table.{Node}
-use Rattle.tree.specs.Inner.WellFormed.{WellFormed}
+use Rattle.tree.specs.Inner.WellFormed.{IsWellFormed}
 use Rattle.tree.specs.Lookup.{components}
 use Rattle.tree.proofs.Laws.InsertedList.{well-nested}
 use Rattle.tree.proofs.Laws.Growing.{Bigger, bigger-same}
@@ -28,7 +28,7 @@ use Rattle.opened.specs.Inner.Disc.{Disc}
 use Rattle.edit.specs.declared.decision.Decision.{Decision}
 use Rattle.edit.specs.Inner.Decision.{Decides}
 use Rattle.table_writing.specs.declared.growing.Growing.{Growing}
-use Rattle.table_writing.specs.Inner.Growth.{Built}
+use Rattle.table_writing.specs.Inner.Growth.{IsBuilt}
 use Rattle.table_writing.specs.Inner.Growing.{tree_of}
 use Rattle.edit.proofs.Decisions.{refused-decided}
 use Rattle.edit.proofs.TableChanges.{unbuilt-decides, same-decides}
@@ -48,7 +48,7 @@ module _ (d : Disc) (start : ℕ) (path : List ℕ) where
 
   -- ---- the tests that need no memory
 
-  pub path-short : WellFormed nodes → length path ≤ 1024 →
+  pub path-short : IsWellFormed nodes → length path ≤ 1024 →
       path_trouble nodes start path ≡ path_verdict nodes start path
   unfolding path_verdict
   path-short w h = rw (le-ltb 1024 (length path) h) (go (leb (length nodes) start) refl)
@@ -92,16 +92,16 @@ module _ (d : Disc) (start : ℕ) (path : List ℕ) where
         go : (x : Made) → made_verdict x ≡ Ok tt → plan_made x ≡ change (made_entry x) (table_only (made_tree x))
         go x e = ap plan_made (all_made x e)
 
-    grows : WellFormed nodes → Bigger nodes (made_tree whole) × (made_entry whole < length (made_tree whole))
+    grows : IsWellFormed nodes → Bigger nodes (made_tree whole) × (made_entry whole < length (made_tree whole))
     grows w = make-grows nodes [] start false (components path) (made_tree whole) (made_entry whole) w starts-inside tt (all_made whole makes-all)
 
-    module _ (w : WellFormed nodes) (room : ℕ) (after : List ℕ) where
+    module _ (w : IsWellFormed nodes) (room : ℕ) (after : List ℕ) where
       -- there was no room for a tree on the way
-      no_room : (M : List Node) (s : List ℕ) → length s ≡ room → (c : Refusal) → Bigger M (made_tree whole) → Built M d.words s s (Err c) → Decides plan d room after (Err c)
+      no_room : (M : List Node) (s : List ℕ) → length s ≡ room → (c : Refusal) → Bigger M (made_tree whole) → IsBuilt M d.words s s (Err c) → Decides plan d room after (Err c)
       no_room M s l c g b = rw (plan-is, ← l) (unbuilt-decides M (made_tree whole) d (made_entry whole) s after c g b)
 
       -- not for the tree as it is
-      pub start-refused : (s : List ℕ) → length s ≡ room → (c : Refusal) → Built nodes d.words s s (Err c) → Decides plan d room after (Err c)
+      pub start-refused : (s : List ℕ) → length s ≡ room → (c : Refusal) → IsBuilt nodes d.words s s (Err c) → Decides plan d room after (Err c)
       start-refused s l c b = no_room nodes s l c (grows w).0 b
 
       -- the walk along the path, in a table that starts as the tree

@@ -12,7 +12,7 @@ use Rattle.refusal.specs.declared.Refusal.{Refusal}
 use Rattle.refusal.specs.declared.Refusal.TheVariants.{LimitOrMemory}
 use Rattle.tree.specs.Table.{Node, encode, limits}
 use Rattle.tree.proofs.Laws.Growing.{Bigger, bigger-limits, bigger-encode, limits-either}
-use Rattle.table_writing.specs.Inner.Growth.{tree_in, Stands, Built}
+use Rattle.table_writing.specs.Inner.Growth.{tree_in, Stands, IsBuilt}
 use Rattle.table_writing.proofs.StandingTable.{size_is, front}
 use Rattle.edits.specs.Change.{change, place_verdict_in}
 use Rattle.edits.specs.Edits.{table_only, no_place, plan_verdict}
@@ -38,7 +38,7 @@ unbuilt M F words room k image b h = table-tests F no_place image words room ∙
     fits : limits F words ≡ Ok tt → first (limits F words) (place_verdict_in image room (length (encode F)) no_place) ≡ Err LimitOrMemory
     fits e = rw (e, lt-ltb room (length (encode F)) (omega (arith, h (bigger-limits M F words b e), bigger-encode M F b)))
 
-pub unbuilt-decides : (M F : List Node) (d : Disc) (k : ℕ) (s after : List ℕ) (c : Refusal) → Bigger M F → Built M d.words s s (Err c) → Decides (change k (table_only F)) d (length s) after (Err c)
+pub unbuilt-decides : (M F : List Node) (d : Disc) (k : ℕ) (s after : List ℕ) (c : Refusal) → Bigger M F → IsBuilt M d.words s s (Err c) → Decides (change k (table_only F)) d (length s) after (Err c)
 unbuilt-decides M F d k s after c g b image m = refused-decided image d.words (length s) after (change k (table_only F)) c (unbuilt M F d.words (length s) k image g b.1 ∙ ap Err (sym b.0))
 
 -- ---- a table that stands in the bytes: its place on the disc

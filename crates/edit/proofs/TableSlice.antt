@@ -11,7 +11,7 @@ use Rattle.refusal.specs.declared.Refusal.TheVariants.{LimitOrMemory}
 use Rattle.tree.specs.Table.{count, encode, limits}
 use Rattle.space.specs.declared.region.DiscRegion.{DiscRegion}
 use Rattle.table_writing.specs.Inner.Measure.{measure_of}
-use Rattle.table_writing.specs.Inner.Valid.{Valid}
+use Rattle.table_writing.specs.Inner.Valid.{IsValid}
 use Rattle.table_writing.specs.Laws.Accepted.{accepted-valid}
 use Rattle.opened.specs.Opening.{table_of, nodes_in}
 use Rattle.opened.specs.Inner.Prepared.{OpenImage}
@@ -20,7 +20,7 @@ use Rattle.edits.specs.Change.{table_verdict_in, place_verdict_in}
 use Rattle.edit.specs.Inner.Decision.{placing, behind_tests}
 use Rattle.edit.proofs.Images.{measured-cause, measured-past, measured-size, table-past, table-sized}
 
-pub opens-valid : (tab : List ℕ) → Opens tab → Valid tab (count tab)
+pub opens-valid : (tab : List ℕ) → Opens tab → IsValid tab (count tab)
 opens-valid tab o = accepted-valid tab o.words o.passed
 
 module _ (image tab : List ℕ) (is : tab ≡ table_of image) where

@@ -10,7 +10,7 @@ use lib.ListN.{length, get_or}
 use Rattle.refusal.specs.declared.Refusal.{Refusal}
 use Rattle.refusal.specs.declared.Refusal.TheVariants.{UnsafeName, ExpectedDirectory, LimitOrMemory}
 use Rattle.tree.specs.Table.{Node, none, plain, safe, parent_of, encode, limits}
-use Rattle.tree.specs.Inner.WellFormed.{GoodName, WellFormed}
+use Rattle.tree.specs.Inner.WellFormed.{IsGoodName, IsWellFormed}
 use Rattle.tree.specs.Lookup.{is_directory, child_of, stays, goes_back}
 use Rattle.tree.proofs.Laws.Children.{child-is}
 use Rattle.tree.proofs.Laws.LookupLaws.{child-inside}
@@ -54,12 +54,12 @@ must false x c F j e = let z : ◌≡◌ {A = ℕ} 0 1 = cc in absurd (omega ari
 
 -- the walk goes on from what the turn m made
 pub record Onward (m : Made) (cs : List (List ℕ)) (F : List Node) (j : ℕ) : Type 0 where
-  pub well : WellFormed (made_tree m)
+  pub well : IsWellFormed (made_tree m)
   pub inside : made_entry m < length (made_tree m)
   pub steps : ℕ
   pub left : make (made_tree m) (ups (made_tree m) (made_entry m) steps) (made_entry m) false cs ≡ made F j false
 
-module _ (M : List Node) (k n : ℕ) (nm : List ℕ) (cs : List (List ℕ)) (F : List Node) (j : ℕ) (w : WellFormed M) (k<n : k < length M)
+module _ (M : List Node) (k n : ℕ) (nm : List ℕ) (cs : List (List ℕ)) (F : List Node) (j : ℕ) (w : IsWellFormed M) (k<n : k < length M)
     (e : make M (ups M k n) k false (nm ∷ cs) ≡ made F j false) where
   abbrev M' : List Node
   M' = insert_at k (empty_directory nm (new_number M k)) M
@@ -82,7 +82,7 @@ module _ (M : List Node) (k n : ℕ) (nm : List ℕ) (cs : List (List ℕ)) (F :
 
   -- a new directory
   new-name : cond (safe nm) (make M' (k ∷ ups M k n) (new_number M k) (not (plain nm)) cs) (stopped UnsafeName) ≡ made F j false →
-      GoodName nm × (make M' (k ∷ ups M k n) (new_number M k) false cs ≡ made F j false)
+      IsGoodName nm × (make M' (k ∷ ups M k n) (new_number M k) false cs ≡ made F j false)
   new-name q =
       let s = must (safe nm) (make M' (k ∷ ups M k n) (new_number M k) (not (plain nm)) cs) UnsafeName F j q in
       let p = plain-is (plain nm) refl s.1 in
@@ -91,10 +91,10 @@ module _ (M : List Node) (k n : ℕ) (nm : List ℕ) (cs : List (List ℕ)) (F :
   pub can-turn : CanTurn M k nm
   can-turn = record { directory = record { inside = k<n; kind = tested.0 }; named = λ s b. record { good = λ c f. go s b c f tested.1 } }
     where
-      go : stays nm ≡ false → goes_back nm ≡ false → (c : Refusal) → child_of M k nm ≡ Err c → rest ≡ made F j false → GoodName nm
+      go : stays nm ≡ false → goes_back nm ≡ false → (c : Refusal) → child_of M k nm ≡ Err c → rest ≡ made F j false → IsGoodName nm
       go s b c f q = (new-name (rw (s, b, f) at q)).0
 
-  onward-new : GoodName nm → make M' (k ∷ ups M k n) (new_number M k) false cs ≡ made F j false → Onward (made M' (new_number M k) false) cs F j
+  onward-new : IsGoodName nm → make M' (k ∷ ups M k n) (new_number M k) false cs ≡ made F j false → Onward (made M' (new_number M k) false) cs F j
   unfolding ups
   onward-new g q =
       let x = directory-is (get_or M k none) tested.0 in

@@ -2,7 +2,7 @@
 // directories that are missing, and only then the image is written. All of them or none.
 
 ghost use Rattle.std.specs.Prelude.{◌≡◌, length};
-ghost use Rattle.tree.specs.Inner.WellFormed.{WellFormed};
+ghost use Rattle.tree.specs.Inner.WellFormed.{IsWellFormed};
 ghost use Rattle.edits.specs.Edits.{plan_make_directories};
 ghost use Rattle.edit.specs.Inner.Decision.{Decides};
 ghost use Rattle.edit.specs.Inner.Walk.{path_verdict};
@@ -23,7 +23,7 @@ const PATH_LIMIT: usize = 1024;
 #[tactic(auto, unfolding(crate::specs::Inner::Walk::path_verdict))]
 fn check_path(disc: &OpenDisc<'_>, start: u32, path: &[u8]) -> Verdict
     ensures answer { result ≡ path_verdict disc.now.nodes start path.now }
-    ensures well_formed { WellFormed disc.now.nodes }
+    ensures well_formed { IsWellFormed disc.now.nodes }
 {
     let table = Table::new(disc.table());
     if PATH_LIMIT < path.len() {

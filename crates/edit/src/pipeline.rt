@@ -4,8 +4,8 @@ ghost use Rattle.opened.specs.Opening.{opening};
 ghost use Rattle.edits.specs.Edits as edits;
 ghost use Rattle.edits.specs.Edits.{planned, plan_of, numbered_as};
 ghost use Rattle.edits.specs.Promise.{lent, only_verdict, Edited};
-ghost use Rattle.edit.specs.Inner.Accounting.{accounted, AccountedFor};
-ghost use Rattle.edit.specs.Inner.Decides.{edit_of, clip_of, EditDecided};
+ghost use Rattle.edit.specs.Inner.Accounting.{accounted, IsAccountedFor};
+ghost use Rattle.edit.specs.Inner.Decides.{edit_of, clip_of, IsEditDecided};
 
 use crate::decision::Decision;
 use crate::new_entry::NewEntry;
@@ -52,7 +52,7 @@ fn fill_file(
     clip: &[u8],
 ) -> Result<Decision, Refusal>
     ensures { let asked = edits.fill_file file clip.now in
-        EditDecided asked disc.now (length bytes.old) bytes.new clip.now result }
+        IsEditDecided asked disc.now (length bytes.old) bytes.new clip.now result }
 {
     filling::fill(disc, bytes, file, clip)
 }
@@ -65,7 +65,7 @@ pub fn decide_open(
     edit: Edit<'_>,
 ) -> Result<Decision, Refusal>
     ensures { let clip = clip_of edit.entry in
-        EditDecided (edit_of edit.entry) disc.now (length bytes.old) bytes.new clip result }
+        IsEditDecided (edit_of edit.entry) disc.now (length bytes.old) bytes.new clip result }
 {
     match edit {
         Edit::Rewrite => moving::rewrite(disc, bytes),
@@ -92,7 +92,7 @@ fn decide(
     ensures { let opened = opening image.now (length words.old) in
         let plan = planned opened (plan_of (edit_of edit.entry) image.now) in
         let clip = clip_of edit.entry in
-        AccountedFor plan image.now (length words.old) (length bytes.old) bytes.new clip
+        IsAccountedFor plan image.now (length words.old) (length bytes.old) bytes.new clip
         totals.old (accounted result totals.new) }
 {
     let disc = OpenDisc::of_image(image, words)?;

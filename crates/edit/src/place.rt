@@ -2,7 +2,7 @@
 ghost use Rattle.std.specs.Prelude.{◌≡◌, ◌≤◌, ◌^◌, length, IfOk};
 ghost use Rattle.endian.specs.Bytes.{put};
 ghost use Rattle.tree.specs.Table.{count, nodes_of, encode};
-ghost use Rattle.table_writing.specs.Inner.Valid.{Valid};
+ghost use Rattle.table_writing.specs.Inner.Valid.{IsValid};
 ghost use Rattle.edit.specs.Inner.Judged.{place_verdict, judged_size};
 
 use opened::OpenDisc;
@@ -50,7 +50,7 @@ pub fn check_table(disc: &OpenDisc<'_>, room: usize, place: DiscRegion) -> Resul
 
 /// The tree of a valid table, as that of an open disc is, written anew.
 pub fn write_table(table: &[u8], bytes: &mut [u8])
-    requires valid { Valid table.now (count table.now) }
+    requires valid { IsValid table.now (count table.now) }
     requires held { length (encode (nodes_of table.now)) ≤ length bytes.old }
     requires small { length (encode (nodes_of table.now)) ≤ 2 ^ 24 }
     ensures { bytes.new ≡ put bytes.old 0 (encode (nodes_of table.now)) }

@@ -1,7 +1,7 @@
 // Edits that write the table alone: the tree of the disc, from which the new table grows, and the new table
 // judged and decided on.
 ghost use Rattle.std.specs.Prelude.{◌≡◌, length, IfOk};
-ghost use Rattle.table_writing.specs.Inner.Growth.{tree_in, Stands, Built};
+ghost use Rattle.table_writing.specs.Inner.Growth.{tree_in, Stands, IsBuilt};
 ghost use Rattle.table_writing.specs.Inner.Growing.{tree_of};
 ghost use Rattle.edits.specs.Change.{change};
 ghost use Rattle.edits.specs.Edits.{table_only};
@@ -23,7 +23,7 @@ pub fn lent_words(disc: &OpenDisc<'_>) -> usize
 /// Writes the tree of the disc anew into the bytes, and gives the size of its table; 9 if its texts pass the
 /// limit or the bytes are too few.
 pub fn start_table(disc: &OpenDisc<'_>, bytes: &mut [u8]) -> Result<usize, Refusal>
-    ensures built { Built disc.now.nodes disc.now.words bytes.old bytes.new result }
+    ensures built { IsBuilt disc.now.nodes disc.now.words bytes.old bytes.new result }
     ensures table { IfOk result (λ size. Stands bytes.new size disc.now.words) }
     ensures tree { IfOk result (λ size. tree_in bytes.new size ≡ disc.now.nodes) }
 {

@@ -24,14 +24,14 @@ pub struct Walk<'a> {
 impl<'a> Model for Walk<'a> {
     ghost use Rattle.std.specs.Prelude.{◌<◌};
     ghost use Rattle.tree.specs.Table as table_of;
-    ghost use Rattle.table.specs.Inner.Held.{Held};
+    ghost use Rattle.table.specs.Inner.Held.{IsTable};
     ghost use Rattle.edit.specs.Inner.Walk.{Place, place_in};
 
     ghost Value = { Place };
 
     ghost view = { λ w. place_in w.table w.start w.entry w.level w.names };
 
-    ghost invariant = { λ w. Held w.table × (w.entry < table_of.count w.table) };
+    ghost invariant = { λ w. IsTable w.table × (w.entry < table_of.count w.table) };
 }
 
 // Whether each unit of a name is one that a name may have: 12.

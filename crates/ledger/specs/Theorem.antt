@@ -1,7 +1,7 @@
 -- Demand 3, "a single claim about the list and not one for each call": what holds of the image after any list of calls, by the ledger of the
 -- list. Beside it, what it comes to for a file that no accepted edit named, and for one that was just filled; what a record says that was
 -- handed on through the list; and what the stated maximum keeps the table to. All are proved: `demand-3` and `unnamed-stays` of
--- Laws/Demand3, `fill-reads` of Laws/FillReads, `record-tells` of Laws/RecordTells, `maximum-kept` of Laws/MaximumKept. Assumes nothing: these
+-- Laws/LedgerHolds, `fill-reads` of Laws/FillReads, `record-tells` of Laws/RecordTells, `maximum-kept` of Laws/MaximumKept. Assumes nothing: these
 -- are definitions.
 use Rattle.std.specs.Prelude.{Ok, slice_index_or}
 use Rattle.std.specs.Prelude.{ℕ, ◌+◌, ◌<◌, ◌≤◌, ◌≡◌, true, false, List, map, length, take}
@@ -40,7 +40,7 @@ pub record SameProgram (first last : List ℕ) : Type 0 where
   pub whole : end_of (program_in first) ≤ length last
 
 -- of the image after a list of calls, and the list's ledger; w is the "same memory"
-pub record Demand3 (w : ℕ) (first image : List ℕ) (l : Ledger) : Type 0 where
+pub record LedgerHolds (w : ℕ) (first image : List ℕ) (l : Ledger) : Type 0 where
   pub opens : opening image w ≡ Ok tt
   -- "After the list, opening reads the ledger's names, kinds, nesting, order and sizes"
   pub tree : map bare (nodes_in image) ≡ l.nodes
@@ -63,7 +63,7 @@ pub record Demand3 (w : ℕ) (first image : List ℕ) (l : Ledger) : Type 0 wher
 abbrev pub AnyList : Type 0
 AnyList =
     (image : List ℕ) (w₀ w : ℕ) (calls : List Call) → AllBytes image → opening image w₀ ≡ Ok tt → w₀ ≤ w → AllWithin w calls →
-    Demand3 w image (image_after_all calls image) (ledger_after (reports_of calls image) (first_ledger image))
+    LedgerHolds w image (image_after_all calls image) (ledger_after (reports_of calls image) (first_ledger image))
 
 -- ---- after any list, a file that no accepted edit named lies where it lay, byte for byte
 

@@ -10,7 +10,7 @@ use native.Mathlib.Numerals.{add-one}
 use lib.ListN.{length, get_or, set, replicate, length-set, length-replicate}
 use lib.Seq.{get_or-set_same, get_or-set_other}
 use Rattle.tree.specs.Table.{Node, file, directory, none, parent_below, parent_of, shallow, count, nodes_of}
-use Rattle.tree.specs.Inner.WellFormed.{WellFormed}
+use Rattle.tree.specs.Inner.WellFormed.{IsWellFormed}
 use Rattle.tree.specs.Lookup.{is_directory, next_of}
 use Rattle.tree.proofs.Laws.WellNested.{root_is}
 use Rattle.tree.specs.Inner.Depths.{depth_of}
@@ -25,7 +25,7 @@ use Rattle.listing.specs.Inner.Around.{Chain, Climbs, Ends}
 
 -- ---- the first entry after the root
 
-chain-root : (nodes : List Node) → WellFormed nodes → Chain nodes (replicate 65 0) 1 1
+chain-root : (nodes : List Node) → IsWellFormed nodes → Chain nodes (replicate 65 0) 1 1
 chain-root nodes w = record {
   long = length-replicate {A = ℕ} 65 0;
   some = omega arith;
@@ -70,7 +70,7 @@ module _ {nodes : List Node} {dirs : List ℕ} {d k : ℕ} (c : Chain nodes dirs
 
   -- ---- their depth
 
-  module _ (w : WellFormed nodes) (few : k < length nodes) where
+  module _ (w : IsWellFormed nodes) (few : k < length nodes) where
     depth_is : (i : ℕ) → i < d → depth_of nodes (get_or dirs i 0) ≡ i
     depth_is zero h = rw c.root (depth-root nodes)
     depth_is (suc i) h =
@@ -103,7 +103,7 @@ module _ (nodes : List Node) (dirs : List ℕ) (d k : ℕ) (b : Chain nodes dirs
 
 -- ---- one entry further
 
-module _ {nodes : List Node} {dirs : List ℕ} {d k : ℕ} (a : Ends nodes dirs d k) (w : WellFormed nodes) (some : 0 < k) (few : k < length nodes) where
+module _ {nodes : List Node} {dirs : List ℕ} {d k : ℕ} (a : Ends nodes dirs d k) (w : IsWellFormed nodes) (some : 0 < k) (few : k < length nodes) where
   c : Chain nodes dirs d k
   c = a.chain
 

@@ -5,17 +5,17 @@ use mathlib.Core.List.{List, [], ◌∷◌}
 use lib.ListN.{get_or, drop}
 use native.Mathlib.Omega.{arith}
 use Rattle.tree.specs.Table.{count, none, name_of, nodes_of, name_place, up_to0}
-use Rattle.tree.specs.Inner.Accepted.{Accepted}
+use Rattle.tree.specs.Inner.Accepted.{IsAccepted}
 use Rattle.table.proofs.Nodes.{opened, root-name}
 use Rattle.table.proofs.Ended.{name-there}
-use Rattle.table.specs.Inner.Held.{Held}
+use Rattle.table.specs.Inner.Held.{IsTable}
 
 -- accepted, with some number of words
 pub record Read (tab : List ℕ) : Type 0 where
   pub words : ℕ
-  pub is : Accepted tab words
+  pub is : IsAccepted tab words
 
-pub read-held : (tab : List ℕ) → Held tab → Read tab
+pub read-held : (tab : List ℕ) → IsTable tab → Read tab
 read-held tab h = record { words = h.opens.words; is = opened tab h.bytes h.opens }
 
 -- a text ends where its bytes end

@@ -4,11 +4,11 @@ use Rattle.std.proofs.Common.{sym, ap, ◌∙◌, arith}
 use borrow.Author.Tests.{eqb-true, not-false, eq-eqb}
 use Rattle.tree.specs.Table.{none, count, kind, offset_or_parent, nodes_of}
 use Rattle.tree.specs.Lookup.{is_directory}
-use Rattle.table.specs.Inner.Held.{Held}
+use Rattle.table.specs.Inner.Held.{IsTable}
 use Rattle.table.specs.Inner.Fields.{offset_of}
 use Rattle.table.proofs.Nodes.{opened, file-is, is-directory}
 
-module _ (tab : List ℕ) (h : Held tab) (k : ℕ) (inside : k < count tab) (t : Bool) (e : t ≡ is_directory (get_or (nodes_of tab) k none)) where
+module _ (tab : List ℕ) (h : IsTable tab) (k : ℕ) (inside : k < count tab) (t : Bool) (e : t ≡ is_directory (get_or (nodes_of tab) k none)) where
   by-kind : not (eqb (kind tab k) 0) ≡ t
   by-kind = is-directory (opened tab h.bytes h.opens) k inside ∙ sym e
 

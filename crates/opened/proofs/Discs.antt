@@ -8,7 +8,7 @@ use Rattle.space.specs.declared.region.DiscRegion.{DiscRegion}
 use Rattle.space.specs.Free.{free_regions}
 use Rattle.space.specs.Used.{total_size}
 use Rattle.space.specs.Inner.Sort.{SameSums, regions_in}
-use Rattle.space.specs.Inner.Words.{SortedDisjoint}
+use Rattle.space.specs.Inner.Words.{IsSortedDisjoint}
 use Rattle.space.specs.Laws.SortLaws.{same_total}
 use Rattle.tree.specs.Table.{nodes_of}
 use Rattle.tree.proofs.Laws.Accepted.{length-nodes_of}
@@ -19,9 +19,9 @@ use Rattle.opened.specs.Inner.Prepared.{IsOpen}
 use Rattle.opened.proofs.Laws.OpeningLaws.{table-accepted}
 use Rattle.opened.proofs.Words.{free-below, sorted-below}
 use Rattle.opened.specs.Inner.Parts.{HasParts}
-use Rattle.opened.specs.Inner.Disc.{Disc, disc_in, disc_of, free_of, Means, TableOf}
+use Rattle.opened.specs.Inner.Disc.{Disc, disc_in, disc_of, free_of, Means, IsTableOf}
 pub use Rattle.opened.specs.Laws.Meant.{free-shown, used_shown, nodes_shown}
-use Rattle.opened.specs.Inner.Backed.{Backed}
+use Rattle.opened.specs.Inner.Backed.{IsBacked}
 use Rattle.opened.proofs.Opens.{head_opens}
 use Rattle.opened.proofs.Heads.{start_is, size_is, maximum_is, user_is, disc_is}
 
@@ -34,7 +34,7 @@ module _ (image header table program : List ℕ) (long : ℕ) (h : HasParts imag
   disc_same : disc_in header table own (length w) ≡ disc_of image (length w)
   disc_same = rw (start_is image header long h.head, size_is image header long h.head, maximum_is image header long h.head, user_is image header long h.head, disc_is image header long h.head, table_there, p)
 
-  pub backed : Backed header table own w m
+  pub backed : IsBacked header table own w m
   backed = record { image = image; known = o; table_is = table_there; disc_is = disc_same }
 
   pub means : Means image (disc_in header table own (length w))
@@ -42,7 +42,7 @@ module _ (image header table program : List ℕ) (long : ℕ) (h : HasParts imag
 
 -- ---- what the words hold
 
-module _ (header table : List ℕ) (own : DiscRegion) (w : List ℕ) (m : ℕ) (b : Backed header table own w m) where
+module _ (header table : List ℕ) (own : DiscRegion) (w : List ℕ) (m : ℕ) (b : IsBacked header table own w m) where
   pub opens_backed : Opens table
   opens_backed = rw b.table_is (record { words = length w; passed = table-accepted b.image (length w) b.known.known.passed })
 
@@ -62,7 +62,7 @@ module _ (header table : List ℕ) (own : DiscRegion) (w : List ℕ) (m : ℕ) (
     pub lent_is : length w ≡ d.words
     lent_is = ap (λ (x : Disc). x.words) v
 
-    pub sorted_backed : (e : ℕ) → e ≡ d.end → SortedDisjoint w m e
+    pub sorted_backed : (e : ℕ) → e ≡ d.end → IsSortedDisjoint w m e
     sorted_backed e q = sorted-below b.image w m e b.known (q ∙ ap (λ (x : Disc). x.end) (sym shown))
 
     pub sums_backed : SameSums (regions_in w 0 m) d.used
@@ -85,7 +85,7 @@ module _ (header table : List ℕ) (own : DiscRegion) (w : List ℕ) (m : ℕ) (
         let s : fst_offset b.image ≡ d.start = ap (λ (x : Disc). x.start) shown in
         rw (← s, b.table_is) (omega (arith, k.size, k.bounds.table, k.bounds.small))
 
-    pub table_backed : TableOf d table
+    pub table_backed : IsTableOf d table
     table_backed = record { image = b.image; means = means_backed; is = b.table_is }
 
     -- LAW: the words hold the used regions of every image that means the disc

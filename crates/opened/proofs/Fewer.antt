@@ -7,7 +7,7 @@ use Rattle.refusal.specs.Laws.Tests.{and_left, and_right}
 use Rattle.space.specs.declared.region.DiscRegion.{DiscRegion}
 use Rattle.space.specs.Used.{end_of}
 use Rattle.space.specs.Inner.Sort.{region_at, regions_in}
-use Rattle.space.specs.Inner.Words.{AllNonempty, in_sequence, SortedDisjoint}
+use Rattle.space.specs.Inner.Words.{AllNonempty, in_sequence, IsSortedDisjoint}
 use Rattle.space.proofs.Order.{sequence-le}
 
 full-first : (w : List ℕ) (k m n : ℕ) → n ≤ m → AllNonempty (regions_in w k m) → AllNonempty (regions_in w k n)
@@ -27,7 +27,7 @@ sequence-first w k (suc m) (suc n) at e h q =
     sequence-first w (suc k) m n (end_of x) e (omega arith) (and_right (leb at x.offset) (in_sequence (end_of x) e (regions_in w (suc k) m)) q) in
     rw (here, rest)
 
-pub sorted-first : (w : List ℕ) (m n e : ℕ) → n ≤ m → SortedDisjoint w m e → SortedDisjoint w n e
+pub sorted-first : (w : List ℕ) (m n e : ℕ) → n ≤ m → IsSortedDisjoint w m e → IsSortedDisjoint w n e
 sorted-first w m n e h s = record {
   held = omega (arith, s.held);
   full = full-first w 0 m n h s.full;

@@ -10,11 +10,11 @@ use Rattle.header.specs.Verdicts.{header_verdict, bounds_verdict}
 use Rattle.header.specs.Laws.FieldTests.{header-passes, bounds-pass}
 use Rattle.tree.specs.Table.{check}
 use Rattle.opened.specs.Opening.{table_of}
-use Rattle.opened.specs.Inner.Prepared.{verdict_before24, Readable}
+use Rattle.opened.specs.Inner.Prepared.{verdict_before24, IsReadable}
 use Rattle.opened.proofs.Laws.OpeningLaws.{stopped, went_on}
 use Rattle.opened.specs.Inner.Parts.{HasTable}
 
-pub head_opens : (image : List ℕ) (words : ℕ) → Readable image words → first (header_verdict image) (bounds_verdict image) ≡ Ok tt
+pub head_opens : (image : List ℕ) (words : ℕ) → IsReadable image words → first (header_verdict image) (bounds_verdict image) ≡ Ok tt
 head_opens image words k = rw (header-passes image k.header, bounds-pass image k.bounds)
 
 -- the header is refused before the table is read
@@ -31,7 +31,7 @@ module _ (image table : List ℕ) (t : HasTable image table) where
   tested words r passed e =
       (e ∙ ap (λ (l : List ℕ). check l words) (t (sym passed))) ∙ went_on (Ok tt) (header_verdict image) (bounds_verdict image) (check (table_of image) words) passed refl
 
-  module _ (words : ℕ) (k : Readable image words) where
+  module _ (words : ℕ) (k : IsReadable image words) where
     pub table_is : table ≡ table_of image
     table_is = t (head_opens image words k)
 

@@ -24,7 +24,7 @@ use Rattle.space.specs.Laws.MiddleLaws.{below-middle, free-middle, sum-middle, u
 use Rattle.space.specs.Laws.SortLaws.{sum-sorted}
 use Rattle.executable.specs.Program.{program_of, program_verdict, nowhere, program_in, own_region, program_behind}
 use Rattle.opened.specs.Opening.{table_of, nodes_in, behind_table, used_in, free_space_of, layout_verdict, opening}
-use Rattle.opened.specs.Inner.Prepared.{verdict_before24, entry_regions, CollectedUsed, SameUse, UsedWords, Readable, IsOpen}
+use Rattle.opened.specs.Inner.Prepared.{verdict_before24, entry_regions, CollectedUsed, SameUse, UsedWords, IsReadable, IsOpen}
 use Rattle.opened.proofs.Laws.OpeningLaws.{opens, opening-split, program-first}
 use Rattle.opened.proofs.UsedRegions.{regions-of-tree}
 
@@ -40,7 +40,7 @@ pub table-end-fits : (image : List ℕ) (to : ℕ) → Bounded image → to ≡ 
 table-end-fits image to b p = omega (arith, b.table, b.small)
 
 -- what `collect` asks
-module _ (image : List ℕ) (n c : ℕ) (k : Readable image n) (g : c ≡ count (table_of image)) where
+module _ (image : List ℕ) (n c : ℕ) (k : IsReadable image n) (g : c ≡ count (table_of image)) where
   pub some-entry : 0 < c
   unfolding count
   some-entry = omega arith
@@ -71,7 +71,7 @@ module _ (image w : List ℕ) (m to c : ℕ) (tab : List ℕ) (program : DiscReg
   regions-full = rw k.list (nonempty-all (record { offset = 0; size = to } ∷ (entry_regions tab 1 (k.turn - 1) ++ (program ∷ entry_regions tab k.turn (c - k.turn)))))
 
 -- what the test of the regions asks, after `collect`
-pub regions-room : (image : List ℕ) (n n' m c : ℕ) → Readable image n → c ≡ count (table_of image) → m ≤ c + 1 → n' ≡ n → 2 * (c + 2 + m) ≤ n'
+pub regions-room : (image : List ℕ) (n n' m c : ℕ) → IsReadable image n → c ≡ count (table_of image) → m ≤ c + 1 → n' ≡ n → 2 * (c + 2 + m) ≤ n'
 regions-room image n n' m c k e b l = omega (arith, k.table.room)
 
 -- test 24, after the others passed

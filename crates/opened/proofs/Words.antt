@@ -7,14 +7,14 @@ pub use Rattle.space.specs.declared.region.DiscRegion.{DiscRegion}
 pub use Rattle.space.specs.Free.{free_regions}
 pub use Rattle.space.specs.Used.{total_size}
 pub use Rattle.space.specs.Inner.Sort.{regions_in}
-pub use Rattle.space.specs.Inner.Words.{SortedDisjoint}
+pub use Rattle.space.specs.Inner.Words.{IsSortedDisjoint}
 use Rattle.header.specs.Verdicts.{disc_end}
 use Rattle.opened.specs.Opening.{free_space_of}
 use Rattle.opened.specs.Inner.Prepared.{IsOpen}
 
 -- the used regions stand below the end that was read, and the free ones are what they leave
 module _ (image w : List ℕ) (m e : ℕ) (o : IsOpen image w m) (h : e ≡ disc_end image) where
-  pub sorted-below : SortedDisjoint w m e
+  pub sorted-below : IsSortedDisjoint w m e
   sorted-below = rw h o.used.sorted
 
   pub free-below : free_regions e (regions_in w 0 m) ≡ free_space_of image

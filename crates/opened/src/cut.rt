@@ -1,7 +1,7 @@
 // The parts of an image in memory.
 ghost use Rattle.std.specs.Prelude.{◌≡◌};
 ghost use Rattle.endian.specs.Bytes.{span};
-ghost use Rattle.opened.specs.Inner.Parts.{PartsOf};
+ghost use Rattle.opened.specs.Inner.Parts.{ArePartsOf};
 
 use crate::parts::Parts;
 
@@ -15,7 +15,7 @@ fn cut(image: &[u8], from: usize, size: usize) -> &[u8]
 }
 
 pub fn parts_of(image: &[u8]) -> Parts<'_>
-    ensures { PartsOf image.now result }
+    ensures { ArePartsOf image.now result }
 {
     let header = cut(image, 0, 0x440);
     let table = cut(

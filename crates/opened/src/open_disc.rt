@@ -6,12 +6,12 @@ ghost use Rattle.space.specs.Used.{total_size};
 ghost use Rattle.space.specs.Free.{free_regions};
 ghost use Rattle.space.specs.Inner.Sort.{SameSums, regions_in};
 ghost use Rattle.space.specs.Inner.UsedSpace.{free_in};
-ghost use Rattle.space.specs.Inner.Words.{SortedDisjoint};
+ghost use Rattle.space.specs.Inner.Words.{IsSortedDisjoint};
 ghost use Rattle.space.specs.MaxRegionSize.{max_region_size};
 ghost use Rattle.space.specs.Allocate.{allocation_of};
 ghost use Rattle.opened.specs.Inner.Prepared.{IsOpen};
-ghost use Rattle.opened.specs.Inner.Parts.{PartsOf};
-ghost use Rattle.opened.specs.Inner.Disc.{OpensAs, Means, TableOf, free_of};
+ghost use Rattle.opened.specs.Inner.Parts.{ArePartsOf};
+ghost use Rattle.opened.specs.Inner.Disc.{OpensAs, Means, IsTableOf, free_of};
 
 use crate::cut::parts_of;
 use crate::parts::Parts;
@@ -40,13 +40,13 @@ pub struct OpenDisc<'a> {
 impl<'a> Model for OpenDisc<'a> {
     ghost use Rattle.std.specs.Prelude.{length};
     ghost use Rattle.opened.specs.Inner.Disc.{Disc, disc_in};
-    ghost use Rattle.opened.specs.Inner.Backed.{Backed};
+    ghost use Rattle.opened.specs.Inner.Backed.{IsBacked};
 
     ghost Value = { Disc };
 
     ghost view = { λ d. disc_in d.header.now d.table.now d.own (length d.words.now) };
 
-    ghost invariant = { λ d. Backed d.header.now d.table.now d.own d.words.now d.used };
+    ghost invariant = { λ d. IsBacked d.header.now d.table.now d.own d.words.now d.used };
 }
 
 // The image is passed for its name in the contract alone.
@@ -56,7 +56,7 @@ fn open_shown<'a>(
     words: &'a mut [u32],
 ) -> Result<OpenDisc<'a>, Refusal>
     ghost shown: { List ℕ }
-    requires { (shown ≡ _image.now) × PartsOf shown parts }
+    requires { (shown ≡ _image.now) × ArePartsOf shown parts }
     ensures { OpensAs shown (length words.old) result }
 {
     OpenDisc::open(parts, words)
@@ -66,7 +66,7 @@ impl<'a> OpenDisc<'a> {
     /// Opens the image that has these parts, whichever it is, or says why not.
     pub fn open(parts: Parts<'a>, words: &'a mut [u32]) -> Result<Self, Refusal>
         ghost image: { List ℕ }
-        requires { PartsOf image parts }
+        requires { ArePartsOf image parts }
         ensures { OpensAs image (length words.old) result }
     {
         check_table(parts, words.len())?;
@@ -121,7 +121,7 @@ impl<'a> OpenDisc<'a> {
         ensures bytes { result.now ≡ self.now.table }
         ensures nodes { nodes_of result.now ≡ self.now.nodes }
         ensures opens { Opens result.now }
-        ensures of_image { TableOf self.now result.now }
+        ensures of_image { IsTableOf self.now result.now }
         ensures fits { self.now.start + length result.now < 2 ^ 32 }
     {
         self.table
@@ -137,7 +137,7 @@ impl<'a> OpenDisc<'a> {
     /// The words that hold its used regions in order, and how many these are.
     pub fn used_words(&self) -> (&'a [u32], usize)
         ensures open { (image : List ℕ) → Means image self.now → IsOpen image result.0.now result.1 }
-        ensures sorted { SortedDisjoint result.0.now result.1 self.now.end }
+        ensures sorted { IsSortedDisjoint result.0.now result.1 self.now.end }
         ensures free { free_regions self.now.end (regions_in result.0.now 0 result.1) ≡ free_of self.now }
     {
         (self.words, self.used)

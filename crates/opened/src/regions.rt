@@ -2,7 +2,7 @@
 ghost use Rattle.std.specs.Prelude.{◌≡◌, ◌+◌, ◌-◌, ◌*◌, ◌≤◌, ◌<◌, length};
 ghost use Rattle.tree.specs.Table.{count};
 ghost use Rattle.opened.specs.Inner.Prepared.{CollectedUsed};
-ghost use Rattle.opened.specs.Inner.Collecting.{RegionOf, InTurn, AddsRegion, AddsEntry, AddsEntries};
+ghost use Rattle.opened.specs.Inner.Collecting.{IsRegionOf, InTurn, AddsRegion, AddsEntry, AddsEntries};
 
 use space::DiscRegion;
 use table::Table;
@@ -10,7 +10,7 @@ use table::Table;
 // Where the bytes of entry k stand. A directory has none.
 fn region_of(table: &Table<'_>, k: usize) -> Option<DiscRegion>
     requires { k < count table.now }
-    ensures { RegionOf table.now k result }
+    ensures { IsRegionOf table.now k result }
 {
     let region = DiscRegion {
         offset: table.offset(k),

@@ -2,7 +2,7 @@
 ghost use Rattle.std.specs.Prelude.{◌≡◌, List, ℕ, Ok, length};
 ghost use Rattle.executable.specs.Program.{program_of, program_verdict, program_behind};
 ghost use Rattle.opened.specs.Inner.Prepared.{verdict_before24, Prepares};
-ghost use Rattle.opened.specs.Inner.Parts.{PartsOf, own_as};
+ghost use Rattle.opened.specs.Inner.Parts.{ArePartsOf, own_as};
 
 use crate::parts::Parts;
 use crate::regions::collect;
@@ -17,7 +17,7 @@ use table::Table;
 // The tests 1 to 13.
 pub fn check_table(parts: Parts<'_>, words: usize) -> Verdict
     ghost image: { List ℕ }
-    requires { PartsOf image parts }
+    requires { ArePartsOf image parts }
     ensures { result ≡ verdict_before24 image words }
 {
     header::check_bounds_within(parts.header, parts.length)?;
@@ -27,7 +27,7 @@ pub fn check_table(parts: Parts<'_>, words: usize) -> Verdict
 // The program, whose header the image may not hold.
 fn read_program(parts: Parts<'_>) -> Program
     ghost image: { List ℕ }
-    requires { PartsOf image parts }
+    requires { ArePartsOf image parts }
     ensures { result ≡ program_of image }
 {
     let offset = header::dol_offset(parts.header);
@@ -41,7 +41,7 @@ fn read_program(parts: Parts<'_>) -> Program
 // Test 24: the region that the program takes behind the table.
 pub fn check_program(parts: Parts<'_>) -> Result<DiscRegion, Refusal>
     ghost image: { List ℕ }
-    requires { PartsOf image parts }
+    requires { ArePartsOf image parts }
     ensures { result ≡ own_as (program_of image) (program_behind image) }
 {
     let program = read_program(parts)?;
@@ -51,7 +51,7 @@ pub fn check_program(parts: Parts<'_>) -> Result<DiscRegion, Refusal>
 // Test 14, which leaves the used regions in order.
 pub fn check_used(parts: Parts<'_>, words: &mut [u32], own: DiscRegion) -> Result<usize, Refusal>
     ghost image: { List ℕ }
-    requires parts_of { PartsOf image parts }
+    requires parts_of { ArePartsOf image parts }
     requires before { verdict_before24 image (length words.old) ≡ (Ok tt) }
     requires accepted { program_verdict (program_of image) ≡ (Ok tt) }
     requires own { own ≡ program_behind image }

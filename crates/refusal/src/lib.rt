@@ -4,8 +4,8 @@
 ghost use Rattle.std.specs.Prelude.{◌≡◌};
 ghost use Rattle.refusal.specs.Refusal.{number_of};
 
-use std::fmt;
 use std::error::Error;
+use std::fmt;
 
 mod number;
 

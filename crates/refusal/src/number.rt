@@ -4,8 +4,8 @@ ghost use Rattle.refusal.specs.Refusal.{number_of};
 ghost use Rattle.refusal.specs.Causes.{IsCauseOf};
 
 use crate::Refusal;
-use std::fmt;
 use std::error::Error;
+use std::fmt;
 
 /// A number that no cause has.
 #[derive(Clone, Copy, PartialEq, Eq, Debug)]

@@ -4,7 +4,7 @@ use Rattle.std.proofs.Common.{sym, ap, arith}
 use Rattle.space.specs.declared.region.DiscRegion.{DiscRegion}
 use Rattle.space.specs.Used.{end_of, nonempty, total_size}
 use Rattle.space.specs.Inner.Sort.{regions_in}
-use Rattle.space.specs.Inner.Words.{SortedDisjoint, gaps}
+use Rattle.space.specs.Inner.Words.{IsSortedDisjoint, gaps}
 use Rattle.space.proofs.Pairs.{length-regions}
 use Rattle.space.proofs.Gaps.{gaps-free}
 use Rattle.space.specs.Inner.UsedSpace.{UsedSpace, used_in, free_in}
@@ -24,7 +24,7 @@ unfolding gaps
 length-gaps at e [] = refl
 length-gaps at e (x ∷ xs) = ap suc (length-gaps (end_of x) e xs)
 
-module _ (w : List ℕ) (m e : ℕ) (s : SortedDisjoint w m e) (u : UsedSpace) (is : used_in w m e ≡ u) where
+module _ (w : List ℕ) (m e : ℕ) (s : IsSortedDisjoint w m e) (u : UsedSpace) (is : used_in w m e ≡ u) where
   -- the used regions end by the disc's end
   pub used-fits : total_size u.regions ≤ e
   used-fits = rw (← is) (omega (arith, total-gaps 0 e (regions_in w 0 m) s.sequence))

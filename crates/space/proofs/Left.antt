@@ -15,11 +15,11 @@ abbrev pub left : ℕ → ℕ → List DiscRegion → List DiscRegion
 left e at xs = nonempty (gaps at e xs)
 
 -- used regions with no free byte before them were passed, from one place to another
-pub record Passed (e : ℕ) (all : List DiscRegion) (at : ℕ) (xs : List DiscRegion) : Type 0 where
+pub record IsPassed (e : ℕ) (all : List DiscRegion) (at : ℕ) (xs : List DiscRegion) : Type 0 where
   pub in_order : in_sequence at e xs ≡ true
   pub same : left e at xs ≡ all
 
-module _ (e : ℕ) (all : List DiscRegion) (at : ℕ) (xs : List DiscRegion) (p : Passed e all at xs) where
+module _ (e : ℕ) (all : List DiscRegion) (at : ℕ) (xs : List DiscRegion) (p : IsPassed e all at xs) where
   -- x is the next used region
   module _ (x : DiscRegion) (ys : List DiscRegion) (is : xs ≡ x ∷ ys) where
     in_order-here : (leb at x.offset && in_sequence (end_of x) e ys) ≡ true
@@ -34,7 +34,7 @@ module _ (e : ℕ) (all : List DiscRegion) (at : ℕ) (xs : List DiscRegion) (p 
     pub passed-ends : end_of x ≤ e
     passed-ends = sequence-le (end_of x) e ys passed-order
 
-    pub passed-skip : x.offset ≤ at → Passed e all (end_of x) ys
+    pub passed-skip : x.offset ≤ at → IsPassed e all (end_of x) ys
     passed-skip h = record {
       in_order = passed-order;
       same = sym (nonempty-empty (record { offset = at; size = x.offset - at }) (gaps (end_of x) e ys) (omega arith)) ∙ same-here;

@@ -2,7 +2,7 @@
 // disc's end.
 ghost use Rattle.std.specs.Prelude.{◌≡◌, ◌<◌, length};
 ghost use Rattle.space.specs.Used.{total_size};
-ghost use Rattle.space.specs.Inner.Words.{SortedDisjoint};
+ghost use Rattle.space.specs.Inner.Words.{IsSortedDisjoint};
 ghost use Rattle.space.specs.Inner.Found.{found_or_none};
 ghost use Rattle.space.specs.Inner.UsedSpace.{used_in, free_in};
 ghost use Rattle.space.specs.MaxRegionSize.{max_region_size};
@@ -40,7 +40,7 @@ impl<'a> Model for UsedRegions<'a> {
 impl<'a> UsedRegions<'a> {
     /// The first `count` regions in the words, below a disc's end.
     pub fn new(words: &'a [u32], count: usize, disc_end: u32) -> Self
-        requires { SortedDisjoint words.now count disc_end }
+        requires { IsSortedDisjoint words.now count disc_end }
         ensures { result ≡ used_in words.now count disc_end }
     {
         UsedRegions {

@@ -1,4 +1,4 @@
--- Fit texts unit by unit, and the marks that say where one starts. Assumes nothing.
+-- IsFit texts unit by unit, and the marks that say where one starts. Assumes nothing.
 use Prim.Native.Nat.{ℕ, zero, suc, ◌+◌, ◌-◌, ◌<◌, ◌≤◌}
 use mathlib.Core.Path.{◌≡◌, refl, sym, ◌∙◌}
 use mathlib.Core.Logic.{⊎_elim}
@@ -13,20 +13,20 @@ use Rattle.tree.specs.Units.{lead_byte, trail_byte}
 use Rattle.tree.specs.Table.{plain_byte, safe_byte, plain_unit, safe_unit}
 use Rattle.tree.specs.Inner.Pairs.{pair_at}
 use Rattle.refusal.specs.Laws.Tests.{lt-or-le, and_left, and_right}
-use Rattle.table.specs.Inner.Texts.{clean_byte, clean_from, NoLead}
-use Rattle.table.specs.Inner.Blocks.{Fit, Marked}
+use Rattle.table.specs.Inner.Texts.{clean_byte, clean_from, HasNoLead}
+use Rattle.table.specs.Inner.Blocks.{IsFit, Marked}
 use Rattle.table.proofs.Chart.{Kinds}
 use Rattle.table.proofs.Texts.{inside, every-end, every-pair, every-single, clean-no-pair, clean-pair, clean-single, clean-behind}
 
 -- ---- fit texts
 
-pub fit-end : (tab : List ℕ) (i : ℕ) → get_or tab i 0 ≡ 0 → Fit tab i
+pub fit-end : (tab : List ℕ) (i : ℕ) → get_or tab i 0 ≡ 0 → IsFit tab i
 fit-end tab i z = record { plain = every-end plain_unit tab i z; safe = every-end safe_unit tab i z }
 
-pub fit-pair : (tab : List ℕ) (i : ℕ) → pair_at tab i ≡ true → Fit tab (i + 2) → Fit tab i
+pub fit-pair : (tab : List ℕ) (i : ℕ) → pair_at tab i ≡ true → IsFit tab (i + 2) → IsFit tab i
 fit-pair tab i h f = record { plain = every-pair plain_unit tab i h refl ∙ f.plain; safe = every-pair safe_unit tab i h refl ∙ f.safe }
 
-pub fit-single : (tab : List ℕ) (i : ℕ) → (get_or tab i 0 ≡ 0 → ⊥) → clean_byte (get_or tab i 0) ≡ true → Fit tab (i + 1) → Fit tab i
+pub fit-single : (tab : List ℕ) (i : ℕ) → (get_or tab i 0 ≡ 0 → ⊥) → clean_byte (get_or tab i 0) ≡ true → IsFit tab (i + 1) → IsFit tab i
 fit-single tab i n e f =
     let b = get_or tab i 0 in
     let q : (plain_byte b && safe_byte b) ≡ true = rw (ne_eqb b 0 n) at e in
@@ -35,11 +35,11 @@ fit-single tab i n e f =
     record { plain = p ∙ f.plain; safe = s ∙ f.safe }
 
 -- LAW: where the bytes are clean from a place on, the text there is fit; n is enough for the bytes that are left
-fit-clean : (n : ℕ) (tab : List ℕ) (i : ℕ) → length tab ≤ i + n → clean_from tab i ≡ true → Fit tab i
+fit-clean : (n : ℕ) (tab : List ℕ) (i : ℕ) → length tab ≤ i + n → clean_from tab i ≡ true → IsFit tab i
 fit-clean zero tab i h e = fit-end tab i (get_or-eq_default tab 0 (omega arith))
 fit-clean (suc n) tab i h e = go (eqb (get_or tab i 0) 0) (pair_at tab i) refl refl (fit-clean n tab (i + 2) (omega arith)) (fit-clean n tab (i + 1) (omega arith))
   where
-    go : (z p : Bool) → eqb (get_or tab i 0) 0 ≡ z → pair_at tab i ≡ p → (clean_from tab (i + 2) ≡ true → Fit tab (i + 2)) → (clean_from tab (i + 1) ≡ true → Fit tab (i + 1)) → Fit tab i
+    go : (z p : Bool) → eqb (get_or tab i 0) 0 ≡ z → pair_at tab i ≡ p → (clean_from tab (i + 2) ≡ true → IsFit tab (i + 2)) → (clean_from tab (i + 1) ≡ true → IsFit tab (i + 1)) → IsFit tab i
     go true p q r f g = fit-end tab i (eqb-true _ _ q)
     go false true q r f g = fit-pair tab i r (f (sym (clean-pair tab i r) ∙ e))
     go false false q r f g =
@@ -47,11 +47,11 @@ fit-clean (suc n) tab i h e = go (eqb (get_or tab i 0) 0) (pair_at tab i) refl r
         let s : (clean_byte (get_or tab i 0) && clean_from tab (i + 1)) ≡ true = sym (clean-single tab i (clean_byte (get_or tab i 0)) (inside tab i m) r refl) ∙ e in
         fit-single tab i m (and_left (clean_byte (get_or tab i 0)) _ s) (g (and_right (clean_byte (get_or tab i 0)) _ s))
 
-fit-first : (tab : List ℕ) (from : ℕ) → clean_from tab from ≡ true → Fit tab from
+fit-first : (tab : List ℕ) (from : ℕ) → clean_from tab from ≡ true → IsFit tab from
 fit-first tab from e = fit-clean (length tab) tab from (omega arith) e
 
 -- LAW: of clean texts, one that follows no lead byte starts with a unit, and so is fit
-pub fit-after : (tab : List ℕ) (from at before b : ℕ) (t : Bool) → clean_from tab from ≡ true → b ≡ get_or tab before 0 → from ≤ before → before + 1 ≡ at → t ≡ lead_byte b → t ≡ false → Fit tab at
+pub fit-after : (tab : List ℕ) (from at before b : ℕ) (t : Bool) → clean_from tab from ≡ true → b ≡ get_or tab before 0 → from ≤ before → before + 1 ≡ at → t ≡ lead_byte b → t ≡ false → IsFit tab at
 fit-after tab from at before b t e r h k l f =
     let n : ℕ = before - from in
     let p : before ≡ from + n = omega arith in
@@ -60,16 +60,16 @@ fit-after tab from at before b t e r h k l f =
     fit-first tab at (rw q at (clean-behind tab from n e z))
 
 -- LAW: so does one before which there is no lead byte at all
-pub fit-early : (tab : List ℕ) (from first at : ℕ) → clean_from tab from ≡ true → NoLead tab from first → from ≤ at → at ≤ first → Fit tab at
+pub fit-early : (tab : List ℕ) (from first at : ℕ) → clean_from tab from ≡ true → HasNoLead tab from first → from ≤ at → at ≤ first → IsFit tab at
 fit-early tab from first at e g h l = ⊎_elim later (λ (k : at ≤ from). let q : at ≡ from = omega arith in rw q (fit-first tab from e)) (lt-or-le from at)
   where
-    later : from < at → Fit tab at
+    later : from < at → IsFit tab at
     later k = fit-after tab from at (at - 1) (get_or tab (at - 1) 0) (lead_byte (get_or tab (at - 1) 0)) e refl (omega arith) (omega arith) refl (g.none (at - 1) (omega arith) (omega arith))
 
 -- ---- the units of a text in a block
 
 module _ (tab : List ℕ) (at : ℕ) (kinds trails : List ℕ) (k : Kinds kinds trails) (below : get_or tab at 0 < 256) where
-  pub fit-clean-byte : get_or kinds (get_or tab at 0) 0 ≡ 99 → Fit tab (at + 1) → Fit tab at
+  pub fit-clean-byte : get_or kinds (get_or tab at 0) 0 ≡ 99 → IsFit tab (at + 1) → IsFit tab at
   fit-clean-byte e f =
       let g = k.clean (get_or tab at 0) below e in
       fit-single tab at (λ z. absurd (true≢false (sym (and_left (not (eqb (get_or tab at 0) 0)) _ g) ∙ rw (z)))) (and_right (not (eqb (get_or tab at 0) 0)) _ g) f
@@ -89,7 +89,7 @@ module _ (tab : List ℕ) (at : ℕ) (kinds trails : List ℕ) (k : Kinds kinds 
   pub clean-lead-byte : get_or kinds (get_or tab at 0) 0 ≡ 108 → get_or tab (at + 1) 0 < 256 → get_or trails (get_or tab (at + 1) 0) 0 ≡ 116 → clean_from tab at ≡ clean_from tab (at + 2)
   clean-lead-byte e l t = clean-pair tab at (is-pair e l t)
 
-  pub fit-lead-byte : get_or kinds (get_or tab at 0) 0 ≡ 108 → get_or tab (at + 1) 0 < 256 → get_or trails (get_or tab (at + 1) 0) 0 ≡ 116 → Fit tab (at + 2) → Fit tab at
+  pub fit-lead-byte : get_or kinds (get_or tab at 0) 0 ≡ 108 → get_or tab (at + 1) 0 < 256 → get_or trails (get_or tab (at + 1) 0) 0 ≡ 116 → IsFit tab (at + 2) → IsFit tab at
   fit-lead-byte e l t f = fit-pair tab at (is-pair e l t) f
 
 -- ---- marks

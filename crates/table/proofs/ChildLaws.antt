@@ -15,7 +15,7 @@ use Rattle.endian.specs.Bytes.{same_bytes}
 use Rattle.refusal.specs.Laws.Tests.{lt-or-le, and_left, and-false}
 use Rattle.refusal.specs.declared.Refusal.TheVariants.{NotFound}
 use Rattle.tree.specs.Table.{Node, file, directory, name_of, none, encloses, parent_below, parent_of}
-use Rattle.tree.specs.Inner.WellFormed.{WellFormed}
+use Rattle.tree.specs.Inner.WellFormed.{IsWellFormed}
 use Rattle.tree.specs.Lookup.{is_directory, next_of, child_named, first_child, child_of}
 use Rattle.tree.proofs.Laws.Nesting.{parent-here, parent-lower, parent_is}
 use Rattle.tree.proofs.Laws.WellNested.{next-bounds, nests}
@@ -33,14 +33,14 @@ shut-le x k h = encloses-next x k ∙ le-ltb k (next_of x) h
 open-lt : (x : Node) (k : ℕ) → k < next_of x → encloses x k ≡ true
 open-lt x k h = encloses-next x k ∙ lt-ltb k (next_of x) h
 
-pub next_le : (nodes : List Node) (k : ℕ) → WellFormed nodes → k < length nodes → next_of (get_or nodes k none) ≤ length nodes
+pub next_le : (nodes : List Node) (k : ℕ) → IsWellFormed nodes → k < length nodes → next_of (get_or nodes k none) ≤ length nodes
 next_le nodes k w h = go (get_or nodes k none) refl
   where
     go : (x : Node) → get_or nodes k none ≡ x → next_of x ≤ length nodes
     go (file nm offset size) e = omega arith
     go (directory nm next) e = (next-bounds nodes k next nm w e h).1
 
-nests-le : (nodes : List Node) (d k : ℕ) → WellFormed nodes → d < k → k < next_of (get_or nodes d none) → k < length nodes → next_of (get_or nodes k none) ≤ next_of (get_or nodes d none)
+nests-le : (nodes : List Node) (d k : ℕ) → IsWellFormed nodes → d < k → k < next_of (get_or nodes d none) → k < length nodes → next_of (get_or nodes k none) ≤ next_of (get_or nodes d none)
 nests-le nodes d k w a b h = go (get_or nodes k none) refl
   where
     go : (x : Node) → get_or nodes k none ≡ x → next_of x ≤ next_of (get_or nodes d none)
@@ -48,7 +48,7 @@ nests-le nodes d k w a b h = go (get_or nodes k none) refl
     go (directory nm next) e = nests nodes d k next nm w (a, open-lt (get_or nodes d none) k b) h e
 
 -- what `after_of` is: past the entry, and not below its next
-pub after-past : (nodes : List Node) (k : ℕ) → WellFormed nodes → k < length nodes → (k < after_of nodes k) × (next_of (get_or nodes k none) ≤ after_of nodes k) × (after_of nodes k ≤ length nodes)
+pub after-past : (nodes : List Node) (k : ℕ) → IsWellFormed nodes → k < length nodes → (k < after_of nodes k) × (next_of (get_or nodes k none) ≤ after_of nodes k) × (after_of nodes k ≤ length nodes)
 after-past nodes k w h = go (get_or nodes k none) refl
   where
     go : (x : Node) → get_or nodes k none ≡ x → (k < cond (is_directory x) (next_of x) (k + 1)) × (next_of x ≤ cond (is_directory x) (next_of x) (k + 1)) × (cond (is_directory x) (next_of x) (k + 1) ≤ length nodes)
@@ -80,7 +80,7 @@ parent-from nodes j k a b = ⊎_elim (λ l. absurd (omega (arith, parent-last no
 
 -- ---- from child to child
 
-module _ (nodes : List Node) (d : ℕ) (w : WellFormed nodes) where
+module _ (nodes : List Node) (d : ℕ) (w : IsWellFormed nodes) where
   pub child-first : d + 1 < next_of (get_or nodes d none) → parent_of nodes (d + 1) ≡ d
   child-first h = parent_is nodes (d + 1) d (omega arith, open-lt (get_or nodes d none) (d + 1) h) (λ j a b. absurd (omega arith))
 
@@ -117,7 +117,7 @@ pub record Searching (nodes : List Node) (d : ℕ) (nm : List ℕ) (stop k : ℕ
   pub child : k < stop → parent_of nodes k ≡ d
   pub left : child_of nodes d nm ≡ first_child nodes d nm k (stop - k)
 
-module _ (nodes : List Node) (d : ℕ) (nm : List ℕ) (stop : ℕ) (w : WellFormed nodes) (in-d : d < length nodes) (is : stop ≡ next_of (get_or nodes d none)) where
+module _ (nodes : List Node) (d : ℕ) (nm : List ℕ) (stop : ℕ) (w : IsWellFormed nodes) (in-d : d < length nodes) (is : stop ≡ next_of (get_or nodes d none)) where
   pub search-start : Searching nodes d nm stop (d + 1)
   unfolding child_of
   search-start = record { later = omega arith; child = λ h. child-first nodes d w (omega arith); left = rw (add-one d, is) }
@@ -173,7 +173,7 @@ first_found nodes d nm k (suc n) j e = go (child_named nodes d nm k) refl (first
         (rw (← r) (eqb-true (parent_of nodes k) d (and_left (eqb (parent_of nodes k) d) _ c)), omega arith, omega arith)
     go false c ih q = let i = ih q in (i.0, omega arith, omega arith)
 
-pub child-found : (nodes : List Node) (d : ℕ) (nm : List ℕ) (j : ℕ) → WellFormed nodes → d < length nodes → child_of nodes d nm ≡ Ok j → (parent_of nodes j ≡ d) × (j < length nodes)
+pub child-found : (nodes : List Node) (d : ℕ) (nm : List ℕ) (j : ℕ) → IsWellFormed nodes → d < length nodes → child_of nodes d nm ≡ Ok j → (parent_of nodes j ≡ d) × (j < length nodes)
 unfolding child_of
 child-found nodes d nm j w h e =
     let f = first_found nodes d nm (suc d) (next_of (get_or nodes d none) - suc d) j e in

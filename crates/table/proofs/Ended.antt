@@ -5,7 +5,7 @@ use mathlib.Core.List.{List, [], ◌∷◌}
 use native.Mathlib.Omega.{arith}
 use lib.ListN.{length, get_or, take, drop}
 use Rattle.tree.specs.Table.{none, count, name_of, name_at, nodes_of, name_place, up_to0}
-use Rattle.tree.specs.Inner.Accepted.{Accepted}
+use Rattle.tree.specs.Inner.Accepted.{IsAccepted}
 use Rattle.table.specs.Inner.Texts.{text_at}
 use Rattle.table.proofs.Walking.{count-some}
 use Rattle.table.proofs.Nodes.{name-is}
@@ -15,7 +15,7 @@ use Rattle.table.proofs.NamePlaces.{place_is}
 pub name-there : (tab : List ℕ) (k : ℕ) → 0 < k → k < count tab → name_of (get_or (nodes_of tab) k none) ≡ text_at tab (name_place tab k)
 name-there tab k h l = rw (place_is tab k (λ e. omega arith)) (name-is tab k h l)
 
-pub name-ended : {tab : List ℕ} {words : ℕ} → Accepted tab words → (k : ℕ) → 0 < k → k < count tab → name_place tab k + length (text_at tab (name_place tab k)) < length tab
+pub name-ended : {tab : List ℕ} {words : ℕ} → IsAccepted tab words → (k : ℕ) → 0 < k → k < count tab → name_place tab k + length (text_at tab (name_place tab k)) < length tab
 unfolding name_at
 name-ended {tab} a k h l = rw (place_is tab k (λ e. omega arith)) (a.names k h l)
 

@@ -12,17 +12,17 @@ use Rattle.refusal.specs.declared.Refusal.TheVariants.{EntryPastTable, Unrecogni
 use Rattle.refusal.specs.Laws.Chains.{refuse-passed, first-passed}
 use Rattle.tree.specs.Table.{Node, file, directory, name_of, none, count, kind, name_offset, offset_or_parent, size_or_next, name_at, nodes_of, entries_verdict, check, encloses, parent_below, parent_of}
 use Rattle.tree.specs.Lookup.{is_directory, next_of}
-use Rattle.tree.specs.Inner.Accepted.{Accepted}
+use Rattle.tree.specs.Inner.Accepted.{IsAccepted}
 use Rattle.tree.proofs.Laws.Accepted.{accepted, length-nodes_of, get_d-nodes_of}
 use Rattle.tree.proofs.Laws.WellNested.{root_is}
 use Rattle.tree.proofs.Laws.Nesting.{parent-here, parent-lower, parent-before}
 use Rattle.table.specs.Inner.Reading.{Inside, Opens}
 use Rattle.table.specs.Inner.Texts.{text_at}
 use Rattle.table.specs.Inner.Fields.{last_of}
-use Rattle.table.specs.Inner.Held.{Held}
+use Rattle.table.specs.Inner.Held.{IsTable}
 use Rattle.table.proofs.Walking.{node-file, node-directory, node-name, entries-inside, count-some}
 
-pub opened : (tab : List ℕ) → AllBytes tab → (o : Opens tab) → Accepted tab o.words
+pub opened : (tab : List ℕ) → AllBytes tab → (o : Opens tab) → IsAccepted tab o.words
 opened tab bytes o = accepted tab o.words bytes o.passed
 
 -- its entries stand in the table
@@ -36,7 +36,7 @@ opens-inside tab o =
     let e₅ = first-passed (entries_verdict tab 1 (count tab - 1)) _ e₄.1 in
     entries-inside tab (count tab) (ltb-false _ _ e₁.0) (count-some tab) (ltb-false _ _ e₄.0) e₅.0
 
-module _ {tab : List ℕ} {words : ℕ} (a : Accepted tab words) (k : ℕ) (inside : k < count tab) where
+module _ {tab : List ℕ} {words : ℕ} (a : IsAccepted tab words) (k : ℕ) (inside : k < count tab) where
   pub file-is : kind tab k ≡ 0 → get_or (nodes_of tab) k none ≡ file (name_at tab (count tab) (name_offset tab k)) (offset_or_parent tab k) (size_or_next tab k)
   file-is e = go k refl
     where
@@ -59,7 +59,7 @@ module _ {tab : List ℕ} {words : ℕ} (a : Accepted tab words) (k : ℕ) (insi
       go false e = rw (directory-is (eqb-false _ _ e))
 
 -- the last field is that of the record
-pub last-is : {tab : List ℕ} {words : ℕ} → Accepted tab words → (k : ℕ) → k < count tab → {n : ℕ} → n ≡ size_or_next tab k → n ≡ last_of (get_or (nodes_of tab) k none)
+pub last-is : {tab : List ℕ} {words : ℕ} → IsAccepted tab words → (k : ℕ) → k < count tab → {n : ℕ} → n ≡ size_or_next tab k → n ≡ last_of (get_or (nodes_of tab) k none)
 last-is {tab} a k h {n} e = go (eqb (kind tab k) 0) refl
   where
     go : (t : Bool) → eqb (kind tab k) 0 ≡ t → n ≡ last_of (get_or (nodes_of tab) k none)
@@ -106,7 +106,7 @@ unfolding name_at
 name-is tab k h l = ap name_of (get_d-nodes_of tab k h l) ∙ node-name tab (count tab) k
 
 -- no name is longer than the texts may be; the root has none
-pub name-short : {tab : List ℕ} {words : ℕ} → Accepted tab words → (k : ℕ) → 0 < k → k < count tab → length (name_of (get_or (nodes_of tab) k none)) ≤ 2 ^ 20
+pub name-short : {tab : List ℕ} {words : ℕ} → IsAccepted tab words → (k : ℕ) → 0 < k → k < count tab → length (name_of (get_or (nodes_of tab) k none)) ≤ 2 ^ 20
 name-short {tab} a k h l =
     let e : name_of (get_or (nodes_of tab) k none) ≡ name_at tab (count tab) (name_offset tab k) = ap name_of (get_d-nodes_of tab k h l) ∙ node-name tab (count tab) k in
     rw e (omega (arith, a.names k h l, a.texts))
@@ -116,5 +116,5 @@ unfolding nodes_of
 root-name tab k e = rw e
 
 -- a table that is held is accepted
-pub held : {tab : List ℕ} → (h : Held tab) → Accepted tab h.opens.words
+pub held : {tab : List ℕ} → (h : IsTable tab) → IsAccepted tab h.opens.words
 held {tab} h = opened tab h.bytes h.opens

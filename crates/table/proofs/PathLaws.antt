@@ -10,13 +10,13 @@ use lib.ListN.{length, get_or, drop}
 use Rattle.refusal.specs.Laws.Tests.{and_left, and_right}
 use Rattle.refusal.specs.declared.Refusal.TheVariants.{ExpectedDirectory}
 use Rattle.tree.specs.Table.{Node, file, directory, none, shut, enter, shallow_entry, shallow_from, shallow}
-use Rattle.tree.specs.Inner.WellFormed.{WellFormed}
+use Rattle.tree.specs.Inner.WellFormed.{IsWellFormed}
 use Rattle.tree.specs.Lookup.{is_directory, child_of, stays, goes_back, and_then, step_back, follow}
 use Rattle.tree.proofs.Laws.Children.{child-is}
 use Rattle.tree.proofs.Laws.OpenDirectories.{open_at, stack_is}
 use Rattle.tree.specs.Inner.Depths.{depth_of}
 use Rattle.tree.proofs.Laws.Depth.{depth-root, depth-parent}
-use Rattle.table.specs.Inner.Steps.{Behind, Trail}
+use Rattle.table.specs.Inner.Steps.{Behind, IsTrail}
 use Rattle.table.proofs.ChildLaws.{child-found}
 
 -- ---- a directory of an accepted tree is at most 64 deep
@@ -32,7 +32,7 @@ unfolding shallow
 entry-shallow [] i s h = absurd (omega arith)
 entry-shallow (r ∷ xs) i s h = shallow-at 1 (suc (length xs) ∷ []) xs i s (omega arith)
 
-pub directory-depth : (nodes : List Node) (k : ℕ) → WellFormed nodes → shallow nodes ≡ true → k < length nodes → is_directory (get_or nodes k none) ≡ true → depth_of nodes k ≤ 64
+pub directory-depth : (nodes : List Node) (k : ℕ) → IsWellFormed nodes → shallow nodes ≡ true → k < length nodes → is_directory (get_or nodes k none) ≡ true → depth_of nodes k ≤ 64
 directory-depth nodes zero w s h d = omega (arith, depth-root nodes)
 directory-depth nodes (suc i) w s h d = go (get_or nodes (suc i) none) (entry-shallow nodes i s h) d
   where
@@ -41,7 +41,7 @@ directory-depth nodes (suc i) w s h d = go (get_or nodes (suc i) none) (entry-sh
     go (directory nm next) e q = rw (stack_is nodes w i h) (leb-true (length (open_at (length nodes ∷ []) 1 (tail nodes) i)) 64 e)
 
 -- so a step from it finds room in a trail
-pub room : (nodes : List Node) (trail : List ℕ) (k : ℕ) → WellFormed nodes → shallow nodes ≡ true → Trail nodes trail k → is_directory (get_or nodes k none) ≡ true → length trail < 65
+pub room : (nodes : List Node) (trail : List ℕ) (k : ℕ) → IsWellFormed nodes → shallow nodes ≡ true → IsTrail nodes trail k → is_directory (get_or nodes k none) ≡ true → length trail < 65
 room nodes trail k w s t d = omega (arith, t.deep, directory-depth nodes k w s t.inside d)
 
 -- ---- one step
@@ -74,10 +74,10 @@ back-none [] e = refl
 back-none (i ∷ trail) e = absurd (cc)
 
 -- the trail goes on from there, or from a child
-pub trail-back : (nodes : List Node) (trail : List ℕ) (j : ℕ) → Behind nodes (j ∷ trail) → Trail nodes trail j
+pub trail-back : (nodes : List Node) (trail : List ℕ) (j : ℕ) → Behind nodes (j ∷ trail) → IsTrail nodes trail j
 trail-back nodes trail j b = record { inside = b.0; deep = b.1; behind = b.2 }
 
-pub trail-into : (nodes : List Node) (trail : List ℕ) (k : ℕ) (nm : List ℕ) (j : ℕ) → WellFormed nodes → Trail nodes trail k → child_of nodes k nm ≡ Ok j → Trail nodes (k ∷ trail) j
+pub trail-into : (nodes : List Node) (trail : List ℕ) (k : ℕ) (nm : List ℕ) (j : ℕ) → IsWellFormed nodes → IsTrail nodes trail k → child_of nodes k nm ≡ Ok j → IsTrail nodes (k ∷ trail) j
 trail-into nodes trail k nm j w t e =
     let f = child-found nodes k nm j w t.inside e in
     let d : depth_of nodes j ≡ suc (depth_of nodes k) = rw f.0 at (depth-parent nodes j w (omega (arith, (child-is nodes k nm j e).after)) f.1) in
@@ -85,7 +85,7 @@ trail-into nodes trail k nm j w t e =
 
 -- ---- the start and the end
 
-pub trail-start : (nodes : List Node) (k : ℕ) → k < length nodes → Trail nodes [] k
+pub trail-start : (nodes : List Node) (k : ℕ) → k < length nodes → IsTrail nodes [] k
 trail-start nodes k h = record { inside = h; deep = omega arith; behind = tt }
 
 pub follow-done : (nodes : List Node) (trail : List ℕ) (k : ℕ) → follow nodes trail k [] ≡ Ok k

@@ -17,7 +17,7 @@ use Rattle.tree.specs.Table.{Node, file, directory, name_of, none, count, nodes_
 use Rattle.tree.specs.Lookup.{is_directory, next_of}
 use Rattle.tree.proofs.Laws.Nesting.{parent-here, parent-lower, parent-before}
 use Rattle.table.specs.Rows.{row_with, image_place, row_of, rows_below, listed}
-use Rattle.table.specs.Inner.ParentsIn.{ParentsIn}
+use Rattle.table.specs.Inner.ParentsIn.{HasParents}
 use Rattle.table.specs.Inner.Fields.{offset_of, last_of}
 use Rattle.table.proofs.Nodes.{encloses-next, parent-whole}
 use Rattle.table.proofs.ChildLaws.{parent-last}
@@ -90,7 +90,7 @@ unfolding rows_below
 listing_start base tab list = record { at_most = omega arith; long = refl; is = sym (put-none list 0) }
 
 module _ (base : ℕ) (tab list₀ list : List ℕ) (k : ℕ) (room : 6 * count tab ≤ length list₀) (l : Listing base tab list₀ list k) where
-  pub listing-parents : ParentsIn tab k list
+  pub listing-parents : HasParents tab k list
   listing-parents = record { at = found }
     where
       found : (i : ℕ) → i < k → get_or list (6 * i + 1) 0 ≡ parent_of (nodes_of tab) i

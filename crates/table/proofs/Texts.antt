@@ -16,7 +16,7 @@ use Rattle.tree.specs.Table.{every, dots, plain_byte, safe_byte, up_to0}
 use Rattle.tree.specs.Inner.Pairs.{pair_at}
 use Rattle.tree.proofs.Laws.UnitLaws.{in_either, lead_is, trail_is, by_units, units-pair, units-single}
 use Rattle.refusal.specs.Laws.Tests.{lt-or-le, and_left, and_right, or_cases, is_false}
-use Rattle.table.specs.Inner.Texts.{text_at, clean_byte, clean_unit, clean_from, NoLead}
+use Rattle.table.specs.Inner.Texts.{text_at, clean_byte, clean_unit, clean_from, HasNoLead}
 
 pub text-end : (tab : List ℕ) (i : ℕ) → get_or tab i 0 ≡ 0 → text_at tab i ≡ []
 text-end [] zero h = refl
@@ -132,15 +132,15 @@ module _ (tab : List ℕ) (i : ℕ) where
 
 -- ---- bytes that are clean by themselves
 
-pub no-lead-yet : (tab : List ℕ) (from : ℕ) → NoLead tab from from
+pub no-lead-yet : (tab : List ℕ) (from : ℕ) → HasNoLead tab from from
 no-lead-yet tab from = record { before = omega arith; none = λ i h l. absurd (omega arith) }
 
-no-lead-next : (tab : List ℕ) (from end : ℕ) → NoLead tab from end → lead_byte (get_or tab end 0) ≡ false → NoLead tab from (end + 1)
+no-lead-next : (tab : List ℕ) (from end : ℕ) → HasNoLead tab from end → lead_byte (get_or tab end 0) ≡ false → HasNoLead tab from (end + 1)
 no-lead-next tab from end g e = record { before = omega (arith, g.before); none = λ i h l. ⊎_elim (λ (k : i < end). g.none i h k) (λ (k : end ≤ i). let q : i ≡ end = omega arith in rw q e) (lt-or-le i end) }
 
 -- LAW: a clean byte is passed
 pub clean-next : (tab : List ℕ) (from end next : ℕ) → end < length tab → clean_byte (get_or tab end 0) ≡ true → next ≡ end + 1 →
-    NoLead tab from end × (clean_from tab from ≡ clean_from tab end) → NoLead tab from next × (clean_from tab from ≡ clean_from tab next)
+    HasNoLead tab from end × (clean_from tab from ≡ clean_from tab end) → HasNoLead tab from next × (clean_from tab from ≡ clean_from tab next)
 clean-next tab from end next h e n g =
     rw n (no-lead-next tab from end g.0 (clean-no-lead (get_or tab end 0) e), g.1 ∙ clean-single tab end true h (clean-no-pair tab end e) e)
 

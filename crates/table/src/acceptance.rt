@@ -5,7 +5,7 @@ ghost use Rattle.tree.specs.Table as table_of;
 ghost use Rattle.tree.specs.Table.{name_offset, name_at, node_at, nodes_from, name_verdict, next_verdict};
 ghost use Rattle.table.specs.Inner.Reading.{Inside, node_verdict, texts_verdict, text_verdict};
 ghost use Rattle.table.specs.Inner.Texts.{text_at};
-ghost use Rattle.table.specs.Inner.Blocks.{Fit};
+ghost use Rattle.table.specs.Inner.Blocks.{IsFit};
 
 use crate::marks::Survey;
 use crate::stack::Stack;
@@ -64,7 +64,7 @@ fn units_verdict(table: &[u8], at: usize) -> Verdict
 
 // The same where the text is fit: the first bytes decide.
 fn clean_verdict(table: &[u8], at: usize) -> Verdict
-    requires { Fit table.now at }
+    requires { IsFit table.now at }
     ensures { result ≡ text_verdict (text_at table.now at) }
 {
     if text::is_nameless_at(table, at) {

@@ -6,7 +6,7 @@ ghost use Rattle.tree.specs.Lookup.{is_directory, next_of, entry_of, entry_found
 ghost use Rattle.table.specs.Inner.Reading.{Opens};
 ghost use Rattle.table.specs.Inner.Texts.{text_at};
 ghost use Rattle.table.specs.Inner.Fields.{offset_of, last_of};
-ghost use Rattle.table.specs.Inner.Held.{Held};
+ghost use Rattle.table.specs.Inner.Held.{IsTable};
 
 use crate::{acceptance, name};
 use refusal::Refusal;
@@ -22,13 +22,13 @@ pub struct Table<'a> {
 
 impl<'a> Model for Table<'a> {
     ghost use Rattle.std.specs.Prelude.{ℕ, List};
-    ghost use Rattle.table.specs.Inner.Held.{Held};
+    ghost use Rattle.table.specs.Inner.Held.{IsTable};
 
     ghost Value = { List ℕ };
 
     ghost view = { λ t. t.bytes.now };
 
-    ghost invariant = { λ t. Held t.bytes.now };
+    ghost invariant = { λ t. IsTable t.bytes.now };
 }
 
 impl<'a> Table<'a> {
@@ -44,7 +44,7 @@ impl<'a> Table<'a> {
     pub fn bytes(&self) -> &'a [u8]
         ensures bytes { result.now ≡ self.now }
         ensures opens { Opens self.now }
-        ensures held { Held self.now }
+        ensures held { IsTable self.now }
     {
         self.bytes
     }
@@ -53,7 +53,7 @@ impl<'a> Table<'a> {
     pub fn len(&self) -> usize
         ensures len { result ≡ table_of.count self.now }
         ensures some { (0 < result) × (result ≤ 16384) }
-        ensures held { Held self.now }
+        ensures held { IsTable self.now }
     {
         acceptance::count(self.bytes)
     }
@@ -84,7 +84,7 @@ impl<'a> Table<'a> {
         requires { k < table_of.count self.now }
         ensures stored { result ≡ size_or_next self.now k }
         ensures last { result ≡ last_of (slice_index_or (nodes_of self.now) k none) }
-        ensures held { Held self.now }
+        ensures held { IsTable self.now }
     {
         endian::read_u32(self.bytes, 12 * k + 8)
     }

@@ -2,7 +2,7 @@
 // one that starts a byte later, is fit; the units of a text leave the block before at the one place or the
 // other. So a name costs at most 1,024 bytes, even where 16,384 names share one text of 1 MiB.
 ghost use Rattle.std.specs.Prelude.{◌≡◌, true, ◌≤◌};
-ghost use Rattle.table.specs.Inner.Blocks.{Fit};
+ghost use Rattle.table.specs.Inner.Blocks.{IsFit};
 
 use crate::{passing, text, units};
 use std::marker::Model;
@@ -54,7 +54,7 @@ impl<'a> Marks<'a> {
     fn is_fit(&self, at: usize) -> bool
         requires from { self.now.base ≤ at }
         requires near { at ≤ 33554432 }
-        ensures { (result ≡ true) → Fit self.now.table at }
+        ensures { (result ≡ true) → IsFit self.now.table at }
     {
         let next = (at - self.base) / 1024 + 1;
         let end = self.base + 1024 * next;
@@ -81,13 +81,13 @@ pub struct Survey<'a> {
 }
 
 impl<'a> Model for Survey<'a> {
-    ghost use Rattle.table.specs.Inner.Blocks.{TextsFrom, Surveyed};
+    ghost use Rattle.table.specs.Inner.Blocks.{TextsFrom, IsSurveyed};
 
     ghost Value = { TextsFrom };
 
     ghost view = { λ t. record { table = t.table.now; base = t.base } };
 
-    ghost invariant = { λ t. Surveyed t.table.now t.base t.first t.marks };
+    ghost invariant = { λ t. IsSurveyed t.table.now t.base t.first t.marks };
 }
 
 impl<'a> Survey<'a> {
@@ -119,7 +119,7 @@ impl<'a> Survey<'a> {
         requires from { self.old.base ≤ at }
         requires near { at ≤ 33554432 }
         ensures same { self.new ≡ self.old }
-        ensures fit { (result ≡ true) → Fit self.old.table at }
+        ensures fit { (result ≡ true) → IsFit self.old.table at }
     {
         let marks = Marks::new(self.table, self.base);
         let fit = marks.is_fit(at);
@@ -134,7 +134,7 @@ impl<'a> Survey<'a> {
         requires from { self.old.base ≤ at }
         requires near { at ≤ 33554432 }
         ensures same { self.new ≡ self.old }
-        ensures fit { (result ≡ true) → Fit self.old.table at }
+        ensures fit { (result ≡ true) → IsFit self.old.table at }
     {
         if let Some(marks) = &self.marks {
             return marks.is_fit(at);

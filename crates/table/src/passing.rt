@@ -1,7 +1,7 @@
 // Texts passed unit by unit: each byte is looked up, so that a pair takes a dozen instructions.
 ghost use Rattle.std.specs.Prelude.{◌≡◌, ◌+◌, ◌≤◌};
 ghost use Rattle.table.specs.Inner.Texts.{clean_from};
-ghost use Rattle.table.specs.Inner.Blocks.{Fit};
+ghost use Rattle.table.specs.Inner.Blocks.{IsFit};
 
 // The bytes, 16 to a line: `c` for those that are clean, `z` for the one that ends a text, `l` for those that a pair
 // may start with.
@@ -52,7 +52,7 @@ const TRAILS: [u8; 256] = *b"\
 pub fn pass_units(table: &[u8], from: usize, end: usize) -> usize
     requires { from ≤ end }
     ensures near { result ≤ end + 1 }
-    ensures fit { Fit table.now result → Fit table.now from }
+    ensures fit { IsFit table.now result → IsFit table.now from }
 {
     if table.len() == 0 {
         return from;

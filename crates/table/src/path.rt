@@ -4,8 +4,8 @@ ghost use Rattle.tree.specs.Table as table_of;
 ghost use Rattle.tree.specs.Table.{nodes_of};
 ghost use Rattle.tree.specs.Lookup as lookup_of;
 ghost use Rattle.tree.specs.Lookup.{components, found_at};
-ghost use Rattle.table.specs.Inner.Held.{Held};
-ghost use Rattle.table.specs.Inner.Steps.{Trail, onward};
+ghost use Rattle.table.specs.Inner.Held.{IsTable};
+ghost use Rattle.table.specs.Inner.Steps.{IsTrail, onward};
 
 use crate::components::Components;
 use crate::entries::Table;
@@ -32,11 +32,11 @@ pub fn goes_back(name: &[u8]) -> bool
 // entry that the last named step left, any other is a child's name. The trail has the entries that were left:
 // 65 at most, since no directory is deeper than 64.
 fn take_step(table: &Table<'_>, trail: &mut Stack, k: usize, name: &[u8]) -> Result<usize, Refusal>
-    requires held { Held table.now }
-    requires trail { Trail (nodes_of table.now) trail.old k }
+    requires held { IsTable table.now }
+    requires trail { IsTrail (nodes_of table.now) trail.old k }
     ensures onward { (cs : List (List ℕ)) → lookup_of.follow (nodes_of table.now) trail.old k (name.now ∷ cs)
         ≡ onward (nodes_of table.now) trail.new cs result }
-    ensures trail { IfOk result (λ j. Trail (nodes_of table.now) trail.new j) }
+    ensures trail { IfOk result (λ j. IsTrail (nodes_of table.now) trail.new j) }
 {
     if !table.is_directory(k) {
         return Err(Refusal::ExpectedDirectory);
@@ -57,7 +57,7 @@ fn take_step(table: &Table<'_>, trail: &mut Stack, k: usize, name: &[u8]) -> Res
 
 // Along the components of a path.
 fn follow(table: &Table<'_>, start: usize, path: &[u8]) -> Result<u32, Refusal>
-    requires held { Held table.now }
+    requires held { IsTable table.now }
     requires within { start < table_of.count table.now }
     ensures value { result ≡ lookup_of.follow (nodes_of table.now) [] start (components path.now) }
     ensures within { IfOk result (λ k. k < table_of.count table.now) }

@@ -6,7 +6,7 @@ ghost use Rattle.tree.specs.Table as table_of;
 ghost use Rattle.tree.specs.Table.{none, nodes_of, name_of, parent_of};
 ghost use Rattle.table.specs.Rows.{image_place, row_of, list_verdict, listed};
 ghost use Rattle.table.specs.Inner.Texts.{text_at};
-ghost use Rattle.table.specs.Inner.ParentsIn.{ParentsIn};
+ghost use Rattle.table.specs.Inner.ParentsIn.{HasParents};
 ghost use Rattle.table.specs.Inner.Ends.{EndsIn};
 
 use crate::entries::Table;
@@ -174,7 +174,7 @@ impl Rows<'_> {
     fn parent_in(&self, list: &[u32], k: usize) -> usize
         requires within { k < table_of.count self.now.table.now }
         requires room { 6 * table_of.count self.now.table.now ≤ length list.now }
-        requires parents_in { ParentsIn self.now.table.now k list.now }
+        requires parents_in { HasParents self.now.table.now k list.now }
         ensures parent { result ≡ parent_of (nodes_of self.now.table.now) k }
         ensures before { result ≤ k }
     {
@@ -213,7 +213,7 @@ impl Rows<'_> {
         requires within { k < table_of.count self.now.table.now }
         requires few { k < 2 ^ 32 }
         requires room { 6 * table_of.count self.now.table.now ≤ length list.old }
-        requires parents_in { ParentsIn self.now.table.now k list.old }
+        requires parents_in { HasParents self.now.table.now k list.old }
         requires size { size ≡ length (name_of (slice_index_or (nodes_of self.now.table.now) k none)) }
         ensures { list.new ≡ put list.old (6 * k) (row_of self.now.base self.now.table.now k) }
     {

@@ -2,7 +2,7 @@
 ghost use Rattle.std.specs.Prelude.{◌≡◌, false, ◌+◌};
 ghost use Rattle.tree.specs.Table.{dots};
 ghost use Rattle.table.specs.Inner.Texts as texts_of;
-ghost use Rattle.table.specs.Inner.Texts.{clean_from, NoLead, CleanTo, nameless};
+ghost use Rattle.table.specs.Inner.Texts.{clean_from, HasNoLead, CleanTo, nameless};
 
 use crate::units::Units;
 use crate::{names, passing, units};
@@ -44,7 +44,7 @@ const CHART: [u8; 256] = *b"\
 // Kept: two bytes a turn, by index (S): a `for` over one at a time took a fifth longer for a table of ASCII
 // names of 40 bytes.
 fn pass_clean(table: &[u8], from: usize) -> usize
-    ensures { NoLead table.now from result × (clean_from table.now from ≡ clean_from table.now result) }
+    ensures { HasNoLead table.now from result × (clean_from table.now from ≡ clean_from table.now result) }
 {
     if table.len() == 0 {
         return from;

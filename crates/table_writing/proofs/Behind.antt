@@ -12,7 +12,7 @@ use Rattle.endian.specs.Laws.Stored.{length-put, put_in, drop-put, length-span, 
 use Rattle.tree.specs.Table.{name_offset}
 use Rattle.tree.specs.Inner.Patch.{records, record_after}
 use Rattle.tree.proofs.Laws.Records.{length-records}
-use Rattle.table_writing.specs.Inner.Inserting.{Raisable, EachRaisable, NamesGrow}
+use Rattle.table_writing.specs.Inner.Inserting.{IsRaisable, EachIsRaisable, NamesGrow}
 use Rattle.table_writing.proofs.Patches.{MovedEntry, SameEntry, moved-after, raisable-moved, after-twelve}
 use Rattle.table_writing.proofs.Passes.{Filled, fill_start, fill-same, fill-again, records-shift}
 
@@ -74,7 +74,7 @@ module _ (s : List ℕ) (c q grow : ℕ) (room : 12 * c + 12 ≤ length s) (with
     old : MovedEntry t k s (k - 1)
     old = let m = u.most in moved-entry k (k - 1) (omega arith) (omega arith) (omega arith)
 
-    pub raise-turn : EachRaisable s c → NamesGrow s c grow → (12 * k + 12 ≤ length out) × Raisable out k × (name_offset out k + grow < 2 ^ 24)
+    pub raise-turn : EachIsRaisable s c → NamesGrow s c grow → (12 * k + 12 ≤ length out) × IsRaisable out k × (name_offset out k + grow < 2 ^ 24)
     raise-turn each names =
         let m = u.most in
         (omega (arith, u.long, long), raisable-moved out k t k still (raisable-moved t k s (k - 1) old (each (k - 1) (omega arith))), rw (still.names, old.names) (names (k - 1) (omega arith)))

@@ -16,7 +16,7 @@ use Rattle.refusal.specs.declared.Refusal.{Refusal}
 use Rattle.refusal.specs.declared.Refusal.TheVariants.{LimitOrMemory}
 use Rattle.refusal.specs.Refusal.{refuse}
 use Rattle.tree.specs.Table.{Node, name_of, none, size_or_next, texts_of, encode, limits}
-use Rattle.tree.specs.Inner.WellFormed.{GoodName, WellFormed}
+use Rattle.tree.specs.Inner.WellFormed.{IsGoodName, IsWellFormed}
 use Rattle.tree.specs.Lookup.{next_of}
 use Rattle.tree.proofs.Laws.InsertWalk.{depth_ok}
 use Rattle.tree.specs.Inner.Depths.{depth_of}
@@ -27,10 +27,10 @@ use Rattle.tree.proofs.Laws.Growing.{Bigger, bigger-insert, limits-either}
 use Rattle.tree.proofs.Laws.Size.{size-insert}
 use Rattle.tree.proofs.Laws.RoundTrip.{Within, within-limits}
 use Rattle.tree.proofs.Laws.WrittenEntries.{length-encode}
-use Rattle.table_writing.specs.Inner.Inserting.{new_node, Insertable}
+use Rattle.table_writing.specs.Inner.Inserting.{new_node, IsInsertable}
 use Rattle.table_writing.proofs.Patches.{new-name}
 use Rattle.table_writing.proofs.Written.{fresh-new, insertable, insert-written}
-use Rattle.table_writing.specs.Inner.Growth.{tree_in, Stands, IsDirectory, added, depth_allows, Built}
+use Rattle.table_writing.specs.Inner.Growth.{tree_in, Stands, IsDirectory, added, depth_allows, IsBuilt}
 use Rattle.table_writing.proofs.StandingTable.{size_is, front, inside, next-read, built-stands}
 
 -- ---- one entry more
@@ -42,14 +42,14 @@ depth-new true nm q n = both (ltb n 64) refl
     both t e = refl
 depth-new false nm q n = refl
 
-module _ (M : List Node) (d : Bool) (p : ℕ) (nm : List ℕ) (w : WellFormed M) (dir : IsDirectory M p) (good : GoodName nm) where
+module _ (M : List Node) (d : Bool) (p : ℕ) (nm : List ℕ) (w : IsWellFormed M) (dir : IsDirectory M p) (good : IsGoodName nm) where
   q : ℕ
   q = next_of (get_or M p none)
 
   abbrev new : Node
   new = new_node d nm (next_of (get_or M p none))
 
-  named : GoodName (name_of new)
+  named : IsGoodName (name_of new)
   named = rw (new-name d nm (next_of (get_or M p none))) good
 
   pub bigger-added : Bigger M (added M d p nm)
@@ -112,14 +112,14 @@ past-cause F words c e = ⊎_elim (λ q. let z : ◌≡◌ {A = ℕ} 0 1 = cc in
 pub past-never : (F : List Node) (words : ℕ) (s : List ℕ) (c : Refusal) → Err c ≡ limits F words → limits F words ≡ Ok tt → length s < length (encode F)
 past-never F words s c e f = let z : ◌≡◌ {A = ℕ} 0 1 = cc in absurd (omega arith)
 
-module _ (s : List ℕ) (size words : ℕ) (st : Stands s size words) (d : Bool) (p : ℕ) (nm : List ℕ) (dir : IsDirectory (tree_in s size) p) (good : GoodName nm) where
+module _ (s : List ℕ) (size words : ℕ) (st : Stands s size words) (d : Bool) (p : ℕ) (nm : List ℕ) (dir : IsDirectory (tree_in s size) p) (good : IsGoodName nm) where
   abbrev T : List Node
   T = tree_in s size
 
   abbrev G : List Node
   G = added (tree_in s size) d p nm
 
-  well : WellFormed (tree_in s size)
+  well : IsWellFormed (tree_in s size)
   well = st.well
 
   pub grown-size : length (encode G) ≡ size + 12 + length nm + 1
@@ -128,7 +128,7 @@ module _ (s : List ℕ) (size words : ℕ) (st : Stands s size words) (d : Bool)
       let new : Node = new_node d nm (next_of (get_or T p none)) in
       omega (arith, size_is s size words st, size-insert T p (next_of (get_or T p none)) x.0 new well x.1 dir.inside, ap length (new-name d nm (next_of (get_or T p none))))
 
-  pub short-built : (t : List ℕ) → length s < size + 12 + length nm + 1 → Built G words s t (Err LimitOrMemory)
+  pub short-built : (t : List ℕ) → length s < size + 12 + length nm + 1 → IsBuilt G words s t (Err LimitOrMemory)
   short-built t h = (refl, λ e. omega (arith, grown-size))
 
   module _ (passed : Ok tt ≡ limits G words) where
@@ -142,14 +142,14 @@ module _ (s : List ℕ) (size words : ℕ) (st : Stands s size words) (d : Bool)
     grown-size-fits = record { fits = omega (arith, small) }
 
     module _ (room : size + 12 + length nm + 1 ≤ length s) where
-      pub may-insert : Insertable s size p (length nm)
+      pub may-insert : IsInsertable s size p (length nm)
       may-insert =
           let x = directory-is (get_or T p none) dir.kind in
-          let i : Insertable (put s 0 (encode T)) (length (encode T)) p (length nm) =
+          let i : IsInsertable (put s 0 (encode T)) (length (encode T)) p (length nm) =
           insertable s T p (next_of (get_or T p none)) x.0 d nm well x.1 dir.inside (inside s size words st).few (omega (arith, size_is s size words st)) (omega (arith, size_is s size words st, small)) in
           rw (front s size words st, ← (size_is s size words st)) at i
 
-      pub inserted-built : (t : List ℕ) → t ≡ put s 0 (insert_patch (take size s) (size_or_next s 0) p (new_node d nm (size_or_next s p))) → Built G words s t (Ok (size + 12 + length nm + 1))
+      pub inserted-built : (t : List ℕ) → t ≡ put s 0 (insert_patch (take size s) (size_or_next s 0) p (new_node d nm (size_or_next s p))) → IsBuilt G words s t (Ok (size + 12 + length nm + 1))
       inserted-built t g =
           let x = directory-is (get_or T p none) dir.kind in
           let i : put (put s 0 (encode T)) 0 (insert_patch (take (length (encode T)) (put s 0 (encode T))) (size_or_next (put s 0 (encode T)) 0) p (new_node d nm (size_or_next (put s 0 (encode T)) p))) ≡ put s 0 (encode G) =
@@ -172,7 +172,7 @@ module _ (s : List ℕ) (size words : ℕ) (st : Stands s size words) (d : Bool)
       inserted-tree = stands.1
 
   -- what grew stands there
-  module _ (t : List ℕ) (r : Result ℕ Refusal) (built : Built G words s t r) (n : ℕ) (e : r ≡ Ok n) where
+  module _ (t : List ℕ) (r : Result ℕ Refusal) (built : IsBuilt G words s t r) (n : ℕ) (e : r ≡ Ok n) where
     pub grown : Stands t n words × (tree_in t n ≡ G)
     grown = built-stands G words s t r n (bigger-added T d p nm well dir good).well built e
 

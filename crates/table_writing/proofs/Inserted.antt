@@ -15,7 +15,7 @@ use Rattle.endian.specs.Laws.Stored.{length-put, put-before, length-span, span_e
 use Rattle.tree.specs.Table.{Node, name_offset, size_or_next}
 use Rattle.tree.specs.Inner.Patch.{records, patched_record, new_start, insert_patch}
 use Rattle.tree.proofs.Laws.Records.{records-ext, length-records}
-use Rattle.table_writing.specs.Inner.Inserting.{new_node, Patchable, new_texts, start_in, Insertable}
+use Rattle.table_writing.specs.Inner.Inserting.{new_node, IsPatchable, new_texts, start_in, IsInsertable}
 use Rattle.table_writing.proofs.Puts.{put-append, put-prepend}
 use Rattle.table_writing.proofs.Patches.{new-name, patched_same, patched-twelve, SameEntry, same-entry, raisable-same}
 
@@ -60,7 +60,7 @@ module _ (s : List ℕ) (size c start : ℕ) (nm : List ℕ) (inside : 12 * c + 
 
 -- ---- the table
 
-module _ (s : List ℕ) (size p : ℕ) (d : Bool) (nm : List ℕ) (r : Insertable s size p (length nm)) where
+module _ (s : List ℕ) (size p : ℕ) (d : Bool) (nm : List ℕ) (r : IsInsertable s size p (length nm)) where
   abbrev c : ℕ
   c = size_or_next s 0
 
@@ -119,7 +119,7 @@ module _ (s : List ℕ) (size p : ℕ) (d : Bool) (nm : List ℕ) (r : Insertabl
       let w = r.whole in
       same-entry tab s k (λ i l. get_or-take size s i 0 (omega arith))
 
-  pub patchable : Patchable s₁ c p q start (length nm + 1)
+  pub patchable : IsPatchable s₁ c p q start (length nm + 1)
   patchable =
       let i = start-inside in
       let l = long in
@@ -186,7 +186,7 @@ module _ (s : List ℕ) (size p : ℕ) (d : Bool) (nm : List ℕ) (r : Insertabl
   -- the same of the numbers that were read and the bytes in between
   module _ (c' q' start' : ℕ) (ec : c' ≡ c) (eq : q' ≡ q) (es : start' ≡ start_in s size c' q') where
     module _ (t : List ℕ) (et : t ≡ put s (12 * c' + 12) (new_texts s size c' start' nm)) where
-      pub patchable-read : Patchable t c' p q' start' (length nm + 1)
+      pub patchable-read : IsPatchable t c' p q' start' (length nm + 1)
       patchable-read = rw (et, es, ec, eq) patchable
 
       pub inserted-read : (t' : List ℕ) → t' ≡ put t 0 (records (patched_record t p q' (new_node d nm q') start') 0 (c' + 1)) → t' ≡ put s 0 (insert_patch tab c p new)

@@ -11,7 +11,7 @@ use Rattle.endian.specs.Bytes.{be32}
 use Rattle.refusal.specs.declared.Refusal.TheVariants.{LimitOrMemory}
 use Rattle.refusal.specs.Refusal.{refuse}
 use Rattle.tree.specs.Table.{limits}
-use Rattle.tree.specs.Inner.WellFormed.{GoodName}
+use Rattle.tree.specs.Inner.WellFormed.{IsGoodName}
 use Rattle.tree.specs.Inner.Depths.{depth_of}
 use Rattle.tree.proofs.Laws.WellNested.{not-empty}
 use Rattle.tree.proofs.Laws.WrittenEntries.{length-encode}
@@ -32,7 +32,7 @@ module _ (s : List ℕ) (size words n : ℕ) (st : Stands s size words) (read : 
   pub texts-fit : size - 12 * n ≤ 1048576
   texts-fit = omega (arith, count, texts-are s size words st, (inside s size words st).texts)
 
-  module _ (is : Bool) (p : ℕ) (nm : List ℕ) (dir : IsDirectory (tree_in s size) p) (good : GoodName nm) where
+  module _ (is : Bool) (p : ℕ) (nm : List ℕ) (dir : IsDirectory (tree_in s size) p) (good : IsGoodName nm) where
     pub past-count : 16384 ≤ n → Err LimitOrMemory ≡ limits (added (tree_in s size) is p nm) words
     past-count h = sym (too_many (tree_in s size) is p nm st.well dir good words (inside s size words st) (omega (arith, count)))
 

@@ -11,7 +11,7 @@ use Rattle.tree.proofs.Laws.Size.{size_to, size-root, size-next, size-whole}
 use Rattle.tree.proofs.Laws.Writing.{start-inside, start-end}
 use Rattle.std.specs.Prelude.{Ok, Err}
 use Rattle.refusal.specs.declared.Refusal.TheVariants.{LimitOrMemory}
-use Rattle.table_writing.specs.Inner.Valid.{Valid, name_size}
+use Rattle.table_writing.specs.Inner.Valid.{IsValid, name_size}
 use Rattle.table_writing.specs.Inner.Measure.{measure_of}
 use Rattle.table_writing.proofs.Nesting.{count-is, node_at_lem}
 use Rattle.table_writing.proofs.Whole.{name-is}
@@ -23,13 +23,13 @@ name-length tab n k name e r = rw e (ap length r)
 
 -- the entries before k of a table of n are measured, and their texts do not pass the limit
 pub record Upto (tab : List ℕ) (n size k : ℕ) : Type 0 where
-  pub valid : Valid tab n
+  pub valid : IsValid tab n
   pub low : 0 < k
   pub high : k ≤ n
   pub sized : size ≡ size_to (nodes_of tab) k
   pub short : size ≤ 12 * k + 1048576
 
-pub measure-root : (tab : List ℕ) (n size : ℕ) → Valid tab n → size ≡ 12 → Upto tab n size 1
+pub measure-root : (tab : List ℕ) (n size : ℕ) → IsValid tab n → size ≡ 12 → Upto tab n size 1
 measure-root tab n size v e = record { valid = v; low = omega arith; high = v.some; sized = e ∙ sym (size-root (nodes_of tab)); short = omega arith }
 
 module _ (tab : List ℕ) (n size k : ℕ) (u : Upto tab n size k) where

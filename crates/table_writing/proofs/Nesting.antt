@@ -11,7 +11,7 @@ use borrow.Author.Tests.{eq-eqb, lt-ltb, eqb-true, eqb-false, ltb-true}
 use lib.ListN.{get_or}
 use lib.Dec.{eqb, ltb}
 use Rattle.tree.specs.Table.{none, kind, size_or_next, count, node_with, node_at, nodes_from, nodes_of, encloses, parent_below, parent_of}
-use Rattle.table_writing.specs.Inner.Valid.{Valid}
+use Rattle.table_writing.specs.Inner.Valid.{IsValid}
 use Rattle.table_writing.specs.Inner.Flat.{after_in}
 
 -- a comparison of two numbers has three ends
@@ -37,7 +37,7 @@ both false b e = let z : ◌≡◌ {A = ℕ} 0 1 = cc in absurd (omega arith)
 
 -- ---- the entries as a list
 
-pub count-is : (tab : List ℕ) (n : ℕ) → Valid tab n → count tab ≡ n
+pub count-is : (tab : List ℕ) (n : ℕ) → IsValid tab n → count tab ≡ n
 unfolding count
 count-is tab n v = omega (arith, v.reach, v.some)
 
@@ -49,7 +49,7 @@ from_at tab c k (suc m) (suc i) h =
     let e : suc k + i ≡ k + suc i = omega arith in
     rw e at (from_at tab c (suc k) m i (omega arith))
 
-pub node_at_lem : (tab : List ℕ) (n i : ℕ) → Valid tab n → 0 < i → i < n → get_or (nodes_of tab) i none ≡ node_at tab n i
+pub node_at_lem : (tab : List ℕ) (n i : ℕ) → IsValid tab n → 0 < i → i < n → get_or (nodes_of tab) i none ≡ node_at tab n i
 unfolding nodes_of
 node_at_lem tab n zero v p h = absurd (omega arith)
 node_at_lem tab n (suc i) v p h =
@@ -61,7 +61,7 @@ encloses-with zero nm a b k h = refl
 encloses-with (suc zero) nm a b k h = refl
 encloses-with (suc (suc t)) nm a b k h = absurd (omega arith)
 
-pub encloses-at : (tab : List ℕ) (n i k : ℕ) → Valid tab n → i < n → encloses (get_or (nodes_of tab) i none) k ≡ cond (eqb (kind tab i) 1) (ltb k (size_or_next tab i)) false
+pub encloses-at : (tab : List ℕ) (n i k : ℕ) → IsValid tab n → i < n → encloses (get_or (nodes_of tab) i none) k ≡ cond (eqb (kind tab i) 1) (ltb k (size_or_next tab i)) false
 unfolding nodes_of node_at
 encloses-at tab n zero k v h = rw (eq-eqb (kind tab 0) 1 v.root, count-is tab n v, v.reach)
 encloses-at tab n (suc i) k v h =
@@ -72,10 +72,10 @@ encloses-at tab n (suc i) k v h =
 pub after-cases : (tab : List ℕ) (c : ℕ) → ((kind tab c ≡ 1) × (after_in tab c ≡ size_or_next tab c)) ⊎ ((kind tab c ≡ 1 → ⊥) × (after_in tab c ≡ c + 1))
 after-cases tab c = ⊎_elim (λ p. inl (eqb-true _ _ p.0, p.1)) (λ p. inr (eqb-false _ _ p.0, p.1)) (cases (eqb (kind tab c) 1) (size_or_next tab c) (c + 1))
 
-pub after-later : (tab : List ℕ) (n c : ℕ) → Valid tab n → c < n → c < after_in tab c
+pub after-later : (tab : List ℕ) (n c : ℕ) → IsValid tab n → c < n → c < after_in tab c
 after-later tab n c v h = ⊎_elim (λ p. omega (arith, p.1, (v.nested c h p.0).later)) (λ p. omega (arith, p.1)) (after-cases tab c)
 
-pub after-within : (tab : List ℕ) (n k c : ℕ) → Valid tab n → k < n → kind tab k ≡ 1 → k < c → c < size_or_next tab k → after_in tab c ≤ size_or_next tab k
+pub after-within : (tab : List ℕ) (n k c : ℕ) → IsValid tab n → k < n → kind tab k ≡ 1 → k < c → c < size_or_next tab k → after_in tab c ≤ size_or_next tab k
 after-within tab n k c v h d p q =
     ⊎_elim (λ w. omega (arith, w.1, (v.nested k h d).inner c p q w.0)) (λ w. omega (arith, w.1)) (after-cases tab c)
 
@@ -86,7 +86,7 @@ Closed tab k c = (j : ℕ) → k < j → j < c → kind tab j ≡ 1 → size_or_
 pub closed_none : (tab : List ℕ) (k : ℕ) → Closed tab k (k + 1)
 closed_none tab k j p q d = omega arith
 
-pub closed-more : (tab : List ℕ) (n k c : ℕ) → Valid tab n → c < n → Closed tab k c → Closed tab k (after_in tab c)
+pub closed-more : (tab : List ℕ) (n k c : ℕ) → IsValid tab n → c < n → Closed tab k c → Closed tab k (after_in tab c)
 closed-more tab n k c v h f j p q d =
     ⊎_elim
     (λ w.
@@ -104,7 +104,7 @@ closed-more tab n k c v h f j p q d =
     (after-cases tab c)
 
 -- d is the nearest directory that reaches past k
-module _ (tab : List ℕ) (n k d : ℕ) (v : Valid tab n) (kn : k < n) (dir : kind tab d ≡ 1) (past : k < size_or_next tab d) (f : Closed tab d k) where
+module _ (tab : List ℕ) (n k d : ℕ) (v : IsValid tab n) (kn : k < n) (dir : kind tab d ≡ 1) (past : k < size_or_next tab d) (f : Closed tab d k) where
   parent_in : (i : ℕ) → d < i → i ≤ k → parent_below (nodes_of tab) k i ≡ d
   unfolding parent_below
   parent_in zero p q = omega arith

@@ -15,7 +15,7 @@ use Rattle.tree.specs.Table.{Node, node_bytes}
 use Rattle.tree.proofs.Laws.WrittenEntries.{length-node_bytes}
 use Rattle.tree.specs.Inner.Patch.{records, record_before, record_after, patched_record}
 use Rattle.tree.proofs.Laws.Records.{Twelve, length-records, records-ext, records-split}
-use Rattle.table_writing.specs.Inner.Inserting.{new_node, Raisable, EachRaisable, Patchable}
+use Rattle.table_writing.specs.Inner.Inserting.{new_node, IsRaisable, EachIsRaisable, IsPatchable}
 use Rattle.table_writing.proofs.Puts.{put-prepend}
 use Rattle.table_writing.proofs.Patches.{SameEntry, same-entry, same-before, raisable-same, before-twelve, patched-twelve, patched-before, patched-new, patched-after, new_is, new-name, between_stays}
 
@@ -74,7 +74,7 @@ module _ (s : List ℕ) (p : ℕ) where
     same-below : SameEntry out s (k - 1)
     same-below = fill-same s (record_before s p) (before-twelve s p) (p + 1) room out k u (k - 1) (omega arith)
 
-    pub before-turn : EachRaisable s (p + 1) → (k - 1 ≤ p) × (12 * (k - 1) + 12 ≤ length out) × Raisable out (k - 1)
+    pub before-turn : EachIsRaisable s (p + 1) → (k - 1 ≤ p) × (12 * (k - 1) + 12 ≤ length out) × IsRaisable out (k - 1)
     before-turn each =
         let m = u.most in
         (omega arith, omega (arith, u.long), raisable-same out s (k - 1) same-below (each (k - 1) (omega arith)))
@@ -91,7 +91,7 @@ unfolding records
 records-shift f g k zero h = refl
 records-shift f g k (suc n) h = rw (h k (omega arith) (omega arith), records-shift f g (suc k) n (λ i l m. h i (omega arith) (omega arith)))
 
-module _ (s : List ℕ) (c p q : ℕ) (d : Bool) (nm : List ℕ) (start : ℕ) (r : Patchable s c p q start (length nm + 1)) where
+module _ (s : List ℕ) (c p q : ℕ) (d : Bool) (nm : List ℕ) (start : ℕ) (r : IsPatchable s c p q start (length nm + 1)) where
   abbrev new : Node
   new = new_node d nm q
 
@@ -138,12 +138,12 @@ module _ (s : List ℕ) (c p q : ℕ) (d : Bool) (nm : List ℕ) (start : ℕ) (
       same_old : (j : ℕ) → j < q → SameEntry t₂ s j
       same_old j h = fill-same s each twelve (c + 1) room t₂ q written j (omega arith)
 
-      old-raisable : (j : ℕ) → j < q → Raisable t₂ j
+      old-raisable : (j : ℕ) → j < q → IsRaisable t₂ j
       old-raisable j h =
           let w = r.within in
           raisable-same t₂ s j (same_old j h) (r.each j (omega arith))
 
-      pub up-to-turn : (12 * (p + 1) ≤ length t₂) × EachRaisable t₂ (p + 1)
+      pub up-to-turn : (12 * (p + 1) ≤ length t₂) × EachIsRaisable t₂ (p + 1)
       up-to-turn =
           let w = r.within in
           let l = r.later in

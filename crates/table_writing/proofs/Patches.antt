@@ -19,7 +19,7 @@ use Rattle.tree.specs.Insert.{bump, earlier, later, shifted}
 use Rattle.tree.proofs.Laws.Records.{Twelve}
 use Rattle.tree.specs.Inner.Patch.{stored, record_before, record_after, patched_record}
 use Rattle.table_writing.specs.Inner.Flat.{record_bytes}
-use Rattle.table_writing.specs.Inner.Inserting.{new_node, next_before, Raisable}
+use Rattle.table_writing.specs.Inner.Inserting.{new_node, next_before, IsRaisable}
 use Rattle.table_writing.proofs.Puts.{put-fields}
 use Rattle.table_writing.proofs.Stays.{byte-stays, name-stays, word-stays}
 use Rattle.table_writing.specs.declared.kind.Kind.{Kind}
@@ -159,7 +159,7 @@ patched_same s t p q new start k f g =
     (λ h. rw (patched-after s p q new start k h, patched-after t p q new start k h) (moved-after s (k - 1) t (k - 1) q (suc (length (name_of new))) (g h))))
     (three k q)
 
-pub raisable-moved : (s : List ℕ) (j : ℕ) (t : List ℕ) (k : ℕ) → MovedEntry s j t k → Raisable t k → Raisable s j
+pub raisable-moved : (s : List ℕ) (j : ℕ) (t : List ℕ) (k : ℕ) → MovedEntry s j t k → IsRaisable t k → IsRaisable s j
 raisable-moved s j t k e r =
     record {
       kinds = rw e.kinds r.kinds;
@@ -167,7 +167,7 @@ raisable-moved s j t k e r =
       next = λ h. rw e.nexts (r.next (rw e.kinds at h));
     }
 
-pub raisable-same : (s t : List ℕ) (k : ℕ) → SameEntry s t k → Raisable t k → Raisable s k
+pub raisable-same : (s t : List ℕ) (k : ℕ) → SameEntry s t k → IsRaisable t k → IsRaisable s k
 raisable-same s t k = raisable-moved s k t k
 
 -- ---- an entry that stays before the new one changes in its next only, and most do not change

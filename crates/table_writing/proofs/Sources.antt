@@ -2,14 +2,14 @@
 use Rattle.std.specs.Prelude.{ℕ, ◌≡◌, ◌+◌, ◌-◌, ◌*◌, ◌≤◌, ◌<◌, List, length, take, drop}
 use Rattle.std.proofs.Common.{ap, sym, ◌∙◌, arith}
 use Rattle.tree.specs.Table.{count, kind, name_offset, up_to0, name_at}
-use Rattle.table_writing.specs.Inner.Valid.{name_size, Valid}
+use Rattle.table_writing.specs.Inner.Valid.{name_size, IsValid}
 use Rattle.table_writing.proofs.Names.{take-run}
 use Rattle.table_writing.proofs.Nesting.{count-is}
 
-pub counted : (tab value : List ℕ) (n : ℕ) → Valid tab n → tab ≡ value → n ≡ count value
+pub counted : (tab value : List ℕ) (n : ℕ) → IsValid tab n → tab ≡ value → n ≡ count value
 counted tab value n v e = sym (count-is tab n v) ∙ ap count e
 
-pub valid-seen : (tab value : List ℕ) (n : ℕ) → Valid tab n → tab ≡ value → Valid value (count value)
+pub valid-seen : (tab value : List ℕ) (n : ℕ) → IsValid tab n → tab ≡ value → IsValid value (count value)
 valid-seen tab value n v e = rw (← (counted tab value n v e), ← e) v
 
 -- entry k
@@ -19,14 +19,14 @@ pub record Held (tab : List ℕ) (n k : ℕ) : Type 0 where
   pub whole : 12 * k + 12 ≤ length tab
   pub known : kind tab k ≤ 1
 
-pub held : (tab value : List ℕ) (n k : ℕ) → Valid tab n → tab ≡ value → k < count value → Held tab n k
+pub held : (tab value : List ℕ) (n k : ℕ) → IsValid tab n → tab ≡ value → k < count value → Held tab n k
 held tab value n k v e h =
     let c = counted tab value n v e in
     let inside : k < n = omega arith in
     record { inside = inside; few = v.few; whole = omega (arith, v.whole); known = v.kinds k inside }
 
 -- its name
-module _ (tab value : List ℕ) (n k : ℕ) (v : Valid tab n) (e : tab ≡ value) (some : 0 < k) (h : k < count value) (offset : ℕ) (read : offset ≡ name_offset tab k) where
+module _ (tab value : List ℕ) (n k : ℕ) (v : IsValid tab n) (e : tab ≡ value) (some : 0 < k) (h : k < count value) (offset : ℕ) (read : offset ≡ name_offset tab k) where
   pub name-held : 12 * n + offset + length (up_to0 (drop (12 * n + offset) tab)) < length tab
   unfolding name_size name_at
   name-held = rw read (v.named k some (held tab value n k v e h).inside)

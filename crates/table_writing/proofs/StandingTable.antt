@@ -12,7 +12,7 @@ use lib.Seq.{length-take-le, take-append_seam}
 use Rattle.endian.specs.Bytes.{be32, put}
 use Rattle.endian.specs.Laws.Stored.{length-put, put_in}
 use Rattle.tree.specs.Table.{Node, file, directory, none, count, size_or_next, offset_or_parent, nodes_of, encloses, parent_of, texts_of, encode}
-use Rattle.tree.specs.Inner.WellFormed.{WellFormed}
+use Rattle.tree.specs.Inner.WellFormed.{IsWellFormed}
 use Rattle.tree.proofs.Laws.WellNested.{root_is, not-empty, parent-inside}
 use Rattle.tree.proofs.Laws.Nesting.{parent-before}
 use Rattle.tree.proofs.Laws.Renumbered.{directory-is}
@@ -27,7 +27,7 @@ use Rattle.tree.proofs.Laws.Accepted.{length-nodes_of}
 use Rattle.table.specs.Inner.Reading.{Opens}
 use Rattle.table_writing.proofs.Patches.{SameEntry, same-entry}
 use Rattle.table_writing.proofs.Puts.{put-start}
-use Rattle.table_writing.specs.Inner.Growth.{tree_in, Stands, IsDirectory, depth_allows, Built}
+use Rattle.table_writing.specs.Inner.Growth.{tree_in, Stands, IsDirectory, depth_allows, IsBuilt}
 
 -- ---- what is read of the table
 
@@ -93,7 +93,7 @@ pub record Counted (nodes : List Node) (k at n : ℕ) : Type 0 where
   pub counted : depth_of nodes k ≡ depth_of nodes at + n
   pub most : n + at ≤ k
 
-parent-directory : (nodes : List Node) (k : ℕ) → WellFormed nodes → 0 < k → k < length nodes → IsDirectory nodes (parent_of nodes k)
+parent-directory : (nodes : List Node) (k : ℕ) → IsWellFormed nodes → 0 < k → k < length nodes → IsDirectory nodes (parent_of nodes k)
 parent-directory nodes k w z h = go (get_or nodes (parent_of nodes k) none) refl (parent-inside nodes k w z h).1
   where
     b : parent_of nodes k < k
@@ -135,10 +135,10 @@ deep nodes k at n false c h e = e
 
 -- ---- a tree that was built stands there
 
-pub built-stands : (F : List Node) (words : ℕ) (s t : List ℕ) (r : Result ℕ Refusal) (n : ℕ) → WellFormed F → Built F words s t r → r ≡ Ok n → Stands t n words × (tree_in t n ≡ F)
+pub built-stands : (F : List Node) (words : ℕ) (s t : List ℕ) (r : Result ℕ Refusal) (n : ℕ) → IsWellFormed F → IsBuilt F words s t r → r ≡ Ok n → Stands t n words × (tree_in t n ≡ F)
 unfolding tree_in
 built-stands F words s t r n w built is =
-    let b : Built F words s t (Ok n) = rw is at built in
+    let b : IsBuilt F words s t (Ok n) = rw is at built in
     let e : take n t ≡ encode F = rw (b.3, b.1, put-start s (encode F)) (take-append_seam (encode F) (drop (length (encode F)) s)) in
     let q : nodes_of (take n t) ≡ F = ap nodes_of e ∙ written-reads F words w b.0 in
     let l : length t ≡ length s = ap length b.3 ∙ length-put s 0 (encode F) (omega (arith, b.1, b.2)) in

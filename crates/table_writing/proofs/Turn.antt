@@ -8,7 +8,7 @@ use borrow.Author.Tests.{eq-eqb}
 use lib.ListN.{length}
 use Rattle.endian.specs.Bytes.{put}
 use Rattle.tree.specs.Table.{kind, size_or_next, count, nodes_of, parent_of, encode}
-use Rattle.table_writing.specs.Inner.Valid.{Valid}
+use Rattle.table_writing.specs.Inner.Valid.{IsValid}
 use Rattle.table_writing.specs.Inner.Flat.{after_in, text_to, write_to, root_at, Room}
 use Rattle.table_writing.proofs.Nesting.{Closed, closed_none, closed-more, after-later, after-within, parent_is}
 use Rattle.table_writing.proofs.Whole.{whole-size, whole, whole_room}
@@ -32,7 +32,7 @@ pub record Turn (tab out₀ : List ℕ) (n k text : ℕ) (out : List ℕ) (at c 
   pub again : (out' : List ℕ) (at' c' : ℕ) → at' ≡ text_to tab n c (after_in tab c) at → out' ≡ write_to tab n c (after_in tab c) at out → length out' ≡ length out → c' ≡ after_in tab c
       → Upto tab out₀ n k text out' at' c'
 
-module _ (tab : List ℕ) (n k text : ℕ) (v : Valid tab n) (kn : k < n) (dir : kind tab k ≡ 1) (out₀ : List ℕ) where
+module _ (tab : List ℕ) (n k text : ℕ) (v : IsValid tab n) (kn : k < n) (dir : kind tab k ≡ 1) (out₀ : List ℕ) where
   pub start : Upto tab out₀ n k text out₀ text (k + 1)
   start =
       record {
@@ -92,7 +92,7 @@ module _ (tab : List ℕ) (n k text : ℕ) (v : Valid tab n) (kn : k < n) (dir :
         }
 
 -- an entry's own record and name, and then what is in it
-module _ (tab : List ℕ) (n k text : ℕ) (v : Valid tab n) (kn : k < n) (L : ℕ) (r : Room n text (text_to tab n k (after_in tab k) text) L) where
+module _ (tab : List ℕ) (n k text : ℕ) (v : IsValid tab n) (kn : k < n) (L : ℕ) (r : Room n text (text_to tab n k (after_in tab k) text) L) where
   pub room-one : Room n text (text_to tab n k (k + 1) text) L
   room-one =
       let top : text_to tab n k (k + 1) text ≤ text_to tab n k (after_in tab k) text =
@@ -117,7 +117,7 @@ module _ (tab : List ℕ) (n k text : ℕ) (v : Valid tab n) (kn : k < n) (L : �
 
 -- ---- the whole table, by what was read and written on the way
 
-module _ (tab source out out₁ : List ℕ) (n text : ℕ) (v : Valid tab (count tab)) (e : source ≡ tab) (c : n ≡ count source) (z : text ≡ 12 * n) where
+module _ (tab source out out₁ : List ℕ) (n text : ℕ) (v : IsValid tab (count tab)) (e : source ≡ tab) (c : n ≡ count source) (z : text ≡ 12 * n) where
   pub written-room : (L : ℕ) → length out₁ ≡ L → length (encode (nodes_of tab)) ≤ L → length (encode (nodes_of tab)) ≤ 2 ^ 24 →
       Room (count source) text (text_to source (count source) 1 (size_or_next source 0) text) (length out₁)
   written-room L l h g = rw (z, c, e, l) (whole_room tab (count tab) v L h g)

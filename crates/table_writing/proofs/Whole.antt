@@ -12,7 +12,7 @@ use Rattle.endian.specs.Laws.Stored.{length-put, put-none}
 use Rattle.tree.specs.Table.{Node, directory, name_of, kind, name_offset, size_or_next, name_at, node_with, node_at, nodes_from, nodes_of, parent_of, node_bytes, entries_bytes, texts_of, encode}
 use Rattle.tree.proofs.Laws.Accepted.{length-nodes_from, length-nodes_of}
 use Rattle.tree.proofs.Laws.WrittenEntries.{length-node_bytes, length-entries_bytes, length-encode}
-use Rattle.table_writing.specs.Inner.Valid.{Valid, name_size}
+use Rattle.table_writing.specs.Inner.Valid.{IsValid, name_size}
 use Rattle.table_writing.specs.Inner.Flat.{record_at, put_text, text_flat, write_flat, text_to, write_to, root_at, Room}
 use Rattle.table_writing.proofs.Puts.{put-append, put-swap}
 use Rattle.table_writing.proofs.Nesting.{count-is}
@@ -102,7 +102,7 @@ root-length : (n : ℕ) (out : List ℕ) → 12 ≤ length out → length (root_
 unfolding root_at
 root-length n out h = length-put out 0 (node_bytes 0 0 (directory [] n)) h
 
-module _ (tab : List ℕ) (n : ℕ) (v : Valid tab n) where
+module _ (tab : List ℕ) (n : ℕ) (v : IsValid tab n) where
   pub encode-size : length (encode (nodes_of tab)) ≡ 12 * n + length (texts_of (nodes_from tab n 1 (n - 1)))
   unfolding nodes_of
   encode-size =

@@ -11,7 +11,7 @@ use lib.Seq.{take-append-le, drop-append-le}
 use Rattle.endian.specs.Bytes.{put, be32_bytes}
 use Rattle.endian.specs.Laws.Stored.{length-put, put_in, drop-put}
 use Rattle.tree.specs.Table.{Node, file, directory, none, name_offset, size_or_next, parent_below, parent_of, texts_of, encode}
-use Rattle.tree.specs.Inner.WellFormed.{WellFormed}
+use Rattle.tree.specs.Inner.WellFormed.{IsWellFormed}
 use Rattle.tree.proofs.Laws.WrittenEntries.{length-encode}
 use Rattle.tree.proofs.Laws.Nesting.{parent-before}
 use Rattle.tree.proofs.Laws.WellNested.{root_is, next-bounds}
@@ -21,7 +21,7 @@ use Rattle.tree.proofs.Laws.Writing.{text_start, start-most, Fields, written-fie
 use Rattle.tree.specs.Inner.Patch.{insert_patch}
 use Rattle.tree.proofs.Laws.PatchLaws.{place-patched, insert-patched}
 use Rattle.tree.proofs.Laws.Size.{size-insert}
-use Rattle.table_writing.specs.Inner.Inserting.{new_node, Raisable, Insertable}
+use Rattle.table_writing.specs.Inner.Inserting.{new_node, IsRaisable, IsInsertable}
 use Rattle.table_writing.proofs.Puts.{take_put}
 use Rattle.table_writing.proofs.Patches.{SameEntry, same-entry, raisable-same, new-name}
 
@@ -71,7 +71,7 @@ parent-most : (nodes : List Node) (k : ℕ) → parent_of nodes k ≤ k
 parent-most nodes zero = parent-zero nodes
 parent-most nodes (suc k) = omega (arith, parent-before nodes (suc k) (omega arith))
 
-raisable-with : (tab : List ℕ) (k c par o : ℕ) (x : Node) → c ≤ 16384 → par ≤ c → ((nm : List ℕ) (n : ℕ) → x ≡ directory nm n → n ≤ c) → Fields tab k par o x → Raisable tab k
+raisable-with : (tab : List ℕ) (k c par o : ℕ) (x : Node) → c ≤ 16384 → par ≤ c → ((nm : List ℕ) (n : ℕ) → x ≡ directory nm n → n ≤ c) → Fields tab k par o x → IsRaisable tab k
 raisable-with tab k c par o (file nm a e) few p n f =
     record { kinds = omega (arith, f.0); place = λ h. absurd (omega (arith, f.0)); next = λ h. absurd (omega (arith, f.0)) }
 raisable-with tab k c par o (directory nm next) few p n f =
@@ -90,7 +90,7 @@ fresh-new true nm q = refl
 fresh-new false nm q = (omega arith, omega arith)
 
 module _ (b : List ℕ) (nodes : List Node) (p q : ℕ) (pm : List ℕ) (d : Bool) (nm : List ℕ)
-    (w : WellFormed nodes) (here : get_or nodes p none ≡ directory pm q) (p<c : p < length nodes) (few : length nodes ≤ 16384)
+    (w : IsWellFormed nodes) (here : get_or nodes p none ≡ directory pm q) (p<c : p < length nodes) (few : length nodes ≤ 16384)
     (fits : length (encode nodes) + 12 + length nm + 1 ≤ length b) (small : length (encode nodes) + 12 + length nm + 1 ≤ 2 ^ 24) where
   abbrev tab : List ℕ
   tab = encode nodes
@@ -115,7 +115,7 @@ module _ (b : List ℕ) (nodes : List Node) (p q : ℕ) (pm : List ℕ) (d : Boo
   pub parent-next : size_or_next s p ≡ q
   parent-next = (same p p<c).nexts ∙ next-with tab p (parent_of nodes p) (text_start nodes p) (get_or nodes p none) pm q here (fields p p<c)
 
-  raisable : (k : ℕ) → k < length nodes → Raisable s k
+  raisable : (k : ℕ) → k < length nodes → IsRaisable s k
   raisable k h =
       raisable-same s tab k (same k h)
       (raisable-with tab k (length nodes) (parent_of nodes k) (text_start nodes k) (get_or nodes k none) few (omega (arith, parent-most nodes k))
@@ -125,7 +125,7 @@ module _ (b : List ℕ) (nodes : List Node) (p q : ℕ) (pm : List ℕ) (d : Boo
   names k h =
       omega (arith, (same k h).names, name-with tab k (parent_of nodes k) (text_start nodes k) (get_or nodes k none) (fields k h), start-most nodes k h, length-encode nodes)
 
-  pub insertable : Insertable s (length tab) p (length nm)
+  pub insertable : IsInsertable s (length tab) p (length nm)
   insertable =
       let l : length s ≡ length b = length-put b 0 tab (omega arith) in
       let n = next-bounds nodes p q pm w here p<c in

@@ -3,7 +3,7 @@ ghost use Rattle.std.specs.Prelude.{◌≡◌, ◌<◌, length, IfOk, OnOk, OnEr
 ghost use Rattle.std.proofs.Props.{props};
 ghost use Rattle.table_writing.specs.Inner.Kind.{kind_is_directory};
 ghost use Rattle.tree.specs.Table.{none, parent_of, limits};
-ghost use Rattle.tree.specs.Inner.WellFormed.{GoodName};
+ghost use Rattle.tree.specs.Inner.WellFormed.{IsGoodName};
 ghost use Rattle.tree.specs.Inner.Depths.{depth_of};
 ghost use Rattle.tree.specs.Lookup.{child_of, next_of};
 ghost use Rattle.table_writing.specs.Inner.Growth.{tree_in, Stands, IsDirectory, depth_allows};
@@ -88,7 +88,7 @@ impl<'a> Growing<'a> {
     // The limits of the tree with one entry more.
     fn check_limits(&self, p: usize, kind: Kind, name: &[u8]) -> Verdict
         requires directory { IsDirectory (tree_of self.now) p }
-        requires name { GoodName name.now }
+        requires name { IsGoodName name.now }
         ensures { result ≡ limits (added_to self.now kind p name.now) self.now.words }
     {
         let count = endian::read_u32(self.bytes, 8) as usize;
@@ -114,7 +114,7 @@ impl<'a> Growing<'a> {
     // Kept: the directory, the kind and the name are no struct, as in `fst_patch::insert`.
     pub fn grow(&mut self, p: usize, kind: Kind, name: &[u8]) -> Result<usize, Refusal>
         requires directory { IsDirectory (tree_of self.old) p }
-        requires name { GoodName name.now }
+        requires name { IsGoodName name.now }
         ensures number { IfOk result (λ number. number ≡ next_of (slice_index_or (tree_of self.old) p none)) }
         ensures tree { OnOk result (tree_of self.new ≡ added_to self.old kind p name.now) }
         ensures built { HasBuilt self.old self.new (added_to self.old kind p name.now) result }

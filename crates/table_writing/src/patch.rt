@@ -4,7 +4,7 @@ ghost use Rattle.std.specs.Prelude.{◌≡◌, ◌++◌, ◌+◌, ◌*◌, ◌�
 ghost use Rattle.endian.specs.Bytes.{put, be32_bytes};
 ghost use Rattle.tree.specs.Table.{size_or_next};
 ghost use Rattle.tree.specs.Inner.Patch.{records, record_before};
-ghost use Rattle.table_writing.specs.Inner.Inserting.{EachRaisable, NamesGrow, new_texts, start_in, Insertable};
+ghost use Rattle.table_writing.specs.Inner.Inserting.{EachIsRaisable, NamesGrow, new_texts, start_in, IsInsertable};
 ghost use Rattle.table_writing.specs.Inner.Patching.{behind_of, CanTake, records_with, table_with};
 
 use crate::kind::Kind;
@@ -15,7 +15,7 @@ use crate::raising::{NewEntry, Shift};
 fn patch_behind(table: &mut [u8], count: usize, shift: Shift)
     requires within { 12 * count + 12 ≤ length table.old }
     requires number { shift.number ≤ count }
-    requires raisable { EachRaisable table.old count }
+    requires raisable { EachIsRaisable table.old count }
     requires names { NamesGrow table.old count shift.text }
     ensures { table.new ≡ put table.old (12 * (shift.number + 1)) (behind_of table.old shift count) }
 {
@@ -35,7 +35,7 @@ fn patch_behind(table: &mut [u8], count: usize, shift: Shift)
 // The entries up to directory p.
 fn patch_up_to(table: &mut [u8], p: usize)
     requires within { 12 * (p + 1) ≤ length table.old }
-    requires raisable { EachRaisable table.old (p + 1) }
+    requires raisable { EachIsRaisable table.old (p + 1) }
     ensures { table.new ≡ put table.old 0 (records (record_before table.old p) 0 (p + 1)) }
 {
     // Kept: a range of numbers, as above.
@@ -91,7 +91,7 @@ fn new_start(table: &[u8], size: usize, count: usize, q: usize) -> usize
 /// `size` bytes, and returns its number. The new table has 12 + name.len() + 1 bytes more.
 // Kept: the directory, the kind and the name are no struct: `NewEntry` has the number and the start too, which are read here.
 pub fn insert(table: &mut [u8], size: usize, p: usize, kind: Kind, name: &[u8]) -> usize
-    requires { Insertable table.old size p (length name.now) }
+    requires { IsInsertable table.old size p (length name.now) }
     ensures value { result ≡ size_or_next table.old p }
     ensures table_after { table.new ≡ put table.old 0 (table_with table.old size p kind name.now) }
 {

@@ -5,7 +5,7 @@ ghost use Rattle.tree.specs.Table.{name_offset};
 ghost use Rattle.tree.specs.Insert.{shifted};
 ghost use Rattle.tree.specs.Inner.Patch.{record_before, record_after};
 ghost use Rattle.table_writing.specs.Inner.Record.{bytes_of};
-ghost use Rattle.table_writing.specs.Inner.Inserting.{Raisable};
+ghost use Rattle.table_writing.specs.Inner.Inserting.{IsRaisable};
 ghost use Rattle.table_writing.specs.Inner.Entering.{new_bytes};
 
 use crate::kind::Kind;
@@ -38,7 +38,7 @@ impl Shift {
     /// the kind above the name offset.
     pub fn raise(self, table: &mut [u8], k: usize)
         requires within { 12 * k + 12 ≤ length table.old }
-        requires raisable { Raisable table.old k }
+        requires raisable { IsRaisable table.old k }
         requires names { name_offset table.old k + self.text < 2 ^ 24 }
         ensures { table.new ≡ put table.old (12 * k) (record_after table.old self.number self.text k) }
     {
@@ -57,7 +57,7 @@ impl Shift {
 pub fn patch_before(table: &mut [u8], k: usize, p: usize)
     requires before { k ≤ p }
     requires within { 12 * k + 12 ≤ length table.old }
-    requires raisable { Raisable table.old k }
+    requires raisable { IsRaisable table.old k }
     ensures { table.new ≡ put table.old (12 * k) (record_before table.old p k) }
 {
     if Kind::of(table, k).is_directory() {

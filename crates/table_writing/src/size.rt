@@ -3,7 +3,7 @@
 ghost use Rattle.std.specs.Prelude.{◌≡◌, ◌+◌, ◌*◌, ◌≤◌, length};
 ghost use Rattle.tree.specs.Table.{count};
 ghost use Rattle.table_writing.specs.Inner.Flat.{after_in};
-ghost use Rattle.table_writing.specs.Inner.Valid.{Valid};
+ghost use Rattle.table_writing.specs.Inner.Valid.{IsValid};
 ghost use Rattle.table_writing.specs.Inner.Measure.{measure_of};
 
 use crate::kind::Kind;
@@ -26,7 +26,7 @@ pub fn after(table: &[u8], k: usize) -> usize
 
 /// The size in bytes of what `write_table` writes; 9 if its texts pass the limit.
 pub fn measure(table: &[u8]) -> Result<usize, Refusal>
-    requires { Valid table.now (count table.now) }
+    requires { IsValid table.now (count table.now) }
     ensures { result ≡ measure_of table.now }
 {
     Source::new(table).measure()

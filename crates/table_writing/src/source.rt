@@ -4,7 +4,7 @@ ghost use Rattle.tree.specs.Table as table_of;
 ghost use Rattle.tree.specs.Table.{name_offset, offset_or_parent, size_or_next, name_at};
 ghost use Rattle.table_writing.specs.Inner.Kind.{number_of};
 ghost use Rattle.table_writing.specs.Inner.Measure.{measure_of};
-ghost use Rattle.table_writing.specs.Inner.Valid.{Valid};
+ghost use Rattle.table_writing.specs.Inner.Valid.{IsValid};
 
 use crate::kind::Kind;
 use crate::size::TEXTS_LIMIT;
@@ -12,7 +12,7 @@ use refusal::Refusal;
 use std::marker::Model;
 
 /// A table that can be written anew: its directories nest, and its names end within it. Contracts see its bytes.
-// Kept: beside `fst::Table`, which asks that opening accepts the table: what is measured and written is any `Valid` one.
+// Kept: beside `fst::Table`, which asks that opening accepts the table: what is measured and written is any `IsValid` one.
 // No derived equality, which would ask for an `inverse`: the view is the bytes, and forgets where they lie and the count.
 #[derive(Drop)]
 pub struct Source<'a> {
@@ -22,20 +22,20 @@ pub struct Source<'a> {
 
 impl<'a> Model for Source<'a> {
     ghost use Rattle.std.specs.Prelude.{ℕ, List};
-    ghost use Rattle.table_writing.specs.Inner.Valid.{Valid};
+    ghost use Rattle.table_writing.specs.Inner.Valid.{IsValid};
 
     ghost Value = { List ℕ };
 
     ghost view = { λ s. s.bytes.now };
 
-    ghost invariant = { λ s. Valid s.bytes.now s.count };
+    ghost invariant = { λ s. IsValid s.bytes.now s.count };
 }
 
 impl<'a> Source<'a> {
-    /// A table that the checks accepted, or any other that is `Valid`.
-    // Kept: `Valid` in three contracts: here bytes become a `Source`, and the two public calls take bytes.
+    /// A table that the checks accepted, or any other that is `IsValid`.
+    // Kept: `IsValid` in three contracts: here bytes become a `Source`, and the two public calls take bytes.
     pub fn new(bytes: &'a [u8]) -> Self
-        requires { Valid bytes.now (table_of.count bytes.now) }
+        requires { IsValid bytes.now (table_of.count bytes.now) }
         ensures { result ≡ bytes.now }
     {
         let count = endian::read_u32(bytes, 8) as usize;
@@ -55,7 +55,7 @@ impl<'a> Source<'a> {
     /// Its bytes, the names with them.
     pub fn bytes(&self) -> &'a [u8]
         ensures bytes { result.now ≡ self.now }
-        ensures valid { Valid self.now (table_of.count self.now) }
+        ensures valid { IsValid self.now (table_of.count self.now) }
     {
         self.bytes
     }
@@ -63,7 +63,7 @@ impl<'a> Source<'a> {
     /// How many entries it has.
     pub fn count(&self) -> usize
         ensures value { result ≡ table_of.count self.now }
-        ensures valid { Valid self.now (table_of.count self.now) }
+        ensures valid { IsValid self.now (table_of.count self.now) }
     {
         self.count
     }
@@ -72,7 +72,7 @@ impl<'a> Source<'a> {
     pub fn kind(&self, k: usize) -> Kind
         requires { k < table_of.count self.now }
         ensures value { number_of result ≡ table_of.kind self.now k }
-        ensures valid { Valid self.now (table_of.count self.now) }
+        ensures valid { IsValid self.now (table_of.count self.now) }
     {
         Kind::of(self.bytes, k)
     }
@@ -89,7 +89,7 @@ impl<'a> Source<'a> {
     pub fn next(&self, k: usize) -> u32
         requires { k < table_of.count self.now }
         ensures value { result ≡ size_or_next self.now k }
-        ensures valid { Valid self.now (table_of.count self.now) }
+        ensures valid { IsValid self.now (table_of.count self.now) }
     {
         endian::read_u32(self.bytes, 12 * k + 8)
     }

@@ -4,7 +4,7 @@
 ghost use Rattle.std.specs.Prelude.{◌≡◌, ◌+◌, ◌≤◌, ◌<◌, ◌^◌, length};
 ghost use Rattle.endian.specs.Bytes.{put};
 ghost use Rattle.tree.specs.Table.{kind, size_or_next, count, nodes_of, parent_of, encode};
-ghost use Rattle.table_writing.specs.Inner.Valid.{Valid};
+ghost use Rattle.table_writing.specs.Inner.Valid.{IsValid};
 ghost use Rattle.table_writing.specs.Inner.Flat.{after_in, root_at};
 ghost use Rattle.table_writing.specs.Inner.Writing.{text_after, out_after, HasRoom};
 
@@ -114,7 +114,7 @@ fn write_root(out: &mut [u8], count: usize)
 
 /// Writes the whole table, and returns its size in bytes.
 pub fn write_table(table: &[u8], out: &mut [u8]) -> usize
-    requires valid { Valid table.now (count table.now) }
+    requires valid { IsValid table.now (count table.now) }
     requires table_in_bounds { (length (encode (nodes_of table.now)) ≤ length out.old)
         × (length (encode (nodes_of table.now)) ≤ 2 ^ 24) }
     ensures value { result ≡ length (encode (nodes_of table.now)) }

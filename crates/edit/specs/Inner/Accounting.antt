@@ -71,6 +71,6 @@ abbrev pub counted_totals : Plan → Totals → List ℕ → ℕ → ℕ → Tot
 counted_totals p t image words room = if is_refused (counted_verdict p t image words room) then t else totals_to t image (plan_image p image)
 
 -- a, with these working bytes and this clip, is what the plan comes to by all its tests, 25 too, where the record t went in
-pub record AccountedFor (p : Plan) (image : List ℕ) (words room : ℕ) (bytes clip : List ℕ) (t : Totals) (a : Accounted) : Type 0 where
+pub record IsAccountedFor (p : Plan) (image : List ℕ) (words room : ℕ) (bytes clip : List ℕ) (t : Totals) (a : Accounted) : Type 0 where
   pub decided : DecidedAs (counted_verdict p t image words room) p image room bytes clip a.decision
   pub totals : a.totals ≡ counted_totals p t image words room

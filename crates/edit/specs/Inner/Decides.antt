@@ -42,6 +42,6 @@ plan_on (edits.fill_file k clip) d = plan_fill (free_of d) d.nodes k clip
 plan_on edits.rewrite d = change 0 (table_only d.nodes)
 
 -- r is what the edit decides on, on the disc, and its numbers are numbers that a call can hand on
-pub record EditDecided (ed : edits.Edit) (d : Disc) (room : ℕ) (bytes clip : List ℕ) (r : Result Decision Refusal) : Type 0 where
+pub record IsEditDecided (ed : edits.Edit) (d : Disc) (room : ℕ) (bytes clip : List ℕ) (r : Result Decision Refusal) : Type 0 where
   pub decided : DecidesWith clip (plan_on ed d) d room bytes r
   pub passable : Passable ed

@@ -3,7 +3,7 @@ use Rattle.std.specs.Prelude.{Result, Ok, Err, ℕ, ◌<◌, ◌≡◌, false, L
 use Rattle.refusal.specs.declared.Refusal.{Refusal}
 use Rattle.refusal.specs.declared.Refusal.TheVariants.{LimitOrMemory}
 use Rattle.tree.specs.Table.{Node, parent_of, encode, limits}
-use Rattle.tree.specs.Inner.WellFormed.{GoodName}
+use Rattle.tree.specs.Inner.WellFormed.{IsGoodName}
 use Rattle.tree.specs.Lookup.{child_of, stays, goes_back}
 use Rattle.tree.specs.Insert.{insert_at, empty_directory}
 use Rattle.edits.specs.Edits.{new_number, Made, stopped, made, if_found}
@@ -37,7 +37,7 @@ turn_of nodes k nm =
 
 -- a name that directory k lacks may be given
 pub record MayName (nodes : List Node) (k : ℕ) (nm : List ℕ) : Type 0 where
-  pub good : (c : Refusal) → child_of nodes k nm ≡ Err c → GoodName nm
+  pub good : (c : Refusal) → child_of nodes k nm ≡ Err c → IsGoodName nm
 
 -- the walk stands on a directory, and where the component is a name it may be given
 pub record CanTurn (nodes : List Node) (k : ℕ) (nm : List ℕ) : Type 0 where

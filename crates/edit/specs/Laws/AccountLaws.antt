@@ -71,7 +71,7 @@ module _ (image w : List ℕ) (m : ℕ) (o : IsOpen image w m) (image' : List �
 -- ---- what is decided on
 
 -- a passes the decision on with the new record, or refuses it with the old one
-pub record Entered (v : Verdict) (d : Result Decision Refusal) (t t' : Totals) (a : Accounted) : Type 0 where
+pub record IsEntered (v : Verdict) (d : Result Decision Refusal) (t t' : Totals) (a : Accounted) : Type 0 where
   pub passed : v ≡ Ok tt → a ≡ accounted d t'
   pub refused : (c : Refusal) → v ≡ Err c → a ≡ accounted (Err c) t
 
@@ -84,7 +84,7 @@ module _ (image w : List ℕ) (m room : ℕ) (bytes : List ℕ) (long : length b
   abbrev pub tested : Plan → Verdict
   tested p = first (plan_verdict p image (length w) room) (totals_verdict t (used_of image) (used_of image'))
 
-  refused-entered : (p : Plan) (c : Refusal) → Err c ≡ plan_verdict p image (length w) room → Entered (tested p) (Err c) t (totals_to t image image') (accounted (Err c) t)
+  refused-entered : (p : Plan) (c : Refusal) → Err c ≡ plan_verdict p image (length w) room → IsEntered (tested p) (Err c) t (totals_to t image image') (accounted (Err c) t)
   refused-entered p c h =
       let e : tested p ≡ Err c = rw (← h) in
       record {
@@ -93,7 +93,7 @@ module _ (image w : List ℕ) (m room : ℕ) (bytes : List ℕ) (long : length b
       }
 
   moved-entered : (p : Plan) (d : Decision) (a : Accounted) → Ok tt ≡ plan_verdict p image (length w) room → a ≡ settled_as d (moved_by t (used_of image) (used_of image') (largest_size (free_space_of image'))) →
-      Entered (tested p) (Ok d) t (totals_to t image image') a
+      IsEntered (tested p) (Ok d) t (totals_to t image image') a
   moved-entered p d a h e = record { passed = λ q. e ∙ go q; refused = λ c q. e ∙ stop c q }
     where
       25-is : tested p ≡ totals_verdict t (used_of image) (used_of image')
@@ -107,19 +107,19 @@ module _ (image w : List ℕ) (m room : ℕ) (bytes : List ℕ) (long : length b
 
   -- nothing is written but a clip
   none-entered : (p : Plan) (d : Decision) → Ok tt ≡ plan_verdict p image (length w) room → Lays nothing image image' →
-      Entered (tested p) (Ok d) t (totals_to t image image') (settled_as d (entered_as image (regions_in w 1 (m - 1)) t (fst_size image) no_place no_place))
+      IsEntered (tested p) (Ok d) t (totals_to t image image') (settled_as d (entered_as image (regions_in w 1 (m - 1)) t (fst_size image) no_place no_place))
   none-entered p d h l = moved-entered p d _ h (ap (settled_as d) (moves image w m o image' (fst_size image) no_place no_place l.0 t))
 
   -- a table is
   write-entered : (p : Plan) (k : ℕ) (c : Change) (n size : ℕ) (x : Writing) → Ok tt ≡ plan_verdict p image (length w) room → Lays (change k c) image image' → length (encode c.nodes) ≡ size → c.old ≡ x.old → c.place ≡ x.place →
-      Entered (tested p) (Ok (decision.Write n size x)) t (totals_to t image image') (account_of image (regions_in w 1 (m - 1)) (Ok (decision.Write n size x)) t)
+      IsEntered (tested p) (Ok (decision.Write n size x)) t (totals_to t image image') (account_of image (regions_in w 1 (m - 1)) (Ok (decision.Write n size x)) t)
   write-entered p k c n size x h l l₀ eo ep =
       let s : LaidOut image image' size x.old x.place = rw (l₀, eo, ep) at l in
       moved-entered p (decision.Write n size x) _ h (ap (settled_as (decision.Write n size x)) (moves image w m o image' size x.old x.place s t))
 
   -- LAW: of what a plan comes to, whose layout the new image has
   pub entered : (p : Plan) (clip : List ℕ) (d : Result Decision Refusal) → DecidedAs (plan_verdict p image (length w) room) p image room bytes clip d → (plan_verdict p image (length w) room ≡ Ok tt → Lays p image image') →
-      Entered (tested p) d t (totals_to t image image') (account_of image (regions_in w 1 (m - 1)) d t)
+      IsEntered (tested p) d t (totals_to t image image') (account_of image (regions_in w 1 (m - 1)) d t)
   entered p clip (Err c) h l = refused-entered p c h.answer
   entered (refused v) clip (Ok decision.Nothing) h l = absurd h.carries
   entered nothing clip (Ok decision.Nothing) h l = none-entered nothing decision.Nothing refl (l refl)

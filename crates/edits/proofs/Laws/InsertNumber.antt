@@ -10,7 +10,7 @@ use Rattle.refusal.specs.Laws.Chains.{refuse-passed}
 use Rattle.tree.specs.Table.{Node, directory, name_of, none, safe}
 use Rattle.tree.specs.Lookup.{is_directory, child_of, lookup}
 use Rattle.tree.specs.Insert.{insert_at, shifted}
-use Rattle.tree.proofs.Laws.InsertedList.{Nested, Fresh, inserted-at, p<q}
+use Rattle.tree.proofs.Laws.InsertedList.{IsNested, Fresh, inserted-at, p<q}
 use Rattle.tree.proofs.Laws.ChildInsert.{shifted-low, child-new}
 use Rattle.edits.specs.Edits.{new_number, is_found, insert_verdict}
 use Rattle.tree.proofs.Laws.Renumbered.{directory-is, Renumbered, renumbered-insert, looked-up}
@@ -38,7 +38,7 @@ opened nodes p nm v =
     missing (Ok k) e = let z : ◌≡◌ {A = ℕ} 0 1 = cc in absurd (omega arith)
     missing (Err r) e = (r, refl)
 
-module _ (nodes : List Node) (w : Nested nodes) (p : ℕ) (new : Node) (v : insert_verdict nodes p (name_of new) ≡ Ok tt) (fresh : Fresh (new_number nodes p) new) where
+module _ (nodes : List Node) (w : IsNested nodes) (p : ℕ) (new : Node) (v : insert_verdict nodes p (name_of new) ≡ Ok tt) (fresh : Fresh (new_number nodes p) new) where
   abbrev q : ℕ
   q = new_number nodes p
 

@@ -5,7 +5,7 @@ use Rattle.std.specs.Prelude.{ℕ, suc, ◌<◌, ◌≤◌, ◌≡◌, refl, Boo
 use Rattle.std.proofs.Common.{arith}
 use Rattle.refusal.specs.declared.Refusal.TheVariants.{UnsafeName, ExpectedDirectory}
 use Rattle.tree.specs.Table.{Node, directory, none, plain, safe}
-use Rattle.tree.specs.Inner.WellFormed.{WellFormed}
+use Rattle.tree.specs.Inner.WellFormed.{IsWellFormed}
 use Rattle.tree.specs.Lookup.{is_directory, stays, goes_back, child_of}
 use Rattle.tree.specs.Insert.{insert_at, empty_directory}
 use Rattle.tree.proofs.Laws.LookupLaws.{child-inside}
@@ -47,7 +47,7 @@ lt-more : (n m : ℕ) (trail : List ℕ) → n ≤ m → AllLt n trail → AllLt
 lt-more n m [] h a = tt
 lt-more n m (t ∷ trail) h a = (omega arith, lt-more n m trail h a.1)
 
-grows : (cs : List (List ℕ)) (M : List Node) (trail : List ℕ) (k : ℕ) (bad : Bool) (F : List Node) (j : ℕ) → WellFormed M → k < length M → AllLt (length M) trail →
+grows : (cs : List (List ℕ)) (M : List Node) (trail : List ℕ) (k : ℕ) (bad : Bool) (F : List Node) (j : ℕ) → IsWellFormed M → k < length M → AllLt (length M) trail →
     make M trail k bad cs ≡ made F j false → Bigger M F × (j < length F)
 unfolding make
 grows [] M trail k bad F j w h a e = go (is_directory (get_or M k none)) e
@@ -62,7 +62,7 @@ grows (c ∷ cs) M trail k bad F j w h a e =
     go (is_directory (get_or M k none)) refl (stays c) (goes_back c) trail a (child_of M k c) refl (safe c) refl (λ m t i b. grows cs m t i b F j) e
   where
     more : (nm : List ℕ) → get_or M k none ≡ directory nm (new_number M k) → safe c ≡ true → (b : Bool) → plain c ≡ b →
-        ((m : List Node) (t : List ℕ) (i : ℕ) (bd : Bool) → WellFormed m → i < length m → AllLt (length m) t → make m t i bd cs ≡ made F j false → Bigger m F × (j < length F)) →
+        ((m : List Node) (t : List ℕ) (i : ℕ) (bd : Bool) → IsWellFormed m → i < length m → AllLt (length m) t → make m t i bd cs ≡ made F j false → Bigger m F × (j < length F)) →
         make (insert_at k (empty_directory c (new_number M k)) M) (k ∷ trail) (new_number M k) (bad || not b) cs ≡ made F j false → Bigger M F × (j < length F)
     more nm d ok true pl ih q =
         let n : ℕ = new_number M k in
@@ -74,7 +74,7 @@ grows (c ∷ cs) M trail k bad F j w h a e =
     more nm d ok false pl ih q = absurd (bad-stays cs (insert_at k (empty_directory c (new_number M k)) M) (k ∷ trail) (new_number M k) F j (rw (or-not bad false refl) at q))
 
     go : (t : Bool) → is_directory (get_or M k none) ≡ t → (u v : Bool) (tr : List ℕ) → AllLt (length M) tr → (x : Result ℕ Refusal) → child_of M k c ≡ x → (y : Bool) → safe c ≡ y →
-        ((m : List Node) (t : List ℕ) (i : ℕ) (bd : Bool) → WellFormed m → i < length m → AllLt (length m) t → make m t i bd cs ≡ made F j false → Bigger m F × (j < length F)) →
+        ((m : List Node) (t : List ℕ) (i : ℕ) (bd : Bool) → IsWellFormed m → i < length m → AllLt (length m) t → make m t i bd cs ≡ made F j false → Bigger m F × (j < length F)) →
         cond t (cond u (make M trail k bad cs) (cond v (made_back tr (λ i rest. make M rest i bad cs)) (if_found x (λ i. make M (k ∷ trail) i bad cs)
         (cond y (make (insert_at k (empty_directory c (new_number M k)) M) (k ∷ trail) (new_number M k) (bad || not (plain c)) cs) (stopped UnsafeName))))) (stopped ExpectedDirectory) ≡ made F j false → Bigger M F × (j < length F)
     go false d u v tr al x x≡ y y≡ ih q = let z : ◌≡◌ {A = ℕ} 0 1 = cc in absurd (omega arith)
@@ -86,6 +86,6 @@ grows (c ∷ cs) M trail k bad F j w h a e =
     go true d false false tr al (Err r) x≡ false y≡ ih q = let z : ◌≡◌ {A = ℕ} 0 1 = cc in absurd (omega arith)
 
 -- so a tree on the way that passes a limit makes the last one pass it, and one that has no room leaves none for the last
-pub make-grows : (nodes : List Node) (trail : List ℕ) (k : ℕ) (bad : Bool) (cs : List (List ℕ)) (F : List Node) (j : ℕ) → WellFormed nodes → k < length nodes → AllLt (length nodes) trail →
+pub make-grows : (nodes : List Node) (trail : List ℕ) (k : ℕ) (bad : Bool) (cs : List (List ℕ)) (F : List Node) (j : ℕ) → IsWellFormed nodes → k < length nodes → AllLt (length nodes) trail →
     make nodes trail k bad cs ≡ made F j false → Bigger nodes F × (j < length F)
 make-grows nodes trail k bad cs F j w h a e = grows cs nodes trail k bad F j w h a e

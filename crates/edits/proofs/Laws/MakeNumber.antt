@@ -13,7 +13,7 @@ use Rattle.refusal.specs.declared.Refusal.TheVariants.{ExpectedDirectory, Unsafe
 use Rattle.tree.specs.Table.{Node, none, plain, safe}
 use Rattle.tree.specs.Lookup.{is_directory, components, stays, goes_back, child_of, follow, lookup}
 use Rattle.tree.specs.Insert.{insert_at, empty_directory, shifted}
-use Rattle.tree.proofs.Laws.InsertedList.{Nested, length_inserted, p<q, q≤n}
+use Rattle.tree.proofs.Laws.InsertedList.{IsNested, length_inserted, p<q, q≤n}
 use Rattle.tree.proofs.Laws.NestedInsert.{nested-insert}
 use Rattle.tree.proofs.Laws.ChildInsert.{shifted-low, child-new}
 use Rattle.edits.specs.Edits.{new_number, stopped, made, made_back, if_found, make}
@@ -33,9 +33,9 @@ record Walked (M : List Node) (start : ℕ) (trail : List ℕ) (k : ℕ) (cs : L
   kind : is_directory (get_or F j none) ≡ true
 
 abbrev Walks : ℕ → List Node → ℕ → Bool → List (List ℕ) → Type 0
-Walks start F j b cs = (M : List Node) (trail : List ℕ) (k : ℕ) (bad : Bool) → Nested M → k < length M → Falling start trail k → make M trail k bad cs ≡ made F j b → Walked M start trail k cs F j
+Walks start F j b cs = (M : List Node) (trail : List ℕ) (k : ℕ) (bad : Bool) → IsNested M → k < length M → Falling start trail k → make M trail k bad cs ≡ made F j b → Walked M start trail k cs F j
 
-module _ (start : ℕ) (F : List Node) (j : ℕ) (b : Bool) (c : List ℕ) (cs : List (List ℕ)) (ih : Walks start F j b cs) (M : List Node) (k : ℕ) (bad : Bool) (n : Nested M) (h : k < length M)
+module _ (start : ℕ) (F : List Node) (j : ℕ) (b : Bool) (c : List ℕ) (cs : List (List ℕ)) (ih : Walks start F j b cs) (M : List Node) (k : ℕ) (bad : Bool) (n : IsNested M) (h : k < length M)
     (dir : is_directory (get_or M k none) ≡ true) where
   stay : (trail : List ℕ) → stays c ≡ true → Falling start trail k → make M trail k bad cs ≡ made F j b → Walked M start trail k (c ∷ cs) F j
   unfolding follow
@@ -111,7 +111,7 @@ walks start F j b (c ∷ cs) M trail k bad n h f e = go (is_directory (get_or M 
     go true d false u≡ false v≡ (Err r) a≡ false ih q = let z : ◌≡◌ {A = ℕ} 0 1 = cc in absurd (omega arith)
 
 -- THEOREM: the path from the start leads to the number in the tree that was made, and a directory is there
-pub made_found : (nodes : List Node) (start : ℕ) (path : List ℕ) (F : List Node) (j : ℕ) (b : Bool) → Nested nodes → start < length nodes → make nodes [] start false (components path) ≡ made F j b →
+pub made_found : (nodes : List Node) (start : ℕ) (path : List ℕ) (F : List Node) (j : ℕ) (b : Bool) → IsNested nodes → start < length nodes → make nodes [] start false (components path) ≡ made F j b →
     (lookup F start path ≡ Ok j) × (is_directory (get_or F j none) ≡ true)
 unfolding lookup
 made_found nodes start path F j b n h e =

@@ -11,7 +11,7 @@ use Rattle.refusal.specs.declared.Refusal.TheVariants.{NotFound}
 use Rattle.tree.specs.Table.{Node, directory, none, plain, safe, parent_of}
 use Rattle.tree.specs.Lookup.{is_directory, child_of}
 use Rattle.tree.specs.Insert.{insert_at, empty_directory, shifted}
-use Rattle.tree.proofs.Laws.InsertedList.{Nested, shifted-min, length_inserted, inserted-at}
+use Rattle.tree.proofs.Laws.InsertedList.{IsNested, shifted-min, length_inserted, inserted-at}
 use Rattle.tree.proofs.Laws.NestedInsert.{nested-insert}
 use Rattle.tree.proofs.Laws.Children.{child-is}
 use Rattle.tree.proofs.Laws.ChildInsert.{moved, shifted-low, shifted-high, kept-kind, child-moved, child-kept, child-new, child-other, child-empty}
@@ -23,8 +23,8 @@ abbrev pub Where : List Node → (ℕ → Bool) → Bool → ℕ → List ℕ �
 Where M ν bad d c = (child_of M d c ≡ Err NotFound) ⊎ ((j : ℕ) × (child_of M d c ≡ Ok j) × (ν j ≡ true) × (safe c ≡ true) × (plain c ≡ false → bad ≡ true))
 
 pub record Grown (nodes M : List Node) (φ : ℕ → ℕ) (ν : ℕ → Bool) (bad : Bool) : Type 0 where
-  pub first : Nested nodes
-  pub nested : Nested M
+  pub first : IsNested nodes
+  pub nested : IsNested M
   pub low : (k : ℕ) → k < length nodes → φ k < length M
   pub mono : (i j : ℕ) → i < j → φ i < φ j
   pub kinds : (k : ℕ) → k < length nodes → is_directory (get_or M (φ k) none) ≡ is_directory (get_or nodes k none)

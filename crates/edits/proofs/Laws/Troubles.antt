@@ -9,7 +9,7 @@ use Rattle.refusal.specs.Refusal.{refuse}
 use Rattle.tree.specs.Table.{Node, file, directory, none, plain, safe, parent_of}
 use Rattle.tree.specs.Lookup.{is_directory, next_of, stays, goes_back, child_of}
 use Rattle.tree.specs.Insert.{insert_at, empty_directory, shifted}
-use Rattle.tree.proofs.Laws.InsertedList.{Nested}
+use Rattle.tree.proofs.Laws.InsertedList.{IsNested}
 use Rattle.tree.proofs.Laws.Children.{Child, child-is, child-missing}
 use Rattle.edits.specs.Edits.{new_number, stopped, made, made_back, if_found, make}
 use Rattle.edits.specs.Inner.Troubles.{if_child, trouble_of, made_verdict}
@@ -112,7 +112,7 @@ same nodes start (c ∷ cs) M φ ν bad (suc level) (j ∷ trail) m k g s h = rw
     go false true ih = ih M φ ν bad level trail j k g s.2 (omega (arith, s.1))
     go false false ih = dive nodes start c cs ih M φ ν bad (j ∷ trail) m k g h (g.dirs m h s.0) (suc level) s (g.below m h s.0 c)
 
-pub make-trouble : (nodes : List Node) (start : ℕ) (cs : List (List ℕ)) → Nested nodes → start < length nodes → made_verdict (make nodes [] start false cs) ≡ trouble_of nodes start start 0 false cs
+pub make-trouble : (nodes : List Node) (start : ℕ) (cs : List (List ℕ)) → IsNested nodes → start < length nodes → made_verdict (make nodes [] start false cs) ≡ trouble_of nodes start start 0 false cs
 make-trouble nodes start cs n h = same nodes start cs nodes (λ k. k) (λ j. false) false 0 [] start start none_yet (refl, h, refl) h
   where
     never : false ≡ true → ⊥

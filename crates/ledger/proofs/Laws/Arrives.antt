@@ -17,7 +17,7 @@ use Rattle.refusal.specs.Laws.Chains.{refuse-passed, first-passed}
 use Rattle.refusal.specs.Laws.Tests.{or-false}
 use Rattle.header.specs.Verdicts.{fst_size}
 use Rattle.tree.specs.Table.{Node, none, encode}
-use Rattle.tree.specs.Inner.WellFormed.{WellFormed}
+use Rattle.tree.specs.Inner.WellFormed.{IsWellFormed}
 use Rattle.tree.specs.Lookup.{is_directory, components}
 use Rattle.tree.specs.Insert.{insert_at, empty_file, empty_directory}
 use Rattle.space.specs.declared.region.DiscRegion.{DiscRegion}
@@ -64,7 +64,7 @@ module _ (image : List ℕ) (words bytes : ℕ) where
 
     -- ---- only the table is written
 
-    pub on-table : (new : List Node) → WellFormed new → nonempty (files_of new) ≡ nonempty (files_in image) → (number : ℕ) → Arrives (change number (table_only new))
+    pub on-table : (new : List Node) → IsWellFormed new → nonempty (files_of new) ≡ nonempty (files_in image) → (number : ℕ) → Arrives (change number (table_only new))
     on-table new wf same number v =
         let r = room (table_only new) image words bytes o v in
         let s = table-safe w image l K words lent new wf r in

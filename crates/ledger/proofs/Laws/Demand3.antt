@@ -11,14 +11,14 @@ use Rattle.ledger.proofs.Laws.Sequence.{start, along, no-byte-twice, sum, used-r
 use Rattle.ledger.proofs.Laws.Opened.{opened}
 use Rattle.ledger.proofs.Laws.ProgramKept.{ProgramKept}
 use Rattle.ledger.proofs.Laws.ProgramAfter.{program-along, same-program, program-reported}
-use Rattle.ledger.specs.Theorem.{Demand3, AnyList, UnnamedStays}
+use Rattle.ledger.specs.Theorem.{LedgerHolds, AnyList, UnnamedStays}
 
 pub demand-3 : AnyList
 demand-3 image w₀ w calls b e h a =
     let k : Kept w image (first_ledger image) = start image w₀ w h b e in
     claim (image_after_all calls image) (ledger_after (reports_of calls image) (first_ledger image)) (along w calls image (first_ledger image) a k) (program-along w calls image (first_ledger image) a k)
   where
-    claim : (last : List ℕ) (l : Ledger) → Kept w last l → ProgramKept image last → Demand3 w image last l
+    claim : (last : List ℕ) (l : Ledger) → Kept w last l → ProgramKept image last → LedgerHolds w image last l
     claim last l k p = record {
       opens = k.opens;
       tree = k.shape;

@@ -19,8 +19,8 @@ use Rattle.ledger.proofs.Laws.FilesTold.{FileIs, told}
 
 -- ---- a ledger has a history for each file
 
-abbrev pub Matched : Ledger → Type 0
-Matched l = length l.histories ≡ length (names_of l.nodes)
+abbrev pub IsMatched : Ledger → Type 0
+IsMatched l = length l.histories ≡ length (names_of l.nodes)
 
 length-put-in : {A : Type 0} (j : ℕ) (x : A) (xs : List A) → length (put_in j x xs) ≡ suc (length xs)
 unfolding put_in
@@ -28,7 +28,7 @@ length-put-in zero x xs = refl
 length-put-in (suc j) x [] = refl
 length-put-in (suc j) x (y ∷ xs) = ap suc (length-put-in j x xs)
 
-matched-entered : (ed : Edit) (l : Ledger) → Matched l → Matched (entered ed l)
+matched-entered : (ed : Edit) (l : Ledger) → IsMatched l → IsMatched (entered ed l)
 matched-entered (insert_file p nm) l m =
     let j : ℕ = files_before (new_number l.nodes p) l.nodes in
     rw (insert-file own_name p nm 0 0 l.nodes, length-put-in j new_history l.histories, length-put-in j nm (names_of l.nodes), m)
@@ -39,11 +39,11 @@ matched-entered (resize_file k n) l m = rw (names-set_place 0 n k l.nodes) (leng
 matched-entered (fill_file k clip) l m = rw (names-set_place 0 (length clip) k l.nodes) (length-set l.histories (files_before k l.nodes) _ ∙ m)
 matched-entered rewrite l m = m
 
-matched-next : (a : Bool) (ed : Edit) (l : Ledger) → Matched l → Matched (cond a (entered ed l) l)
+matched-next : (a : Bool) (ed : Edit) (l : Ledger) → IsMatched l → IsMatched (cond a (entered ed l) l)
 matched-next true ed l m = matched-entered ed l m
 matched-next false ed l m = m
 
-matched-after : (reports : List Report) (l : Ledger) → Matched l → Matched (ledger_after reports l)
+matched-after : (reports : List Report) (l : Ledger) → IsMatched l → IsMatched (ledger_after reports l)
 unfolding ledger_after
 matched-after [] l m = m
 matched-after (r ∷ reports) l m = matched-after reports (ledger_next r l) (matched-next r.accepted r.edit l m)
@@ -54,7 +54,7 @@ first-length image [] = refl
 first-length image (file nm offset size ∷ xs) = ap suc (first-length image xs)
 first-length image (directory nm next ∷ xs) = first-length image xs
 
-pub matched-first : (image : List ℕ) → Matched (first_ledger image)
+pub matched-first : (image : List ℕ) → IsMatched (first_ledger image)
 matched-first image = first-length image (nodes_in image) ∙ ap length (sym (names-bare (nodes_in image)))
 
 -- ---- the new file
@@ -88,7 +88,7 @@ record New (l : Ledger) (f : ℕ) (nm : List ℕ) : Type 0 where
   name : name_at l f ≡ nm
   size : size_at l f ≡ 0
 
-new-file : (l : Ledger) (p : ℕ) (nm : List ℕ) → Matched l → New (entered (insert_file p nm) l) (new_file l p) nm
+new-file : (l : Ledger) (p : ℕ) (nm : List ℕ) → IsMatched l → New (entered (insert_file p nm) l) (new_file l p) nm
 new-file l p nm m =
     let j : ℕ = new_file l p in
     let b : j ≤ length (names_of l.nodes) = before-most (new_number l.nodes p) l.nodes in
@@ -109,7 +109,7 @@ abbrev pub inserting : ℕ → List ℕ → Report
 inserting p nm = record { edit = insert_file p nm; accepted = true }
 
 -- THEOREM: `before` and `after` are the reports before and after the insert
-pub inserted-told : (before after : List Report) (l : Ledger) (p : ℕ) (nm : List ℕ) → Matched l →
+pub inserted-told : (before after : List Report) (l : Ledger) (p : ℕ) (nm : List ℕ) → IsMatched l →
     let l₀ : Ledger = ledger_after before l in
     let l₁ : Ledger = ledger_next (inserting p nm) l₀ in
     let f : ℕ = new_file l₀ p in

@@ -6,7 +6,7 @@ use Rattle.std.proofs.Common.{arith}
 use Rattle.endian.specs.Bytes.{AllBytes}
 use Rattle.header.specs.Verdicts.{disc_end, table_end}
 use Rattle.tree.specs.Table.{Node}
-use Rattle.tree.specs.Inner.WellFormed.{WellFormed}
+use Rattle.tree.specs.Inner.WellFormed.{IsWellFormed}
 use Rattle.space.specs.Used.{used_regions}
 use Rattle.space.specs.Layout.{disjoint_below}
 use Rattle.executable.specs.Program.{program_behind}
@@ -43,7 +43,7 @@ module _ (w : ℕ) (image : List ℕ) (l : Ledger) (K : Kept w image l) where
   pub opened-kept : Opened image
   opened-kept = opened image w K.opens K.bytes
 
-  module _ (words : ℕ) (lent : words ≤ w) (nodes : List Node) (well : WellFormed nodes) (r : TableRoom (table_only nodes) image words) where
+  module _ (words : ℕ) (lent : words ≤ w) (nodes : List Node) (well : IsWellFormed nodes) (r : TableRoom (table_only nodes) image words) where
     pub table-safe : Safe (table_only nodes) image
     table-safe = record {
       bytes = K.bytes;

@@ -10,7 +10,7 @@ use mathlib.Core.List.{List, [], ◌∷◌}
 use Rattle.refusal.specs.declared.Refusal.{Refusal}
 use Rattle.refusal.specs.declared.Refusal.TheVariants.{NotFound, ExpectedDirectory, UnsafeName}
 use Rattle.tree.specs.Table.{Node, file, directory, none, plain, safe}
-use Rattle.tree.specs.Inner.WellFormed.{WellFormed}
+use Rattle.tree.specs.Inner.WellFormed.{IsWellFormed}
 use Rattle.tree.specs.Lookup.{is_directory, next_of, stays, goes_back, child_named, first_child, child_of}
 use Rattle.tree.specs.Insert.{insert_at, empty_directory}
 use Rattle.tree.proofs.Laws.WellNested.{next-bounds}
@@ -63,7 +63,7 @@ first_below nodes d nm k (suc n) j e = go (child_named nodes d nm k) e (first_be
     go true q h = let z : k ≡ j = cc in omega arith
     go false q h = omega (arith, h q)
 
-module _ (nodes : List Node) (w : WellFormed nodes) (k : ℕ) (l : k < length nodes) (d : is_directory (get_or nodes k none) ≡ true) where
+module _ (nodes : List Node) (w : IsWellFormed nodes) (k : ℕ) (l : k < length nodes) (d : is_directory (get_or nodes k none) ≡ true) where
   next-in : (k < new_number nodes k) × (new_number nodes k ≤ length nodes)
   next-in = let x = directory-of (get_or nodes k none) d in next-bounds nodes k (new_number nodes k) x.0 w x.1 l
 
@@ -71,7 +71,7 @@ module _ (nodes : List Node) (w : WellFormed nodes) (k : ℕ) (l : k < length no
   unfolding child_of
   child-in nm j e = omega (arith, first_below nodes k nm (suc k) (new_number nodes k - suc k) j e, next-in.0, next-in.1)
 
-  made-well : (nm : List ℕ) → plain nm ≡ true → safe nm ≡ true → WellFormed (insert_at k (empty_directory nm (new_number nodes k)) nodes)
+  made-well : (nm : List ℕ) → plain nm ≡ true → safe nm ≡ true → IsWellFormed (insert_at k (empty_directory nm (new_number nodes k)) nodes)
   made-well nm p s =
       let x = directory-of (get_or nodes k none) d in
       insert-sound nodes k (new_number nodes k) x.0 (empty_directory nm (new_number nodes k)) w x.1 l (p, s) refl
@@ -152,8 +152,8 @@ module _ {A : Type 0} (g : List ℕ → ℕ → ℕ → A) where
       go (stopped c) s = refl
       go (made new k bad) s = s
 
-make-good : (nodes : List Node) (trail : List ℕ) (k : ℕ) (bad : Bool) (cs : List (List ℕ)) (new : List Node) (j : ℕ) → WellFormed nodes → k < length nodes → AllBelow (length nodes) trail →
-    make nodes trail k bad cs ≡ made new j false → WellFormed new
+make-good : (nodes : List Node) (trail : List ℕ) (k : ℕ) (bad : Bool) (cs : List (List ℕ)) (new : List Node) (j : ℕ) → IsWellFormed nodes → k < length nodes → AllBelow (length nodes) trail →
+    make nodes trail k bad cs ≡ made new j false → IsWellFormed new
 unfolding make
 make-good nodes trail k bad [] new j w l t e =
     cond_cases (made new j false) (is_directory (get_or nodes k none)) (made nodes k bad) (stopped ExpectedDirectory)
@@ -186,12 +186,12 @@ make-good nodes trail k bad (c ∷ cs) new j w l t e =
     added : is_directory (get_or nodes k none) ≡ true → safe c ≡ true → (a : Bool) → plain c ≡ a →
         make (insert_at k (empty_directory c (new_number nodes k)) nodes) (k ∷ trail) (new_number nodes k) (bad || not (plain c)) cs ≡ made new j false →
         (plain c ≡ true → make (insert_at k (empty_directory c (new_number nodes k)) nodes) (k ∷ trail) (new_number nodes k) (bad || not (plain c)) cs ≡ made new j false →
-        WellFormed new) → WellFormed new
+        IsWellFormed new) → IsWellFormed new
     added d s true p e₅ f = f p e₅
     added d s false p e₅ f =
         let e₆ : make (insert_at k (empty_directory c (new_number nodes k)) nodes) (k ∷ trail) (new_number nodes k) true cs ≡ made new j false = rw (p, or-true bad) at e₅ in
         absurd (false≢true (stays-bad (insert_at k (empty_directory c (new_number nodes k)) nodes) (k ∷ trail) (new_number nodes k) cs new j false e₆))
 
 -- LAW: and a well-formed tree
-pub made-good : (nodes : List Node) (start : ℕ) (cs : List (List ℕ)) (new : List Node) (j : ℕ) → WellFormed nodes → start < length nodes → make nodes [] start false cs ≡ made new j false → WellFormed new
+pub made-good : (nodes : List Node) (start : ℕ) (cs : List (List ℕ)) (new : List Node) (j : ℕ) → IsWellFormed nodes → start < length nodes → make nodes [] start false cs ≡ made new j false → IsWellFormed new
 made-good nodes start cs new j w l e = make-good nodes [] start false cs new j w l tt e

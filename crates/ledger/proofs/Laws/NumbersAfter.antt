@@ -14,7 +14,7 @@ use Rattle.refusal.specs.Laws.Chains.{refuse-passed}
 use Rattle.tree.specs.Table.{Node, name_of, none}
 use Rattle.tree.specs.Lookup.{is_directory, components, lookup}
 use Rattle.tree.specs.Insert.{insert_at, empty_file, empty_directory}
-use Rattle.tree.proofs.Laws.InsertedList.{Nested, Fresh, well-nested}
+use Rattle.tree.proofs.Laws.InsertedList.{IsNested, Fresh, well-nested}
 use Rattle.space.specs.declared.totals.Totals.{Totals}
 use Rattle.opened.specs.Opening.{nodes_in, opening}
 use Rattle.edits.specs.Change.{Plan, change}
@@ -55,14 +55,14 @@ pub record MadeFrom (image after : List ℕ) (answer : Result ℕ Refusal) (star
   pub kind : is_directory (get_or (nodes_in after) number none) ≡ true
 
 module _ (totals : Totals) (image : List ℕ) (words bytes : ℕ) (b : AllBytes image) where
-  nested : opening image words ≡ Ok tt → Nested (nodes_in image)
+  nested : opening image words ≡ Ok tt → IsNested (nodes_in image)
   nested e = well-nested (nodes_in image) (opened image words e b).well
 
   inserted : (after : List ℕ) (answer : Result ℕ Refusal) (p : ℕ) (new : Node) → opening image words ≡ Ok tt → insert_verdict (nodes_in image) p (name_of new) ≡ Ok tt → Fresh (new_number (nodes_in image) p) new →
       answer ≡ Ok (new_number (nodes_in image) p) → nodes_in after ≡ insert_at p new (nodes_in image) → Inserted image after answer p new
   inserted after answer p new e v fresh a t =
       let nodes : List Node = nodes_in image in
-      let n : Nested nodes = nested e in
+      let n : IsNested nodes = nested e in
       record {
         number = new_number nodes p;
         answered = a;

@@ -8,7 +8,7 @@ use Rattle.refusal.specs.Laws.Chains.{refuse-passed, first-passed}
 use Rattle.header.specs.Verdicts.{disc_end, table_end}
 use Rattle.header.specs.Laws.FieldTests.{GoodHeader, Bounded, header-passes, bounds-pass}
 use Rattle.tree.specs.Table.{Node, kind, count, entries_verdict, unended, check, limits}
-use Rattle.tree.specs.Inner.WellFormed.{WellFormed}
+use Rattle.tree.specs.Inner.WellFormed.{IsWellFormed}
 use Rattle.tree.proofs.Laws.RoundTrip.{within-limits, limits-within, written-accepted, written-reads}
 use Rattle.space.specs.Used.{used_regions}
 use Rattle.space.specs.Layout.{disjoint_below}
@@ -24,7 +24,7 @@ use Rattle.ledger.proofs.Laws.Apart.{Apart, apart_from}
 pub record Opened (image : List ℕ) : Type 0 where
   pub header : GoodHeader image
   pub bounds : Bounded image
-  pub well : WellFormed (nodes_in image)
+  pub well : IsWellFormed (nodes_in image)
   pub program : program_verdict (program_of image) ≡ Ok tt
   pub regions : disjoint_below (disc_end image) (used_in image) ≡ true
   pub places : Apart (table_end image) (disc_end image) (places_in image)

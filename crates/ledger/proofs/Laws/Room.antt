@@ -12,7 +12,7 @@ use Rattle.space.specs.Used.{used_regions}
 use Rattle.space.specs.Free.{free_in, free_regions}
 use Rattle.space.specs.MaxRegionSize.{max_region_size}
 use Rattle.refusal.specs.Laws.Tests.{lt-or-le, or_cases}
-use Rattle.space.specs.Laws.GrowthLaws.{LargestSize, table-largest, file-largest, place-free}
+use Rattle.space.specs.Laws.GrowthLaws.{IsLargestSize, table-largest, file-largest, place-free}
 use Rattle.executable.specs.Program.{program_behind}
 use Rattle.opened.specs.Opening.{nodes_in, behind_table, used_in, free_space_of}
 use Rattle.edits.specs.Change.{Change, table_verdict_in}
@@ -48,7 +48,7 @@ module _ (c : Change) (image : List ℕ) (words bytes : ℕ) (o : Opened image) 
   unfolding table_verdict_in
   tests = place-passed image bytes (length (encode c.nodes)) c.place (first-passed (limits c.nodes words) _ v).1
 
-  largest : LargestSize (free_in (used_regions (table_end image) (places_in image))) (disc_end image) (fst_offset image) (fst_size image) (max_region_size (fst_offset image) (fst_size image) (free_space_of image))
+  largest : IsLargestSize (free_in (used_regions (table_end image) (places_in image))) (disc_end image) (fst_offset image) (fst_size image) (max_region_size (fst_offset image) (fst_size image) (free_space_of image))
   largest = rw (free-places image) (table-largest (disc_end image) (table_end image) (places_in image) (fst_offset image) (fst_size image) refl)
 
   -- LAW: a new table is within the limits, ends on the disc, and covers no byte of the program or of a file, nor of the edited file's new place

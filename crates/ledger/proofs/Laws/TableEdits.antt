@@ -10,7 +10,7 @@ use Rattle.refusal.specs.declared.Refusal.TheVariants.{LimitOrMemory, InvalidNam
 use Rattle.refusal.specs.Refusal.{refuse}
 use Rattle.refusal.specs.Laws.Chains.{refuse-passed}
 use Rattle.tree.specs.Table.{Node, name_of, none, plain, safe}
-use Rattle.tree.specs.Inner.WellFormed.{WellFormed}
+use Rattle.tree.specs.Inner.WellFormed.{IsWellFormed}
 use Rattle.tree.specs.Lookup.{is_directory, components, child_of}
 use Rattle.tree.specs.Insert.{insert_at, empty_file, empty_directory}
 use Rattle.tree.proofs.Laws.InsertLaws.{Fresh, insert-sound}
@@ -54,7 +54,7 @@ insertable nodes p nm v =
       bytes = not-false (plain nm) v₅.0;
     }
 
-pub inserted-well : (nodes : List Node) (p : ℕ) (nm : List ℕ) → WellFormed nodes → Insertable nodes p nm → (new : Node) → Fresh (new_number nodes p) new → name_of new ≡ nm → WellFormed (insert_at p new nodes)
+pub inserted-well : (nodes : List Node) (p : ℕ) (nm : List ℕ) → IsWellFormed nodes → Insertable nodes p nm → (new : Node) → Fresh (new_number nodes p) new → name_of new ≡ nm → IsWellFormed (insert_at p new nodes)
 inserted-well nodes p nm w i new f e =
     let x = directory-of (get_or nodes p none) i.parent in
     insert-sound nodes p (new_number nodes p) x.0 new w x.1 i.number (rw e (i.bytes, i.good)) f
@@ -63,12 +63,12 @@ module _ (w : ℕ) (image : List ℕ) (l : Ledger) (K : Kept w image l) (words b
   o : Opened image
   o = opened-kept w image l K
 
-  on-table : (new : List Node) → WellFormed new → table_verdict_in (table_only new) image words bytes ≡ Ok tt →
+  on-table : (new : List Node) → IsWellFormed new → table_verdict_in (table_only new) image words bytes ≡ Ok tt →
       used_regions (new_end (table_only new) image) (program_behind image ∷ files_of new) ≡ used_regions (new_end (table_only new) image) (places_in image) → Tabled w image new l.histories (written (table_only new) image)
   on-table new wf v same = tabled w image l K words lent new wf (room (table_only new) image words bytes o v) same
 
   -- the files stay as they are
-  same-files : (new : List Node) → WellFormed new → files_of new ≡ files_in image → (ns : List Node) → map bare new ≡ ns → (number : ℕ) → Good w image words bytes (change number (table_only new)) (record { nodes = ns; histories = l.histories })
+  same-files : (new : List Node) → IsWellFormed new → files_of new ≡ files_in image → (ns : List Node) → map bare new ≡ ns → (number : ℕ) → Good w image words bytes (change number (table_only new)) (record { nodes = ns; histories = l.histories })
   same-files new wf f ns e number v =
       let t = on-table new wf v (rw f) in
       record { bytes = t.bytes; opens = t.opens; shape = rw t.tree e; trues = rw (t.tree, f) t.trues }
@@ -95,7 +95,7 @@ module _ (w : ℕ) (image : List ℕ) (l : Ledger) (K : Kept w image l) (words b
       let i = insertable (nodes_in image) p nm v in
       let q : ℕ = new_number (nodes_in image) p in
       let new : List Node = insert_at p (empty_file nm) (nodes_in image) in
-      let wf : WellFormed new = inserted-well (nodes_in image) p nm o.well i (empty_file nm) (omega arith, omega arith) refl in
+      let wf : IsWellFormed new = inserted-well (nodes_in image) p nm o.well i (empty_file nm) (omega arith, omega arith) refl in
       let f : files_of new ≡ put_in (files_before q (nodes_in image)) (record { offset = 0; size = 0 }) (files_in image) = insert-file place_of p nm 0 0 (nodes_in image) in
       let t = on-table new wf u (rw f (used-put-in (new_end (table_only new) image) (files_before q (nodes_in image)) 0 (program_behind image) (files_in image))) in
       let n : files_before (new_number l.nodes p) l.nodes ≡ files_before q (nodes_in image) = rw (next-is p, ← K.shape) (before-bare q (nodes_in image)) in

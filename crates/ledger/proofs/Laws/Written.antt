@@ -10,7 +10,7 @@ use Rattle.endian.specs.Laws.Stored.{put_in, put-bytes, put-before, put-after, l
 use Rattle.header.specs.Verdicts.{fst_offset, fst_size, fst_max_size, disc_end, table_end}
 use Rattle.header.specs.Laws.FieldTests.{GoodHeader, Bounded}
 use Rattle.tree.specs.Table.{encode}
-use Rattle.tree.specs.Inner.WellFormed.{WellFormed}
+use Rattle.tree.specs.Inner.WellFormed.{IsWellFormed}
 use Rattle.tree.proofs.Laws.WrittenBytes.{encode-all, be32-all}
 use Rattle.opened.specs.Opening.{table_of}
 use Rattle.opened.proofs.Laws.OpeningLaws.{span-bytes}
@@ -26,7 +26,7 @@ pub record Safe (c : Change) (image : List ℕ) : Type 0 where
   pub bytes : AllBytes image
   pub header : GoodHeader image
   pub bounds : Bounded image
-  pub well : WellFormed c.nodes
+  pub well : IsWellFormed c.nodes
   pub table : new_end c image ≤ disc_end image
   pub copied : 0 < c.kept → (table_end image ≤ c.place.offset) × (new_end c image ≤ c.place.offset) × (c.place.offset + c.kept ≤ disc_end image) × (c.old.offset + c.kept ≤ disc_end image)
   pub zeroed : 0 < c.lost.size → (table_end image ≤ c.lost.offset) × (new_end c image ≤ c.lost.offset) × (c.lost.offset + c.lost.size ≤ disc_end image)

@@ -15,7 +15,7 @@ use Rattle.refusal.specs.Laws.Chains.{first-passed, first-stop, first-go, refuse
 use Rattle.header.specs.Verdicts.{header_verdict, bounds_verdict, fst_offset, fst_size, disc_end, table_end}
 use Rattle.header.specs.Laws.FieldTests.{header-passed, Bounded, bounds-passed}
 use Rattle.tree.specs.Table.{count, check}
-use Rattle.tree.specs.Inner.Accepted.{Accepted}
+use Rattle.tree.specs.Inner.Accepted.{IsAccepted}
 use Rattle.tree.proofs.Laws.Accepted.{accepted}
 use Rattle.space.specs.declared.region.DiscRegion.{DiscRegion}
 use Rattle.space.specs.Used.{total_size}
@@ -25,7 +25,7 @@ use Rattle.space.specs.Laws.TotalLaws.{free_bytes, total-used, used-and-free}
 use Rattle.space.specs.Laws.SortLaws.{same_total, same-regions}
 use Rattle.executable.specs.Program.{program_of, program_verdict}
 use Rattle.opened.specs.Opening.{table_of, behind_table, used_in, used_of, layout_verdict, opening}
-use Rattle.opened.specs.Inner.Prepared.{verdict_before24, UsedWords, Readable, OpenImage, OpensImage, IsOpen, Prepares}
+use Rattle.opened.specs.Inner.Prepared.{verdict_before24, UsedWords, IsReadable, OpenImage, OpensImage, IsOpen, Prepares}
 
 -- ---- chains
 
@@ -62,7 +62,7 @@ be32-span s at n i h =
 
 -- ---- what the tests before 24 give
 
-pub readable : (image : List ℕ) (words : ℕ) → AllBytes image → verdict_before24 image words ≡ Ok tt → Readable image words
+pub readable : (image : List ℕ) (words : ℕ) → AllBytes image → verdict_before24 image words ≡ Ok tt → IsReadable image words
 unfolding table_of count
 readable image words bytes e =
     let p = first-passed (header_verdict image) _ e in
@@ -70,7 +70,7 @@ readable image words bytes e =
     let b : Bounded image = bounds-passed image q.0 in
     let l : length (span image (fst_offset image) (fst_size image)) ≡ fst_size image =
     length-span image (fst_offset image) (fst_size image) (omega (arith, b.table, b.image_holds)) in
-    let t : Accepted (table_of image) words = accepted (table_of image) words (span-bytes image (fst_offset image) (fst_size image) bytes) q.1 in
+    let t : IsAccepted (table_of image) words = accepted (table_of image) words (span-bytes image (fst_offset image) (fst_size image) bytes) q.1 in
     record {
       header = header-passed image p.0;
       bounds = b;

@@ -6,7 +6,7 @@ use Rattle.opened.specs.Inner.Prepared.{IsOpen}
 use Rattle.opened.specs.Inner.Disc.{disc_in, disc_of}
 
 -- the words hold the used regions of an image, and the header, the table and the program's own region are that image's
-pub record Backed (header table : List ℕ) (own : DiscRegion) (w : List ℕ) (m : ℕ) : Type 0 where
+pub record IsBacked (header table : List ℕ) (own : DiscRegion) (w : List ℕ) (m : ℕ) : Type 0 where
   pub image : List ℕ
   pub known : IsOpen image w m
   pub table_is : table ≡ table_of image

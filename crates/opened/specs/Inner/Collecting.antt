@@ -7,9 +7,9 @@ use Rattle.opened.specs.Inner.Prepared.{AddedEntry, CollectedTo}
 use Rattle.opened.specs.declared.regions.Collected.{Collected}
 
 -- where the bytes of entry k stand: a file's offset and size, and none of a directory
-abbrev pub RegionOf : List ℕ → ℕ → Option DiscRegion → Type 0
-RegionOf tab k (Some region) = (kind tab k ≡ 0) × (region ≡ record { offset = offset_or_parent tab k; size = size_or_next tab k })
-RegionOf tab k None = kind tab k ≡ 0 → ⊥
+abbrev pub IsRegionOf : List ℕ → ℕ → Option DiscRegion → Type 0
+IsRegionOf tab k (Some region) = (kind tab k ≡ 0) × (region ≡ record { offset = offset_or_parent tab k; size = size_or_next tab k })
+IsRegionOf tab k None = kind tab k ≡ 0 → ⊥
 
 -- the number of an entry from k on and before `end`, if any
 abbrev pub InTurn : ℕ → ℕ → Option (ℕ × DiscRegion) → Type 0

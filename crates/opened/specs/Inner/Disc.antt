@@ -50,7 +50,7 @@ pub record Means (image : List ℕ) (d : Disc) : Type 0 where
   pub is : disc_of image d.words ≡ d
 
 -- some image means the disc, and that is its table
-pub record TableOf (d : Disc) (table : List ℕ) : Type 0 where
+pub record IsTableOf (d : Disc) (table : List ℕ) : Type 0 where
   pub image : List ℕ
   pub means : Means image d
   pub is : table ≡ table_of image

@@ -8,13 +8,13 @@ use Rattle.refusal.specs.Refusal.{first}
 use Rattle.header.specs.Verdicts.{header_verdict, bounds_verdict, fst_offset, fst_size, disc_end}
 use Rattle.header.specs.Laws.FieldTests.{GoodHeader, Bounded}
 use Rattle.tree.specs.Table.{node_with, kind, offset_or_parent, size_or_next, count, check}
-use Rattle.tree.specs.Inner.Accepted.{Accepted}
+use Rattle.tree.specs.Inner.Accepted.{IsAccepted}
 use Rattle.space.specs.declared.region.DiscRegion.{DiscRegion}
 use Rattle.space.specs.Used.{nonempty, used_regions}
 use Rattle.space.specs.Layout.{disjoint_below}
 use Rattle.space.specs.Free.{free_regions}
 use Rattle.space.specs.Inner.Sort.{regions_in, SameSums}
-use Rattle.space.specs.Inner.Words.{SortedDisjoint}
+use Rattle.space.specs.Inner.Words.{IsSortedDisjoint}
 use Rattle.executable.specs.Program.{program_of, program_verdict}
 use Rattle.opened.specs.Opening.{table_of, region_of, opening, used_in, free_space_of}
 
@@ -58,26 +58,26 @@ pub record SameUse (e : ℕ) (xs ys : List DiscRegion) : Type 0 where
 
 -- the used regions of the image stand in the words, in order: m of them
 pub record UsedWords (image w : List ℕ) (m : ℕ) : Type 0 where
-  pub sorted : SortedDisjoint w m (disc_end image)
+  pub sorted : IsSortedDisjoint w m (disc_end image)
   pub free : free_regions (disc_end image) (regions_in w 0 m) ≡ free_space_of image
   pub sums : SameSums (regions_in w 0 m) (used_in image)
 
 -- ---- an open image
 
 -- what the tests before 24 tell
-pub record Readable (image : List ℕ) (words : ℕ) : Type 0 where
+pub record IsReadable (image : List ℕ) (words : ℕ) : Type 0 where
   pub header : GoodHeader image
   pub bounds : Bounded image
   pub size : length (table_of image) ≡ fst_size image
   pub root : 12 ≤ fst_size image
-  pub table : Accepted (table_of image) words
+  pub table : IsAccepted (table_of image) words
   pub next : be32 image (fst_offset image + 8) ≡ count (table_of image)
 
 -- what opening tells, where so many working words are lent
 pub record OpenImage (image : List ℕ) (words : ℕ) : Type 0 where
   pub bytes : AllBytes image
   pub passed : opening image words ≡ Ok tt
-  pub reads : Readable image words
+  pub reads : IsReadable image words
   pub program : program_verdict (program_of image) ≡ Ok tt
   pub layout : disjoint_below (disc_end image) (used_in image) ≡ true
 

@@ -4,7 +4,7 @@ use Rattle.std.specs.Prelude.{ℕ, ◌^◌, ◌<◌, List}
 use Rattle.space.specs.declared.region.DiscRegion.{DiscRegion}
 use Rattle.space.specs.Free.{free_regions}
 use Rattle.space.specs.Inner.Sort.{regions_in}
-use Rattle.space.specs.Inner.Words.{SortedDisjoint}
+use Rattle.space.specs.Inner.Words.{IsSortedDisjoint}
 
 pub record UsedSpace : Type 0 where
   pub regions : List DiscRegion
@@ -12,7 +12,7 @@ pub record UsedSpace : Type 0 where
 
 -- m used regions stand in words, on a disc that ends at e, a number of 32 bits
 pub record InWords (w : List ℕ) (m e : ℕ) : Type 0 where
-  pub sorted : SortedDisjoint w m e
+  pub sorted : IsSortedDisjoint w m e
   pub small : e < 2 ^ 32
 
 -- the first m regions in words, on a disc that ends at e

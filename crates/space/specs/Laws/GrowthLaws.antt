@@ -14,7 +14,7 @@ use Rattle.space.specs.Free.{free_in, free_regions}
 use Rattle.space.specs.MaxRegionSize.{inside_free, beside_free, max_size_from, max_region_size}
 use Rattle.refusal.specs.Laws.Tests.{lt-or-le, or_left, or_right, never_both}
 use Rattle.space.specs.Laws.UsedLaws.{inside-in, used-is}
-use Rattle.space.specs.Laws.RunLaws.{Covers, AllPass, Rising, covers-late}
+use Rattle.space.specs.Laws.RunLaws.{Covers, AllPass, IsRising, covers-late}
 use Rattle.space.specs.Laws.FreeLaws.{free-sound, free-rising, free-cover, In, AllEndBy, free-nonempty, free-end}
 
 -- the bytes from a up to b pass
@@ -128,7 +128,7 @@ module _ (p : ℕ → Bool) (o n : ℕ) (place : NoneBetween p o (o + n)) where
       go false l = beside-least prev_end r z.0 s.0
 
   -- ---- the m bytes right behind a place that has bytes, where they lie in a run
-  growth-behind : (prev_end j m : ℕ) (rs : List DiscRegion) → prev_end ≤ o + n → 0 < n → 0 < m → AllNonempty rs → AllPass p rs → Rising j rs → Covers (o + n) m rs → n + m ≤ max_size_from o n prev_end rs
+  growth-behind : (prev_end j m : ℕ) (rs : List DiscRegion) → prev_end ≤ o + n → 0 < n → 0 < m → AllNonempty rs → AllPass p rs → IsRising j rs → Covers (o + n) m rs → n + m ≤ max_size_from o n prev_end rs
   unfolding max_size_from beside_free
   growth-behind prev_end j m [] h z k f s g c = absurd c
   growth-behind prev_end j m (r ∷ rs) h z k f s g c = ⊎_elim here (λ d. later d (λ b. growth-behind (end_of r) (suc (end_of r)) m rs b z k f.1 s.1 g.1 d)) c
@@ -152,14 +152,14 @@ module _ (p : ℕ → Bool) (o n : ℕ) (place : NoneBetween p o (o + n)) where
 -- ---- a place of no bytes, in a run
 
 -- the run that holds it ends at prev_end
-growth-in : (o m prev_end : ℕ) (rs : List DiscRegion) → o + m ≤ prev_end → 0 < m → Rising (suc prev_end) rs → m ≤ max_size_from o 0 prev_end rs
+growth-in : (o m prev_end : ℕ) (rs : List DiscRegion) → o + m ≤ prev_end → 0 < m → IsRising (suc prev_end) rs → m ≤ max_size_from o 0 prev_end rs
 unfolding max_size_from beside_free
 growth-in o m prev_end [] h z g = rw (lt-ltb (o + 0) prev_end (omega arith)) (omega arith)
 growth-in o m prev_end (r ∷ rs) h z g =
     let a = g.0 in
     rw (le-ltb r.offset o (omega arith), ne_eqb r.offset o (λ e. omega arith), lt-ltb (o + 0) prev_end (omega arith)) (omega arith)
 
-growth-at : (o m prev_end j : ℕ) (rs : List DiscRegion) → 0 < m → Rising j rs → Covers o m rs → m ≤ max_size_from o 0 prev_end rs
+growth-at : (o m prev_end j : ℕ) (rs : List DiscRegion) → 0 < m → IsRising j rs → Covers o m rs → m ≤ max_size_from o 0 prev_end rs
 unfolding max_size_from beside_free
 growth-at o m prev_end j [] z g c = absurd c
 growth-at o m prev_end j (r ∷ rs) z g c = ⊎_elim here (λ d. later d (growth-at o m (end_of r) (suc (end_of r)) rs z g.1 d)) c
@@ -179,7 +179,7 @@ growth-at o m prev_end j (r ∷ rs) z g c = ⊎_elim here (λ d. later d (growth
 -- ---- the largest size
 
 -- s is the largest size that a place of n bytes at o can grow to: the bytes behind it, up to its new end, pass and are below e, and no larger size has that
-pub record LargestSize (p : ℕ → Bool) (e o n s : ℕ) : Type 0 where
+pub record IsLargestSize (p : ℕ → Bool) (e o n s : ℕ) : Type 0 where
   pub least : n ≤ s
   pub pass : AllBetween p (o + n) (o + s)
   pub below : o + s ≤ max (o + n) e
@@ -190,7 +190,7 @@ pub growth-free : (e : ℕ) (xs : List DiscRegion) (o n : ℕ) → AllBetween (f
 growth-free e xs o n = growth-over (free_in xs) o n 0 (free_regions e xs) (λ j u v. absurd (omega arith)) (free-sound e xs)
 
 -- LAW: `max_region_size` of a place all of whose bytes are used, or that has none, is its largest size
-pub max-size-largest : (e : ℕ) (xs : List DiscRegion) (o n : ℕ) → ((j : ℕ) → o ≤ j → j < o + n → uses_byte xs j ≡ true) → LargestSize (free_in xs) e o n (max_region_size o n (free_regions e xs))
+pub max-size-largest : (e : ℕ) (xs : List DiscRegion) (o n : ℕ) → ((j : ℕ) → o ≤ j → j < o + n → uses_byte xs j ≡ true) → IsLargestSize (free_in xs) e o n (max_region_size o n (free_regions e xs))
 max-size-largest e xs o n used = record {
   least = least;
   pass = growth-free e xs o n;
@@ -218,7 +218,7 @@ max-size-largest e xs o n used = record {
             rw i (growth-at o s 0 0 (free_regions e xs) (omega arith) (free-rising e xs) (rw (i, a, b) at c))
 
 -- LAW: the table of n bytes at o, which ends at t, grows up to the first used byte behind it, or to the disc end
-pub table-largest : (e t : ℕ) (fs : List DiscRegion) (o n : ℕ) → o + n ≡ t → LargestSize (free_in (used_regions t fs)) e o n (max_region_size o n (free_regions e (used_regions t fs)))
+pub table-largest : (e t : ℕ) (fs : List DiscRegion) (o n : ℕ) → o + n ≡ t → IsLargestSize (free_in (used_regions t fs)) e o n (max_region_size o n (free_regions e (used_regions t fs)))
 table-largest e t fs o n q = max-size-largest e (used_regions t fs) o n (λ j u v. used-is t fs j ∙ or_left (ltb j t) (uses_byte fs j) (lt-ltb j t (omega arith)))
 
 -- the bytes of a region of the list are used
@@ -229,7 +229,7 @@ file-used f (x ∷ fs) i j u v =
     ⊎_elim (λ q. or_left (inside x j) (uses_byte fs j) (rw (← q) (inside-in f j u v))) (λ k. or_right (inside x j) (uses_byte fs j) (file-used f fs k j u v)) i
 
 -- LAW: a file, an empty one too, grows to the largest size that the free bytes behind it allow (`max_file_size`)
-pub file-largest : (e t : ℕ) (fs : List DiscRegion) (f : DiscRegion) → In f fs → LargestSize (free_in (used_regions t fs)) e f.offset f.size (max_region_size f.offset f.size (free_regions e (used_regions t fs)))
+pub file-largest : (e t : ℕ) (fs : List DiscRegion) (f : DiscRegion) → In f fs → IsLargestSize (free_in (used_regions t fs)) e f.offset f.size (max_region_size f.offset f.size (free_regions e (used_regions t fs)))
 file-largest e t fs f i = max-size-largest e (used_regions t fs) f.offset f.size (λ j u v. used-is t fs j ∙ or_right (ltb j t) (uses_byte fs j) (file-used f fs i j u v))
 
 -- LAW: a new place of at least one byte is free, exactly if `max_region_size` of its start, with size 0, reaches its size

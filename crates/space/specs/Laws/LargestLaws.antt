@@ -10,7 +10,7 @@ use Rattle.space.specs.Used.{end_of, inside, uses_byte, used_regions, total_size
 use Rattle.space.specs.Layout.{disjoint_below}
 use Rattle.space.specs.Free.{free_in, free_regions, largest_size}
 use Rattle.space.specs.Inner.Sort.{region_at, regions_in, holds}
-use Rattle.space.specs.Inner.Words.{AllNonempty, in_sequence, SortedDisjoint}
+use Rattle.space.specs.Inner.Words.{AllNonempty, in_sequence, IsSortedDisjoint}
 use Rattle.space.specs.Laws.LayoutLaws.{inside-from, inside-to}
 use Rattle.space.specs.Laws.UsedLaws.{used-is, inside-low, inside-in, inside-high, nonempty-cons, files_within, lies_within}
 use Rattle.space.specs.Laws.PassedLayout.{passes}
@@ -104,7 +104,7 @@ module _ (e t : ℕ) (fs : List DiscRegion) (x : DiscRegion) (xs : List DiscRegi
 -- ---- read off the words
 
 -- the table is one of the regions in the words
-words-some : (w : List ℕ) (m e t : ℕ) (fs : List DiscRegion) → SortedDisjoint w m e → 0 < t →
+words-some : (w : List ℕ) (m e t : ℕ) (fs : List DiscRegion) → IsSortedDisjoint w m e → 0 < t →
     ((r : DiscRegion) → holds r (regions_in w 0 m) ≡ holds r (used_regions t fs)) → 0 < m
 unfolding regions_in
 words-some w zero e t fs s z h =
@@ -112,7 +112,7 @@ words-some w zero e t fs s z h =
 words-some w (suc m) e t fs s z h = omega arith
 
 -- LAW: the words before an edit tell the largest region after it
-pub largest-after : (w : List ℕ) (m e t t' : ℕ) (fs fs' : List DiscRegion) (old new : DiscRegion) → SortedDisjoint w m e → 0 < t →
+pub largest-after : (w : List ℕ) (m e t t' : ℕ) (fs fs' : List DiscRegion) (old new : DiscRegion) → IsSortedDisjoint w m e → 0 < t →
     ((r : DiscRegion) → holds r (regions_in w 0 m) ≡ holds r (used_regions t fs)) → disjoint_below e (used_regions t fs) ≡ true →
     (0 < old.size → holds old fs ≡ true) → t' ≤ e → ((i : ℕ) → uses_byte fs i ≡ true → t' ≤ i) → Exchanged fs fs' old new →
     longest_from e (gone_of old) new t' 0 (regions_in w 1 (m - 1)) ≡ largest_size (free_regions e (used_regions t' fs'))
@@ -123,7 +123,7 @@ largest-after w (suc m) e t t' fs fs' old new s z h d o l k x =
     rw n (largest-behind e t fs (region_at w 0) (regions_in w 1 m) s.full s.sequence z h d t' fs' old new o l k x)
 
 -- LAW: and with no edit, the largest region now
-pub largest-now : (w : List ℕ) (m e t : ℕ) (fs : List DiscRegion) → SortedDisjoint w m e → 0 < t →
+pub largest-now : (w : List ℕ) (m e t : ℕ) (fs : List DiscRegion) → IsSortedDisjoint w m e → 0 < t →
     ((r : DiscRegion) → holds r (regions_in w 0 m) ≡ holds r (used_regions t fs)) → disjoint_below e (used_regions t fs) ≡ true →
     longest_from e 0 (record { offset = 0; size = 0 }) t 0 (regions_in w 1 (m - 1)) ≡ largest_size (free_regions e (used_regions t fs))
 largest-now w m e t fs s z h d =

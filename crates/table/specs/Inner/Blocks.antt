@@ -2,10 +2,10 @@
 use Rattle.std.specs.Prelude.{Option, Some, None, ℕ, ◌+◌, ◌*◌, ◌/◌, ◌%◌, ◌≤◌, ◌≡◌, Bool, true, false, List, length, slice_index_or}
 use Rattle.tree.specs.Units.{units}
 use Rattle.tree.specs.Table.{every, plain_unit, safe_unit}
-use Rattle.table.specs.Inner.Texts.{text_at, clean_from, NoLead}
+use Rattle.table.specs.Inner.Texts.{text_at, clean_from, HasNoLead}
 
 -- no unit of the text at `at` is one that a name is refused for
-pub record Fit (tab : List ℕ) (at : ℕ) : Type 0 where
+pub record IsFit (tab : List ℕ) (at : ℕ) : Type 0 where
   pub plain : every plain_unit (units (text_at tab at)) ≡ true
   pub safe : every safe_unit (units (text_at tab at)) ≡ true
 
@@ -16,7 +16,7 @@ mark_place mark = 1024 * (mark / 2) + mark % 2
 -- where a mark is set, the text that starts at its place is fit; a mark that is not set says nothing
 pub record Marked (tab : List ℕ) (base : ℕ) (marks : List Bool) : Type 0 where
   pub long : length marks ≡ 2048
-  pub fit : (mark : ℕ) → slice_index_or marks mark false ≡ true → Fit tab (base + mark_place mark)
+  pub fit : (mark : ℕ) → slice_index_or marks mark false ≡ true → IsFit tab (base + mark_place mark)
 
 -- a table, and where its texts start
 pub record TextsFrom : Type 0 where
@@ -29,8 +29,8 @@ pub record HasMarks (tab : List ℕ) (base : ℕ) (marks : List Bool) : Type 0 w
   pub marked : Marked tab base marks
 
 -- what is known of the texts: no lead byte stands before `first`, and they are clean, or else these are their marks
-pub record Surveyed (tab : List ℕ) (base first : ℕ) (marks : Option TextsFrom) : Type 0 where
+pub record IsSurveyed (tab : List ℕ) (base first : ℕ) (marks : Option TextsFrom) : Type 0 where
   pub near : base ≤ 196608
-  pub early : NoLead tab base first
+  pub early : HasNoLead tab base first
   pub clean : marks ≡ None → clean_from tab base ≡ true
   pub same : (m : TextsFrom) → marks ≡ Some m → m ≡ record { table = tab; base = base }

@@ -5,7 +5,7 @@ use Rattle.tree.specs.Table.{count}
 use Rattle.table.specs.Inner.Reading.{Inside, Opens}
 
 -- it is accepted, so that its entries stand in it
-pub record Held (tab : List ℕ) : Type 0 where
+pub record IsTable (tab : List ℕ) : Type 0 where
   pub bytes : AllBytes tab
   pub opens : Opens tab
   pub inside : Inside tab (count tab)

@@ -27,7 +27,7 @@ Behind nodes [] = Unit {0}
 Behind nodes (j ∷ trail) = (j < length nodes) × (length trail ≤ depth_of nodes j) × Behind nodes trail
 
 -- named steps led to entry k, each one deeper than the last
-pub record Trail (nodes : List Node) (trail : List ℕ) (k : ℕ) : Type 0 where
+pub record IsTrail (nodes : List Node) (trail : List ℕ) (k : ℕ) : Type 0 where
   pub inside : k < length nodes
   pub deep : length trail ≤ depth_of nodes k
   pub behind : Behind nodes trail

@@ -30,10 +30,10 @@ unfoldable pub clean_from : List ℕ → ℕ → Bool
 clean_from tab from = every clean_unit (units (drop from tab))
 
 -- no lead byte stands from `from` up to `end`
-pub record NoLead (tab : List ℕ) (from end : ℕ) : Type 0 where
+pub record HasNoLead (tab : List ℕ) (from end : ℕ) : Type 0 where
   pub before : from ≤ end
   pub none : (i : ℕ) → from ≤ i → i < end → lead_byte (slice_index tab i) ≡ false
 
 -- clean bytes from `from` up to `end`, which is the table's end or a byte that is not clean
 abbrev pub CleanTo : List ℕ → ℕ → ℕ → Type 0
-CleanTo tab from end = NoLead tab from end × (clean_from tab from ≡ clean_from tab end) × ((end < length tab) → clean_byte (slice_index tab end) ≡ false)
+CleanTo tab from end = HasNoLead tab from end × (clean_from tab from ≡ clean_from tab end) × ((end < length tab) → clean_byte (slice_index tab end) ≡ false)

@@ -5,7 +5,7 @@ use Rattle.table_writing.specs.Inner.Kind.{kind_is_directory}
 use Rattle.refusal.specs.declared.Refusal.{Refusal}
 use Rattle.tree.specs.Table.{Node}
 use Rattle.table_writing.specs.declared.growing.Growing.{Growing}
-use Rattle.table_writing.specs.Inner.Growth.{tree_in, added, Built}
+use Rattle.table_writing.specs.Inner.Growth.{tree_in, added, IsBuilt}
 
 -- its entries
 abbrev pub tree_of : Growing → List Node
@@ -22,4 +22,4 @@ added_to g kind p nm = added (tree_of g) (kind_is_directory kind) p nm
 
 -- the tree F stands in it afterwards, or cannot
 abbrev pub HasBuilt : Growing → Growing → List Node → Result ℕ Refusal → Type 0
-HasBuilt old new F result = Built F old.words old.bytes.now new.bytes.now (sized_as result new.size)
+HasBuilt old new F result = IsBuilt F old.words old.bytes.now new.bytes.now (sized_as result new.size)

@@ -5,7 +5,7 @@ use Rattle.std.specs.Prelude.{ℕ, ◌<◌, ◌≤◌, ◌≡◌, Bool, true, fa
 use Rattle.endian.specs.Bytes.{put}
 use Rattle.refusal.specs.declared.Refusal.TheVariants.{LimitOrMemory}
 use Rattle.tree.specs.Table.{Node, none, nodes_of, encode, limits}
-use Rattle.tree.specs.Inner.WellFormed.{WellFormed}
+use Rattle.tree.specs.Inner.WellFormed.{IsWellFormed}
 use Rattle.tree.specs.Lookup.{is_directory, next_of}
 use Rattle.tree.specs.Insert.{insert_at}
 use Rattle.table_writing.specs.Inner.Inserting.{new_node}
@@ -16,7 +16,7 @@ tree_in bytes size = nodes_of (take size bytes)
 
 -- a table written anew stands there, and passes no limit where so many words are lent
 pub record Stands (bytes : List ℕ) (size words : ℕ) : Type 0 where
-  pub well : WellFormed (tree_in bytes size)
+  pub well : IsWellFormed (tree_in bytes size)
   pub same : take size bytes ≡ encode (tree_in bytes size)
   pub held : size ≤ length bytes
   pub within : limits (tree_in bytes size) words ≡ Ok tt
@@ -36,6 +36,6 @@ depth_allows true depth = nat_lt depth 64
 depth_allows false depth = true
 
 -- the tree F stands in the bytes, or cannot: it passes a limit (9), or its table is longer than they are (9)
-abbrev pub Built : List Node → ℕ → List ℕ → List ℕ → Result ℕ Refusal → Type 0
-Built F words bytes after (Ok size) = (limits F words ≡ Ok tt) × (size ≡ length (encode F)) × (size ≤ length bytes) × (after ≡ put bytes 0 (encode F))
-Built F words bytes after (Err cause) = (cause ≡ LimitOrMemory) × (limits F words ≡ Ok tt → length bytes < length (encode F))
+abbrev pub IsBuilt : List Node → ℕ → List ℕ → List ℕ → Result ℕ Refusal → Type 0
+IsBuilt F words bytes after (Ok size) = (limits F words ≡ Ok tt) × (size ≡ length (encode F)) × (size ≤ length bytes) × (after ≡ put bytes 0 (encode F))
+IsBuilt F words bytes after (Err cause) = (cause ≡ LimitOrMemory) × (limits F words ≡ Ok tt → length bytes < length (encode F))

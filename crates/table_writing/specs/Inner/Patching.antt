@@ -6,7 +6,7 @@ use Rattle.table_writing.specs.declared.kind.Kind.{Kind}
 use Rattle.table_writing.specs.Inner.Kind.{kind_is_directory}
 use Rattle.table_writing.specs.declared.raising.Shift.{Shift}
 use Rattle.table_writing.specs.declared.raising.NewEntry.{NewEntry}
-use Rattle.table_writing.specs.Inner.Inserting.{new_node, Patchable}
+use Rattle.table_writing.specs.Inner.Inserting.{new_node, IsPatchable}
 
 -- the records behind the new one of a table of c entries
 abbrev pub behind_of : List ℕ → Shift → ℕ → List ℕ
@@ -14,7 +14,7 @@ behind_of s h c = records (record_after s h.number h.text) h.number (c - h.numbe
 
 -- a table of c entries can take the new one
 abbrev pub CanTake : List ℕ → ℕ → NewEntry → Type 0
-CanTake s c e = Patchable s c e.parent e.number e.start (length e.name.now + 1)
+CanTake s c e = IsPatchable s c e.parent e.number e.start (length e.name.now + 1)
 
 -- all records then
 abbrev pub records_with : List ℕ → ℕ → NewEntry → List ℕ

@@ -13,7 +13,7 @@ pub record Nests (tab : List ℕ) (n i : ℕ) : Type 0 where
   pub within : size_or_next tab i ≤ n
   pub inner : (j : ℕ) → i < j → j < size_or_next tab i → kind tab j ≡ 1 → size_or_next tab j ≤ size_or_next tab i
 
-pub record Valid (tab : List ℕ) (n : ℕ) : Type 0 where
+pub record IsValid (tab : List ℕ) (n : ℕ) : Type 0 where
   pub some : 0 < n
   pub few : n ≤ 16384
   pub whole : 12 * n ≤ length tab

@@ -8,7 +8,7 @@ use Rattle.refusal.specs.declared.Refusal.TheVariants.{EntryPastTable, Unrecogni
 use Rattle.refusal.specs.Refusal.{refuse}
 use Rattle.refusal.specs.Laws.Chains.{refuse-passed, first-passed}
 use Rattle.tree.specs.Table.{Node, file, directory, name_of, kind, name_offset, size_or_next, count, up_to0, name_at, node_at, nodes_from, entry_verdict, entries_verdict, unended, top, shut, enter, name_verdict, next_verdict, walk, check}
-use Rattle.table_writing.specs.Inner.Valid.{name_size, Nests, Valid}
+use Rattle.table_writing.specs.Inner.Valid.{name_size, Nests, IsValid}
 
 -- ---- the first zero byte is not behind any zero byte
 
@@ -215,7 +215,7 @@ root-nests tab r some w =
     }
 
 -- acceptance gives all of it
-pub accepted-valid : (tab : List ℕ) (words : ℕ) → check tab words ≡ Ok tt → Valid tab (count tab)
+pub accepted-valid : (tab : List ℕ) (words : ℕ) → check tab words ≡ Ok tt → IsValid tab (count tab)
 accepted-valid tab words e =
     let t = tests tab words e in
     let n : ℕ = count tab in

@@ -6,7 +6,7 @@ use Rattle.std.proofs.Common.{arith}
 use borrow.Author.Tests.{lt-ltb, le-ltb}
 use Rattle.endian.specs.Bytes.{be24, be32}
 use Rattle.tree.specs.Table.{Node, count, name_at, node_at, nodes_from, nodes_of, parent_below, parent_of, entries_bytes, texts_of, encode}
-use Rattle.tree.specs.Inner.WellFormed.{WellFormed}
+use Rattle.tree.specs.Inner.WellFormed.{IsWellFormed}
 use Rattle.tree.proofs.Laws.RoundTrip.{round_trip}
 use Rattle.tree.proofs.Laws.Vectors.{master, shared, deep_bytes}
 use Rattle.tree.proofs.Laws.WrittenEntries.{length-encode}
@@ -25,7 +25,7 @@ unfolding measure_of nodes_of nodes_from node_at name_at count be24 be32 encode 
 sizes = (refl, refl, refl, refl, refl)
 
 -- "texts over 1,048,576 bytes (9)": so many are measured, and one byte more is past the limit
-module _ (nodes : List Node) (w : WellFormed nodes) (few : length nodes < 2 ^ 32) where
+module _ (nodes : List Node) (w : IsWellFormed nodes) (few : length nodes < 2 ^ 32) where
   at-limit : length (texts_of (tail nodes)) ≡ 1048576 → measure_of (encode nodes) ≡ Ok (12 * length nodes + 1048576)
   unfolding measure_of
   at-limit e = rw (round_trip nodes w few (omega arith), le-ltb 1048576 (length (texts_of (tail nodes))) (omega arith), length-encode nodes, e)

@@ -9,18 +9,18 @@ use Rattle.endian.specs.Laws.Stored.{be32-small}
 use Rattle.refusal.specs.declared.Refusal.TheVariants.{EntryPastTable, UnrecognizedKind, RootIsNotDirectory, MissingNullTerminator, LimitOrMemory, InvalidNextIndex}
 use Rattle.refusal.specs.Laws.Chains.{refuse-passed, first-passed}
 use Rattle.tree.specs.Table.{Node, file, directory, name_of, none, plain, safe, kind, name_offset, offset_or_parent, size_or_next, count, name_at, node_with, node_at, nodes_from, nodes_of, entry_verdict, entries_verdict, unended, top, shut, enter, name_verdict, next_verdict, walk, check, shallow_entry, shallow_from, shallow}
-use Rattle.tree.specs.Inner.Accepted.{Accepted}
-use Rattle.tree.specs.Inner.WellFormed.{GoodName, GoodEntry, Sound}
+use Rattle.tree.specs.Inner.Accepted.{IsAccepted}
+use Rattle.tree.specs.Inner.WellFormed.{IsGoodName, IsGoodEntry, IsSound}
 use Rattle.refusal.specs.Laws.Tests.{and_both}
 use Rattle.tree.proofs.Laws.Texts.{name-ends}
 
 -- ---- each test
 
-name-passed : (tab : List ℕ) (c k : ℕ) (nm : List ℕ) → name_verdict tab c k nm ≡ Ok tt → (name_offset tab k < length tab - 12 * c) × GoodName nm
+name-passed : (tab : List ℕ) (c k : ℕ) (nm : List ℕ) → name_verdict tab c k nm ≡ Ok tt → (name_offset tab k < length tab - 12 * c) × IsGoodName nm
 unfolding name_verdict
 name-passed tab c k nm e = go (leb (length tab - 12 * c) (name_offset tab k)) refl (plain nm) refl (safe nm) refl
   where
-    go : (a : Bool) → leb (length tab - 12 * c) (name_offset tab k) ≡ a → (p : Bool) → plain nm ≡ p → (s : Bool) → safe nm ≡ s → (name_offset tab k < length tab - 12 * c) × GoodName nm
+    go : (a : Bool) → leb (length tab - 12 * c) (name_offset tab k) ≡ a → (p : Bool) → plain nm ≡ p → (s : Bool) → safe nm ≡ s → (name_offset tab k < length tab - 12 * c) × IsGoodName nm
     go true a≡ p p≡ s s≡ = let e' = simp a≡ at e in let z : ◌≡◌ {A = ℕ} 0 1 = cc in absurd (omega arith)
     go false a≡ true p≡ true s≡ = (leb-false _ _ a≡, (p≡, s≡))
     go false a≡ true p≡ false s≡ = let e' = simp (a≡, p≡, s≡) at e in let z : ◌≡◌ {A = ℕ} 0 1 = cc in absurd (omega arith)
@@ -28,7 +28,7 @@ name-passed tab c k nm e = go (leb (length tab - 12 * c) (name_offset tab k)) re
     go false a≡ false p≡ false s≡ = let e' = simp (a≡, p≡, s≡) at e in let z : ◌≡◌ {A = ℕ} 0 1 = cc in absurd (omega arith)
 
 next-passed : (c k : ℕ) (dirs : List ℕ) (kd : ℕ) (nm : List ℕ) (a b : ℕ) → a < 2 ^ 32 → b < 2 ^ 32 →
-    next_verdict c dirs k (node_with kd nm a b) ≡ Ok tt → GoodEntry c dirs k (node_with kd nm a b)
+    next_verdict c dirs k (node_with kd nm a b) ≡ Ok tt → IsGoodEntry c dirs k (node_with kd nm a b)
 unfolding next_verdict
 next-passed c k dirs zero nm a b ha hb e = (ha, hb)
 next-passed c k dirs (suc kd) nm a next ha hb e =
@@ -82,7 +82,7 @@ walk-shallow tab c k dirs (x ∷ xs) e =
     let e₂ = first-passed (next_verdict c (shut k dirs) k x) _ e₁.1 in
     and_both (shallow_entry (shut k dirs) x) _ (depth-passed c k (shut k dirs) x e₂.0) (walk-shallow tab c (suc k) (enter (shut k dirs) x) xs e₂.1)
 
-walk-sound : (tab : List ℕ) → AllBytes tab → (c k n : ℕ) (dirs : List ℕ) → walk tab c dirs k (nodes_from tab c k n) ≡ Ok tt → Sound c dirs k (nodes_from tab c k n)
+walk-sound : (tab : List ℕ) → AllBytes tab → (c k n : ℕ) (dirs : List ℕ) → walk tab c dirs k (nodes_from tab c k n) ≡ Ok tt → IsSound c dirs k (nodes_from tab c k n)
 unfolding nodes_from walk node_at
 walk-sound tab bytes c k zero dirs e = tt
 walk-sound tab bytes c k (suc n) dirs e =
@@ -124,7 +124,7 @@ not-unended tab c e h =
     let e' : (true && not (eqb (get_or tab (length tab - 1) 0) 0)) ≡ false = rw (lt-ltb (12 * c) (length tab) h) at e in
     eqb-true _ _ (not-false (eqb (get_or tab (length tab - 1) 0) 0) e')
 
-pub accepted : (tab : List ℕ) (words : ℕ) → AllBytes tab → check tab words ≡ Ok tt → Accepted tab words
+pub accepted : (tab : List ℕ) (words : ℕ) → AllBytes tab → check tab words ≡ Ok tt → IsAccepted tab words
 unfolding check nodes_of count shallow
 accepted tab words bytes e =
     let c : ℕ = count tab in

@@ -13,7 +13,7 @@ use Rattle.tree.specs.Lookup.{is_directory, next_of, child_named, child_of}
 use Rattle.tree.specs.Insert.{earlier, later, insert_at, shifted}
 use Rattle.tree.proofs.Laws.Nesting.{parent-most}
 use Rattle.tree.proofs.Laws.NestedInsert
-use Rattle.tree.proofs.Laws.InsertedList.{Nested, Fresh, name-earlier, name-later, shifted-min, q≤n, p<q, inserted-before, inserted-at, inserted-after}
+use Rattle.tree.proofs.Laws.InsertedList.{IsNested, Fresh, name-earlier, name-later, shifted-min, q≤n, p<q, inserted-before, inserted-at, inserted-after}
 use Rattle.tree.proofs.Laws.NestedInsert.{place, Place, before, after, earlier_up, earlier-same, is-earlier, is_later, new-most}
 use Rattle.tree.proofs.Laws.InsertedParents.{around, between, parent-inserted-before, parent-inserted-at, parent-inserted-after}
 use Rattle.tree.proofs.Laws.Children.{Child, child-is, child-at, child-none, child-missing, child-named}
@@ -43,7 +43,7 @@ reaching : (x : Node) → 0 < next_of x → is_directory x ≡ true
 reaching (file nm offset size) h = absurd (omega arith)
 reaching (directory nm next) h = refl
 
-module _ (nodes : List Node) (p q : ℕ) (nm : List ℕ) (new : Node) (w : Nested nodes) (dir : get_or nodes p none ≡ directory nm q) (p<n : p < length nodes) (fresh : Fresh q new) where
+module _ (nodes : List Node) (p q : ℕ) (nm : List ℕ) (new : Node) (w : IsNested nodes) (dir : get_or nodes p none ≡ directory nm q) (p<n : p < length nodes) (fresh : Fresh q new) where
   abbrev N : List Node
   N = insert_at p new nodes
 

@@ -9,7 +9,7 @@ use Rattle.refusal.specs.Laws.Tests.{lt-or-le, and_left, and_right, and-false}
 use Rattle.refusal.specs.declared.Refusal.{Refusal}
 use Rattle.refusal.specs.declared.Refusal.TheVariants.{NotFound}
 use Rattle.tree.specs.Table.{Node, file, directory, name_of, none, encloses, parent_of}
-use Rattle.tree.specs.Inner.WellFormed.{WellFormed}
+use Rattle.tree.specs.Inner.WellFormed.{IsWellFormed}
 use Rattle.tree.specs.Lookup.{next_of, child_named, first_child, child_of}
 use Rattle.tree.proofs.Laws.Nesting.{Inside, parent_is, parent-clear, parent-at-least, ended}
 use Rattle.tree.proofs.Laws.WellNested.{next-bounds, nests}
@@ -139,7 +139,7 @@ child-none nodes d nm f = ⊎_elim (λ (h : d < m). passed h) (λ (h : m ≤ d).
 pub first-child : (nodes : List Node) (d m : ℕ) (nm : List ℕ) → get_or nodes d none ≡ directory nm m → d + 1 < m → parent_of nodes (d + 1) ≡ d
 first-child nodes d m nm e h = parent_is nodes (d + 1) d (omega arith, rw e (lt-ltb (d + 1) m h)) (λ j a b. absurd (omega arith))
 
-module _ (nodes : List Node) (d m : ℕ) (dnm : List ℕ) (w : WellFormed nodes) (dir : get_or nodes d none ≡ directory dnm m) (d<n : d < length nodes)
+module _ (nodes : List Node) (d m : ℕ) (dnm : List ℕ) (w : IsWellFormed nodes) (dir : get_or nodes d none ≡ directory dnm m) (d<n : d < length nodes)
     (k : ℕ) (d<k : d < k) (k<m : k < m) (child : parent_of nodes k ≡ d) where
   m≤n : m ≤ length nodes
   m≤n = (next-bounds nodes d m dnm w dir d<n).1

@@ -6,7 +6,7 @@ use mathlib.Core.List.{List, ◌∷◌, tail}
 use Rattle.refusal.specs.declared.Refusal.TheVariants.{LimitOrMemory}
 use Rattle.refusal.specs.Refusal.{refuse}
 use Rattle.tree.specs.Table.{Node, file, directory, name_of, none, encloses, parent_below, parent_of, texts_of, shallow, limits}
-use Rattle.tree.specs.Inner.WellFormed.{GoodName, WellFormed}
+use Rattle.tree.specs.Inner.WellFormed.{IsGoodName, IsWellFormed}
 use Rattle.tree.specs.Lookup.{next_of}
 use Rattle.tree.proofs.Laws.Nesting.{Inside}
 use Rattle.tree.proofs.Laws.WellNested.{parent-inside, nests, root_is}
@@ -40,7 +40,7 @@ open-parent nodes k (suc (suc i)) h e = go (encloses (get_or nodes (suc i) none)
     go false ih = ih
 
 -- a directory before d encloses an entry of d exactly if it encloses d
-module _ (nodes : List Node) (d k n : ℕ) (nm : List ℕ) (w : WellFormed nodes) (here : get_or nodes d none ≡ directory nm n) (d<k : d < k) (k<n : k < n) (k<l : k < length nodes) where
+module _ (nodes : List Node) (d k n : ℕ) (nm : List ℕ) (w : IsWellFormed nodes) (here : get_or nodes d none ≡ directory nm n) (d<k : d < k) (k<n : k < n) (k<l : k < length nodes) where
   around-both : (j : ℕ) → j < d → encloses (get_or nodes j none) k ≡ encloses (get_or nodes j none) d
   around-both j h = go (get_or nodes j none) refl
     where
@@ -55,7 +55,7 @@ module _ (nodes : List Node) (d k n : ℕ) (nm : List ℕ) (w : WellFormed nodes
               lt-ltb k m (omega arith)
           by false q = le-ltb k m (omega (arith, ltb-false d m q))
 
-pub depth-parent : (nodes : List Node) (k : ℕ) → WellFormed nodes → 0 < k → k < length nodes → depth_of nodes k ≡ suc (depth_of nodes (parent_of nodes k))
+pub depth-parent : (nodes : List Node) (k : ℕ) → IsWellFormed nodes → 0 < k → k < length nodes → depth_of nodes k ≡ suc (depth_of nodes (parent_of nodes k))
 unfolding parent_of
 depth-parent nodes k w h l = go (get_or nodes (parent_of nodes k) none) refl (parent-inside nodes k w h l)
   where
@@ -74,7 +74,7 @@ depth-parent nodes k w h l = go (get_or nodes (parent_of nodes k) none) refl (pa
 
 -- ---- the limits of a tree with one entry more
 
-pub limits-insert : (nodes : List Node) (p q : ℕ) (nm : List ℕ) (new : Node) (words : ℕ) → WellFormed nodes → get_or nodes p none ≡ directory nm q → p < length nodes → GoodName (name_of new) → Fresh q new →
+pub limits-insert : (nodes : List Node) (p q : ℕ) (nm : List ℕ) (new : Node) (words : ℕ) → IsWellFormed nodes → get_or nodes p none ≡ directory nm q → p < length nodes → IsGoodName (name_of new) → Fresh q new →
     limits (insert_at p new nodes) words ≡
     refuse (ltb 16384 (suc (length nodes))) LimitOrMemory
     (refuse (ltb 1048576 (length (texts_of (tail nodes)) + suc (length (name_of new)))) LimitOrMemory

@@ -6,7 +6,7 @@ use mathlib.Core.List.{List, tail}
 use Rattle.refusal.specs.declared.Refusal.TheVariants.{LimitOrMemory}
 use Rattle.refusal.specs.Refusal.{refuse}
 use Rattle.tree.specs.Table.{Node, directory, name_of, none, texts_of, encode, shallow, limits}
-use Rattle.tree.specs.Inner.WellFormed.{GoodName, WellFormed}
+use Rattle.tree.specs.Inner.WellFormed.{IsGoodName, IsWellFormed}
 use Rattle.tree.specs.Insert.{insert_at}
 use Rattle.tree.proofs.Laws.InsertLaws.{Fresh, length-insert, insert-sound, insert-shallow}
 use Rattle.tree.proofs.Laws.InsertWalk.{depth_ok}
@@ -18,18 +18,18 @@ use Rattle.tree.proofs.Laws.Size.{texts-grow}
 
 -- F is a tree that M grew into
 pub record Bigger (M F : List Node) : Type 0 where
-  pub well : WellFormed F
+  pub well : IsWellFormed F
   pub entries : length M ≤ length F
   pub texts : length (texts_of (tail M)) ≤ length (texts_of (tail F))
   pub depth : shallow F ≡ true → shallow M ≡ true
 
-pub bigger-same : (M : List Node) → WellFormed M → Bigger M M
+pub bigger-same : (M : List Node) → IsWellFormed M → Bigger M M
 bigger-same M w = record { well = w; entries = omega arith; texts = omega arith; depth = λ e. e }
 
 pub bigger-trans : (A B C : List Node) → Bigger A B → Bigger B C → Bigger A C
 bigger-trans A B C a b = record { well = b.well; entries = omega arith; texts = omega arith; depth = λ e. a.depth (b.depth e) }
 
-pub bigger-insert : (nodes : List Node) (p q : ℕ) (nm : List ℕ) (new : Node) → WellFormed nodes → get_or nodes p none ≡ directory nm q → p < length nodes → GoodName (name_of new) → Fresh q new →
+pub bigger-insert : (nodes : List Node) (p q : ℕ) (nm : List ℕ) (new : Node) → IsWellFormed nodes → get_or nodes p none ≡ directory nm q → p < length nodes → IsGoodName (name_of new) → Fresh q new →
     Bigger nodes (insert_at p new nodes)
 bigger-insert nodes p q nm new w dir p<n named fresh = record {
   well = insert-sound nodes p q nm new w dir p<n named fresh;

@@ -3,7 +3,7 @@ use Rattle.std.specs.Prelude.{ℕ, zero, suc, ◌+◌, ◌-◌, ◌<◌, ◌≤�
 use Rattle.std.proofs.Common.{zero-le, sym, ap, ◌∙◌, arith, le-leb}
 use mathlib.Core.List.{List, [], ◌∷◌, tail}
 use Rattle.tree.specs.Table.{Node, directory, name_of, none, parent_of, shallow_from, shallow}
-use Rattle.tree.specs.Inner.WellFormed.{GoodName, GoodEntry, Sound, WellFormed}
+use Rattle.tree.specs.Inner.WellFormed.{IsGoodName, IsGoodEntry, IsSound, IsWellFormed}
 use Rattle.tree.specs.Lookup.{next_of}
 use Rattle.tree.specs.Insert.{bump, earlier, later, splice, insert_at, shifted}
 pub use Rattle.tree.proofs.Laws.InsertedList.{Fresh, bump-min, shifted-min, name-earlier, name-later}
@@ -25,24 +25,24 @@ record Kept (c p q : ℕ) (new : Node) (xs : List Node) : Type 0 where
   next : q ≡ suc j
   inside : j ≤ length xs
   raised : bump p c ≡ suc c
-  sound : Sound (suc c) (suc c ∷ []) 1 (splice p new 1 j xs)
+  sound : IsSound (suc c) (suc c ∷ []) 1 (splice p new 1 j xs)
   depth : shallow_from (suc c ∷ []) 1 (splice p new 1 j xs) ≡ (depth_ok (suc (stack_depth c xs p)) new && shallow_from (c ∷ []) 1 xs)
 
 kept : (c p q : ℕ) (nm : List ℕ) (new : Node) (xs : List Node) → c ≡ suc (length xs) →
-    Sound c (c ∷ []) 1 xs → get_or (directory [] c ∷ xs) p none ≡ directory nm q → p < c → GoodName (name_of new) → Fresh q new → Kept c p q new xs
+    IsSound c (c ∷ []) 1 xs → get_or (directory [] c ∷ xs) p none ≡ directory nm q → p < c → IsGoodName (name_of new) → Fresh q new → Kept c p q new xs
 kept c zero q nm new xs l g e h named f =
     let q≡ : q ≡ c = sym (ap next_of e) in
     let f' : Fresh c new = rw q≡ at f in
     let s = sound-between zero c c new [] h (omega arith) named f' (length xs) 1 [] xs (omega arith) (omega arith) (omega arith) tt g in
     record { j = length xs; next = q≡ ∙ l; inside = omega arith; raised = omega (arith, bump-min zero c); sound = s.0; depth = s.1 }
 kept c (suc i) q nm new xs l g e h named f =
-    let at : GoodEntry c (open_at (c ∷ []) 1 xs i) (1 + i) (directory nm q) = rw e at (sound-at c 1 (c ∷ []) xs i g (omega arith)).1 in
+    let at : IsGoodEntry c (open_at (c ∷ []) 1 xs i) (1 + i) (directory nm q) = rw e at (sound-at c 1 (c ∷ []) xs i g (omega arith)).1 in
     let b : bump (suc i) c ≡ suc c = omega (arith, bump-min (suc i) c) in
     let s = sound-before (suc i) c q nm new (omega arith) (omega arith) named f i (q - 1) 1 (c ∷ []) xs (omega arith) (omega arith) (omega arith) e (omega arith) g in
     record { j = q - 1; next = omega arith; inside = omega arith; raised = b; sound = rw b at s.0; depth = rw b at s.1 }
 
 kept_whole : (c p q : ℕ) (nm : List ℕ) (new : Node) (xs : List Node) → c ≡ suc (length xs) → get_or (directory [] c ∷ xs) p none ≡ directory nm q → Kept c p q new xs →
-    WellFormed (insert_at p new (directory [] c ∷ xs)) × (shallow (insert_at p new (directory [] c ∷ xs)) ≡ (depth_ok (suc (stack_depth c xs p)) new && shallow (directory [] c ∷ xs)))
+    IsWellFormed (insert_at p new (directory [] c ∷ xs)) × (shallow (insert_at p new (directory [] c ∷ xs)) ≡ (depth_ok (suc (stack_depth c xs p)) new && shallow (directory [] c ∷ xs)))
 unfolding insert_at splice shallow
 kept_whole c p q nm new xs l e s =
     let len : suc (length (splice p new 1 s.j xs)) ≡ suc c = rw (length-splice p new 1 s.j xs s.inside, ← l) in
@@ -51,13 +51,13 @@ kept_whole c p q nm new xs l e s =
       rw (len, ← l) s.depth,
     )
 
-depth_is : (nodes : List Node) (p : ℕ) → WellFormed nodes → p < length nodes → depth_of nodes p ≡ stack_depth (length nodes) (tail nodes) p
+depth_is : (nodes : List Node) (p : ℕ) → IsWellFormed nodes → p < length nodes → depth_of nodes p ≡ stack_depth (length nodes) (tail nodes) p
 unfolding open_dirs
 depth_is nodes zero w h = refl
 depth_is nodes (suc i) w h = ap length (stack_is nodes w i h)
 
-insert-whole : (nodes : List Node) (p q : ℕ) (nm : List ℕ) (new : Node) → WellFormed nodes → get_or nodes p none ≡ directory nm q → p < length nodes → GoodName (name_of new) → Fresh q new →
-    WellFormed (insert_at p new nodes) × (shallow (insert_at p new nodes) ≡ (depth_ok (suc (depth_of nodes p)) new && shallow nodes))
+insert-whole : (nodes : List Node) (p q : ℕ) (nm : List ℕ) (new : Node) → IsWellFormed nodes → get_or nodes p none ≡ directory nm q → p < length nodes → IsGoodName (name_of new) → Fresh q new →
+    IsWellFormed (insert_at p new nodes) × (shallow (insert_at p new nodes) ≡ (depth_ok (suc (depth_of nodes p)) new && shallow nodes))
 insert-whole [] p q nm new w e h named f = absurd (omega arith)
 insert-whole (r ∷ xs) p q nm new w e h named f =
     let c : ℕ = suc (length xs) in
@@ -65,17 +65,17 @@ insert-whole (r ∷ xs) p q nm new w e h named f =
     let e' : get_or (directory [] c ∷ xs) p none ≡ directory nm q = rw r≡ at e in
     rw (depth_is (r ∷ xs) p w h, r≡) (kept_whole c p q nm new xs refl e' (kept c p q nm new xs refl w.sound e' h named f))
 
-pub insert-sound : (nodes : List Node) (p q : ℕ) (nm : List ℕ) (new : Node) → WellFormed nodes → get_or nodes p none ≡ directory nm q → p < length nodes → GoodName (name_of new) → Fresh q new →
-    WellFormed (insert_at p new nodes)
+pub insert-sound : (nodes : List Node) (p q : ℕ) (nm : List ℕ) (new : Node) → IsWellFormed nodes → get_or nodes p none ≡ directory nm q → p < length nodes → IsGoodName (name_of new) → Fresh q new →
+    IsWellFormed (insert_at p new nodes)
 insert-sound nodes p q nm new w e h named f = (insert-whole nodes p q nm new w e h named f).0
 
-pub insert-shallow : (nodes : List Node) (p q : ℕ) (nm : List ℕ) (new : Node) → WellFormed nodes → get_or nodes p none ≡ directory nm q → p < length nodes → GoodName (name_of new) → Fresh q new →
+pub insert-shallow : (nodes : List Node) (p q : ℕ) (nm : List ℕ) (new : Node) → IsWellFormed nodes → get_or nodes p none ≡ directory nm q → p < length nodes → IsGoodName (name_of new) → Fresh q new →
     shallow (insert_at p new nodes) ≡ (depth_ok (suc (depth_of nodes p)) new && shallow nodes)
 insert-shallow nodes p q nm new w e h named f = (insert-whole nodes p q nm new w e h named f).1
 
 -- ---- the new list by numbers; p is a directory with next q
 
-module _ (nodes : List Node) (p q : ℕ) (nm : List ℕ) (new : Node) (w : WellFormed nodes) (here : get_or nodes p none ≡ directory nm q) (p<n : p < length nodes) where
+module _ (nodes : List Node) (p q : ℕ) (nm : List ℕ) (new : Node) (w : IsWellFormed nodes) (here : get_or nodes p none ≡ directory nm q) (p<n : p < length nodes) where
   pub length-insert : length (insert_at p new nodes) ≡ suc (length nodes)
   length-insert = length_inserted nodes p q nm new (well-nested nodes w) here p<n
 

@@ -8,7 +8,7 @@ use native.Mathlib.Omega.{arith}
 use Rattle.std.proofs.lemmas.Bool.{lt-leb}
 use Rattle.std.proofs.lemmas.List.{length-map}
 use Rattle.tree.specs.Table.{Node, file, directory, name_of, none, top, shut, enter, shallow_entry, shallow_from}
-use Rattle.tree.specs.Inner.WellFormed.{GoodName, GoodEntry, Sound}
+use Rattle.tree.specs.Inner.WellFormed.{IsGoodName, IsGoodEntry, IsSound}
 use Rattle.tree.specs.Insert.{bump, earlier, later, splice}
 use Rattle.tree.proofs.Laws.Steps.{shut_open, shut-pop}
 pub use Rattle.tree.proofs.Laws.InsertedList.{Fresh, bump-min, shifted-min, name-earlier, name-later}
@@ -76,7 +76,7 @@ top-AllLe : (q : ℕ) (ds up : List ℕ) → AllLe q ds → top (ds ++ (q ∷ up
 top-AllLe q [] up h = omega arith
 top-AllLe q (d ∷ ds) up h = h.0
 
-enter-AllLe : (c q k : ℕ) (ds up : List ℕ) (x : Node) → AllLe q ds → GoodEntry c (ds ++ (q ∷ up)) k x → AllLe q (enter ds x)
+enter-AllLe : (c q k : ℕ) (ds up : List ℕ) (x : Node) → AllLe q ds → IsGoodEntry c (ds ++ (q ∷ up)) k x → AllLe q (enter ds x)
 enter-AllLe c q k ds up (file nm offset size) h g = h
 enter-AllLe c q k ds up (directory nm next) h g = (omega (arith, top-AllLe q ds up h), h)
 
@@ -103,7 +103,7 @@ module _ (p : ℕ) where
   bump-top n (m ∷ s) h e = omega (arith, bump-min p n, bump-min p m)
 
   -- ---- an entry up to p
-  good-before : (c k : ℕ) (s : List ℕ) (x : Node) → k ≤ p → GoodEntry c s k x → GoodEntry (suc c) (map (bump p) s) k (earlier p k x)
+  good-before : (c k : ℕ) (s : List ℕ) (x : Node) → k ≤ p → IsGoodEntry c s k x → IsGoodEntry (suc c) (map (bump p) s) k (earlier p k x)
   good-before c k s (file nm offset size) h g = g
   good-before c k s (directory nm next) h g =
       rw (le-leb k p h) (omega (arith, bump-min p next), omega (arith, bump-min p next), bump-top next s (omega arith) g.2)
@@ -113,12 +113,12 @@ module _ (p : ℕ) where
   enter-before k s (directory nm next) h = rw (le-leb k p h)
 
   -- ---- an entry after the new one
-  good-after : (c k : ℕ) (s : List ℕ) (x : Node) → p < k → GoodEntry c s k x → GoodEntry (suc c) (map (bump p) s) (suc k) (later x)
+  good-after : (c k : ℕ) (s : List ℕ) (x : Node) → p < k → IsGoodEntry c s k x → IsGoodEntry (suc c) (map (bump p) s) (suc k) (later x)
   good-after c k s (file nm offset size) h g = g
   good-after c k s (directory nm next) h g =
       (omega arith, omega arith, omega (arith, bump-min p next, bump-top next s (omega arith) g.2))
 
-  enter-after : (c k : ℕ) (s t : List ℕ) (x : Node) → p < k → GoodEntry c t k x → enter (map (bump p) s) (later x) ≡ map (bump p) (enter s x)
+  enter-after : (c k : ℕ) (s t : List ℕ) (x : Node) → p < k → IsGoodEntry c t k x → enter (map (bump p) s) (later x) ≡ map (bump p) (enter s x)
   enter-after c k s t (file nm offset size) h g = refl
   enter-after c k s t (directory nm next) h g = ap (λ (n : ℕ). n ∷ map (bump p) s) (omega (arith, bump-min p next))
 
@@ -131,8 +131,8 @@ module _ (p : ℕ) where
   enter-between k s (file nm offset size) h = refl
   enter-between k s (directory nm next) h = rw (lt-leb k p h)
 
-  sound-after : (c k : ℕ) (dirs dirs' : List ℕ) (xs : List Node) → p < k → shut (suc k) dirs' ≡ map (bump p) (shut k dirs) → Sound c dirs k xs →
-      Sound (suc c) dirs' (suc k) (map later xs) × (shallow_from dirs' (suc k) (map later xs) ≡ shallow_from dirs k xs)
+  sound-after : (c k : ℕ) (dirs dirs' : List ℕ) (xs : List Node) → p < k → shut (suc k) dirs' ≡ map (bump p) (shut k dirs) → IsSound c dirs k xs →
+      IsSound (suc c) dirs' (suc k) (map later xs) × (shallow_from dirs' (suc k) (map later xs) ≡ shallow_from dirs k xs)
   unfolding shallow_from
   sound-after c k dirs dirs' [] h e g = (tt, refl)
   sound-after c k dirs dirs' (x ∷ xs) h e g =
@@ -141,8 +141,8 @@ module _ (p : ℕ) where
       ((g.0, good-after c k (shut k dirs) x h g.1, ih.0), refl)
 
   -- ---- an entry between p and the new one
-  module _ (c q : ℕ) (new : Node) (up : List ℕ) (p<q : p < q) (q≤c : q ≤ c) (named : GoodName (name_of new)) (fresh : Fresh q new) where
-    good_new : (new' : Node) → Fresh q new' → GoodEntry (suc c) (suc q ∷ map (bump p) up) q new'
+  module _ (c q : ℕ) (new : Node) (up : List ℕ) (p<q : p < q) (q≤c : q ≤ c) (named : IsGoodName (name_of new)) (fresh : Fresh q new) where
+    good_new : (new' : Node) → Fresh q new' → IsGoodEntry (suc c) (suc q ∷ map (bump p) up) q new'
     good_new (file nm offset size) f = f
     good_new (directory nm next) f = (omega arith, omega arith, omega arith)
 
@@ -157,8 +157,8 @@ module _ (p : ℕ) where
     top-between n [] h = omega arith
     top-between n (d ∷ ds) h = h
 
-    good-between : (k : ℕ) (ds : List ℕ) (x : Node) → p < k → GoodEntry c (ds ++ (q ∷ up)) k x →
-        GoodEntry (suc c) (ds ++ (suc q ∷ map (bump p) up)) k (earlier p k x)
+    good-between : (k : ℕ) (ds : List ℕ) (x : Node) → p < k → IsGoodEntry c (ds ++ (q ∷ up)) k x →
+        IsGoodEntry (suc c) (ds ++ (suc q ∷ map (bump p) up)) k (earlier p k x)
     good-between k ds (file nm offset size) h g = g
     good-between k ds (directory nm next) h g = rw (lt-leb k p h) (g.0, omega arith, top-between next ds g.2)
 
@@ -170,21 +170,21 @@ module _ (p : ℕ) where
     depth-new (directory nm next) = rw (length-map up (bump p))
 
     pub sound-between : (j k : ℕ) (ds : List ℕ) (xs : List Node) → k + j ≡ q → p < k → k + length xs ≡ c → AllLe q ds →
-        Sound c (ds ++ (q ∷ up)) k xs → Sound (suc c) (ds ++ (suc q ∷ map (bump p) up)) k (splice p new k j xs) ×
+        IsSound c (ds ++ (q ∷ up)) k xs → IsSound (suc c) (ds ++ (suc q ∷ map (bump p) up)) k (splice p new k j xs) ×
         (shallow_from (ds ++ (suc q ∷ map (bump p) up)) k (splice p new k j xs) ≡ (depth_ok (suc (length up)) new && shallow_from (ds ++ (q ∷ up)) k xs))
     unfolding splice shallow_from
     sound-between zero k ds xs e h l d g =
         let k≡q : k ≡ q = omega arith in
         let s : shut q (ds ++ (suc q ∷ map (bump p) up)) ≡ suc q ∷ map (bump p) up = shut-past q ds _ d ∙ shut_open q (suc q) _ (omega arith) in
-        let g' : Sound c (ds ++ (q ∷ up)) q xs = rw k≡q at g in
+        let g' : IsSound c (ds ++ (q ∷ up)) q xs = rw k≡q at g in
         let f = sound-after c q (ds ++ (q ∷ up)) (enter (suc q ∷ map (bump p) up) new) xs p<q (shut-new new fresh ∙ after-shut q up p<q ∙ ap (map (bump p)) (sym (shut-past q ds _ d ∙ shut-top))) g' in
         rw (k≡q, s, depth-new new, f.1) ((named, good_new new fresh, f.0), refl)
     sound-between (suc j) k ds [] e h l d g = absurd (omega arith)
     sound-between (suc j) k ds (x ∷ xs) e h l d g =
         let s = shut-keep k ds q up (omega arith) in
         let s' = shut-keep k ds (suc q) (map (bump p) up) (omega arith) in
-        let g₁ : GoodEntry c (shut k ds ++ (q ∷ up)) k x = rw s at g.1 in
-        let g₂ : Sound c (enter (shut k ds ++ (q ∷ up)) x) (suc k) xs = rw s at g.2 in
+        let g₁ : IsGoodEntry c (shut k ds ++ (q ∷ up)) k x = rw s at g.1 in
+        let g₂ : IsSound c (enter (shut k ds ++ (q ∷ up)) x) (suc k) xs = rw s at g.2 in
         let ih = sound-between j (suc k) (enter (shut k ds) x) xs (omega arith) (omega arith) (omega arith) (enter-AllLe c q k (shut k ds) up x (shut-AllLe q k ds d) g₁) (rw enter-append at g₂) in
         rw (
           s,
@@ -199,17 +199,17 @@ module _ (p : ℕ) where
         ((g.0, good-between k (shut k ds) x h g₁, ih.0), and-swap (shallow_entry (shut k ds ++ (q ∷ up)) x) (depth_ok (suc (length up)) new) _)
 
   -- ---- the entries up to p
-  module _ (c q : ℕ) (nm : List ℕ) (new : Node) (p<q : p < q) (q≤c : q ≤ c) (named : GoodName (name_of new)) (fresh : Fresh q new) where
+  module _ (c q : ℕ) (nm : List ℕ) (new : Node) (p<q : p < q) (q≤c : q ≤ c) (named : IsGoodName (name_of new)) (fresh : Fresh q new) where
     pub sound-before : (i j k : ℕ) (dirs : List ℕ) (xs : List Node) → k + i ≡ p → k + j ≡ q → k + length xs ≡ c →
-        get_or xs i none ≡ directory nm q → i < length xs → Sound c dirs k xs →
-        Sound (suc c) (map (bump p) dirs) k (splice p new k j xs) ×
+        get_or xs i none ≡ directory nm q → i < length xs → IsSound c dirs k xs →
+        IsSound (suc c) (map (bump p) dirs) k (splice p new k j xs) ×
         (shallow_from (map (bump p) dirs) k (splice p new k j xs) ≡ (depth_ok (suc (length (open_at dirs k xs i))) new && shallow_from dirs k xs))
     unfolding splice open_at shallow_from
     sound-before i zero k dirs xs e₁ e₂ l x h g = absurd (omega arith)
     sound-before i (suc j) k dirs [] e₁ e₂ l x h g = absurd (omega arith)
     sound-before zero (suc j) k dirs (y ∷ xs) e₁ e₂ l x h g =
         let b : bump p q ≡ suc q = omega (arith, bump-min p q) in
-        let g₂ : Sound c (q ∷ shut k dirs) (suc k) xs = rw x at g.2 in
+        let g₂ : IsSound c (q ∷ shut k dirs) (suc k) xs = rw x at g.2 in
         let f = sound-between c q new (shut k dirs) p<q q≤c named fresh j (suc k) [] xs (omega arith) (omega arith) (omega arith) tt g₂ in
         rw (before-shut k dirs (omega arith), name-earlier p k y, (same_length (shut k dirs) (map (bump p) (shut k dirs)) y (length-map (shut k dirs) (bump p))).1 k, enter-before k (shut k dirs) y (omega arith)) (
           (g.0, good-before c k (shut k dirs) y (omega arith) g.1, rw (x, b) f.0),

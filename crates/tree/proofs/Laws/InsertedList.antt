@@ -3,18 +3,18 @@ use Rattle.std.specs.Prelude.{ℕ, zero, suc, ◌+◌, ◌-◌, ◌^◌, ◌<◌
 use Rattle.std.proofs.Common.{sym, ap, arith, add-zero, ltb-true, leb-true, leb-false, ltb-false, lt-ltb, le-ltb}
 use Rattle.std.proofs.lemmas.List.{length-map}
 use Rattle.tree.specs.Table.{Node, file, directory, name_of, none, encloses}
-use Rattle.tree.specs.Inner.WellFormed.{WellFormed}
+use Rattle.tree.specs.Inner.WellFormed.{IsWellFormed}
 use Rattle.tree.specs.Lookup.{is_directory, next_of}
 use Rattle.tree.specs.Insert.{bump, earlier, later, splice, insert_at, shifted}
 use Rattle.tree.proofs.Laws.Nesting.{Inside}
 use Rattle.tree.proofs.Laws.WellNested.{next-bounds, nests}
 
 -- directories nest: each ends behind it, and where the directories around it end or before
-pub record Nested (nodes : List Node) : Type 0 where
+pub record IsNested (nodes : List Node) : Type 0 where
   pub bounds : (k : ℕ) → k < length nodes → is_directory (get_or nodes k none) ≡ true → (k < next_of (get_or nodes k none)) × (next_of (get_or nodes k none) ≤ length nodes)
   pub inside : (d k : ℕ) → Inside nodes d k → k < length nodes → next_of (get_or nodes k none) ≤ next_of (get_or nodes d none)
 
-pub well-nested : (nodes : List Node) → WellFormed nodes → Nested nodes
+pub well-nested : (nodes : List Node) → IsWellFormed nodes → IsNested nodes
 well-nested nodes w = record { bounds = λ k h d. bounds k h (get_or nodes k none) refl d; inside = λ d k i h. inside d k i h (get_or nodes k none) refl }
   where
     bounds : (k : ℕ) → k < length nodes → (x : Node) → get_or nodes k none ≡ x → is_directory x ≡ true → (k < next_of (get_or nodes k none)) × (next_of (get_or nodes k none) ≤ length nodes)
@@ -101,7 +101,7 @@ splice-after p new k (suc j) (x ∷ xs) zero h l = absurd (omega arith)
 splice-after p new k (suc j) (x ∷ xs) (suc i) h l = splice-after p new (suc k) j xs i (omega arith) (omega arith)
 
 -- ---- the whole tree; p is a directory with next q
-module _ (nodes : List Node) (p q : ℕ) (nm : List ℕ) (new : Node) (w : Nested nodes) (here : get_or nodes p none ≡ directory nm q) (p<n : p < length nodes) where
+module _ (nodes : List Node) (p q : ℕ) (nm : List ℕ) (new : Node) (w : IsNested nodes) (here : get_or nodes p none ≡ directory nm q) (p<n : p < length nodes) where
   pub q≤n : q ≤ length nodes
   q≤n = rw here at (w.bounds p p<n (rw here)).1
 

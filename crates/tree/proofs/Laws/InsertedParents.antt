@@ -6,7 +6,7 @@ use Rattle.tree.specs.Table.{Node, file, directory, none, encloses, parent_below
 use Rattle.tree.specs.Lookup.{next_of}
 use Rattle.tree.specs.Insert.{bump, earlier, later, insert_at, shifted}
 use Rattle.tree.proofs.Laws.Nesting.{parent-step, parent-lower, below-lt, parent_is, ended}
-use Rattle.tree.proofs.Laws.InsertedList.{Nested, encloses-is, Fresh, bump-min, shifted-min, ltb-suc, q≤n, p<q, inserted-before, inserted-at, inserted-after}
+use Rattle.tree.proofs.Laws.InsertedList.{IsNested, encloses-is, Fresh, bump-min, shifted-min, ltb-suc, q≤n, p<q, inserted-before, inserted-at, inserted-after}
 
 -- ---- every other entry keeps its parent
 
@@ -52,7 +52,7 @@ pub new-ended : (q k : ℕ) (x : Node) → Fresh q x → q ≤ k → encloses x 
 new-ended q k (file nm offset size) f h = refl
 new-ended q k (directory nm n) f h = le-ltb (suc k) n (omega arith)
 
-module _ (nodes : List Node) (p q : ℕ) (nm : List ℕ) (new : Node) (w : Nested nodes) (here : get_or nodes p none ≡ directory nm q) (p<n : p < length nodes) where
+module _ (nodes : List Node) (p q : ℕ) (nm : List ℕ) (new : Node) (w : IsNested nodes) (here : get_or nodes p none ≡ directory nm q) (p<n : p < length nodes) where
   -- a directory up to p that ends past p ends at q or later
   pub around : (j : ℕ) → j ≤ p → p < next_of (get_or nodes j none) → q ≤ next_of (get_or nodes j none)
   around j h l = go (ltb j p) refl

@@ -7,7 +7,7 @@ use Rattle.refusal.specs.Laws.Tests.{lt-or-le}
 use Rattle.refusal.specs.declared.Refusal.{Refusal}
 use Rattle.refusal.specs.declared.Refusal.TheVariants.{NoSuchEntry, ExpectedDirectory, NotFound}
 use Rattle.tree.specs.Table.{Node, file, directory, none, parent_of}
-use Rattle.tree.specs.Inner.WellFormed.{WellFormed}
+use Rattle.tree.specs.Inner.WellFormed.{IsWellFormed}
 use Rattle.tree.specs.Lookup.{is_directory, components, child_of, stays, goes_back, and_then, step_back, follow, lookup}
 use Rattle.tree.proofs.Laws.Nesting.{parent-before, parent-root}
 use Rattle.tree.proofs.Laws.WellNested.{next-bounds}
@@ -94,7 +94,7 @@ up-end nodes start k = refl
 
 -- ---- what is found is an entry of the tree
 
-pub child-inside : (nodes : List Node) (d : ℕ) (nm : List ℕ) (k : ℕ) → WellFormed nodes → d < length nodes → child_of nodes d nm ≡ Ok k → k < length nodes
+pub child-inside : (nodes : List Node) (d : ℕ) (nm : List ℕ) (k : ℕ) → IsWellFormed nodes → d < length nodes → child_of nodes d nm ≡ Ok k → k < length nodes
 child-inside nodes d nm k w h e = go (get_or nodes d none) refl
   where
     go : (x : Node) → get_or nodes d none ≡ x → k < length nodes
@@ -103,7 +103,7 @@ child-inside nodes d nm k w h e = go (get_or nodes d none) refl
         let b : k < n = rw q at (child-is nodes d nm k e).before in
         omega (arith, (next-bounds nodes d n a w q h).1)
 
-up-inside : (nodes : List Node) (start : ℕ) (cs : List (List ℕ)) (k j : ℕ) → WellFormed nodes → k < length nodes → follow_up nodes start k cs ≡ Ok j → j < length nodes
+up-inside : (nodes : List Node) (start : ℕ) (cs : List (List ℕ)) (k j : ℕ) → IsWellFormed nodes → k < length nodes → follow_up nodes start k cs ≡ Ok j → j < length nodes
 unfolding follow_up
 up-inside nodes start [] k j w h e = let k≡ : k ≡ j = cc in omega arith
 up-inside nodes start (c ∷ cs) k j w h e =
@@ -124,7 +124,7 @@ up-inside nodes start (c ∷ cs) k j w h e =
     go true false false t (Ok i) a≡ ih q = ih i (child-inside nodes k c i w h a≡) q
     go true false false t (Err r) a≡ ih q = let z : ◌≡◌ {A = ℕ} 0 1 = cc in absurd (omega arith)
 
-pub lookup-inside : (nodes : List Node) (start : ℕ) (path : List ℕ) (j : ℕ) → WellFormed nodes → lookup nodes start path ≡ Ok j → j < length nodes
+pub lookup-inside : (nodes : List Node) (start : ℕ) (path : List ℕ) (j : ℕ) → IsWellFormed nodes → lookup nodes start path ≡ Ok j → j < length nodes
 lookup-inside nodes start path j w e = go (ltb start (length nodes)) refl (sym (lookup-up nodes start path) ∙ e)
   where
     go : (t : Bool) → ltb start (length nodes) ≡ t → cond t (follow_up nodes start start (components path)) (Err NoSuchEntry) ≡ Ok j → j < length nodes

@@ -7,7 +7,7 @@ use Rattle.tree.specs.Table.{Node, file, directory, none, encloses}
 use Rattle.tree.specs.Lookup.{is_directory, next_of}
 use Rattle.tree.specs.Insert.{bump, earlier, later, insert_at}
 use Rattle.tree.proofs.Laws.Nesting.{Inside}
-use Rattle.tree.proofs.Laws.InsertedList.{Nested, encloses-is, Fresh, bump-min, q≤n, p<q, length_inserted, inserted-before, inserted-at, inserted-after}
+use Rattle.tree.proofs.Laws.InsertedList.{IsNested, encloses-is, Fresh, bump-min, q≤n, p<q, length_inserted, inserted-before, inserted-at, inserted-after}
 use Rattle.tree.proofs.Laws.InsertedParents.{later_same, new-ended, between, encl-before, encl-after}
 
 -- ---- directories still nest
@@ -70,7 +70,7 @@ pub place : (q k : ℕ) → Place q k
 place q zero = ⊎_elim (λ (h : 0 < q). before h) (λ (h : q ≤ 0). here (omega arith)) (lt-or-le 0 q)
 place q (suc j) = ⊎_elim (λ (h : j < q). ⊎_elim (λ (l : suc j < q). before l) (λ (l : q ≤ suc j). here (omega arith)) (lt-or-le (suc j) q)) (λ (h : q ≤ j). after j refl h) (lt-or-le j q)
 
-module _ (nodes : List Node) (p q : ℕ) (nm : List ℕ) (new : Node) (w : Nested nodes) (dir : get_or nodes p none ≡ directory nm q) (p<n : p < length nodes) (fresh : Fresh q new) where
+module _ (nodes : List Node) (p q : ℕ) (nm : List ℕ) (new : Node) (w : IsNested nodes) (dir : get_or nodes p none ≡ directory nm q) (p<n : p < length nodes) (fresh : Fresh q new) where
   abbrev N : List Node
   N = insert_at p new nodes
 
@@ -154,5 +154,5 @@ module _ (nodes : List Node) (p q : ℕ) (nm : List ℕ) (new : Node) (w : Neste
       let f : suc (next_of (get_or nodes j none)) ≤ next_of (get_or N d none) = later-inside d j (place q d) (omega (arith, i.0)) l j< (rw k≡ at i.1) in
       rw e (omega (arith, later-most (get_or nodes j none)))
 
-  pub nested-insert : Nested N
+  pub nested-insert : IsNested N
   nested-insert = record { bounds = λ k h d. nested-bounds k (place q k) h d; inside = λ d k i h. nested-inside d k (place q k) i h }

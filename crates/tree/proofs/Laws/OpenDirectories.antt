@@ -4,7 +4,7 @@ use Rattle.std.proofs.Common.{ap, ◌∙◌, arith, add-zero, one-add, ltb-true,
 use mathlib.Core.List.{List, [], ◌∷◌, tail, head-eq_of_cons-eq, nil≢cons}
 use Rattle.std.proofs.lemmas.Bool.{lt-leb}
 use Rattle.tree.specs.Table.{Node, file, directory, name_of, none, shut, enter, encloses, parent_below}
-use Rattle.tree.specs.Inner.WellFormed.{GoodName, GoodEntry, Sound, WellFormed}
+use Rattle.tree.specs.Inner.WellFormed.{IsGoodName, IsGoodEntry, IsSound, IsWellFormed}
 use Rattle.tree.specs.Lookup.{next_of}
 use Rattle.tree.specs.Inner.Depths.{open_dirs}
 
@@ -15,8 +15,8 @@ open_at dirs k [] (suc i) = []
 open_at dirs k (x ∷ xs) (suc i) = open_at (enter (shut k dirs) x) (suc k) xs i
 
 -- what holds of entry k + i
-pub sound-at : (c k : ℕ) (dirs : List ℕ) (xs : List Node) (i : ℕ) → Sound c dirs k xs → i < length xs →
-    GoodName (name_of (get_or xs i none)) × GoodEntry c (open_at dirs k xs i) (k + i) (get_or xs i none)
+pub sound-at : (c k : ℕ) (dirs : List ℕ) (xs : List Node) (i : ℕ) → IsSound c dirs k xs → i < length xs →
+    IsGoodName (name_of (get_or xs i none)) × IsGoodEntry c (open_at dirs k xs i) (k + i) (get_or xs i none)
 unfolding open_at
 sound-at c k dirs [] i g h = absurd (omega arith)
 sound-at c k dirs (x ∷ xs) zero g h = rw (add-zero k) (g.0, g.1)
@@ -64,7 +64,7 @@ sorted-shut m (n ∷ dirs) s = go (leb n m) (sorted-shut m dirs s.1)
     go true ih = ih
     go false ih = s
 
-sorted-enter : (c k : ℕ) (dirs : List ℕ) (x : Node) → GoodEntry c dirs k x → Sorted dirs → Sorted (enter dirs x)
+sorted-enter : (c k : ℕ) (dirs : List ℕ) (x : Node) → IsGoodEntry c dirs k x → Sorted dirs → Sorted (enter dirs x)
 sorted-enter c k dirs (file nm offset size) g h = h
 sorted-enter c k [] (directory nm next) g h = (tt, tt)
 sorted-enter c k (n ∷ dirs) (directory nm next) g h = ((g.2, ge_trans next n dirs g.2 h.0), h)
@@ -87,11 +87,11 @@ unfolding open_dirs keep
 open_dirs-keep nodes k zero = refl
 open_dirs-keep nodes k (suc i) = rw (open_dirs-keep nodes k i) (encloses-step (get_or nodes i none) k (open_dirs nodes k i))
 
-enter-keep : (c k : ℕ) (dirs : List ℕ) (x : Node) → GoodEntry c dirs k x → cond (encloses x k) (next_of x ∷ dirs) dirs ≡ enter dirs x
+enter-keep : (c k : ℕ) (dirs : List ℕ) (x : Node) → IsGoodEntry c dirs k x → cond (encloses x k) (next_of x ∷ dirs) dirs ≡ enter dirs x
 enter-keep c k dirs (file nm offset size) g = refl
 enter-keep c k dirs (directory nm next) g = rw (lt-ltb k next g.0)
 
-open_step : (nodes : List Node) (c k : ℕ) (dirs : List ℕ) (x : Node) → get_or nodes k none ≡ x → Sorted dirs → open_dirs nodes k k ≡ shut k dirs → GoodEntry c (shut k dirs) k x →
+open_step : (nodes : List Node) (c k : ℕ) (dirs : List ℕ) (x : Node) → get_or nodes k none ≡ x → Sorted dirs → open_dirs nodes k k ≡ shut k dirs → IsGoodEntry c (shut k dirs) k x →
     open_dirs nodes (suc k) (suc k) ≡ shut (suc k) (enter (shut k dirs) x)
 unfolding open_dirs
 open_step nodes c k dirs x e s h g =
@@ -99,7 +99,7 @@ open_step nodes c k dirs x e s h g =
     (keep-shut (suc k) (enter (shut k dirs) x) (sorted-enter c k (shut k dirs) x g (sorted-shut k dirs s)))
 
 -- the stack at entry k + i is the nexts of the directories it is in, and they rise outwards
-open-at : (nodes : List Node) (c k : ℕ) (dirs : List ℕ) (xs : List Node) → ((i : ℕ) → get_or nodes (k + i) none ≡ get_or xs i none) → Sound c dirs k xs → Sorted dirs →
+open-at : (nodes : List Node) (c k : ℕ) (dirs : List ℕ) (xs : List Node) → ((i : ℕ) → get_or nodes (k + i) none ≡ get_or xs i none) → IsSound c dirs k xs → Sorted dirs →
     open_dirs nodes k k ≡ shut k dirs → (i : ℕ) → i < length xs → (open_dirs nodes (k + i) (k + i) ≡ open_at dirs k xs i) × Sorted (open_at dirs k xs i)
 unfolding open_at
 open-at nodes c k dirs [] a g s e i h = absurd (omega arith)
@@ -115,7 +115,7 @@ root-open : (r : Node) (xs : List Node) (c : ℕ) → r ≡ directory [] c → 1
 unfolding open_dirs shut
 root-open r xs c e h = rw (e, lt-ltb 1 c h, lt-leb c 1 h)
 
-pub stack : (nodes : List Node) → WellFormed nodes → (i : ℕ) → suc i < length nodes →
+pub stack : (nodes : List Node) → IsWellFormed nodes → (i : ℕ) → suc i < length nodes →
     (open_dirs nodes (suc i) (suc i) ≡ open_at (length nodes ∷ []) 1 (tail nodes) i) × Sorted (open_at (length nodes ∷ []) 1 (tail nodes) i)
 unfolding open_dirs
 stack [] w i h = absurd (omega arith)
@@ -124,7 +124,7 @@ stack (r ∷ xs) w i h =
     rw one-add at (open-at (r ∷ xs) (suc (length xs)) 1 (suc (length xs) ∷ []) xs (λ j. rw one-add) w.sound (tt, tt) e i (omega arith))
 
 -- the stack at an entry is the nexts of the directories that it is in
-pub stack_is : (nodes : List Node) → WellFormed nodes → (i : ℕ) → suc i < length nodes → open_dirs nodes (suc i) (suc i) ≡ open_at (length nodes ∷ []) 1 (tail nodes) i
+pub stack_is : (nodes : List Node) → IsWellFormed nodes → (i : ℕ) → suc i < length nodes → open_dirs nodes (suc i) (suc i) ≡ open_at (length nodes ∷ []) 1 (tail nodes) i
 stack_is nodes w i h = (stack nodes w i h).0
 
 -- so the walk's test is against the parent's next

@@ -11,7 +11,7 @@ use Rattle.std.proofs.Math.Dec.{ltb, eqb}
 use Rattle.endian.specs.Bytes.{be32_bytes, put}
 use Rattle.refusal.specs.Laws.Tests.{lt-or-le}
 use Rattle.tree.specs.Table.{Node, file, directory, name_of, none, name_offset, size_or_next, node_bytes, parent_of, texts_of, encode}
-use Rattle.tree.specs.Inner.WellFormed.{WellFormed}
+use Rattle.tree.specs.Inner.WellFormed.{IsWellFormed}
 use Rattle.tree.specs.Lookup.{next_of}
 use Rattle.tree.proofs.Laws.WellNested.{next-bounds}
 use Rattle.tree.specs.Insert.{earlier, later, splice, insert_at, shifted, placed, set_place}
@@ -138,7 +138,7 @@ next-read : (tab : List ℕ) (k par o n : ℕ) (nm : List ℕ) (x : Node) → Fi
 next-read tab k par o n nm (file a b c) f e = let z : ◌≡◌ {A = ℕ} 0 1 = cc in absurd (omega arith)
 next-read tab k par o n nm (directory a m) f e = f.3 ∙ ap next_of e
 
-module _ (nodes : List Node) (p q : ℕ) (nm : List ℕ) (new : Node) (w : WellFormed nodes) (here : get_or nodes p none ≡ directory nm q) (p<n : p < length nodes) (fresh : Fresh q new)
+module _ (nodes : List Node) (p q : ℕ) (nm : List ℕ) (new : Node) (w : IsWellFormed nodes) (here : get_or nodes p none ≡ directory nm q) (p<n : p < length nodes) (fresh : Fresh q new)
     (few : length nodes < 2 ^ 32) (short : length (texts_of (tail nodes)) < 2 ^ 24) where
   abbrev N : List Node
   N = insert_at p new nodes

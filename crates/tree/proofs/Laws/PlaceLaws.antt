@@ -7,7 +7,7 @@ use mathlib.Core.List.{List, [], ◌∷◌, tail, head-eq_of_cons-eq, nil≢cons
 use Rattle.std.proofs.Math.ListN.{length, length-set}
 use Rattle.std.proofs.Math.Seq.{get_or-set_same, get_or-set_other}
 use Rattle.tree.specs.Table.{Node, file, directory, name_of, none, shut, enter, encloses, parent_below, parent_of, texts_of, shallow_entry, shallow_from, shallow, limits}
-use Rattle.tree.specs.Inner.WellFormed.{GoodEntry, Sound, WellFormed}
+use Rattle.tree.specs.Inner.WellFormed.{IsGoodEntry, IsSound, IsWellFormed}
 use Rattle.tree.specs.Insert.{placed, set_place}
 
 module _ (offset size : ℕ) where
@@ -27,13 +27,13 @@ module _ (offset size : ℕ) where
   encloses-placed (file nm a b) k = refl
   encloses-placed (directory nm next) k = refl
 
-  good_placed : (c k : ℕ) (dirs : List ℕ) (x : Node) → offset < 2 ^ 32 → size < 2 ^ 32 → GoodEntry c dirs k x → GoodEntry c dirs k (placed offset size x)
+  good_placed : (c k : ℕ) (dirs : List ℕ) (x : Node) → offset < 2 ^ 32 → size < 2 ^ 32 → IsGoodEntry c dirs k x → IsGoodEntry c dirs k (placed offset size x)
   good_placed c k dirs (file nm a b) ho hs g = (ho, hs)
   good_placed c k dirs (directory nm next) ho hs g = g
 
   -- ---- entries k and on, where the i-th of them is changed
 
-  sound-set : (c k : ℕ) (dirs : List ℕ) (xs : List Node) (i : ℕ) → offset < 2 ^ 32 → size < 2 ^ 32 → Sound c dirs k xs → Sound c dirs k (set xs i (placed offset size (get_or xs i none)))
+  sound-set : (c k : ℕ) (dirs : List ℕ) (xs : List Node) (i : ℕ) → offset < 2 ^ 32 → size < 2 ^ 32 → IsSound c dirs k xs → IsSound c dirs k (set xs i (placed offset size (get_or xs i none)))
   sound-set c k dirs [] i ho hs g = tt
   sound-set c k dirs (x ∷ xs) zero ho hs g = rw (name-placed x, enter-placed (shut k dirs) x) (g.0, good_placed c k (shut k dirs) x ho hs g.1, g.2)
   sound-set c k dirs (x ∷ xs) (suc i) ho hs g = (g.0, g.1, sound-set c (suc k) (enter (shut k dirs) x) xs i ho hs g.2)
@@ -107,7 +107,7 @@ module _ (offset size : ℕ) where
   unfolding limits
   limits-set_place k nodes words = rw (length-set_place k nodes, texts-set_place k nodes, shallow-set_place k nodes)
 
-  pub set_place-sound : (k : ℕ) (nodes : List Node) → WellFormed nodes → offset < 2 ^ 32 → size < 2 ^ 32 → WellFormed (set_place k offset size nodes)
+  pub set_place-sound : (k : ℕ) (nodes : List Node) → IsWellFormed nodes → offset < 2 ^ 32 → size < 2 ^ 32 → IsWellFormed (set_place k offset size nodes)
   set_place-sound k [] w ho hs = absurd (nil≢cons w.root)
   set_place-sound zero (r ∷ xs) w ho hs =
       let e : r ≡ directory [] (suc (length xs)) = head-eq_of_cons-eq w.root in

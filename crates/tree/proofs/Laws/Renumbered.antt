@@ -8,7 +8,7 @@ use Rattle.refusal.specs.declared.Refusal.TheVariants.{NoSuchEntry, ExpectedDire
 use Rattle.tree.specs.Table.{Node, file, directory, none}
 use Rattle.tree.specs.Lookup.{is_directory, next_of, child_of, stays, goes_back, and_then, step_back, follow, components, lookup}
 use Rattle.tree.specs.Insert.{insert_at, shifted}
-use Rattle.tree.proofs.Laws.InsertedList.{Nested, Fresh, shifted-min, length_inserted, p<q}
+use Rattle.tree.proofs.Laws.InsertedList.{IsNested, Fresh, shifted-min, length_inserted, p<q}
 use Rattle.tree.proofs.Laws.Children.{Child, child-is}
 use Rattle.tree.proofs.Laws.ChildInsert.{moved, shifted-low, kept-kind, child-moved, child-kept}
 
@@ -33,7 +33,7 @@ renumbered-then A B C φ ψ r s = record {
 }
 
 -- LAW: an insert
-pub renumbered-insert : (nodes : List Node) (p q : ℕ) (nm : List ℕ) (new : Node) → Nested nodes → get_or nodes p none ≡ directory nm q → p < length nodes → Fresh q new →
+pub renumbered-insert : (nodes : List Node) (p q : ℕ) (nm : List ℕ) (new : Node) → IsNested nodes → get_or nodes p none ≡ directory nm q → p < length nodes → Fresh q new →
     Renumbered nodes (insert_at p new nodes) (shifted q)
 renumbered-insert nodes p q nm new w dir p<n fresh = record {
   inside = λ k h. omega (arith, length_inserted nodes p q nm new w dir p<n, shifted-min q k);
@@ -58,11 +58,11 @@ pub from_start : (start : ℕ) (trail : List ℕ) (k : ℕ) → Falling start tr
 from_start start [] k f = omega arith
 from_start start (j ∷ trail) k f = omega (arith, from_start start trail j f.1)
 
-pub child-within : (nodes : List Node) (d : ℕ) (c : List ℕ) (j : ℕ) → Nested nodes → d < length nodes → is_directory (get_or nodes d none) ≡ true → child_of nodes d c ≡ Ok j → (d < j) × (j < length nodes)
+pub child-within : (nodes : List Node) (d : ℕ) (c : List ℕ) (j : ℕ) → IsNested nodes → d < length nodes → is_directory (get_or nodes d none) ≡ true → child_of nodes d c ≡ Ok j → (d < j) × (j < length nodes)
 child-within nodes d c j n h k e = let x : Child nodes d c j = child-is nodes d c j e in (x.after, omega (arith, (n.bounds d h k).1, x.before))
 
 -- LAW: a path that leads to j leads to φ j
-pub followed : (M F : List Node) (φ : ℕ → ℕ) (start : ℕ) → Nested M → Renumbered M F φ → (cs : List (List ℕ)) (trail : List ℕ) (k j : ℕ) → k < length M → Falling start trail k →
+pub followed : (M F : List Node) (φ : ℕ → ℕ) (start : ℕ) → IsNested M → Renumbered M F φ → (cs : List (List ℕ)) (trail : List ℕ) (k j : ℕ) → k < length M → Falling start trail k →
     follow M trail k cs ≡ Ok j → follow F (map φ trail) (φ k) cs ≡ Ok (φ j)
 unfolding follow
 followed M F φ start n r [] trail k j h f e = let k≡ : k ≡ j = cc in rw k≡
@@ -82,7 +82,7 @@ followed M F φ start n r (c ∷ cs) trail k j h f e =
         rw (r.children k c i h a≡) (ih (k ∷ t) i x.1 (x.0, u) q)
     go true d false false t u (Err w) a≡ ih q = let z : ◌≡◌ {A = ℕ} 0 1 = cc in absurd (omega arith)
 
-pub looked-up : (M F : List Node) (φ : ℕ → ℕ) → Nested M → Renumbered M F φ → (start : ℕ) (path : List ℕ) (j : ℕ) → lookup M start path ≡ Ok j → lookup F (φ start) path ≡ Ok (φ j)
+pub looked-up : (M F : List Node) (φ : ℕ → ℕ) → IsNested M → Renumbered M F φ → (start : ℕ) (path : List ℕ) (j : ℕ) → lookup M start path ≡ Ok j → lookup F (φ start) path ≡ Ok (φ j)
 unfolding lookup
 looked-up M F φ n r start path j e = go (ltb start (length M)) refl e
   where

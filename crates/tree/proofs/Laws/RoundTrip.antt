@@ -14,7 +14,7 @@ use Rattle.refusal.specs.declared.Refusal.TheVariants.{LimitOrMemory}
 use Rattle.refusal.specs.Refusal.{refuse}
 use Rattle.refusal.specs.Laws.Chains.{refuse-passed}
 use Rattle.tree.specs.Table.{Node, directory, kind, size_or_next, count, nodes_from, nodes_of, entries_verdict, walk, check, node_bytes, entries_bytes, texts_of, encode, shallow_from, shallow, limits}
-use Rattle.tree.specs.Inner.WellFormed.{Sound, WellFormed}
+use Rattle.tree.specs.Inner.WellFormed.{IsSound, IsWellFormed}
 use Rattle.tree.proofs.Laws.WrittenEntries.{length-entries_bytes, length-encode, entries-accepted, Reads, reads, reads-nodes, reads-walk, last-append, last-text, not-unended}
 
 -- ---- the whole table, of the root and the entries xs
@@ -58,7 +58,7 @@ module _ (xs : List Node) (few : suc (length xs) < 2 ^ 32) where
   unfolding encode
   tab-last h = last-append front (texts_of xs) (omega (arith, texts-length)) ∙ last-text xs
 
-  module _ (g : Sound (suc (length xs)) (suc (length xs) ∷ []) 1 xs) where
+  module _ (g : IsSound (suc (length xs)) (suc (length xs) ∷ []) 1 xs) where
     tab-reads : length (texts_of xs) ≤ 2 ^ 24 → Reads tab (suc (length xs)) 1 xs
     unfolding encode
     tab-reads texts =
@@ -93,11 +93,11 @@ module _ (xs : List Node) (few : suc (length xs) < 2 ^ 32) where
             let r : Reads tab (suc (length xs)) 1 xs = tab-reads (omega arith) in
             rw (reads-nodes tab (suc (length xs)) 1 xs r, reads-walk tab (suc (length xs)) 1 (suc (length xs) ∷ []) xs r g)
 
-pub round_trip : (nodes : List Node) → WellFormed nodes → length nodes < 2 ^ 32 → length (texts_of (tail nodes)) ≤ 2 ^ 24 → nodes_of (encode nodes) ≡ nodes
+pub round_trip : (nodes : List Node) → IsWellFormed nodes → length nodes < 2 ^ 32 → length (texts_of (tail nodes)) ≤ 2 ^ 24 → nodes_of (encode nodes) ≡ nodes
 round_trip [] w few texts = cc w.root
 round_trip (x ∷ xs) w few texts = rw w.root (back xs few w.sound texts)
 
-pub check-limits : (nodes : List Node) (words : ℕ) → WellFormed nodes → length nodes < 2 ^ 32 → check (encode nodes) words ≡ limits nodes words
+pub check-limits : (nodes : List Node) (words : ℕ) → IsWellFormed nodes → length nodes < 2 ^ 32 → check (encode nodes) words ≡ limits nodes words
 check-limits [] words w few = absurd (nil≢cons w.root)
 check-limits (x ∷ xs) words w few = rw w.root (judged xs few w.sound words)
 
@@ -124,8 +124,8 @@ limits-within nodes words w =
     simp (le-ltb 16384 (length nodes) w.few, le-ltb 1048576 (length (texts_of (tail nodes))) w.texts, le-ltb words (4 * (length nodes + 2)) w.room, w.depth)
 
 -- a tree within the limits: its table is accepted, and reads as the tree
-pub written-accepted : (nodes : List Node) (words : ℕ) → WellFormed nodes → limits nodes words ≡ Ok tt → check (encode nodes) words ≡ Ok tt
+pub written-accepted : (nodes : List Node) (words : ℕ) → IsWellFormed nodes → limits nodes words ≡ Ok tt → check (encode nodes) words ≡ Ok tt
 written-accepted nodes words w l = check-limits nodes words w (omega (arith, (within-limits nodes words l).few)) ∙ l
 
-pub written-reads : (nodes : List Node) (words : ℕ) → WellFormed nodes → limits nodes words ≡ Ok tt → nodes_of (encode nodes) ≡ nodes
+pub written-reads : (nodes : List Node) (words : ℕ) → IsWellFormed nodes → limits nodes words ≡ Ok tt → nodes_of (encode nodes) ≡ nodes
 written-reads nodes words w l = let i : Within nodes words = within-limits nodes words l in round_trip nodes w (omega arith) (omega arith)

@@ -4,7 +4,7 @@ use Rattle.std.specs.Prelude.{ℕ, suc, ◌+◌, ◌-◌, ◌*◌, ◌<◌, ◌�
 use Rattle.std.proofs.Common.{sym, ap, ◌∙◌, arith, length-append, take-append-drop}
 use mathlib.Core.List.{List, ◌∷◌, ◌++◌, tail}
 use Rattle.tree.specs.Table.{Node, directory, name_of, none, texts_of, encode}
-use Rattle.tree.specs.Inner.WellFormed.{WellFormed}
+use Rattle.tree.specs.Inner.WellFormed.{IsWellFormed}
 use Rattle.tree.specs.Insert.{splice, insert_at}
 use Rattle.tree.proofs.Laws.InsertLaws.{length-insert}
 use Rattle.tree.proofs.Laws.PatchLaws.{texts-splice, tail-splice, length-tail}
@@ -29,7 +29,7 @@ size-whole nodes = omega (arith, start-end nodes, length-encode nodes)
 
 -- ---- one entry more
 
-module _ (nodes : List Node) (p q : ℕ) (nm : List ℕ) (new : Node) (w : WellFormed nodes) (dir : get_or nodes p none ≡ directory nm q) (p<n : p < length nodes) where
+module _ (nodes : List Node) (p q : ℕ) (nm : List ℕ) (new : Node) (w : IsWellFormed nodes) (dir : get_or nodes p none ≡ directory nm q) (p<n : p < length nodes) where
   tail-is : tail (insert_at p new nodes) ≡ splice p new 1 (q - 1) (tail nodes)
   unfolding insert_at
   tail-is = let b = next-bounds nodes p q nm w dir p<n in rw dir (tail-splice p new q nodes (omega arith) b.1)

@@ -7,7 +7,7 @@ use Rattle.std.proofs.Math.Seq.{split_at, take-length}
 use Rattle.endian.specs.Bytes.{be24, be32}
 use Rattle.endian.specs.Laws.Stored.{be24-value, be32-value}
 use Rattle.tree.specs.Table.{Node, file, directory, name_of, none, kind, name_offset, offset_or_parent, size_or_next, nodes_of, node_bytes, parent_below, parent_of, entries_bytes, texts_of, encode}
-use Rattle.tree.specs.Inner.WellFormed.{GoodEntry, WellFormed}
+use Rattle.tree.specs.Inner.WellFormed.{IsGoodEntry, IsWellFormed}
 use Rattle.tree.proofs.Laws.WrittenEntries.{length-node_bytes, kind-is, name_offset-is, word-is, drop_past}
 use Rattle.tree.proofs.Laws.Nesting.{parent-most}
 use Rattle.tree.proofs.Laws.WellNested.{root_is, entry_at}
@@ -150,15 +150,15 @@ fields_read tab k p o (file nm offset size) r e hp ho f =
 fields_read tab k p o (directory nm next) r e hp ho f =
     (kind-is tab k _ e, name_offset-is tab k _ e ∙ be24-value o ho, word-is tab k _ e 4 ∙ be32-value p hp, word-is tab k _ e 8 ∙ be32-value next f)
 
-good-fits : (c k : ℕ) (dirs : List ℕ) (x : Node) → c < 2 ^ 32 → GoodEntry c dirs k x → Fits32 x
+good-fits : (c k : ℕ) (dirs : List ℕ) (x : Node) → c < 2 ^ 32 → IsGoodEntry c dirs k x → Fits32 x
 good-fits c k dirs (file nm offset size) h g = g
 good-fits c k dirs (directory nm next) h g = omega arith
 
-pub fits : (nodes : List Node) (k : ℕ) → WellFormed nodes → k < length nodes → length nodes < 2 ^ 32 → Fits32 (get_or nodes k none)
+pub fits : (nodes : List Node) (k : ℕ) → IsWellFormed nodes → k < length nodes → length nodes < 2 ^ 32 → Fits32 (get_or nodes k none)
 fits nodes zero w h few = rw (root_is nodes w) few
 fits nodes (suc i) w h few = good-fits (length nodes) (suc i) (open_at (length nodes ∷ []) 1 (tail nodes) i) (get_or nodes (suc i) none) few (entry_at nodes i w h).1
 
-pub written-fields : (nodes : List Node) (k : ℕ) → WellFormed nodes → length nodes < 2 ^ 32 → length (texts_of (tail nodes)) < 2 ^ 24 → k < length nodes →
+pub written-fields : (nodes : List Node) (k : ℕ) → IsWellFormed nodes → length nodes < 2 ^ 32 → length (texts_of (tail nodes)) < 2 ^ 24 → k < length nodes →
     Fields (encode nodes) k (parent_of nodes k) (text_start nodes k) (get_or nodes k none)
 unfolding entry_bytes
 written-fields nodes k w few texts h =

@@ -4,7 +4,7 @@ use Rattle.std.proofs.Common.{arith}
 use Rattle.endian.specs.Bytes.{be24_bytes, be32_bytes, AllBytes}
 use Rattle.tree.specs.Table.{Node, file, directory, name_of, every, plain, shut, enter, node_bytes, parent_of, entries_bytes, texts_of, encode}
 use Rattle.tree.specs.Units.{within}
-use Rattle.tree.specs.Inner.WellFormed.{Sound, WellFormed}
+use Rattle.tree.specs.Inner.WellFormed.{IsSound, IsWellFormed}
 use Rattle.tree.proofs.Laws.UnitLaws.{within-is, plain-bytes}
 use Rattle.refusal.specs.Laws.Tests.{and_left, and_right}
 
@@ -49,13 +49,13 @@ entries-all nodes k o [] = all_nil
 entries-all nodes k o (x ∷ xs) =
     all_append (node_bytes (parent_of nodes k) o x) (entries_bytes nodes (suc k) (o + suc (length (name_of x))) xs) (node-all (parent_of nodes k) o x) (entries-all nodes (suc k) (o + suc (length (name_of x))) xs)
 
-texts-all : (c k : ℕ) (dirs : List ℕ) (xs : List Node) → Sound c dirs k xs → AllBytes (texts_of xs)
+texts-all : (c k : ℕ) (dirs : List ℕ) (xs : List Node) → IsSound c dirs k xs → AllBytes (texts_of xs)
 unfolding texts_of
 texts-all c k dirs [] g = all_nil
 texts-all c k dirs (x ∷ xs) g =
     all_append (name_of x) (0 ∷ texts_of xs) (name-all (name_of x) g.0.0) (all_cons 0 (texts_of xs) (omega arith) (texts-all c (suc k) (enter (shut k dirs) x) xs g.2))
 
-pub encode-all : (nodes : List Node) → WellFormed nodes → AllBytes (encode nodes)
+pub encode-all : (nodes : List Node) → IsWellFormed nodes → AllBytes (encode nodes)
 unfolding encode
 encode-all [] w = all_nil
 encode-all (r ∷ xs) w =

@@ -13,7 +13,7 @@ use Rattle.endian.specs.Laws.Stored.{be32-drop, be24-drop, be24-value, be32-valu
 use Rattle.refusal.specs.declared.Refusal.TheVariants.{LimitOrMemory}
 use Rattle.refusal.specs.Refusal.{refuse, first}
 use Rattle.tree.specs.Table.{Node, file, directory, name_of, plain, kind, name_offset, offset_or_parent, size_or_next, name_at, node_at, nodes_from, entry_verdict, entries_verdict, unended, top, shut, enter, name_verdict, next_verdict, walk, node_bytes, parent_of, entries_bytes, texts_of, encode, shallow_entry, shallow_from}
-use Rattle.tree.specs.Inner.WellFormed.{GoodEntry, Sound}
+use Rattle.tree.specs.Inner.WellFormed.{IsGoodEntry, IsSound}
 use Rattle.tree.proofs.Laws.Texts.{up_to0-name}
 use Rattle.tree.proofs.Laws.UnitLaws.{plain-bytes}
 
@@ -60,7 +60,7 @@ record Holds (tab : List ℕ) (c k o : ℕ) (x : Node) : Type 0 where
 holds : (tab : List ℕ) (c k p o : ℕ) (x : Node) (r s dirs : List ℕ) →
     drop (12 * k) tab ≡ node_bytes p o x ++ r →
     drop (12 * c + o) tab ≡ name_of x ++ (0 ∷ s) →
-    o < 2 ^ 24 → c < 2 ^ 32 → plain (name_of x) ≡ true → GoodEntry c dirs k x → Holds tab c k o x
+    o < 2 ^ 24 → c < 2 ^ 32 → plain (name_of x) ≡ true → IsGoodEntry c dirs k x → Holds tab c k o x
 unfolding node_at name_at be24 be32
 holds tab c k p o (file nm offset size) r s dirs e t ho hc pl g =
     let ko : kind tab k ≡ 0 = kind-is tab k _ e in
@@ -113,7 +113,7 @@ Reads tab c k (x ∷ xs) = (name_offset tab k < length tab - 12 * c) × (node_at
 pub reads : (nodes : List Node) (tab : List ℕ) (c k o : ℕ) (dirs r : List ℕ) (xs : List Node) →
     drop (12 * k) tab ≡ entries_bytes nodes k o xs ++ r →
     drop (12 * c + o) tab ≡ texts_of xs →
-    o + length (texts_of xs) ≤ 2 ^ 24 → c < 2 ^ 32 → Sound c dirs k xs → Reads tab c k xs
+    o + length (texts_of xs) ≤ 2 ^ 24 → c < 2 ^ 32 → IsSound c dirs k xs → Reads tab c k xs
 unfolding texts_of
 reads nodes tab c k o dirs r [] e t ho hc g = tt
 reads nodes tab c k o dirs r (x ∷ xs) e t ho hc g =
@@ -136,7 +136,7 @@ reads-nodes tab c k (x ∷ xs) r = rw (r.1, reads-nodes tab c (suc k) xs r.2)
 
 -- ---- the walk: only the depth is left to be judged
 
-next-depth : (c k : ℕ) (dirs : List ℕ) (x : Node) → GoodEntry c dirs k x → next_verdict c dirs k x ≡ refuse (not (shallow_entry dirs x)) LimitOrMemory (Ok tt)
+next-depth : (c k : ℕ) (dirs : List ℕ) (x : Node) → IsGoodEntry c dirs k x → next_verdict c dirs k x ≡ refuse (not (shallow_entry dirs x)) LimitOrMemory (Ok tt)
 unfolding next_verdict
 next-depth c k dirs (file nm offset size) g = refl
 next-depth c k dirs (directory nm next) g = simp (lt-leb next k g.0, le-ltb c next g.1, le-ltb (top dirs) next g.2) (go (leb (length dirs) 64) refl)
@@ -149,7 +149,7 @@ both-depths : (a b : Bool) → first (refuse (not a) LimitOrMemory (Ok tt)) (ref
 both-depths true b = refl
 both-depths false b = refl
 
-pub reads-walk : (tab : List ℕ) (c k : ℕ) (dirs : List ℕ) (xs : List Node) → Reads tab c k xs → Sound c dirs k xs →
+pub reads-walk : (tab : List ℕ) (c k : ℕ) (dirs : List ℕ) (xs : List Node) → Reads tab c k xs → IsSound c dirs k xs →
     walk tab c dirs k xs ≡ refuse (not (shallow_from dirs k xs)) LimitOrMemory (Ok tt)
 unfolding walk name_verdict shallow_from
 reads-walk tab c k dirs [] r g = refl

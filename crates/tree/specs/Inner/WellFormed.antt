@@ -3,19 +3,19 @@ use Rattle.std.specs.Prelude.{ℕ, suc, ◌^◌, ◌<◌, ◌≤◌, ◌≡◌, 
 use mathlib.Core.List.{List, [], ◌∷◌, tail}
 use Rattle.tree.specs.Table.{Node, file, directory, name_of, plain, safe, top, shut, enter}
 
-abbrev pub GoodName : List ℕ → Type 0
-GoodName nm = (plain nm ≡ true) × (safe nm ≡ true)
+abbrev pub IsGoodName : List ℕ → Type 0
+IsGoodName nm = (plain nm ≡ true) × (safe nm ≡ true)
 
 -- entry k of c, where the directories `dirs` are open
-abbrev pub GoodEntry : ℕ → List ℕ → ℕ → Node → Type 0
-GoodEntry c dirs k (file nm offset size) = (offset < 2 ^ 32) × (size < 2 ^ 32)
-GoodEntry c dirs k (directory nm next) = (k < next) × (next ≤ c) × (next ≤ top dirs)
+abbrev pub IsGoodEntry : ℕ → List ℕ → ℕ → Node → Type 0
+IsGoodEntry c dirs k (file nm offset size) = (offset < 2 ^ 32) × (size < 2 ^ 32)
+IsGoodEntry c dirs k (directory nm next) = (k < next) × (next ≤ c) × (next ≤ top dirs)
 
 -- entries k and on are xs
-abbrev pub Sound : ℕ → List ℕ → ℕ → List Node → Type 0
-Sound c dirs k [] = Unit {0}
-Sound c dirs k (x ∷ xs) = GoodName (name_of x) × GoodEntry c (shut k dirs) k x × Sound c (enter (shut k dirs) x) (suc k) xs
+abbrev pub IsSound : ℕ → List ℕ → ℕ → List Node → Type 0
+IsSound c dirs k [] = Unit {0}
+IsSound c dirs k (x ∷ xs) = IsGoodName (name_of x) × IsGoodEntry c (shut k dirs) k x × IsSound c (enter (shut k dirs) x) (suc k) xs
 
-pub record WellFormed (nodes : List Node) : Type 0 where
+pub record IsWellFormed (nodes : List Node) : Type 0 where
   pub root : nodes ≡ directory [] (length nodes) ∷ tail nodes
-  pub sound : Sound (length nodes) (length nodes ∷ []) 1 (tail nodes)
+  pub sound : IsSound (length nodes) (length nodes ∷ []) 1 (tail nodes)

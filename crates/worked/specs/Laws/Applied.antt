@@ -26,7 +26,7 @@ use Rattle.edits.proofs.Laws.Accepted.{accepted}
 use Rattle.ledger.specs.Ledger.{History, Ledger, bare, files_before, history_of, put_in, first_ledger}
 use Rattle.ledger.specs.Runs.{Call, image_after_all, accepted_in, AllWithin}
 use Rattle.ledger.specs.Spared.{number_after, Spared}
-use Rattle.ledger.specs.Theorem.{Demand3, StillThere, ShowsClip, Tells, WithinMaximum}
+use Rattle.ledger.specs.Theorem.{LedgerHolds, StillThere, ShowsClip, Tells, WithinMaximum}
 use Rattle.ledger.proofs.Laws.AnyMaximum.{any-maximum}
 use Rattle.ledger.proofs.Laws.Demand3.{demand-3, unnamed-stays}
 use Rattle.ledger.proofs.Laws.EditedDown.{edited-down}
@@ -78,13 +78,13 @@ spared = rw at_first.tree (λ e. refl, (λ e. refl, (λ e. absurd (false≢true 
 -- ---- demand 3
 
 -- what the claim comes to for the file with entry number k, whichever that is
-any_file : {w : ℕ} {first image : List ℕ} {l : Ledger} → Demand3 w first image l →
+any_file : {w : ℕ} {first image : List ℕ} {l : Ledger} → LedgerHolds w first image l →
     (k : ℕ) (nm : List ℕ) (offset size : ℕ) → get_or (nodes_in image) k none ≡ file nm offset size → (h : History) → history_of l k ≡ h →
     (h.m ≤ size) × (h.m ≤ length h.bytes) × (span image offset h.m ≡ take h.m h.bytes)
     × (h.named ≡ false → (offset ≡ h.place) × (size ≡ length h.bytes) × (span image offset size ≡ h.bytes))
 any_file d k nm offset size e h is = let f = d.files k nm offset size e in (rw is at f.m-size, rw is at f.m-bytes, rw is at f.first-bytes, rw is at f.unnamed)
 
-claim : (w : ℕ) → master_words ≤ w → Demand3 w first last ledger
+claim : (w : ℕ) → master_words ≤ w → LedgerHolds w first last ledger
 claim w h = rw (worked.image, worked.told, worked.entered) at (demand-3 first master_words w list bytes at_first.opens h (within w h))
 
 pub record Demanded (w : ℕ) : Type 0 where

@@ -2,7 +2,7 @@
 use Rattle.std.proofs.Common.{◌∙◌}
 use Rattle.std.proofs.lemmas.Result.{err_from_is_err_and}
 use Rattle.disc.proofs.AskedOfFiles.{dol_asked, dol_not_asked}
-use Rattle.disc.proofs.executable.open_dol.Goals as goal
+use Rattle.disc.proofs.dol.open_dol.Goals as goal
 
 pub returns-in_err-of_image-clause-answer : goal.returns-in_err-of_image-clause-answer
 returns-in_err-of_image-clause-answer c =
