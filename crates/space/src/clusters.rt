@@ -7,7 +7,6 @@ ghost use Rattle.space.specs.Listing.{cluster_row};
 use crate::allocation;
 use crate::region::DiscRegion;
 use crate::rows::Row;
-use crate::used::UsedRegions;
 
 /// A region in clusters of 0x8000 bytes.
 #[derive(Clone, Copy, Debug, PartialEq, Eq)]
