@@ -25,3 +25,4 @@ pub use calls::{
 };
 pub use new_entry::NewEntry;
 pub use pipeline::{Edit, done, run};
+pub use table_writing::Kind;
