@@ -1,17 +1,18 @@
-//! Edits in which a megabyte goes elsewhere, beside memcpy and memset of the same bytes: what these take is for the machine's memory to
-//! say. What else there is to do is the time of the same edit of a file of 64 bytes.
+//! Edits in which a megabyte goes elsewhere, beside memcpy and memset of the same bytes, each less the same with 64 bytes: what a
+//! megabyte takes is for the machine's memory to say, which also has to bring back what the megabyte put out of the caches.
 
 use crate::calls::{both, clip};
 use crate::dvd::fst::EntryId;
 use crate::giant::copy_and_zero;
-use crate::images::{self, Plan};
-use crate::measure::{Undo, Watch, micros, ratio, shortest};
+use crate::images::{self, FST_OFFSET, Plan};
+use crate::measure::{Undo, Watch, micros, ratio, shortest_within};
 use crate::record::place;
 use crate::sides::{self, Call, Lent};
 use std::time::Duration;
 
 const MEGABYTE: u32 = 1 << 20;
 const SMALL: u32 = 64;
+const BUDGET: Duration = Duration::from_secs(2);
 
 /// The edit of the file in the middle, by its size. There is no room for so many bytes more behind it.
 type Edit = fn(&Plan, u32) -> Call;
@@ -55,7 +56,7 @@ impl Case {
         case
     }
 
-    /// What no such edit can do without. The bytes that a file has more are those that are there.
+    /// The bytes that a file has more are those that are there.
     fn copy_and_zero(&mut self) {
         let Self { image, size, from, to, .. } = self;
         match &self.call {
@@ -73,10 +74,18 @@ impl Case {
         time
     }
 
+    /// What no such edit can do without, with the lent memory as opening and the new table leave it: besides, the table copied from there
+    /// to the image, and what was lent zeroed.
     fn least(&mut self) -> Duration {
         self.time(|case| {
+            let table = FST_OFFSET..FST_OFFSET + case.lent.bytes.len();
+            case.lent.words.fill(1);
+            case.lent.bytes.copy_from_slice(&case.image[table.clone()]);
             let start = Watch::start();
             case.copy_and_zero();
+            case.image[table].copy_from_slice(&case.lent.bytes);
+            case.lent.words.fill(0);
+            case.lent.bytes.fill(0);
             start.elapsed()
         })
     }
@@ -93,25 +102,29 @@ impl Case {
 pub fn run(misses: &mut Vec<String>) {
     println!();
     println!(
-        "| call | entries | places | memcpy and memset, µs | the Rust, µs | Counter, µs | Counter with {SMALL} bytes, µs | Counter to the Rust | what the megabyte adds to memcpy and memset |"
+        "| call | entries | places | memcpy and memset, the same with {SMALL} bytes, µs | the Rust, µs | Counter, with {SMALL} bytes, µs | Counter to the Rust | what the megabyte adds to memcpy and memset |"
     );
-    println!("|---|---|---|---|---|---|---|---|---|");
+    println!("|---|---|---|---|---|---|---|---|");
     for (name, edit) in EDITS {
         for (entries, sorted) in images::KINDS {
             let [mut large, mut small] =
                 [MEGABYTE, SMALL].map(|size| Case::new((entries, sorted), edit, size));
-            let [least, rust, counter, without] = shortest(|side| match side {
-                0 => large.least(),
-                1 => large.rust(),
-                2 => large.counter(),
-                _ => small.counter(),
-            });
+            // The Rust frees much, and page tables and caches are then the next side's to fill: that one's time is not used.
+            let [rust, _, least, least_small, counter, small] =
+                shortest_within(BUDGET, |side| match side {
+                    0 => large.rust(),
+                    1 | 2 => large.least(),
+                    3 => small.least(),
+                    4 => large.counter(),
+                    _ => small.counter(),
+                });
             let to_rust = ratio(counter, rust);
-            let to_least = ratio(counter.saturating_sub(without), least);
+            let to_least = ratio(counter.saturating_sub(small), least.saturating_sub(least_small));
             let order = images::order(sorted);
-            let [least, rust, counter, without] = [least, rust, counter, without].map(micros);
+            let [rust, least, least_small, counter, small] =
+                [rust, least, least_small, counter, small].map(micros);
             println!(
-                "| {name} | {entries} | {order} | {least} | {rust} | {counter} | {without} | {to_rust:.2} | {to_least:.2} |"
+                "| {name} | {entries} | {order} | {least} {least_small} | {rust} | {counter} {small} | {to_rust:.2} | {to_least:.2} |"
             );
             if to_rust > 1.0 {
                 misses.push(format!("{name}, {entries}, {order}: {to_rust:.2}"));
