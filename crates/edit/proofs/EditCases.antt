@@ -18,7 +18,7 @@ use Rattle.edit.specs.Inner.Decides.{plan_on, IsEditDecided}
 
 -- the plan of an edit is that of the disc which the image means
 plan_same : (ed : edits.Edit) (image : List ℕ) (words : ℕ) → plan_of ed image ≡ plan_on ed (disc_of image words)
-unfolding free_space_of used_in behind_table nodes_in
+unfolding used_in behind_table nodes_in
 plan_same (edits.insert_file p nm) image words = refl
 plan_same (edits.insert_directory p nm) image words = refl
 plan_same (edits.make_directories start path) image words = refl

@@ -100,7 +100,7 @@ module _ (image : List ℕ) (words : ℕ) (known : OpenImage image words) where
   -- ---- where the table and the files lie
 
   pub place-fits : (room size : ℕ) (place : DiscRegion) → place_verdict_in image room size place ≡ Ok tt → TableFits (length image) room (fst_offset image) (fst_size image) size
-  unfolding free_space_of used_in
+  unfolding used_in
   place-fits room size place e =
       let p = place-passed image room size place e in
       let m : size ≤ max_region_size (fst_offset image) (fst_size image) (free_regions (disc_end image) (used_regions (table_end image) (behind_table image))) = p.grows in
@@ -131,7 +131,7 @@ module _ (image : List ℕ) (words : ℕ) (known : OpenImage image words) where
 
   -- n bytes that are free
   pub place-lies : (o n : ℕ) → n ≤ max_region_size o 0 (free_space_of image) → 0 < n → (table_end image ≤ o) × (o + n ≤ disc_end image)
-  unfolding free_space_of used_in
+  unfolding used_in
   place-lies o n m z =
       let p = place-free (disc_end image) (used_in image) o n z m in
       let e : o + 0 ≡ o = omega arith in

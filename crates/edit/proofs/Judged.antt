@@ -12,7 +12,7 @@ use Rattle.opened.specs.Inner.Disc.{Disc, disc_of}
 use Rattle.edit.specs.Inner.Judged.{place_verdict, table_verdict, judged_size}
 
 pub verdict_shown : (c : Change) (image : List ℕ) (words bytes : ℕ) → table_verdict_in c image words bytes ≡ table_verdict c (disc_of image words) bytes
-unfolding table_verdict_in place_verdict_in place_verdict free_space_of used_in behind_table nodes_in
+unfolding table_verdict_in place_verdict_in place_verdict used_in behind_table nodes_in
 verdict_shown c image words bytes = refl
 
 pub sized_shown : (image : List ℕ) (words bytes : ℕ) (place : DiscRegion) (d : Disc) → disc_of image words ≡ d →
@@ -22,7 +22,7 @@ sized_shown image words bytes place d e =
     ap (λ (v : Verdict). behind_tests v (length (encode (nodes_in image)))) (verdict_shown (placing (nodes_in image) place) image words bytes) ∙ ap (λ (x : Disc). judged_size x bytes place) e
 
 place-same : (image : List ℕ) (words bytes size : ℕ) (place : DiscRegion) → place_verdict_in image bytes size place ≡ place_verdict (disc_of image words) bytes size place
-unfolding place_verdict_in place_verdict free_space_of used_in behind_table nodes_in
+unfolding place_verdict_in place_verdict used_in behind_table nodes_in
 place-same image words bytes size place = refl
 
 pub place_shown : (image : List ℕ) (words bytes size : ℕ) (place : DiscRegion) (d : Disc) → disc_of image words ≡ d → place_verdict_in image bytes size place ≡ place_verdict d bytes size place

@@ -52,7 +52,6 @@ module _ (image w : List ℕ) (m : ℕ) (o : IsOpen image w m) (image' : List �
 
   -- LAW: the used regions in the words tell the largest free region of the new image
   largest-moves : longest_from (disc_end image) (gone_of old) new (fst_offset image + size) 0 (regions_in w 1 (m - 1)) ≡ largest_size (free_space_of image')
-  unfolding free_space_of
   largest-moves =
       let q = opened image (length w) o.known.passed o.known.bytes in
       let u = used-places image in

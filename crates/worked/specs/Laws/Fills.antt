@@ -55,7 +55,7 @@ pub record Fills : Type 0 where
   pub refused : (verdict_on (fill_file 3 three) small ≡ Err NoSuchEntry) × (verdict_on (fill_file 0 three) small ≡ Err ExpectedFile)
 
 pub fills : Fills
-unfolding small plan_resize plan_fill put opening layout_verdict header_verdict fields_verdict field_verdict fields bounds_verdict table_of check nodes_in nodes_of nodes_from node_at name_at count entries_verdict entry_verdict unended walk name_verdict next_verdict shut plain safe be24 be32 used_in behind_table program_of program_in own_region nonempty disjoint_below pairwise_disjoint disjoint_from_all disjoint end_by free_space_of free_regions runs uses_byte used_of total_size totals_verdict image_after verdict_of counted_verdict table_verdict_in place_verdict_in limits shallow shallow_from texts_of encode entries_bytes parent_of parent_below set_place written with_table max_size_from beside_free allocation_of powers largest better_of align_up units
+unfolding small plan_resize plan_fill put opening layout_verdict header_verdict fields_verdict field_verdict fields bounds_verdict table_of check nodes_in nodes_of nodes_from node_at name_at count entries_verdict entry_verdict unended walk name_verdict next_verdict shut plain safe be24 be32 used_in behind_table program_of program_in own_region nonempty disjoint_below pairwise_disjoint disjoint_from_all disjoint end_by free_regions runs uses_byte used_of total_size totals_verdict image_after verdict_of counted_verdict table_verdict_in place_verdict_in limits shallow shallow_from texts_of encode entries_bytes parent_of parent_below set_place written with_table max_size_from beside_free allocation_of powers largest better_of align_up units
 fills = record {
   same = (refl, refl);
   shorter = (refl, refl);

@@ -61,7 +61,7 @@ abbrev pub at : ℕ → ℕ → DiscRegion
 at o n = record { offset = o; size = n }
 
 pub free : free_space_of master ≡ at 1114 166 ∷ at 1536 6656 ∷ []
-unfolding master put table_of nodes_in nodes_of nodes_from node_at name_at count be24 be32 free_space_of used_in behind_table program_of program_in own_region free_regions runs uses_byte nonempty
+unfolding master put table_of nodes_in nodes_of nodes_from node_at name_at count be24 be32 used_in behind_table program_of program_in own_region free_regions runs uses_byte nonempty
 free = refl
 
 pub used : used_of master ≡ 1370
@@ -98,7 +98,7 @@ unfolding master put opening layout_verdict header_verdict fields_verdict field_
 moved-opens = refl
 
 pub moved-free : free_space_of (moved_a 0x600) ≡ at 0x45A 0x1A6 ∷ at 0x700 0x1900 ∷ []
-unfolding master put table_of nodes_in nodes_of nodes_from node_at name_at count be24 be32 texts_of encode entries_bytes parent_of parent_below written with_table free_space_of used_in behind_table program_of program_in own_region free_regions runs uses_byte nonempty
+unfolding master put table_of nodes_in nodes_of nodes_from node_at name_at count be24 be32 texts_of encode entries_bytes parent_of parent_below written with_table used_in behind_table program_of program_in own_region free_regions runs uses_byte nonempty
 moved-free = refl
 
 resized-used : used_of (resized_a 0x1B00) ≡ 8026

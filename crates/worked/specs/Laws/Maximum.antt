@@ -50,7 +50,6 @@ unfolding free_regions runs uses_byte
 runs-between = refl
 
 free : (m : ℕ) → free_space_of (stating m) ≡ at 1114 166 ∷ at 1536 6656 ∷ []
-unfolding free_space_of
 free m = rw (regions m, (table m).2) runs-between
 
 used : (m : ℕ) → used_of (stating m) ≡ 1370
@@ -78,7 +77,7 @@ unfolding tight stating master put be32
 tight-header = (refl, refl, refl, refl)
 
 tight-free : free_space_of (tight 0) ≡ at 1370 6822 ∷ []
-unfolding tight stating master put table_of nodes_in nodes_of nodes_from node_at name_at count be24 be32 free_space_of used_in behind_table program_of program_in own_region free_regions runs uses_byte nonempty
+unfolding tight stating master put table_of nodes_in nodes_of nodes_from node_at name_at count be24 be32 used_in behind_table program_of program_in own_region free_regions runs uses_byte nonempty
 tight-free = refl
 
 -- the same, with a zero byte more behind the texts: 0x1B bytes, written anew 0x1A
@@ -102,7 +101,7 @@ unfolding slack stating master put be32
 slack-header = (refl, refl, refl)
 
 slack-free : free_space_of (slack 0x1A) ≡ at 1115 165 ∷ at 1536 6656 ∷ []
-unfolding slack stating master put table_of nodes_in nodes_of nodes_from node_at name_at count be24 be32 free_space_of used_in behind_table program_of program_in own_region free_regions runs uses_byte nonempty
+unfolding slack stating master put table_of nodes_in nodes_of nodes_from node_at name_at count be24 be32 used_in behind_table program_of program_in own_region free_regions runs uses_byte nonempty
 slack-free = refl
 
 slack-used : used_of (slack 0x1A) ≡ 1371

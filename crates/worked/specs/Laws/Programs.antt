@@ -85,7 +85,6 @@ unfolding free_regions runs uses_byte
 runs-of-one = refl
 
 pub free : free_space_of one ≡ at 0x45A 0xA6 ∷ at 0x723 0x1DD ∷ []
-unfolding free_space_of
 free = rw (used.0, header.2) runs-of-one
 
 -- ---- edits keep off it; 40 working bytes are enough for three entries, and the record is one made of the image
@@ -115,7 +114,6 @@ unfolding free_regions runs uses_byte
 runs-of-two = refl
 
 two-free : free_space_of two ≡ at 0x53E 0xC2 ∷ at 0x700 0x200 ∷ []
-unfolding free_space_of
 two-free = rw (two-used.0, two-header.2) runs-of-two
 
 -- the table written as it is

@@ -31,7 +31,7 @@ unfolding master put table_of nodes_in nodes_of nodes_from node_at name_at count
 useds = (refl, refl, refl, refl)
 
 frees : (free_space_of rewritten_master ≡ at 1114 166 ∷ at 1536 6656 ∷ []) × (free_space_of (resized_a 756) ≡ at 1114 166 ∷ at 2036 6156 ∷ [])
-unfolding master put table_of nodes_in nodes_of nodes_from node_at name_at count be24 be32 texts_of encode entries_bytes parent_of parent_below written with_table free_space_of used_in behind_table program_of program_in own_region free_regions runs uses_byte nonempty
+unfolding master put table_of nodes_in nodes_of nodes_from node_at name_at count be24 be32 texts_of encode entries_bytes parent_of parent_below written with_table used_in behind_table program_of program_in own_region free_regions runs uses_byte nonempty
 frees = (refl, refl)
 
 -- ---- what an edit of the small master with a record answers, and what image and record it leaves
