@@ -1,6 +1,6 @@
 // One way through every edit: opened, decided, entered in the record that is lent, carried out.
 ghost use Rattle.std.specs.Prelude.{◌≡◌, length};
-ghost use Rattle.opened.specs.Opening.{opening};
+ghost use Rattle.opened.specs.Opening.{opening, disc_of};
 ghost use Rattle.edits.specs.Edits as edits;
 ghost use Rattle.edits.specs.Edits.{planned, plan_of, numbered_as};
 ghost use Rattle.edits.specs.Promise.{lent, only_verdict, Edited};
@@ -90,7 +90,7 @@ fn decide(
     edit: Edit<'_>,
 ) -> Result<Decision, Refusal>
     ensures { let opened = opening image.now (length words.old) in
-        let plan = planned opened (plan_of (edit_of edit.entry) image.now) in
+        let plan = planned opened (plan_of (edit_of edit.entry) (disc_of image.now)) in
         let clip = clip_of edit.entry in
         IsAccountedFor plan image.now (length words.old) (length bytes.old) bytes.new clip
         totals.old (accounted result totals.new) }
