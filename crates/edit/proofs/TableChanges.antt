@@ -17,7 +17,7 @@ use Rattle.table_writing.proofs.StandingTable.{size_is, front}
 use Rattle.edits.specs.Change.{change, place_verdict}
 use Rattle.edits.specs.Edits.{table_only, no_place, plan_verdict}
 use Rattle.opened.specs.Opening.{Disc}
-use Rattle.opened.specs.Inner.Disc.{Opened, Means}
+use Rattle.opened.specs.Inner.Disc.{Opened}
 use Rattle.edit.specs.declared.decision.Decision.{Decision}
 use Rattle.edit.specs.declared.decision.Decision.TheVariants as decision
 use Rattle.edit.specs.Inner.Decision.{Decides, nothing_besides}

@@ -1,7 +1,6 @@
 -- The table of an open image as it is read: it is valid, and it is measured.
 -- Assumes nothing.
 use Rattle.std.specs.Prelude.{Result, Ok, Err}
-use Rattle.refusal.specs.Refusal.{Verdict}
 use Rattle.refusal.specs.declared.Refusal.{Refusal}
 use Prim.Native.Nat.{ℕ}
 use mathlib.Core.Path.{◌≡◌, sym, ap, ◌∙◌}
@@ -9,7 +8,6 @@ use mathlib.Core.List.{List}
 use lib.ListN.{length}
 use Rattle.refusal.specs.declared.Refusal.TheVariants.{LimitOrMemory}
 use Rattle.tree.specs.Table.{count, encode, limits}
-use Rattle.space.specs.declared.region.DiscRegion.{DiscRegion}
 use Rattle.table_writing.specs.Inner.Measure.{measure_of}
 use Rattle.table_writing.specs.Inner.Valid.{IsValid}
 use Rattle.table_writing.specs.Laws.Accepted.{accepted-valid}

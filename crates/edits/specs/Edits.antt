@@ -179,9 +179,8 @@ clip_verdict nodes k n = first (file_verdict nodes k) (refuse (nat_lt (2 ^ 32 - 
 unfoldable pub plan_fill : List DiscRegion → List Node → ℕ → List ℕ → Plan
 plan_fill free nodes k clip = planned (clip_verdict nodes k (length clip)) (filled k clip (plan_resize free nodes k (length clip)))
 
--- ---- the whole of an edit
+-- ---- the whole of an edit, which is decided on the disc that the image means, and on nothing else of it
 
--- decided on the disc: nothing else of an image is read
 abbrev pub plan_of : Edit → Disc → Plan
 plan_of (insert_file p nm) d = plan_insert (λ q. empty_file nm) d.nodes p nm
 plan_of (insert_directory p nm) d = plan_insert (empty_directory nm) d.nodes p nm

@@ -38,7 +38,7 @@ text-is d tab u e n s f = rw (f, e, same_total u.regions d.used s, ← length-no
 -- the lines of an image that means the disc
 pub text-meant : (image : List ℕ) (d : Opened) → Means image d → text_of d.disc ≡ listing_text image
 unfolding listing_text text_of
-text-meant image d m = rw (end_meant image d m, total_meant image d m, nodes_meant image d m, free_meant image d m)
+text-meant image d m = rw (free_meant image d m, end_meant image d m, total_meant image d m, nodes_meant image d m)
 
 -- ---- measured with no buffer to speak of, then written
 

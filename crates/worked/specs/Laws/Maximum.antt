@@ -18,8 +18,8 @@ use Rattle.space.specs.Free.{runs, free_regions}
 use Rattle.space.specs.MaxRegionSize.{beside_free, max_size_from}
 use Rattle.space.specs.Totals.{totals_verdict}
 use Rattle.executable.specs.Program.{program_of, program_in, own_region}
-use Rattle.opened.specs.Opening.{table_of, nodes_in, opening, behind_table, used_in, free_space_of, used_of, layout_verdict}
-use Rattle.edits.specs.Change.{Change, nothing, change, filled, with_table, written, table_verdict_in, place_verdict_in}
+use Rattle.opened.specs.Opening.{table_of, nodes_in, opening, behind_table, used_in, free_space_of, used_of, layout_verdict, disc_of}
+use Rattle.edits.specs.Change.{Change, nothing, change, filled, with_table, written, table_verdict, place_verdict}
 use Rattle.edits.specs.Edits.{Edit, insert_file, move_file, resize_file, fill_file, rewrite, table_only, insert_verdict, plan_of, plan_move, plan_resize, plan_fill, counted_verdict, verdict_of}
 use Rattle.worked.specs.Image.{master, master_words}
 use Rattle.worked.specs.Laws.Marked.{at, fresh}
@@ -127,11 +127,11 @@ with_b = table_only (directory [] 3 ∷ file (0x61 ∷ []) 0x500 0x100 ∷ file 
 abbrev tight_with_b : Change
 tight_with_b = table_only (directory [] 3 ∷ file (0x61 ∷ []) 0x45A 0x100 ∷ file (0x62 ∷ []) 0 0 ∷ [])
 
-plan-b : (m : ℕ) → plan_of insert_b (stating m) ≡ change 2 with_b
+plan-b : (m : ℕ) → plan_of insert_b (disc_of (stating m)) ≡ change 2 with_b
 unfolding insert_verdict insert_at splice bump child_of first_child same_bytes plain safe parent_of parent_below shut units
 plan-b m = rw (nodes m)
 
-tight-plan : (m : ℕ) → plan_of insert_b (tight m) ≡ change 2 tight_with_b
+tight-plan : (m : ℕ) → plan_of insert_b (disc_of (tight m)) ≡ change 2 tight_with_b
 unfolding insert_verdict insert_at splice bump child_of first_child same_bytes plain safe parent_of parent_below shut units
 tight-plan m = rw (tight-nodes m)
 
@@ -143,7 +143,7 @@ inserted m = refl
 abbrev clip : List ℕ
 clip = replicate 0x100 7
 
-plan-clip : plan_of (fill_file 1 clip) (stating 0x19) ≡ filled 1 clip nothing
+plan-clip : plan_of (fill_file 1 clip) (disc_of (stating 0x19)) ≡ filled 1 clip nothing
 unfolding plan_fill plan_resize
 plan-clip = rw (nodes 0x19)
 
@@ -180,7 +180,7 @@ pub record Maximum : Type 0 where
   pub number : number_of TableAboveMaximum ≡ 26
 
 pub maximum : Maximum
-unfolding verdict_of counted_verdict totals_verdict plan_move plan_resize max_size_from beside_free table_verdict_in place_verdict_in limits shallow shallow_from shut texts_of encode entries_bytes parent_of parent_below set_place
+unfolding verdict_of counted_verdict totals_verdict plan_move plan_resize max_size_from beside_free table_verdict place_verdict limits shallow shallow_from shut texts_of encode entries_bytes parent_of parent_below set_place
 maximum = record {
   exact = (rw (opens 0x1A, nodes 0x1A, free 0x1A, stated.0, (table 0x1A).0, (table 0x1A).1, used 0x1A, rewritten 0x1A), rw (opens 0x1A, plan-b 0x1A, stated.0));
   larger = (
