@@ -16,30 +16,30 @@ use Rattle.space.specs.MaxRegionSize.{max_region_size}
 use Rattle.table.specs.Rows.{list_verdict, listed}
 use Rattle.window.specs.declared.Window.{Window}
 use Rattle.window.specs.Window.{new_window}
-use Rattle.opened.specs.Opening.{opening, table_of, nodes_in, free_space_of}
-use Rattle.opened.specs.Inner.Disc.{Disc, OpensAs, Means, free_of}
-use Rattle.opened.specs.Laws.Meant.{start_meant, table_meant, nodes_meant, free_meant}
+use Rattle.opened.specs.Opening.{opening, table_of, nodes_in, free_space_of, free_of}
+use Rattle.opened.specs.Inner.Disc.{Opened, OpensAs, Means}
+use Rattle.opened.specs.Laws.Meant.{start_meant, nodes_meant, free_meant}
 use Rattle.opened.specs.declared.summary.Disc as Told
-use Rattle.opened.specs.Answers.{behind, disc_of, max_region_size_answer}
+use Rattle.opened.specs.Answers.{behind, summary_of, max_region_size_answer}
 use Rattle.opened.specs.Inner.Told.{told_of}
 use Rattle.opened.specs.Laws.AnswerLaws.{behind-passed, asked, not_asked, opened_means, opened_passes, told_meant}
 use Rattle.disc.specs.Files.{file_in, entry_answer, window_answer, open_file_answer, file_size_answer, max_file_size_answer, dol_verdict, dol_as, open_dol_answer}
 
-module _ (image : List ℕ) (words : ℕ) (r : Result Disc Refusal) (h : OpensAs image words r) (d : Disc) (opened : r ≡ Ok d) where
+module _ (image : List ℕ) (words : ℕ) (r : Result Opened Refusal) (h : OpensAs image words r) (d : Opened) (opened : r ≡ Ok d) where
   -- an answer of the nodes
-  pub nodes_asked : {A : Type 0} (f : Refusal → A) (g : List Node → A) (b : A) → b ≡ g d.nodes → b ≡ behind (opening image words) f (g (nodes_in image))
+  pub nodes_asked : {A : Type 0} (f : Refusal → A) (g : List Node → A) (b : A) → b ≡ g d.disc.nodes → b ≡ behind (opening image words) f (g (nodes_in image))
   nodes_asked f g b p = asked f (g (nodes_in image)) image words r h d opened b (λ m. p ∙ ap g (sym (nodes_meant image d m)))
 
   -- a list of all entries
   module _ (table : List ℕ) (bytes : table ≡ d.table) where
-    pub rows_asked : (list list' : List ℕ) (base : ℕ) → base ≡ d.start → list' ≡ listed base table list → list' ≡ behind (opening image words) (λ (c : Refusal). list) (listed (fst_offset image) (table_of image) list)
-    rows_asked list list' base from e = asked (λ (c : Refusal). list) _ image words r h d opened list' (λ m. e ∙ rw (from, bytes, start_meant image d m, table_meant image d m))
+    pub rows_asked : (list list' : List ℕ) (base : ℕ) → base ≡ d.disc.start → list' ≡ listed base table list → list' ≡ behind (opening image words) (λ (c : Refusal). list) (listed (fst_offset image) (table_of image) list)
+    rows_asked list list' base from e = asked (λ (c : Refusal). list) _ image words r h d opened list' (λ m. e ∙ rw (from, bytes, start_meant image d m, m.table_is))
 
     module _ (room : ℕ) (v u : Verdict) (judged : v ≡ list_verdict table room) (is : v ≡ u) where
       verdict_is : Means image d → list_verdict (table_of image) room ≡ u
-      verdict_is m = ap (λ (l : List ℕ). list_verdict l room) (table_meant image d m ∙ sym bytes) ∙ sym judged ∙ is
+      verdict_is m = ap (λ (l : List ℕ). list_verdict l room) (m.table_is ∙ sym bytes) ∙ sym judged ∙ is
 
-      pub listing_asked : (t : Told.Disc) → t ≡ told_of d → behind u Err (Ok t) ≡ behind (opening image words) Err (behind (list_verdict (table_of image) room) Err (Ok (disc_of image)))
+      pub listing_asked : (t : Told.Disc) → t ≡ told_of d.disc → behind u Err (Ok t) ≡ behind (opening image words) Err (behind (list_verdict (table_of image) room) Err (Ok (summary_of image)))
       listing_asked t e = asked Err _ image words r h d opened (behind u Err (Ok t)) (λ m. rw (verdict_is m, e ∙ told_meant image d m))
 
 -- ---- a file, by its entry
@@ -63,7 +63,7 @@ sized image words o (found.At k (File file)) = behind-passed (opening image word
 sized image words o (found.At k (Directory d)) = refl
 sized image words o (found.Refused c) = refl
 
-module _ (image : List ℕ) (words : ℕ) (r : Result Disc Refusal) (h : OpensAs image words r) (k : ℕ) where
+module _ (image : List ℕ) (words : ℕ) (r : Result Opened Refusal) (h : OpensAs image words r) (k : ℕ) where
   not_found : (c : Refusal) → r ≡ Err c → found.Refused c ≡ entry_answer image words k
   unfolding entry_answer
   not_found c e = not_asked found.Refused (entry_found (nodes_in image) k) image words r h c e
@@ -76,25 +76,25 @@ module _ (image : List ℕ) (words : ℕ) (r : Result Disc Refusal) (h : OpensAs
   unfolding max_file_size_answer
   no_size c e = ap (file_size_answer image words) (not_found c e)
 
-  module _ (d : Disc) (opened : r ≡ Ok d) (file : Result FileEntry Refusal) (is : file ≡ file_in (entry_found d.nodes k)) where
-    is_found : entry_found d.nodes k ≡ entry_answer image words k
+  module _ (d : Opened) (opened : r ≡ Ok d) (file : Result FileEntry Refusal) (is : file ≡ file_in (entry_found d.disc.nodes k)) where
+    is_found : entry_found d.disc.nodes k ≡ entry_answer image words k
     unfolding entry_answer
-    is_found = nodes_asked image words r h d opened found.Refused (λ (nodes : List Node). entry_found nodes k) (entry_found d.nodes k) refl
+    is_found = nodes_asked image words r h d opened found.Refused (λ (nodes : List Node). entry_found nodes k) (entry_found d.disc.nodes k) refl
 
     pub window_asked : window_of file ≡ open_file_answer image words k
     unfolding open_file_answer
-    window_asked = ap window_of is ∙ windowed (entry_found d.nodes k) ∙ ap window_answer is_found
+    window_asked = ap window_of is ∙ windowed (entry_found d.disc.nodes k) ∙ ap window_answer is_found
 
-    pub size_asked : size_in (free_of d) file ≡ max_file_size_answer image words k
+    pub size_asked : size_in (free_of d.disc) file ≡ max_file_size_answer image words k
     unfolding max_file_size_answer
     size_asked =
         rw (← free_meant image d (opened_means image words r h d opened))
-        (ap (size_in (free_space_of image)) is ∙ sized image words (opened_passes image words r h d opened) (entry_found d.nodes k) ∙ ap (file_size_answer image words) is_found)
+        (ap (size_in (free_space_of image)) is ∙ sized image words (opened_passes image words r h d opened) (entry_found d.disc.nodes k) ∙ ap (file_size_answer image words) is_found)
 
 -- ---- the executable
 
-module _ (image : List ℕ) (words : ℕ) (r : Result Disc Refusal) (h : OpensAs image words r) where
-  pub dol_asked : (d : Disc) → r ≡ Ok d → dol_as (dol_verdict_of image (dol_offset image)) image ≡ open_dol_answer image words
+module _ (image : List ℕ) (words : ℕ) (r : Result Opened Refusal) (h : OpensAs image words r) where
+  pub dol_asked : (d : Opened) → r ≡ Ok d → dol_as (dol_verdict_of image (dol_offset image)) image ≡ open_dol_answer image words
   unfolding open_dol_answer dol_verdict
   dol_asked d e = rw (opened_passes image words r h d e)
 

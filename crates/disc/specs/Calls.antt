@@ -13,12 +13,12 @@ use Rattle.space.specs.Allocate.{allocation_of}
 use Rattle.space.specs.declared.totals.Totals.{Totals}
 use Rattle.executable.specs.Program.{Program, program_of}
 use Rattle.opened.specs.Opening.{opening, free_space_of, used_of}
-use Rattle.opened.specs.Answers.{behind, disc_of}
+use Rattle.opened.specs.Answers.{behind, summary_of}
 
 -- ---- the answer of `open`
 
 unfoldable pub opened_of : List ℕ → ℕ → Result Disc Refusal
-opened_of image words = behind (opening image words) Err (Ok (disc_of image))
+opened_of image words = behind (opening image words) Err (Ok (summary_of image))
 
 -- ---- space
 

@@ -20,7 +20,7 @@ use Rattle.tree.specs.declared.Found.TheVariants as found
 use Rattle.table.specs.Rows.{list_verdict, listed}
 use Rattle.disc.specs.declared.answers.DolFile.{DolFile}
 use Rattle.opened.specs.Opening.{opening, table_of, nodes_in}
-use Rattle.opened.specs.Answers.{behind, disc_of, max_region_size_answer}
+use Rattle.opened.specs.Answers.{behind, summary_of, max_region_size_answer}
 
 unfoldable pub entry_answer : List ℕ → ℕ → ℕ → Found
 entry_answer image words k = behind (opening image words) found.Refused (entry_found (nodes_in image) k)
@@ -38,7 +38,7 @@ unfoldable pub entries_answer : List ℕ → ℕ → ℕ → Result Disc Refusal
 entries_answer image words room =
     behind (opening image words) Err
     (behind (list_verdict (table_of image) room) Err
-    (Ok (disc_of image)))
+    (Ok (summary_of image)))
 
 unfoldable pub entries_list : List ℕ → ℕ → List ℕ → List ℕ
 entries_list image words list = behind (opening image words) (λ c. list) (listed (fst_offset image) (table_of image) list)

@@ -14,14 +14,14 @@ use window::Window;
 // Kept: image and words, here and in `listing`, are what a caller lends to each call, as C does.
 // Entry `number` of a disc.
 fn entry_in(disc: &OpenDisc<'_>, number: u32) -> Found
-    ensures { result ≡ entry_found disc.now.nodes number }
+    ensures { result ≡ entry_found disc.now.disc.nodes number }
 {
     Table::new(disc.table()).entry(number)
 }
 
 // The entry of a disc that a path of at most 1,024 bytes leads to.
 fn found_in(disc: &OpenDisc<'_>, start: u32, path: &[u8]) -> Found
-    ensures { result ≡ path_found disc.now.nodes start path.now }
+    ensures { result ≡ path_found disc.now.disc.nodes start path.now }
 {
     if 1024 < path.len() {
         return Found::Refused(Refusal::LimitOrMemory);
@@ -31,7 +31,7 @@ fn found_in(disc: &OpenDisc<'_>, start: u32, path: &[u8]) -> Found
 
 // The place of file `number` of a disc: 15, then 16.
 fn file_in(disc: &OpenDisc<'_>, number: u32) -> Result<FileEntry, Refusal>
-    ensures { result ≡ files_of.file_in (entry_found disc.now.nodes number) }
+    ensures { result ≡ files_of.file_in (entry_found disc.now.disc.nodes number) }
 {
     match entry_in(disc, number) {
         Found::At(_, Entry::File(file)) => Ok(file),

@@ -23,6 +23,7 @@ mod walk;
 pub use calls::{
     fill_file, insert_directory, insert_file, make_directories, move_file, resize_file, rewrite,
 };
+pub use decision::{Decision, Span, Writing};
 pub use new_entry::NewEntry;
-pub use pipeline::{Edit, done, run};
+pub use pipeline::{Edit, decide, done, run};
 pub use table_writing::Kind;

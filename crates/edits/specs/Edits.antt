@@ -16,8 +16,8 @@ use Rattle.space.specs.MaxRegionSize.{max_region_size}
 use Rattle.space.specs.Allocate.{allocation_of}
 use Rattle.space.specs.declared.totals.Totals.{Totals}
 use Rattle.space.specs.Totals.{totals_verdict, totals_moved}
-use Rattle.opened.specs.Opening.{opening, nodes_in, free_space_of, used_of, region_of}
-use Rattle.edits.specs.Change.{Change, written, table_verdict_in, Plan, refused, nothing, change, filled}
+use Rattle.opened.specs.Opening.{opening, nodes_in, free_space_of, used_of, region_of, Disc, disc_of, free_of}
+use Rattle.edits.specs.Change.{Change, written, table_verdict, Plan, refused, nothing, change, filled}
 
 -- an edit, with its numbers and its name, path or clip
 pub data Edit : Type 0 where
@@ -179,22 +179,22 @@ clip_verdict nodes k n = first (file_verdict nodes k) (refuse (nat_lt (2 ^ 32 - 
 unfoldable pub plan_fill : List DiscRegion → List Node → ℕ → List ℕ → Plan
 plan_fill free nodes k clip = planned (clip_verdict nodes k (length clip)) (filled k clip (plan_resize free nodes k (length clip)))
 
--- ---- the whole of an edit
+-- ---- the whole of an edit, which is decided on the disc that the image means, and on nothing else of it
 
-abbrev pub plan_of : Edit → List ℕ → Plan
-plan_of (insert_file p nm) image = plan_insert (λ q. empty_file nm) (nodes_in image) p nm
-plan_of (insert_directory p nm) image = plan_insert (empty_directory nm) (nodes_in image) p nm
-plan_of (make_directories start path) image = plan_make_directories (nodes_in image) start path
-plan_of (move_file k to) image = plan_move (free_space_of image) (nodes_in image) k to
-plan_of (resize_file k n) image = plan_resize (free_space_of image) (nodes_in image) k n
-plan_of (fill_file k clip) image = plan_fill (free_space_of image) (nodes_in image) k clip
-plan_of rewrite image = change 0 (table_only (nodes_in image))
+abbrev pub plan_of : Edit → Disc → Plan
+plan_of (insert_file p nm) d = plan_insert (λ q. empty_file nm) d.nodes p nm
+plan_of (insert_directory p nm) d = plan_insert (empty_directory nm) d.nodes p nm
+plan_of (make_directories start path) d = plan_make_directories d.nodes start path
+plan_of (move_file k to) d = plan_move (free_of d) d.nodes k to
+plan_of (resize_file k n) d = plan_resize (free_of d) d.nodes k n
+plan_of (fill_file k clip) d = plan_fill (free_of d) d.nodes k clip
+plan_of rewrite d = change 0 (table_only d.nodes)
 
-abbrev pub plan_verdict : Plan → List ℕ → ℕ → ℕ → Verdict
-plan_verdict (refused v) image words bytes = v
-plan_verdict nothing image words bytes = Ok tt
-plan_verdict (change k c) image words bytes = table_verdict_in c image words bytes
-plan_verdict (filled k clip p) image words bytes = plan_verdict p image words bytes
+abbrev pub plan_verdict : Plan → Disc → ℕ → ℕ → Verdict
+plan_verdict (refused v) d words bytes = v
+plan_verdict nothing d words bytes = Ok tt
+plan_verdict (change k c) d words bytes = table_verdict c d words bytes
+plan_verdict (filled k clip p) d words bytes = plan_verdict p d words bytes
 
 -- the tree that a plan comes to
 abbrev pub plan_tree : Plan → List Node → List Node
@@ -212,15 +212,15 @@ plan_image (filled k clip p) image = put (plan_image p image) (region_of (slice_
 
 -- "25, used bytes or edit count would leave 0 to 2^32 - 1, tested last"; t is the record that the edit is handed
 unfoldable pub counted_verdict : Plan → Totals → List ℕ → ℕ → ℕ → Verdict
-counted_verdict p t image words bytes = first (plan_verdict p image words bytes) (totals_verdict t (used_of image) (used_of (plan_image p image)))
+counted_verdict p t image words bytes = first (plan_verdict p (disc_of image) words bytes) (totals_verdict t (used_of image) (used_of (plan_image p image)))
 
 -- the verdict on an edit of an image, with a record and so many working words and bytes lent: opening, the edit's own tests, the table's, 25
 unfoldable pub verdict_of : Edit → Totals → List ℕ → ℕ → ℕ → Verdict
-verdict_of ed t image words bytes = first (opening image words) (counted_verdict (plan_of ed image) t image words bytes)
+verdict_of ed t image words bytes = first (opening image words) (counted_verdict (plan_of ed (disc_of image)) t image words bytes)
 
 -- the image afterwards: a refused edit leaves it as it is
 unfoldable pub image_after : Edit → Totals → List ℕ → ℕ → ℕ → List ℕ
-image_after ed t image words bytes = if is_refused (verdict_of ed t image words bytes) then image else plan_image (plan_of ed image) image
+image_after ed t image words bytes = if is_refused (verdict_of ed t image words bytes) then image else plan_image (plan_of ed (disc_of image)) image
 
 -- the record with the totals of the new image: "Used bytes move by the edit's change, the count by one; the largest region is the new image's."
 abbrev pub totals_to : Totals → List ℕ → List ℕ → Totals
@@ -228,7 +228,7 @@ totals_to t image new = totals_moved t (used_of image) (used_of new) (largest_si
 
 -- the record afterwards: "A refused edit hands the record back unaltered."
 unfoldable pub totals_after : Edit → Totals → List ℕ → ℕ → ℕ → Totals
-totals_after ed t image words bytes = if is_refused (verdict_of ed t image words bytes) then t else totals_to t image (plan_image (plan_of ed image) image)
+totals_after ed t image words bytes = if is_refused (verdict_of ed t image words bytes) then t else totals_to t image (plan_image (plan_of ed (disc_of image)) image)
 
 -- the answer of an edit that gives an entry's number
 abbrev pub plan_number : Plan → ℕ

@@ -15,7 +15,7 @@ use table::Table;
 
 // Appends the lines of an open disc.
 fn push_disc(text: &mut TextBuffer<'_>, disc: &OpenDisc<'_>)
-    ensures { Appends text.old text.new (text_of disc.now) }
+    ensures { Appends text.old text.new (text_of disc.now.disc) }
 {
     let table = Table::new(disc.table());
     let used = disc.used_regions();
@@ -43,8 +43,8 @@ fn put_whole<F: Fn(&mut TextBuffer<'_>)>(text: &mut [u8], put: F) -> Option<usiz
 
 // The listing of an open disc.
 fn list_disc(disc: &OpenDisc<'_>, text: &mut [u8]) -> Result<usize, Refusal>
-    ensures answer { result ≡ listed_or (length text.old) (text_of disc.now) }
-    ensures text_after { text.new ≡ laid_or text.old (text_of disc.now) }
+    ensures answer { result ≡ listed_or (length text.old) (text_of disc.now.disc) }
+    ensures text_after { text.new ≡ laid_or text.old (text_of disc.now.disc) }
 {
     put_whole(text, |buffer| push_disc(buffer, disc)).ok_or(Refusal::LimitOrMemory)
 }

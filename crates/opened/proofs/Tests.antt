@@ -23,7 +23,7 @@ use Rattle.space.specs.Free.{free_regions}
 use Rattle.space.specs.Laws.MiddleLaws.{below-middle, free-middle, sum-middle, used-middle-same}
 use Rattle.space.specs.Laws.SortLaws.{sum-sorted}
 use Rattle.executable.specs.Program.{program_of, program_verdict, nowhere, program_in, own_region, program_behind}
-use Rattle.opened.specs.Opening.{table_of, nodes_in, behind_table, used_in, free_space_of, layout_verdict, opening}
+use Rattle.opened.specs.Opening.{table_of, nodes_in, behind_table, used_in, layout_verdict, opening}
 use Rattle.opened.specs.Inner.Prepared.{verdict_before24, entry_regions, CollectedUsed, SameUse, UsedWords, IsReadable, IsOpen}
 use Rattle.opened.proofs.Laws.OpeningLaws.{opens, opening-split, program-first}
 use Rattle.opened.proofs.UsedRegions.{regions-of-tree}
@@ -96,7 +96,6 @@ module _ (image w w' : List ℕ) (words buf m e : ℕ) (v : Verdict) (before : v
   left-refused c h = rw kept (all (Err c) h)
 
   left-words : v ≡ Ok tt → UsedWords image w' m
-  unfolding free_space_of
   left-words h = record {
     sorted = rw (← end) (k.ready h);
     free = rw end at k.free ∙ used.free;

@@ -4,7 +4,7 @@ use Rattle.refusal.specs.Refusal.{Verdict}
 use Rattle.std.specs.Prelude.{ℕ, List, ◌∷◌, map, length, replicate}
 use Rattle.endian.specs.Bytes.{span}
 use Rattle.refusal.specs.Refusal.{first}
-use Rattle.header.specs.Verdicts.{header_verdict, bounds_verdict, fst_offset, fst_size, disc_end, table_end}
+use Rattle.header.specs.Verdicts.{header_verdict, bounds_verdict, fst_offset, fst_size, fst_max_size, disc_end, table_end}
 use Rattle.tree.specs.Table.{Node, file, directory, nodes_of, check}
 use Rattle.space.specs.declared.region.DiscRegion.{DiscRegion}
 use Rattle.space.specs.Layout.{regions_verdict}
@@ -45,12 +45,37 @@ opening image words =
     (first (check (table_of image) words)
     (layout_verdict image)))
 
-unfoldable pub free_space_of : List ℕ → List DiscRegion
+abbrev pub free_space_of : List ℕ → List DiscRegion
 free_space_of image = free_regions (disc_end image) (used_in image)
 
 -- "Used total = table end + all file sizes.", and "Used totals .. gain the program where it lies past the table"
 unfoldable pub used_of : List ℕ → ℕ
 used_of image = used_total (table_end image) (behind_table image)
+
+-- ---- the disc that an image means, where it opens: all that an edit is decided on
+
+pub record Disc : Type 0 where
+  -- the tree of the table; where the table stands, its size, and the stated maximum of that
+  pub nodes : List Node
+  pub start : ℕ
+  pub room : ℕ
+  pub maximum : ℕ
+  -- where the disc ends, and its used regions
+  pub end : ℕ
+  pub used : List DiscRegion
+
+abbrev pub disc_of : List ℕ → Disc
+disc_of image = record {
+  nodes = nodes_in image;
+  start = fst_offset image;
+  room = fst_size image;
+  maximum = fst_max_size image;
+  end = disc_end image;
+  used = used_in image;
+}
+
+abbrev pub free_of : Disc → List DiscRegion
+free_of d = free_regions d.end d.used
 
 -- ---- working memory
 

@@ -22,7 +22,7 @@ pub struct Disc {
 
 /// What an open disc tells of itself.
 pub fn told(disc: &OpenDisc<'_>) -> Disc
-    ensures { result ≡ told_of disc.now }
+    ensures { result ≡ told_of disc.now.disc }
 {
     Disc {
         fst_offset: disc.start(),

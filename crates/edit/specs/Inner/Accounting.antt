@@ -6,7 +6,8 @@ use Rattle.header.specs.Verdicts.{fst_offset, fst_size, disc_end}
 use Rattle.space.specs.declared.region.DiscRegion.{DiscRegion}
 use Rattle.space.specs.Inner.Sort.{regions_in}
 use Rattle.opened.specs.Inner.Prepared.{IsOpen}
-use Rattle.opened.specs.Inner.Disc.{Disc, Means}
+use Rattle.opened.specs.Opening.{Disc}
+use Rattle.opened.specs.Inner.Disc.{Opened, Means}
 use Rattle.space.specs.declared.totals.Totals.{Totals}
 use Rattle.space.specs.Totals.{totals_verdict, totals_moved}
 use Rattle.space.specs.Inner.Scan.{longest_from, gone_of, Moved, moved_as}
@@ -24,7 +25,7 @@ OnDisc d (Ok (decision.Clip n at)) = Unit {0}
 OnDisc d (Ok (decision.Write n size w)) = d.start + size ≤ d.end
 
 -- P of each image that means the disc, and of its used regions behind the table, in the order in which lent words hold them
-pub record OfUsed (d : Disc) (P : List ℕ → List DiscRegion → Type 0) : Type 0 where
+pub record OfUsed (d : Opened) (P : List ℕ → List DiscRegion → Type 0) : Type 0 where
   pub words : List ℕ
   pub count : ℕ
   pub long : length words ≡ d.words

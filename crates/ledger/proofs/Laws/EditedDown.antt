@@ -14,11 +14,11 @@ use Rattle.tree.proofs.Laws.RoundTrip.{limits-within}
 use Rattle.tree.proofs.Laws.WrittenEntries.{length-encode}
 use Rattle.space.specs.MaxRegionSize.{max_region_size}
 use Rattle.space.specs.Laws.GrowthLaws.{table-largest}
-use Rattle.opened.specs.Opening.{table_of, nodes_in, free_space_of, opening}
+use Rattle.opened.specs.Opening.{table_of, nodes_in, free_space_of, opening, disc_of}
 use Rattle.opened.specs.Inner.Prepared.{OpenImage}
 use Rattle.opened.proofs.Laws.OpeningLaws.{opens}
 use Rattle.disc.specs.Calls.{totals_of}
-use Rattle.edits.specs.Change.{table_verdict_in}
+use Rattle.edits.specs.Change.{table_verdict}
 use Rattle.edits.specs.Edits.{no_place, rewrite, plan_of, plan_verdict, verdict_of, image_after}
 use Rattle.edits.proofs.Laws.PlaceTests.{stated-apart}
 use Rattle.ledger.proofs.Laws.Files.{places_in}
@@ -47,8 +47,8 @@ module _ (image : List ℕ) (words bytes : ℕ) (b : AllBytes image) (e : openin
   grows : length (encode (nodes_in image)) ≤ max_region_size (fst_offset image) (fst_size image) (free_space_of image)
   grows = rw (free-places image) (omega (arith, (table-largest (disc_end image) (table_end image) (places_in image) (fst_offset image) (fst_size image) refl).least))
 
-  passes : plan_verdict (plan_of rewrite image) image words bytes ≡ Ok tt
-  unfolding table_verdict_in
+  passes : plan_verdict (plan_of rewrite (disc_of image)) (disc_of image) words bytes ≡ Ok tt
+  unfolding table_verdict
   passes =
       let size : ℕ = length (encode (nodes_in image)) in
       rw (within, stated-apart image bytes size no_place (inr down), le-ltb bytes size held, le-ltb (max_region_size (fst_offset image) (fst_size image) (free_space_of image)) size grows)

@@ -4,7 +4,7 @@ use Rattle.endian.specs.Bytes.{put}
 use Rattle.refusal.specs.declared.Refusal.{Refusal}
 use Rattle.refusal.specs.declared.Refusal.TheVariants.{LimitOrMemory}
 use Rattle.space.specs.Used.{total_size}
-use Rattle.opened.specs.Inner.Disc.{Disc, free_of}
+use Rattle.opened.specs.Opening.{Disc, free_of}
 use Rattle.listing.specs.Lines.{totals_line, entry_lines, region_lines}
 
 -- how long it is, if there is room for it

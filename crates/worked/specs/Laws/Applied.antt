@@ -17,7 +17,7 @@ use Rattle.space.specs.Listing.{rows_of}
 use Rattle.window.specs.Window.{new_window, count_of}
 use Rattle.space.specs.declared.totals.Totals.{Totals}
 use Rattle.executable.specs.Program.{program_in, own_region}
-use Rattle.opened.specs.Opening.{table_of, nodes_in, used_in, free_space_of, used_of, opening}
+use Rattle.opened.specs.Opening.{table_of, nodes_in, used_in, free_space_of, used_of, opening, disc_of}
 use Rattle.disc.specs.Calls.{totals_answer, program_answer, free_regions_answer, free_regions_list, totals_of, record_answer}
 use Rattle.disc.specs.Files.{open_file_answer}
 use Rattle.edits.specs.Change.{nothing}
@@ -114,7 +114,7 @@ demanded w h =
       opens = d.opens;
       tree = d.tree;
       apart = λ j i. d.apart j 2 0x500 i (rw (used-regions at_last));
-      sum = let s = rw (at_last.tree, at_last.runs, at_last.header.0, at_last.header.1, at_last.header.3) at d.sum in omega (arith, s);
+      sum = let s = rw (at_last.tree, at_last.runs, at_last.header.0, at_last.header.1) at d.sum in omega (arith, s, at_last.header.3);
       used = d.used-reported ∙ rw (at_last.tree, at_last.runs, at_last.header.0, at_last.header.1, at_last.header.3);
       free = d.free-reported 8 ∙ rw (space at_last);
       listed = d.free-listed (replicate 9 7) ∙ rw (space at_last);
@@ -203,7 +203,7 @@ over-sizes : (fst_max_size over ≡ 0x19) × (fst_size over ≡ 0x1A)
 unfolding stating master put be32
 over-sizes = (refl, refl)
 
-over-plan : plan_of (resize_file 1 0x100) over ≡ nothing
+over-plan : plan_of (resize_file 1 0x100) (disc_of over) ≡ nothing
 unfolding plan_resize stating master put table_of nodes_in nodes_of nodes_from node_at name_at count be24 be32
 over-plan = refl
 

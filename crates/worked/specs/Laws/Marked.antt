@@ -33,7 +33,7 @@ use Rattle.opened.specs.Opening.{table_of, nodes_in, opening, free_space_of, use
 use Rattle.disc.specs.Files.{entry_answer, lookup_answer, max_file_size_answer, open_file_answer}
 use Rattle.disc.specs.Calls.{totals_answer, free_answer, free_list, free_regions_answer, free_regions_list, free_clusters_answer, free_clusters_list, allocate_answer}
 use Rattle.opened.specs.Answers.{max_region_size_answer}
-use Rattle.edits.specs.Change.{with_table, written, table_verdict_in, place_verdict_in}
+use Rattle.edits.specs.Change.{with_table, written, table_verdict, place_verdict}
 use Rattle.edits.specs.Edits.{Edit, move_file, resize_file, plan_move, plan_resize, counted_verdict, verdict_of, image_after}
 use Rattle.worked.specs.Image.{master, master_words, master_bytes}
 
@@ -61,7 +61,7 @@ abbrev pub at : ℕ → ℕ → DiscRegion
 at o n = record { offset = o; size = n }
 
 pub free : free_space_of master ≡ at 1114 166 ∷ at 1536 6656 ∷ []
-unfolding master put table_of nodes_in nodes_of nodes_from node_at name_at count be24 be32 free_space_of used_in behind_table program_of program_in own_region free_regions runs uses_byte nonempty
+unfolding master put table_of nodes_in nodes_of nodes_from node_at name_at count be24 be32 used_in behind_table program_of program_in own_region free_regions runs uses_byte nonempty
 free = refl
 
 pub used : used_of master ≡ 1370
@@ -98,7 +98,7 @@ unfolding master put opening layout_verdict header_verdict fields_verdict field_
 moved-opens = refl
 
 pub moved-free : free_space_of (moved_a 0x600) ≡ at 0x45A 0x1A6 ∷ at 0x700 0x1900 ∷ []
-unfolding master put table_of nodes_in nodes_of nodes_from node_at name_at count be24 be32 texts_of encode entries_bytes parent_of parent_below written with_table free_space_of used_in behind_table program_of program_in own_region free_regions runs uses_byte nonempty
+unfolding master put table_of nodes_in nodes_of nodes_from node_at name_at count be24 be32 texts_of encode entries_bytes parent_of parent_below written with_table used_in behind_table program_of program_in own_region free_regions runs uses_byte nonempty
 moved-free = refl
 
 resized-used : used_of (resized_a 0x1B00) ≡ 8026
@@ -129,7 +129,7 @@ abbrev four : List ℕ
 four = 0 ∷ 0 ∷ 0 ∷ 0 ∷ []
 
 moves : on_master (move_file 1 0x600) ≡ Ok tt
-unfolding verdict_of counted_verdict totals_verdict plan_move max_size_from beside_free table_verdict_in place_verdict_in limits shallow shallow_from shut texts_of encode entries_bytes parent_of parent_below set_place
+unfolding verdict_of counted_verdict totals_verdict plan_move max_size_from beside_free table_verdict place_verdict limits shallow shallow_from shut texts_of encode entries_bytes parent_of parent_below set_place
 moves = rw (opens, nodes, free, header.3, header.0, header.1, free, used, moved-used)
 
 moved-is : moved_to 0x600 ≡ moved_a 0x600
@@ -169,7 +169,7 @@ pub record Marked : Type 0 where
   pub P12 : (open_file_answer master master_words 1 ≡ Ok window_of_a) × (seek_of window_of_a (Current (negsuc 0)) ≡ Err InvalidSeek) × (number_of InvalidSeek ≡ 23)
 
 pub marked : Marked
-unfolding max_file_size_answer max_region_size_answer allocate_answer lookup_answer entry_answer open_file_answer max_size_from beside_free allocation_of powers largest better_of align_up verdict_of counted_verdict totals_verdict plan_move plan_resize table_verdict_in place_verdict_in limits shallow shallow_from shut texts_of encode entries_bytes parent_of parent_below lookup follow components child_of first_child same_bytes set_place components_of units
+unfolding max_file_size_answer max_region_size_answer allocate_answer lookup_answer entry_answer open_file_answer max_size_from beside_free allocation_of powers largest better_of align_up verdict_of counted_verdict totals_verdict plan_move plan_resize table_verdict place_verdict limits shallow shallow_from shut texts_of encode entries_bytes parent_of parent_below lookup follow components child_of first_child same_bytes set_place components_of units
 marked = record {
   P1 = rw (opens, nodes, opens, free);
   P2 = rw (opens, free);

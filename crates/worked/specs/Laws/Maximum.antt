@@ -18,8 +18,8 @@ use Rattle.space.specs.Free.{runs, free_regions}
 use Rattle.space.specs.MaxRegionSize.{beside_free, max_size_from}
 use Rattle.space.specs.Totals.{totals_verdict}
 use Rattle.executable.specs.Program.{program_of, program_in, own_region}
-use Rattle.opened.specs.Opening.{table_of, nodes_in, opening, behind_table, used_in, free_space_of, used_of, layout_verdict}
-use Rattle.edits.specs.Change.{Change, nothing, change, filled, with_table, written, table_verdict_in, place_verdict_in}
+use Rattle.opened.specs.Opening.{table_of, nodes_in, opening, behind_table, used_in, free_space_of, used_of, layout_verdict, disc_of}
+use Rattle.edits.specs.Change.{Change, nothing, change, filled, with_table, written, table_verdict, place_verdict}
 use Rattle.edits.specs.Edits.{Edit, insert_file, move_file, resize_file, fill_file, rewrite, table_only, insert_verdict, plan_of, plan_move, plan_resize, plan_fill, counted_verdict, verdict_of}
 use Rattle.worked.specs.Image.{master, master_words}
 use Rattle.worked.specs.Laws.Marked.{at, fresh}
@@ -50,7 +50,6 @@ unfolding free_regions runs uses_byte
 runs-between = refl
 
 free : (m : ℕ) → free_space_of (stating m) ≡ at 1114 166 ∷ at 1536 6656 ∷ []
-unfolding free_space_of
 free m = rw (regions m, (table m).2) runs-between
 
 used : (m : ℕ) → used_of (stating m) ≡ 1370
@@ -78,7 +77,7 @@ unfolding tight stating master put be32
 tight-header = (refl, refl, refl, refl)
 
 tight-free : free_space_of (tight 0) ≡ at 1370 6822 ∷ []
-unfolding tight stating master put table_of nodes_in nodes_of nodes_from node_at name_at count be24 be32 free_space_of used_in behind_table program_of program_in own_region free_regions runs uses_byte nonempty
+unfolding tight stating master put table_of nodes_in nodes_of nodes_from node_at name_at count be24 be32 used_in behind_table program_of program_in own_region free_regions runs uses_byte nonempty
 tight-free = refl
 
 -- the same, with a zero byte more behind the texts: 0x1B bytes, written anew 0x1A
@@ -102,7 +101,7 @@ unfolding slack stating master put be32
 slack-header = (refl, refl, refl)
 
 slack-free : free_space_of (slack 0x1A) ≡ at 1115 165 ∷ at 1536 6656 ∷ []
-unfolding slack stating master put table_of nodes_in nodes_of nodes_from node_at name_at count be24 be32 free_space_of used_in behind_table program_of program_in own_region free_regions runs uses_byte nonempty
+unfolding slack stating master put table_of nodes_in nodes_of nodes_from node_at name_at count be24 be32 used_in behind_table program_of program_in own_region free_regions runs uses_byte nonempty
 slack-free = refl
 
 slack-used : used_of (slack 0x1A) ≡ 1371
@@ -128,11 +127,11 @@ with_b = table_only (directory [] 3 ∷ file (0x61 ∷ []) 0x500 0x100 ∷ file 
 abbrev tight_with_b : Change
 tight_with_b = table_only (directory [] 3 ∷ file (0x61 ∷ []) 0x45A 0x100 ∷ file (0x62 ∷ []) 0 0 ∷ [])
 
-plan-b : (m : ℕ) → plan_of insert_b (stating m) ≡ change 2 with_b
+plan-b : (m : ℕ) → plan_of insert_b (disc_of (stating m)) ≡ change 2 with_b
 unfolding insert_verdict insert_at splice bump child_of first_child same_bytes plain safe parent_of parent_below shut units
 plan-b m = rw (nodes m)
 
-tight-plan : (m : ℕ) → plan_of insert_b (tight m) ≡ change 2 tight_with_b
+tight-plan : (m : ℕ) → plan_of insert_b (disc_of (tight m)) ≡ change 2 tight_with_b
 unfolding insert_verdict insert_at splice bump child_of first_child same_bytes plain safe parent_of parent_below shut units
 tight-plan m = rw (tight-nodes m)
 
@@ -144,7 +143,7 @@ inserted m = refl
 abbrev clip : List ℕ
 clip = replicate 0x100 7
 
-plan-clip : plan_of (fill_file 1 clip) (stating 0x19) ≡ filled 1 clip nothing
+plan-clip : plan_of (fill_file 1 clip) (disc_of (stating 0x19)) ≡ filled 1 clip nothing
 unfolding plan_fill plan_resize
 plan-clip = rw (nodes 0x19)
 
@@ -181,7 +180,7 @@ pub record Maximum : Type 0 where
   pub number : number_of TableAboveMaximum ≡ 26
 
 pub maximum : Maximum
-unfolding verdict_of counted_verdict totals_verdict plan_move plan_resize max_size_from beside_free table_verdict_in place_verdict_in limits shallow shallow_from shut texts_of encode entries_bytes parent_of parent_below set_place
+unfolding verdict_of counted_verdict totals_verdict plan_move plan_resize max_size_from beside_free table_verdict place_verdict limits shallow shallow_from shut texts_of encode entries_bytes parent_of parent_below set_place
 maximum = record {
   exact = (rw (opens 0x1A, nodes 0x1A, free 0x1A, stated.0, (table 0x1A).0, (table 0x1A).1, used 0x1A, rewritten 0x1A), rw (opens 0x1A, plan-b 0x1A, stated.0));
   larger = (

@@ -16,7 +16,7 @@ use Rattle.space.specs.Totals.{totals_verdict, totals_moved}
 use Rattle.executable.specs.Program.{program_of, program_in, own_region}
 use Rattle.opened.specs.Opening.{table_of, nodes_in, behind_table, used_in, free_space_of, used_of}
 use Rattle.disc.specs.Calls.{record_answer}
-use Rattle.edits.specs.Change.{with_table, written, table_verdict_in, place_verdict_in}
+use Rattle.edits.specs.Change.{with_table, written, table_verdict, place_verdict}
 use Rattle.edits.specs.Edits.{Edit, move_file, resize_file, rewrite, table_only, plan_move, plan_resize, counted_verdict, verdict_of, image_after, totals_after}
 use Rattle.worked.specs.Image.{master, master_words, master_bytes}
 use Rattle.worked.specs.Laws.Marked.{at, opens, nodes, header, free, used, fresh, resized_a, moved-used, moved-free}
@@ -31,7 +31,7 @@ unfolding master put table_of nodes_in nodes_of nodes_from node_at name_at count
 useds = (refl, refl, refl, refl)
 
 frees : (free_space_of rewritten_master ≡ at 1114 166 ∷ at 1536 6656 ∷ []) × (free_space_of (resized_a 756) ≡ at 1114 166 ∷ at 2036 6156 ∷ [])
-unfolding master put table_of nodes_in nodes_of nodes_from node_at name_at count be24 be32 texts_of encode entries_bytes parent_of parent_below written with_table free_space_of used_in behind_table program_of program_in own_region free_regions runs uses_byte nonempty
+unfolding master put table_of nodes_in nodes_of nodes_from node_at name_at count be24 be32 texts_of encode entries_bytes parent_of parent_below written with_table used_in behind_table program_of program_in own_region free_regions runs uses_byte nonempty
 frees = (refl, refl)
 
 -- ---- what an edit of the small master with a record answers, and what image and record it leaves
@@ -60,7 +60,7 @@ module _ (t : Totals) where
     pub moved : answer (move_file 1 0x600) t ≡ totals_verdict t 1370 1370
 
   counted : Counted
-  unfolding verdict_of counted_verdict plan_move plan_resize max_size_from beside_free table_verdict_in place_verdict_in limits shallow shallow_from shut texts_of encode entries_bytes parent_of parent_below set_place
+  unfolding verdict_of counted_verdict plan_move plan_resize max_size_from beside_free table_verdict place_verdict limits shallow shallow_from shut texts_of encode entries_bytes parent_of parent_below set_place
   counted = record {
     rewritten = rw (opens, nodes, free, header.3, header.0, header.1, used, useds.0);
     same_size = rw (opens, nodes, used);

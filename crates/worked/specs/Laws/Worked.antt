@@ -23,7 +23,7 @@ use Rattle.space.specs.Allocate.{better_of, largest, powers, allocation_of}
 use Rattle.space.specs.Totals.{totals_verdict}
 use Rattle.executable.specs.Program.{program_of, program_in, own_region}
 use Rattle.opened.specs.Opening.{table_of, nodes_in, opening, free_space_of, used_of, used_in, behind_table, layout_verdict}
-use Rattle.edits.specs.Change.{with_table, written, table_verdict_in, place_verdict_in}
+use Rattle.edits.specs.Change.{with_table, written, table_verdict, place_verdict}
 use Rattle.edits.specs.Edits.{Edit, insert_file, insert_directory, move_file, resize_file, rewrite, insert_verdict, plan_move, plan_resize, counted_verdict, verdict_of, image_after}
 use Rattle.disc.specs.Calls.{totals_of}
 
@@ -72,7 +72,7 @@ pub record Worked : Type 0 where
   pub exists : (verdict_on (insert_file 0 (0x62 ∷ [])) small ≡ Err AlreadyExists) × (verdict_on (insert_directory 0 (0x62 ∷ [])) small ≡ Err AlreadyExists) × (number_of AlreadyExists ≡ 19)
 
 pub worked : Worked
-unfolding small plan_move plan_resize insert_verdict child_of first_child same_bytes put opening layout_verdict header_verdict fields_verdict field_verdict fields bounds_verdict table_of check nodes_in nodes_of nodes_from node_at name_at count entries_verdict entry_verdict unended walk name_verdict next_verdict shut plain safe be24 be32 used_in behind_table program_of program_in own_region nonempty disjoint_below pairwise_disjoint disjoint_from_all disjoint end_by free_space_of free_regions runs uses_byte used_of total_size totals_verdict image_after verdict_of counted_verdict table_verdict_in place_verdict_in limits shallow shallow_from texts_of encode entries_bytes parent_of parent_below set_place written with_table max_size_from beside_free units
+unfolding small plan_move plan_resize insert_verdict child_of first_child same_bytes put opening layout_verdict header_verdict fields_verdict field_verdict fields bounds_verdict table_of check nodes_in nodes_of nodes_from node_at name_at count entries_verdict entry_verdict unended walk name_verdict next_verdict shut plain safe be24 be32 used_in behind_table program_of program_in own_region nonempty disjoint_below pairwise_disjoint disjoint_from_all disjoint end_by free_regions runs uses_byte used_of total_size totals_verdict image_after verdict_of counted_verdict table_verdict place_verdict limits shallow shallow_from texts_of encode entries_bytes parent_of parent_below set_place written with_table max_size_from beside_free units
 worked = record {
   moved = (refl, refl, refl);
   rewritten = (refl, refl, refl, refl);
@@ -97,7 +97,7 @@ unfolding large put table_of nodes_in nodes_of nodes_from node_at name_at count 
 large-nodes = refl
 
 pub large-free : free_space_of large ≡ at 0x46B 0x95 ∷ at 0x50C 0x7B34 ∷ []
-unfolding large put table_of nodes_in nodes_of nodes_from node_at name_at count be24 be32 free_space_of used_in behind_table program_of program_in own_region free_regions runs uses_byte nonempty
+unfolding large put table_of nodes_in nodes_of nodes_from node_at name_at count be24 be32 used_in behind_table program_of program_in own_region free_regions runs uses_byte nonempty
 large-free = refl
 
 pub large-used : used_of large ≡ 1143
@@ -123,7 +123,7 @@ unfolding large put table_of nodes_in nodes_of nodes_from node_at name_at count 
 grown-used = refl
 
 grows : verdict_on (resize_file 1 12) large ≡ Ok tt
-unfolding verdict_of counted_verdict totals_verdict plan_resize max_size_from beside_free allocation_of powers largest better_of align_up table_verdict_in place_verdict_in limits shallow shallow_from shut texts_of encode entries_bytes parent_of parent_below set_place
+unfolding verdict_of counted_verdict totals_verdict plan_resize max_size_from beside_free allocation_of powers largest better_of align_up table_verdict place_verdict limits shallow shallow_from shut texts_of encode entries_bytes parent_of parent_below set_place
 grows = rw (large-opens, large-nodes, large-free, large-header.2, large-header.0, large-header.1, large-free, large-used, grown-used)
 
 grown-is : after (resize_file 1 12) large ≡ grown

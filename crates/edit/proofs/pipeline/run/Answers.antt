@@ -5,5 +5,5 @@ use Rattle.edit.proofs.pipeline.run.Goals as goal
 
 pub returns : goal.returns
 returns c =
-    let f = rw (c.new-words.ensures.memory, c.new-bytes.ensures.memory) at c.decide-decided.ensures in
+    let f = rw (c.new-words.ensures.memory, c.new-bytes.ensures.memory) at c.decide_image-decided.ensures in
     edited _ _ _ _ _ _ _ _ _ _ _ _ _ f c.clip.ensures c.finish.ensures.image_after (search rules) (search rules) _ c.finish.ensures.answer

@@ -7,4 +7,4 @@ pub returns : goal.returns
 returns c =
     let u = c.used_regions-used.ensures in
     let n = rw (← c.new-table.ensures) at c.table.ensures.nodes in
-    appends-as c.put_lines.ensures (text-is c.args.disc.now _ _ u.end n u.same u.free)
+    appends-as c.put_lines.ensures (text-is c.args.disc.now.disc _ _ u.end n u.same u.free)

@@ -1,9 +1,9 @@
--- `pipeline::decide` meets its contract: refused by opening, or what is decided on, entered in the record.
+-- `pipeline::decide_image` meets its contract: refused by opening, or what is decided on, entered in the record.
 use Rattle.std.proofs.Common.{refl, arith}
 use Rattle.std.proofs.lemmas.Result.{err_from_is_err_and}
 use Rattle.edit.proofs.Edited.{unopened-accounted}
 use Rattle.edit.proofs.EditCases.{on_disc, edit-accounted}
-use Rattle.edit.proofs.pipeline.decide.Goals as goal
+use Rattle.edit.proofs.pipeline.decide_image.Goals as goal
 
 pub returns-in_err-disc : goal.returns-in_err-disc
 returns-in_err-disc c =
@@ -11,7 +11,7 @@ returns-in_err-disc c =
     rw (p.1, p.2) (unopened-accounted _ _ _ _ _ _ _ _ _ (rw c.in_err-disc.was at c.of_image.ensures) refl)
 
 pub account-requires : goal.account-requires
-account-requires c = on_disc _ _ _ _ c.in_ok-disc.ensures _ _ _ _ c.decide_open-decided.ensures (omega arith)
+account-requires c = on_disc _ _ _ _ c.in_ok-disc.ensures _ _ _ _ c.decide-decided.ensures (omega arith)
 
 pub returns : goal.returns
-returns c = edit-accounted _ _ _ _ c.in_ok-disc.ensures _ _ _ _ c.decide_open-decided.ensures _ _ c.account.ensures (omega arith)
+returns c = edit-accounted _ _ _ _ c.in_ok-disc.ensures _ _ _ _ c.decide-decided.ensures _ _ c.account.ensures (omega arith)
