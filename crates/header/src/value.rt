@@ -127,8 +127,8 @@ fn write_all(image: &mut [u8], at: usize, bytes: &[u8])
     endian::copy(bytes, 0, image, at, bytes.len());
 }
 
-// The header written in three parts: the fields up to the magics, those up to the DOL offset, and the words from
-// there on.
+// The header written in three parts: the fields up to the magics, those up to the DOL offset, and the words
+// from there on.
 impl DiscHeader {
     fn write_codes(self, image: &mut [u8])
         requires { 0x440 ≤ length image.old }
@@ -173,10 +173,11 @@ impl DiscHeader {
         endian::write_u32(image, Field::UNUSED_43C.at, self.unused_43c);
     }
 
-    /// Writes every field at its place. An image too short for the header is refused (`HeaderPastImage`) and left
-    /// as it was.
+    /// Writes every field at its place. An image too short for the header is refused (`HeaderPastImage`) and
+    /// left as it was.
     pub fn write_to(self, image: &mut [u8]) -> Verdict
-        ensures { (result ≡ write_verdict image.old) × (image.new ≡ header_written self image.old) }
+        ensures value { result ≡ write_verdict image.old }
+        ensures image_after { image.new ≡ header_written self image.old }
     {
         if image.len() < 0x440 {
             return Err(Refusal::HeaderPastImage);

@@ -1,5 +1,6 @@
-// A window shows a part of an image: where the part starts, how long it is, and the position in it. It goes in by value, and each
-// call gives back the moved window. `seek_lent` and `read_lent` are the same two calls on a window that the caller lends and finds moved.
+// A window shows a part of an image: where the part starts, how long it is, and the position in it. It goes
+// in by value, and each call gives back the moved window. `seek_lent` and `read_lent` are the same two calls
+// on a window that the caller lends and finds moved.
 #![tactic(auto)]
 
 ghost use Rattle.std.specs.Prelude.{◌≡◌, length};
@@ -9,7 +10,8 @@ ghost use Rattle.window.specs.Window.{buffer_of, seek_read_of};
 use refusal::Refusal;
 pub use std::io::SeekFrom;
 
-/// A part of an image, in bytes: where it starts, how long it is, and the position in it. A position past the end is one too.
+/// A part of an image, in bytes: where it starts, how long it is, and the position in it. A position past the
+/// end is one too.
 #[repr(C)]
 #[derive(Clone, Copy, PartialEq, Eq, Debug)]
 pub struct Window {
@@ -54,8 +56,8 @@ impl Window {
         }
     }
 
-    /// The window at another position; distances are added modulo 2^64. Refused (`InvalidSeek`) where start + position
-    /// passes 2^64 - 1; a distance of 0 from the current position always succeeds.
+    /// The window at another position; distances are added modulo 2^64. Refused (`InvalidSeek`) where start +
+    /// position passes 2^64 - 1; a distance of 0 from the current position always succeeds.
     pub fn seek(self, to: SeekFrom) -> Result<Window, Refusal>
         ensures { result ≡ seek_of self to }
     {
@@ -67,8 +69,8 @@ impl Window {
         }
     }
 
-    /// Puts the bytes at the position at the front of the buffer: as many as the buffer has room for, and as are left both in
-    /// the window and in the image. The rest of the buffer stays.
+    /// Puts the bytes at the position at the front of the buffer: as many as the buffer has room for, and as
+    /// are left both in the window and in the image. The rest of the buffer stays.
     pub fn read(self, image: &[u8], buf: &mut [u8]) -> BytesRead
         ensures answer { result ≡ read_of self (length image.now) (length buf.old) }
         ensures buffer { buf.new ≡ buffer_of self image.now buf.old }
@@ -130,7 +132,8 @@ pub fn read_lent(w: &mut Window, image: &[u8], buf: &mut [u8]) -> usize
     read.count
 }
 
-/// A seek and then a read on one window, which this function lends to both. A refused seek leaves the window for the read.
+/// A seek and then a read on one window, which this function lends to both. A refused seek leaves the window
+/// for the read.
 pub fn seek_and_read(w: Window, to: SeekFrom, image: &[u8], buf: &mut [u8]) -> SoughtAndRead
     ensures answer { result ≡ seek_read_of w to (length image.now) (length buf.old) }
     ensures buffer { buf.new ≡ buffer_of (settled_of w (seek_of w to)) image.now buf.old }
