@@ -63,3 +63,9 @@ module _ (tab : List ℕ) (c o : ℕ) where
       let a : 12 * c + o + (length s - 1) ≡ length tab - 1 = omega arith in
       let e = up_to0-ends s (omega arith) (get_or-drop (12 * c + o) tab (length s - 1) 0 ∙ ap (λ (n : ℕ). get_or tab n 0) a ∙ z) in
       (omega arith, sym (get_or-drop (12 * c + o) tab (length (up_to0 s)) 0) ∙ e.1)
+
+-- as many bytes as it has are the text
+pub take-up_to0 : (s : List ℕ) → take (length (up_to0 s)) s ≡ up_to0 s
+take-up_to0 [] = refl
+take-up_to0 (zero ∷ s) = refl
+take-up_to0 (suc b ∷ s) = ap (λ (t : List ℕ). suc b ∷ t) (take-up_to0 s)
