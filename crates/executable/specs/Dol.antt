@@ -1,6 +1,4 @@
--- The DOL header, 0xE4 bytes: 7 text and 11 data offsets, then addresses, then sizes in that order, BSS address, BSS size, entry point, each a
--- big-endian field of 4 bytes. The file size is the largest offset + size of the 18. Refused 24: a header that passes the image's end, or a sum
--- above 2^32 - 1. Assumes nothing: these are definitions.
+-- The DOL header, 0xE4 bytes: 7 text and 11 data offsets, then addresses, then sizes in that order, BSS address, BSS size, entry point.
 use Rattle.refusal.specs.Refusal.{Verdict, refuse}
 use Rattle.refusal.specs.declared.Refusal.{Refusal}
 use Rattle.std.specs.Prelude.{ℕ, zero, suc, ◌+◌, ◌-◌, ◌^◌, max, List, [], ◌∷◌, length, replicate, Result, Ok, Err, nat_lt}
@@ -34,11 +32,11 @@ largest_of [] ss = 0
 largest_of (o ∷ os) [] = 0
 largest_of (o ∷ os) (s ∷ ss) = max (o + s) (largest_of os ss)
 
--- "File size: largest offset + size of the 18"
+-- the largest offset + size of the 18 sections
 abbrev pub file_size_of : DolHeader → ℕ
 file_size_of h = max (largest_of h.text_offsets h.text_sizes) (largest_of h.data_offsets h.data_sizes)
 
--- "DOL header past the image, or a sum above 2^32 - 1", which is the largest sum above it
+-- a header past the image's end, or a sum above 2^32 - 1, which is the largest sum above it
 abbrev pub dol_verdict_of : List ℕ → ℕ → Verdict
 dol_verdict_of s at = refuse (nat_lt (length s) (at + 0xE4)) InvalidDol (refuse (nat_lt (2 ^ 32 - 1) (file_size_of (dol_header_of s at))) InvalidDol (Ok tt))
 

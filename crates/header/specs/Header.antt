@@ -1,4 +1,4 @@
--- The header as it is read, made and written. Assumes nothing: these are definitions.
+-- The header as it is read, made and written.
 use Rattle.refusal.specs.Refusal.{Verdict, refuse}
 use Rattle.std.specs.Prelude.{ℕ, List, [], ◌∷◌, length, replicate, Result, Ok, Err, nat_lt, slice_index}
 use Rattle.endian.specs.Bytes.{be32_bytes, put, span}
@@ -16,7 +16,7 @@ bytes_of f image = span image f.at f.len
 abbrev pub byte_of : Field → List ℕ → ℕ
 byte_of f image = slice_index image f.at
 
--- "Fields are big-endian." "The game name is opaque."
+-- every field as the image has it
 unfoldable pub header_of : List ℕ → DiscHeader
 header_of image = record {
   game_code = bytes_of game_code_field image;
@@ -78,7 +78,7 @@ header_read image = header_answer (header_verdict image) (header_of image)
 
 -- ---- written
 
--- what a header puts in each field, in the order of the table; the game name, the word at 0x18 and the unused runs "as read"
+-- what a header puts in each field, in the order of the fields
 unfoldable pub field_bytes : DiscHeader → List (List ℕ)
 field_bytes h =
     h.game_code
