@@ -1,7 +1,8 @@
 -- The DOL header, 0xE4 bytes: 7 text and 11 data offsets, then addresses, then sizes in that order, BSS address, BSS size, entry point.
 use Rattle.refusal.specs.Refusal.{Verdict, refuse}
 use Rattle.refusal.specs.declared.Refusal.{Refusal}
-use Rattle.std.specs.Prelude.{ℕ, zero, suc, ◌+◌, ◌-◌, ◌^◌, max, List, [], ◌∷◌, length, replicate, Result, Ok, Err, nat_lt}
+use Rattle.std.specs.Prelude.{ℕ, zero, suc, ◌+◌, ◌-◌, ◌^◌, max, List, [], ◌∷◌, length, replicate, Result, Ok, nat_lt}
+use Rattle.std.specs.Result.{result_and}
 use Rattle.endian.specs.Bytes.{be32}
 use Rattle.refusal.specs.declared.Refusal.TheVariants.{InvalidDol}
 use Rattle.executable.specs.declared.dol.DolHeader.{DolHeader}
@@ -54,18 +55,12 @@ new_header = record {
   entry_point = 0;
 }
 
--- the answer by its verdict: the header and its file size
-abbrev pub dol_answered : Verdict → DolHeader → Result DolAnswer Refusal
-dol_answered (Ok _) h = Ok (record { header = h; size = file_size_of h })
-dol_answered (Err c) h = Err c
-
+-- the header and its file size
 abbrev pub dol_answer_of : List ℕ → ℕ → Result DolAnswer Refusal
-dol_answer_of s at = dol_answered (dol_verdict_of s at) (dol_header_of s at)
+dol_answer_of s at =
+    let h = dol_header_of s at in
+    result_and (dol_verdict_of s at) (Ok (record { header = h; size = file_size_of h }))
 
 -- the file size alone, by the same verdict
-abbrev pub dol_sized : Verdict → ℕ → Result ℕ Refusal
-dol_sized (Ok _) n = Ok n
-dol_sized (Err c) n = Err c
-
 abbrev pub dol_size_of : List ℕ → ℕ → Result ℕ Refusal
-dol_size_of s at = dol_sized (dol_verdict_of s at) (file_size_of (dol_header_of s at))
+dol_size_of s at = result_and (dol_verdict_of s at) (Ok (file_size_of (dol_header_of s at)))

@@ -2,6 +2,7 @@
 use Rattle.refusal.specs.declared.Refusal.{Refusal}
 use Rattle.refusal.specs.Refusal.{Verdict}
 use Rattle.std.specs.Prelude.{ℕ, ◌+◌, max, Bool, ◌&&◌, List, Option, None, Some, Result, Ok, Err, unwrap_or, if◌then◌else◌, ◌==◌, nat_le}
+use Rattle.std.specs.Result.{result_and}
 use Rattle.header.specs.Verdicts.{dol_offset, fst_offset}
 use Rattle.space.specs.declared.region.DiscRegion.{DiscRegion}
 use Rattle.executable.specs.Dol.{dol_header_of, file_size_of, dol_verdict_of}
@@ -14,18 +15,12 @@ Program = Result (Option DiscRegion) Refusal
 abbrev pub program_from : List ℕ → ℕ → DiscRegion
 program_from image at = record { offset = at; size = max (file_size_of (dol_header_of image at)) 0xE4 }
 
--- by the verdict on its header
-abbrev pub program_as : Verdict → DiscRegion → Program
-program_as (Ok _) r = Ok (Some r)
-program_as (Err c) r = Err c
-
 -- a nonzero DOL offset means a program, whose header may be refused
 unfoldable pub program_of : List ℕ → Program
-program_of image = if dol_offset image == 0 then Ok None else program_as (dol_verdict_of image (dol_offset image)) (program_from image (dol_offset image))
+program_of image = if dol_offset image == 0 then Ok None else result_and (dol_verdict_of image (dol_offset image)) (Ok (Some (program_from image (dol_offset image))))
 
 abbrev pub program_verdict : Program → Verdict
-program_verdict (Ok _) = Ok tt
-program_verdict (Err c) = Err c
+program_verdict p = result_and p (Ok tt)
 
 -- ---- where it lies
 

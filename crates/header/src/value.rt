@@ -1,7 +1,7 @@
 // The disc header as a value: read, made and written.
 ghost use Rattle.std.specs.Prelude.{◌≡◌, ◌+◌, ◌≤◌, ◌<◌, length};
 ghost use Rattle.endian.specs.Bytes.{put, span};
-ghost use Rattle.header.specs.Header.{header_of, blank, header_read, write_verdict, header_written};
+ghost use Rattle.header.specs.Header.{header_of, blank_header, header_read, write_verdict, header_written};
 ghost use Rattle.header.specs.Inner.Writing.{put_some};
 
 use crate::fields;
@@ -39,9 +39,9 @@ impl DiscHeader {
     pub const GCN_MAGIC: u32 = fields::GCN_MAGIC;
 
     /// A header of a GameCube disc, with every other field 0.
-    #[tactic(auto, unfolding(crate::specs::Header::blank))]
+    #[tactic(auto, unfolding(crate::specs::Header::blank_header))]
     pub fn new() -> Self
-        ensures { result ≡ blank }
+        ensures { result ≡ blank_header }
     {
         DiscHeader {
             game_code: [0; 4],

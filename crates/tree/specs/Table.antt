@@ -8,6 +8,7 @@ use Rattle.endian.specs.Bytes.{be24, be32, be24_bytes, be32_bytes}
 use Rattle.refusal.specs.declared.Refusal.TheVariants.{EntryPastTable, UnrecognizedKind, RootIsNotDirectory, MissingNullTerminator, LimitOrMemory, InvalidNextIndex, InvalidNameOffset, InvalidNameByte, UnsafeName}
 use Rattle.refusal.specs.Refusal.{refuse, first}
 use Rattle.tree.specs.Units.{TextUnit, single, pair, within, units}
+use Rattle.std.specs.List.{list_all}
 
 -- a file with offset and size, or a directory with its next; its parent is where it is nested, see `parent_of`
 pub data Node : Type 0 where
@@ -23,10 +24,6 @@ abbrev pub none : Node
 none = directory [] 0
 
 -- ---- names
-
-abbrev pub every : {A : Type 0} → (A → Bool) → List A → Bool
-every p [] = true
-every p (x ∷ xs) = p x && every p xs
 
 abbrev pub plain_byte : ℕ → Bool
 plain_byte b = within 0x20 0x7E b || within 0xA1 0xDF b
@@ -44,7 +41,7 @@ safe_unit (pair a b) = true
 
 -- each unit a pair, or a byte 0x20 to 0x7E or 0xA1 to 0xDF
 unfoldable pub plain : List ℕ → Bool
-plain nm = every plain_unit (units nm)
+plain nm = list_all plain_unit (units nm)
 
 -- `.` or `..`
 abbrev pub dots : List ℕ → Bool
@@ -56,7 +53,7 @@ dots (a ∷ b ∷ c ∷ xs) = false
 -- not empty, not `.` or `..`, without `/`, `\` and `:` as units
 unfoldable pub safe : List ℕ → Bool
 safe [] = false
-safe (x ∷ xs) = not (dots (x ∷ xs)) && every safe_unit (units (x ∷ xs))
+safe (x ∷ xs) = not (dots (x ∷ xs)) && list_all safe_unit (units (x ∷ xs))
 
 -- ---- an entry has 12 bytes: kind (0 file, 1 directory), name offset (3), offset or parent (4), size or next (4)
 

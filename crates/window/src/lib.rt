@@ -4,7 +4,8 @@
 #![tactic(auto)]
 
 ghost use Rattle.std.specs.Prelude.{◌≡◌, length};
-ghost use Rattle.window.specs.Window.{new_window, judged, seek_of, settled_of, count_of, moved_on, read_of};
+ghost use Rattle.window.specs.Window.{new_window, window_at, seek_of, read_of, count_of};
+ghost use Rattle.window.specs.Window.{window_after_seek, window_after_read};
 ghost use Rattle.window.specs.Window.{buffer_of, seek_read_of};
 
 use refusal::Refusal;
@@ -48,7 +49,7 @@ impl Window {
 
     // The window at that position, if the sum with the start fits.
     fn at(self, position: u64) -> Result<Window, Refusal>
-        ensures { result ≡ judged self position }
+        ensures { result ≡ window_at self position }
     {
         match self.start.checked_add(position) {
             Some(_) => Ok(Window { position, ..self }),
@@ -106,7 +107,7 @@ impl Window {
 
 /// The window after a seek: the one found, or with a refusal the one it was.
 pub fn settled(w: Window, s: Result<Window, Refusal>) -> Window
-    ensures { result ≡ settled_of w s }
+    ensures { result ≡ window_after_seek w s }
 {
     s.unwrap_or(w)
 }
@@ -114,7 +115,7 @@ pub fn settled(w: Window, s: Result<Window, Refusal>) -> Window
 /// `seek` on a window that the caller lends. A refusal leaves it as it was.
 pub fn seek_lent(w: &mut Window, to: SeekFrom) -> Result<Window, Refusal>
     ensures answer { result ≡ seek_of w.old to }
-    ensures moved { w.new ≡ settled_of w.old (seek_of w.old to) }
+    ensures moved { w.new ≡ window_after_seek w.old (seek_of w.old to) }
 {
     let sought = w.seek(to);
     *w = settled(*w, sought);
@@ -124,7 +125,7 @@ pub fn seek_lent(w: &mut Window, to: SeekFrom) -> Result<Window, Refusal>
 /// `read` on a window that the caller lends. It gives how many bytes it put into the buffer.
 pub fn read_lent(w: &mut Window, image: &[u8], buf: &mut [u8]) -> usize
     ensures answer { result ≡ count_of w.old (length image.now) (length buf.old) }
-    ensures moved { w.new ≡ moved_on w.old result }
+    ensures moved { w.new ≡ window_after_read w.old result }
     ensures buffer { buf.new ≡ buffer_of w.old image.now buf.old }
 {
     let read = w.read(image, buf);
@@ -136,7 +137,7 @@ pub fn read_lent(w: &mut Window, image: &[u8], buf: &mut [u8]) -> usize
 /// for the read.
 pub fn seek_and_read(w: Window, to: SeekFrom, image: &[u8], buf: &mut [u8]) -> SoughtAndRead
     ensures answer { result ≡ seek_read_of w to (length image.now) (length buf.old) }
-    ensures buffer { buf.new ≡ buffer_of (settled_of w (seek_of w to)) image.now buf.old }
+    ensures buffer { buf.new ≡ buffer_of (window_after_seek w (seek_of w to)) image.now buf.old }
 {
     let mut lent = w;
     let sought = seek_lent(&mut lent, to);
