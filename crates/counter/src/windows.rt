@@ -1,6 +1,6 @@
 // The calls on a window, which stands in three slots: start, length, position.
 ghost use Rattle.std.specs.Prelude.{◌≡◌, length};
-ghost use Rattle.window.specs.Window.{seek_of, count_of, moved_on, buffer_of};
+ghost use Rattle.window.specs.Window.{seek_of, count_of, window_after_read, buffer_of};
 ghost use Rattle.std.specs.declared.io.SeekFrom.TheVariants.{Start, Current, End};
 ghost use Rattle.disc.specs.Files.{open_file_answer};
 ghost use Rattle.opened.specs.Opening.{zeros};
@@ -66,7 +66,7 @@ pub extern "C" fn counter_read(
 ) -> u32
     ensures number { result ≡ 0 }
     ensures count { answer.new ≡ count_of window.old (length image.now) (length buf.old) }
-    ensures moved_on { window.new ≡ moved_on window.old
+    ensures window_after_read { window.new ≡ window_after_read window.old
         (count_of window.old (length image.now) (length buf.old)) }
     ensures buffer { buf.new ≡ buffer_of window.old image.now buf.old }
 {
