@@ -556,6 +556,7 @@ pub fn hex(bytes: &[u8]) -> String {
 mod tests {
     use super::*;
     use std::cell::Cell;
+    use std::collections::HashMap;
 
     fn sum(parts: &[&[u8]]) -> String {
         let mut sha = Sha256::new();
@@ -634,51 +635,40 @@ mod tests {
         }
     }
 
-    /// Side by side each message has its own sum, whatever their number, lengths and places, and each byte is counted
-    /// once.
+    /// Each message has its own sum and is told once, and each byte is counted once.
+    fn hold(way: Way, width: usize, messages: &[&[u8]]) {
+        let (mut given, mut found) = (messages.iter().copied().enumerate(), HashMap::new());
+        let done = Cell::new(0);
+        let told = |i, sum| assert_eq!(found.insert(i, sum), None);
+        sums_by(way, width, || given.next(), told, |count| done.set(done.get() + count));
+        assert_eq!(done.get(), messages.iter().map(|message| message.len()).sum::<usize>());
+        for (i, message) in messages.iter().enumerate() {
+            assert_eq!(found[&i], of(message, Way::Plain), "{width} {} {i}", messages.len());
+        }
+    }
+
     #[test]
     fn messages_side_by_side() {
         let bytes = bytes(40_000);
-        for (way, width, count) in ways().into_iter().flat_map(|way| {
-            [2, 3, LANES]
-                .into_iter()
-                .flat_map(move |width| (0..30).map(move |count| (way, width, count)))
-        }) {
+        for count in 0..30 {
             let message = |i: usize| &bytes[i * 7..][..(i * i * 37) % (1 + 1000 * (count % 7))];
-            let (mut given, mut found, done) = (0..count, vec![[0; 32]; count], Cell::new(0));
-            let next = || given.next().map(|i| (i, message(i)));
-            let mut told = 0;
-            sums_by(
-                way,
-                width,
-                next,
-                |i, sum| {
-                    assert_eq!(found[i], [0; 32]);
-                    (found[i], told) = (sum, told + 1);
-                },
-                |length| done.set(done.get() + length),
-            );
-            assert_eq!(told, count);
-            assert_eq!(done.get(), (0..count).map(|i| message(i).len()).sum::<usize>());
-            for (i, found) in found.into_iter().enumerate() {
-                assert_eq!(found, of(message(i), Way::Plain), "{width} {count} {i}");
+            let messages: Vec<&[u8]> = (0..count).map(message).collect();
+            for way in ways() {
+                for width in [1, 2, 3, LANES] {
+                    hold(way, width, &messages);
+                }
             }
         }
     }
 
-    /// Any two messages, of each length about the ends of blocks and of eight blocks.
+    /// Of many lengths about the ends of blocks and of eight blocks, in many places.
     #[test]
-    fn pairs() {
+    fn two_side_by_side() {
         let bytes = bytes(3000);
-        for (one, other) in (0..1100)
-            .step_by(13)
-            .flat_map(|one| (0..1100).step_by(37).map(move |other| (one, other)))
-        {
-            let messages = [&bytes[other % 64..][..one], &bytes[one..][..other]];
-            for way in ways() {
-                let (mut given, mut found) = (messages.into_iter().enumerate(), [[0; 32]; 2]);
-                sums_by(way, 2, || given.next(), |i, sum| found[i] = sum, |_| ());
-                assert_eq!(found, messages.map(|message| of(message, Way::Plain)), "{one} {other}");
+        for one in (0..1100).step_by(13) {
+            for other in (0..1100).step_by(37) {
+                let messages = [&bytes[other % 64..][..one], &bytes[one..][..other]];
+                ways().into_iter().for_each(|way| hold(way, 2, &messages));
             }
         }
     }
