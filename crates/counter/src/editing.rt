@@ -5,9 +5,8 @@ ghost use Rattle.edit.specs.Inner.Decides.{edit_of};
 ghost use Rattle.counter.specs.Replies.{reply, one, done, numbered};
 
 use crate::answer::give;
-use edit::{Edit, NewEntry};
+use edit::{Edit, Kind, NewEntry};
 use space::Totals;
-use table_writing::Kind;
 
 // Kept: image, words, bytes and record one by one: in the exported functions C lends each by itself (C). In `give_done` and `give_entry`,
 // which C does not call, each is written or zeroed apart from the others, and a struct of four `&mut` would have each contract name the

@@ -26,3 +26,4 @@ pub use calls::{
 pub use decision::{Decision, Span, Writing};
 pub use new_entry::NewEntry;
 pub use pipeline::{Edit, decide, done, run};
+pub use table_writing::Kind;
