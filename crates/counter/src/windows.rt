@@ -1,9 +1,10 @@
 // The calls on a window, which stands in three slots: start, length, position.
 ghost use Rattle.std.specs.Prelude.{◌≡◌, length};
-ghost use Rattle.window.specs.Window.{seek_of, count_of, moved_on, buffer_of};
+ghost use Rattle.window.specs.Window.{seek_of, count_of, window_after_read, buffer_of};
 ghost use Rattle.std.specs.declared.io.SeekFrom.TheVariants.{Start, Current, End};
 ghost use Rattle.disc.specs.Files.{open_file_answer};
-ghost use Rattle.counter.specs.Replies.{Read, reply, replied, window_words};
+ghost use Rattle.opened.specs.Opening.{zeros};
+ghost use Rattle.counter.specs.Replies.{reply, replied, window_words};
 
 use crate::answer::give;
 use window::{SeekFrom, Window};
@@ -15,9 +16,10 @@ pub extern "C" fn counter_open_file(
     number: u32,
     window: &mut Window,
 ) -> u32
-    ensures { Read (replied window_words (window_words window.old)
-        (open_file_answer image.now (length words.old) number)) (reply result (window_words window.new))
-        words.old words.new }
+    ensures answer { reply result (window_words window.new)
+        ≡ replied window_words (window_words window.old)
+        (open_file_answer image.now (length words.old) number) }
+    ensures words_zero { words.new ≡ zeros words.old }
 {
     give(window, disc::open_file(image, words, number))
 }
@@ -64,7 +66,7 @@ pub extern "C" fn counter_read(
 ) -> u32
     ensures number { result ≡ 0 }
     ensures count { answer.new ≡ count_of window.old (length image.now) (length buf.old) }
-    ensures moved_on { window.new ≡ moved_on window.old
+    ensures window_after_read { window.new ≡ window_after_read window.old
         (count_of window.old (length image.now) (length buf.old)) }
     ensures buffer { buf.new ≡ buffer_of window.old image.now buf.old }
 {

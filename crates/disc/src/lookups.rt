@@ -3,7 +3,8 @@ ghost use Rattle.std.specs.Prelude.{◌≡◌, length};
 ghost use Rattle.tree.specs.Lookup.{entry_found};
 ghost use Rattle.opened.specs.Opening.{zeros};
 ghost use Rattle.disc.specs.Files as files_of;
-ghost use Rattle.disc.specs.Files.{path_found, entry_answer, lookup_answer, open_file_answer, max_file_size_answer};
+ghost use Rattle.disc.specs.Files.{path_found, entry_answer, lookup_answer};
+ghost use Rattle.disc.specs.Files.{open_file_answer, max_file_size_answer};
 
 use opened::{Lent, OpenDisc};
 use refusal::Refusal;
@@ -11,7 +12,8 @@ use table::Table;
 use tree::{Entry, FileEntry, Found};
 use window::Window;
 
-// Kept: image and words, here and in `listing`, are what a caller lends to each call, as C does.
+// Kept: image and words, here and in `rows`, are what a caller lends to each call, as C does.
+
 // Entry `number` of a disc.
 fn entry_in(disc: &OpenDisc<'_>, number: u32) -> Found
     ensures { result ≡ entry_found disc.now.disc.nodes number }
@@ -52,7 +54,8 @@ pub fn entry(image: &[u8], words: &mut [u32], number: u32) -> Found
     }
 }
 
-/// The entry that a path leads to from the entry `start`. Refuses 9 for a path of more than 1,024 bytes, then 15, 17 and 18.
+/// The entry that a path leads to from the entry `start`. Refuses 9 for a path of more than 1,024
+/// bytes, then 15, 17 and 18.
 pub fn lookup(image: &[u8], words: &mut [u32], start: u32, path: &[u8]) -> Found
     ensures answer { result ≡ lookup_answer image.now (length words.old) start path.now }
     ensures words_zero { words.new ≡ zeros words.old }

@@ -8,8 +8,8 @@ use Rattle.endian.specs.Bytes.{put, span, be32_bytes}
 use Rattle.endian.specs.Laws.Stored.{length-put, length-span, span-put, put-none}
 use Rattle.header.specs.Fields.{fst_size_field}
 use Rattle.tree.proofs.Laws.Records.{put-middle}
-use Rattle.table_writing.proofs.Puts.{put-start, put-append}
 use Rattle.edits.specs.Change.{with_table}
+use Rattle.endian.proofs.Parts.{put-append, put-start}
 
 -- bytes put into what stands at the start
 pub put-inside : (s t : List ℕ) (at : ℕ) (bs : List ℕ) → at + length bs ≤ length t → length t ≤ length s → put (put s 0 t) at bs ≡ put s 0 (put t at bs)

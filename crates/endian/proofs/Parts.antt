@@ -10,12 +10,12 @@ use lib.Seq.{length-take-le, take_at, drop_at, take-append-le, take-take, take-a
 use Rattle.endian.specs.Bytes.{put, span}
 use Rattle.endian.specs.Laws.Stored.{length-put, put-before, put-after, put-none, drop-put, span-put, length-span, span_ext}
 
-put-open : (s : List ℕ) (at : ℕ) (bs : List ℕ) → put s at bs ≡ take at s ++ (bs ++ drop (at + length bs) s)
+pub put-open : (s : List ℕ) (at : ℕ) (bs : List ℕ) → put s at bs ≡ take at s ++ (bs ++ drop (at + length bs) s)
 unfolding put
 put-open s at bs = refl
 
 -- up to the end of what was put
-take_put : (s : List ℕ) (at : ℕ) (a : List ℕ) → at + length a ≤ length s → take (at + length a) (put s at a) ≡ take at s ++ a
+pub take_put : (s : List ℕ) (at : ℕ) (a : List ℕ) → at + length a ≤ length s → take (at + length a) (put s at a) ≡ take at s ++ a
 unfolding put
 take_put s at a h =
     let l : length (take at s ++ a) ≡ at + length a = length-append (take at s) a ∙ ap (λ (k : ℕ). k + length a) (length-take-le at s (omega arith)) in
@@ -43,7 +43,7 @@ unfolding put
 drop-from s m b f = drop_at (take m s) _ m (length-take-le m s f)
 
 -- one part right before another
-put-prepend : (s : List ℕ) (at : ℕ) (a : List ℕ) (m : ℕ) (b : List ℕ) → m ≡ at + length a → m + length b ≤ length s → put (put s m b) at a ≡ put s at (a ++ b)
+pub put-prepend : (s : List ℕ) (at : ℕ) (a : List ℕ) (m : ℕ) (b : List ℕ) → m ≡ at + length a → m + length b ≤ length s → put (put s m b) at a ≡ put s at (a ++ b)
 put-prepend s at a m b e h =
     let n : at + length (a ++ b) ≡ m + length b = omega (arith, length-append a b) in
     let t : take at (put s m b) ≡ take at s = take-before s at m b (omega arith) (omega arith) in
@@ -144,3 +144,8 @@ part-put s ys bs at n e l =
 -- the part from `at` to `at + n` is the span
 pub part-span : (s : List ℕ) (at n : ℕ) → take (at + n - at) (drop at s) ≡ span s at n
 part-span s at n = let k : at + n - at ≡ n = omega arith in rw k refl
+
+-- from the start
+pub put-start : (s t : List ℕ) → put s 0 t ≡ t ++ drop (length t) s
+unfolding put
+put-start s t = let z : 0 + length t ≡ length t = omega arith in ap (λ (n : ℕ). t ++ drop n s) z

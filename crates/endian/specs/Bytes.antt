@@ -1,5 +1,4 @@
--- Numbers of 3 and 4 bytes in a list of bytes, highest byte first, and bytes put over a part of a list.
--- A byte past the end reads as 0. Assumes nothing: these are definitions.
+-- Numbers in a list of bytes, highest byte first, and bytes put over a part of a list. A byte past the end reads as 0.
 use Rattle.std.specs.Prelude.{ℕ, ◌+◌, ◌*◌, ◌/◌, ◌%◌, ◌<◌, Bool, true, false, ◌&&◌, List, [], ◌∷◌, ◌++◌, length, take, drop, ◌==◌, slice_index}
 
 -- the number in the 3 bytes at `at`

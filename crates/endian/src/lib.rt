@@ -18,7 +18,8 @@ pub fn read_u8(s: &[u8], at: usize) -> u8
 #[tactic(auto, unfolding(crate::specs::Bytes::be24))]
 pub fn read_u24(s: &[u8], at: usize) -> u32
     requires { at + 3 ≤ length s.now }
-    ensures { (result ≡ be24 s.now at) × (result < 2 ^ 24) }
+    ensures value { result ≡ be24 s.now at }
+    ensures small { result < 2 ^ 24 }
 {
     u32::from_be_bytes([0, s[at], s[at + 1], s[at + 2]])
 }
@@ -61,7 +62,8 @@ pub fn write_u32(s: &mut [u8], at: usize, v: u32)
 /// Copies n bytes from `from` of one slice to `to` of another.
 // Kept: here and below two places and a length; a struct of them would be made for one call each.
 pub fn copy(source: &[u8], from: usize, s: &mut [u8], to: usize, n: usize)
-    requires { (from + n ≤ length source.now) × (to + n ≤ length s.old) }
+    requires source { from + n ≤ length source.now }
+    requires target { to + n ≤ length s.old }
     ensures { s.new ≡ put s.old to (span source.now from n) }
 {
     s[to..to + n].copy_from_slice(&source[from..from + n]);
@@ -71,8 +73,9 @@ pub fn copy(source: &[u8], from: usize, s: &mut [u8], to: usize, n: usize)
 const PART: usize = 65536;
 
 // Part k of the n bytes, by way of an array, so it does not matter where the two spans lie.
-// Kept: parts of a fixed size by way of an array, and a loop over them: the compiler makes one memmove of each part.
-// Std's `copy_within` is a loop over elements; it took 1.04 to 1.7 times as long for 1 MiB, 0.86 to 1.15 for 64.
+// Kept: parts of a fixed size by way of an array, and a loop over them: the compiler makes one memmove of
+// each part. Std's `copy_within` is a loop over elements; it took 1.04 to 1.7 times as long for 1 MiB, 0.86
+// to 1.15 for 64.
 fn copy_part(s: &mut [u8], from: usize, to: usize, n: usize, k: usize)
     requires source { from + n ≤ length s.old }
     requires target { to + n ≤ length s.old }

@@ -8,8 +8,9 @@ use borrow.Author.Tests.{eq-eqb, ne_eqb}
 use Rattle.refusal.specs.declared.Refusal.{Refusal}
 use Rattle.executable.specs.Laws.DolFacts.{size-passed, size-refused}
 use Rattle.executable.specs.Dol.{dol_header_of, file_size_of, dol_verdict_of, dol_size_of}
-use Rattle.executable.specs.Program.{Program, program_as}
+use Rattle.executable.specs.Program.{Program}
 use Rattle.executable.specs.Inner.Reading.{program_at}
+use Rattle.std.specs.Result.{result_and}
 
 module _ (bytes : List ℕ) (offset at : ℕ) where
   pub no_program : offset ≡ 0 → Ok None ≡ program_at offset bytes at
@@ -21,7 +22,7 @@ module _ (bytes : List ℕ) (offset at : ℕ) where
     abbrev as_long_as : ℕ → Program
     as_long_as n = Ok (Some (record { offset = offset; size = n }))
 
-    by-verdict : (v : Verdict) → dol_verdict_of bytes at ≡ v → program_at offset bytes at ≡ program_as v (record { offset = offset; size = max (file_size_of (dol_header_of bytes at)) 0xE4 })
+    by-verdict : (v : Verdict) → dol_verdict_of bytes at ≡ v → program_at offset bytes at ≡ result_and v (Ok (Some (record { offset = offset; size = max (file_size_of (dol_header_of bytes at)) 0xE4 })))
     unfolding program_at
     by-verdict v e = rw (ne_eqb offset 0 some, e)
 

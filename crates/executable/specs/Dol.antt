@@ -1,9 +1,8 @@
--- The DOL header, 0xE4 bytes: 7 text and 11 data offsets, then addresses, then sizes in that order, BSS address, BSS size, entry point, each a
--- big-endian field of 4 bytes. The file size is the largest offset + size of the 18. Refused 24: a header that passes the image's end, or a sum
--- above 2^32 - 1. Assumes nothing: these are definitions.
+-- The DOL header, 0xE4 bytes: 7 text and 11 data offsets, then addresses, then sizes in that order, BSS address, BSS size, entry point.
 use Rattle.refusal.specs.Refusal.{Verdict, refuse}
 use Rattle.refusal.specs.declared.Refusal.{Refusal}
-use Rattle.std.specs.Prelude.{ℕ, zero, suc, ◌+◌, ◌-◌, ◌^◌, max, List, [], ◌∷◌, length, replicate, Result, Ok, Err, nat_lt}
+use Rattle.std.specs.Prelude.{ℕ, zero, suc, ◌+◌, ◌-◌, ◌^◌, max, List, [], ◌∷◌, length, replicate, Result, Ok, nat_lt}
+use Rattle.std.specs.Result.{result_and}
 use Rattle.endian.specs.Bytes.{be32}
 use Rattle.refusal.specs.declared.Refusal.TheVariants.{InvalidDol}
 use Rattle.executable.specs.declared.dol.DolHeader.{DolHeader}
@@ -34,11 +33,11 @@ largest_of [] ss = 0
 largest_of (o ∷ os) [] = 0
 largest_of (o ∷ os) (s ∷ ss) = max (o + s) (largest_of os ss)
 
--- "File size: largest offset + size of the 18"
+-- the largest offset + size of the 18 sections
 abbrev pub file_size_of : DolHeader → ℕ
 file_size_of h = max (largest_of h.text_offsets h.text_sizes) (largest_of h.data_offsets h.data_sizes)
 
--- "DOL header past the image, or a sum above 2^32 - 1", which is the largest sum above it
+-- a header past the image's end, or a sum above 2^32 - 1, which is the largest sum above it
 abbrev pub dol_verdict_of : List ℕ → ℕ → Verdict
 dol_verdict_of s at = refuse (nat_lt (length s) (at + 0xE4)) InvalidDol (refuse (nat_lt (2 ^ 32 - 1) (file_size_of (dol_header_of s at))) InvalidDol (Ok tt))
 
@@ -56,18 +55,12 @@ new_header = record {
   entry_point = 0;
 }
 
--- the answer by its verdict: the header and its file size
-abbrev pub dol_answered : Verdict → DolHeader → Result DolAnswer Refusal
-dol_answered (Ok _) h = Ok (record { header = h; size = file_size_of h })
-dol_answered (Err c) h = Err c
-
+-- the header and its file size
 abbrev pub dol_answer_of : List ℕ → ℕ → Result DolAnswer Refusal
-dol_answer_of s at = dol_answered (dol_verdict_of s at) (dol_header_of s at)
+dol_answer_of s at =
+    let h = dol_header_of s at in
+    result_and (dol_verdict_of s at) (Ok (record { header = h; size = file_size_of h }))
 
 -- the file size alone, by the same verdict
-abbrev pub dol_sized : Verdict → ℕ → Result ℕ Refusal
-dol_sized (Ok _) n = Ok n
-dol_sized (Err c) n = Err c
-
 abbrev pub dol_size_of : List ℕ → ℕ → Result ℕ Refusal
-dol_size_of s at = dol_sized (dol_verdict_of s at) (file_size_of (dol_header_of s at))
+dol_size_of s at = result_and (dol_verdict_of s at) (Ok (file_size_of (dol_header_of s at)))

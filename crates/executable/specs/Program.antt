@@ -1,10 +1,8 @@
--- The program: a nonzero DOL offset means one from there, as long as the DOL's file size and at least 0xE4. It must lie wholly between 0x440 and
--- the FST offset, as part of the used bytes 0 up to the table end, or wholly from the table end on, as a used region of its own; otherwise, or
--- where it overlaps a file or passes the disc end, 14. A header that is refused is refused 24, just before 14.
--- Assumes nothing: these are definitions.
+-- The program: a nonzero DOL offset means one from there, before the table or behind it.
 use Rattle.refusal.specs.declared.Refusal.{Refusal}
 use Rattle.refusal.specs.Refusal.{Verdict}
 use Rattle.std.specs.Prelude.{ℕ, ◌+◌, max, Bool, ◌&&◌, List, Option, None, Some, Result, Ok, Err, unwrap_or, if◌then◌else◌, ◌==◌, nat_le}
+use Rattle.std.specs.Result.{result_and}
 use Rattle.header.specs.Verdicts.{dol_offset, fst_offset}
 use Rattle.space.specs.declared.region.DiscRegion.{DiscRegion}
 use Rattle.executable.specs.Dol.{dol_header_of, file_size_of, dol_verdict_of}
@@ -13,22 +11,16 @@ use Rattle.executable.specs.Dol.{dol_header_of, file_size_of, dol_verdict_of}
 abbrev pub Program : Type 0
 Program = Result (Option DiscRegion) Refusal
 
--- "from there, as long as the DOL's file size and at least 0xE4"
+-- from there, as long as the DOL's file size and at least 0xE4
 abbrev pub program_from : List ℕ → ℕ → DiscRegion
 program_from image at = record { offset = at; size = max (file_size_of (dol_header_of image at)) 0xE4 }
 
--- by the verdict on its header
-abbrev pub program_as : Verdict → DiscRegion → Program
-program_as (Ok _) r = Ok (Some r)
-program_as (Err c) r = Err c
-
--- "a nonzero DOL offset means a program"; its header may be refused, 24
+-- a nonzero DOL offset means a program, whose header may be refused
 unfoldable pub program_of : List ℕ → Program
-program_of image = if dol_offset image == 0 then Ok None else program_as (dol_verdict_of image (dol_offset image)) (program_from image (dol_offset image))
+program_of image = if dol_offset image == 0 then Ok None else result_and (dol_verdict_of image (dol_offset image)) (Ok (Some (program_from image (dol_offset image))))
 
 abbrev pub program_verdict : Program → Verdict
-program_verdict (Ok _) = Ok tt
-program_verdict (Err c) = Err c
+program_verdict p = result_and p (Ok tt)
 
 -- ---- where it lies
 
@@ -43,11 +35,11 @@ place_of (Err c) = nowhere
 unfoldable pub program_in : List ℕ → DiscRegion
 program_in image = place_of (program_of image)
 
--- "wholly between 0x440 and the FST offset, as part of the used bytes 0 up to the table end"
+-- wholly between the header and the table: among the used bytes from 0 up to the table's end
 abbrev pub before_table : ℕ → DiscRegion → Bool
 before_table fst r = nat_le 0x440 r.offset && nat_le (r.offset + r.size) fst
 
--- "as a used region of its own": wherever else it lies. One that is not "wholly from the table end on" shares a byte with those before it, 14
+-- wherever else it lies, a used region of its own: one that begins before the table's end overlaps the bytes before it
 unfoldable pub own_region : ℕ → DiscRegion → DiscRegion
 own_region fst r = if before_table fst r then nowhere else r
 

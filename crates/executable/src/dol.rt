@@ -1,5 +1,5 @@
-// The header of a DOL executable, read from an image at an offset: 7 text and 11 data offsets, then addresses, then
-// sizes in that order, BSS address, BSS size, entry point; 0xE4 bytes.
+// The header of a DOL executable, read from an image at an offset: 7 text and 11 data offsets, then
+// addresses, then sizes in that order, BSS address, BSS size, entry point; 0xE4 bytes.
 ghost use Rattle.std.specs.Prelude.{◌≡◌, ◌+◌, ◌*◌, ◌≤◌, ◌<◌, length};
 ghost use Rattle.window.specs.Window.{new_window};
 ghost use Rattle.executable.specs.Dol as dol_of;
@@ -9,9 +9,10 @@ ghost use Rattle.executable.specs.Dol.{dol_answer_of, dol_size_of};
 use refusal::Refusal;
 use window::Window;
 
-/// The header: where each of the 7 text and 11 data sections stands in the file and in memory, and how many bytes it
-/// has.
-// Kept: arrays, since a file has 7 and 11 sections, used or not, as C is given them, and nothing is allocated.
+/// The header: where each of the 7 text and 11 data sections stands in the file and in memory, and how many
+/// bytes it has.
+// Kept: arrays, since a file has 7 and 11 sections, used or not, as C is given them, and nothing is
+// allocated.
 #[repr(C)]
 #[derive(Clone, Copy, PartialEq, Eq, Debug)]
 pub struct DolHeader {
@@ -33,8 +34,8 @@ pub struct DolAnswer {
     pub size: u32,
 }
 
-// N words from `at` on. Inlined, because an array that is stored word by word and then read by fours waits for each
-// store.
+// N words from `at` on. Inlined, because an array that is stored word by word and then read by fours waits
+// for each store.
 #[inline(always)]
 fn words_at<const N: usize>(s: &[u8], at: usize) -> [u32; N]
     requires { at + 4 * N ≤ length s.now }
@@ -103,8 +104,8 @@ impl DolHeader {
     }
 }
 
-/// The file size in bytes alone, for whoever opens an image: the header is read in place, and not made. Refused
-/// (`InvalidDol`) where the header passes the image or a sum passes 2^32 - 1.
+/// The file size in bytes alone, for whoever opens an image: the header is read in place, and not made.
+/// Refused (`InvalidDol`) where the header passes the image or a sum passes 2^32 - 1.
 pub fn size(image: &[u8], at: usize) -> Result<u32, Refusal>
     ensures { result ≡ dol_size_of image.now at }
 {

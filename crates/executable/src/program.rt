@@ -12,8 +12,8 @@ use space::DiscRegion;
 pub type Program = Result<Option<DiscRegion>, Refusal>;
 
 // A region without a byte.
-// Kept: no `Option`, which is no plainer: the definitions have such a region (`nowhere`), and it is passed over
-// among the used ones, as an empty file's is.
+// Kept: no `Option`, which is no plainer: the definitions have such a region (`nowhere`), and it is passed
+// over among the used ones, as an empty file's is.
 const NOWHERE: DiscRegion = DiscRegion { offset: 0, size: 0 };
 
 /// The program at that DOL offset: none at 0; elsewhere from there on, as long as its file, and at least its

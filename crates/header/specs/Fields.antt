@@ -1,7 +1,4 @@
--- The places of the 21 fields, which stand at these offsets, 0x440 bytes in all: game code 0 (4 bytes), maker 4 (2), disc 6,
--- version 7, audio 8, stream buffer 9 (1 each), unused 0x0A (14), Wii magic 0x18, GameCube magic 0x1C, game name 0x20 (0x3E0), debug offset 0x400, debug address 0x404,
--- unused 0x408 (0x18), DOL offset 0x420, FST offset 0x424, FST size 0x428, FST maximum 0x42C, user position 0x430, user size 0x434, disc size 0x438, unused 0x43C; a field
--- without a size has 4. Assumes nothing: these are definitions.
+-- The 21 fields of the header, 0x440 bytes in all: the offset of each, and how many bytes it has.
 use Rattle.std.specs.Prelude.{ℕ, List, [], ◌∷◌}
 use Rattle.header.specs.declared.fields.Field.{Field}
 

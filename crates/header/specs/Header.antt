@@ -1,6 +1,7 @@
--- The header as it is read, made and written. Assumes nothing: these are definitions.
+-- The header as it is read, made and written.
 use Rattle.refusal.specs.Refusal.{Verdict, refuse}
-use Rattle.std.specs.Prelude.{ℕ, List, [], ◌∷◌, length, replicate, Result, Ok, Err, nat_lt, slice_index}
+use Rattle.std.specs.Prelude.{ℕ, List, [], ◌∷◌, length, replicate, Result, Ok, if◌then◌else◌, nat_lt, slice_index}
+use Rattle.std.specs.Result.{result_and}
 use Rattle.endian.specs.Bytes.{be32_bytes, put, span}
 use Rattle.refusal.specs.declared.Refusal.{Refusal}
 use Rattle.refusal.specs.declared.Refusal.TheVariants.{HeaderPastImage}
@@ -16,7 +17,7 @@ bytes_of f image = span image f.at f.len
 abbrev pub byte_of : Field → List ℕ → ℕ
 byte_of f image = slice_index image f.at
 
--- "Fields are big-endian." "The game name is opaque."
+-- every field as the image has it
 unfoldable pub header_of : List ℕ → DiscHeader
 header_of image = record {
   game_code = bytes_of game_code_field image;
@@ -43,8 +44,8 @@ header_of image = record {
 }
 
 -- a header with the GameCube magic, and 0 in every other field
-unfoldable pub blank : DiscHeader
-blank = record {
+unfoldable pub blank_header : DiscHeader
+blank_header = record {
   game_code = replicate 4 0;
   maker_code = replicate 2 0;
   disc_id = 0;
@@ -68,17 +69,12 @@ blank = record {
   unused_43c = 0;
 }
 
--- a header that passed is read, and a refusal goes on
-abbrev pub header_answer : Verdict → DiscHeader → Result DiscHeader Refusal
-header_answer (Ok _) h = Ok h
-header_answer (Err c) h = Err c
-
 abbrev pub header_read : List ℕ → Result DiscHeader Refusal
-header_read image = header_answer (header_verdict image) (header_of image)
+header_read image = result_and (header_verdict image) (Ok (header_of image))
 
 -- ---- written
 
--- what a header puts in each field, in the order of the table; the game name, the word at 0x18 and the unused runs "as read"
+-- what a header puts in each field, in the order of the fields
 unfoldable pub field_bytes : DiscHeader → List (List ℕ)
 field_bytes h =
     h.game_code
@@ -118,9 +114,5 @@ put_header h image = put_fields fields (field_bytes h) image
 abbrev pub write_verdict : List ℕ → Verdict
 write_verdict image = refuse (nat_lt (length image) 0x440) HeaderPastImage (Ok tt)
 
-abbrev pub written_by : Verdict → DiscHeader → List ℕ → List ℕ
-written_by (Ok _) h image = put_header h image
-written_by (Err c) h image = image
-
 abbrev pub header_written : DiscHeader → List ℕ → List ℕ
-header_written h image = written_by (write_verdict image) h image
+header_written h image = if nat_lt (length image) 0x440 then image else put_header h image

@@ -1,4 +1,4 @@
--- The header's refusals: 1 to 3 as its fields are read in order, and 4 for the places that it gives. Assumes nothing: these are definitions.
+-- The header's refusals: as its fields are read in order, and for the places that it gives.
 use Rattle.std.specs.Prelude.{Ok, ◌==◌, nat_lt}
 use Rattle.refusal.specs.Refusal.{Verdict}
 use Rattle.std.specs.Prelude.{ℕ, ◌+◌, ◌-◌, ◌^◌, ◌&&◌, not, List, [], ◌∷◌, length}
@@ -8,7 +8,6 @@ use Rattle.refusal.specs.Refusal.{refuse, first}
 use Rattle.header.specs.declared.fields.Field.{Field}
 use Rattle.header.specs.Fields.{fields, wii_magic_field, gcn_magic_field, dol_offset_field, fst_offset_field, fst_size_field, fst_max_size_field, user_size_field, disc_size_field}
 
--- "the GameCube magic is 0xC2339F3D, the Wii magic 0x5D1C9EA3"
 abbrev pub gcn_magic : ℕ
 gcn_magic = 0xC2339F3D
 
@@ -19,7 +18,7 @@ wii_magic = 0x5D1C9EA3
 abbrev pub word_of : Field → List ℕ → ℕ
 word_of f image = be32 image f.at
 
--- "header field past the image", "Wii magic", "not GameCube magic": the tests made as a field is read
+-- a field past the image, the Wii's magic, another magic than the GameCube's: the tests made as a field is read
 unfoldable pub field_verdict : List ℕ → Field → Verdict
 field_verdict image f =
     refuse (nat_lt (length image) (f.at + f.len)) HeaderPastImage
@@ -27,7 +26,7 @@ field_verdict image f =
     (refuse (f.at == gcn_magic_field.at && not (word_of f image == gcn_magic)) InvalidMagic
     (Ok tt)))
 
--- "header fields in order (Wii before GameCube)"
+-- the fields in order, so that the Wii's magic is tested before the GameCube's
 unfoldable pub fields_verdict : List ℕ → List Field → Verdict
 fields_verdict image [] = Ok tt
 fields_verdict image (f ∷ fs) = first (field_verdict image f) (fields_verdict image fs)
@@ -46,7 +45,7 @@ fst_offset image = word_of fst_offset_field image
 abbrev pub fst_size : List ℕ → ℕ
 fst_size image = word_of fst_size_field image
 
--- the most bytes that the table may have, which YAGCD names the FST maximum
+-- the most bytes that the table may have
 abbrev pub fst_max_size : List ℕ → ℕ
 fst_max_size image = word_of fst_max_size_field image
 
@@ -56,14 +55,13 @@ user_size image = word_of user_size_field image
 abbrev pub disc_size : List ℕ → ℕ
 disc_size image = word_of disc_size_field image
 
--- "Disc end = user size + disc size. Table end = FST offset + FST size."
 abbrev pub disc_end : List ℕ → ℕ
 disc_end image = user_size image + disc_size image
 
 abbrev pub table_end : List ℕ → ℕ
 table_end image = fst_offset image + fst_size image
 
--- "FST offset below 0x440, disc end above 2^32 - 1, table end past it, or image shorter than it": it is the disc end both times
+-- the table begins inside the header, or the disc ends past 2^32 - 1, before its table does, or past the image's end
 unfoldable pub bounds_verdict : List ℕ → Verdict
 bounds_verdict image =
     refuse (nat_lt (fst_offset image) 0x440) InvalidBounds

@@ -122,8 +122,9 @@ pub fn check(image: &[u8]) -> Verdict
     Ok(())
 }
 
-// ---- what the header of an image says of the disc, for the layers above: they ask once the header has passed.
-// In an image too short for a field a byte past the end reads as 0, so that the answer is settled there too.
+// ---- what the header of an image says of the disc, for the layers above: they ask once the header has
+// passed. In an image too short for a field a byte past the end reads as 0, so that the answer is settled
+// there too.
 
 fn byte_at(image: &[u8], at: usize) -> u8
     ensures { result ≡ slice_index image.now at }
@@ -211,8 +212,8 @@ pub fn check_bounds_within(header: &[u8], image_length: u64) -> Verdict
     bounds(header, image_length)
 }
 
-/// The header's own tests, then the places that it gives: `InvalidBounds` if the table begins inside the header,
-/// or the disc ends past 2^32 - 1, before its table does or past the image's end.
+/// The header's own tests, then the places that it gives: `InvalidBounds` if the table begins inside the
+/// header, or the disc ends past 2^32 - 1, before its table does or past the image's end.
 #[tactic(auto, unfolding(crate::specs::Verdicts::bounds_verdict, crate::specs::Inner::Bounds::bounds_within))]
 pub fn check_bounds(image: &[u8]) -> Verdict
     ensures { result ≡ first (header_verdict image.now) (bounds_verdict image.now) }

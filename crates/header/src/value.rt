@@ -1,7 +1,7 @@
 // The disc header as a value: read, made and written.
 ghost use Rattle.std.specs.Prelude.{◌≡◌, ◌+◌, ◌≤◌, ◌<◌, length};
 ghost use Rattle.endian.specs.Bytes.{put, span};
-ghost use Rattle.header.specs.Header.{header_of, blank, header_read, write_verdict, header_written};
+ghost use Rattle.header.specs.Header.{header_of, blank_header, header_read, write_verdict, header_written};
 ghost use Rattle.header.specs.Inner.Writing.{put_some};
 
 use crate::fields;
@@ -39,9 +39,9 @@ impl DiscHeader {
     pub const GCN_MAGIC: u32 = fields::GCN_MAGIC;
 
     /// A header of a GameCube disc, with every other field 0.
-    #[tactic(auto, unfolding(crate::specs::Header::blank))]
+    #[tactic(auto, unfolding(crate::specs::Header::blank_header))]
     pub fn new() -> Self
-        ensures { result ≡ blank }
+        ensures { result ≡ blank_header }
     {
         DiscHeader {
             game_code: [0; 4],
@@ -127,8 +127,8 @@ fn write_all(image: &mut [u8], at: usize, bytes: &[u8])
     endian::copy(bytes, 0, image, at, bytes.len());
 }
 
-// The header written in three parts: the fields up to the magics, those up to the DOL offset, and the words from
-// there on.
+// The header written in three parts: the fields up to the magics, those up to the DOL offset, and the words
+// from there on.
 impl DiscHeader {
     fn write_codes(self, image: &mut [u8])
         requires { 0x440 ≤ length image.old }
@@ -173,10 +173,11 @@ impl DiscHeader {
         endian::write_u32(image, Field::UNUSED_43C.at, self.unused_43c);
     }
 
-    /// Writes every field at its place. An image too short for the header is refused (`HeaderPastImage`) and left
-    /// as it was.
+    /// Writes every field at its place. An image too short for the header is refused (`HeaderPastImage`) and
+    /// left as it was.
     pub fn write_to(self, image: &mut [u8]) -> Verdict
-        ensures { (result ≡ write_verdict image.old) × (image.new ≡ header_written self image.old) }
+        ensures value { result ≡ write_verdict image.old }
+        ensures image_after { image.new ≡ header_written self image.old }
     {
         if image.len() < 0x440 {
             return Err(Refusal::HeaderPastImage);

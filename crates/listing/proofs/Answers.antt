@@ -23,7 +23,7 @@ use Rattle.space.specs.Inner.UsedSpace.{UsedSpace, free_in}
 use Rattle.opened.specs.Opening.{opening, Disc, free_of}
 use Rattle.opened.specs.Inner.Disc.{Opened, Means}
 use Rattle.opened.specs.Laws.Meant.{end_meant, nodes_meant, total_meant, free_meant}
-use Rattle.listing.specs.Inner.Fits.{size_or, listed_or, laid_or, text_of}
+use Rattle.listing.specs.Inner.Fits.{IsLaid, size_or, listed_or, laid_or, text_of}
 use Rattle.opened.specs.Answers.{behind}
 use Rattle.listing.specs.Lines.{totals_line, entry_lines, region_lines}
 use Rattle.listing.specs.Listing.{listing_text, listing_verdict, list_answer, list_buffer, refused_text, report_verdict, report_text, report_answer, report_buffer}
@@ -52,11 +52,11 @@ module _ (text : List ℕ) {none none' bs : List ℕ} {size : ℕ} (w : Wrote no
   written : {text' : List ℕ} {r : ℕ} → size ≤ length text → Wrote text text' 0 bs r → (r ≡ length bs) × (text' ≡ put text 0 bs)
   written h v = let s = short h in (omega (arith, v.stop, s.0, s.1), v.laid (omega (arith, s.1)) (omega (arith, s.1)))
 
-  pub fits-short : length text < size → (None ≡ size_or (length text) bs) × (text ≡ laid_or text bs)
-  fits-short h = let t = lt-ltb (length text) (length bs) (too_long h) in (rw t, rw t)
+  pub fits-short : length text < size → IsLaid text text None bs
+  fits-short h = let t = lt-ltb (length text) (length bs) (too_long h) in record { size_is = rw t; text_after = rw t }
 
-  pub fits-whole : {text' : List ℕ} {r : ℕ} → size ≤ length text → Wrote text text' 0 bs r → (Some size ≡ size_or (length text) bs) × (text' ≡ laid_or text bs)
-  fits-whole h v = let t = le-ltb (length text) (length bs) (short h).1 in (rw t (ap Some (short h).0), rw t (written h v).1)
+  pub fits-whole : {text' : List ℕ} {r : ℕ} → size ≤ length text → Wrote text text' 0 bs r → IsLaid text text' (Some size) bs
+  fits-whole h v = let t = le-ltb (length text) (length bs) (short h).1 in record { size_is = rw t (ap Some (short h).0); text_after = rw t (written h v).1 }
 
 -- 0 where there is no room
 pub size-told : (room : ℕ) (bs : List ℕ) (r : Option ℕ) → r ≡ size_or room bs → unwrap_or r 0 ≡ cond (ltb room (length bs)) 0 (length bs)

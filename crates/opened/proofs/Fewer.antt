@@ -8,7 +8,7 @@ use Rattle.space.specs.declared.region.DiscRegion.{DiscRegion}
 use Rattle.space.specs.Used.{end_of}
 use Rattle.space.specs.Inner.Sort.{region_at, regions_in}
 use Rattle.space.specs.Inner.Words.{AllNonempty, in_sequence, IsSortedDisjoint}
-use Rattle.space.proofs.Order.{sequence-le}
+use Rattle.space.specs.Laws.LongestLaws.{sequence-le}
 
 full-first : (w : List ℕ) (k m n : ℕ) → n ≤ m → AllNonempty (regions_in w k m) → AllNonempty (regions_in w k n)
 unfolding regions_in

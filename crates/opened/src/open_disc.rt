@@ -30,7 +30,8 @@ pub struct OpenDisc<'a> {
     /// The file table's bytes.
     pub table: &'a [u8],
     /// The region of the program where it lies behind the table, of size 0 elsewhere.
-    // Kept: no `Option`, which is no plainer: the definitions have a region without bytes there too (`own_region`).
+    // Kept: no `Option`, which is no plainer: the definitions have a region without bytes there too
+    // (`own_region`).
     pub own: DiscRegion,
     /// The lent words: first the used regions, an offset and a size each.
     pub words: &'a [u32],
@@ -57,7 +58,8 @@ fn open_shown<'a>(
     words: &'a mut [u32],
 ) -> Result<OpenDisc<'a>, Refusal>
     ghost shown: { List ℕ }
-    requires { (shown ≡ _image.now) × ArePartsOf shown parts }
+    requires same { shown ≡ _image.now }
+    requires parts_of { ArePartsOf shown parts }
     ensures { OpensAs shown (length words.old) result }
 {
     OpenDisc::open(parts, words)
@@ -137,9 +139,11 @@ impl<'a> OpenDisc<'a> {
 
     /// The words that hold its used regions in order, and how many these are.
     pub fn used_words(&self) -> (&'a [u32], usize)
-        ensures open { (image : List ℕ) → Means image self.now → IsOpen image result.0.now result.1 }
+        ensures open { (image : List ℕ) → Means image self.now
+            → IsOpen image result.0.now result.1 }
         ensures sorted { IsSortedDisjoint result.0.now result.1 self.now.disc.end }
-        ensures free { free_regions self.now.disc.end (regions_in result.0.now 0 result.1) ≡ free_of self.now.disc }
+        ensures free { free_regions self.now.disc.end (regions_in result.0.now 0 result.1)
+            ≡ free_of self.now.disc }
     {
         (self.words, self.used)
     }
@@ -167,7 +171,8 @@ impl<'a> OpenDisc<'a> {
         self.used_regions().max_region_size(offset, size)
     }
 
-    /// The largest free place for `size` bytes at a multiple of `align`, the last among equals. Refuses 22, then 21.
+    /// The largest free place for `size` bytes at a multiple of `align`, the last among equals.
+    /// Refuses 22, then 21.
     pub fn allocate(&self, size: u32, align: u32) -> Result<DiscRegion, Refusal>
         ensures { result ≡ allocation_of align size (free_of self.now.disc) }
     {

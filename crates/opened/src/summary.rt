@@ -1,4 +1,4 @@
-// What the calls on an image that opened share: their answers, and what is told of the disc and of a region.
+// What is told of a disc that opened.
 ghost use Rattle.std.specs.Prelude.{◌≡◌};
 ghost use Rattle.opened.specs.Inner.Told.{told_of};
 

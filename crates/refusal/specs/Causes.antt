@@ -1,4 +1,4 @@
--- The cause that has a number. Assumes nothing: these are definitions.
+-- The cause that has a number.
 use Rattle.std.specs.Prelude.{ℕ, ◌≡◌, Result, MatchResult}
 use Rattle.refusal.specs.declared.Refusal.{Refusal}
 use Rattle.refusal.specs.declared.number.NoCause.{NoCause}

@@ -1,7 +1,4 @@
--- The causes of a refusal and their numbers, in the order of document 01's table "Causes and their numbers", and
--- those of document 02 ("It and each later new number join 01's table"): 25, "used bytes or edit count would leave 0 to 2^32 - 1", and
--- 26, "new table above the maximum".
--- Assumes nothing: these are definitions.
+-- The causes of a refusal and their numbers, and chains of tests.
 use Rattle.std.specs.Prelude.{Result, Ok, Err}
 use Rattle.std.specs.Prelude.{ℕ, Bool, true, false}
 use Rattle.refusal.specs.declared.Refusal.{Refusal}

@@ -8,7 +8,7 @@ use Rattle.space.specs.declared.region.DiscRegion.{DiscRegion}
 use Rattle.space.specs.Used.{end_of, nonempty}
 use Rattle.space.specs.Inner.Words.{in_sequence, gaps}
 use Rattle.space.specs.Laws.UsedLaws.{nonempty-cons, nonempty-empty}
-use Rattle.space.proofs.Order.{sequence-le}
+use Rattle.space.specs.Laws.LongestLaws.{sequence-le}
 
 -- what is free from byte `at` on, beside the used regions xs
 abbrev pub left : ℕ → ℕ → List DiscRegion → List DiscRegion

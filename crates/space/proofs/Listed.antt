@@ -17,7 +17,7 @@ use Rattle.space.specs.Used.{end_of, total_size}
 use Rattle.space.specs.Listing.{rows_of, listing_of, list_after}
 use Rattle.space.specs.Inner.Words.{in_sequence, gaps}
 use Rattle.refusal.specs.Laws.Tests.{and_left, and_right}
-use Rattle.space.proofs.Order.{sequence-le}
+use Rattle.space.specs.Laws.LongestLaws.{sequence-le}
 
 -- ---- the words of regions
 

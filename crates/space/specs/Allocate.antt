@@ -1,9 +1,9 @@
--- An allocation: each free region from its first multiple of the alignment on, left out if the padding reaches its size or the rest is below the
--- wish; of the others the largest rest, the last among equals. 22 is tested before 21. Assumes nothing: these are definitions.
+-- An allocation: of the free regions, each from its first multiple of the alignment on, the largest that has room, the last among equals.
 use Rattle.refusal.specs.declared.Refusal.{Refusal}
-use Rattle.std.specs.Prelude.{ℕ, zero, suc, ◌-◌, ◌^◌, Bool, false, ◌&&◌, ◌||◌, List, [], ◌∷◌, Result, Ok, Err, if◌then◌else◌, ◌==◌, nat_lt, nat_le}
+use Rattle.std.specs.Prelude.{ℕ, zero, suc, ◌-◌, ◌^◌, Bool, false, ◌&&◌, ◌||◌, List, Result, Ok, Err, if◌then◌else◌, ◌==◌, nat_lt, nat_le}
 use Rattle.refusal.specs.declared.Refusal.TheVariants.{NotEnoughSpace, InvalidAlignment}
 use Rattle.space.specs.declared.region.DiscRegion.{DiscRegion}
+use Rattle.std.specs.List.{fold}
 use Rattle.space.specs.Used.{end_of}
 use Rattle.space.specs.Align.{align_up}
 
@@ -24,8 +24,7 @@ no_region = record { offset = 0; size = 0 }
 
 -- the largest rest, the last among equals; `best` is the best so far
 unfoldable pub largest : ℕ → ℕ → DiscRegion → List DiscRegion → DiscRegion
-largest align wish best [] = best
-largest align wish best (r ∷ rs) = largest align wish (better_of align wish best r) rs
+largest align wish best rs = fold (better_of align wish) best rs
 
 -- x is one of the n powers of two from 2 ^ k on
 unfoldable pub powers : ℕ → ℕ → ℕ → Bool

@@ -1,6 +1,5 @@
--- `max_region_size` of disc.rs: what the Rust answers for n bytes at o, by the free regions, with sums that never wrap. For a file's own place, and
--- for a place of no bytes, it is the largest size that it can grow to in free bytes (Laws/GrowthLaws).
--- Assumes nothing: these are definitions.
+-- `max_region_size`: what the Rust answers for n bytes at o, by the free regions. For a file's own place, and for a place of
+-- no bytes, it is the largest size that it can grow to in free bytes (Laws/GrowthLaws).
 use Rattle.std.specs.Prelude.{ℕ, ◌+◌, ◌-◌, List, [], ◌∷◌, if◌then◌else◌, ◌==◌, nat_lt}
 use Rattle.space.specs.declared.region.DiscRegion.{DiscRegion}
 use Rattle.space.specs.Used.{end_of}

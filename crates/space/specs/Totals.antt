@@ -1,5 +1,4 @@
--- The totals record: used bytes, the largest free region and the count of edits, which go into an edit and come back. Whatever the record holds
--- joins here. Assumes nothing: these are definitions.
+-- The totals record: used bytes, the largest free region's size and the count of edits, which go into an edit and come back.
 use Rattle.refusal.specs.Refusal.{Verdict, refuse}
 use Rattle.std.specs.Prelude.{ℕ, ◌+◌, ◌-◌, ◌^◌, List, Ok, nat_lt, slice_index}
 use Rattle.refusal.specs.declared.Refusal.TheVariants.{TotalsOutOfRange}
@@ -9,8 +8,7 @@ use Rattle.space.specs.declared.totals.Totals.{Totals}
 abbrev pub totals_in : List ℕ → Totals
 totals_in slots = record { used = slice_index slots 0; largest = slice_index slots 1; edits = slice_index slots 2 }
 
--- "25, used bytes or edit count would leave 0 to 2^32 - 1": on the record's own numbers, for an edit after which `after` bytes are used where
--- `before` were
+-- neither number may leave 0 to 2^32 - 1, in an edit after which `after` bytes are used where `before` were
 unfoldable pub totals_verdict : Totals → ℕ → ℕ → Verdict
 totals_verdict t before after =
     refuse (nat_lt (t.used + after) before) TotalsOutOfRange
@@ -18,6 +16,6 @@ totals_verdict t before after =
     (refuse (nat_lt (2 ^ 32 - 1) (t.edits + 1)) TotalsOutOfRange
     (Ok tt)))
 
--- "Used bytes move by the edit's change, the count by one; the largest region is the new image's."
+-- used bytes move by the edit's change, the count by one; the largest region is the new image's
 unfoldable pub totals_moved : Totals → ℕ → ℕ → ℕ → Totals
 totals_moved t before after largest = record { used = t.used + after - before; largest = largest; edits = t.edits + 1 }

@@ -42,7 +42,8 @@ pub fn better(
     requires positive { 0 < align }
     requires gap_end { end_of gap < 4294967296 }
     requires found { ForSome best (λ region. 0 < region.size) }
-    ensures better { unwrap_or result no_region ≡ better_of align size (unwrap_or best no_region) gap }
+    ensures better { let best_before = unwrap_or best no_region in
+        unwrap_or result no_region ≡ better_of align size best_before gap }
     ensures found { ForSome result (λ region. 0 < region.size) }
 {
     let Some(rest) = aligned(gap, size, align) else {

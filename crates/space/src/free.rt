@@ -1,4 +1,5 @@
-// The free regions of a disc as an iterator over the used ones. Contracts see the list of those that are left.
+// The free regions of a disc as an iterator over the used ones. Contracts see the list of those that are
+// left.
 ghost use Rattle.std.specs.Prelude.{◌≡◌, true};
 ghost use Rattle.std.specs.Iterator.{YieldsFirst, item_count};
 ghost use Rattle.space.specs.Free.{free_regions};
@@ -10,8 +11,8 @@ use std::marker::Model;
 
 /// The free regions, rising: the longest runs of bytes below the disc's end that no used region has.
 // The used regions that are still to come, and where the one before them ends: what the next turn needs.
-// Kept: no derived equality: contracts see the free regions alone, so it would need an `inverse` from those to the
-// fields, and there is none.
+// Kept: no derived equality: contracts see the free regions alone, so it would need an `inverse` from those
+// to the fields, and there is none.
 #[derive(Drop)]
 pub struct FreeRegions<'a> {
     used: Regions<'a>,

@@ -22,10 +22,10 @@ fn in_sequence(regions: Regions<'_>, disc_end: u32) -> bool
     end <= u64::from(disc_end)
 }
 
-/// Sorts the regions, none of them empty, with as many pairs from buf on to work in, and refuses 14 if two share a
-/// byte or one passes the disc end.
-// Kept: the regions come from `add_region`, which passes the empty ones over: the fact is about the words as they
-// come, and no type holds them before the sort.
+/// Sorts the regions, none of them empty, with as many pairs from buf on to work in, and refuses 14 if two
+/// share a byte or one passes the disc end.
+// Kept: the regions come from `add_region`, which passes the empty ones over: the fact is about the words as
+// they come, and no type holds them before the sort.
 pub fn check(words: &mut [u32], buf: usize, count: usize, disc_end: u32) -> Verdict
     requires beside { count ≤ buf }
     requires room { 2 * (buf + count) ≤ length words.old }

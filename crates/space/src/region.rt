@@ -1,5 +1,5 @@
-// The used regions of a disc in lent words: one added, all of them one after the other, and the words zeroed at the
-// end of a call.
+// The used regions of a disc in lent words: one added, all of them one after the other, and the words zeroed
+// at the end of a call.
 ghost use Rattle.std.specs.Prelude.{◌≡◌, ◌+◌, ◌*◌, ◌≤◌, length, replicate};
 ghost use Rattle.space.specs.Inner.Words.{Added};
 

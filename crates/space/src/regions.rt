@@ -7,8 +7,8 @@ use crate::region::DiscRegion;
 use std::marker::Model;
 
 /// The regions in words, an offset and a size each, one after the other.
-// Kept: no derived equality: contracts see the regions that are left alone, so it would need an `inverse` from those
-// to the words and the place, and there is none.
+// Kept: no derived equality: contracts see the regions that are left alone, so it would need an `inverse`
+// from those to the words and the place, and there is none.
 #[derive(Drop)]
 pub struct Regions<'a> {
     words: &'a [u32],

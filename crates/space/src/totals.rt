@@ -72,7 +72,8 @@ fn longer(best: u32, a: u64, b: u32, region: DiscRegion) -> u32
 }
 
 // Where the old place starts; 0, where no file can, if there is none.
-// Kept: a number (N): as no file lies at 0, `gone != Some(region.offset)` says no more than `gone != region.offset`.
+// Kept: a number (N): as no file lies at 0, `gone != Some(region.offset)` says no more than `gone !=
+// region.offset`.
 fn gone_of(old: DiscRegion) -> u32
     ensures { result ≡ scan_of.gone_of old }
 {
@@ -89,7 +90,8 @@ pub fn largest_after(
     old: DiscRegion,
     new: DiscRegion,
 ) -> u32
-    ensures { result ≡ longest_from disc_end (scan_of.gone_of old) new table_end 0 (drop 1 used.now.regions) }
+    ensures { let behind_table = drop 1 used.now.regions in
+        result ≡ longest_from disc_end (scan_of.gone_of old) new table_end 0 behind_table }
 {
     let gone = gone_of(old);
     let mut at = u64::from(table_end);

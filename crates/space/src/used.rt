@@ -1,5 +1,5 @@
-// The used regions of a disc as a value: what stands in lent words after a test. Contracts see the list and the
-// disc's end.
+// The used regions of a disc as a value: what stands in lent words after a test. Contracts see the list and
+// the disc's end.
 ghost use Rattle.std.specs.Prelude.{◌≡◌, ◌<◌, length};
 ghost use Rattle.space.specs.Used.{total_size};
 ghost use Rattle.space.specs.Inner.Words.{IsSortedDisjoint};
@@ -18,8 +18,8 @@ use refusal::Refusal;
 use std::marker::Model;
 
 /// The used regions of a disc, in order, none empty and none over another, and where the disc ends.
-// Kept: no derived equality: contracts see the regions alone, and not the words behind the last, so it would need an
-// `inverse` from those to the fields, and there is none.
+// Kept: no derived equality: contracts see the regions alone, and not the words behind the last, so it would
+// need an `inverse` from those to the fields, and there is none.
 #[derive(Drop)]
 pub struct UsedRegions<'a> {
     words: &'a [u32],
@@ -57,8 +57,8 @@ impl<'a> UsedRegions<'a> {
         Regions::new(self.words, self.count)
     }
 
-    // A function learns what the type keeps where it uses a field: `let _ = &self.words;` does in those that call
-    // methods alone.
+    // A function learns what the type keeps where it uses a field: `let _ = &self.words;` does in those that
+    // call methods alone.
 
     /// How many bytes are used.
     pub fn used_size(&self) -> u32
@@ -87,7 +87,8 @@ impl<'a> UsedRegions<'a> {
         self.free_regions().count()
     }
 
-    /// What the Rust answers for a region; for a file's own place, the largest size in bytes that it can grow to.
+    /// What the Rust answers for a region; for a file's own place, the largest size in bytes that it can grow
+    /// to.
     pub fn max_region_size(&self, offset: u32, size: u32) -> u32
         ensures { result ≡ max_region_size offset size (free_in self.now) }
     {
@@ -115,8 +116,8 @@ impl<'a> UsedRegions<'a> {
         best
     }
 
-    /// Finds the largest free region for `size` bytes at a multiple of `align`. Refuses 22 if that is no power of
-    /// two, 21 if there is none.
+    /// Finds the largest free region for `size` bytes at a multiple of `align`. Refuses 22 if that is no
+    /// power of two, 21 if there is none.
     pub fn allocate(&self, size: u32, align: u32) -> Result<DiscRegion, Refusal>
         ensures { result ≡ allocation_of align size (free_in self.now) }
     {
@@ -137,8 +138,8 @@ impl<'a> UsedRegions<'a> {
         if list.len() / N < found {
             return Err(Refusal::LimitOrMemory);
         }
-        // Kept: tried without `at`, by `zip(list.chunks_mut(N))`: what the list holds once the chunks are given back is
-        // not known, its length alone, so what the call leaves there stays open.
+        // Kept: tried without `at`, by `zip(list.chunks_mut(N))`: what the list holds once the chunks are
+        // given back is not known, its length alone, so what the call leaves there stays open.
         let mut at = 0;
         for region in self.free_regions() {
             R::put(region, &mut list[at..at + N]);

@@ -16,22 +16,22 @@ use Rattle.refusal.specs.Laws.Tests.{lt-or-le, and_left, and_right}
 use Rattle.table.specs.Inner.Texts.{clean_byte, clean_from, HasNoLead}
 use Rattle.table.specs.Inner.Blocks.{IsFit, Marked}
 use Rattle.table.proofs.Chart.{Kinds}
-use Rattle.table.proofs.Texts.{inside, every-end, every-pair, every-single, clean-no-pair, clean-pair, clean-single, clean-behind}
+use Rattle.table.proofs.Texts.{inside, clean-no-pair, clean-pair, clean-single, clean-behind, list_all-end, list_all-pair, list_all-single}
 
 -- ---- fit texts
 
 pub fit-end : (tab : List ℕ) (i : ℕ) → get_or tab i 0 ≡ 0 → IsFit tab i
-fit-end tab i z = record { plain = every-end plain_unit tab i z; safe = every-end safe_unit tab i z }
+fit-end tab i z = record { plain = list_all-end plain_unit tab i z; safe = list_all-end safe_unit tab i z }
 
 pub fit-pair : (tab : List ℕ) (i : ℕ) → pair_at tab i ≡ true → IsFit tab (i + 2) → IsFit tab i
-fit-pair tab i h f = record { plain = every-pair plain_unit tab i h refl ∙ f.plain; safe = every-pair safe_unit tab i h refl ∙ f.safe }
+fit-pair tab i h f = record { plain = list_all-pair plain_unit tab i h refl ∙ f.plain; safe = list_all-pair safe_unit tab i h refl ∙ f.safe }
 
 pub fit-single : (tab : List ℕ) (i : ℕ) → (get_or tab i 0 ≡ 0 → ⊥) → clean_byte (get_or tab i 0) ≡ true → IsFit tab (i + 1) → IsFit tab i
 fit-single tab i n e f =
     let b = get_or tab i 0 in
     let q : (plain_byte b && safe_byte b) ≡ true = rw (ne_eqb b 0 n) at e in
-    let p = every-single plain_unit tab i true n (clean-no-pair tab i e) (and_left (plain_byte b) (safe_byte b) q) in
-    let s = every-single safe_unit tab i true n (clean-no-pair tab i e) (and_right (plain_byte b) (safe_byte b) q) in
+    let p = list_all-single plain_unit tab i true n (clean-no-pair tab i e) (and_left (plain_byte b) (safe_byte b) q) in
+    let s = list_all-single safe_unit tab i true n (clean-no-pair tab i e) (and_right (plain_byte b) (safe_byte b) q) in
     record { plain = p ∙ f.plain; safe = s ∙ f.safe }
 
 -- LAW: where the bytes are clean from a place on, the text there is fit; n is enough for the bytes that are left

@@ -14,24 +14,25 @@ use lib.Dec.{eqb}
 use Rattle.endian.specs.Bytes.{same_bytes}
 use Rattle.refusal.specs.Laws.Tests.{lt-or-le, and_left, and-false}
 use Rattle.refusal.specs.declared.Refusal.TheVariants.{NotFound}
-use Rattle.tree.specs.Table.{Node, file, directory, name_of, none, encloses, parent_below, parent_of}
+use Rattle.tree.specs.Table.{Node, file, directory, name_of, none, encloses, parent_of}
 use Rattle.tree.specs.Inner.WellFormed.{IsWellFormed}
 use Rattle.tree.specs.Lookup.{is_directory, next_of, child_named, first_child, child_of}
-use Rattle.tree.proofs.Laws.Nesting.{parent-here, parent-lower, parent_is}
+use Rattle.tree.proofs.Laws.Nesting.{parent_is, below-clear}
 use Rattle.tree.proofs.Laws.WellNested.{next-bounds, nests}
 use Rattle.table.specs.Inner.After.{after_of}
-use Rattle.table.proofs.Nodes.{encloses-next, parent-whole}
+use Rattle.table.proofs.Nodes.{parent-whole}
+use Rattle.tree.proofs.Laws.InsertedList.{encloses-is}
 
 -- ---- entries by their nexts, which are 0 for files
 
 open-le : (x : Node) (k : ℕ) → encloses x k ≡ false → next_of x ≤ k
-open-le x k e = ltb-false k (next_of x) (sym (encloses-next x k) ∙ e)
+open-le x k e = ltb-false k (next_of x) (sym (encloses-is x k) ∙ e)
 
 shut-le : (x : Node) (k : ℕ) → next_of x ≤ k → encloses x k ≡ false
-shut-le x k h = encloses-next x k ∙ le-ltb k (next_of x) h
+shut-le x k h = encloses-is x k ∙ le-ltb k (next_of x) h
 
 open-lt : (x : Node) (k : ℕ) → k < next_of x → encloses x k ≡ true
-open-lt x k h = encloses-next x k ∙ lt-ltb k (next_of x) h
+open-lt x k h = encloses-is x k ∙ lt-ltb k (next_of x) h
 
 pub next_le : (nodes : List Node) (k : ℕ) → IsWellFormed nodes → k < length nodes → next_of (get_or nodes k none) ≤ length nodes
 next_le nodes k w h = go (get_or nodes k none) refl
@@ -62,18 +63,8 @@ after_next (directory nm next) k j a b = refl
 
 -- ---- the parent is the last directory around an entry
 
-below_none : (nodes : List Node) (k i j : ℕ) → parent_below nodes k i < j → j < i → encloses (get_or nodes j none) k ≡ false
-below_none nodes k zero j a b = absurd (omega arith)
-below_none nodes k (suc i) j a b = go (encloses (get_or nodes i none) k) refl (λ a' b'. below_none nodes k i j a' b')
-  where
-    go : (t : Bool) → encloses (get_or nodes i none) k ≡ t → (parent_below nodes k i < j → j < i → encloses (get_or nodes j none) k ≡ false) → encloses (get_or nodes j none) k ≡ false
-    go true e ih = let p : parent_below nodes k (suc i) ≡ i = parent-here nodes k i e in absurd (omega arith)
-    go false e ih =
-        let p : parent_below nodes k (suc i) ≡ parent_below nodes k i = parent-lower nodes k i e in
-        ⊎_elim (λ l. ih (omega arith) l) (λ l. let q : j ≡ i = omega arith in rw q e) (lt-or-le j i)
-
 pub parent-last : (nodes : List Node) (k d j : ℕ) → parent_of nodes k ≡ d → d < j → j < k → next_of (get_or nodes j none) ≤ k
-parent-last nodes k d j e a b = open-le (get_or nodes j none) k (below_none nodes k k j (omega (arith, parent-whole nodes k)) b)
+parent-last nodes k d j e a b = open-le (get_or nodes j none) k (below-clear nodes k k j (omega (arith, parent-whole nodes k)) b)
 
 parent-from : (nodes : List Node) (j k : ℕ) → k < j → j < next_of (get_or nodes k none) → k ≤ parent_of nodes j
 parent-from nodes j k a b = ⊎_elim (λ l. absurd (omega (arith, parent-last nodes j (parent_of nodes j) k refl l a))) (λ l. l) (lt-or-le (parent_of nodes j) k)

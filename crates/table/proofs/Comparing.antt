@@ -13,7 +13,7 @@ use lib.ListN.{length, get_or, drop, take, length-drop, get_or-eq_default}
 use lib.Seq.{get_or-drop, take-length}
 use lib.Dec.{eqb}
 use Rattle.endian.specs.Bytes.{span, same_bytes}
-use Rattle.refusal.specs.Laws.Tests.{lt-or-le}
+use Rattle.refusal.specs.Laws.Tests.{lt-or-le, or-false}
 use Rattle.refusal.specs.declared.Refusal.TheVariants.{NotFound}
 use Rattle.tree.specs.Table.{Node, name_of, none, count, nodes_of, up_to0, name_place}
 use Rattle.tree.specs.Lookup.{first_child, child_of}
@@ -44,10 +44,6 @@ longer (suc b ∷ s) [] h = refl
 longer (zero ∷ s) (y ∷ nm) h = refl
 longer (suc b ∷ s) (y ∷ nm) h = rw (longer s nm h) (and-false (eqb (suc b) y))
 
-or-none : (a b : Bool) → (a || b) ≡ false → (a ≡ false) × (b ≡ false)
-or-none true b e = let z : ◌≡◌ {A = ℕ} 0 1 = cc in absurd (omega arith)
-or-none false b e = (refl, e)
-
 exact : (s nm : List ℕ) → has_zero nm ≡ false → length nm ≤ length s → get_or s (length nm) 0 ≡ 0 → same_bytes (up_to0 s) nm ≡ same_bytes (take (length nm) s) nm
 unfolding same_bytes
 exact [] [] z h e = refl
@@ -55,9 +51,9 @@ exact [] (y ∷ nm) z h e = absurd (omega arith)
 exact (zero ∷ s) [] z h e = refl
 exact (suc b ∷ s) [] z h e = absurd (omega arith)
 exact (zero ∷ s) (y ∷ nm) z h e =
-    let n : eqb 0 y ≡ false = ne_eqb 0 y (λ q. eqb-false y 0 (or-none (eqb y 0) (has_zero nm) z).0 (sym q)) in
+    let n : eqb 0 y ≡ false = ne_eqb 0 y (λ q. eqb-false y 0 (or-false (eqb y 0) (has_zero nm) z).0 (sym q)) in
     rw n
-exact (suc b ∷ s) (y ∷ nm) z h e = ap (λ (t : Bool). eqb (suc b) y && t) (exact s nm (or-none (eqb y 0) (has_zero nm) z).1 (omega arith) e)
+exact (suc b ∷ s) (y ∷ nm) z h e = ap (λ (t : Bool). eqb (suc b) y && t) (exact s nm (or-false (eqb y 0) (has_zero nm) z).1 (omega arith) e)
 
 zeroed : (s nm : List ℕ) → has_zero nm ≡ true → same_bytes (up_to0 s) nm ≡ false
 unfolding same_bytes

@@ -1,7 +1,7 @@
 -- The names of an accepted table as texts of it: each has its zero byte in the table. Assumes nothing.
-use Prim.Native.Nat.{ℕ, zero, suc, ◌+◌, ◌-◌, ◌<◌}
-use mathlib.Core.Path.{◌≡◌, refl, sym, ap, ◌∙◌}
-use mathlib.Core.List.{List, [], ◌∷◌}
+use Prim.Native.Nat.{ℕ, ◌+◌, ◌-◌, ◌<◌}
+use mathlib.Core.Path.{◌≡◌, sym, ◌∙◌}
+use mathlib.Core.List.{List}
 use native.Mathlib.Omega.{arith}
 use lib.ListN.{length, get_or, take, drop}
 use Rattle.tree.specs.Table.{none, count, name_of, name_at, nodes_of, name_place, up_to0}
@@ -10,6 +10,7 @@ use Rattle.table.specs.Inner.Texts.{text_at}
 use Rattle.table.proofs.Walking.{count-some}
 use Rattle.table.proofs.Nodes.{name-is}
 use Rattle.table.proofs.NamePlaces.{place_is}
+use Rattle.tree.proofs.Laws.Texts.{take-up_to0}
 
 -- the name of an entry past the root is the text at its place
 pub name-there : (tab : List ℕ) (k : ℕ) → 0 < k → k < count tab → name_of (get_or (nodes_of tab) k none) ≡ text_at tab (name_place tab k)
@@ -23,16 +24,10 @@ name-ended {tab} a k h l = rw (place_is tab k (λ e. omega arith)) (a.names k h 
 pub place-some : (tab : List ℕ) (k : ℕ) → 0 < k → 0 < name_place tab k
 place-some tab k h = rw (place_is tab k (λ e. omega arith)) (omega (arith, count-some tab))
 
--- as many bytes as it has are the text
-text-taken : (s : List ℕ) → take (length (up_to0 s)) s ≡ up_to0 s
-text-taken [] = refl
-text-taken (zero ∷ s) = refl
-text-taken (suc b ∷ s) = ap (λ (t : List ℕ). suc b ∷ t) (text-taken s)
-
 -- the bytes of the table from the name's place on, as many as its text has
 pub name-cut : (tab : List ℕ) (k place n : ℕ) → 0 < k → k < count tab → place ≡ name_place tab k → n ≡ length (text_at tab place)
     → take (place + n - place) (drop place tab) ≡ name_of (get_or (nodes_of tab) k none)
 name-cut tab k place n h l p e =
     let m : place + n - place ≡ length (up_to0 (drop place tab)) = omega (arith, e) in
     let f : name_of (get_or (nodes_of tab) k none) ≡ text_at tab place = rw p (name-there tab k h l) in
-    rw m (text-taken (drop place tab) ∙ sym f)
+    rw m (take-up_to0 (drop place tab) ∙ sym f)

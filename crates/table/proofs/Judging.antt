@@ -4,7 +4,7 @@ use native.Mathlib.Omega.{arith}
 use lib.ListN.{length, drop, take, length-drop}
 use lib.Seq.{take-length}
 use mathlib.Core.Path.{◌≡◌, refl, sym, ap, ◌∙◌}
-use mathlib.Core.Bool.{Bool, true, false, true≢false, cond, ◌&&◌}
+use mathlib.Core.Bool.{Bool, true, false, true≢false, cond}
 use mathlib.Core.List.{List, [], ◌∷◌}
 use borrow.Author.Tests.{ne_eqb}
 use lib.Dec.{ltb}
@@ -12,17 +12,13 @@ use Rattle.std.proofs.lemmas.Bool.{ltb-false}
 use Rattle.std.specs.Prelude.{◌==◌, Option, Some, None, unwrap_or}
 use Rattle.std.specs.Option.{option_map_or}
 use Rattle.std.specs.List.{list_all, position_or_len}
-use Rattle.tree.specs.Units.{TextUnit, units}
-use Rattle.tree.specs.Table.{up_to0, every, safe, plain, plain_unit, safe_unit}
+use Rattle.tree.specs.Units.{units}
+use Rattle.tree.specs.Table.{up_to0, safe, plain, plain_unit, safe_unit}
 use Rattle.table.specs.Inner.Texts.{nameless, clean_unit, clean_from}
-
-pub all-every : (p : TextUnit → Bool) (us : List TextUnit) → list_all p us ≡ every p us
-all-every p [] = refl
-all-every p (u ∷ us) = ap (λ (t : Bool). p u && t) (all-every p us)
 
 pub plain-is : (nm : List ℕ) → list_all plain_unit (units nm) ≡ plain nm
 unfolding plain
-plain-is nm = all-every plain_unit (units nm)
+plain-is nm = refl
 
 pub safe-none : (nm : List ℕ) → nameless nm ≡ true → safe nm ≡ false
 unfolding safe
@@ -32,10 +28,10 @@ safe-none (x ∷ s) h = rw h
 pub safe-is : (nm : List ℕ) → nameless nm ≡ false → safe nm ≡ list_all safe_unit (units nm)
 unfolding safe
 safe-is [] h = absurd (true≢false h)
-safe-is (x ∷ s) h = rw (h, all-every safe_unit (units (x ∷ s)))
+safe-is (x ∷ s) h = rw h
 
-pub safe-fit : (nm : List ℕ) → nameless nm ≡ false → every safe_unit (units nm) ≡ true → safe nm ≡ true
-safe-fit nm h e = rw (safe-is nm h, all-every safe_unit (units nm)) e
+pub safe-fit : (nm : List ℕ) → nameless nm ≡ false → list_all safe_unit (units nm) ≡ true → safe nm ≡ true
+safe-fit nm h e = rw (safe-is nm h) e
 
 pub drop-min : (n : ℕ) (s : List ℕ) → drop (min n (length s)) s ≡ drop n s
 drop-min zero s = let e : min 0 (length s) ≡ 0 = omega arith in rw e
@@ -46,7 +42,7 @@ drop-min (suc n) (b ∷ s) =
 
 pub clean-is : (tab : List ℕ) (from at : ℕ) → at ≡ min from (length tab) → list_all clean_unit (units (drop at tab)) ≡ clean_from tab from
 unfolding clean_from
-clean-is tab from at e = rw (e, drop-min from tab) (all-every clean_unit (units (drop from tab)))
+clean-is tab from at e = rw (e, drop-min from tab)
 
 pub whole-rest : (s : List ℕ) (n : ℕ) → take (length s - n) (drop n s) ≡ drop n s
 whole-rest s n = rw (← length-drop n s, take-length (drop n s))

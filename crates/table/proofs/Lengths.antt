@@ -27,18 +27,8 @@ length-inside tab at (suc d) h =
     rw e (⊎_elim (λ (l : 0 < get_or tab (at + d) 0). omega (arith, i, length-turn tab (at + d) (λ z. omega arith)))
     (λ (l : get_or tab (at + d) 0 ≤ 0). absurd (omega (arith, i, length-end tab (at + d) (omega arith)))) (lt-or-le 0 (get_or tab (at + d) 0)))
 
-abbrev option_number : Option ℕ → ℕ
-option_number None = 0
-option_number (Some n) = 1
-
-some-is : {a b : ℕ} → Some a ≡ Some b → a ≡ b
-some-is {a} e = ap (λ o. unwrap_or o a) e
-
-no-end : {n : ℕ} → ◌≡◌ {A = Option ℕ} None (Some n) → ⊥
-no-end e = let z : ◌≡◌ {A = ℕ} 0 1 = ap (λ (o : Option ℕ). option_number o) e in absurd (omega arith)
-
 pub ends-start : (tab : List ℕ) → EndsIn tab (replicate 320 None)
-ends-start tab = record { blocks = length-replicate {A = Option ℕ} 320 None; each = λ b end l h. absurd (no-end (sym (get_or-replicate {A = Option ℕ} 320 b None None l) ∙ h)) }
+ends-start tab = record { blocks = length-replicate {A = Option ℕ} 320 None; each = λ b end l h. let e = sym (get_or-replicate {A = Option ℕ} 320 b None None l) ∙ h in cc }
 
 -- the end of a long text is told to the next block
 pub ends-turn : (tab : List ℕ) (ends : List (Option ℕ)) (at b v : ℕ) → EndsIn tab ends → b < 320 → at ≤ 4096 * b → 4096 * b ≤ at + length (text_at tab at) → v ≡ at + length (text_at tab at) → EndsIn tab (set ends b (Some v))
@@ -53,7 +43,10 @@ ends-turn tab ends at b v e l p q is = record {
         let i = length-inside tab at (4096 * b - at) (omega arith) in omega (arith, is, rw f at i)
 
     here : (end : ℕ) → get_or (set ends b (Some v)) b None ≡ Some end → end ≡ 4096 * b + length (text_at tab (4096 * b))
-    here end h = sym (some-is (sym (get_or-set_same ends b (Some v) None (omega (arith, e.blocks))) ∙ h)) ∙ whole
+    here end h =
+        let e : Some v ≡ Some end = sym (get_or-set_same ends b (Some v) None (omega (arith, e.blocks))) ∙ h in
+        let f : end ≡ v = cc in
+        f ∙ whole
 
     other : (j end : ℕ) → j < 320 → (j ≡ b → ⊥) → get_or (set ends b (Some v)) j None ≡ Some end → end ≡ 4096 * j + length (text_at tab (4096 * j))
     other j end m n = rw (get_or-set_other ends b j (Some v) None n) (e.each j end m)

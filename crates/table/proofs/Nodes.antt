@@ -13,14 +13,15 @@ use Rattle.refusal.specs.Laws.Chains.{refuse-passed, first-passed}
 use Rattle.tree.specs.Table.{Node, file, directory, name_of, none, count, kind, name_offset, offset_or_parent, size_or_next, name_at, nodes_of, entries_verdict, check, encloses, parent_below, parent_of}
 use Rattle.tree.specs.Lookup.{is_directory, next_of}
 use Rattle.tree.specs.Inner.Accepted.{IsAccepted}
-use Rattle.tree.proofs.Laws.Accepted.{accepted, length-nodes_of, get_d-nodes_of}
+use Rattle.tree.proofs.Laws.Accepted.{accepted, length-nodes_of, get_d-nodes_of, name_of-node_at}
 use Rattle.tree.proofs.Laws.WellNested.{root_is}
-use Rattle.tree.proofs.Laws.Nesting.{parent-here, parent-lower, parent-before}
+use Rattle.tree.proofs.Laws.Nesting.{parent-here, parent-lower}
 use Rattle.table.specs.Inner.Reading.{Inside, Opens}
 use Rattle.table.specs.Inner.Texts.{text_at}
 use Rattle.table.specs.Inner.Fields.{last_of}
 use Rattle.table.specs.Inner.Held.{IsTable}
-use Rattle.table.proofs.Walking.{node-file, node-directory, node-name, entries-inside, count-some}
+use Rattle.table.proofs.Walking.{node-file, node-directory, entries-inside, count-some}
+use Rattle.tree.proofs.Laws.InsertedList.{encloses-is}
 
 pub opened : (tab : List ℕ) → AllBytes tab → (o : Opens tab) → IsAccepted tab o.words
 opened tab bytes o = accepted tab o.words bytes o.passed
@@ -66,11 +67,6 @@ last-is {tab} a k h {n} e = go (eqb (kind tab k) 0) refl
     go true q = e ∙ sym (ap last_of (file-is a k h (eqb-true _ _ q)))
     go false q = e ∙ sym (ap last_of (directory-is a k h (eqb-false _ _ q)))
 
--- an entry is inside a directory exactly if it is below its next
-pub encloses-next : (x : Node) (k : ℕ) → encloses x k ≡ ltb k (next_of x)
-encloses-next (file nm offset size) k = sym (le-ltb k 0 (omega arith))
-encloses-next (directory nm next) k = refl
-
 -- ---- the parent, looked for from the entry down
 
 module _ (nodes : List Node) (k i : ℕ) (h : 0 < i) where
@@ -79,12 +75,12 @@ module _ (nodes : List Node) (k i : ℕ) (h : 0 < i) where
 
   pub parent-found : k < next_of (get_or nodes (i - 1) none) → parent_below nodes k i ≡ i - 1
   parent-found l =
-      let e : encloses (get_or nodes (i - 1) none) k ≡ true = encloses-next (get_or nodes (i - 1) none) k ∙ lt-ltb _ _ l in
+      let e : encloses (get_or nodes (i - 1) none) k ≡ true = encloses-is (get_or nodes (i - 1) none) k ∙ lt-ltb _ _ l in
       ap (parent_below nodes k) before ∙ parent-here nodes k (i - 1) e
 
   pub parent-on : next_of (get_or nodes (i - 1) none) ≤ k → parent_below nodes k i ≡ parent_below nodes k (i - 1)
   parent-on l =
-      let e : encloses (get_or nodes (i - 1) none) k ≡ false = encloses-next (get_or nodes (i - 1) none) k ∙ le-ltb _ _ l in
+      let e : encloses (get_or nodes (i - 1) none) k ≡ false = encloses-is (get_or nodes (i - 1) none) k ∙ le-ltb _ _ l in
       ap (parent_below nodes k) before ∙ parent-lower nodes k (i - 1) e
 
 pub parent-whole : (nodes : List Node) (k : ℕ) → parent_of nodes k ≡ parent_below nodes k k
@@ -95,20 +91,15 @@ pub parent-none : (nodes : List Node) (k i : ℕ) → i ≡ 0 → parent_below n
 unfolding parent_below
 parent-none nodes k i e = rw e
 
-pub parent-at-most : (nodes : List Node) (k : ℕ) → parent_of nodes k ≤ k
-unfolding parent_of parent_below
-parent-at-most nodes zero = omega arith
-parent-at-most nodes (suc k) = omega (arith, parent-before nodes (suc k) (omega arith))
-
 -- the name of an entry past the root
 pub name-is : (tab : List ℕ) (k : ℕ) → 0 < k → k < count tab → name_of (get_or (nodes_of tab) k none) ≡ text_at tab (12 * count tab + name_offset tab k)
 unfolding name_at
-name-is tab k h l = ap name_of (get_d-nodes_of tab k h l) ∙ node-name tab (count tab) k
+name-is tab k h l = ap name_of (get_d-nodes_of tab k h l) ∙ name_of-node_at tab (count tab) k
 
 -- no name is longer than the texts may be; the root has none
 pub name-short : {tab : List ℕ} {words : ℕ} → IsAccepted tab words → (k : ℕ) → 0 < k → k < count tab → length (name_of (get_or (nodes_of tab) k none)) ≤ 2 ^ 20
 name-short {tab} a k h l =
-    let e : name_of (get_or (nodes_of tab) k none) ≡ name_at tab (count tab) (name_offset tab k) = ap name_of (get_d-nodes_of tab k h l) ∙ node-name tab (count tab) k in
+    let e : name_of (get_or (nodes_of tab) k none) ≡ name_at tab (count tab) (name_offset tab k) = ap name_of (get_d-nodes_of tab k h l) ∙ name_of-node_at tab (count tab) k in
     rw e (omega (arith, a.names k h l, a.texts))
 
 pub root-name : (tab : List ℕ) (k : ℕ) → k ≡ 0 → name_of (get_or (nodes_of tab) k none) ≡ []

@@ -19,8 +19,9 @@ use Rattle.tree.proofs.Laws.Nesting.{parent-here, parent-lower, parent-before}
 use Rattle.table.specs.Rows.{row_with, image_place, row_of, rows_below, listed}
 use Rattle.table.specs.Inner.ParentsIn.{HasParents}
 use Rattle.table.specs.Inner.Fields.{offset_of, last_of}
-use Rattle.table.proofs.Nodes.{encloses-next, parent-whole}
+use Rattle.table.proofs.Nodes.{parent-whole}
 use Rattle.table.proofs.ChildLaws.{parent-last}
+use Rattle.tree.proofs.Laws.InsertedList.{encloses-is}
 
 -- ---- six words stored
 
@@ -121,7 +122,7 @@ below-skip nodes k q zero h f = let e : q ≡ 0 = omega arith in rw e
 below-skip nodes k q (suc i) h f = ⊎_elim (λ l. parent-lower nodes k i (closed i (f i l (omega arith))) ∙ below-skip nodes k q i l (λ j a b. f j a (omega arith))) (λ l. let e : q ≡ suc i = omega arith in rw e) (le-or-eq q i h)
   where
     closed : (j : ℕ) → next_of (get_or nodes j none) ≤ k → encloses (get_or nodes j none) k ≡ false
-    closed j l = encloses-next (get_or nodes j none) k ∙ le-ltb k (next_of (get_or nodes j none)) l
+    closed j l = encloses-is (get_or nodes j none) k ∙ le-ltb k (next_of (get_or nodes j none)) l
 
     le-or-eq : (q i : ℕ) → q ≤ suc i → (q ≤ i) ⊎ (i < q)
     le-or-eq q i h = ⊎_elim (λ l. inr l) (λ l. inl l) (lt-or-le i q)
@@ -131,7 +132,7 @@ module _ (nodes : List Node) (k p : ℕ) where
   climb-start h e = let n : k ≡ p + 1 = omega arith in parent-whole nodes k ∙ ap (parent_below nodes k) n
 
   pub climb-found : k < next_of (get_or nodes p none) → parent_below nodes k (p + 1) ≡ p
-  climb-found h = rw (add-one p) (parent-here nodes k p (encloses-next (get_or nodes p none) k ∙ lt-ltb k (next_of (get_or nodes p none)) h))
+  climb-found h = rw (add-one p) (parent-here nodes k p (encloses-is (get_or nodes p none) k ∙ lt-ltb k (next_of (get_or nodes p none)) h))
 
   pub climb-turn : 0 < p → p < k → next_of (get_or nodes p none) ≤ k → parent_below nodes k (p + 1) ≡ parent_below nodes k (parent_of nodes p + 1)
   climb-turn z l h =

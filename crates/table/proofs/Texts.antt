@@ -12,11 +12,12 @@ use lib.Seq.{drop-drop, get_or-drop}
 use Rattle.std.proofs.lemmas.List.{drop-take}
 use lib.Dec.{eqb}
 use Rattle.tree.specs.Units.{lead_byte, trail_byte, TextUnit, single, pair, units}
-use Rattle.tree.specs.Table.{every, dots, plain_byte, safe_byte, up_to0}
+use Rattle.tree.specs.Table.{dots, plain_byte, safe_byte, up_to0}
 use Rattle.tree.specs.Inner.Pairs.{pair_at}
 use Rattle.tree.proofs.Laws.UnitLaws.{in_either, lead_is, trail_is, by_units, units-pair, units-single}
 use Rattle.refusal.specs.Laws.Tests.{lt-or-le, and_left, and_right, or_cases, is_false}
 use Rattle.table.specs.Inner.Texts.{text_at, clean_byte, clean_unit, clean_from, HasNoLead}
+use Rattle.std.specs.List.{list_all}
 
 pub text-end : (tab : List ℕ) (i : ℕ) → get_or tab i 0 ≡ 0 → text_at tab i ≡ []
 text-end [] zero h = refl
@@ -69,15 +70,15 @@ module _ (tab : List ℕ) (i : ℕ) where
 
 -- ---- a test of each unit of a text
 
-pub every-end : (p : TextUnit → Bool) (tab : List ℕ) (i : ℕ) → get_or tab i 0 ≡ 0 → every p (units (text_at tab i)) ≡ true
-every-end p tab i h = rw (units-end tab i h)
+pub list_all-end : (p : TextUnit → Bool) (tab : List ℕ) (i : ℕ) → get_or tab i 0 ≡ 0 → list_all p (units (text_at tab i)) ≡ true
+list_all-end p tab i h = rw (units-end tab i h)
 
-pub every-pair : (p : TextUnit → Bool) (tab : List ℕ) (i : ℕ) → pair_at tab i ≡ true → p (pair (get_or tab i 0) (get_or tab (i + 1) 0)) ≡ true → every p (units (text_at tab i)) ≡ every p (units (text_at tab (i + 2)))
-every-pair p tab i h e = rw (text-pair tab i h, e)
+pub list_all-pair : (p : TextUnit → Bool) (tab : List ℕ) (i : ℕ) → pair_at tab i ≡ true → p (pair (get_or tab i 0) (get_or tab (i + 1) 0)) ≡ true → list_all p (units (text_at tab i)) ≡ list_all p (units (text_at tab (i + 2)))
+list_all-pair p tab i h e = rw (text-pair tab i h, e)
 
-pub every-single : (p : TextUnit → Bool) (tab : List ℕ) (i : ℕ) (t : Bool) → (get_or tab i 0 ≡ 0 → ⊥) → pair_at tab i ≡ false → p (single (get_or tab i 0)) ≡ t →
-    every p (units (text_at tab i)) ≡ (t && every p (units (text_at tab (i + 1))))
-every-single p tab i t h n e = rw (text-single tab i h n, e)
+pub list_all-single : (p : TextUnit → Bool) (tab : List ℕ) (i : ℕ) (t : Bool) → (get_or tab i 0 ≡ 0 → ⊥) → pair_at tab i ≡ false → p (single (get_or tab i 0)) ≡ t →
+    list_all p (units (text_at tab i)) ≡ (t && list_all p (units (text_at tab (i + 1))))
+list_all-single p tab i t h n e = rw (text-single tab i h n, e)
 
 -- `.` or `..`: a text's first three bytes tell
 dots-head : (s : List ℕ) → dots (up_to0 (take 3 s)) ≡ dots (up_to0 s)
@@ -145,12 +146,12 @@ clean-next tab from end next h e n g =
     rw n (no-lead-next tab from end g.0 (clean-no-lead (get_or tab end 0) e), g.1 ∙ clean-single tab end true h (clean-no-pair tab end e) e)
 
 -- what follows a byte that is no lead byte does not start in the middle of a unit
-clean_drop : (l : List ℕ) (n : ℕ) → every clean_unit (units l) ≡ true → lead_byte (get_or l n 0) ≡ false → every clean_unit (units (drop (suc n) l)) ≡ true
+clean_drop : (l : List ℕ) (n : ℕ) → list_all clean_unit (units l) ≡ true → lead_byte (get_or l n 0) ≡ false → list_all clean_unit (units (drop (suc n) l)) ≡ true
 unfolding units
 clean_drop l n e = by_units Clean none_left pair_left single-left l n e
   where
     Clean : List ℕ → Type 0
-    Clean s = (n : ℕ) → every clean_unit (units s) ≡ true → lead_byte (get_or s n 0) ≡ false → every clean_unit (units (drop (suc n) s)) ≡ true
+    Clean s = (n : ℕ) → list_all clean_unit (units s) ≡ true → lead_byte (get_or s n 0) ≡ false → list_all clean_unit (units (drop (suc n) s)) ≡ true
 
     none_left : Clean []
     none_left n q h = refl

@@ -1,13 +1,13 @@
 -- Places of texts that are kept while a name is looked for: 32 of them, and the text at each that is there differs from the name.
 use Prim.Native.Nat.{ℕ, ◌<◌}
-use mathlib.Core.Path.{◌≡◌, sym, ap, subst, ◌∙◌}
+use mathlib.Core.Path.{◌≡◌, sym, ◌∙◌}
 use mathlib.Core.Bool.{false}
 use mathlib.Core.List.{List}
 use mathlib.Core.Logic.{⊎_elim}
 use native.Mathlib.Omega.{arith}
 use lib.ListN.{length, get_or, set, replicate, length-set, length-replicate, get_or-replicate}
 use lib.Seq.{get_or-set_same, get_or-set_other}
-use Rattle.std.specs.Prelude.{Option, Some, None, unwrap_or}
+use Rattle.std.specs.Prelude.{Option, Some, None}
 use Rattle.refusal.specs.Laws.Tests.{lt-or-le}
 use Rattle.endian.specs.Bytes.{same_bytes}
 use Rattle.table.specs.Inner.Texts.{text_at}
@@ -16,18 +16,8 @@ pub record Unlike (T nm : List ℕ) (s : List (Option ℕ)) : Type 0 where
   pub slots : length s ≡ 32
   pub each : (i at : ℕ) → i < 32 → get_or s i None ≡ Some at → same_bytes (text_at T at) nm ≡ false
 
-abbrev option_number : Option ℕ → ℕ
-option_number None = 0
-option_number (Some n) = 1
-
-no-place : {n : ℕ} → ◌≡◌ {A = Option ℕ} None (Some n) → ⊥
-no-place e = let z : ◌≡◌ {A = ℕ} 0 1 = ap option_number e in absurd (omega arith)
-
-some-is : {a b : ℕ} → Some a ≡ Some b → a ≡ b
-some-is {a} e = ap (λ o. unwrap_or o a) e
-
 pub unlike-start : (T nm : List ℕ) → Unlike T nm (replicate 32 None)
-unlike-start T nm = record { slots = length-replicate {A = Option ℕ} 32 None; each = λ i at l h. absurd (no-place (sym (get_or-replicate {A = Option ℕ} 32 i None None l) ∙ h)) }
+unlike-start T nm = record { slots = length-replicate {A = Option ℕ} 32 None; each = λ i at l h. let e = sym (get_or-replicate {A = Option ℕ} 32 i None None l) ∙ h in cc }
 
 pub unlike-turn : (T nm : List ℕ) (s : List (Option ℕ)) (i place : ℕ) → Unlike T nm s → i < 32 → same_bytes (text_at T place) nm ≡ false → Unlike T nm (set s i (Some place))
 unlike-turn T nm s i place u l e = record {
@@ -36,7 +26,10 @@ unlike-turn T nm s i place u l e = record {
 }
   where
     here : (at : ℕ) → get_or (set s i (Some place)) i None ≡ Some at → same_bytes (text_at T at) nm ≡ false
-    here at h = subst (λ p. same_bytes (text_at T p) nm ≡ false) (some-is (sym (get_or-set_same s i (Some place) None (omega (arith, u.slots))) ∙ h)) e
+    here at h =
+        let s : Some place ≡ Some at = sym (get_or-set_same s i (Some place) None (omega (arith, u.slots))) ∙ h in
+        let f : at ≡ place = cc in
+        rw f e
 
     other : (j at : ℕ) → j < 32 → (j ≡ i → ⊥) → get_or (set s i (Some place)) j None ≡ Some at → same_bytes (text_at T at) nm ≡ false
     other j at b n = rw (get_or-set_other s i j (Some place) None n) (u.each j at b)

@@ -14,9 +14,10 @@ use lib.Dec.{leb, ltb}
 use Rattle.refusal.specs.declared.Refusal.TheVariants.{EntryPastTable, UnrecognizedKind, InvalidNextIndex, LimitOrMemory}
 use Rattle.refusal.specs.Refusal.{refuse, is_refused}
 use Rattle.refusal.specs.Laws.Chains.{refuse-passed, first-passed}
-use Rattle.tree.specs.Table.{file, directory, name_of, count, kind, name_offset, offset_or_parent, size_or_next, name_at, node_with, node_at, nodes_from, entry_verdict, entries_verdict, top, shut, enter, next_verdict, walk}
+use Rattle.tree.specs.Table.{file, directory, count, kind, name_offset, offset_or_parent, size_or_next, name_at, node_with, node_at, nodes_from, entry_verdict, entries_verdict, top, shut, enter, next_verdict, walk}
 use Rattle.tree.proofs.Laws.Steps.{walk_entry, walk-stop, walk-go, walk_end}
 use Rattle.table.specs.Inner.Reading.{Inside, open_in, node_verdict}
+use Rattle.tree.proofs.Laws.Accepted.{name_of-node_at}
 
 -- entries that pass stand in the table
 entries-held : (tab : List ℕ) (k n : ℕ) → entries_verdict tab k (suc n) ≡ Ok tt → 12 * (k + suc n) ≤ length tab
@@ -53,14 +54,6 @@ with-directory (suc n) nm a b h = refl
 pub node-directory : (tab : List ℕ) (c k : ℕ) → (kind tab k ≡ 0 → ⊥) → node_at tab c k ≡ directory (name_at tab c (name_offset tab k)) (size_or_next tab k)
 unfolding node_at
 node-directory tab c k h = with-directory (kind tab k) _ _ _ h
-
-with-name : (n : ℕ) (nm : List ℕ) (a b : ℕ) → name_of (node_with n nm a b) ≡ nm
-with-name zero nm a b = refl
-with-name (suc n) nm a b = refl
-
-pub node-name : (tab : List ℕ) (c k : ℕ) → name_of (node_at tab c k) ≡ name_at tab c (name_offset tab k)
-unfolding node_at
-node-name tab c k = with-name (kind tab k) _ _ _
 
 -- ---- the open directories in words
 
@@ -131,7 +124,7 @@ walked_start tab c = record { from = omega arith; left = refl }
 
 module _ {tab : List ℕ} {c : ℕ} {dirs : List ℕ} {k : ℕ} (w : Walked tab c dirs k) (around : List ℕ) (shuts : around ≡ shut k dirs) (v : Verdict) (test : v ≡ node_verdict tab c around k) (more : k < c) where
   same : v ≡ walk_entry tab c dirs k (node_at tab c k)
-  same = test ∙ rw (shuts, node-name tab c k)
+  same = test ∙ rw (shuts, name_of-node_at tab c k)
 
   pub walked_stop : is_refused v ≡ true → v ≡ walk tab c (c ∷ []) 1 (nodes_from tab c 1 (c - 1))
   walked_stop r = sym (w.left ∙ walk-stop tab c dirs k c v more same r)

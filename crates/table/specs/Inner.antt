@@ -9,4 +9,5 @@ pub mod Read
 pub mod Reading
 pub mod Steps
 pub mod Texts
+pub mod Words
 pub mod Zeros

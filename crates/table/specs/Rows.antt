@@ -1,4 +1,4 @@
--- All entries of an accepted table at once, six words an entry. Assumes nothing: these are definitions.
+-- All entries of an accepted table at once, six words an entry.
 use Rattle.std.specs.Prelude.{Ok, if◌then◌else◌, nat_lt, slice_index_or}
 use Rattle.refusal.specs.Refusal.{Verdict}
 use Rattle.std.specs.Prelude.{ℕ, zero, suc, ◌+◌, ◌*◌, List, [], ◌∷◌, ◌++◌, length}
@@ -26,7 +26,7 @@ unfoldable pub rows_below : ℕ → List ℕ → ℕ → List ℕ
 rows_below base tab zero = []
 rows_below base tab (suc k) = rows_below base tab k ++ row_of base tab k
 
--- "result list short 9": nothing is written then; words past the answer stay
+-- nothing is written to a list that is too short
 unfoldable pub list_verdict : List ℕ → ℕ → Verdict
 list_verdict tab room = refuse (nat_lt room (6 * count tab)) LimitOrMemory (Ok tt)
 

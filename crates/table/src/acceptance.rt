@@ -1,5 +1,5 @@
-// Whether a table is accepted: its root, then each entry's place and kind, then the limits, and then a walk over the names and over what nests in
-// what.
+// Whether a table is accepted: its root, then each entry's place and kind, then the limits, and then a walk
+// over the names and over what nests in what.
 ghost use Rattle.std.specs.Prelude.{◌≡◌, [], ◌∷◌, ◌-◌, ◌*◌, ◌≤◌, ◌<◌, length};
 ghost use Rattle.tree.specs.Table as table_of;
 ghost use Rattle.tree.specs.Table.{name_offset, name_at, node_at, nodes_from, name_verdict, next_verdict};
@@ -35,7 +35,8 @@ fn entry_verdict(table: &[u8], k: usize) -> Verdict
 }
 
 // Each entry after the root in turn.
-// Kept: the loop goes over the entries' numbers, which place their records in the bytes; `chunks_exact` would hide the entry that is cut off.
+// Kept: the loop goes over the entries' numbers, which place their records in the bytes; `chunks_exact` would
+// hide the entry that is cut off.
 fn entries_verdict(table: &[u8], count: usize) -> Verdict
     requires root { 1 ≤ count }
     requires few { count ≤ 16384 }
@@ -74,7 +75,8 @@ fn clean_verdict(table: &[u8], at: usize) -> Verdict
 }
 
 // Shuts the directories that end at entry k or before it.
-// Kept: `while`, which counts no index; an iterator that takes off what it gives would also take off the directory that stays open.
+// Kept: `while`, which counts no index; an iterator that takes off what it gives would also take off the
+// directory that stays open.
 fn shut(dirs: &mut Stack, k: usize)
     ensures { dirs.new ≡ table_of.shut k dirs.old }
 {
@@ -95,13 +97,15 @@ struct Entries<'a> {
 }
 
 impl<'a> Entries<'a> {
-    // The name of entry k: its offset, whether its units are a name's, whether they are safe. Where its text is fit, it is not looked at unit by
-    // unit. Elsewhere only a name that is refused, and so ends the walk, is looked at to its end.
+    // The name of entry k: its offset, whether its units are a name's, whether they are safe. Where its text
+    // is fit, it is not looked at unit by unit. Elsewhere only a name that is refused, and so ends the walk,
+    // is looked at to its end.
     fn name_verdict(&self, texts: &mut Survey<'_>, k: usize) -> Verdict
         requires within { k < self.now.count }
         requires same_table { texts.old.table ≡ self.now.table.now }
         requires behind_entries { texts.old.base ≡ 12 * self.now.count }
-        ensures verdict { result ≡ name_verdict self.now.table.now self.now.count k (name_at self.now.table.now self.now.count (name_offset self.now.table.now k)) }
+        ensures verdict { let table = self.now.table.now in let count = self.now.count in
+            result ≡ name_verdict table count k (name_at table count (name_offset table k)) }
         ensures same { texts.new ≡ texts.old }
     {
         let offset = endian::read_u24(self.table, 12 * k + 1) as usize;
@@ -118,7 +122,8 @@ impl<'a> Entries<'a> {
     // The next of entry k, if it is a directory, and then its depth.
     fn next_verdict(&self, dirs: &Stack, k: usize) -> Verdict
         requires { k < self.now.count }
-        ensures { result ≡ next_verdict self.now.count dirs.now k (node_at self.now.table.now self.now.count k) }
+        ensures { let node = node_at self.now.table.now self.now.count k in
+            result ≡ next_verdict self.now.count dirs.now k node }
     {
         if self.table[12 * k] == 0 {
             return Ok(());
@@ -154,7 +159,8 @@ impl<'a> Entries<'a> {
     // Opens entry k, if it is a directory.
     fn enter(&self, dirs: &mut Stack, k: usize)
         requires within { k < self.now.count }
-        requires passed { next_verdict self.now.count dirs.old k (node_at self.now.table.now self.now.count k) ≡ (Ok tt) }
+        requires passed { let node = node_at self.now.table.now self.now.count k in
+            next_verdict self.now.count dirs.old k node ≡ (Ok tt) }
         ensures { dirs.new ≡ table_of.enter dirs.old (node_at self.now.table.now self.now.count k) }
     {
         if self.table[12 * k] != 0 {
@@ -163,9 +169,12 @@ impl<'a> Entries<'a> {
     }
 
     // The walk over the entries after the root.
-    // Kept: the number of an entry is what the directories that end are told by, and what its record is read at.
+    // Kept: the number of an entry is what the directories that end are told by, and what its record is read
+    // at.
     fn walk(&self) -> Verdict
-        ensures { result ≡ table_of.walk self.now.table.now self.now.count (self.now.count ∷ []) 1 (nodes_from self.now.table.now self.now.count 1 (self.now.count - 1)) }
+        ensures { let table = self.now.table.now in let count = self.now.count in
+            let nodes = nodes_from table count 1 (count - 1) in
+            result ≡ table_of.walk table count (count ∷ []) 1 nodes }
     {
         let mut texts = Survey::new(self.table, 12 * self.count);
         let mut dirs = Stack::new();
@@ -179,7 +188,8 @@ impl<'a> Entries<'a> {
     }
 
     // Whether texts stand after the entries, and the last has no zero byte at its end.
-    // Kept: it answers a question that the one test asks; the refusal stands there, in the order of the tests.
+    // Kept: it answers a question that the one test asks; the refusal stands there, in the order of the
+    // tests.
     fn unended(&self) -> bool
         ensures { result ≡ table_of.unended self.now.table.now self.now.count }
     {

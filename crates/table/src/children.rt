@@ -12,12 +12,13 @@ use crate::entries::Table;
 use crate::name;
 use refusal::Refusal;
 
-// Whether the text at `place` has the bytes of `name`. The text at `differs`, if there is one, has not, and is not compared again, since
-// entries can share a long text.
+// Whether the text at `place` has the bytes of `name`. The text at `differs`, if there is one, has not, and
+// is not compared again, since entries can share a long text.
 fn has_name(table: &[u8], place: usize, differs: Option<usize>, name: &[u8]) -> bool
     requires inside { place ≤ length table.now }
     requires no_zero { has_zero name.now ≡ false }
-    requires unlike { (at : ℕ) → differs ≡ Some at → same_bytes (text_at table.now at) name.now ≡ false }
+    requires unlike { (at : ℕ) → differs ≡ Some at
+        → same_bytes (text_at table.now at) name.now ≡ false }
     ensures { result ≡ same_bytes (text_at table.now place) name.now }
 {
     differs != Some(place) && name::text_is(table, place, name)
@@ -37,9 +38,11 @@ impl<'a> Table<'a> {
         }
     }
 
-    // The first child of directory d with that name, which has no zero byte. A subdirectory is stepped over by its next. Of each 65,536 bytes of
-    // texts the last text that differs is kept: only one that starts there can be longer than that.
-    // Kept: `while`, which counts no index: it goes from child to child; `successors` would have the same step, and the same stop, as closures.
+    // The first child of directory d with that name, which has no zero byte. A subdirectory is stepped over
+    // by its next. Of each 65,536 bytes of texts the last text that differs is kept: only one that starts
+    // there can be longer than that.
+    // Kept: `while`, which counts no index: it goes from child to child; `successors` would have the same
+    // step, and the same stop, as closures.
     fn child_named(&self, d: usize, name: &[u8]) -> Result<u32, Refusal>
         requires within { d < table_of.count self.now }
         requires no_zero { has_zero name.now ≡ false }

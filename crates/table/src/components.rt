@@ -19,8 +19,10 @@ fn is_separator(unit: Unit) -> bool
 /// end.
 pub fn component_end(path: &[u8], at: usize) -> usize
     requires { at ≤ length path.now }
-    ensures { (at ≤ result) × (result ≤ length path.now)
-        × (components (drop at path.now) ≡ span path.now at (result - at) ∷ components_after path.now result) }
+    ensures further { at ≤ result }
+    ensures within { result ≤ length path.now }
+    ensures first { let name = span path.now at (result - at) in
+        components (drop at path.now) ≡ name ∷ components_after path.now result }
 {
     let mut units = Units::new(&path[at..]);
     match units.find(|unit| is_separator(*unit)) {
@@ -32,7 +34,8 @@ pub fn component_end(path: &[u8], at: usize) -> usize
 
 /// The components of a path in turn; an empty path has one empty component. Contracts see the list of those
 /// that are left.
-// Kept: no derived equality (N): it would compare where the bytes lie too, and what contracts see is the list.
+// Kept: no derived equality (N): it would compare where the bytes lie too, and what contracts see is the
+// list.
 #[derive(Drop)]
 pub struct Components<'a> {
     rest: Option<&'a [u8]>,

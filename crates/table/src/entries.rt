@@ -14,7 +14,8 @@ use std::marker::Model;
 use tree::{DirectoryEntry, Entry, FileEntry, Found};
 
 /// A file table that the checks accepted, so that its entries stand in it and nest, and each name ends in it.
-// Kept: no derived equality, which would ask for an `inverse`: the view is the bytes, and forgets where they lie.
+// Kept: no derived equality, which would ask for an `inverse`: the view is the bytes, and forgets where they
+// lie.
 #[derive(Drop)]
 pub struct Table<'a> {
     pub(crate) bytes: &'a [u8],
@@ -52,7 +53,8 @@ impl<'a> Table<'a> {
     /// How many entries it has, the root among them.
     pub fn len(&self) -> usize
         ensures len { result ≡ table_of.count self.now }
-        ensures some { (0 < result) × (result ≤ 16384) }
+        ensures some { 0 < result }
+        ensures few { result ≤ 16384 }
         ensures held { IsTable self.now }
     {
         acceptance::count(self.bytes)
@@ -127,7 +129,8 @@ impl<'a> Table<'a> {
         &table[place..place + name::text_length(table, place)]
     }
 
-    /// The directory that entry `k` is nested in: the last one before it whose next is past it. The stored parent is not read.
+    /// The directory that entry `k` is nested in: the last one before it whose next is past it. The stored
+    /// parent is not read.
     pub fn parent(&self, k: usize) -> usize
         requires { k < table_of.count self.now }
         ensures parent { result ≡ parent_of (nodes_of self.now) k }

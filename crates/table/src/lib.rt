@@ -1,4 +1,5 @@
-// A file table as it is read: its texts, whether it is accepted, and its entries by number, by name, by path and all at once.
+// A file table as it is read: its texts, whether it is accepted, and its entries by number, by name, by path
+// and all at once.
 #![tactic(auto)]
 
 mod acceptance;

@@ -40,8 +40,8 @@ impl<'a> Marks<'a> {
             base,
             set: [false; 2048],
         };
-        // Kept: by number (N): each turn asks the marks behind, so that they cannot be lent one by one, and the
-        // place that a mark is about is reckoned from its number.
+        // Kept: by number (N): each turn asks the marks behind, so that they cannot be lent one by one, and
+        // the place that a mark is about is reckoned from its number.
         for mark in (0..2048).rev() {
             let fit = marks.is_fit(base + (1024 * (mark / 2) + mark % 2));
             marks.set[mark] = fit;
@@ -111,8 +111,8 @@ impl<'a> Survey<'a> {
         }
     }
 
-    // The blocks are marked: until then all texts were clean. In a function of its own, since the marks are zeroed where a function that makes
-    // them begins.
+    // The blocks are marked: until then all texts were clean. In a function of its own, since the marks are
+    // zeroed where a function that makes them begins.
     #[cold]
     #[inline(never)]
     fn mark(&mut self, at: usize) -> bool

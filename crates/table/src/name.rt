@@ -24,8 +24,9 @@ pub fn text_is(table: &[u8], at: usize, name: &[u8]) -> bool
 }
 
 /// The length of the text at `at`, whose zero byte is in the table.
-// Kept: the loop by index tests no bound, so that the compiler makes strlen of it; for 12 bytes it took 2.9 ns, `position` 7.1 and a `for` 7.8.
-// The bar that the two miss: a call with ASCII names takes at most 10 percent more (docs/SPEED.md).
+// Kept: the loop by index tests no bound, so that the compiler makes strlen of it; for 12 bytes it took 2.9
+// ns, `position` 7.1 and a `for` 7.8. The bar that the two miss: a call with ASCII names takes at most 10
+// percent more (docs/SPEED.md).
 pub fn text_length(table: &[u8], at: usize) -> usize
     requires { at + length (text_at table.now at) < length table.now }
     ensures { result ≡ length (text_at table.now at) }

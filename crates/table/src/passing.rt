@@ -3,8 +3,8 @@ ghost use Rattle.std.specs.Prelude.{◌≡◌, ◌+◌, ◌≤◌};
 ghost use Rattle.table.specs.Inner.Texts.{clean_from};
 ghost use Rattle.table.specs.Inner.Blocks.{IsFit};
 
-// The bytes, 16 to a line: `c` for those that are clean, `z` for the one that ends a text, `l` for those that a pair
-// may start with.
+// The bytes, 16 to a line: `c` for those that are clean, `z` for the one that ends a text, `l` for those that
+// a pair may start with.
 // Kept: of a fixed size (N): a byte has 256 values.
 const KINDS: [u8; 256] = *b"\
     z---------------\
@@ -46,9 +46,10 @@ const TRAILS: [u8; 256] = *b"\
     ttttttttttttt---\
     ";
 
-// Passes the units of the text at `from` that start before `end`, up to the text's end or one that is not clean.
-// Where it stops costs only time.
-// Kept: by index, and each byte looked up (S): `Units` and `is_clean` took 3 times as long for names that share texts of pairs.
+// Passes the units of the text at `from` that start before `end`, up to the text's end or one that is not
+// clean. Where it stops costs only time.
+// Kept: by index, and each byte looked up (S): `Units` and `is_clean` took 3 times as long for names that
+// share texts of pairs.
 pub fn pass_units(table: &[u8], from: usize, end: usize) -> usize
     requires { from ≤ end }
     ensures near { result ≤ end + 1 }

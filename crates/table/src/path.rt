@@ -34,8 +34,8 @@ pub fn goes_back(name: &[u8]) -> bool
 fn take_step(table: &Table<'_>, trail: &mut Stack, k: usize, name: &[u8]) -> Result<usize, Refusal>
     requires held { IsTable table.now }
     requires trail { IsTrail (nodes_of table.now) trail.old k }
-    ensures onward { (cs : List (List ℕ)) → lookup_of.follow (nodes_of table.now) trail.old k (name.now ∷ cs)
-        ≡ onward (nodes_of table.now) trail.new cs result }
+    ensures onward { let nodes = nodes_of table.now in (cs : List (List ℕ)) →
+        lookup_of.follow nodes trail.old k (name.now ∷ cs) ≡ onward nodes trail.new cs result }
     ensures trail { IfOk result (λ j. IsTrail (nodes_of table.now) trail.new j) }
 {
     if !table.is_directory(k) {
@@ -87,7 +87,8 @@ pub fn lookup(table: &Table<'_>, start: u32, path: &[u8]) -> Result<u32, Refusal
 /// The same, with the entry.
 pub fn find(table: &Table<'_>, start: u32, path: &[u8]) -> Found
     requires { length path.now < 2 ^ 63 }
-    ensures { result ≡ found_at (nodes_of table.now) (lookup_of.lookup (nodes_of table.now) start path.now) }
+    ensures { let nodes = nodes_of table.now in
+        result ≡ found_at nodes (lookup_of.lookup nodes start path.now) }
 {
     match lookup(table, start, path) {
         Ok(k) => table.entry(k),

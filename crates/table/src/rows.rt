@@ -1,5 +1,6 @@
 // All entries of an accepted table at once.
-ghost use Rattle.std.specs.Prelude.{◌≡◌, true, [], ◌∷◌, ◌+◌, ◌-◌, ◌*◌, ◌≤◌, ◌<◌, ◌^◌, length, take, ◌==◌, slice_index_or};
+ghost use Rattle.std.specs.Prelude.{◌≡◌, ◌+◌, ◌-◌, ◌*◌, ◌≤◌, ◌<◌, ◌^◌, ◌==◌, length, take, slice_index_or};
+ghost use Rattle.std.specs.Bool.{OnTrue};
 ghost use Rattle.std.specs.List.{position};
 ghost use Rattle.endian.specs.Bytes.{put};
 ghost use Rattle.tree.specs.Table as table_of;
@@ -23,10 +24,12 @@ fn zero_within(text: &[u8], most: usize) -> Option<usize>
 // How many bytes of a text are looked at together.
 const PART: usize = 64;
 
-// Whether no zero byte is among so many bytes from `at` on: their least one tells, so that the compiler compares 16 at once.
+// Whether no zero byte is among so many bytes from `at` on: their least one tells, so that the compiler
+// compares 16 at once.
 fn is_without_zero(table: &[u8], at: usize) -> bool
     requires { at + 64 ≤ length table.now }
-    ensures { (result ≡ true) → length (text_at table.now at) ≡ 64 + length (text_at table.now (at + 64)) }
+    ensures { OnTrue result (
+        length (text_at table.now at) ≡ 64 + length (text_at table.now (at + 64))) }
 {
     let mut least = 255;
     for i in 0..PART {
@@ -40,8 +43,10 @@ fn is_without_zero(table: &[u8], at: usize) -> bool
 fn pass_text(table: &[u8], from: usize, stop: usize) -> usize
     requires before { from ≤ stop }
     requires inside { stop ≤ length table.now }
-    ensures within { (from ≤ result) × (result ≤ stop) }
-    ensures passed { length (text_at table.now from) ≡ (result - from) + length (text_at table.now result) }
+    ensures further { from ≤ result }
+    ensures before { result ≤ stop }
+    ensures passed { let left = length (text_at table.now result) in
+        length (text_at table.now from) ≡ (result - from) + left }
 {
     let mut at = from;
     while PART <= stop - at {
@@ -65,8 +70,9 @@ fn length_before(table: &[u8], at: usize, stop: usize, end: usize) -> usize
     near - at + zero_within(&table[near..], stop - near).unwrap_or(end - near)
 }
 
-// Where long texts of a table end. Of each 4,096 bytes `ends` has where the text that stands at their start ends, if it is known; a text longer
-// than that tells it of the next ones. So many names that share a long text cost 4,096 bytes each, and the text a few times.
+// Where long texts of a table end. Of each 4,096 bytes `ends` has where the text that stands at their start
+// ends, if it is known; a text longer than that tells it of the next ones. So many names that share a long
+// text cost 4,096 bytes each, and the text a few times.
 #[derive(Drop)]
 struct Ends<'a> {
     table: &'a Table<'a>,
@@ -111,7 +117,8 @@ impl<'a> Ends<'a> {
     // The length of the name of entry k; the root has none.
     fn name_length(&mut self, k: usize) -> usize
         requires { k < table_of.count self.old.table.now }
-        ensures value { result ≡ length (name_of (slice_index_or (nodes_of self.old.table.now) k none)) }
+        ensures value { let node = slice_index_or (nodes_of self.old.table.now) k none in
+            result ≡ length (name_of node) }
         ensures short { result ≤ 2 ^ 20 }
         ensures table { self.new.table ≡ self.old.table }
     {
@@ -135,10 +142,12 @@ struct Row {
 }
 
 impl Row {
+    ghost use Rattle.table.specs.Inner.Words.{words_of};
+
     // The six words of entry k.
     fn write(self, list: &mut [u32], k: usize)
         requires { 6 * k + 6 ≤ length list.old }
-        ensures { list.new ≡ put list.old (6 * k) (self.kind ∷ self.parent ∷ self.offset ∷ self.last ∷ self.place ∷ self.size ∷ []) }
+        ensures { list.new ≡ put list.old (6 * k) (words_of self) }
     {
         list[6 * k] = self.kind;
         list[6 * k + 1] = self.parent;
@@ -158,6 +167,8 @@ struct Rows<'a> {
 }
 
 impl Rows<'_> {
+    ghost use Rattle.table.specs.Inner.Words.{words_of};
+
     // Where the name of entry k stands in the image; the root has none.
     fn image_place(&self, k: usize) -> u32
         requires { k < table_of.count self.now.table.now }
@@ -169,8 +180,10 @@ impl Rows<'_> {
         self.base + self.table.name_place(k) as u32
     }
 
-    // The directory that entry k is nested in: the entry before it, or one of those that this one is nested in, which the list has.
-    // Kept: `while`, which counts no index: it climbs from parent to parent; `successors` would have the same step, as a closure.
+    // The directory that entry k is nested in: the entry before it, or one of those that this one is nested
+    // in, which the list has.
+    // Kept: `while`, which counts no index: it climbs from parent to parent; `successors` would have the same
+    // step, as a closure.
     fn parent_in(&self, list: &[u32], k: usize) -> usize
         requires within { k < table_of.count self.now.table.now }
         requires room { 6 * table_of.count self.now.table.now ≤ length list.now }
@@ -195,8 +208,9 @@ impl Rows<'_> {
     fn read(&self, k: usize, parent: u32, size: u32) -> Row
         requires within { k < table_of.count self.now.table.now }
         requires parent { parent ≡ parent_of (nodes_of self.now.table.now) k }
-        requires size { size ≡ length (name_of (slice_index_or (nodes_of self.now.table.now) k none)) }
-        ensures { row_of self.now.base self.now.table.now k ≡ result.kind ∷ result.parent ∷ result.offset ∷ result.last ∷ result.place ∷ result.size ∷ [] }
+        requires size { let node = slice_index_or (nodes_of self.now.table.now) k none in
+            size ≡ length (name_of node) }
+        ensures { words_of result ≡ row_of self.now.base self.now.table.now k }
     {
         Row {
             kind: u32::from(self.table.is_directory(k)),
@@ -214,7 +228,8 @@ impl Rows<'_> {
         requires few { k < 2 ^ 32 }
         requires room { 6 * table_of.count self.now.table.now ≤ length list.old }
         requires parents_in { HasParents self.now.table.now k list.old }
-        requires size { size ≡ length (name_of (slice_index_or (nodes_of self.now.table.now) k none)) }
+        requires size { let node = slice_index_or (nodes_of self.now.table.now) k none in
+            size ≡ length (name_of node) }
         ensures { list.new ≡ put list.old (6 * k) (row_of self.now.base self.now.table.now k) }
     {
         let parent = self.parent_in(list, k) as u32;
@@ -222,8 +237,9 @@ impl Rows<'_> {
     }
 }
 
-/// All entries, six words each: kind (0 file, 1 directory), the directory it is nested in, offset (0 for a directory), size or next, and where its
-/// name stands in the image, which has the table at `base`, and how long it is. A list that is too short stays as it is: `LimitOrMemory`.
+/// All entries, six words each: kind (0 file, 1 directory), the directory it is nested in, offset (0 for a
+/// directory), size or next, and where its name stands in the image, which has the table at `base`, and how
+/// long it is. A list that is too short stays as it is: `LimitOrMemory`.
 // Kept: the loop goes over the entries' numbers, by which table and list are asked.
 pub fn list_entries(table: &Table<'_>, base: u32, list: &mut [u32]) -> Verdict
     requires { base + length table.now < 2 ^ 32 }

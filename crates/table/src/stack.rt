@@ -1,11 +1,13 @@
-// Numbers kept for later, the last one on top. Directories are at most 64 deep, so there is room for one more than that.
+// Numbers kept for later, the last one on top. Directories are at most 64 deep, so there is room for one more
+// than that.
 ghost use Rattle.std.specs.Prelude.{◌≡◌, [], ◌∷◌, ◌<◌, length, drop, slice_get, ◌==◌};
 ghost use Rattle.tree.specs.Table as table_of;
 
 use std::marker::Model;
 
 /// A stack of at most 65 numbers. Contracts see the list of them, the top one first.
-// Kept: nothing allocates, so that the words are an array with how many count; derived equality would compare those that no longer count.
+// Kept: nothing allocates, so that the words are an array with how many count; derived equality would compare
+// those that no longer count.
 #[derive(Drop)]
 pub struct Stack {
     words: [u32; 65],
@@ -49,7 +51,8 @@ impl Stack {
     }
 
     // The one on top; 0 where there is none.
-    // Kept: no `Option`, which is no plainer: the definition `top` has 0 there, and an entry's next is compared with it.
+    // Kept: no `Option`, which is no plainer: the definition `top` has 0 there, and an entry's next is
+    // compared with it.
     pub(crate) fn top(&self) -> u32
         ensures { result ≡ table_of.top self.now }
     {

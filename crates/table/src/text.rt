@@ -18,8 +18,8 @@ pub fn text_at(table: &[u8], at: usize) -> &[u8]
     }
 }
 
-// The bytes, 16 to a line: `c` for those that are clean. Opening has every byte of the texts passed, so each is
-// looked up.
+// The bytes, 16 to a line: `c` for those that are clean. Opening has every byte of the texts passed, so each
+// is looked up.
 // Kept: of a fixed size (N): a byte has 256 values.
 const CHART: [u8; 256] = *b"\
     c---------------\
@@ -44,7 +44,8 @@ const CHART: [u8; 256] = *b"\
 // Kept: two bytes a turn, by index (S): a `for` over one at a time took a fifth longer for a table of ASCII
 // names of 40 bytes.
 fn pass_clean(table: &[u8], from: usize) -> usize
-    ensures { HasNoLead table.now from result × (clean_from table.now from ≡ clean_from table.now result) }
+    ensures no_lead { HasNoLead table.now from result }
+    ensures clean { clean_from table.now from ≡ clean_from table.now result }
 {
     if table.len() == 0 {
         return from;
@@ -85,8 +86,8 @@ pub fn clean_end(table: &[u8], from: usize) -> usize
     clean_to(table, pass_clean(table, from))
 }
 
-// Whether each unit from `from` on is 0, or plain and safe: then so are those of each text that does not start
-// inside a pair.
+// Whether each unit from `from` on is 0, or plain and safe: then so are those of each text that does not
+// start inside a pair.
 pub fn is_clean_from(table: &[u8], from: usize) -> bool
     ensures { result ≡ clean_from table.now from }
 {

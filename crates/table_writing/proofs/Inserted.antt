@@ -16,8 +16,8 @@ use Rattle.tree.specs.Table.{Node, name_offset, size_or_next}
 use Rattle.tree.specs.Inner.Patch.{records, patched_record, new_start, insert_patch}
 use Rattle.tree.proofs.Laws.Records.{records-ext, length-records}
 use Rattle.table_writing.specs.Inner.Inserting.{new_node, IsPatchable, new_texts, start_in, IsInsertable}
-use Rattle.table_writing.proofs.Puts.{put-append, put-prepend}
 use Rattle.table_writing.proofs.Patches.{new-name, patched_same, patched-twelve, SameEntry, same-entry, raisable-same}
+use Rattle.endian.proofs.Parts.{put-append, put-prepend}
 
 -- ---- the texts
 

@@ -4,7 +4,6 @@ pub mod GrowthLaws
 pub mod Inserted
 pub mod Limits
 pub mod Measuring
-pub mod Names
 pub mod Nesting
 pub mod Passes
 pub mod Patches
@@ -14,7 +13,6 @@ pub mod Records
 pub mod Sources
 pub mod Split
 pub mod StandingTable
-pub mod Stays
 pub mod Turn
 pub mod Whole
 pub mod Written

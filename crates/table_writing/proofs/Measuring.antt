@@ -6,7 +6,7 @@ use native.Mathlib.Omega.{arith}
 use borrow.Author.Tests.{lt-ltb, le-ltb}
 use lib.ListN.{length, get_or}
 use Rattle.tree.specs.Table.{name_of, none, count, name_offset, name_at, nodes_of, texts_of}
-use Rattle.tree.proofs.Laws.Accepted.{length-nodes_of}
+use Rattle.tree.proofs.Laws.Accepted.{length-nodes_of, name_of-node_at}
 use Rattle.tree.proofs.Laws.Size.{size_to, size-root, size-next, size-whole}
 use Rattle.tree.proofs.Laws.Writing.{start-inside, start-end}
 use Rattle.std.specs.Prelude.{Ok, Err}
@@ -14,7 +14,6 @@ use Rattle.refusal.specs.declared.Refusal.TheVariants.{LimitOrMemory}
 use Rattle.table_writing.specs.Inner.Valid.{IsValid, name_size}
 use Rattle.table_writing.specs.Inner.Measure.{measure_of}
 use Rattle.table_writing.proofs.Nesting.{count-is, node_at_lem}
-use Rattle.table_writing.proofs.Whole.{name-is}
 
 -- the length of a name that was read
 pub name-length : (tab : List ℕ) (n k : ℕ) (name : List ℕ) → n ≡ count tab → name ≡ name_at tab (count tab) (name_offset tab k) → length name ≡ name_size tab n k
@@ -39,7 +38,7 @@ module _ (tab : List ℕ) (n size k : ℕ) (u : Upto tab n size k) where
   module _ (name : ℕ) (more : k < n) (e : name ≡ name_size tab n k) where
     named : name ≡ length (name_of (get_or (nodes_of tab) k none))
     unfolding name_size
-    named = rw (node_at_lem tab n k u.valid u.low more, name-is tab n k) e
+    named = rw (node_at_lem tab n k u.valid u.low more, name_of-node_at tab n k) e
 
     pub measure-next : (size' : ℕ) → size' ≡ size + 12 + name + 1 → name < 1048576 - (size - 12 * k) → Upto tab n size' (k + 1)
     measure-next size' f h =

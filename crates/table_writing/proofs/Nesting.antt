@@ -1,25 +1,19 @@
 -- The nesting of a valid table: which entry follows one in its directory, and which directory an entry is nested in.
 -- Assumes nothing.
-use mathlib.Core.Path.{◌≡◌, refl, ap}
+use mathlib.Core.Path.{◌≡◌, refl}
 use mathlib.Core.Logic.{◌⊎◌, inl, inr, ⊎_elim}
 use mathlib.Core.Bool.{Bool, true, false, cond}
 use mathlib.Core.List.{List}
 use Prim.Native.Nat.{ℕ, zero, suc, ◌+◌, ◌-◌, ◌≤◌, ◌<◌}
 use native.Mathlib.Omega.{arith}
-use native.Mathlib.Nat.{add-zero}
 use borrow.Author.Tests.{eq-eqb, lt-ltb, eqb-true, eqb-false, ltb-true}
 use lib.ListN.{get_or}
 use lib.Dec.{eqb, ltb}
-use Rattle.tree.specs.Table.{none, kind, size_or_next, count, node_with, node_at, nodes_from, nodes_of, encloses, parent_below, parent_of}
+use Rattle.tree.specs.Table.{none, kind, size_or_next, count, node_with, node_at, nodes_of, encloses, parent_below, parent_of}
 use Rattle.table_writing.specs.Inner.Valid.{IsValid}
 use Rattle.table_writing.specs.Inner.Flat.{after_in}
-
--- a comparison of two numbers has three ends
-pub tri : (a b : ℕ) → (a < b) ⊎ ((a ≡ b) ⊎ (b < a))
-tri zero zero = inr (inl refl)
-tri zero (suc b) = inl (omega arith)
-tri (suc a) zero = inr (inr (omega arith))
-tri (suc a) (suc b) = ⊎_elim (λ p. inl (omega arith)) (⊎_elim (λ p. inr (inl (ap suc p))) (λ p. inr (inr (omega arith)))) (tri a b)
+use Rattle.tree.proofs.Laws.Accepted.{get_d-nodes_from}
+use Rattle.refusal.specs.Laws.Tests.{lt-or-eq-or-gt}
 
 -- by the cases of a test
 by : (b : Bool) (x y z : ℕ) → (b ≡ true → x ≡ z) → (b ≡ false → y ≡ z) → cond b x y ≡ z
@@ -41,20 +35,12 @@ pub count-is : (tab : List ℕ) (n : ℕ) → IsValid tab n → count tab ≡ n
 unfolding count
 count-is tab n v = omega (arith, v.reach, v.some)
 
-pub from_at : (tab : List ℕ) (c k m i : ℕ) → i < m → get_or (nodes_from tab c k m) i none ≡ node_at tab c (k + i)
-unfolding nodes_from
-from_at tab c k zero i h = absurd (omega arith)
-from_at tab c k (suc m) zero h = rw (add-zero k)
-from_at tab c k (suc m) (suc i) h =
-    let e : suc k + i ≡ k + suc i = omega arith in
-    rw e at (from_at tab c (suc k) m i (omega arith))
-
 pub node_at_lem : (tab : List ℕ) (n i : ℕ) → IsValid tab n → 0 < i → i < n → get_or (nodes_of tab) i none ≡ node_at tab n i
 unfolding nodes_of
 node_at_lem tab n zero v p h = absurd (omega arith)
 node_at_lem tab n (suc i) v p h =
     let e : 1 + i ≡ suc i = omega arith in
-    rw (count-is tab n v) (rw e at (from_at tab n 1 (n - 1) i (omega arith)))
+    rw (count-is tab n v) (rw e at (get_d-nodes_from tab n 1 (n - 1) i (omega arith)))
 
 encloses-with : (t : ℕ) (nm : List ℕ) (a b k : ℕ) → t ≤ 1 → encloses (node_with t nm a b) k ≡ cond (eqb t 1) (ltb k b) false
 encloses-with zero nm a b k h = refl
@@ -95,12 +81,12 @@ closed-more tab n k c v h f j p q d =
     ⊎_elim
     (λ (x : j < c). omega (arith, w.1, f j p x d))
     (⊎_elim (λ (e : j ≡ c). rw (e, w.1) (omega arith)) (λ (x : c < j). rw w.1 (s.inner j x (omega (arith, w.1)) d)))
-    (tri j c))
+    (lt-or-eq-or-gt j c))
     (λ w.
     ⊎_elim
     (λ (x : j < c). omega (arith, w.1, f j p x d))
     (⊎_elim (λ (e : j ≡ c). absurd (w.0 (rw e at d))) (λ (x : c < j). omega (arith, w.1)))
-    (tri j c))
+    (lt-or-eq-or-gt j c))
     (after-cases tab c)
 
 -- d is the nearest directory that reaches past k
@@ -123,7 +109,7 @@ module _ (tab : List ℕ) (n k d : ℕ) (v : IsValid tab n) (kn : k < n) (dir : 
       let t = both (eqb (kind tab j) 1) (ltb k (size_or_next tab j)) (rw (encloses-at tab n j k v h) at e) in
       omega (arith, ltb-true k (size_or_next tab j) t.1, f j x (omega arith) (eqb-true (kind tab j) 1 t.0)))
       (λ e. ih)))
-      (tri j d)
+      (lt-or-eq-or-gt j d)
 
   pub parent_is : d < k → parent_of (nodes_of tab) k ≡ d
   unfolding parent_of

@@ -16,8 +16,8 @@ use Rattle.tree.proofs.Laws.WrittenEntries.{length-node_bytes}
 use Rattle.tree.specs.Inner.Patch.{records, record_before, record_after, patched_record}
 use Rattle.tree.proofs.Laws.Records.{Twelve, length-records, records-ext, records-split}
 use Rattle.table_writing.specs.Inner.Inserting.{new_node, IsRaisable, EachIsRaisable, IsPatchable}
-use Rattle.table_writing.proofs.Puts.{put-prepend}
 use Rattle.table_writing.proofs.Patches.{SameEntry, same-entry, same-before, raisable-same, before-twelve, patched-twelve, patched-before, patched-new, patched-after, new_is, new-name, between_stays}
+use Rattle.endian.proofs.Parts.{put-prepend}
 
 -- ---- records put over a list, the last one first
 

@@ -2,7 +2,7 @@
 -- Assumes nothing.
 use Prim.Native.Nat.{ℕ, zero, suc, ◌+◌, ◌-◌, ◌*◌, ◌≤◌, ◌<◌}
 use mathlib.Core.Path.{◌≡◌, refl, sym, ◌∙◌}
-use mathlib.Core.Logic.{◌⊎◌, inl, inr, ⊎_elim}
+use mathlib.Core.Logic.{⊎_elim}
 use mathlib.Core.Bool.{Bool, true, false, cond}
 use mathlib.Core.List.{List, []}
 use native.Mathlib.Omega.{arith}
@@ -12,7 +12,7 @@ use lib.ListN.{length, get_or}
 use lib.Dec.{leb, eqb}
 use Rattle.endian.specs.Bytes.{put, be32_bytes, AllBytes}
 use Rattle.endian.specs.Laws.Stored.{be24-same, be32-same}
-use Rattle.refusal.specs.Laws.Tests.{lt-or-le}
+use Rattle.refusal.specs.Laws.Tests.{lt-or-eq-or-gt}
 use Rattle.tree.specs.Table.{Node, name_of, kind, name_offset, offset_or_parent, size_or_next, node_with, node_bytes}
 use Rattle.tree.proofs.Laws.WrittenEntries.{length-node_bytes}
 use Rattle.tree.specs.Insert.{bump, earlier, later, shifted}
@@ -21,7 +21,7 @@ use Rattle.tree.specs.Inner.Patch.{stored, record_before, record_after, patched_
 use Rattle.table_writing.specs.Inner.Flat.{record_bytes}
 use Rattle.table_writing.specs.Inner.Inserting.{new_node, next_before, IsRaisable}
 use Rattle.table_writing.proofs.Puts.{put-fields}
-use Rattle.table_writing.proofs.Stays.{byte-stays, name-stays, word-stays}
+use Rattle.endian.specs.Laws.Stays.{byte-stays, be24-stays, be32-stays}
 use Rattle.table_writing.specs.declared.kind.Kind.{Kind}
 use Rattle.table_writing.specs.declared.kind.Kind.TheVariants.{File, Directory}
 use Rattle.table_writing.specs.Inner.Kind.{number_of, kind_is_directory}
@@ -99,7 +99,7 @@ next-ended t p k n h = both (eqb t 1) (cond (leb k p) (bump p n) n) n n (both (l
 next-between : (t p k n : ℕ) → p < k → next_before t p k n ≡ n
 next-between t p k n h = rw (lt-leb k p h) (both (eqb t 1) n n n refl refl)
 
--- ---- which of the three it is
+-- ---- which of the lt-or-eq-or-gt it is
 
 module _ (s : List ℕ) (p q : ℕ) (new : Node) (start k : ℕ) where
   pub patched-before : k < q → patched_record s p q new start k ≡ record_before s p k
@@ -114,14 +114,11 @@ module _ (s : List ℕ) (p q : ℕ) (new : Node) (start k : ℕ) where
   unfolding patched_record
   patched-after h = rw (le-ltb k q (omega arith), ne_eqb k q (λ e. omega arith))
 
-pub three : (k q : ℕ) → (k < q) ⊎ ((k ≡ q) ⊎ (q < k))
-three k q = ⊎_elim (λ h. inl h) (λ h. ⊎_elim (λ g. inr (inr g)) (λ g. inr (inl (omega arith))) (lt-or-le q k)) (lt-or-le k q)
-
 pub patched-twelve : (s : List ℕ) (p q : ℕ) (new : Node) (start : ℕ) → Twelve (patched_record s p q new start)
 patched-twelve s p q new start k =
     ⊎_elim (λ h. rw (patched-before s p q new start k h) (before-twelve s p k))
     (⊎_elim (λ h. rw (patched-new s p q new start k h) (length-node_bytes p start new)) (λ h. rw (patched-after s p q new start k h) (after-twelve s q (suc (length (name_of new))) (k - 1))))
-    (three k q)
+    (lt-or-eq-or-gt k q)
 
 -- ---- two lists that agree on the bytes of an entry
 
@@ -157,7 +154,7 @@ patched_same s t p q new start k f g =
     ⊎_elim (λ h. rw (patched-before s p q new start k h, patched-before t p q new start k h) (same-before s t p k (f h)))
     (⊎_elim (λ h. rw (patched-new s p q new start k h, patched-new t p q new start k h))
     (λ h. rw (patched-after s p q new start k h, patched-after t p q new start k h) (moved-after s (k - 1) t (k - 1) q (suc (length (name_of new))) (g h))))
-    (three k q)
+    (lt-or-eq-or-gt k q)
 
 pub raisable-moved : (s : List ℕ) (j : ℕ) (t : List ℕ) (k : ℕ) → MovedEntry s j t k → IsRaisable t k → IsRaisable s j
 raisable-moved s j t k e r =
@@ -176,13 +173,13 @@ module _ (s : List ℕ) (p k : ℕ) (bytes : AllBytes s) (room : 12 * k + 12 ≤
   next-put : (next : ℕ) → put s (12 * k) (record_bytes (kind s k) (name_offset s k) (offset_or_parent s k) next) ≡ put s (12 * k + 8) (be32_bytes next)
   next-put next =
       sym (put-fields s (12 * k) (kind s k) (name_offset s k) (offset_or_parent s k) next room)
-      ∙ rw (byte-stays s (12 * k) (omega arith), name-stays s (12 * k + 1) bytes (omega arith), word-stays s (12 * k + 4) bytes (omega arith))
+      ∙ rw (byte-stays s (12 * k) (omega arith), be24-stays s (12 * k + 1) bytes (omega arith), be32-stays s (12 * k + 4) bytes (omega arith))
 
   before-put : put s (12 * k) (record_before s p k) ≡ put s (12 * k + 8) (be32_bytes (next_before (kind s k) p k (size_or_next s k)))
   before-put = rw (← before-is s p k known) (next-put (next_before (kind s k) p k (size_or_next s k)))
 
   unchanged : next_before (kind s k) p k (size_or_next s k) ≡ size_or_next s k → put s (12 * k) (record_before s p k) ≡ s
-  unchanged e = before-put ∙ rw e (word-stays s (12 * k + 8) bytes (omega arith))
+  unchanged e = before-put ∙ rw e (be32-stays s (12 * k + 8) bytes (omega arith))
 
   pub raised : kind s k ≡ 1 → k ≤ p → p < size_or_next s k → put s (12 * k) (record_before s p k) ≡ put s (12 * k + 8) (be32_bytes (size_or_next s k + 1))
   raised t h g =

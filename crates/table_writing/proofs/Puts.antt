@@ -1,42 +1,17 @@
 -- Bytes put one part after another are put at once, and two parts that are apart are put in either order.
 -- Assumes nothing.
 use Prim.Native.Nat.{ℕ, ◌+◌, ◌-◌, ◌≤◌, ◌<◌}
-use mathlib.Core.Path.{◌≡◌, refl, sym, ap, ◌∙◌}
+use mathlib.Core.Path.{◌≡◌, refl, sym, ◌∙◌}
 use mathlib.Core.Logic.{inl, inr, ⊎_elim}
-use mathlib.Core.List.{List, [], ◌∷◌, ◌++◌, append_assoc}
+use mathlib.Core.List.{List, [], ◌∷◌, ◌++◌}
 use native.Mathlib.Omega.{arith}
-use lib.ListN.{length, get_or, take, drop, length-append}
-use lib.Seq.{length-take-le, take_at, ext_get_or}
+use lib.ListN.{length, get_or}
+use lib.Seq.{ext_get_or}
 use Rattle.endian.specs.Bytes.{put, be24_bytes, be32_bytes}
 use Rattle.table_writing.specs.Inner.Flat.{record_bytes}
-use Rattle.endian.specs.Laws.Stored.{length-put, put-before, put_in, put-after, put-outside, drop-put, Outside}
+use Rattle.endian.specs.Laws.Stored.{length-put, put-before, put_in, put-after, put-outside, Outside}
 use Rattle.refusal.specs.Laws.Tests.{lt-or-le}
-
-pub take_put : (s : List ℕ) (at : ℕ) (a : List ℕ) → at + length a ≤ length s → take (at + length a) (put s at a) ≡ take at s ++ a
-unfolding put
-take_put s at a h =
-    let l : length (take at s ++ a) ≡ at + length a = length-append (take at s) a ∙ ap (λ (k : ℕ). k + length a) (length-take-le at s (omega arith)) in
-    rw (← append_assoc (take at s) a (drop (at + length a) s)) (take_at (take at s ++ a) _ (at + length a) l)
-
-put-open : (s : List ℕ) (at : ℕ) (bs : List ℕ) → put s at bs ≡ take at s ++ (bs ++ drop (at + length bs) s)
-unfolding put
-put-open s at bs = refl
-
--- from the start
-pub put-start : (s t : List ℕ) → put s 0 t ≡ t ++ drop (length t) s
-unfolding put
-put-start s t = let z : 0 + length t ≡ length t = omega arith in ap (λ (n : ℕ). t ++ drop n s) z
-
--- one part right behind another
-pub put-append : (s : List ℕ) (at : ℕ) (a : List ℕ) (m : ℕ) (b : List ℕ) → m ≡ at + length a → m + length b ≤ length s → put (put s at a) m b ≡ put s at (a ++ b)
-put-append s at a m b e h =
-    let f : at + length a ≤ length s = omega arith in
-    let d : drop (at + length a + length b) (put s at a) ≡ drop (at + length a + length b) s = drop-put s at a f (at + length a + length b) (omega arith) in
-    let n : at + length (a ++ b) ≡ at + length a + length b = omega (arith, length-append a b) in
-    rw e
-    (put-open (put s at a) (at + length a) b
-    ∙ rw (take_put s at a f, d, append_assoc (take at s) a (b ++ drop (at + length a + length b) s), ← append_assoc a b (drop (at + length a + length b) s))
-    (sym (rw n at (put-open s at (a ++ b)))))
+use Rattle.endian.proofs.Parts.{put-append}
 
 -- two parts that are apart
 module _ (s : List ℕ) (at : ℕ) (a : List ℕ) (m : ℕ) (b : List ℕ) (apart : at + length a ≤ m) (fits : m + length b ≤ length s) where
@@ -89,10 +64,6 @@ module _ (s : List ℕ) (at : ℕ) (a : List ℕ) (m : ℕ) (b : List ℕ) (apar
       let l : length (put (put s at a) m b) ≡ length (put (put s m b) at a) =
       length-put (put s at a) m b second ∙ len ∙ sym (length-put (put s m b) at a first' ∙ len') in
       ext_get_or 0 (put (put s at a) m b) (put (put s m b) at a) l (λ i h. each i)
-
--- the second part before the first
-pub put-prepend : (s : List ℕ) (at : ℕ) (a : List ℕ) (m : ℕ) (b : List ℕ) → m ≡ at + length a → m + length b ≤ length s → put (put s m b) at a ≡ put s at (a ++ b)
-put-prepend s at a m b e h = sym (put-swap s at a m b (omega arith) h) ∙ put-append s at a m b e h
 
 -- an entry's four fields
 pub put-fields : (s : List ℕ) (at kind o a b : ℕ) → at + 12 ≤ length s →

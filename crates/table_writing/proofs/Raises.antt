@@ -11,9 +11,9 @@ use Rattle.endian.specs.Laws.Stored.{length-put, put-after, be32-same}
 use Rattle.tree.specs.Table.{kind, name_offset, offset_or_parent, size_or_next}
 use Rattle.tree.specs.Insert.{shifted}
 use Rattle.tree.specs.Inner.Patch.{record_after}
-use Rattle.table_writing.proofs.Puts.{put-append, put-prepend}
-use Rattle.table_writing.proofs.Stays.{word-stays}
+use Rattle.endian.specs.Laws.Stays.{be32-stays}
 use Rattle.table_writing.proofs.Patches.{after-file, after-directory}
+use Rattle.endian.proofs.Parts.{put-append, put-prepend}
 
 -- ---- a word is its highest byte and a number of 3 bytes
 
@@ -73,7 +73,7 @@ module _ (s : List ℕ) (q grow k : ℕ) (room : 12 * k + 12 ≤ length s) (know
       let b : List ℕ = be32_bytes (size_or_next s k) in
       let stays : put s (12 * k + 4) (a ++ b) ≡ s =
       sym (put-append s (12 * k + 4) a (12 * k + 8) b (omega arith) (omega arith))
-      ∙ rw (word-stays s (12 * k + 4) bytes (omega arith)) (word-stays s (12 * k + 8) bytes (omega arith)) in
+      ∙ rw (be32-stays s (12 * k + 4) bytes (omega arith)) (be32-stays s (12 * k + 8) bytes (omega arith)) in
       let e : put (put s (12 * k + 4) (a ++ b)) (12 * k) x ≡ put s (12 * k) (x ++ (a ++ b)) = put-prepend s (12 * k) x (12 * k + 4) (a ++ b) refl (omega arith) in
       rw (first-bytes, ← after-file s q grow k file) (rw stays at e)
 

@@ -15,7 +15,7 @@ use Rattle.table_writing.specs.declared.kind.Kind.{Kind}
 use Rattle.table_writing.specs.declared.kind.Kind.TheVariants.{File, Directory}
 use Rattle.table_writing.specs.Inner.Kind.{number_of}
 use Rattle.table_writing.specs.Inner.Flat.{place_of, record_at, put_text, record_bytes}
-use Rattle.table_writing.proofs.Puts.{put-append}
+use Rattle.endian.proofs.Parts.{put-append}
 
 fields-of : (t : ℕ) (nm : List ℕ) (a b p o : ℕ) → t ≤ 1 → record_bytes t o (cond (eqb t 0) a p) b ≡ node_bytes p o (node_with t nm a b)
 fields-of zero nm a b p o h = refl

@@ -3,8 +3,8 @@ use Rattle.std.specs.Prelude.{ℕ, ◌≡◌, ◌+◌, ◌-◌, ◌*◌, ◌≤�
 use Rattle.std.proofs.Common.{ap, sym, ◌∙◌, arith}
 use Rattle.tree.specs.Table.{count, kind, name_offset, up_to0, name_at}
 use Rattle.table_writing.specs.Inner.Valid.{name_size, IsValid}
-use Rattle.table_writing.proofs.Names.{take-run}
 use Rattle.table_writing.proofs.Nesting.{count-is}
+use Rattle.tree.proofs.Laws.Texts.{take-up_to0}
 
 pub counted : (tab value : List ℕ) (n : ℕ) → IsValid tab n → tab ≡ value → n ≡ count value
 counted tab value n v e = sym (count-is tab n v) ∙ ap count e
@@ -35,4 +35,4 @@ module _ (tab value : List ℕ) (n k : ℕ) (v : IsValid tab n) (e : tab ≡ val
   unfolding name_at
   name-read len l =
       let z : 12 * n + offset + len - (12 * n + offset) ≡ len = omega arith in
-      rw (z, l, take-run (drop (12 * n + offset) tab), read, ← (counted tab value n v e), ← e)
+      rw (z, l, take-up_to0 (drop (12 * n + offset) tab), read, ← (counted tab value n v e), ← e)

@@ -26,8 +26,8 @@ use borrow.Author.Tests.{lt-ltb, le-ltb}
 use Rattle.tree.proofs.Laws.Accepted.{length-nodes_of}
 use Rattle.table.specs.Inner.Reading.{Opens}
 use Rattle.table_writing.proofs.Patches.{SameEntry, same-entry}
-use Rattle.table_writing.proofs.Puts.{put-start}
 use Rattle.table_writing.specs.Inner.Growth.{tree_in, Stands, IsDirectory, depth_allows, IsBuilt}
+use Rattle.endian.proofs.Parts.{put-start}
 
 -- ---- what is read of the table
 

@@ -9,27 +9,20 @@ use lib.ListN.{length, length-append}
 use lib.Seq.{append_snoc}
 use Rattle.endian.specs.Bytes.{put}
 use Rattle.endian.specs.Laws.Stored.{length-put, put-none}
-use Rattle.tree.specs.Table.{Node, directory, name_of, kind, name_offset, size_or_next, name_at, node_with, node_at, nodes_from, nodes_of, parent_of, node_bytes, entries_bytes, texts_of, encode}
-use Rattle.tree.proofs.Laws.Accepted.{length-nodes_from, length-nodes_of}
+use Rattle.tree.specs.Table.{Node, directory, name_offset, size_or_next, name_at, node_at, nodes_from, nodes_of, parent_of, node_bytes, entries_bytes, texts_of, encode}
+use Rattle.tree.proofs.Laws.Accepted.{length-nodes_from, length-nodes_of, name_of-node_at}
 use Rattle.tree.proofs.Laws.WrittenEntries.{length-node_bytes, length-entries_bytes, length-encode}
 use Rattle.table_writing.specs.Inner.Valid.{IsValid, name_size}
 use Rattle.table_writing.specs.Inner.Flat.{record_at, put_text, text_flat, write_flat, text_to, write_to, root_at, Room}
-use Rattle.table_writing.proofs.Puts.{put-append, put-swap}
+use Rattle.table_writing.proofs.Puts.{put-swap}
 use Rattle.table_writing.proofs.Nesting.{count-is}
-
-name-with : (t : ℕ) (nm : List ℕ) (a b : ℕ) → name_of (node_with t nm a b) ≡ nm
-name-with zero nm a b = refl
-name-with (suc t) nm a b = refl
-
-pub name-is : (tab : List ℕ) (n k : ℕ) → name_of (node_at tab n k) ≡ name_at tab n (name_offset tab k)
-unfolding node_at
-name-is tab n k = name-with (kind tab k) _ _ _
+use Rattle.endian.proofs.Parts.{put-append}
 
 -- the name of one more entry, and its zero byte
 text-next : (tab : List ℕ) (n k m : ℕ) → length (texts_of (nodes_from tab n k (suc m))) ≡ name_size tab n k + 1 + length (texts_of (nodes_from tab n (k + 1) m))
 unfolding texts_of nodes_from name_size
 text-next tab n k m =
-    rw (add-one k, name-is tab n k) (omega (arith, length-append (name_at tab n (name_offset tab k)) (0 ∷ texts_of (nodes_from tab n (suc k) m))))
+    rw (add-one k, name_of-node_at tab n k) (omega (arith, length-append (name_at tab n (name_offset tab k)) (0 ∷ texts_of (nodes_from tab n (suc k) m))))
 
 -- where the last name ends
 pub text-end : (tab : List ℕ) (n m k text : ℕ) → text_flat tab n m k text ≡ text + length (texts_of (nodes_from tab n k m))
@@ -82,7 +75,7 @@ module _ (tab : List ℕ) (n m k text : ℕ) (out : List ℕ) (past : 12 * n ≤
       let e : length E ≡ 12 * length xs = length-entries_bytes (nodes_of tab) (suc k) (text - 12 * n + suc (length nm)) xs in
       let l : length xs ≡ m = length-nodes_from tab n (suc k) m in
       let a : length (nm ++ (0 ∷ [])) ≡ length nm + 1 = length-append nm (0 ∷ []) in
-      rw (name-is tab n k, o, ← append_snoc nm 0 (texts_of xs))
+      rw (name_of-node_at tab n k, o, ← append_snoc nm 0 (texts_of xs))
       (two-parts out R E (nm ++ (0 ∷ [])) (texts_of xs) (12 * k) (12 * suc k) text (text + length nm + 1) (omega arith) (omega arith) (omega arith) (omega arith))
 
 pub flat-put : (tab : List ℕ) (n m k text : ℕ) (out : List ℕ) → 12 * n ≤ text → k + m ≤ n → text_flat tab n m k text ≤ length out →

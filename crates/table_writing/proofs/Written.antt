@@ -1,6 +1,6 @@
 -- For callers: a table that was written to the front of lent bytes can be changed there, and is then the table of the changed tree.
 -- Assumes nothing.
-use Prim.Native.Nat.{ℕ, zero, suc, ◌+◌, ◌*◌, ◌≤◌, ◌<◌, ◌^◌}
+use Prim.Native.Nat.{ℕ, ◌+◌, ◌*◌, ◌≤◌, ◌<◌, ◌^◌}
 use mathlib.Core.Path.{◌≡◌, refl, ap, ◌∙◌}
 use mathlib.Core.Bool.{Bool, true, false}
 use mathlib.Core.List.{List, [], ◌++◌, tail, append_assoc}
@@ -13,23 +13,19 @@ use Rattle.endian.specs.Laws.Stored.{length-put, put_in, drop-put}
 use Rattle.tree.specs.Table.{Node, file, directory, none, name_offset, size_or_next, parent_below, parent_of, texts_of, encode}
 use Rattle.tree.specs.Inner.WellFormed.{IsWellFormed}
 use Rattle.tree.proofs.Laws.WrittenEntries.{length-encode}
-use Rattle.tree.proofs.Laws.Nesting.{parent-before}
+use Rattle.tree.proofs.Laws.Nesting.{parent-most}
 use Rattle.tree.proofs.Laws.WellNested.{root_is, next-bounds}
 use Rattle.tree.specs.Insert.{insert_at, set_place}
 use Rattle.tree.proofs.Laws.InsertLaws.{Fresh}
 use Rattle.tree.proofs.Laws.Writing.{text_start, start-most, Fields, written-fields}
 use Rattle.tree.specs.Inner.Patch.{insert_patch}
-use Rattle.tree.proofs.Laws.PatchLaws.{place-patched, insert-patched}
+use Rattle.tree.proofs.Laws.PatchLaws.{place-patched, insert-patched, offset_read, next-read}
 use Rattle.tree.proofs.Laws.Size.{size-insert}
 use Rattle.table_writing.specs.Inner.Inserting.{new_node, IsRaisable, IsInsertable}
-use Rattle.table_writing.proofs.Puts.{take_put}
 use Rattle.table_writing.proofs.Patches.{SameEntry, same-entry, raisable-same, new-name}
+use Rattle.endian.proofs.Parts.{take_put, put-start}
 
 -- ---- a table at the front
-
-put_front : (b t : List ℕ) → put b 0 t ≡ t ++ drop (length t) b
-unfolding put
-put_front b t = rw (zero-add (length t))
 
 put-left : (t r : List ℕ) (at : ℕ) (bs : List ℕ) → at + length bs ≤ length t → put (t ++ r) at bs ≡ put t at bs ++ r
 unfolding put
@@ -39,12 +35,12 @@ put-left t r at bs h =
 -- a change inside the table
 pub put-inside : (b t : List ℕ) (at : ℕ) (bs : List ℕ) → at + length bs ≤ length t → put (put b 0 t) at bs ≡ put b 0 (put t at bs)
 put-inside b t at bs h =
-    rw (put_front b t, put_front b (put t at bs), length-put t at bs h) (put-left t (drop (length t) b) at bs h)
+    rw (put-start b t, put-start b (put t at bs), length-put t at bs h) (put-left t (drop (length t) b) at bs h)
 
 -- a longer table over a shorter one
 pub put-over : (b t t' : List ℕ) → length t ≤ length t' → length t ≤ length b → put (put b 0 t) 0 t' ≡ put b 0 t'
 put-over b t t' h f =
-    rw (put_front (put b 0 t) t', put_front b t') (ap (λ (l : List ℕ). t' ++ l) (drop-put b 0 t (omega arith) (length t') (omega arith)))
+    rw (put-start (put b 0 t) t', put-start b t') (ap (λ (l : List ℕ). t' ++ l) (drop-put b 0 t (omega arith) (length t') (omega arith)))
 
 pub take-front : (b t : List ℕ) → length t ≤ length b → take (length t) (put b 0 t) ≡ t
 take-front b t h = rw (zero-add (length t)) at (take_put b 0 t (omega arith))
@@ -67,23 +63,11 @@ parent-zero : (nodes : List Node) → parent_of nodes 0 ≤ 0
 unfolding parent_of parent_below
 parent-zero nodes = omega arith
 
-parent-most : (nodes : List Node) (k : ℕ) → parent_of nodes k ≤ k
-parent-most nodes zero = parent-zero nodes
-parent-most nodes (suc k) = omega (arith, parent-before nodes (suc k) (omega arith))
-
 raisable-with : (tab : List ℕ) (k c par o : ℕ) (x : Node) → c ≤ 16384 → par ≤ c → ((nm : List ℕ) (n : ℕ) → x ≡ directory nm n → n ≤ c) → Fields tab k par o x → IsRaisable tab k
 raisable-with tab k c par o (file nm a e) few p n f =
     record { kinds = omega (arith, f.0); place = λ h. absurd (omega (arith, f.0)); next = λ h. absurd (omega (arith, f.0)) }
 raisable-with tab k c par o (directory nm next) few p n f =
     record { kinds = omega (arith, f.0); place = λ h. omega (arith, f.2); next = λ h. omega (arith, f.3, n nm next refl) }
-
-name-with : (tab : List ℕ) (k par o : ℕ) (x : Node) → Fields tab k par o x → name_offset tab k ≡ o
-name-with tab k par o (file nm a e) f = f.1
-name-with tab k par o (directory nm next) f = f.1
-
-next-with : (tab : List ℕ) (k par o : ℕ) (x : Node) (nm : List ℕ) (n : ℕ) → x ≡ directory nm n → Fields tab k par o x → size_or_next tab k ≡ n
-next-with tab k par o (file a b c) nm n e f = let z : ◌≡◌ {A = ℕ} 0 1 = cc in absurd (omega arith)
-next-with tab k par o (directory a m) nm n e f = let z : m ≡ n = cc in f.3 ∙ z
 
 pub fresh-new : (d : Bool) (nm : List ℕ) (q : ℕ) → Fresh q (new_node d nm q)
 fresh-new true nm q = refl
@@ -110,10 +94,10 @@ module _ (b : List ℕ) (nodes : List Node) (p q : ℕ) (pm : List ℕ) (d : Boo
   root-next : size_or_next s 0 ≡ length nodes
   root-next =
       let h : 0 < length nodes = omega arith in
-      (same 0 h).nexts ∙ next-with tab 0 (parent_of nodes 0) (text_start nodes 0) (get_or nodes 0 none) [] (length nodes) (root_is nodes w) (fields 0 h)
+      (same 0 h).nexts ∙ next-read tab 0 (parent_of nodes 0) (text_start nodes 0) (length nodes) [] (get_or nodes 0 none) (fields 0 h) (root_is nodes w)
 
   pub parent-next : size_or_next s p ≡ q
-  parent-next = (same p p<c).nexts ∙ next-with tab p (parent_of nodes p) (text_start nodes p) (get_or nodes p none) pm q here (fields p p<c)
+  parent-next = (same p p<c).nexts ∙ next-read tab p (parent_of nodes p) (text_start nodes p) q pm (get_or nodes p none) (fields p p<c) here
 
   raisable : (k : ℕ) → k < length nodes → IsRaisable s k
   raisable k h =
@@ -123,7 +107,7 @@ module _ (b : List ℕ) (nodes : List Node) (p q : ℕ) (pm : List ℕ) (d : Boo
 
   names : (k : ℕ) → k < length nodes → 12 * length nodes + name_offset s k ≤ length tab
   names k h =
-      omega (arith, (same k h).names, name-with tab k (parent_of nodes k) (text_start nodes k) (get_or nodes k none) (fields k h), start-most nodes k h, length-encode nodes)
+      omega (arith, (same k h).names, offset_read tab k (parent_of nodes k) (text_start nodes k) (get_or nodes k none) (fields k h), start-most nodes k h, length-encode nodes)
 
   pub insertable : IsInsertable s (length tab) p (length nm)
   insertable =

@@ -111,11 +111,12 @@ impl<'a> Growing<'a> {
 
     /// Puts an empty directory, or an empty file, in as last child of directory p, and returns its number; 9
     /// if the tree then passes a limit, or the bytes are too few, and the table stays as it is.
-    // Kept: the directory, the kind and the name are no struct, as in `fst_patch::insert`.
+    // Kept: the directory, the kind and the name are no struct, as in `patch::insert`.
     pub fn grow(&mut self, p: usize, kind: Kind, name: &[u8]) -> Result<usize, Refusal>
         requires directory { IsDirectory (tree_of self.old) p }
         requires name { IsGoodName name.now }
-        ensures number { IfOk result (λ number. number ≡ next_of (slice_index_or (tree_of self.old) p none)) }
+        ensures number { let directory = slice_index_or (tree_of self.old) p none in
+            IfOk result (λ number. number ≡ next_of directory) }
         ensures tree { OnOk result (tree_of self.new ≡ added_to self.old kind p name.now) }
         ensures built { HasBuilt self.old self.new (added_to self.old kind p name.now) result }
         ensures err_bytes { OnErr result (self.new.bytes.now ≡ self.old.bytes.now) }

@@ -1,4 +1,5 @@
-// A file table as it is written: measured, written anew, and then changed in place: the place of a file, one entry more.
+// A file table as it is written: measured, written anew, and then changed in place: the place of a file, one
+// entry more.
 #![tactic(auto)]
 
 mod growing;

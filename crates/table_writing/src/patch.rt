@@ -1,10 +1,11 @@
-// A written table changed in place: the place of a file, and one entry put in. For that: the texts make room for the
-// new name, then the records behind it move up.
+// A written table changed in place: the place of a file, and one entry put in. For that: the texts make room
+// for the new name, then the records behind it move up.
 ghost use Rattle.std.specs.Prelude.{◌≡◌, ◌++◌, ◌+◌, ◌*◌, ◌≤◌, length};
 ghost use Rattle.endian.specs.Bytes.{put, be32_bytes};
 ghost use Rattle.tree.specs.Table.{size_or_next};
 ghost use Rattle.tree.specs.Inner.Patch.{records, record_before};
-ghost use Rattle.table_writing.specs.Inner.Inserting.{EachIsRaisable, NamesGrow, new_texts, start_in, IsInsertable};
+ghost use Rattle.table_writing.specs.Inner.Inserting.{EachIsRaisable, NamesGrow, IsInsertable};
+ghost use Rattle.table_writing.specs.Inner.Inserting.{new_texts, start_in};
 ghost use Rattle.table_writing.specs.Inner.Patching.{behind_of, CanTake, records_with, table_with};
 
 use crate::kind::Kind;
@@ -17,7 +18,8 @@ fn patch_behind(table: &mut [u8], count: usize, shift: Shift)
     requires number { shift.number ≤ count }
     requires raisable { EachIsRaisable table.old count }
     requires names { NamesGrow table.old count shift.text }
-    ensures { table.new ≡ put table.old (12 * (shift.number + 1)) (behind_of table.old shift count) }
+    ensures { let first = shift.number + 1 in
+        table.new ≡ put table.old (12 * first) (behind_of table.old shift count) }
 {
     let first = shift.number + 1;
     endian::copy_within(
@@ -44,8 +46,8 @@ fn patch_up_to(table: &mut [u8], p: usize)
     }
 }
 
-// All records of the new table. Those behind the new one move before it is written over the first of them; those
-// between its directory and it stay.
+// All records of the new table. Those behind the new one move before it is written over the first of them;
+// those between its directory and it stay.
 fn patch_records(table: &mut [u8], count: usize, entry: &NewEntry<'_>)
     requires { CanTake table.old count entry.now }
     ensures { table.new ≡ put table.old 0 (records_with table.old count entry.now) }
@@ -59,11 +61,13 @@ fn patch_records(table: &mut [u8], count: usize, entry: &NewEntry<'_>)
     patch_up_to(table, entry.parent);
 }
 
-// The texts of `count` entries, from 12 bytes further on, with the new name where `start` bytes of them are passed.
+// The texts of `count` entries, from 12 bytes further on, with the new name where `start` bytes of them are
+// passed.
 fn insert_text(table: &mut [u8], size: usize, count: usize, start: usize, name: &[u8])
     requires start { 12 * count + start ≤ size }
     requires room { size + 12 + length name.now + 1 ≤ length table.old }
-    ensures { table.new ≡ put table.old (12 * count + 12) (new_texts table.old size count start name.now) }
+    ensures { let texts = new_texts table.old size count start name.now in
+        table.new ≡ put table.old (12 * count + 12) texts }
 {
     let text = 12 * count + start;
     let n = name.len();
@@ -87,9 +91,10 @@ fn new_start(table: &[u8], size: usize, count: usize, q: usize) -> usize
     }
 }
 
-/// Puts an empty directory or an empty file in as the last child of directory p of the table that stands in the first
-/// `size` bytes, and returns its number. The new table has 12 + name.len() + 1 bytes more.
-// Kept: the directory, the kind and the name are no struct: `NewEntry` has the number and the start too, which are read here.
+/// Puts an empty directory or an empty file in as the last child of directory p of the table that stands in
+/// the first `size` bytes, and returns its number. The new table has 12 + name.len() + 1 bytes more.
+// Kept: the directory, the kind and the name are no struct: `NewEntry` has the number and the start too,
+// which are read here.
 pub fn insert(table: &mut [u8], size: usize, p: usize, kind: Kind, name: &[u8]) -> usize
     requires { IsInsertable table.old size p (length name.now) }
     ensures value { result ≡ size_or_next table.old p }

@@ -1,4 +1,5 @@
-// One record of a written table changed in place, for an entry that is put in: before it, behind it, and its own.
+// One record of a written table changed in place, for an entry that is put in: before it, behind it, and its
+// own.
 ghost use Rattle.std.specs.Prelude.{◌≡◌, ◌+◌, ◌*◌, ◌≤◌, ◌<◌, ◌^◌, length};
 ghost use Rattle.endian.specs.Bytes.{put};
 ghost use Rattle.tree.specs.Table.{name_offset};
@@ -33,14 +34,15 @@ impl Shift {
         }
     }
 
-    /// Entry k, which has moved behind the new one: the name offset grows by the new text, and a directory ends one
-    /// later, and its parent may have moved too. Each field is read and written back as one word, and the first holds
-    /// the kind above the name offset.
+    /// Entry k, which has moved behind the new one: the name offset grows by the new text, and a directory
+    /// ends one later, and its parent may have moved too. Each field is read and written back as one word,
+    /// and the first holds the kind above the name offset.
     pub fn raise(self, table: &mut [u8], k: usize)
         requires within { 12 * k + 12 ≤ length table.old }
         requires raisable { IsRaisable table.old k }
         requires names { name_offset table.old k + self.text < 2 ^ 24 }
-        ensures { table.new ≡ put table.old (12 * k) (record_after table.old self.number self.text k) }
+        ensures { let after = record_after table.old self.number self.text k in
+            table.new ≡ put table.old (12 * k) after }
     {
         let first = endian::read_u32(table, 12 * k) + self.text as u32;
         endian::write_u32(table, 12 * k, first);
@@ -53,7 +55,8 @@ impl Shift {
     }
 }
 
-/// Entry k, which stays before the new one: directory p and those around it end one later, and nothing else changes.
+/// Entry k, which stays before the new one: directory p and those around it end one later, and nothing else
+/// changes.
 pub fn patch_before(table: &mut [u8], k: usize, p: usize)
     requires before { k ≤ p }
     requires within { 12 * k + 12 ≤ length table.old }

@@ -22,7 +22,8 @@ pub struct Record {
 }
 
 // What stands in the third field: a file's offset, or the parent that a directory is nested in.
-// Kept: the table, k and the parent are handed on three times; a struct of them would be made anew for each entry.
+// Kept: the table, k and the parent are handed on three times; a struct of them would be made anew for each
+// entry.
 fn place_of(table: &[u8], k: usize, parent: u32) -> u32
     requires { 12 * k + 12 ≤ length table.now }
     ensures { result ≡ place_of table.now parent k }
@@ -73,8 +74,8 @@ pub fn write_fields(out: &mut [u8], k: usize, kind: u8, name: u32, place: u32, n
     endian::write_u32(out, at + 8, next);
 }
 
-/// Writes the record of entry k, which is in directory `parent` of a table of `count` entries, and whose name is to
-/// stand at `text`.
+/// Writes the record of entry k, which is in directory `parent` of a table of `count` entries, and whose name
+/// is to stand at `text`.
 pub fn write_record(table: &[u8], out: &mut [u8], count: usize, k: usize, parent: u32, text: usize)
     requires within { 12 * k + 12 ≤ length table.now }
     requires known { kind table.now k ≤ 1 }
@@ -91,7 +92,7 @@ pub fn write_record(table: &[u8], out: &mut [u8], count: usize, k: usize, parent
 pub fn write_name(source: &Source<'_>, out: &mut [u8], k: usize, text: usize) -> usize
     requires further { 0 < k }
     requires within { k < count source.now }
-    requires k_in_bounds { text + name_size source.now (count source.now) k + 1 ≤ length out.old }
+    requires room { text + name_size source.now (count source.now) k + 1 ≤ length out.old }
     ensures value { result ≡ text + name_size source.now (count source.now) k + 1 }
     ensures out_after { out.new ≡ put_text source.now (count source.now) k text out.old }
 {

@@ -11,9 +11,12 @@ use crate::size::TEXTS_LIMIT;
 use refusal::Refusal;
 use std::marker::Model;
 
-/// A table that can be written anew: its directories nest, and its names end within it. Contracts see its bytes.
-// Kept: beside `fst::Table`, which asks that opening accepts the table: what is measured and written is any `IsValid` one.
-// No derived equality, which would ask for an `inverse`: the view is the bytes, and forgets where they lie and the count.
+/// A table that can be written anew: its directories nest, and its names end within it. Contracts see its
+/// bytes.
+// Kept: beside `table::Table`, which asks that opening accepts the table: what is measured and written is any
+// `IsValid` one.
+// No derived equality, which would ask for an `inverse`: the view is the bytes, and forgets where they lie
+// and the count.
 #[derive(Drop)]
 pub struct Source<'a> {
     bytes: &'a [u8],

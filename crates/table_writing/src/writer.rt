@@ -1,6 +1,6 @@
-// The file table written anew, with no name shared: an entry that is a directory writes that directory, and a directory
-// writes its entries. The table is in preorder, so what is written is what `write_flat` writes, entry by entry, and that
-// is `encode` of the table's entries.
+// The file table written anew, with no name shared: an entry that is a directory writes that directory, and a
+// directory writes its entries. The table is in preorder, so what is written is what `write_flat` writes,
+// entry by entry, and that is `encode` of the table's entries.
 ghost use Rattle.std.specs.Prelude.{◌≡◌, ◌+◌, ◌≤◌, ◌<◌, ◌^◌, length};
 ghost use Rattle.endian.specs.Bytes.{put};
 ghost use Rattle.tree.specs.Table.{kind, size_or_next, count, nodes_of, parent_of, encode};
@@ -14,9 +14,10 @@ use crate::source::Source;
 use crate::{record, size};
 
 // The lent bytes, where the table goes, and the place among them where the next name goes.
-// Kept: the table is handed on, and no field: with the `Source` as a field, `write_table` knew only the length of the lent
-// bytes in the end, and its proof did not close.
-// Kept: `HasRoom` in three contracts: each is about other entries: one, one with all in it, all in a directory.
+// Kept: the table is handed on, and no field: with the `Source` as a field, `write_table` knew only the
+// length of the lent bytes in the end, and its proof did not close.
+// Kept: `HasRoom` in three contracts: each is about other entries: one, one with all in it, all in a
+// directory.
 #[derive(Drop)]
 struct Writer<'o> {
     out: &'o mut [u8],
@@ -50,8 +51,8 @@ impl<'o> Writer<'o> {
         self.text = record::write_name(source, out, k, text);
     }
 
-    // Writes entry k, and if it is a directory all that is in it, and returns the entry after it in its directory.
-    // Its kind is read once: only a directory's is looked at again, for the entry after it.
+    // Writes entry k, and if it is a directory all that is in it, and returns the entry after it in its
+    // directory. Its kind is read once: only a directory's is looked at again, for the entry after it.
     #[cycle(write_directory_write_entry)]
     fn write_entry(&mut self, source: &Source<'_>, k: usize, parent: u32) -> usize
         requires further { 0 < k }
@@ -81,8 +82,10 @@ impl<'o> Writer<'o> {
         requires within { k < count source.now }
         requires directory { kind source.now k ≡ 1 }
         requires room { HasRoom self.old source.now (k + 1) (size_or_next source.now k) }
-        ensures text { self.new.text ≡ text_after self.old source.now (k + 1) (size_or_next source.now k) }
-        ensures out { self.new.out.now ≡ out_after self.old source.now (k + 1) (size_or_next source.now k) }
+        ensures text { let stop = size_or_next source.now k in
+            self.new.text ≡ text_after self.old source.now (k + 1) stop }
+        ensures out { let stop = size_or_next source.now k in
+            self.new.out.now ≡ out_after self.old source.now (k + 1) stop }
         ensures length { length self.new.out.now ≡ length self.old.out.now }
         ensures same_reference { self.new.out.ghost_name ≡ self.old.out.ghost_name }
     {
@@ -115,8 +118,8 @@ fn write_root(out: &mut [u8], count: usize)
 /// Writes the whole table, and returns its size in bytes.
 pub fn write_table(table: &[u8], out: &mut [u8]) -> usize
     requires valid { IsValid table.now (count table.now) }
-    requires table_in_bounds { (length (encode (nodes_of table.now)) ≤ length out.old)
-        × (length (encode (nodes_of table.now)) ≤ 2 ^ 24) }
+    requires room { length (encode (nodes_of table.now)) ≤ length out.old }
+    requires small { length (encode (nodes_of table.now)) ≤ 2 ^ 24 }
     ensures value { result ≡ length (encode (nodes_of table.now)) }
     ensures out_after { out.new ≡ put out.old 0 (encode (nodes_of table.now)) }
 {

@@ -1,9 +1,9 @@
--- A tree with one entry more, and with a file's place changed (document 01, "Edits"). Assumes nothing: these are definitions.
+-- A tree with one entry more, and with a file's place changed.
 use Rattle.std.specs.Prelude.{ℕ, zero, suc, List, [], ◌∷◌, map, set, if◌then◌else◌, nat_lt, nat_le, slice_index_or}
 use Rattle.tree.specs.Table.{Node, file, directory, none}
 use Rattle.tree.specs.Lookup.{next_of}
 
--- ---- "Insert adds an empty directory or an empty file (offset 0, size 0) as last child"
+-- ---- an empty directory or an empty file as last child
 
 abbrev pub empty_file : List ℕ → Node
 empty_file nm = file nm 0 0

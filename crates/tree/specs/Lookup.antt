@@ -1,4 +1,4 @@
--- Entries by number and by path (document 01, "Lookup (`at_descendant`)"). Assumes nothing: these are definitions.
+-- Entries by number and by path.
 use Rattle.std.specs.Prelude.{Result, Ok, Err, if◌then◌else◌, ◌==◌, nat_lt, slice_index_or}
 use Rattle.refusal.specs.declared.Refusal.{Refusal}
 use Rattle.std.specs.Prelude.{ℕ, zero, suc, ◌-◌, Bool, true, false, ◌&&◌, ◌||◌, List, [], ◌∷◌, ◌++◌, length}
@@ -29,7 +29,7 @@ abbrev pub next_of : Node → ℕ
 next_of (file nm offset size) = 0
 next_of (directory nm next) = next
 
--- ---- "the path is cut at `/` and `\`", and document 02: "A trail byte 0x5C is not a backslash, .. when a path is cut."
+-- ---- a path is cut at `/` and `\`, where they are units of their own
 
 abbrev pub separator : ℕ → Bool
 separator b = b == 0x2F || b == 0x5C
@@ -50,7 +50,7 @@ components_of (u ∷ us) = if separates u then [] ∷ components_of us else long
 unfoldable pub components : List ℕ → List (List ℕ)
 components path = components_of (units path)
 
--- ---- "Otherwise the first child with equal bytes, else 18."
+-- ---- the first child with equal bytes
 
 abbrev pub child_named : List Node → ℕ → List ℕ → ℕ → Bool
 child_named nodes d nm k = parent_of nodes k == d && same_bytes (name_of (slice_index_or nodes k none)) nm
@@ -64,8 +64,7 @@ first_child nodes d nm k (suc n) = if child_named nodes d nm k then Ok k else fi
 unfoldable pub child_of : List Node → ℕ → List ℕ → Result ℕ Refusal
 child_of nodes d nm = first_child nodes d nm (suc d) (next_of (slice_index_or nodes d none) - suc d)
 
--- ---- "before each component the current entry must be a directory (17). Empty and `.` stay. `..` goes back over the last named step,
--- 18 if there is none."
+-- ---- before each component the entry must be a directory; empty and `.` stay, and `..` goes back over the last named step
 
 abbrev pub stays : List ℕ → Bool
 stays [] = true
@@ -97,7 +96,6 @@ follow nodes trail k (c ∷ cs) =
     else and_then (child_of nodes k c) (λ j. follow nodes (k ∷ trail) j cs))
     else Err ExpectedDirectory
 
--- 15, then along the path 17 and 18
 unfoldable pub lookup : List Node → ℕ → List ℕ → Result ℕ Refusal
 lookup nodes start path = if nat_lt start (length nodes) then follow nodes [] start (components path) else Err NoSuchEntry
 

@@ -1,6 +1,5 @@
--- The file table (document 01, "The tree"): what its bytes say, when it is accepted, and how it is written.
--- The table is in preorder and a directory's "next" says where its entries end, so the tree is the list of its entries.
--- Assumes nothing: these are definitions.
+-- The file table: what its bytes say, when it is accepted, and how it is written.
+-- It is in preorder and a directory's "next" says where its entries end, so the tree is the list of its entries.
 use Rattle.std.specs.Prelude.{Ok, if◌then◌else◌, ◌==◌, nat_lt, nat_le, slice_index, slice_index_or}
 use Rattle.refusal.specs.Refusal.{Verdict}
 use Rattle.std.specs.Prelude.{ℕ, zero, suc, ◌+◌, ◌-◌, ◌*◌, max, Bool, true, false, not, ◌&&◌, ◌||◌, length, drop}
@@ -9,8 +8,9 @@ use Rattle.endian.specs.Bytes.{be24, be32, be24_bytes, be32_bytes}
 use Rattle.refusal.specs.declared.Refusal.TheVariants.{EntryPastTable, UnrecognizedKind, RootIsNotDirectory, MissingNullTerminator, LimitOrMemory, InvalidNextIndex, InvalidNameOffset, InvalidNameByte, UnsafeName}
 use Rattle.refusal.specs.Refusal.{refuse, first}
 use Rattle.tree.specs.Units.{TextUnit, single, pair, within, units}
+use Rattle.std.specs.List.{list_all}
 
--- "an entry is a file with offset and size or a directory with parent and next": the parent is where it is nested, see `parent_of`
+-- a file with offset and size, or a directory with its next; its parent is where it is nested, see `parent_of`
 pub data Node : Type 0 where
   file : List ℕ → ℕ → ℕ → Node
   directory : List ℕ → ℕ → Node
@@ -23,12 +23,7 @@ name_of (directory nm next) = nm
 abbrev pub none : Node
 none = directory [] 0
 
--- ---- "Names: one or more bytes 0x20 to 0x7E; not `.` or `..`; without `/`, `\`, `:`.", and document 02: "Names may now hold bytes 0xA1 to
--- 0xDF, and pairs .. A trail byte 0x5C is not a backslash .. A lead byte without its trail is 12 in a name"
-
-abbrev pub every : {A : Type 0} → (A → Bool) → List A → Bool
-every p [] = true
-every p (x ∷ xs) = p x && every p xs
+-- ---- names
 
 abbrev pub plain_byte : ℕ → Bool
 plain_byte b = within 0x20 0x7E b || within 0xA1 0xDF b
@@ -46,7 +41,7 @@ safe_unit (pair a b) = true
 
 -- each unit a pair, or a byte 0x20 to 0x7E or 0xA1 to 0xDF
 unfoldable pub plain : List ℕ → Bool
-plain nm = every plain_unit (units nm)
+plain nm = list_all plain_unit (units nm)
 
 -- `.` or `..`
 abbrev pub dots : List ℕ → Bool
@@ -58,9 +53,9 @@ dots (a ∷ b ∷ c ∷ xs) = false
 -- not empty, not `.` or `..`, without `/`, `\` and `:` as units
 unfoldable pub safe : List ℕ → Bool
 safe [] = false
-safe (x ∷ xs) = not (dots (x ∷ xs)) && every safe_unit (units (x ∷ xs))
+safe (x ∷ xs) = not (dots (x ∷ xs)) && list_all safe_unit (units (x ∷ xs))
 
--- ---- "An entry has 12 bytes: kind (1; 0 file, 1 directory), name offset (3), offset or parent (4), size or next (4)."
+-- ---- an entry has 12 bytes: kind (0 file, 1 directory), name offset (3), offset or parent (4), size or next (4)
 
 abbrev pub kind : List ℕ → ℕ → ℕ
 kind tab k = slice_index tab (12 * k)
@@ -74,11 +69,11 @@ offset_or_parent tab k = be32 tab (12 * k + 4)
 abbrev pub size_or_next : List ℕ → ℕ → ℕ
 size_or_next tab k = be32 tab (12 * k + 8)
 
--- "Entry 0 is the root; its "next" is the count (a count of 0 reads the root only)."
+-- entry 0 is the root, and its next is the count; a count of 0 reads the root only
 unfoldable pub count : List ℕ → ℕ
 count tab = max 1 (size_or_next tab 0)
 
--- "Name texts fill the rest of the table, each ended by a zero byte.": the bytes up to the first 0
+-- texts fill the rest of the table, each ended by a zero byte: the bytes up to the first 0
 abbrev pub up_to0 : List ℕ → List ℕ
 up_to0 [] = []
 up_to0 (zero ∷ s) = []
@@ -110,9 +105,7 @@ nodes_from tab c k (suc n) = node_at tab c k ∷ nodes_from tab c (suc k) n
 unfoldable pub nodes_of : List ℕ → List Node
 nodes_of tab = directory [] (count tab) ∷ nodes_from tab (count tab) 1 (count tab - 1)
 
--- ---- acceptance, in the order of "Opening: .. root (5, 6, 7), count over 16,384 (9), each further entry in turn (5, 6), 8, texts
--- over 1,048,576 bytes (9), 32-bit working words under 4 × (entries + 2) (9). Then the walk, per entry 11, 12, 13 (these three not
--- for the root), 10, directory deeper than 64 (root 0; 9)."
+-- ---- acceptance: the root, each further entry in turn, the limits, and then the walk over names and nesting
 
 unfoldable pub entry_verdict : List ℕ → ℕ → Verdict
 entry_verdict tab k = refuse (nat_lt (length tab) (12 * k + 12)) EntryPastTable (refuse (nat_lt 1 (kind tab k)) UnrecognizedKind (Ok tt))
@@ -146,7 +139,7 @@ name_verdict tab c k nm =
     (refuse (not (plain nm)) InvalidNameByte
     (refuse (not (safe nm)) UnsafeName (Ok tt)))
 
--- "next at or before its entry, past the count or past its parent's next", then the depth, which is the number of directories open
+-- a next at or before its entry, past the count, past its parent's next; then the depth, which is the number of directories open
 unfoldable pub next_verdict : ℕ → List ℕ → ℕ → Node → Verdict
 next_verdict c dirs k (file nm offset size) = Ok tt
 next_verdict c dirs k (directory nm next) =
@@ -192,7 +185,7 @@ parent_below nodes k (suc i) = if encloses (slice_index_or nodes i none) k then 
 unfoldable pub parent_of : List Node → ℕ → ℕ
 parent_of nodes k = parent_below nodes k k
 
--- ---- "Writing (`to_fst`): preorder; .. root name and parent 0; each name appended once per entry, never shared."
+-- ---- written: in preorder, the root's name and parent 0, and each entry's name after the last one's, never shared
 
 -- an entry with parent p and name offset o
 abbrev pub node_bytes : ℕ → ℕ → Node → List ℕ
@@ -228,7 +221,7 @@ shallow_from dirs k (x ∷ xs) = shallow_entry (shut k dirs) x && shallow_from (
 unfoldable pub shallow : List Node → Bool
 shallow nodes = shallow_from (length nodes ∷ []) 1 (tail nodes)
 
--- "the new tree's limits as at opening (entries, texts, working words, depth)"; the texts are the written ones
+-- the limits as at opening: entries, texts as they are written, working words, depth
 unfoldable pub limits : List Node → ℕ → Verdict
 limits nodes words =
     refuse (nat_lt 16384 (length nodes)) LimitOrMemory

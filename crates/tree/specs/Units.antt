@@ -1,18 +1,15 @@
--- The units of a text (document 02, Point 5): names are judged, and paths are cut, by them. Assumes nothing: these are definitions.
+-- The units of a text, by which names are judged and paths are cut: pairs of a lead and a trail byte, and single bytes.
 use Rattle.std.specs.Prelude.{ℕ, Bool, ◌&&◌, ◌||◌, List, [], ◌∷◌, if◌then◌else◌, nat_le}
 
 abbrev pub within : ℕ → ℕ → ℕ → Bool
 within low high b = nat_le low b && nat_le b high
 
--- "pairs of a lead byte (0x81 to 0x9F, 0xE0 to 0xFC)"
 abbrev pub lead_byte : ℕ → Bool
 lead_byte b = within 0x81 0x9F b || within 0xE0 0xFC b
 
--- "with a trail byte (0x40 to 0x7E, 0x80 to 0xFC)"
 abbrev pub trail_byte : ℕ → Bool
 trail_byte b = within 0x40 0x7E b || within 0x80 0xFC b
 
--- a byte of its own, or a lead byte with its trail byte
 pub data TextUnit : Type 0 where
   single : ℕ → TextUnit
   pair : ℕ → ℕ → TextUnit
@@ -21,8 +18,7 @@ abbrev pub unit_bytes : TextUnit → List ℕ
 unit_bytes (single b) = b ∷ []
 unit_bytes (pair a b) = a ∷ b ∷ []
 
--- a text cut into units from its start: a lead byte without its trail "counts as one byte .., and the byte after it is judged afresh". 02 says
--- so of paths; a name is cut in the same way
+-- a text cut into units from its start; a lead byte without its trail is a single byte, and the byte after it is judged afresh
 unfoldable pub units : List ℕ → List TextUnit
 units [] = []
 units (a ∷ []) = single a ∷ []

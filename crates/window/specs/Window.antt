@@ -1,9 +1,7 @@
--- Windows, as document 01 has them: "A window shows a part of the image: start, length, position. Seek from start, current or end; a
--- distance is added modulo 2^64. Refused 23 if start + position passes 2^64 - 1; current with distance 0 always succeeds. A read gives
--- the least of the bytes asked for, left in the window and left in the image, and none past either; the rest of the buffer stays."
--- Numbers are whole numbers, and `a - b` is 0 where b is larger. Assumes nothing: these are definitions.
+-- A window shows a part of an image: its start, its length, and a position in it.
 use Rattle.refusal.specs.declared.Refusal.{Refusal}
-use Rattle.std.specs.Prelude.{ℕ, zero, suc, ◌+◌, ◌-◌, ◌%◌, ◌^◌, min, Bool, true, false, List, length, ℤ, pos, negsuc, nat_lt, Result, Ok, Err}
+use Rattle.std.specs.Prelude.{ℕ, zero, suc, ◌+◌, ◌-◌, ◌%◌, ◌^◌, min, List, length, ℤ, pos, negsuc, if◌then◌else◌, nat_lt, Result, Ok, Err}
+use Rattle.std.specs.Result.{result_unwrap_or}
 use Rattle.endian.specs.Bytes.{put, span}
 use Rattle.refusal.specs.declared.Refusal.TheVariants.{InvalidSeek}
 use Rattle.window.specs.declared.Window.{Window}
@@ -25,50 +23,43 @@ abbrev pub distance : ℤ → ℕ
 distance (pos n) = n
 distance (negsuc n) = 2 ^ 64 - suc n
 
--- "a distance is added modulo 2^64"
-abbrev pub moved_by : ℕ → ℤ → ℕ
-moved_by p d = (p + distance d) % 2 ^ 64
+abbrev pub position_after : ℕ → ℤ → ℕ
+position_after p d = (p + distance d) % 2 ^ 64
 
-abbrev pub either : Bool → Result Window Refusal → Result Window Refusal → Result Window Refusal
-either true a b = a
-either false a b = b
+-- a seek to the position p, refused where start + position passes 2^64 - 1
+abbrev pub window_at : Window → ℕ → Result Window Refusal
+window_at w p = if nat_lt (2 ^ 64 - 1) (w.start + p) then Err InvalidSeek else Ok (move_to w p)
 
--- a seek to the position p: "Refused 23 if start + position passes 2^64 - 1"
-abbrev pub judged : Window → ℕ → Result Window Refusal
-judged w p = either (nat_lt (2 ^ 64 - 1) (w.start + p)) (Err InvalidSeek) (Ok (move_to w p))
-
--- the answer of a seek, by cases: "current with distance 0 always succeeds"
+-- the answer of a seek: from the current position by 0 it always succeeds
 abbrev pub seek_of : Window → SeekFrom → Result Window Refusal
-seek_of w (Start n) = judged w n
+seek_of w (Start n) = window_at w n
 seek_of w (Current (pos zero)) = Ok w
-seek_of w (Current (pos (suc n))) = judged w (moved_by w.position (pos (suc n)))
-seek_of w (Current (negsuc n)) = judged w (moved_by w.position (negsuc n))
-seek_of w (End d) = judged w (moved_by w.len d)
+seek_of w (Current (pos (suc n))) = window_at w (position_after w.position (pos (suc n)))
+seek_of w (Current (negsuc n)) = window_at w (position_after w.position (negsuc n))
+seek_of w (End d) = window_at w (position_after w.len d)
 
--- how many bytes a read gives, of an image of `there` bytes, into a buffer of `asked` bytes:
--- "the least of the bytes asked for, left in the window and left in the image"
+-- how many bytes a read gives, of an image of `there` bytes, where `asked` are asked for: as many as the window and the image have left
 abbrev pub count_of : Window → ℕ → ℕ → ℕ
 count_of w there asked = min asked (min (w.len - w.position) (there - (w.start + w.position)))
 
 -- the same part, n bytes further on
-abbrev pub moved_on : Window → ℕ → Window
-moved_on w n = move_to w (w.position + n)
+abbrev pub window_after_read : Window → ℕ → Window
+window_after_read w n = move_to w (w.position + n)
 
 -- the answer of a read: the count, and the window moved by it
 abbrev pub read_of : Window → ℕ → ℕ → BytesRead
-read_of w there asked = record { count = count_of w there asked; window = moved_on w (count_of w there asked) }
+read_of w there asked = record { count = count_of w there asked; window = window_after_read w (count_of w there asked) }
 
--- the buffer after a read: at its front the bytes of the image from start + position on; "the rest of the buffer stays"
+-- the buffer after a read: at its front the bytes of the image from start + position on
 abbrev pub buffer_of : Window → List ℕ → List ℕ → List ℕ
 buffer_of w image buf = put buf 0 (span image (w.start + w.position) (count_of w (length image) (length buf)))
 
--- ---- "the same two calls on a window that the caller lends and finds moved"
+-- ---- the same two calls on a window that the caller lends and finds moved
 
--- the window after a seek: the one found, or with a refusal the one it was ("Left as it was: window too")
-abbrev pub settled_of : Window → Result Window Refusal → Window
-settled_of w (Ok v) = v
-settled_of w (Err c) = w
+-- the window after a seek: the one found, or with a refusal the one it was
+abbrev pub window_after_seek : Window → Result Window Refusal → Window
+window_after_seek w r = result_unwrap_or r w
 
 -- a seek and then a read on one window
 abbrev pub seek_read_of : Window → SeekFrom → ℕ → ℕ → SoughtAndRead
-seek_read_of w to there asked = record { sought = seek_of w to; read = read_of (settled_of w (seek_of w to)) there asked }
+seek_read_of w to there asked = record { sought = seek_of w to; read = read_of (window_after_seek w (seek_of w to)) there asked }

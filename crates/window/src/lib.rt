@@ -1,15 +1,18 @@
-// A window shows a part of an image: where the part starts, how long it is, and the position in it. It goes in by value, and each
-// call gives back the moved window. `seek_lent` and `read_lent` are the same two calls on a window that the caller lends and finds moved.
+// A window shows a part of an image: where the part starts, how long it is, and the position in it. It goes
+// in by value, and each call gives back the moved window. `seek_lent` and `read_lent` are the same two calls
+// on a window that the caller lends and finds moved.
 #![tactic(auto)]
 
 ghost use Rattle.std.specs.Prelude.{◌≡◌, length};
-ghost use Rattle.window.specs.Window.{new_window, judged, seek_of, settled_of, count_of, moved_on, read_of};
+ghost use Rattle.window.specs.Window.{new_window, window_at, seek_of, read_of, count_of};
+ghost use Rattle.window.specs.Window.{window_after_seek, window_after_read};
 ghost use Rattle.window.specs.Window.{buffer_of, seek_read_of};
 
 use refusal::Refusal;
 pub use std::io::SeekFrom;
 
-/// A part of an image, in bytes: where it starts, how long it is, and the position in it. A position past the end is one too.
+/// A part of an image, in bytes: where it starts, how long it is, and the position in it. A position past the
+/// end is one too.
 #[repr(C)]
 #[derive(Clone, Copy, PartialEq, Eq, Debug)]
 pub struct Window {
@@ -46,7 +49,7 @@ impl Window {
 
     // The window at that position, if the sum with the start fits.
     fn at(self, position: u64) -> Result<Window, Refusal>
-        ensures { result ≡ judged self position }
+        ensures { result ≡ window_at self position }
     {
         match self.start.checked_add(position) {
             Some(_) => Ok(Window { position, ..self }),
@@ -54,8 +57,8 @@ impl Window {
         }
     }
 
-    /// The window at another position; distances are added modulo 2^64. Refused (`InvalidSeek`) where start + position
-    /// passes 2^64 - 1; a distance of 0 from the current position always succeeds.
+    /// The window at another position; distances are added modulo 2^64. Refused (`InvalidSeek`) where start +
+    /// position passes 2^64 - 1; a distance of 0 from the current position always succeeds.
     pub fn seek(self, to: SeekFrom) -> Result<Window, Refusal>
         ensures { result ≡ seek_of self to }
     {
@@ -67,8 +70,8 @@ impl Window {
         }
     }
 
-    /// Puts the bytes at the position at the front of the buffer: as many as the buffer has room for, and as are left both in
-    /// the window and in the image. The rest of the buffer stays.
+    /// Puts the bytes at the position at the front of the buffer: as many as the buffer has room for, and as
+    /// are left both in the window and in the image. The rest of the buffer stays.
     pub fn read(self, image: &[u8], buf: &mut [u8]) -> BytesRead
         ensures answer { result ≡ read_of self (length image.now) (length buf.old) }
         ensures buffer { buf.new ≡ buffer_of self image.now buf.old }
@@ -104,7 +107,7 @@ impl Window {
 
 /// The window after a seek: the one found, or with a refusal the one it was.
 pub fn settled(w: Window, s: Result<Window, Refusal>) -> Window
-    ensures { result ≡ settled_of w s }
+    ensures { result ≡ window_after_seek w s }
 {
     s.unwrap_or(w)
 }
@@ -112,7 +115,7 @@ pub fn settled(w: Window, s: Result<Window, Refusal>) -> Window
 /// `seek` on a window that the caller lends. A refusal leaves it as it was.
 pub fn seek_lent(w: &mut Window, to: SeekFrom) -> Result<Window, Refusal>
     ensures answer { result ≡ seek_of w.old to }
-    ensures moved { w.new ≡ settled_of w.old (seek_of w.old to) }
+    ensures moved { w.new ≡ window_after_seek w.old (seek_of w.old to) }
 {
     let sought = w.seek(to);
     *w = settled(*w, sought);
@@ -122,7 +125,7 @@ pub fn seek_lent(w: &mut Window, to: SeekFrom) -> Result<Window, Refusal>
 /// `read` on a window that the caller lends. It gives how many bytes it put into the buffer.
 pub fn read_lent(w: &mut Window, image: &[u8], buf: &mut [u8]) -> usize
     ensures answer { result ≡ count_of w.old (length image.now) (length buf.old) }
-    ensures moved { w.new ≡ moved_on w.old result }
+    ensures moved { w.new ≡ window_after_read w.old result }
     ensures buffer { buf.new ≡ buffer_of w.old image.now buf.old }
 {
     let read = w.read(image, buf);
@@ -130,10 +133,11 @@ pub fn read_lent(w: &mut Window, image: &[u8], buf: &mut [u8]) -> usize
     read.count
 }
 
-/// A seek and then a read on one window, which this function lends to both. A refused seek leaves the window for the read.
+/// A seek and then a read on one window, which this function lends to both. A refused seek leaves the window
+/// for the read.
 pub fn seek_and_read(w: Window, to: SeekFrom, image: &[u8], buf: &mut [u8]) -> SoughtAndRead
     ensures answer { result ≡ seek_read_of w to (length image.now) (length buf.old) }
-    ensures buffer { buf.new ≡ buffer_of (settled_of w (seek_of w to)) image.now buf.old }
+    ensures buffer { buf.new ≡ buffer_of (window_after_seek w (seek_of w to)) image.now buf.old }
 {
     let mut lent = w;
     let sought = seek_lent(&mut lent, to);

@@ -7,4 +7,4 @@ use Rattle.endian.proofs.copy.Goals as goal
 pub returns : goal.returns
 returns c =
     let a = c.args in
-    part-put a.s.now _ _ a.to a.n (c.copy_from_slice.ensures.after ∙ part-span a.source.now a.from a.n) (length-span a.source.now a.from a.n c.requires.0)
+    part-put a.s.now _ _ a.to a.n (c.copy_from_slice.ensures.after ∙ part-span a.source.now a.from a.n) (length-span a.source.now a.from a.n c.requires.source)

@@ -8,7 +8,8 @@ use Rattle.endian.specs.Bytes.{be32}
 use Rattle.endian.specs.Laws.Stored.{Same, be32-same}
 use Rattle.refusal.specs.declared.Refusal.{Refusal}
 use Rattle.window.specs.Window.{new_window, count_of}
-use Rattle.executable.specs.Dol.{words_at, dol_header_of, largest_of, file_size_of, dol_verdict_of, dol_sized, dol_size_of}
+use Rattle.executable.specs.Dol.{words_at, dol_header_of, largest_of, file_size_of, dol_verdict_of, dol_size_of}
+use Rattle.std.specs.Result.{result_and}
 
 -- the same bytes, from a later place on
 same-later : (s s' : List ℕ) (at k n : ℕ) → Same s s' at n → (i : ℕ) → k + i < n → get_or s (at + k + i) 0 ≡ get_or s' (at + k + i) 0
@@ -49,8 +50,8 @@ header-same s s' at h =
 
 -- the file size alone tells the verdict
 module _ (s : List ℕ) (at n : ℕ) where
-  by-verdict : (v : Verdict) → dol_verdict_of s at ≡ v → dol_size_of s at ≡ dol_sized v (file_size_of (dol_header_of s at))
-  by-verdict v e = ap (λ (u : Verdict). dol_sized u (file_size_of (dol_header_of s at))) e
+  by-verdict : (v : Verdict) → dol_verdict_of s at ≡ v → dol_size_of s at ≡ result_and v (Ok (file_size_of (dol_header_of s at)))
+  by-verdict v e = ap (λ (u : Verdict). result_and {T = Unit {0}} {U = ℕ} u (Ok (file_size_of (dol_header_of s at)))) e
 
   pub size-passed : dol_size_of s at ≡ Ok n → (dol_verdict_of s at ≡ Ok tt) × (n ≡ file_size_of (dol_header_of s at))
   size-passed e = go (dol_verdict_of s at) refl

@@ -1,21 +1,22 @@
 -- Reading and writing undo each other: a header that was read and is written back changes no byte, and a header that was written is read. Assumes nothing.
-use Prim.Native.Nat.{ℕ, zero, suc, ◌+◌, ◌*◌, ◌/◌, ◌%◌, ◌^◌, ◌<◌, ◌≤◌}
-use Rattle.std.specs.Prelude.{◌≡◌, refl, true, length, get_or, drop, Ok, Err}
+use Prim.Native.Nat.{ℕ, zero, suc, ◌+◌, ◌^◌, ◌<◌, ◌≤◌}
+use Rattle.std.specs.Prelude.{◌≡◌, refl, true, length, get_or, Ok, Err}
 use Rattle.std.proofs.Math.Path.{sym, ap}
-use Rattle.std.proofs.Common.{◌∙◌, arith, add-zero, take-append-drop, drop-drop, le-ltb}
+use Rattle.std.proofs.Common.{◌∙◌, arith, add-zero, le-ltb}
 use mathlib.Core.List.{List, [], ◌∷◌, map}
-use Rattle.std.proofs.Math.Nat.{div-div-eq-div-mul}
 use Rattle.endian.specs.Bytes.{be32, be32_bytes, put, span, AllBytes}
-use Rattle.endian.specs.Laws.Stored.{be32-value, length-put, put-before, put-after, span-put, length-span, get_d-span, span-cons, span_ext}
+use Rattle.endian.specs.Laws.Stored.{be32-value, length-put, put-before, put-after, span-put, get_d-span, span_ext}
 use Rattle.refusal.specs.Refusal.{Verdict}
 use Rattle.header.specs.declared.fields.Field.{Field}
 use Rattle.header.specs.declared.value.DiscHeader.{DiscHeader}
 use Rattle.header.specs.Fields.{fields, game_code_field, maker_code_field, disc_id_field, version_field, audio_streaming_field, stream_buffer_size_field, unused00a_field, wii_magic_field, gcn_magic_field, game_name_field, debug_monitor_offset_field, debug_monitor_addr_field, unused408_field, dol_offset_field, fst_offset_field, fst_size_field, fst_max_size_field, user_position_field, user_size_field, disc_size_field, unused43c_field}
 use Rattle.header.specs.Inner.Judged.{nth}
 use Rattle.header.specs.Verdicts.{gcn_magic, wii_magic, word_of, header_verdict}
-use Rattle.header.specs.Header.{bytes_of, byte_of, header_of, header_answer, header_read, field_bytes, put_fields, put_header, header_written}
+use Rattle.header.specs.Header.{bytes_of, byte_of, header_of, header_read, field_bytes, put_fields, put_header, header_written}
 use Rattle.header.specs.Laws.FieldTests.{GoodHeader, header-passed, header-passes}
 use Rattle.header.specs.Laws.Tiling.{fields-tile, tile-start, tile-rest, tile-le, tile}
+use Rattle.endian.specs.Laws.Stays.{put-span, byte-span, be32-span}
+use Rattle.std.specs.Result.{result_and}
 
 -- ---- fields that tile, and bytes that fill them
 
@@ -76,11 +77,6 @@ put_fields-in a b (f ∷ fs) (bs ∷ bss) image t s fits zero h =
 put_fields-in a b (f ∷ fs) (bs ∷ bss) image t s fits (suc k) h =
     put_fields-in (a + f.len) b fs bss (put image f.at bs) (tile-rest a b f fs t) s.1 (still a b f fs t bs s.0 image fits) k (omega arith)
 
--- a span put back where it is changes nothing
-put-span : (s : List ℕ) (at n : ℕ) → at + n ≤ length s → put s at (span s at n) ≡ s
-unfolding put
-put-span s at n h = rw (length-span s at n h, ← drop-drop n at s, take-append-drop n (drop at s)) (take-append-drop at s)
-
 put-spans : (a b : ℕ) (fs : List Field) (image : List ℕ) → tile a b fs ≡ true → b ≤ length image → put_fields fs (map (λ (f : Field). bytes_of f image) fs) image ≡ image
 unfolding put_fields
 put-spans a b [] image t fits = refl
@@ -89,9 +85,6 @@ put-spans a b (f ∷ fs) image t fits =
     rw (put-span image f.at f.len h) (put-spans (a + f.len) b fs image (tile-rest a b f fs t) fits)
 
 -- ---- bytes and words of a span
-
-byte-span : (s : List ℕ) (at : ℕ) → at + 1 ≤ length s → span s at 1 ≡ get_or s at 0 ∷ []
-byte-span s at h = span-cons s at 0 (omega arith)
 
 read_byte : (s : List ℕ) (at v : ℕ) → span s at 1 ≡ v ∷ [] → get_or s at 0 ≡ v
 read_byte s at v e = rw (add-zero at) at (sym (get_d-span s at 1 0 (omega arith))) ∙ ap (λ (l : List ℕ). get_or l 0 0) e
@@ -102,40 +95,6 @@ read_word s at v e small =
     let g : (i : ℕ) → i < 4 → get_or s (at + i) 0 ≡ get_or (be32_bytes v) i 0 = λ i h. sym (get_d-span s at 4 i h) ∙ ap (λ (l : List ℕ). get_or l i 0) e in
     rw (rw (add-zero at) at (g 0 (omega arith)), g 1 (omega arith), g 2 (omega arith), g 3 (omega arith)) (be32-value v small)
 
-low : (m d : ℕ) → d < 256 → (m * 256 + d) % 256 ≡ d
-low m d h = omega arith
-
-high : (m d : ℕ) → d < 256 → (m * 256 + d) / 256 ≡ m
-high m d h = omega arith
-
--- the bytes of a number of four bytes are those bytes
-spelt : (a b c d : ℕ) → b < 256 → c < 256 → d < 256 → a < 256 → be32_bytes (((a * 256 + b) * 256 + c) * 256 + d) ≡ a ∷ b ∷ c ∷ d ∷ []
-spelt a b c d hb hc hd ha =
-    let n : ℕ = ((a * 256 + b) * 256 + c) * 256 + d in
-    let e₁ : n / 256 ≡ (a * 256 + b) * 256 + c = high ((a * 256 + b) * 256 + c) d hd in
-    let e₂ : n / 65536 ≡ a * 256 + b = sym (div-div-eq-div-mul n 256 256) ∙ ap (λ (m : ℕ). m / 256) e₁ ∙ high (a * 256 + b) c hc in
-    let e₃ : n / 16777216 ≡ a = sym (div-div-eq-div-mul n 65536 256) ∙ ap (λ (m : ℕ). m / 256) e₂ ∙ high a b hb in
-    let f₃ : n / 16777216 % 256 ≡ a = rw e₃ (omega arith) in
-    let f₂ : n / 65536 % 256 ≡ b = rw e₂ (low a b hb) in
-    let f₁ : n / 256 % 256 ≡ c = rw e₁ (low (a * 256 + b) c hc) in
-    let f₀ : n % 256 ≡ d = low ((a * 256 + b) * 256 + c) d hd in
-    λ i. f₃ i ∷ f₂ i ∷ f₁ i ∷ f₀ i ∷ []
-
-word-span : (s : List ℕ) (at : ℕ) → AllBytes s → at + 4 ≤ length s → be32_bytes (be32 s at) ≡ span s at 4
-unfolding be32
-word-span s at b h =
-    let x : ℕ = get_or s at 0 in
-    let y : ℕ = get_or s (at + 1) 0 in
-    let z : ℕ = get_or s (at + 2) 0 in
-    let w : ℕ = get_or s (at + 3) 0 in
-    let e : x * 16777216 + y * 65536 + z * 256 + w ≡ ((x * 256 + y) * 256 + z) * 256 + w = omega arith in
-    let a₁ : at + 1 ≡ suc at = omega arith in
-    let a₂ : at + 2 ≡ suc (suc at) = omega arith in
-    let a₃ : at + 3 ≡ suc (suc (suc at)) = omega arith in
-    let l : span s at 4 ≡ x ∷ y ∷ z ∷ w ∷ [] =
-    rw (a₁, a₂, a₃, span-cons s at 3 (omega arith), span-cons s (suc at) 2 (omega arith), span-cons s (suc (suc at)) 1 (omega arith), span-cons s (suc (suc (suc at))) 0 (omega arith)) in
-    ap be32_bytes e ∙ spelt x y z w (b (at + 1)) (b (at + 2)) (b (at + 3)) (b at) ∙ sym l
-
 -- ---- read and written back
 
 module _ (image : List ℕ) (whole : 0x440 ≤ length image) (bytes : AllBytes image) where
@@ -144,7 +103,7 @@ module _ (image : List ℕ) (whole : 0x440 ≤ length image) (bytes : AllBytes i
   unfolding fields field_bytes header_of
   spans =
       let b : (f : Field) → f.at + 1 ≤ 0x440 → byte_of f image ∷ [] ≡ span image f.at 1 = λ f h. sym (byte-span image f.at (omega arith)) in
-      let w : (f : Field) → f.at + 4 ≤ 0x440 → be32_bytes (word_of f image) ≡ span image f.at 4 = λ f h. word-span image f.at bytes (omega arith) in
+      let w : (f : Field) → f.at + 4 ≤ 0x440 → be32_bytes (word_of f image) ≡ span image f.at 4 = λ f h. be32-span image f.at bytes (omega arith) in
       λ i. bytes_of game_code_field image ∷ bytes_of maker_code_field image ∷ b disc_id_field (omega arith) i ∷ b version_field (omega arith) i ∷ b audio_streaming_field (omega arith) i ∷ b stream_buffer_size_field (omega arith) i ∷ bytes_of unused00a_field image ∷ w wii_magic_field (omega arith) i ∷ w gcn_magic_field (omega arith) i ∷ bytes_of game_name_field image ∷ w debug_monitor_offset_field (omega arith) i ∷ w debug_monitor_addr_field (omega arith) i ∷ bytes_of unused408_field image ∷ w dol_offset_field (omega arith) i ∷ w fst_offset_field (omega arith) i ∷ w fst_size_field (omega arith) i ∷ w fst_max_size_field (omega arith) i ∷ w user_position_field (omega arith) i ∷ w user_size_field (omega arith) i ∷ w disc_size_field (omega arith) i ∷ w unused43c_field (omega arith) i ∷ []
 
   pub write_read : put_header (header_of image) image ≡ image
@@ -154,7 +113,7 @@ module _ (image : List ℕ) (whole : 0x440 ≤ length image) (bytes : AllBytes i
 pub write-after-read : (image : List ℕ) (h : DiscHeader) → header_read image ≡ Ok h → AllBytes image → header_written h image ≡ image
 write-after-read image h e bytes = go (header_verdict image) refl e
   where
-    go : (v : Verdict) → header_verdict image ≡ v → header_answer v (header_of image) ≡ Ok h → header_written h image ≡ image
+    go : (v : Verdict) → header_verdict image ≡ v → result_and v (Ok (header_of image)) ≡ Ok h → header_written h image ≡ image
     go (Ok _) q r =
         let w : 0x440 ≤ length image = (header-passed image q).whole in
         let f : header_of image ≡ h = cc in

@@ -3,8 +3,8 @@
 use Rattle.std.specs.Prelude.{ℕ, zero, suc, ◌+◌, ◌-◌, ◌*◌, ◌/◌, ◌%◌, ◌<◌, ◌≤◌, ◌≡◌, refl, Bool, true, false, cond, ◌&&◌, List, [], ◌∷◌, ◌++◌, length, get_or, ltb, leb}
 use Rattle.std.proofs.Common.{sym, ap, ◌∙◌, arith, ltb-true, ltb-false, lt-ltb, le-ltb, le-leb, length-append}
 use Rattle.std.proofs.Math.ListN.{get_or-append}
-use Rattle.tree.specs.Table.{every}
 use Rattle.listing.specs.Decimal.{digits, decimal}
+use Rattle.std.specs.List.{list_all}
 
 -- ---- a number and its last digit
 
@@ -68,27 +68,27 @@ decimal-spells n = digits-spell (suc n) n (omega arith)
 abbrev pub is_digit : ℕ → Bool
 is_digit b = leb 0x30 b && leb b 0x39
 
-every_append : (a b : List ℕ) → every is_digit a ≡ true → every is_digit b ≡ true → every is_digit (a ++ b) ≡ true
-every_append [] b p q = q
-every_append (d ∷ a) b p q = go (is_digit d) p (every_append a b)
+list_all_append : (a b : List ℕ) → list_all is_digit a ≡ true → list_all is_digit b ≡ true → list_all is_digit (a ++ b) ≡ true
+list_all_append [] b p q = q
+list_all_append (d ∷ a) b p q = go (is_digit d) p (list_all_append a b)
   where
-    go : (t : Bool) → (t && every is_digit a) ≡ true → (every is_digit a ≡ true → every is_digit b ≡ true → every is_digit (a ++ b) ≡ true) → (t && every is_digit (a ++ b)) ≡ true
+    go : (t : Bool) → (t && list_all is_digit a) ≡ true → (list_all is_digit a ≡ true → list_all is_digit b ≡ true → list_all is_digit (a ++ b) ≡ true) → (t && list_all is_digit (a ++ b)) ≡ true
     go true r ih = ih r q
     go false r ih = r
 
-digit-is : (n : ℕ) → n < 10 → every is_digit ((0x30 + n) ∷ []) ≡ true
+digit-is : (n : ℕ) → n < 10 → list_all is_digit ((0x30 + n) ∷ []) ≡ true
 digit-is n h = rw (le-leb 0x30 (0x30 + n) (omega arith), le-leb (0x30 + n) 0x39 (omega arith))
 
-digits-digits : (f n : ℕ) → every is_digit (digits f n) ≡ true
+digits-digits : (f n : ℕ) → list_all is_digit (digits f n) ≡ true
 unfolding digits
 digits-digits zero n = refl
 digits-digits (suc f) n = go (ltb n 10) refl (digits-digits f (n / 10))
   where
-    go : (t : Bool) → ltb n 10 ≡ t → every is_digit (digits f (n / 10)) ≡ true → every is_digit (cond t ((0x30 + n) ∷ []) (digits f (n / 10) ++ ((0x30 + n % 10) ∷ []))) ≡ true
+    go : (t : Bool) → ltb n 10 ≡ t → list_all is_digit (digits f (n / 10)) ≡ true → list_all is_digit (cond t ((0x30 + n) ∷ []) (digits f (n / 10) ++ ((0x30 + n % 10) ∷ []))) ≡ true
     go true e ih = digit-is n (ltb-true n 10 e)
-    go false e ih = every_append (digits f (n / 10)) ((0x30 + n % 10) ∷ []) ih (digit-is (n % 10) (omega arith))
+    go false e ih = list_all_append (digits f (n / 10)) ((0x30 + n % 10) ∷ []) ih (digit-is (n % 10) (omega arith))
 
-pub decimal-digits : (n : ℕ) → every is_digit (decimal n) ≡ true
+pub decimal-digits : (n : ℕ) → list_all is_digit (decimal n) ≡ true
 decimal-digits n = digits-digits (suc n) n
 
 -- ---- only 0 begins with `0`

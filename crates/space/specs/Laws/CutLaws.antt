@@ -10,7 +10,7 @@ use Rattle.std.proofs.Math.Dec.{leb, eqb}
 use Rattle.space.specs.declared.region.DiscRegion.{DiscRegion}
 use Rattle.space.specs.Used.{end_of, inside}
 use Rattle.space.specs.Free.{join, runs, largest_size}
-use Rattle.space.specs.Laws.RunLaws.{FirstFrom, runs-from}
+use Rattle.space.specs.Laws.RunLaws.{FirstFrom, runs-from, from_le}
 use Rattle.space.specs.Laws.UsedLaws.{inside-low, inside-in, inside-high}
 use Rattle.refusal.specs.Laws.Tests.{lt-or-le}
 use Rattle.space.specs.Inner.Scan.{longest_beside}
@@ -32,10 +32,6 @@ join-append i (x ∷ xs) ys f = go (eqb x.offset (suc i))
     go true = refl
     go false = refl
 
-first-le : (i j : ℕ) (rs : List DiscRegion) → i ≤ j → FirstFrom j rs → FirstFrom i rs
-first-le i j [] h f = tt
-first-le i j (r ∷ rs) h f = omega arith
-
 runs_append : (p : ℕ → Bool) (i a b : ℕ) → FirstFrom (suc (i + a)) (runs p (i + a) b) → runs p i (a + b) ≡ runs p i a ++ runs p (i + a) b
 unfolding runs
 runs_append p i zero b f = let z : 0 + b ≡ b = omega arith in rw (z, add-zero)
@@ -47,7 +43,7 @@ runs_append p i (suc a) b f =
   where
     go : FirstFrom (suc (suc i + a)) (runs p (suc i + a) b) → (t : Bool) →
         cond t (join i (runs p (suc i) a ++ runs p (suc i + a) b)) (runs p (suc i) a ++ runs p (suc i + a) b) ≡ cond t (join i (runs p (suc i) a)) (runs p (suc i) a) ++ runs p (suc i + a) b
-    go g true = join-append i (runs p (suc i) a) (runs p (suc i + a) b) (first-le (suc (suc i)) _ (runs p (suc i + a) b) (omega arith) g)
+    go g true = join-append i (runs p (suc i) a) (runs p (suc i + a) b) (from_le (suc (suc i)) _ (runs p (suc i + a) b) (omega arith) g)
     go g false = refl
 
 runs-false-first : (p : ℕ → Bool) (i n : ℕ) → p i ≡ false → FirstFrom (suc i) (runs p i n)

@@ -1,13 +1,14 @@
 -- The marks of the blocks of 1,024 bytes that the texts of a table are cut into. Assumes nothing: these are definitions.
 use Rattle.std.specs.Prelude.{Option, Some, None, ℕ, ◌+◌, ◌*◌, ◌/◌, ◌%◌, ◌≤◌, ◌≡◌, Bool, true, false, List, length, slice_index_or}
 use Rattle.tree.specs.Units.{units}
-use Rattle.tree.specs.Table.{every, plain_unit, safe_unit}
+use Rattle.tree.specs.Table.{plain_unit, safe_unit}
 use Rattle.table.specs.Inner.Texts.{text_at, clean_from, HasNoLead}
+use Rattle.std.specs.List.{list_all}
 
 -- no unit of the text at `at` is one that a name is refused for
 pub record IsFit (tab : List ℕ) (at : ℕ) : Type 0 where
-  pub plain : every plain_unit (units (text_at tab at)) ≡ true
-  pub safe : every safe_unit (units (text_at tab at)) ≡ true
+  pub plain : list_all plain_unit (units (text_at tab at)) ≡ true
+  pub safe : list_all safe_unit (units (text_at tab at)) ≡ true
 
 -- the place that a mark is about: two to a block, its first byte and its second
 abbrev pub mark_place : ℕ → ℕ

@@ -1,7 +1,8 @@
 -- The texts of a table and the units that a name may have, as the functions look at them. Assumes nothing: these are definitions.
 use Rattle.std.specs.Prelude.{ℕ, ◌<◌, ◌≤◌, ◌≡◌, Bool, true, false, ◌&&◌, ◌||◌, List, [], ◌∷◌, length, drop, ◌==◌, slice_index}
 use Rattle.tree.specs.Units.{lead_byte, TextUnit, single, pair, units}
-use Rattle.tree.specs.Table.{every, plain_byte, safe_byte, dots, up_to0}
+use Rattle.tree.specs.Table.{plain_byte, safe_byte, dots, up_to0}
+use Rattle.std.specs.List.{list_all}
 
 -- the text that starts at byte `at` of a table
 abbrev pub text_at : List ℕ → ℕ → List ℕ
@@ -27,7 +28,7 @@ end_unit (pair a b) = false
 
 -- all bytes from `from` on, zero bytes too, cut into units from there
 unfoldable pub clean_from : List ℕ → ℕ → Bool
-clean_from tab from = every clean_unit (units (drop from tab))
+clean_from tab from = list_all clean_unit (units (drop from tab))
 
 -- no lead byte stands from `from` up to `end`
 pub record HasNoLead (tab : List ℕ) (from end : ℕ) : Type 0 where

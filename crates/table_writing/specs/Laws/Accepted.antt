@@ -1,14 +1,16 @@
 -- A table that is accepted has what the writers ask for. Assumes nothing.
 use Rattle.std.specs.Prelude.{Ok}
 use Rattle.std.specs.Prelude.{ℕ, zero, suc, ◌+◌, ◌-◌, ◌*◌, ◌≤◌, ◌<◌, ◌≡◌, refl, Bool, true, false, cond, not, ◌&&◌, List, [], ◌∷◌, length, get_or, drop, leb, ltb, eqb}
-use Rattle.std.proofs.Common.{sym, ◌∙◌, ⊎_elim, arith, lt-ltb, ltb-false, leb-true, leb-false, eqb-true, le-leb, get_or-drop}
-use Rattle.std.proofs.lemmas.Bool.{eqb-false, lt-leb}
+use Rattle.std.proofs.Common.{sym, ◌∙◌, ⊎_elim, arith, ltb-false, leb-true, leb-false, le-leb, get_or-drop}
+use Rattle.std.proofs.lemmas.Bool.{eqb-false}
 use Rattle.refusal.specs.Laws.Tests.{lt-or-le}
 use Rattle.refusal.specs.declared.Refusal.TheVariants.{EntryPastTable, UnrecognizedKind, RootIsNotDirectory, MissingNullTerminator, LimitOrMemory, InvalidNextIndex, InvalidNameOffset}
 use Rattle.refusal.specs.Refusal.{refuse}
 use Rattle.refusal.specs.Laws.Chains.{refuse-passed, first-passed}
 use Rattle.tree.specs.Table.{Node, file, directory, name_of, kind, name_offset, size_or_next, count, up_to0, name_at, node_at, nodes_from, entry_verdict, entries_verdict, unended, top, shut, enter, name_verdict, next_verdict, walk, check}
 use Rattle.table_writing.specs.Inner.Valid.{name_size, Nests, IsValid}
+use Rattle.tree.proofs.Laws.Accepted.{not-unended}
+use Rattle.tree.proofs.Laws.Steps.{shut-pop, shut_open}
 
 -- ---- the first zero byte is not behind any zero byte
 
@@ -74,14 +76,6 @@ shut-shut k j (n ∷ dirs) h = go (leb n k) refl (shut-shut k j dirs h)
     go true e ih = rw (le-leb n j (omega (arith, leb-true n k e))) ih
     go false e ih = refl
 
-shut_open : (j n : ℕ) (dirs : List ℕ) → j < n → shut j (n ∷ dirs) ≡ n ∷ dirs
-unfolding shut
-shut_open j n dirs h = rw (lt-leb n j h)
-
-shut-past : (j n : ℕ) (dirs : List ℕ) → n ≤ j → shut j (n ∷ dirs) ≡ shut j dirs
-unfolding shut
-shut-past j n dirs h = rw (le-leb n j h)
-
 -- from entry k up to b, the innermost directory that is open ends at b or before it
 abbrev Under : ℕ → ℕ → List ℕ → Type 0
 Under b k dirs = (j : ℕ) → k ≤ j → j < b → top (shut j dirs) ≤ b
@@ -93,7 +87,7 @@ under-step b c k dirs (directory nm next) e u j p q =
     (λ (h : j < next).
     let s = next-says c (shut k dirs) k nm next e in
     rw (shut_open j next (shut k dirs) h) (omega (arith, s.2, u k (omega arith) (omega arith))))
-    (λ (h : next ≤ j). rw (shut-past j next (shut k dirs) h, shut-shut k j dirs (omega arith)) (u j (omega arith) q))
+    (λ (h : next ≤ j). rw (shut-pop j next (shut k dirs) h, shut-shut k j dirs (omega arith)) (u j (omega arith) q))
     (lt-or-le j next)
 
 node-directory : (tab : List ℕ) (c k : ℕ) → kind tab k ≡ 1 → node_at tab c k ≡ directory (name_at tab c (name_offset tab k)) (size_or_next tab k)
@@ -201,10 +195,6 @@ counted : (tab : List ℕ) → 0 < size_or_next tab 0 → size_or_next tab 0 ≡
 unfolding count
 counted tab h = omega arith
 
-last-zero : (tab : List ℕ) (c : ℕ) → unended tab c ≡ false → 12 * c < length tab → get_or tab (length tab - 1) 0 ≡ 0
-unfolding unended
-last-zero tab c e h = eqb-true (get_or tab (length tab - 1) 0) 0 (ended (ltb (12 * c) (length tab)) (eqb (get_or tab (length tab - 1) 0) 0) (lt-ltb (12 * c) (length tab) h) e)
-
 root-nests : (tab : List ℕ) → size_or_next tab 0 ≡ count tab → 0 < count tab → walk tab (count tab) (count tab ∷ []) 1 (nodes_from tab (count tab) 1 (count tab - 1)) ≡ Ok tt → Nests tab (count tab) 0
 root-nests tab r some w =
     record {
@@ -232,5 +222,5 @@ accepted-valid tab words e =
       nested = λ i p h. ⊎_elim (λ (q : 0 < i). nests tab n (n - 1) 1 (n ∷ []) (omega arith) t.walked i (omega arith) p h) (λ (q : i ≤ 0). let z : 0 ≡ i = omega arith in rw (sym z) (root-nests tab r some t.walked)) (lt-or-le 0 i);
       named = λ i p q.
           let o = names tab n (n - 1) 1 (n ∷ []) t.walked i (omega arith) (omega arith) in
-          name-ends tab n i (omega arith) (last-zero tab n t.last (omega arith));
+          name-ends tab n i (omega arith) (not-unended tab n t.last (omega arith));
     }

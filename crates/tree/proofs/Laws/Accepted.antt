@@ -102,7 +102,7 @@ pub length-nodes_of : (tab : List ℕ) → length (nodes_of tab) ≡ count tab
 unfolding nodes_of count
 length-nodes_of tab = omega (arith, length-nodes_from tab (count tab) 1 (count tab - 1))
 
-get_d-nodes_from : (tab : List ℕ) (c k n i : ℕ) → i < n → get_or (nodes_from tab c k n) i none ≡ node_at tab c (k + i)
+pub get_d-nodes_from : (tab : List ℕ) (c k n i : ℕ) → i < n → get_or (nodes_from tab c k n) i none ≡ node_at tab c (k + i)
 unfolding nodes_from
 get_d-nodes_from tab c k zero i h = absurd (omega arith)
 get_d-nodes_from tab c k (suc n) zero h = rw add-zero
@@ -118,7 +118,7 @@ get_d-nodes_of tab (suc i) h l = get_d-nodes_from tab (count tab) 1 (count tab -
 
 -- ---- the whole
 
-not-unended : (tab : List ℕ) (c : ℕ) → unended tab c ≡ false → 12 * c < length tab → get_or tab (length tab - 1) 0 ≡ 0
+pub not-unended : (tab : List ℕ) (c : ℕ) → unended tab c ≡ false → 12 * c < length tab → get_or tab (length tab - 1) 0 ≡ 0
 unfolding unended
 not-unended tab c e h =
     let e' : (true && not (eqb (get_or tab (length tab - 1) 0) 0)) ≡ false = rw (lt-ltb (12 * c) (length tab) h) at e in
@@ -177,3 +177,11 @@ accepted tab words bytes e =
     go zero h f = absurd (f refl)
     go (suc zero) h f = refl
     go (suc (suc n)) h f = absurd (omega arith)
+
+pub name_of-node_with : (n : ℕ) (nm : List ℕ) (a b : ℕ) → name_of (node_with n nm a b) ≡ nm
+name_of-node_with zero nm a b = refl
+name_of-node_with (suc n) nm a b = refl
+
+pub name_of-node_at : (tab : List ℕ) (c k : ℕ) → name_of (node_at tab c k) ≡ name_at tab c (name_offset tab k)
+unfolding node_at
+name_of-node_at tab c k = name_of-node_with (kind tab k) _ _ _

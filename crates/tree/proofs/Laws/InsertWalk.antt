@@ -13,16 +13,12 @@ use Rattle.tree.specs.Insert.{bump, earlier, later, splice}
 use Rattle.tree.proofs.Laws.Steps.{shut_open, shut-pop}
 pub use Rattle.tree.proofs.Laws.InsertedList.{Fresh, bump-min, shifted-min, name-earlier, name-later}
 use Rattle.tree.proofs.Laws.OpenDirectories.{open_at}
+use Rattle.refusal.specs.Laws.Tests.{and-swap}
 
 -- a directory at depth d is not too deep
 abbrev pub depth_ok : ℕ → Node → Bool
 depth_ok d (file nm offset size) = true
 depth_ok d (directory nm next) = leb d 64
-
-and-swap : (a b c : Bool) → (a && (b && c)) ≡ (b && (a && c))
-and-swap true b c = refl
-and-swap false true c = refl
-and-swap false false c = refl
 
 -- ---- `bump` and `shut`
 

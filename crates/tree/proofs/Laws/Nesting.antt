@@ -70,7 +70,7 @@ unfolding parent_of
 parent_is nodes k d h f = below_last nodes k d k h.0 h.1 f
 
 -- no directory between its parent and an entry encloses it
-below-clear : (nodes : List Node) (k i j : ℕ) → parent_below nodes k i < j → j < i → encloses (get_or nodes j none) k ≡ false
+pub below-clear : (nodes : List Node) (k i j : ℕ) → parent_below nodes k i < j → j < i → encloses (get_or nodes j none) k ≡ false
 below-clear nodes k zero j h l = absurd (omega arith)
 below-clear nodes k (suc i) j h l = go (encloses (get_or nodes i none) k) refl (below-clear nodes k i j)
   where

@@ -130,11 +130,11 @@ unfolding record_after
 after_read tab q grow k par o (file nm offset size) f = rw (f.0, f.1, f.2, f.3)
 after_read tab q grow k par o (directory nm next) f = rw (f.0, f.1, f.2, f.3)
 
-offset_read : (tab : List ℕ) (k par o : ℕ) (x : Node) → Fields tab k par o x → name_offset tab k ≡ o
+pub offset_read : (tab : List ℕ) (k par o : ℕ) (x : Node) → Fields tab k par o x → name_offset tab k ≡ o
 offset_read tab k par o (file nm offset size) f = f.1
 offset_read tab k par o (directory nm next) f = f.1
 
-next-read : (tab : List ℕ) (k par o n : ℕ) (nm : List ℕ) (x : Node) → Fields tab k par o x → x ≡ directory nm n → size_or_next tab k ≡ n
+pub next-read : (tab : List ℕ) (k par o n : ℕ) (nm : List ℕ) (x : Node) → Fields tab k par o x → x ≡ directory nm n → size_or_next tab k ≡ n
 next-read tab k par o n nm (file a b c) f e = let z : ◌≡◌ {A = ℕ} 0 1 = cc in absurd (omega arith)
 next-read tab k par o n nm (directory a m) f e = f.3 ∙ ap next_of e
 

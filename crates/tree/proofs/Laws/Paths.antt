@@ -11,8 +11,9 @@ use Rattle.refusal.specs.Laws.Tests.{and_left, and_right}
 use Rattle.refusal.specs.declared.Refusal.TheVariants.{NoSuchEntry, ExpectedDirectory}
 use Rattle.tree.specs.Units.{lead_byte, trail_byte, TextUnit, single, pair, unit_bytes, units}
 use Rattle.tree.proofs.Laws.UnitLaws.{by_units, units-then}
-use Rattle.tree.specs.Table.{Node, none, every, safe_byte, safe_unit, dots, safe}
+use Rattle.tree.specs.Table.{Node, none, safe_byte, safe_unit, dots, safe}
 use Rattle.tree.specs.Lookup.{is_directory, separator, separates, longer, components_of, components, child_of, stays, goes_back, and_then, step_back, follow, lookup}
+use Rattle.std.specs.List.{list_all}
 
 -- ---- names
 
@@ -24,22 +25,22 @@ no-separator b e = go (eqb b 0x2F) (eqb b 0x5C) (eqb b 0x3A) e
     go false true z e = let n : ◌≡◌ {A = ℕ} 0 1 = cc in absurd (omega arith)
     go false false z e = refl
 
-one-component : (nm : List ℕ) → every safe_unit (units nm) ≡ true → components nm ≡ nm ∷ []
+one-component : (nm : List ℕ) → list_all safe_unit (units nm) ≡ true → components nm ≡ nm ∷ []
 unfolding components components_of units
 one-component nm e = by_units One none_left of_pair of-single nm e
   where
     One : List ℕ → Type 0
-    One s = every safe_unit (units s) ≡ true → components_of (units s) ≡ s ∷ []
+    One s = list_all safe_unit (units s) ≡ true → components_of (units s) ≡ s ∷ []
 
     none_left : One []
     none_left q = refl
 
     of_pair : (a b : ℕ) (s : List ℕ) → lead_byte a ≡ true → trail_byte b ≡ true → units (a ∷ b ∷ s) ≡ pair a b ∷ units s → One s → One (a ∷ b ∷ s)
-    of_pair a b s l t u ih q = let x : every safe_unit (units s) ≡ true = rw u at q in rw (u, ih x)
+    of_pair a b s l t u ih q = let x : list_all safe_unit (units s) ≡ true = rw u at q in rw (u, ih x)
 
     of-single : (a : ℕ) (s : List ℕ) → units (a ∷ s) ≡ single a ∷ units s → One s → One (a ∷ s)
     of-single a s u ih q =
-        let x : (safe_byte a && every safe_unit (units s)) ≡ true = rw u at q in
+        let x : (safe_byte a && list_all safe_unit (units s)) ≡ true = rw u at q in
         rw (u, no-separator a (and_left (safe_byte a) _ x), ih (and_right (safe_byte a) _ x))
 
 pub record Name (nm : List ℕ) : Type 0 where

@@ -5,12 +5,13 @@ use Rattle.std.proofs.Common.{ap, ◌∙◌, arith}
 use Rattle.std.proofs.lemmas.Bool.{not-true}
 use Rattle.refusal.specs.Laws.Tests.{and_left, and_right, is_false}
 use Rattle.tree.specs.Units.{within, lead_byte, TextUnit, single, units}
-use Rattle.tree.specs.Table.{every, plain_byte, safe_byte, plain_unit, safe_unit, plain, dots, safe}
+use Rattle.tree.specs.Table.{plain_byte, safe_byte, plain_unit, safe_unit, plain, dots, safe}
 use Rattle.tree.specs.Lookup.{separator, longer, components_of, components}
 use Rattle.tree.proofs.Laws.UnitLaws.{within-is, lead_is}
+use Rattle.std.specs.List.{list_all}
 
 abbrev pub leadless : List ℕ → Bool
-leadless s = every (λ (b : ℕ). not (lead_byte b)) s
+leadless s = list_all (λ (b : ℕ). not (lead_byte b)) s
 
 -- LAW: each byte is a unit
 pub each-single : (s : List ℕ) → leadless s ≡ true → units s ≡ map single s
@@ -20,18 +21,18 @@ each-single (a ∷ []) e = refl
 each-single (a ∷ b ∷ s) e =
     rw (not-true (lead_byte a) (and_left (not (lead_byte a)) _ e)) (ap (λ (l : List TextUnit). single a ∷ l) (each-single (b ∷ s) (and_right (not (lead_byte a)) _ e)))
 
-every-single : (p : TextUnit → Bool) (s : List ℕ) → every p (map single s) ≡ every (λ (b : ℕ). p (single b)) s
-every-single p [] = refl
-every-single p (b ∷ s) = rw (every-single p s)
+list_all-single : (p : TextUnit → Bool) (s : List ℕ) → list_all p (map single s) ≡ list_all (λ (b : ℕ). p (single b)) s
+list_all-single p [] = refl
+list_all-single p (b ∷ s) = rw (list_all-single p s)
 
 -- LAW: a name is judged byte by byte
-pub plain-leadless : (nm : List ℕ) → leadless nm ≡ true → plain nm ≡ every plain_byte nm
+pub plain-leadless : (nm : List ℕ) → leadless nm ≡ true → plain nm ≡ list_all plain_byte nm
 unfolding plain
-plain-leadless nm e = rw (each-single nm e) (every-single plain_unit nm)
+plain-leadless nm e = rw (each-single nm e) (list_all-single plain_unit nm)
 
-pub safe-leadless : (a : ℕ) (nm : List ℕ) → leadless (a ∷ nm) ≡ true → safe (a ∷ nm) ≡ (not (dots (a ∷ nm)) && every safe_byte (a ∷ nm))
+pub safe-leadless : (a : ℕ) (nm : List ℕ) → leadless (a ∷ nm) ≡ true → safe (a ∷ nm) ≡ (not (dots (a ∷ nm)) && list_all safe_byte (a ∷ nm))
 unfolding safe
-safe-leadless a nm e = rw (each-single (a ∷ nm) e, every-single safe_unit (a ∷ nm))
+safe-leadless a nm e = rw (each-single (a ∷ nm) e, list_all-single safe_unit (a ∷ nm))
 
 -- ---- "the path is cut at `/` and `\`", byte by byte
 
@@ -60,13 +61,13 @@ components-leadless path e = rw (each-single path e) (cut-single path)
 
 -- ---- bytes below 0x80
 
-below-leadless : (s : List ℕ) → every (within 0 0x7F) s ≡ true → leadless s ≡ true
+below-leadless : (s : List ℕ) → list_all (within 0 0x7F) s ≡ true → leadless s ≡ true
 below-leadless [] e = refl
 below-leadless (b ∷ s) e =
     let r = within-is 0 0x7F b (and_left (within 0 0x7F b) _ e) in
     rw (is_false (lead_byte b) (λ t. omega (arith, r.1, (lead_is b t).0))) (below-leadless s (and_right (within 0 0x7F b) _ e))
 
-below_plain : (s : List ℕ) → every (within 0 0x7F) s ≡ true → every plain_byte s ≡ every (within 0x20 0x7E) s
+below_plain : (s : List ℕ) → list_all (within 0 0x7F) s ≡ true → list_all plain_byte s ≡ list_all (within 0x20 0x7E) s
 below_plain [] e = refl
 below_plain (b ∷ s) e =
     let r = within-is 0 0x7F b (and_left (within 0 0x7F b) _ e) in
@@ -78,5 +79,5 @@ below_plain (b ∷ s) e =
     or-none false = refl
 
 -- LAW: "one or more bytes 0x20 to 0x7E"
-pub plain-below : (nm : List ℕ) → every (within 0 0x7F) nm ≡ true → plain nm ≡ every (within 0x20 0x7E) nm
+pub plain-below : (nm : List ℕ) → list_all (within 0 0x7F) nm ≡ true → plain nm ≡ list_all (within 0x20 0x7E) nm
 plain-below nm e = plain-leadless nm (below-leadless nm e) ∙ below_plain nm e

@@ -9,10 +9,11 @@ use Rattle.std.proofs.Math.ListN.{length, get_or, drop, length-drop}
 use Rattle.endian.specs.Bytes.{span}
 use Rattle.refusal.specs.Laws.Tests.{and_right}
 use Rattle.tree.specs.Units.{within}
-use Rattle.tree.specs.Table.{every, up_to0, name_at}
+use Rattle.tree.specs.Table.{up_to0, name_at}
+use Rattle.std.specs.List.{list_all}
 
 -- a name of bytes that are not zero, and its zero byte
-pub up_to0-name : (nm r : List ℕ) → every (within 0x20 0xFC) nm ≡ true → up_to0 (nm ++ (0 ∷ r)) ≡ nm
+pub up_to0-name : (nm r : List ℕ) → list_all (within 0x20 0xFC) nm ≡ true → up_to0 (nm ++ (0 ∷ r)) ≡ nm
 up_to0-name [] r e = refl
 up_to0-name (zero ∷ nm) r e = cc
 up_to0-name (suc b ∷ nm) r e = ap (λ (l : List ℕ). suc b ∷ l) (up_to0-name nm r (and_right (within 0x20 0xFC (suc b)) _ e))
@@ -63,3 +64,9 @@ module _ (tab : List ℕ) (c o : ℕ) where
       let a : 12 * c + o + (length s - 1) ≡ length tab - 1 = omega arith in
       let e = up_to0-ends s (omega arith) (get_or-drop (12 * c + o) tab (length s - 1) 0 ∙ ap (λ (n : ℕ). get_or tab n 0) a ∙ z) in
       (omega arith, sym (get_or-drop (12 * c + o) tab (length (up_to0 s)) 0) ∙ e.1)
+
+-- as many bytes as it has are the text
+pub take-up_to0 : (s : List ℕ) → take (length (up_to0 s)) s ≡ up_to0 s
+take-up_to0 [] = refl
+take-up_to0 (zero ∷ s) = refl
+take-up_to0 (suc b ∷ s) = ap (λ (t : List ℕ). suc b ∷ t) (take-up_to0 s)

@@ -9,8 +9,9 @@ use native.Mathlib.Omega.{arith}
 use Rattle.std.proofs.Math.ListN.{length}
 use Rattle.refusal.specs.Laws.Tests.{and_left, and_right, and_both, and-false, or_cases}
 use Rattle.tree.specs.Units.{within, lead_byte, trail_byte, TextUnit, single, pair, units}
-use Rattle.tree.specs.Table.{every, plain_byte, plain_unit, plain}
+use Rattle.tree.specs.Table.{plain_byte, plain_unit, plain}
 use Rattle.tree.specs.Inner.Pairs.{pair_at}
+use Rattle.std.specs.List.{list_all}
 
 -- ---- ranges of bytes
 
@@ -103,21 +104,21 @@ plain-byte : (b : ℕ) → plain_byte b ≡ true → within 0x20 0xFC b ≡ true
 plain-byte b e = ⊎_elim (λ (r : (0x20 ≤ b) × (b ≤ 0x7E)). is_within 0x20 0xFC b (omega (arith, r.0)) (omega (arith, r.1))) (λ (r : (0xA1 ≤ b) × (b ≤ 0xDF)). is_within 0x20 0xFC b (omega (arith, r.0)) (omega (arith, r.1))) (in_either 0x20 0x7E 0xA1 0xDF b e)
 
 -- LAW: all lie between 0x20 and 0xFC, so that none is 0
-pub plain-bytes : (nm : List ℕ) → plain nm ≡ true → every (within 0x20 0xFC) nm ≡ true
+pub plain-bytes : (nm : List ℕ) → plain nm ≡ true → list_all (within 0x20 0xFC) nm ≡ true
 unfolding plain
 plain-bytes nm e = by_units Held (λ q. refl) of_pair of-single nm e
   where
     Held : List ℕ → Type 0
-    Held s = every plain_unit (units s) ≡ true → every (within 0x20 0xFC) s ≡ true
+    Held s = list_all plain_unit (units s) ≡ true → list_all (within 0x20 0xFC) s ≡ true
 
     of_pair : (a b : ℕ) (s : List ℕ) → lead_byte a ≡ true → trail_byte b ≡ true → units (a ∷ b ∷ s) ≡ pair a b ∷ units s → Held s → Held (a ∷ b ∷ s)
     of_pair a b s l t u ih q =
-        let x : every plain_unit (units s) ≡ true = rw u at q in
+        let x : list_all plain_unit (units s) ≡ true = rw u at q in
         let la = lead_is a l in
         let tb = trail_is b t in
         rw (is_within 0x20 0xFC a (omega (arith, la.0)) (omega (arith, la.1)), is_within 0x20 0xFC b (omega (arith, tb.0)) (omega (arith, tb.1))) (ih x)
 
     of-single : (a : ℕ) (s : List ℕ) → units (a ∷ s) ≡ single a ∷ units s → Held s → Held (a ∷ s)
     of-single a s u ih q =
-        let x : (plain_byte a && every plain_unit (units s)) ≡ true = rw u at q in
+        let x : (plain_byte a && list_all plain_unit (units s)) ≡ true = rw u at q in
         rw (plain-byte a (and_left (plain_byte a) _ x)) (ih (and_right (plain_byte a) _ x))

@@ -2,11 +2,12 @@
 use Rattle.std.specs.Prelude.{ℕ, zero, suc, ◌+◌, ◌/◌, ◌%◌, ◌<◌, ◌≡◌, true, List, [], ◌∷◌, ◌++◌, length}
 use Rattle.std.proofs.Common.{arith}
 use Rattle.endian.specs.Bytes.{be24_bytes, be32_bytes, AllBytes}
-use Rattle.tree.specs.Table.{Node, file, directory, name_of, every, plain, shut, enter, node_bytes, parent_of, entries_bytes, texts_of, encode}
+use Rattle.tree.specs.Table.{Node, file, directory, name_of, plain, shut, enter, node_bytes, parent_of, entries_bytes, texts_of, encode}
 use Rattle.tree.specs.Units.{within}
 use Rattle.tree.specs.Inner.WellFormed.{IsSound, IsWellFormed}
 use Rattle.tree.proofs.Laws.UnitLaws.{within-is, plain-bytes}
 use Rattle.refusal.specs.Laws.Tests.{and_left, and_right}
+use Rattle.std.specs.List.{list_all}
 
 all_nil : AllBytes []
 all_nil i = omega arith
@@ -34,7 +35,7 @@ node-all : (p o : ℕ) (x : Node) → AllBytes (node_bytes p o x)
 node-all p o (file nm offset size) = fields-all 0 o offset size (omega arith)
 node-all p o (directory nm next) = fields-all 1 o p next (omega arith)
 
-within_all : (nm : List ℕ) → every (within 0x20 0xFC) nm ≡ true → AllBytes nm
+within_all : (nm : List ℕ) → list_all (within 0x20 0xFC) nm ≡ true → AllBytes nm
 within_all [] e = all_nil
 within_all (b ∷ nm) e =
     let r = within-is 0x20 0xFC b (and_left (within 0x20 0xFC b) _ e) in

@@ -6,33 +6,33 @@ use Rattle.endian.specs.Bytes.{span}
 use Rattle.endian.specs.Laws.Stored.{length-put, put_in, put-after, get_d-span}
 use Rattle.refusal.specs.declared.Refusal.TheVariants.{InvalidSeek}
 use Rattle.window.specs.declared.Window.{Window}
-use Rattle.window.specs.Window.{moved_by, move_to, judged, count_of, buffer_of}
+use Rattle.window.specs.Window.{move_to, count_of, buffer_of, window_at, position_after}
 
 -- a distance added modulo 2^64: forward and back, without and with a wrap; `negsuc n` is -(n + 1)
 module _ (p : ℕ) (small : p < 2 ^ 64) where
-  pub on : (n : ℕ) → p + n < 2 ^ 64 → moved_by p (pos n) ≡ p + n
+  pub on : (n : ℕ) → p + n < 2 ^ 64 → position_after p (pos n) ≡ p + n
   on n h = omega arith
 
-  pub on-around : (n : ℕ) → n < 2 ^ 63 → 2 ^ 64 ≤ p + n → moved_by p (pos n) ≡ p + n - 2 ^ 64
+  pub on-around : (n : ℕ) → n < 2 ^ 63 → 2 ^ 64 ≤ p + n → position_after p (pos n) ≡ p + n - 2 ^ 64
   on-around n h k = omega arith
 
-  pub back : (n : ℕ) → n < 2 ^ 63 → n < p → moved_by p (negsuc n) ≡ p - suc n
+  pub back : (n : ℕ) → n < 2 ^ 63 → n < p → position_after p (negsuc n) ≡ p - suc n
   back n h k = omega arith
 
-  pub back-around : (n : ℕ) → n < 2 ^ 63 → p ≤ n → moved_by p (negsuc n) ≡ p + 2 ^ 64 - suc n
+  pub back-around : (n : ℕ) → n < 2 ^ 63 → p ≤ n → position_after p (negsuc n) ≡ p + 2 ^ 64 - suc n
   back-around n h k = omega arith
 
 -- a seek is judged by the sum of start and the new position
 module _ (w : Window) (p : ℕ) where
-  pub judged-in : w.start + p < 2 ^ 64 → judged w p ≡ Ok (move_to w p)
-  judged-in h = let k : w.start + p ≤ 2 ^ 64 - 1 = omega arith in rw (le-ltb (2 ^ 64 - 1) (w.start + p))
+  pub window_at-in : w.start + p < 2 ^ 64 → window_at w p ≡ Ok (move_to w p)
+  window_at-in h = let k : w.start + p ≤ 2 ^ 64 - 1 = omega arith in rw (le-ltb (2 ^ 64 - 1) (w.start + p))
 
-  pub judged-out : 2 ^ 64 ≤ w.start + p → judged w p ≡ Err InvalidSeek
-  judged-out h = let k : 2 ^ 64 - 1 < w.start + p = omega arith in rw (lt-ltb (2 ^ 64 - 1) (w.start + p))
+  pub window_at-out : 2 ^ 64 ≤ w.start + p → window_at w p ≡ Err InvalidSeek
+  window_at-out h = let k : 2 ^ 64 - 1 < w.start + p = omega arith in rw (lt-ltb (2 ^ 64 - 1) (w.start + p))
 
   -- a window that starts at 0 refuses no position
-  pub from-0 : w.start ≡ 0 → p < 2 ^ 64 → judged w p ≡ Ok (move_to w p)
-  from-0 e h = judged-in (omega arith)
+  pub from-0 : w.start ≡ 0 → p < 2 ^ 64 → window_at w p ≡ Ok (move_to w p)
+  from-0 e h = window_at-in (omega arith)
 
 -- a read gives no more than was asked for, none past the window and none past the image, and stops only at one of the three
 module _ (w : Window) (there asked : ℕ) where

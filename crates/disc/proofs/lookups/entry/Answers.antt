@@ -1,11 +1,11 @@
--- `files::lookups::entry` meets its contract: what the disc answers, behind opening's tests.
+-- `disc::lookups::entry` meets its contract: what the disc answers, behind opening's tests.
 use Rattle.std.specs.Prelude.{List}
 use Rattle.tree.specs.Table.{Node}
 use Rattle.tree.specs.Lookup.{entry_found}
 use Rattle.tree.specs.declared.Found.TheVariants as found
 use Rattle.opened.specs.Laws.AnswerLaws.{not_asked}
 use Rattle.disc.specs.Files.{entry_answer}
-use Rattle.disc.proofs.AskedOfFiles.{nodes_asked}
+use Rattle.disc.proofs.Asked.{nodes_asked}
 use Rattle.disc.proofs.lookups.entry.Goals as goal
 
 pub returns-in-Ok-clause-answer : goal.returns-in-Ok-clause-answer

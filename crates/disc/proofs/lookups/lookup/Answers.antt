@@ -1,10 +1,10 @@
--- `files::lookups::lookup` meets its contract: what the disc answers, behind opening's tests.
+-- `disc::lookups::lookup` meets its contract: what the disc answers, behind opening's tests.
 use Rattle.std.specs.Prelude.{List}
 use Rattle.tree.specs.Table.{Node}
 use Rattle.tree.specs.declared.Found.TheVariants as found
 use Rattle.opened.specs.Laws.AnswerLaws.{not_asked}
 use Rattle.disc.specs.Files.{lookup_answer, path_found}
-use Rattle.disc.proofs.AskedOfFiles.{nodes_asked}
+use Rattle.disc.proofs.Asked.{nodes_asked}
 use Rattle.disc.proofs.lookups.lookup.Goals as goal
 
 pub returns-in-Ok-clause-answer : goal.returns-in-Ok-clause-answer

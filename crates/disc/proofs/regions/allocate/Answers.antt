@@ -16,4 +16,4 @@ returns-in_err-disc-clause-answer c =
 
 pub returns-clause-answer : goal.returns-clause-answer
 unfolding allocate_answer
-returns-clause-answer c = rw (← c.new-lent.ensures.memory) (free_asked Err (allocation_of c.args.align c.args.size) _ _ _ c.of_image.ensures _ c.in_ok-disc.was _ refl _ c.allocate.ensures)
+returns-clause-answer c = rw (← c.new-lent.ensures.memory) (free_asked _ _ _ c.of_image.ensures _ c.in_ok-disc.was Err (allocation_of c.args.align c.args.size) _ refl _ c.allocate.ensures)

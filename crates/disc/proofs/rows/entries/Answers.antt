@@ -1,11 +1,11 @@
--- `files::listing::entries` meets its contract: the disc's entries, behind opening's tests and the list's room.
+-- `disc::rows::entries` meets its contract: the disc's entries, behind opening's tests and the list's room.
 use Rattle.std.specs.Prelude.{Err}
 use Rattle.std.proofs.Common.{refl, ◌∙◌}
 use Rattle.std.proofs.lemmas.Result.{err_from_is_err_and}
 use Rattle.refusal.specs.declared.Refusal.{Refusal}
 use Rattle.opened.specs.Laws.AnswerLaws.{not_asked}
 use Rattle.disc.specs.Files.{entries_answer, entries_list}
-use Rattle.disc.proofs.AskedOfFiles.{rows_asked, listing_asked}
+use Rattle.disc.proofs.Asked.{rows_asked, listing_asked}
 use Rattle.disc.proofs.rows.entries.Goals as goal
 
 pub returns-in_err-disc-clause-answer : goal.returns-in_err-disc-clause-answer

@@ -22,7 +22,7 @@ pub overflow_sub-result-in-Some : goal.overflow_sub-result-in-Some
 overflow_sub-result-in-Some c = omega (arith, (ends c).long)
 
 pub returns-in-Some : goal.returns-in-Some
-returns-in-Some c = (omega (arith, (ends c).long), omega arith, (ends c).cut _ refl)
+returns-in-Some c = record { further = omega (arith, (ends c).long); within = omega arith; first = (ends c).cut _ refl }
 
 pub returns-in-None : goal.returns-in-None
 returns-in-None c =
@@ -30,4 +30,8 @@ returns-in-None c =
     let at = c.args.at in
     let ran = c.in-None.ensures.ran in
     let w = walked unit_of _ _ (λ x b q k. search rules) ran.0 c.new-units.result ran.2.0 ran.1 ran.2.1 ran.3 in
-    (c.requires, omega arith, ends-last path at c.requires c.new-units.result ran.2.0 (c.new-units.ensures ∙ ap units (whole-rest path at)) w.0 ran.2.2.0)
+    record {
+      further = c.requires;
+      within = omega arith;
+      first = ends-last path at c.requires c.new-units.result ran.2.0 (c.new-units.ensures ∙ ap units (whole-rest path at)) w.0 ran.2.2.0;
+    }

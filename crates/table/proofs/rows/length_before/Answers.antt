@@ -14,8 +14,8 @@ returns c =
     let T = a.table.now in
     let near = c.pass_text-near.result in
     let passed = c.pass_text-near.ensures in
-    let inside : near + length (text_at T near) < length T = omega (arith, c.requires.inside, passed.passed, passed.within.0) in
+    let inside : near + length (text_at T near) < length T = omega (arith, c.requires.inside, passed.passed, passed.further) in
     let behind : c.unwrap_or.result ≡ length (text_at T near) =
     c.unwrap_or.ensures
-    ∙ rw (c.zero_within.ensures, take_all (length T - near) (drop near T) (omega (arith, length-drop near T))) (before-or-with T near a.stop a.end inside (omega (arith, passed.within.1)) c.requires.ends) in
+    ∙ rw (c.zero_within.ensures, take_all (length T - near) (drop near T) (omega (arith, length-drop near T))) (before-or-with T near a.stop a.end inside (omega (arith, passed.before)) c.requires.ends) in
     omega (arith, behind, passed.passed)

@@ -2,7 +2,7 @@
 use Prim.Native.Nat.{◌+◌, ◌*◌}
 use native.Mathlib.Omega.{arith}
 use Rattle.endian.specs.Bytes.{be32_bytes}
-use Rattle.table_writing.proofs.Puts.{put-append}
+use Rattle.endian.proofs.Parts.{put-append}
 use Rattle.table_writing.proofs.patch.set_place.Goals as goal
 
 pub returns : goal.returns

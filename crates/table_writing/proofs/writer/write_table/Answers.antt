@@ -13,12 +13,12 @@ write_root-requires c =
     let tab = c.args.table.now in
     let v = c.requires.valid in
     let z = encode-size tab (count tab) v in
-    rw c.count-count.ensures.value (rw c.new-source.ensures record { room = omega (arith, v.some, c.requires.table_in_bounds); few = omega (arith, v.few) })
+    rw c.count-count.ensures.value (rw c.new-source.ensures record { room = omega (arith, v.some, c.requires.room); few = omega (arith, v.few) })
 
 pub write_directory-requires-clause-room : goal.write_directory-requires-clause-room
 write_directory-requires-clause-room c =
     let w = c.new-writer.ensures in
-    written-room _ _ c.args.out.now _ _ _ c.requires.valid c.new-source.ensures c.count-count.ensures.value w.text (length c.args.out.now) (ap length w.out ∙ c.write_root.auto.out) c.requires.table_in_bounds.0 c.requires.table_in_bounds.1
+    written-room _ _ c.args.out.now _ _ _ c.requires.valid c.new-source.ensures c.count-count.ensures.value w.text (length c.args.out.now) (ap length w.out ∙ c.write_root.auto.out) c.requires.room c.requires.small
 
 pub returns-clause-value : goal.returns-clause-value
 returns-clause-value c =
@@ -28,5 +28,5 @@ pub returns-clause-out_after : goal.returns-clause-out_after
 returns-clause-out_after c =
     let w = c.new-writer.ensures in
     let d = c.write_directory.ensures in
-    let e = written-whole _ _ _ _ _ _ c.requires.valid c.new-source.ensures c.count-count.ensures.value w.text _ c.requires.table_in_bounds.0 (w.out ∙ c.write_root.ensures) d.out in
+    let e = written-whole _ _ _ _ _ _ c.requires.valid c.new-source.ensures c.count-count.ensures.value w.text _ c.requires.room (w.out ∙ c.write_root.ensures) d.out in
     grind (arith, e)

@@ -13,13 +13,13 @@ pub read_u24-requires : goal.read_u24-requires
 read_u24-requires c = omega (arith, held _ _ _ c.args.k c.self.invariant c.self.view_is c.requires.within)
 
 pub text_length-len-requires : goal.text_length-len-requires
-text_length-len-requires c = name-held _ _ _ c.args.k c.self.invariant c.self.view_is c.requires.further c.requires.within _ c.read_u24.ensures.0
+text_length-len-requires c = name-held _ _ _ c.args.k c.self.invariant c.self.view_is c.requires.further c.requires.within _ c.read_u24.ensures.value
 
 pub overflow_add-result : goal.overflow_add-result
-overflow_add-result c = omega (arith, name-held _ _ _ c.args.k c.self.invariant c.self.view_is c.requires.further c.requires.within _ c.read_u24.ensures.0, c.text_length-len.ensures)
+overflow_add-result c = omega (arith, name-held _ _ _ c.args.k c.self.invariant c.self.view_is c.requires.further c.requires.within _ c.read_u24.ensures.value, c.text_length-len.ensures)
 
 pub slice_bounds-result-end : goal.slice_bounds-result-end
-slice_bounds-result-end c = omega (arith, name-held _ _ _ c.args.k c.self.invariant c.self.view_is c.requires.further c.requires.within _ c.read_u24.ensures.0, c.text_length-len.ensures)
+slice_bounds-result-end c = omega (arith, name-held _ _ _ c.args.k c.self.invariant c.self.view_is c.requires.further c.requires.within _ c.read_u24.ensures.value, c.text_length-len.ensures)
 
 pub returns : goal.returns
-returns c = name-read _ _ _ c.args.k c.self.invariant c.self.view_is c.requires.further c.requires.within _ c.read_u24.ensures.0 _ c.text_length-len.ensures
+returns c = name-read _ _ _ c.args.k c.self.invariant c.self.view_is c.requires.further c.requires.within _ c.read_u24.ensures.value _ c.text_length-len.ensures

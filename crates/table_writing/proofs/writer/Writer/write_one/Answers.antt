@@ -27,8 +27,8 @@ write_record-requires-clause-small c =
     let e = text-one tab (count tab) c.args.k c.args.self.now.text in
     omega (arith, c.requires)
 
-pub write_name-self-requires-clause-k_in_bounds : goal.write_name-self-requires-clause-k_in_bounds
-write_name-self-requires-clause-k_in_bounds c =
+pub write_name-self-requires-clause-room : goal.write_name-self-requires-clause-room
+write_name-self-requires-clause-room c =
     let tab = c.args.source.now in
     let e = text-one tab (count tab) c.args.k c.args.self.now.text in
     omega (arith, c.requires, c.write_record.auto.out)
