@@ -22,7 +22,6 @@ use Rattle.disc.specs.Calls.{totals_answer, program_answer, free_regions_answer,
 use Rattle.disc.specs.Files.{open_file_answer}
 use Rattle.edits.specs.Change.{nothing}
 use Rattle.edits.specs.Edits.{Edit, no_place, rewrite, resize_file, plan_resize, plan_of, image_after}
-use Rattle.edits.proofs.Laws.Accepted.{accepted}
 use Rattle.ledger.specs.Ledger.{History, Ledger, bare, files_before, history_of, put_in, first_ledger}
 use Rattle.ledger.specs.Runs.{Call, image_after_all, accepted_in, AllWithin}
 use Rattle.ledger.specs.Spared.{number_after, Spared}
@@ -35,7 +34,7 @@ use Rattle.ledger.proofs.Laws.MaximumKept.{maximum-kept}
 use Rattle.ledger.proofs.Laws.RecordTells.{record-tells}
 use Rattle.worked.specs.Image.{master, master_words}
 use Rattle.worked.specs.Laws.Marked as small
-use Rattle.worked.specs.Laws.Maximum.{stating, slack}
+use Rattle.worked.specs.Laws.Maximum.{stating, slack, slack-opens, slack-header}
 use Rattle.worked.specs.Laws.Maximum as stated
 use Rattle.worked.specs.Laws.ListImages.{of_a, program_bytes, first, clip, with_b, last, program, tree_b, used-regions, space, at_first, at_last}
 use Rattle.worked.specs.Laws.ListSteps.{totals, fresh, filled-b}
@@ -219,16 +218,9 @@ same-table = let l = over-kept.larger (rw over-sizes.0 (omega arith)) (rw (over-
 
 -- "may be edited down to the maximum": the small master with a zero byte more behind its texts, 0x1B bytes in all
 
-down-opens : opening (slack 0x1A) master_words ≡ Ok tt
-down-opens = (accepted rewrite small.fresh (slack 0x1A) master_words 0x1A (stated.maximum).edited-down).opens
-
 down-bytes : AllBytes (slack 0x1A)
 unfolding slack stating master put bytes_only
 down-bytes = bytes-only (slack 0x1A) refl
-
-down-sizes : (fst_max_size (slack 0x1A) ≡ 0x1A) × (fst_size (slack 0x1A) ≡ 0x1B)
-unfolding slack stating master put be32
-down-sizes = (refl, refl)
 
 down-table : length (encode (nodes_in (slack 0x1A))) ≡ 0x1A
 unfolding slack stating master put table_of nodes_in nodes_of nodes_from node_at name_at count be24 be32 encode entries_bytes texts_of parent_of parent_below
@@ -236,8 +228,8 @@ down-table = refl
 
 pub down : fst_size (image_after rewrite (totals_of (slack 0x1A) 0) (slack 0x1A) master_words 0x1A) ≤ 0x1A
 down =
-    let m = down-sizes.0 in
-    rw m at (edited-down (slack 0x1A) master_words 0x1A down-bytes down-opens (rw (m, down-sizes.1) (omega arith)) (rw (m, down-table) (omega arith)) (rw down-table (omega arith)) 0 (omega arith)).2
+    let m = slack-header.2 in
+    rw m at (edited-down (slack 0x1A) master_words 0x1A down-bytes slack-opens (rw (m, slack-header.1) (omega arith)) (rw (m, down-table) (omega arith)) (rw down-table (omega arith)) 0 (omega arith)).2
 
 -- another maximum: the image opens all the same, to the same tree and free regions
 

@@ -84,7 +84,7 @@ tight-free = refl
 unfoldable pub slack : ℕ → List ℕ
 slack m = put (stating m) 0x428 (be32_bytes 0x1B)
 
-slack-opens : opening (slack 0x1A) master_words ≡ Ok tt
+pub slack-opens : opening (slack 0x1A) master_words ≡ Ok tt
 unfolding slack stating master put opening layout_verdict header_verdict fields_verdict field_verdict fields bounds_verdict table_of check nodes_in nodes_of nodes_from node_at name_at count entries_verdict entry_verdict unended walk name_verdict next_verdict shut plain safe be24 be32 used_in behind_table program_of program_in own_region nonempty disjoint_below pairwise_disjoint disjoint_from_all disjoint end_by units
 slack-opens = refl
 
@@ -96,7 +96,7 @@ slack-nodes : nodes_in (slack 0x1A) ≡ directory [] 2 ∷ file (0x61 ∷ []) 0x
 unfolding slack stating master put table_of nodes_in nodes_of nodes_from node_at name_at count be24 be32
 slack-nodes = refl
 
-slack-header : (fst_offset (slack 0x1A) ≡ 0x440) × (fst_size (slack 0x1A) ≡ 0x1B) × (fst_max_size (slack 0x1A) ≡ 0x1A)
+pub slack-header : (fst_offset (slack 0x1A) ≡ 0x440) × (fst_size (slack 0x1A) ≡ 0x1B) × (fst_max_size (slack 0x1A) ≡ 0x1A)
 unfolding slack stating master put be32
 slack-header = (refl, refl, refl)
 
