@@ -9,7 +9,7 @@ ghost use Rattle.table.specs.Inner.Blocks.{IsFit};
 
 use crate::marks::Survey;
 use crate::stack::Stack;
-use crate::{names, text};
+use crate::{fields, names, text};
 use refusal::{Refusal, Verdict};
 
 /// The count of entries: the root's "next", where a count of 0 reads the root only.
@@ -108,7 +108,7 @@ impl<'a> Entries<'a> {
             result ≡ name_verdict table count k (name_at table count (name_offset table k)) }
         ensures same { texts.new ≡ texts.old }
     {
-        let offset = endian::read_u24(self.table, 12 * k + 1) as usize;
+        let offset = fields::name_offset(self.table, k) as usize;
         if self.table.len() - 12 * self.count <= offset {
             return Err(Refusal::InvalidNameOffset);
         }
@@ -128,7 +128,7 @@ impl<'a> Entries<'a> {
         if self.table[12 * k] == 0 {
             return Ok(());
         }
-        let next = endian::read_u32(self.table, 12 * k + 8) as usize;
+        let next = fields::size_or_next(self.table, k) as usize;
         if next <= k {
             return Err(Refusal::InvalidNextIndex);
         }
@@ -164,7 +164,7 @@ impl<'a> Entries<'a> {
         ensures { dirs.new ≡ table_of.enter dirs.old (node_at self.now.table.now self.now.count k) }
     {
         if self.table[12 * k] != 0 {
-            dirs.push(endian::read_u32(self.table, 12 * k + 8));
+            dirs.push(fields::size_or_next(self.table, k));
         }
     }
 

@@ -8,7 +8,7 @@ ghost use Rattle.table.specs.Inner.Texts.{text_at};
 ghost use Rattle.table.specs.Inner.Fields.{offset_of, last_of};
 ghost use Rattle.table.specs.Inner.Held.{IsTable};
 
-use crate::{acceptance, name};
+use crate::{acceptance, fields, name};
 use refusal::Refusal;
 use std::marker::Model;
 use tree::{DirectoryEntry, Entry, FileEntry, Found};
@@ -78,7 +78,7 @@ impl<'a> Table<'a> {
         if table[12 * k] != 0 {
             return 0;
         }
-        endian::read_u32(table, 12 * k + 4)
+        fields::offset_or_parent(table, k)
     }
 
     /// The last field of an entry: a file's size, a directory's next.
@@ -88,7 +88,7 @@ impl<'a> Table<'a> {
         ensures last { result ≡ last_of (slice_index_or (nodes_of self.now) k none) }
         ensures held { IsTable self.now }
     {
-        endian::read_u32(self.bytes, 12 * k + 8)
+        fields::size_or_next(self.bytes, k)
     }
 
     /// A directory's next, the number of the entry after its last one; 0 for a file.
@@ -113,7 +113,7 @@ impl<'a> Table<'a> {
         ensures short { length (text_at self.now result) ≤ 2 ^ 20 }
     {
         let table = self.bytes;
-        12 * self.len() + endian::read_u24(table, 12 * k + 1) as usize
+        12 * self.len() + fields::name_offset(table, k) as usize
     }
 
     /// The name of entry `k`; the root has none.

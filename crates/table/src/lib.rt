@@ -6,6 +6,7 @@ mod acceptance;
 mod children;
 mod components;
 mod entries;
+pub mod fields;
 mod marks;
 mod name;
 mod names;

@@ -12,7 +12,7 @@ ghost use Rattle.table_writing.specs.Inner.Standing.{sound-prop};
 use crate::kind::Kind;
 use crate::{patch, size};
 use refusal::{Refusal, Verdict};
-use table::Table;
+use table::{Table, fields};
 
 // No directory is in more than so many others, the root in none.
 const MOST_AROUND: usize = 64;
@@ -55,7 +55,7 @@ impl<'a> Growing<'a> {
         requires { IsDirectory (tree_of self.now) k }
         ensures { result ≡ parent_of (tree_of self.now) k }
     {
-        endian::read_u32(self.bytes, 12 * k + 4) as usize
+        fields::offset_or_parent(self.bytes, k) as usize
     }
 
     /// The first child of entry k with that name; 17 if k is no directory, 18 if none has it.

@@ -11,6 +11,7 @@ ghost use Rattle.table_writing.specs.Inner.Patching.{behind_of, CanTake, records
 use crate::kind::Kind;
 use crate::raising;
 use crate::raising::{NewEntry, Shift};
+use table::fields;
 
 // The entries behind the new one: all move at once, then each is raised where it stands.
 fn patch_behind(table: &mut [u8], count: usize, shift: Shift)
@@ -85,7 +86,7 @@ fn new_start(table: &[u8], size: usize, count: usize, q: usize) -> usize
     ensures { result ≡ start_in table.now size count q }
 {
     if q < count {
-        endian::read_u24(table, 12 * q + 1) as usize
+        fields::name_offset(table, q) as usize
     } else {
         size - 12 * count
     }
@@ -101,7 +102,7 @@ pub fn insert(table: &mut [u8], size: usize, p: usize, kind: Kind, name: &[u8]) 
     ensures table_after { table.new ≡ put table.old 0 (table_with table.old size p kind name.now) }
 {
     let count = endian::read_u32(table, 8) as usize;
-    let number = endian::read_u32(table, 12 * p + 8) as usize;
+    let number = fields::size_or_next(table, p) as usize;
     let start = new_start(table, size, count, number);
     insert_text(table, size, count, start, name);
     let entry = NewEntry {
@@ -120,6 +121,6 @@ pub fn set_place(table: &mut [u8], k: usize, offset: u32, size: u32)
     requires { 12 * k + 12 ≤ length table.old }
     ensures { table.new ≡ put table.old (12 * k + 4) (be32_bytes offset ++ be32_bytes size) }
 {
-    endian::write_u32(table, 12 * k + 4, offset);
-    endian::write_u32(table, 12 * k + 8, size);
+    fields::set_offset_or_parent(table, k, offset);
+    fields::set_size_or_next(table, k, size);
 }

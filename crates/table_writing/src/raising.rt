@@ -11,6 +11,7 @@ ghost use Rattle.table_writing.specs.Inner.Entering.{new_bytes};
 
 use crate::kind::Kind;
 use crate::record::Record;
+use table::fields;
 
 /// How what stands behind a new entry moves.
 #[derive(Clone, Copy, PartialEq, Eq, Debug)]
@@ -47,10 +48,10 @@ impl Shift {
         let first = endian::read_u32(table, 12 * k) + self.text as u32;
         endian::write_u32(table, 12 * k, first);
         if 0x1000000 <= first {
-            let place = endian::read_u32(table, 12 * k + 4);
-            endian::write_u32(table, 12 * k + 4, self.parent(place));
-            let next = endian::read_u32(table, 12 * k + 8);
-            endian::write_u32(table, 12 * k + 8, next + 1);
+            let place = fields::offset_or_parent(table, k);
+            fields::set_offset_or_parent(table, k, self.parent(place));
+            let next = fields::size_or_next(table, k);
+            fields::set_size_or_next(table, k, next + 1);
         }
     }
 }
@@ -64,9 +65,9 @@ pub fn patch_before(table: &mut [u8], k: usize, p: usize)
     ensures { table.new ≡ put table.old (12 * k) (record_before table.old p k) }
 {
     if Kind::of(table, k).is_directory() {
-        let next = endian::read_u32(table, 12 * k + 8);
+        let next = fields::size_or_next(table, k);
         if p < next as usize {
-            endian::write_u32(table, 12 * k + 8, next + 1);
+            fields::set_size_or_next(table, k, next + 1);
         }
     }
 }

@@ -8,6 +8,7 @@ ghost use Rattle.table_writing.specs.Inner.Record.{bytes_of};
 
 use crate::kind::Kind;
 use crate::source::Source;
+use table::fields;
 
 /// The four fields of an entry.
 #[derive(Clone, Copy, PartialEq, Eq, Debug)]
@@ -29,7 +30,7 @@ fn place_of(table: &[u8], k: usize, parent: u32) -> u32
     ensures { result ≡ place_of table.now parent k }
 {
     match Kind::from_number(table[12 * k]) {
-        Some(Kind::File) => endian::read_u32(table, 12 * k + 4),
+        Some(Kind::File) => fields::offset_or_parent(table, k),
         _ => parent,
     }
 }
@@ -46,7 +47,7 @@ impl Record {
             kind: Kind::of(table, k),
             name,
             place: place_of(table, k, parent),
-            next: endian::read_u32(table, 12 * k + 8),
+            next: fields::size_or_next(table, k),
         }
     }
 

@@ -9,6 +9,7 @@ ghost use Rattle.table_writing.specs.Inner.Measure.{measure_of};
 use crate::kind::Kind;
 use crate::source::Source;
 use refusal::Refusal;
+use table::fields;
 
 /// A table with more bytes of texts than this is refused, with 9.
 pub const TEXTS_LIMIT: usize = 1048576;
@@ -19,7 +20,7 @@ pub fn after(table: &[u8], k: usize) -> usize
     ensures { result ≡ after_in table.now k }
 {
     match Kind::from_number(table[12 * k]) {
-        Some(Kind::Directory) => endian::read_u32(table, 12 * k + 8) as usize,
+        Some(Kind::Directory) => fields::size_or_next(table, k) as usize,
         _ => k + 1,
     }
 }

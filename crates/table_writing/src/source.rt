@@ -10,6 +10,7 @@ use crate::kind::Kind;
 use crate::size::TEXTS_LIMIT;
 use refusal::Refusal;
 use std::marker::Model;
+use table::fields;
 
 /// A table that can be written anew: its directories nest, and its names end within it. Contracts see its
 /// bytes.
@@ -85,7 +86,7 @@ impl<'a> Source<'a> {
         requires { k < table_of.count self.now }
         ensures { result ≡ offset_or_parent self.now k }
     {
-        endian::read_u32(self.bytes, 12 * k + 4)
+        fields::offset_or_parent(self.bytes, k)
     }
 
     /// The fourth field of entry k: the size of a file, the entry after all those in a directory.
@@ -94,7 +95,7 @@ impl<'a> Source<'a> {
         ensures value { result ≡ size_or_next self.now k }
         ensures valid { IsValid self.now (table_of.count self.now) }
     {
-        endian::read_u32(self.bytes, 12 * k + 8)
+        fields::size_or_next(self.bytes, k)
     }
 
     /// The name of entry k, which is not the root, without its zero byte.
@@ -103,7 +104,7 @@ impl<'a> Source<'a> {
         requires within { k < table_of.count self.now }
         ensures { result.now ≡ name_at self.now (table_of.count self.now) (name_offset self.now k) }
     {
-        let from = 12 * self.count + endian::read_u24(self.bytes, 12 * k + 1) as usize;
+        let from = 12 * self.count + fields::name_offset(self.bytes, k) as usize;
         let len = table::text_length(self.bytes, from);
         &self.bytes[from..from + len]
     }

@@ -8,12 +8,12 @@ use Rattle.table_writing.proofs.raising.patch_before.Goals as goal
 pub returns-then-p-next : goal.returns-then-p-next
 returns-then-p-next c =
     let s = c in
-    cc (c.read_u32-next.ensures, c.write_u32.ensures, raised s.args.table.now s.args.p s.args.k (search rules) s.requires.within s.requires.raisable.kinds (directory-one _ _ c.of.ensures (sym c.is_directory.ensures ∙ c.if-is_directory.true)) s.requires.before (omega (arith, c.read_u32-next.ensures, c.if-p-next.true)))
+    cc (c.size_or_next-next.ensures, c.set_size_or_next.ensures, raised s.args.table.now s.args.p s.args.k (search rules) s.requires.within s.requires.raisable.kinds (directory-one _ _ c.of.ensures (sym c.is_directory.ensures ∙ c.if-is_directory.true)) s.requires.before (omega (arith, c.size_or_next-next.ensures, c.if-p-next.true)))
 
 pub returns-else-p-next : goal.returns-else-p-next
 returns-else-p-next c =
     let s = c in
-    sym (ended-stays s.args.table.now s.args.p s.args.k (search rules) s.requires.within s.requires.raisable.kinds (omega (arith, c.read_u32-next.ensures, c.if-p-next.false)))
+    sym (ended-stays s.args.table.now s.args.p s.args.k (search rules) s.requires.within s.requires.raisable.kinds (omega (arith, c.size_or_next-next.ensures, c.if-p-next.false)))
 
 pub returns-else-is_directory : goal.returns-else-is_directory
 returns-else-is_directory c =

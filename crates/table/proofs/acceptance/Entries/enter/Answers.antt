@@ -11,7 +11,7 @@ push-requires c =
 pub returns-then-self-k-ne0 : goal.returns-then-self-k-ne0
 returns-then-self-k-ne0 c =
     let a = c.args in
-    rw (node-directory a.self.now.table.now a.self.now.count a.k c.if-self-k-ne0.true, ← c.read_u32.ensures) c.push.ensures
+    rw (node-directory a.self.now.table.now a.self.now.count a.k c.if-self-k-ne0.true, ← c.size_or_next.ensures) c.push.ensures
 
 pub returns-else-self-k-ne0 : goal.returns-else-self-k-ne0
 returns-else-self-k-ne0 c =

@@ -17,12 +17,12 @@ pub returns-then-is_fit-clause-verdict : goal.returns-then-is_fit-clause-verdict
 unfolding name_verdict name_at
 returns-then-is_fit-clause-verdict c =
     let T = c.args.self.now.table.now in
-    let o : c.read_u24-offset.result ≡ name_offset T c.args.k = c.read_u24-offset.ensures.value in
+    let o : c.name_offset-offset.result ≡ name_offset T c.args.k = c.name_offset-offset.ensures.value in
     rw (lt-leb (length T - 12 * c.args.self.now.count) (name_offset T c.args.k) (omega arith)) (rw o at c.clean_verdict.ensures)
 
 pub returns-clause-verdict : goal.returns-clause-verdict
 unfolding name_verdict name_at
 returns-clause-verdict c =
     let T = c.args.self.now.table.now in
-    let o : c.read_u24-offset.result ≡ name_offset T c.args.k = c.read_u24-offset.ensures.value in
+    let o : c.name_offset-offset.result ≡ name_offset T c.args.k = c.name_offset-offset.ensures.value in
     rw (lt-leb (length T - 12 * c.args.self.now.count) (name_offset T c.args.k) (omega arith)) (rw o at c.units_verdict.ensures)

@@ -5,4 +5,4 @@ use Rattle.table.proofs.entries.Table.last.Goals as goal
 pub returns-clause-last : goal.returns-clause-last
 returns-clause-last c =
     let h = c.self.invariant in
-    rw (← c.self.view_is) (last-is (opened c.self.inside.bytes.now h.bytes h.opens) c.args.k (rw c.self.view_is c.requires) c.read_u32.ensures)
+    rw (← c.self.view_is) (last-is (opened c.self.inside.bytes.now h.bytes h.opens) c.args.k (rw c.self.view_is c.requires) c.size_or_next.ensures)

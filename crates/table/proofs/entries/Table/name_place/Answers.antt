@@ -13,7 +13,7 @@ returns-clause-ended c =
     let T = c.args.self.now in
     let k = c.args.k in
     let h = rw c.self.view_is at c.self.invariant in
-    let e : 12 * c.len.result + c.read_u24.result ≡ name_place T k = omega (arith, place_is T k (λ e. omega (arith, c.requires.not_root)), c.len.ensures.len, rw c.self.view_is at c.read_u24.ensures.value) in
+    let e : 12 * c.len.result + c.name_offset.result ≡ name_place T k = omega (arith, place_is T k (λ e. omega (arith, c.requires.not_root)), c.len.ensures.len, rw c.self.view_is at c.name_offset.ensures.value) in
     rw e (name-ended (held h) k c.requires.not_root c.requires.within)
 
 pub returns-clause-short : goal.returns-clause-short
@@ -21,5 +21,5 @@ returns-clause-short c =
     let T = c.args.self.now in
     let k = c.args.k in
     let h = rw c.self.view_is at c.self.invariant in
-    let e : 12 * c.len.result + c.read_u24.result ≡ name_place T k = omega (arith, place_is T k (λ e. omega (arith, c.requires.not_root)), c.len.ensures.len, rw c.self.view_is at c.read_u24.ensures.value) in
+    let e : 12 * c.len.result + c.name_offset.result ≡ name_place T k = omega (arith, place_is T k (λ e. omega (arith, c.requires.not_root)), c.len.ensures.len, rw c.self.view_is at c.name_offset.ensures.value) in
     rw (e, ← name-there T k c.requires.not_root c.requires.within) (name-short (held h) k c.requires.not_root c.requires.within)

@@ -12,4 +12,4 @@ returns-then-table-k-ne0 c =
 pub returns : goal.returns
 returns c =
     let h = c.self.invariant in
-    rw (← c.self.view_is) (c.read_u32.ensures ∙ sym (ap offset_of (file-is (opened c.self.inside.bytes.now h.bytes h.opens) c.args.k (rw c.self.view_is c.requires) c.if-table-k-ne0.false)))
+    rw (← c.self.view_is) (c.offset_or_parent.ensures ∙ sym (ap offset_of (file-is (opened c.self.inside.bytes.now h.bytes h.opens) c.args.k (rw c.self.view_is c.requires) c.if-table-k-ne0.false)))

@@ -16,20 +16,20 @@ parent-requires c =
     let s = c in
     let is-directory = first-directory s.args.table.now s.args.self.number s.args.self.text s.args.k s.requires.within s.requires.raisable.kinds s.requires.names (omega (arith, c.read_u32.ensures, c.if-first-ge16777216.true)) in
     let e = place_read s.args.table.now s.args.k s.requires.within _ _ c.write_u32.ensures in
-    omega (arith, c.read_u32-place.ensures, e, s.requires.raisable.place is-directory)
+    omega (arith, c.offset_or_parent-place.ensures, e, s.requires.raisable.place is-directory)
 
 pub overflow_add-next : goal.overflow_add-next
 overflow_add-next c =
     let s = c in
     let is-directory = first-directory s.args.table.now s.args.self.number s.args.self.text s.args.k s.requires.within s.requires.raisable.kinds s.requires.names (omega (arith, c.read_u32.ensures, c.if-first-ge16777216.true)) in
-    let e = next-read s.args.table.now s.args.k s.requires.within _ _ c.write_u32.ensures _ _ c.write_u32-then-first-ge16777216.ensures in
-    record { fits = omega (arith, c.read_u32-next.ensures, e, s.requires.raisable.next is-directory) }
+    let e = next-read s.args.table.now s.args.k s.requires.within _ _ c.write_u32.ensures _ _ c.set_offset_or_parent.ensures in
+    record { fits = omega (arith, c.size_or_next-next.ensures, e, s.requires.raisable.next is-directory) }
 
 pub returns-then-first-ge16777216 : goal.returns-then-first-ge16777216
 returns-then-first-ge16777216 c =
     let s = c in
     let is-directory = first-directory s.args.table.now s.args.self.number s.args.self.text s.args.k s.requires.within s.requires.raisable.kinds s.requires.names (omega (arith, c.read_u32.ensures, c.if-first-ge16777216.true)) in
-    raised-directory s.args.table.now s.args.self.number s.args.self.text s.args.k s.requires.within s.requires.raisable.kinds s.requires.names is-directory _ c.read_u32.ensures _ c.write_u32.ensures _ c.read_u32-place.ensures _ c.parent.ensures _ c.write_u32-then-first-ge16777216.ensures _ c.read_u32-next.ensures _ c.write_u32-then-first-ge16777216-2.ensures
+    raised-directory s.args.table.now s.args.self.number s.args.self.text s.args.k s.requires.within s.requires.raisable.kinds s.requires.names is-directory _ c.read_u32.ensures _ c.write_u32.ensures _ c.offset_or_parent-place.ensures _ c.parent.ensures _ c.set_offset_or_parent.ensures _ c.size_or_next-next.ensures _ c.set_size_or_next.ensures
 
 pub returns-else-first-ge16777216 : goal.returns-else-first-ge16777216
 returns-else-first-ge16777216 c =

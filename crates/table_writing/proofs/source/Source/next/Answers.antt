@@ -3,14 +3,8 @@ use native.Mathlib.Omega.{arith}
 use Rattle.table_writing.proofs.Sources.{held, valid-seen}
 use Rattle.table_writing.proofs.source.Source.next.Goals as goal
 
-pub overflow_mul-k : goal.overflow_mul-k
-overflow_mul-k c = omega (arith, held _ _ _ c.args.k c.self.invariant c.self.view_is c.requires)
-
-pub overflow_add-k : goal.overflow_add-k
-overflow_add-k c = omega (arith, held _ _ _ c.args.k c.self.invariant c.self.view_is c.requires)
-
-pub read_u32-requires : goal.read_u32-requires
-read_u32-requires c = omega (arith, held _ _ _ c.args.k c.self.invariant c.self.view_is c.requires)
+pub size_or_next-requires : goal.size_or_next-requires
+size_or_next-requires c = omega (arith, held _ _ _ c.args.k c.self.invariant c.self.view_is c.requires)
 
 pub returns-clause-valid : goal.returns-clause-valid
 returns-clause-valid c = valid-seen _ _ _ c.self.invariant c.self.view_is
