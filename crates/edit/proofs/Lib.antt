@@ -14,6 +14,7 @@ pub mod FillOutcomes
 pub mod Images
 pub mod InsertionLaws
 pub mod Judged
+pub mod Lists
 pub mod Outcomes
 pub mod Places
 pub mod Plans
