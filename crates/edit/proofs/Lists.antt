@@ -11,11 +11,12 @@ use Rattle.opened.specs.Opening.{opening, zeros}
 use Rattle.edits.specs.Edits.{Edit, numbered_as, image_after, totals_after}
 use Rattle.edits.specs.Promise.{lent, Edited}
 use Rattle.ledger.specs.Ledger.{first_ledger}
-use Rattle.ledger.specs.Runs.{Passable, AllWithin, image_after_all, totals_after_all}
-use Rattle.ledger.specs.Lists.{calls_of, answers_of, Applied, LedgerHoldsOf}
+use Rattle.ledger.specs.Runs.{Passable, AllWithin, HandedOn, image_after_all, totals_after_all}
+use Rattle.ledger.specs.Lists.{calls_of, answers_of, AppliesInTurn, LedgerHoldsAfter, TellsAfter}
 use Rattle.ledger.proofs.Laws.Sequence.{start}
 use Rattle.ledger.proofs.Laws.Steps.{step}
 use Rattle.ledger.proofs.Laws.Demand3.{demand-3}
+use Rattle.ledger.proofs.Laws.RecordTells.{made_of, record-tells}
 
 -- the first i edits are applied; `now` are the answers so far
 pub record IsUnderway (edits : List Edit) (words bytes : ℕ) (first : List ℕ) (t₀ : Totals) (old : List (Result ℕ Refusal)) (i : ℕ) (here : List ℕ) (t : Totals) (now : List (Result ℕ Refusal)) : Type 0 where
@@ -82,35 +83,50 @@ module _ (edits : List Edit) (words bytes : ℕ) (first : List ℕ) (t₀ : Tota
         within = λ o. (rw e at (u.within o)) tt;
       }
 
+  -- what an edit does to the record goes into the next
+  handed : (es : List Edit) (t : Totals) (image : List ℕ) → HandedOn t (calls_of es t image words bytes) image
+  unfolding calls_of
+  handed [] t image = tt
+  handed (e ∷ es) t image = (refl, handed es (totals_after e t image words bytes) (image_after e t image words bytes))
+
 -- ---- the whole call
 
 module _ (edits : List Edit) (first ws bs : List ℕ) (t₀ : Totals) (old : List (Result ℕ Refusal)) where
   -- with room for fewer answers than there are edits
-  module _ (h : length old < length edits) where
+  module _ (h : length old < length edits) (ws' bs' : List ℕ) where
     short : nat_lt (length old) (length edits) ≡ true
     short = lt-ltb (length old) (length edits) h
 
-    pub none-applied : (ws' bs' : List ℕ) → ws' ≡ zeros ws → bs' ≡ zeros bs → Applied edits (lent first ws bs t₀) (lent first ws' bs' t₀) old old (Err LimitOrMemory)
+    pub none-applied : ws' ≡ zeros ws → bs' ≡ zeros bs → AppliesInTurn edits (lent first ws bs t₀) (lent first ws' bs' t₀) old old (Err LimitOrMemory)
     unfolding answers_of image_after_all totals_after_all
-    none-applied ws' bs' zw zb = record { verdict = rw short; image = rw short; totals = rw short; answers = rw short; words = zw; bytes = zb }
+    none-applied zw zb = record { verdict = rw short; image = rw short; totals = rw short; answers = rw short; words = zw; bytes = zb }
 
-    pub none-holds : AllBytes first → LedgerHoldsOf (length old) edits (lent first ws bs t₀) first
+    pub none-holds : AllBytes first → LedgerHoldsAfter (length old) edits (lent first ws bs t₀) (lent first ws' bs' t₀)
     unfolding image_after_all
     none-holds b o = rw short (demand-3 first (length ws) (length ws) [] b o (omega arith) tt)
 
+    pub none-tells : AllBytes first → TellsAfter (length old) edits (lent first ws bs t₀) (lent first ws' bs' t₀)
+    unfolding image_after_all totals_after_all
+    none-tells b m = rw short (record-tells first (length ws) (length ws) t₀ [] b m (omega arith) tt tt)
+
   -- with room for an answer to each
-  module _ (h : length edits ≤ length old) (i : ℕ) (last : List ℕ) (t : Totals) (now : List (Result ℕ Refusal)) (u : IsUnderway edits (length ws) (length bs) first t₀ old i last t now) (d : length edits ≤ i) (z : i ≤ length edits) where
+  module _ (h : length edits ≤ length old) (i : ℕ) (last ws' bs' : List ℕ) (t : Totals) (now : List (Result ℕ Refusal)) (u : IsUnderway edits (length ws) (length bs) first t₀ old i last t now) (d : length edits ≤ i) (z : i ≤ length edits) where
     long : nat_lt (length old) (length edits) ≡ false
     long = le-ltb (length old) (length edits) h
 
     done : IsFinished edits (length ws) (length bs) first t₀ old last t now
     done = finished edits (length ws) (length bs) first t₀ old i last t now u d z
 
-    pub all-applied : (ws' bs' : List ℕ) → ws' ≡ zeros ws → bs' ≡ zeros bs → Applied edits (lent first ws bs t₀) (lent last ws' bs' t) old now (Ok tt)
-    all-applied ws' bs' zw zb = record { verdict = rw long; image = rw long done.image; totals = rw long done.totals; answers = rw long done.answers; words = zw; bytes = zb }
+    pub all-applied : ws' ≡ zeros ws → bs' ≡ zeros bs → AppliesInTurn edits (lent first ws bs t₀) (lent last ws' bs' t) old now (Ok tt)
+    all-applied zw zb = record { verdict = rw long; image = rw long done.image; totals = rw long done.totals; answers = rw long done.answers; words = zw; bytes = zb }
 
-    pub all-hold : AllBytes first → LedgerHoldsOf (length old) edits (lent first ws bs t₀) last
+    pub all-hold : AllBytes first → LedgerHoldsAfter (length old) edits (lent first ws bs t₀) (lent last ws' bs' t)
     all-hold b o = rw (long, done.image) (demand-3 first (length ws) (length ws) (calls_of edits t₀ first (length ws) (length bs)) b o (omega arith) (done.within o))
+
+    pub all-tell : AllBytes first → TellsAfter (length old) edits (lent first ws bs t₀) (lent last ws' bs' t)
+    all-tell b m =
+        let o = (made_of first (length ws) t₀ m).0 in
+        rw (long, done.image, done.totals) (record-tells first (length ws) (length ws) t₀ (calls_of edits t₀ first (length ws) (length bs)) b m (omega arith) (done.within o) (handed edits (length ws) (length bs) first t₀ old edits t₀ first))
 
 -- the next element of a list that is read through f
 pub next : {A B : Type 0} (f : A → B) (xs : List A) (i : ℕ) (d : A) → i < length xs → drop i (map f xs) ≡ f (slice_index_or xs i d) ∷ drop (i + 1) (map f xs)

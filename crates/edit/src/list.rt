@@ -1,7 +1,7 @@
 // A list of edits, applied in turn as one call.
 ghost use Rattle.std.specs.Prelude.{length, map};
 ghost use Rattle.edits.specs.Promise.{lent};
-ghost use Rattle.ledger.specs.Lists.{Applied, LedgerHoldsOf};
+ghost use Rattle.ledger.specs.Lists.{AppliesInTurn, LedgerHoldsAfter, TellsAfter};
 ghost use Rattle.edit.specs.Inner.Decides.{edit_of};
 
 use crate::pipeline;
@@ -23,9 +23,13 @@ pub fn apply_all(
 ) -> Verdict
     ensures applied { let before = lent image.old words.old bytes.old totals.old in
         let after = lent image.new words.new bytes.new totals.new in
-        Applied (map edit_of edits.now) before after answers.old answers.new result }
+        AppliesInTurn (map edit_of edits.now) before after answers.old answers.new result }
     ensures ledger_holds { let before = lent image.old words.old bytes.old totals.old in
-        LedgerHoldsOf (length answers.old) (map edit_of edits.now) before image.new }
+        let after = lent image.new words.new bytes.new totals.new in
+        LedgerHoldsAfter (length answers.old) (map edit_of edits.now) before after }
+    ensures record_tells { let before = lent image.old words.old bytes.old totals.old in
+        let after = lent image.new words.new bytes.new totals.new in
+        TellsAfter (length answers.old) (map edit_of edits.now) before after }
 {
     let words = Lent::new(words);
     let bytes = Lent::new(bytes);
