@@ -1,9 +1,10 @@
 // One way through every edit: opened, decided, entered in the record that is lent, carried out.
-ghost use Rattle.std.specs.Prelude.{◌≡◌, length};
+ghost use Rattle.std.specs.Prelude.{◌≡◌, Ok, length};
 ghost use Rattle.opened.specs.Opening.{opening, disc_of};
 ghost use Rattle.edits.specs.Edits as edits;
 ghost use Rattle.edits.specs.Edits.{planned, plan_of, numbered_as};
 ghost use Rattle.edits.specs.Promise.{lent, only_verdict, Edited};
+ghost use Rattle.ledger.specs.Runs.{Passable};
 ghost use Rattle.edit.specs.Inner.Accounting.{accounted, IsAccountedFor};
 ghost use Rattle.edit.specs.Inner.Decides.{edit_of, clip_of, IsEditDecided};
 
@@ -85,11 +86,13 @@ fn decide_image(
     totals: &mut Totals,
     edit: Edit<'_>,
 ) -> Result<Decision, Refusal>
-    ensures { let opened = opening image.now (length words.old) in
+    ensures accounted { let opened = opening image.now (length words.old) in
         let plan = planned opened (plan_of (edit_of edit.entry) (disc_of image.now)) in
         let clip = clip_of edit.entry in
         IsAccountedFor plan image.now (length words.old) (length bytes.old) bytes.new clip
         totals.old (accounted result totals.new) }
+    ensures passable { let opened = opening image.now (length words.old) in
+        opened ≡ Ok tt → Passable (edit_of edit.entry) }
 {
     let disc = OpenDisc::of_image(image, words)?;
     let decided = decide(&disc, bytes, edit);
@@ -106,9 +109,11 @@ pub fn run(
     totals: &mut Totals,
     edit: Edit<'_>,
 ) -> Result<u32, Refusal>
-    ensures { let before = lent image.old words.old bytes.old totals.old in
+    ensures edited { let before = lent image.old words.old bytes.old totals.old in
         let after = lent image.new words.new bytes.new totals.new in
         Edited numbered_as (edit_of edit.entry) before after result }
+    ensures passable { let opened = opening image.old (length words.old) in
+        opened ≡ Ok tt → Passable (edit_of edit.entry) }
 {
     let words = Lent::new(words);
     let bytes = Lent::new(bytes);

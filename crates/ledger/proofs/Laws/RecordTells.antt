@@ -22,7 +22,7 @@ use Rattle.ledger.proofs.Laws.Steps.{step-accepted}
 use Rattle.ledger.proofs.Laws.Sequence.{start, along}
 
 -- a record that was made: the image opened, and the record is the image's
-made_of : (image : List ℕ) (w : ℕ) (t : Totals) → record_answer image w ≡ Ok t → (opening image w ≡ Ok tt) × (t ≡ totals_of image 0)
+pub made_of : (image : List ℕ) (w : ℕ) (t : Totals) → record_answer image w ≡ Ok t → (opening image w ≡ Ok tt) × (t ≡ totals_of image 0)
 unfolding record_answer
 made_of image w t e = go (opening image w) refl
   where
