@@ -5,7 +5,7 @@ use Rattle.refusal.specs.declared.Refusal.{Refusal}
 use Rattle.refusal.specs.declared.Refusal.TheVariants.{LimitOrMemory}
 use Rattle.refusal.specs.Refusal.{Verdict, refuse}
 use Rattle.space.specs.declared.totals.Totals.{Totals}
-use Rattle.opened.specs.Opening.{zeros, opening}
+use Rattle.opened.specs.Opening.{zeros, opening, disc_of}
 use Rattle.disc.specs.Calls.{record_answer}
 use Rattle.edits.specs.Edits.{Edit, plan_of, plan_number, numbered_as, verdict_of, image_after, totals_after}
 use Rattle.edits.specs.Promise.{Lent}
@@ -24,7 +24,7 @@ calls_of (ed ∷ edits) t image words bytes =
 unfoldable pub answers_of : List Call → List ℕ → List (Result ℕ Refusal)
 answers_of [] image = []
 answers_of (c ∷ calls) image =
-    numbered_as (verdict_of c.edit c.totals image c.words c.bytes) (plan_number (plan_of c.edit image))
+    numbered_as (verdict_of c.edit c.totals image c.words c.bytes) (plan_number (plan_of c.edit (disc_of image)))
     ∷ answers_of calls (image_after c.edit c.totals image c.words c.bytes)
 
 -- the calls of a list that has room for so many answers: with room for fewer than there are edits there is none
