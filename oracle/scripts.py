@@ -459,7 +459,7 @@ def places(s):
     s.edit("move", 2, 0x600)
     s.edit("move", 0xFFFFFFFF, 0x600)
     s.edit("move", 0, 0x600)
-    s.edit("resize", 1, 0x180, note="grown bytes are what the free space held")
+    s.edit("resize", 1, 0x180, note="what it gains is as the free space held it")
     s.edit("resize", 1, 0xFF, note="zeros over the lost end")
     s.edit("resize", 1, 0xA6)
     s.edit("move", 1, 0x45B)
@@ -587,7 +587,7 @@ def empty_files(s):
     s.edit("resize", 11, 2, note="one more than is left: another place")
     s.load()
     for offset in (0x900, 0, 0x441, 0x2001, 0xC000, 0xFFFFFFFF, 0xFFFFFFFE):
-        s.edit("move", 1, offset, note="an empty file may go anywhere")
+        s.edit("move", 1, offset, note="an empty file goes anywhere")
     s.edit("move", 12, 0x800)
     s.edit("move", 13, 0x6FFF)
     s.edit("move", 13, 0x7001)
@@ -1234,7 +1234,7 @@ def reads(s):
     s.read(4)
     s.heading("a window that the Rust cannot be handed: start + position is above 2^64 - 1")
     s.window(4, 2 ** 64 - 1, 2 ** 64 - 2)
-    s.seek("current", 0, rules=[0, 2 ** 64 - 2], why="current with distance 0 always succeeds")
+    s.seek("current", 0, rules=[0, 2 ** 64 - 2], why="a distance of 0 from the current position is never refused")
     s.read(4, rules=[0, 0, 2 ** 64 - 2, b"...."], why="none are read past the image")
     s.seek("current", 1, rules=23, why="start + position passes 2^64 - 1")
     s.read(4, rules=[0, 0, 2 ** 64 - 2, b"...."], why="a refused seek leaves the window as it was")
@@ -1544,7 +1544,7 @@ def unread(s):
 
 # ---- fills
 
-LONG = "a clip above 2^32 - 1 bytes finds no place; the Rust panics"
+LONG = "a clip of more than 32 bits' length; the Rust panics"
 
 
 def filled(s):
@@ -1700,14 +1700,14 @@ def fills_beside_the_program(s):
 # ---- records: used bytes, the largest free region, accepted edits
 
 MOST = 0xFFFFFFFF
-COUNT = "the edit count would leave 0 to 2^32 - 1"
+COUNT = "the edit count would pass 2^32 - 1"
 BELOW = "used bytes would be below 0"
 ABOVE = "used bytes would be above 2^32 - 1"
 
 
 def records_of_edits(s):
     s.lend(0x40, 0x100)
-    new_image(s, "the small master: a record is made of it, goes into an edit and comes back", 0x2000, A_AT_500, free=False)
+    new_image(s, "the small master: a record is made of it, and handed to an edit", 0x2000, A_AT_500, free=False)
     for name, arguments, record in [
             ("resize", (1, 756), (1870, 6156, 1)), ("resize", (1, 0x100), (1370, 6656, 1)), ("resize", (1, 0), (1114, 7078, 1)),
             ("resize", (1, 0x1B00), (8026, 166, 1)), ("move", (1, 0x600), (1370, 6400, 1)), ("rewrite", (), (1370, 6656, 1)),
@@ -1721,7 +1721,7 @@ def records_of_edits(s):
     s.make_record(1370, 6656, "as above")
     for name, arguments in [("move", (1, 0x580)), ("move", (1, 0x400)), ("resize", (1, 0x1B01)), ("resize", (0, 0)), ("replace", (2, b"")),
                             ("insert_file", (0, b"a")), ("insert_directory", (1, b"b")), ("make_directories", (0, b".."))]:
-        s.edit(name, *arguments, note="a refused edit hands the record back unaltered")
+        s.edit(name, *arguments, note="a refused edit leaves the record")
     s.record()
     s.edit("resize", 1, 756, note="none is in use")
 
@@ -2138,7 +2138,7 @@ def tables(s):
 # ---- Japanese names. What the Rust's codec turns back into equal bytes is the Rust's to answer; the oracle skips the rest.
 
 LEAD = "a lead byte without its trail"
-AFRESH = LEAD + "; the byte after it is judged afresh"
+AFRESH = LEAD + "; the byte after it is looked at anew"
 PAIR = "a pair like any other; the Rust's codec does not read it"
 UNWRITTEN = "a pair like any other; the Rust's codec reads it and does not write it"
 OTHER = "a pair like any other; the Rust's codec writes another for it"
@@ -2156,7 +2156,7 @@ def one_name(name):
 def names_opened(s):
     s.lend(0x1000, 0x1000)
     for name, note in [
-            (japanese("表"), "the trail byte 0x5c is not a backslash"), (japanese("ソフト.bin"), ""), (japanese("構成／予定"), ""), (japanese("＼"), ""),
+            (japanese("表"), "the trail byte 0x5c is no backslash"), (japanese("ソフト.bin"), ""), (japanese("構成／予定"), ""), (japanese("＼"), ""),
             (b"\xA1", "the first single byte"), (b"\xDF", "the last"), (b"\x81\x40", "the first lead byte and the first trail"),
             (b"\x81\x7E", "trail 0x7e"), (b"\x81\x80", "trail 0x80"), (b"\x9F\xFC", "lead 0x9f, the last trail"), (b"\xE0\x40", "lead 0xe0"),
             (b"\xFC\x4B", "lead 0xfc"), (b"\x81\x81", ""), (b"\xB1\x95\x5C.", "a single byte, a pair, a dot"), (b".\xB1", ""), (b"..\x95\x5C", ""),
