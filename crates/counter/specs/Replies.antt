@@ -1,6 +1,6 @@
--- What the calls give back in C: for each answer of the crates below its number (document 01: "Causes and their numbers"; 0 where the call
--- is accepted), and the slots that the caller lends, as many as the answer has words. With a refusal they are "left as it was".
--- Assumes nothing: these are definitions.
+-- What the calls give back in C: each answer's number, 0 where the call is accepted (RULES, Causes), and the
+-- slots that the caller lends, as many as the answer has words. With a refusal they stay. Assumes nothing:
+-- these are definitions.
 use Rattle.std.specs.Prelude.{Some, None, Result, Ok, Err, ℕ, List, [], ◌∷◌, ◌++◌, slice_index}
 use Rattle.refusal.specs.declared.Refusal.{Refusal}
 use Rattle.refusal.specs.Refusal.{Verdict, number_of}
@@ -81,7 +81,7 @@ abbrev pub entry_words : ℕ → Entry → List ℕ
 entry_words k (File f) = k ∷ 0 ∷ f.offset ∷ f.size ∷ []
 entry_words k (Directory d) = k ∷ 1 ∷ d.parent ∷ d.next ∷ []
 
--- "7 text and 11 data offsets, then addresses, then sizes in that order, BSS address, BSS size, entry point"
+-- offsets, addresses and sizes, of 7 text and then of 11 data sections each; BSS address and size; entry point
 unfoldable pub dol_words : DolHeader → List ℕ
 dol_words h =
     (h.text_offsets ++ h.data_offsets)

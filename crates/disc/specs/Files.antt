@@ -1,5 +1,5 @@
--- The answers of the calls on entries, files and the executable (document 01; the order of refusals: "Calls go on: path over 1,024 bytes or
--- result list short 9, then 15, 16 or 17"). Assumes nothing: these are definitions.
+-- The answers of the calls on entries, files and the executable, and the order of their refusals (RULES,
+-- Calls). Assumes nothing: these are definitions.
 use Rattle.std.specs.Prelude.{Result, Ok, Err, nat_lt}
 use Rattle.refusal.specs.Refusal.{Verdict}
 use Rattle.refusal.specs.declared.Refusal.{Refusal}
@@ -25,7 +25,7 @@ use Rattle.opened.specs.Answers.{behind, summary_of, max_region_size_answer}
 unfoldable pub entry_answer : List ℕ → ℕ → ℕ → Found
 entry_answer image words k = behind (opening image words) found.Refused (entry_found (nodes_in image) k)
 
--- the entry of a tree that a path leads to: "path over 1,024 bytes .. 9"
+-- the entry of a tree that a path leads to; a path of more than 1,024 bytes is 9
 abbrev pub path_found : List Node → ℕ → List ℕ → Found
 path_found nodes start path =
     behind (refuse (nat_lt 1024 (length path)) LimitOrMemory (Ok tt)) found.Refused (found_at nodes (lookup nodes start path))

@@ -15,7 +15,7 @@ use Rattle.ledger.specs.Runs.{Passable, AllWithin, HandedOn, image_after_all, to
 use Rattle.ledger.specs.Lists.{calls_of, answers_of, AppliesInTurn, LedgerHoldsAfter, TellsAfter}
 use Rattle.ledger.proofs.Laws.Sequence.{start}
 use Rattle.ledger.proofs.Laws.Steps.{step}
-use Rattle.ledger.proofs.Laws.Demand3.{demand-3}
+use Rattle.ledger.proofs.Laws.AfterAnyList.{ledger-holds}
 use Rattle.ledger.proofs.Laws.RecordTells.{made_of, record-tells}
 
 -- the first i edits are applied; `now` are the answers so far
@@ -103,7 +103,7 @@ module _ (edits : List Edit) (first ws bs : List ℕ) (t₀ : Totals) (old : Lis
 
     pub none-holds : AllBytes first → LedgerHoldsAfter (length old) edits (lent first ws bs t₀) (lent first ws' bs' t₀)
     unfolding image_after_all
-    none-holds b o = rw short (demand-3 first (length ws) (length ws) [] b o (omega arith) tt)
+    none-holds b o = rw short (ledger-holds first (length ws) (length ws) [] b o (omega arith) tt)
 
     pub none-tells : AllBytes first → TellsAfter (length old) edits (lent first ws bs t₀) (lent first ws' bs' t₀)
     unfolding image_after_all totals_after_all
@@ -121,7 +121,7 @@ module _ (edits : List Edit) (first ws bs : List ℕ) (t₀ : Totals) (old : Lis
     all-applied zw zb = record { verdict = rw long; image = rw long done.image; totals = rw long done.totals; answers = rw long done.answers; words = zw; bytes = zb }
 
     pub all-hold : AllBytes first → LedgerHoldsAfter (length old) edits (lent first ws bs t₀) (lent last ws' bs' t)
-    all-hold b o = rw (long, done.image) (demand-3 first (length ws) (length ws) (calls_of edits t₀ first (length ws) (length bs)) b o (omega arith) (done.within o))
+    all-hold b o = rw (long, done.image) (ledger-holds first (length ws) (length ws) (calls_of edits t₀ first (length ws) (length bs)) b o (omega arith) (done.within o))
 
     pub all-tell : AllBytes first → TellsAfter (length old) edits (lent first ws bs t₀) (lent last ws' bs' t)
     all-tell b m =

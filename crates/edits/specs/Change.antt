@@ -1,5 +1,5 @@
--- What an accepted edit does to an image, and the tests that each edit which writes a table ends with (document 01, "Edits"; document 02, Point 7).
--- Assumes nothing: these are definitions.
+-- What an accepted edit does to an image, and the tests that each edit which writes a table ends with (RULES,
+-- Edits). Assumes nothing: these are definitions.
 use Rattle.std.specs.Prelude.{Ok, nat_lt}
 use Rattle.refusal.specs.Refusal.{Verdict}
 use Rattle.std.specs.Prelude.{ℕ, ◌+◌, ◌-◌, Bool, ◌&&◌, List, ◌++◌, length, replicate}
@@ -24,41 +24,40 @@ pub record Change : Type 0 where
   -- zeroed after the table is written
   pub lost : DiscRegion
 
--- "zeros over a table's lost tail"
+-- the table, and zeros up to the old one's size
 abbrev pub padded : List ℕ → ℕ → List ℕ
 padded table size = table ++ replicate (size - length table) 0
 
--- `commit_file_tree`: the table at f, over one of that size, and "the new FST size in the header"
+-- the table at f, over one of that size, and its size in the header
 unfoldable pub with_table : ℕ → ℕ → List ℕ → List ℕ → List ℕ
 with_table f size table image = put (put image f (padded table size)) fst_size_field.at (be32_bytes (length table))
 
--- "Move copies the smaller of both sizes, writes the table, then zeroes the old place; a shrink zeroes the lost end after the table."
+-- in this order: the file's bytes at its new place, the table, zeros over what the file left or lost
 unfoldable pub written : Change → List ℕ → List ℕ
 written c image =
     put (with_table (fst_offset image) (fst_size image) (encode c.nodes) (put image c.place.offset (span image c.old.offset c.kept)))
     c.lost.offset (replicate c.lost.size 0)
 
--- document 02, Point 7: "If it is nonzero, no edit may write a larger table."
+-- RULES, The stated maximum: 0 states none
 abbrev pub above_maximum : Disc → ℕ → Bool
 above_maximum d size = nat_lt 0 d.maximum && nat_lt d.maximum size
 
--- "A new table must fit the table's own `max_region_size`, taken from the free regions before the edit, and end at or before the edited
--- file's new nonempty place, else 21."
+-- the free regions are those before the edit; the table ends no later than the file's new place begins, where
+-- that is not empty
 abbrev pub room_verdict : Disc → ℕ → DiscRegion → Verdict
 room_verdict d size place =
     refuse (nat_lt (max_region_size d.start d.room (free_of d)) size) NotEnoughSpace
     (refuse (nat_lt 0 place.size && nat_lt place.offset (d.start + size)) NotEnoughSpace
     (Ok tt))
 
--- "working bytes fewer than the new table's size (9), then the table's place (21)"; "26, new table above the maximum, tested just before the
--- table's 21"
+-- RULES, The new table: working bytes, the stated maximum, room
 unfoldable pub place_verdict : Disc → ℕ → ℕ → DiscRegion → Verdict
 place_verdict d bytes size place =
     refuse (nat_lt bytes size) LimitOrMemory
     (refuse (above_maximum d size) TableAboveMaximum
     (room_verdict d size place))
 
--- "Each edit that writes a table ends with the new tree's limits as at opening (entries, texts, working words, depth) and working bytes .."
+-- RULES, The new table: the limits of opening hold for the new tree; then the table's place
 unfoldable pub table_verdict : Change → Disc → ℕ → ℕ → Verdict
 table_verdict c d words bytes = first (limits c.nodes words) (place_verdict d bytes (length (encode c.nodes)) c.place)
 

@@ -6,7 +6,7 @@ use Rattle.space.specs.declared.totals.Totals.{Totals}
 use Rattle.opened.specs.Opening.{zeros, disc_of}
 use Rattle.edits.specs.Edits.{Edit, plan_of, plan_number, verdict_of, image_after, totals_after}
 
--- what a call lends: the image, working words and working bytes; and the record, "that goes into an edit and comes back"
+-- what a call lends: the image, working words and working bytes, and the record
 pub record Lent : Type 0 where
   pub image : List ℕ
   pub words : List ℕ

@@ -1,4 +1,4 @@
--- The program: a nonzero DOL offset means one from there, before the table or behind it.
+-- The program, before the table or behind it (RULES, The program).
 use Rattle.refusal.specs.declared.Refusal.{Refusal}
 use Rattle.refusal.specs.Refusal.{Verdict}
 use Rattle.std.specs.Prelude.{ℕ, ◌+◌, max, Bool, ◌&&◌, List, Option, None, Some, Result, Ok, Err, unwrap_or, if◌then◌else◌, ◌==◌, nat_le}
@@ -11,11 +11,11 @@ use Rattle.executable.specs.Dol.{dol_header_of, file_size_of, dol_verdict_of}
 abbrev pub Program : Type 0
 Program = Result (Option DiscRegion) Refusal
 
--- from there, as long as the DOL's file size and at least 0xE4
+-- from there on, as long as the executable's file, and at least its header
 abbrev pub program_from : List ℕ → ℕ → DiscRegion
 program_from image at = record { offset = at; size = max (file_size_of (dol_header_of image at)) 0xE4 }
 
--- a nonzero DOL offset means a program, whose header may be refused
+-- none where the DOL offset is 0; the header may be refused, 24
 unfoldable pub program_of : List ℕ → Program
 program_of image = if dol_offset image == 0 then Ok None else result_and (dol_verdict_of image (dol_offset image)) (Ok (Some (program_from image (dol_offset image))))
 

@@ -14,7 +14,7 @@ pub fn unnamed_stays()
     ensures { UnnamedStays }
 {}
 
-// After an accepted fill the file is exactly the clip.
+// After an accepted fill, reading the file gives the clip and no more.
 pub fn fill_reads()
     ensures { FillReads }
 {}

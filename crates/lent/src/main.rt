@@ -1,8 +1,8 @@
-// The window that the caller lends and finds moved: seeks and reads on windows of a small image, by
-// `window::seek_and_read`. A script of `replay` cannot say this form; the same seeks and reads by
-// value stand in host/replay/scripts/windows.txt, and give the same. The lines of the first two
-// windows are the Rust's answers; the third is a window that the Rust cannot be handed: current
-// with distance 0 always succeeds, and no byte is read past the image.
+// A lent window, moved where it stands: seeks and reads on windows of a small image, by
+// `window::seek_and_read`. A script of `replay` cannot say this form; the same seeks and reads by value stand
+// in host/replay/scripts/windows.txt, and give the same. The lines of the first two windows are the Rust's
+// answers; the third is a window that the Rust cannot be handed: a distance of 0 from its position is not
+// refused, and no byte is read past the image.
 #![tactic(auto)]
 
 ghost use Rattle.std.specs.Prelude.{◌≡◌, length, IfOk};

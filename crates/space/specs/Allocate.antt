@@ -22,7 +22,7 @@ better_of align wish best r = if fits align wish r && nat_le best.size (rest ali
 abbrev pub no_region : DiscRegion
 no_region = record { offset = 0; size = 0 }
 
--- the largest rest, the last among equals; `best` is the best so far
+-- the largest rest, of equal ones the last; `best` is the best so far
 unfoldable pub largest : ℕ → ℕ → DiscRegion → List DiscRegion → DiscRegion
 largest align wish best rs = fold (better_of align wish) best rs
 

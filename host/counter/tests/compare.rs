@@ -756,7 +756,7 @@ impl Pair {
 
 #[test]
 fn a_line_of_the_list_gives_leave_for_a_field_of_the_header() {
-    // The fields and their places, from the scope paper; FST offset and the magics would make another disc.
+    // The fields and their places (FORMAT, The header); FST offset and the magics would make another disc.
     let fields: [(&str, u64); 17] = [
         ("game code", 0),
         ("maker", 4),

@@ -15,7 +15,7 @@ pub record Accepted (p : Plan) (t : Totals) (image : List ℕ) (words bytes : �
   pub counted : totals_verdict t (used_of image) (used_of (plan_image p image)) ≡ Ok tt
 
 module _ (ed : Edit) (t : Totals) (image : List ℕ) (words bytes : ℕ) where
-  -- LAW: "25 .. tested last": whatever the record holds, what an edit's own tests refuse has their number
+  -- LAW: 25 comes last: whatever the record holds, what an edit's own tests refuse has their number
   pub own_first : (c : Refusal) → opening image words ≡ Ok tt → plan_verdict (plan_of ed (disc_of image)) (disc_of image) words bytes ≡ Err c → verdict_of ed t image words bytes ≡ Err c
   unfolding verdict_of counted_verdict
   own_first c o e = rw (o, e)
@@ -28,7 +28,7 @@ module _ (ed : Edit) (t : Totals) (image : List ℕ) (words bytes : ℕ) where
       let b = first-passed (plan_verdict (plan_of ed (disc_of image)) (disc_of image) words bytes) _ a.1 in
       record { opens = a.0; own = b.0; counted = b.1 }
 
-  -- LAW: "A refused edit hands the record back unaltered.", and the image is as it was
+  -- LAW: a refused edit leaves the record and the image as they were
   pub refused-back : (c : Refusal) → verdict_of ed t image words bytes ≡ Err c → (totals_after ed t image words bytes ≡ t) × (image_after ed t image words bytes ≡ image)
   unfolding totals_after image_after
   refused-back c e = (rw e, rw e)

@@ -1,5 +1,5 @@
--- A fill from three other sides (document 02, Point 4): its tests before 25 are the resize's, an empty clip is a resize to 0, and a clip of the
--- file's own size writes the clip only and wants no working bytes. With 25 and the record: FillRecord of ledger. Assumes nothing.
+-- A fill from three other sides: its tests before 25 are the resize's, an empty clip is a resize to 0, and a clip of the file's
+-- own size writes the clip only and wants no working bytes. With 25 and the record: FillRecord of ledger. Assumes nothing.
 use Rattle.std.specs.Prelude.{Ok, Err}
 use Rattle.refusal.specs.Refusal.{Verdict}
 use Rattle.std.specs.Prelude.{ℕ, ◌≤◌, ◌≡◌, refl, List, [], ltb, length, get_or}

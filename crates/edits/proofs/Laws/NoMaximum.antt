@@ -1,5 +1,5 @@
--- "a publisher who sets the field to 0 sees the old rule" (document 02, Point 7), of the whole edit: answer, image and record are those of an edit
--- that never looks at the stated maximum. Assumes nothing.
+-- With a stated maximum of 0, of the whole edit: answer, image and record are those of an edit that never
+-- looks at it. Assumes nothing.
 use Rattle.std.specs.Prelude.{Ok}
 use Rattle.refusal.specs.Refusal.{Verdict}
 use Rattle.std.specs.Prelude.{ℕ, ◌≡◌, cond, List, ltb, length}

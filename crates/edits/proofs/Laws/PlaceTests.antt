@@ -24,12 +24,12 @@ use Rattle.edits.specs.Edits.{no_place}
 -- ---- the stated maximum
 
 module _ (image : List ℕ) (room size : ℕ) (place : DiscRegion) where
-  -- LAW: "tested just before the table's 21": a table above the maximum that the working bytes hold is 26, whatever room there is
+  -- LAW: just before 21: a table above the maximum that the working bytes hold is 26, whatever room there is
   pub stated-first : size ≤ room → above_maximum (disc_of image) size ≡ true → place_verdict (disc_of image) room size place ≡ Err TableAboveMaximum
   unfolding place_verdict
   stated-first held above = rw (le-ltb room size held, above)
 
-  -- LAW: "a publisher who sets the field to 0 sees the old rule", and so does a table that is no larger than the maximum
+  -- LAW: where the maximum is 0, or the table no larger than it, the tests are those without it
   pub stated-apart : (fst_max_size image ≡ 0) ⊎ (size ≤ fst_max_size image) → place_verdict (disc_of image) room size place ≡ refuse (ltb room size) LimitOrMemory (room_verdict (disc_of image) size place)
   unfolding place_verdict
   stated-apart (inl none) = rw none

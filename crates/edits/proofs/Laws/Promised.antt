@@ -21,7 +21,7 @@ module _ {A : Type 0} (answer : Verdict → ℕ → A) (ed : Edit) (before after
   abbrev new : List ℕ
   new = plan_image (plan_of ed (disc_of before.image)) before.image
 
-  -- THEOREM: "A refusal returns one of document 01's numbers, with image .. unchanged and working memory zero", and the record
+  -- THEOREM: a refusal has one of the numbers, leaves image and record, and zeroes the working memory
   pub edit-refused : (c : Refusal) → verdict ≡ Err c →
       (r ≡ answer (Err c) number) × (after.image ≡ before.image) × (after.totals ≡ before.totals) × (after.words ≡ zeros before.words) × (after.bytes ≡ zeros before.bytes)
   edit-refused c e =

@@ -1,5 +1,5 @@
--- "An image whose table is already larger still opens and may be edited down to the maximum" (document 02, Point 7): a rewrite that drops texts which
--- no entry uses, or writes fewer of them, does it wherever the tree written anew is within the maximum. Assumes nothing.
+-- An image whose table is above the maximum may be edited down to it: a rewrite that drops texts which no entry uses,
+-- or writes fewer of them, does it wherever the tree written anew is within the maximum. Assumes nothing.
 use Rattle.std.specs.Prelude.{Ok}
 use Prim.Native.Nat.{ℕ, ◌+◌, ◌^◌, ◌<◌, ◌≤◌}
 use Rattle.std.specs.Prelude.{◌≡◌, refl, List}

@@ -107,7 +107,7 @@ first-exists image k nm offset size e =
     let a : (get_or (files_of xs) (files_before k xs) no_place).size ≡ size = ap (λ (r : DiscRegion). r.size) (files-at k xs d) ∙ rw b in
     ((g.0.0, g.1.0, rw (before-bare k (nodes_in image)) at c), rw (before-bare k (nodes_in image)) at a)
 
--- THEOREM: "starting place and bytes, m, and whether it was named"
+-- THEOREM: its starting place and bytes, m, and whether it was named
 pub first-told : (image : List ℕ) (reports : List Report) (k : ℕ) (nm : List ℕ) (offset size : ℕ) → get_or (nodes_in image) k none ≡ file nm offset size → OfFiles reports (first_ledger image) →
     let l : Ledger = first_ledger image in
     let f : ℕ = files_before k (nodes_in image) in

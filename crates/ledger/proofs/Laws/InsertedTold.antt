@@ -1,5 +1,5 @@
--- An inserted file's history after any list, by what the reports after the insert tell of it alone: "a file begins with place 0, size 0,
--- no bytes, m 0, unnamed", and m stays 0. Assumes nothing.
+-- An inserted file's history after any list, by what the reports after the insert tell of it alone: it begins
+-- without a byte, so m stays 0. Assumes nothing.
 use Rattle.std.specs.Prelude.{ℕ, zero, suc, ◌≤◌, ◌≡◌, refl, Bool, true, false, cond, List, [], ◌∷◌, ◌++◌, length}
 use Rattle.std.proofs.Common.{sym, ap, ◌∙◌, arith, length-set}
 use Rattle.tree.specs.Table.{Node, file, directory}

@@ -50,7 +50,7 @@ pub record MadeFrom (image after : List ℕ) (answer : Result ℕ Refusal) (star
   pub answered : answer ≡ Ok number
   -- the tree is the one that the walk made
   pub tree : nodes_in after ≡ made_nodes (nodes_in image) (make (nodes_in image) [] start false (components path))
-  -- "walks its path by Lookup's rules": the path leads to that number, and a directory is there
+  -- the path leads to that number, and a directory is there
   pub found : lookup (nodes_in after) start path ≡ Ok number
   pub kind : is_directory (get_or (nodes_in after) number none) ≡ true
 

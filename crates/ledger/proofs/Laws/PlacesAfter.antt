@@ -43,7 +43,7 @@ pub record ResizedTo (image after : List ℕ) (k : ℕ) (nm : List ℕ) (offset 
   -- a shrink, and growth that fits where the file is, leave it there
   pub shrinks : n ≤ size → at ≡ offset
   pub grows : n ≤ max_region_size offset size (free_space_of image) → at ≡ offset
-  -- "Growth finds a place with alignment 0x8000 where the file can't grow where it is."
+  -- at a multiple of 0x8000, where it can't grow in place
   pub found : size < n → max_region_size offset size (free_space_of image) < n → (r : DiscRegion) × (allocation_of 0x8000 n (free_space_of image) ≡ Ok r) × (at ≡ r.offset)
   pub multiple : size < n → max_region_size offset size (free_space_of image) < n → (j : ℕ) × (at ≡ j * 0x8000)
 

@@ -47,7 +47,7 @@ module _ (ed : Edit) (totals : Totals) (image : List ℕ) (words bytes : ℕ) (b
   unfolding image_after
   tree-after v = rw v (after v).0
 
-  -- THEOREM: "no edit alters its bytes": accepted or refused, it leaves the program as it was
+  -- THEOREM: accepted or refused, an edit leaves the program as it was
   pub program-after : ProgramKept image (image_after ed totals image words bytes)
   unfolding image_after
   program-after = go (verdict_of ed totals image words bytes) refl

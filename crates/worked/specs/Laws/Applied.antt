@@ -27,7 +27,7 @@ use Rattle.ledger.specs.Runs.{Call, image_after_all, accepted_in, AllWithin}
 use Rattle.ledger.specs.Spared.{number_after, Spared}
 use Rattle.ledger.specs.Theorem.{LedgerHolds, StillThere, ShowsClip, Tells, WithinMaximum}
 use Rattle.ledger.proofs.Laws.AnyMaximum.{any-maximum}
-use Rattle.ledger.proofs.Laws.Demand3.{demand-3, unnamed-stays}
+use Rattle.ledger.proofs.Laws.AfterAnyList.{ledger-holds, unnamed-stays}
 use Rattle.ledger.proofs.Laws.EditedDown.{edited-down}
 use Rattle.ledger.proofs.Laws.FillReads.{read_into, fill-reads, read_back}
 use Rattle.ledger.proofs.Laws.MaximumKept.{maximum-kept}
@@ -74,7 +74,7 @@ spared : Spared reports (first_ledger first) 0
 unfolding files_before put_in insert_at splice bump set_place shifted
 spared = rw at_first.tree (λ e. refl, (λ e. refl, (λ e. absurd (false≢true e), (λ e. refl, (λ e. refl, (λ e. refl, (λ e. refl, tt)))))))
 
--- ---- demand 3
+-- ---- what holds after the list
 
 -- what the claim comes to for the file with entry number k, whichever that is
 any_file : {w : ℕ} {first image : List ℕ} {l : Ledger} → LedgerHolds w first image l →
@@ -84,9 +84,9 @@ any_file : {w : ℕ} {first image : List ℕ} {l : Ledger} → LedgerHolds w fir
 any_file d k nm offset size e h is = let f = d.files k nm offset size e in (rw is at f.m-size, rw is at f.m-bytes, rw is at f.first-bytes, rw is at f.unnamed)
 
 claim : (w : ℕ) → master_words ≤ w → LedgerHolds w first last ledger
-claim w h = rw (worked.image, worked.told, worked.entered) at (demand-3 first master_words w list bytes at_first.opens h (within w h))
+claim w h = rw (worked.image, worked.told, worked.entered) at (ledger-holds first master_words w list bytes at_first.opens h (within w h))
 
-pub record Demanded (w : ℕ) : Type 0 where
+pub record LastHolds (w : ℕ) : Type 0 where
   pub opens : opening last w ≡ Ok tt
   pub tree : map bare (nodes_in last) ≡ directory [] 3 ∷ file (0x61 ∷ []) 0 0x100 ∷ file (0x62 ∷ []) 0 5 ∷ []
   -- byte 0x500 is `a`'s, the third used region's, and no other's
@@ -105,9 +105,9 @@ first-program : (dol_offset first ≡ 0x700) × (span first 0x700 0x104 ≡ prog
 unfolding first stating master put be32
 first-program = (refl, refl)
 
-pub demanded : (w : ℕ) → master_words ≤ w → Demanded w
+pub last-holds : (w : ℕ) → master_words ≤ w → LastHolds w
 unfolding put rows_of nonempty program_in own_region total_size files_before
-demanded w h =
+last-holds w h =
     let d = claim w h in
     record {
       opens = d.opens;
@@ -216,7 +216,7 @@ over-kept = rw over_last at (maximum-kept over master_words master_words over_li
 pub same-table : (fst_size (image_after_all over_list over) ≡ 0x1A) × (table_of (image_after_all over_list over) ≡ table_of over)
 same-table = let l = over-kept.larger (rw over-sizes.0 (omega arith)) (rw (over-sizes.0, over-sizes.1) (omega arith)) in rw over_last (l.0 ∙ over-sizes.1, l.1)
 
--- "may be edited down to the maximum": the small master with a zero byte more behind its texts, 0x1B bytes in all
+-- ---- a table above the maximum edited down to it: the small master with a zero byte more behind its texts, 0x1B bytes in all
 
 down-bytes : AllBytes (slack 0x1A)
 unfolding slack stating master put bytes_only

@@ -1,5 +1,5 @@
--- Worked fills (document 02, Point 4), by computing, on the images of Worked: a clip of the file's size, a shorter one, none, longer ones, and
--- the refusals. Assumes nothing.
+-- Worked fills, by computing, on the images of Worked: a clip of the file's size, a shorter one, none, longer
+-- ones, and the refusals. Assumes nothing.
 use Rattle.std.specs.Prelude.{Ok, Err}
 use Rattle.std.specs.Prelude.{ℕ, ◌<◌, ◌≡◌, refl, List, [], ◌∷◌, ◌++◌, length, replicate}
 use Rattle.std.proofs.Common.{ap, ◌∙◌, lt-ltb}

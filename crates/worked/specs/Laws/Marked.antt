@@ -1,5 +1,5 @@
--- "Marked P": P1 to P12 of document 01, and the numbers of its listing, about the definitions that the calls' promises cite: by computing.
--- Assumes nothing.
+-- RULES, Worked examples, and the numbers of the small master's listing, about the definitions that the
+-- calls' promises cite: by computing. Assumes nothing.
 use Rattle.std.specs.Prelude.{None, Ok, Err}
 use Rattle.refusal.specs.Refusal.{Verdict}
 use Rattle.std.specs.Prelude.{ℕ, ◌+◌, ◌-◌, ◌≡◌, refl, List, [], ◌∷◌, negsuc}
@@ -47,7 +47,7 @@ pub nodes : nodes_in master ≡ directory [] 2 ∷ file (0x61 ∷ []) 0x500 0x10
 unfolding master put table_of nodes_in nodes_of nodes_from node_at name_at count be24 be32
 nodes = refl
 
--- "DOL offset 0": there is no program
+-- the DOL offset is 0, so there is no program
 pub no_program : program_of master ≡ Ok None
 unfolding master put be32 program_of
 no_program = refl
@@ -140,32 +140,32 @@ moved : free_regions_list (moved_to 0x600) master_words four ≡ 0x45A ∷ 0x1A6
 unfolding free_list rows_of put
 moved = rw (moved-is, moved-opens, moved-free)
 
--- ---- the table, in the paper's order; `a` is entry 1. A refusal stands with its number
+-- ---- P1 to P12; `a` is entry 1. A refusal stands with its number
 
 pub record Marked : Type 0 where
-  -- "(P1) largest size of `a` 0x1B00"
+  -- the largest size of `a`
   pub P1 : max_file_size_answer master master_words 1 ≡ Ok 0x1B00
-  -- "(P2) allocate 0x100 at 0x100 gives 0x600, 0x1A00"
+  -- a place for 0x100 bytes at alignment 0x100
   pub P2 : allocate_answer master master_words 0x100 0x100 ≡ Ok (at 0x600 0x1A00)
-  -- "(P3) 0x1A01 at 1 gives 21"
+  -- one byte more than is free together, at alignment 1
   pub P3 : (allocate_answer master master_words 0x1A01 1 ≡ Err NotEnoughSpace) × (number_of NotEnoughSpace ≡ 21)
-  -- "(P4) `a` to 0x580: 20"
+  -- `a` moved over its own old place
   pub P4 : (on_master (move_file 1 0x580) ≡ Err OverlappingMove) × (number_of OverlappingMove ≡ 20)
-  -- "(P5) to 0x600: free 0x45A, 0x1A6 and 0x700, 0x1900"
+  -- `a` moved to 0x600: what is free then
   pub P5 : (on_master (move_file 1 0x600) ≡ Ok tt) × (free_regions_list (moved_to 0x600) master_words four ≡ 0x45A ∷ 0x1A6 ∷ 0x700 ∷ 0x1900 ∷ [])
-  -- "(P6) to 0x400: 21"
+  -- `a` moved into the header
   pub P6 : (on_master (move_file 1 0x400) ≡ Err NotEnoughSpace) × (number_of NotEnoughSpace ≡ 21)
-  -- "(P7) resize 0x1B00 accepted"
+  -- `a` made as large as it can be
   pub P7 : on_master (resize_file 1 0x1B00) ≡ Ok tt
-  -- "(P8) 0x1B01: 21"
+  -- a byte more
   pub P8 : (on_master (resize_file 1 0x1B01) ≡ Err NotEnoughSpace) × (number_of NotEnoughSpace ≡ 21)
-  -- "(P9) path `` gives 0"
+  -- the empty path
   pub P9 : lookup_answer master master_words 0 [] ≡ found.At 0 (Directory (record { parent = 0; next = 2 }))
-  -- "(P10) `a/` 17"
+  -- `a/`, a component behind a file
   pub P10 : (lookup_answer master master_words 0 a/ ≡ found.Refused ExpectedDirectory) × (number_of ExpectedDirectory ≡ 17)
-  -- "(P11) `..` 18"
+  -- `..` above the root
   pub P11 : (lookup_answer master master_words 0 up ≡ found.Refused NotFound) × (number_of NotFound ≡ 18)
-  -- "(P12) window of `a`, current -1 from 0: 23"; `negsuc 0` is the distance -1
+  -- the window of `a`, a step back from position 0; `negsuc 0` is the distance -1
   pub P12 : (open_file_answer master master_words 1 ≡ Ok window_of_a) × (seek_of window_of_a (Current (negsuc 0)) ≡ Err InvalidSeek) × (number_of InvalidSeek ≡ 23)
 
 pub marked : Marked
@@ -185,7 +185,7 @@ marked = record {
   P12 = (rw (opens, nodes), refl, refl);
 }
 
--- ---- the listing: "total 8192 used 1370", "d 0 0 2 /", "f 1 1280 256 /a", "r 1114 166", "r 1536 6656"
+-- ---- the listing, line by line
 
 pub record Listed : Type 0 where
   pub totals : totals_answer master master_words ≡ Ok (record { disc_end = 8192; used = 1370 })
@@ -204,7 +204,7 @@ small-listing = record {
   list = rw (opens, free);
 }
 
--- ---- document 02, Point 1: the same free regions in clusters, 166, 0, 0 and 6656, 0, 0
+-- ---- the same free regions in clusters
 
 pub record InClusters : Type 0 where
   pub regions : free_clusters_answer master master_words 6 ≡ Ok 2

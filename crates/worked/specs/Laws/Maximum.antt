@@ -1,5 +1,5 @@
--- Worked stated maxima (document 02, Point 7), by computing, on the small master: its table has 0x1A bytes, and 0x28 with an entry `b` more.
--- Assumes nothing.
+-- Worked stated maxima, by computing, on the small master: its table has 0x1A bytes, and 0x28 with an entry
+-- `b` more. Assumes nothing.
 use Rattle.std.specs.Prelude.{Ok, Err}
 use Rattle.refusal.specs.Refusal.{Verdict}
 use Rattle.std.specs.Prelude.{ℕ, ◌-◌, ◌^◌, ◌≡◌, refl, List, [], ◌∷◌, replicate}
@@ -160,7 +160,7 @@ on m ed = verdict_of ed fresh (stating m) master_words 0x28
 pub record Maximum : Type 0 where
   -- a table of exactly the maximum: a rewrite is accepted, an insert is 26
   pub exact : (on 0x1A rewrite ≡ Ok tt) × (on 0x1A insert_b ≡ Err TableAboveMaximum)
-  -- "An image whose table is already larger still opens": a rewrite is 26, and so are a move and a shrink
+  -- an image whose table is above it opens: a rewrite is 26, and so are a move and a shrink
   pub larger : (opening (stating 0x19) master_words ≡ Ok tt) × (on 0x19 rewrite ≡ Err TableAboveMaximum) × (on 0x19 (move_file 1 0x600) ≡ Err TableAboveMaximum) × (on 0x19 (resize_file 1 0xFF) ≡ Err TableAboveMaximum)
   -- a resize to the present size and a fill of it write no table
   pub same_size : (on 0x19 (resize_file 1 0x100) ≡ Ok tt) × (on 0x19 (fill_file 1 clip) ≡ Ok tt)
@@ -168,7 +168,7 @@ pub record Maximum : Type 0 where
   pub none : (on 0 rewrite ≡ Ok tt) × (on 0 insert_b ≡ Ok tt)
   -- the table with `b` has 0x28 bytes
   pub grown : (on 0x28 insert_b ≡ Ok tt) × (on 0x27 insert_b ≡ Err TableAboveMaximum)
-  -- "may be edited down to the maximum": a table of 0x1B bytes, one of which no name uses
+  -- one that is edited down to it: a table of 0x1B bytes, one of which no name uses
   pub edited-down : verdict_of rewrite fresh (slack 0x1A) master_words 0x1A ≡ Ok tt
   -- 9 comes before 26: one working word too few for three entries, one working byte too few for their table
   pub limits-first : verdict_of insert_b fresh (stating 0x1A) 19 0x28 ≡ Err LimitOrMemory

@@ -1,5 +1,5 @@
--- Document 02, Point 2, on small images, by computing: the walk before 24 and 24 before 14, what a program uses, and that neither a file nor the
--- table takes its bytes. Assumes nothing.
+-- Programs on small images, by computing: the walk before 24 and 24 before 14, what a program uses, and that
+-- neither a file nor the table takes its bytes. Assumes nothing.
 use Rattle.std.specs.Prelude.{Some, Ok, Err}
 use Rattle.refusal.specs.Refusal.{Verdict}
 use Rattle.std.specs.Prelude.{ℕ, ◌+◌, ◌≡◌, refl, List, [], ◌∷◌, ◌++◌, replicate}

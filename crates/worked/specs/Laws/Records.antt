@@ -1,5 +1,5 @@
--- Worked totals records (document 02, Point 6), by computing, on the small master: a record made, moved by each kind of edit that is accepted, and
--- 25 at each end of its range. Assumes nothing.
+-- Worked totals records, by computing, on the small master: a record made, moved by each kind of edit that is
+-- accepted, and 25 at each end of its range. Assumes nothing.
 use Rattle.std.specs.Prelude.{Ok, Err}
 use Rattle.refusal.specs.Refusal.{Verdict}
 use Rattle.std.specs.Prelude.{ℕ, ◌-◌, ◌^◌, ◌≡◌, refl, List, [], ◌∷◌}
@@ -98,7 +98,7 @@ abbrev counted-out : Totals
 counted-out = totals 1370 6656 most
 
 pub record Records : Type 0 where
-  -- "A record made at opening, its count 0"
+  -- one that is made counts no edit
   pub made : record_answer master master_words ≡ Ok fresh
   -- `a` grown by 500 bytes, which the free region behind it loses
   pub grown : (answer (resize_file 1 756) fresh ≡ Ok tt) × (after (resize_file 1 756) fresh ≡ totals 1870 6156 1)
@@ -108,7 +108,7 @@ pub record Records : Type 0 where
   pub rewritten : (answer rewrite fresh ≡ Ok tt) × (after rewrite fresh ≡ totals 1370 6656 1)
   -- a move uses no more bytes; of the region behind `a` 6400 are left
   pub moved : (answer (move_file 1 0x600) fresh ≡ Ok tt) × (after (move_file 1 0x600) fresh ≡ totals 1370 6400 1)
-  -- a record that is not the image's: used bytes and count move from what it holds, and "the largest region is the new image's"
+  -- a record that is not the image's: used bytes and count move from what it holds, and the largest region is that of the new image
   pub other : after (resize_file 1 756) (totals 5 7 9) ≡ totals 505 6156 10
   pub largest : (n : ℕ) → (after rewrite (totals 1370 n 0) ≡ totals 1370 6656 1) × (after (resize_file 1 0x100) (totals 1370 n 0) ≡ totals 1370 6656 1)
   -- the last edit that can be counted, and one more: 25, and all is left as it was
@@ -119,7 +119,7 @@ pub record Records : Type 0 where
   pub below : (answer (resize_file 1 0xFF) (totals 1 6656 0) ≡ Ok tt) × (answer (resize_file 1 0xFF) (totals 0 6656 0) ≡ Err TotalsOutOfRange)
   -- one byte more, where there is room for one and for none
   pub above : (answer (resize_file 1 0x101) (totals (most - 1) 6656 0) ≡ Ok tt) × (answer (resize_file 1 0x101) (totals most 6656 0) ≡ Err TotalsOutOfRange)
-  -- "tested last": with that record too a move to no free place is 21, and one onto the file itself 20
+  -- 25 comes last: with that record too a move to no free place is 21, and one onto the file itself 20
   pub before-25 : (answer (move_file 1 0x400) counted-out ≡ Err NotEnoughSpace) × (answer (move_file 1 0x580) counted-out ≡ Err OverlappingMove) × (after (move_file 1 0x400) counted-out ≡ counted-out)
   pub numbers : (number_of TotalsOutOfRange ≡ 25) × (number_of NotEnoughSpace ≡ 21) × (number_of OverlappingMove ≡ 20)
 

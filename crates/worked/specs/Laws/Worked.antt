@@ -1,5 +1,5 @@
--- Worked examples beside P1 to P12, by computing, of what demand 3 does not show: an old place, a table's lost tail and a shrunk file's lost
--- end zeroed; 19; growth at a multiple of 0x8000. Assumes nothing.
+-- Worked examples beside P1 to P12, by computing, of what the claim about lists does not show: an old place, a table's
+-- lost tail and a shrunk file's lost end zeroed; 19; growth at a multiple of 0x8000. Assumes nothing.
 use Rattle.std.specs.Prelude.{Ok, Err}
 use Rattle.refusal.specs.Refusal.{Verdict}
 use Rattle.std.specs.Prelude.{ℕ, ◌≡◌, refl, List, [], ◌∷◌, ◌++◌, replicate}
@@ -62,11 +62,11 @@ unfoldable pub small : List ℕ
 small = image_to 0x600
 
 pub record Worked : Type 0 where
-  -- "Move copies the smaller of both sizes, writes the table, then zeroes the old place"
+  -- the file's bytes go along, and its old place is zeroed
   pub moved : (verdict_on (move_file 1 0x540) small ≡ Ok tt) × (span (after (move_file 1 0x540) small) 0x540 8 ≡ of_a) × (span (after (move_file 1 0x540) small) 0x500 8 ≡ replicate 8 0)
-  -- "zeros over a table's lost tail, the new FST size in the header"
+  -- zeros where the old table was longer, and the new size in the header
   pub rewritten : (span small 0x440 43 ≡ entries ++ lost) × (verdict_on rewrite small ≡ Ok tt) × (span (after rewrite small) 0x440 43 ≡ entries ++ (0 ∷ 0 ∷ 0 ∷ [])) × (fst_size (after rewrite small) ≡ 40)
-  -- "a shrink zeroes the lost end after the table"
+  -- what the file loses is zeroed
   pub shrunk : (verdict_on (resize_file 1 3) small ≡ Ok tt) × (span (after (resize_file 1 3) small) 0x500 12 ≡ 1 ∷ 2 ∷ 3 ∷ 0 ∷ 0 ∷ 0 ∷ 0 ∷ 0 ∷ of_b)
   -- a name that a child of the root has: 19, for a file and for a directory
   pub exists : (verdict_on (insert_file 0 (0x62 ∷ [])) small ≡ Err AlreadyExists) × (verdict_on (insert_directory 0 (0x62 ∷ [])) small ≡ Err AlreadyExists) × (number_of AlreadyExists ≡ 19)
@@ -139,7 +139,7 @@ grown-reads = (refl, refl, refl)
 
 -- `a` grown by 4 bytes, which do not fit before `b`
 pub record Grown : Type 0 where
-  -- "Growth finds a place with alignment 0x8000 where the file can't grow where it is. Grown bytes are what the free space held."
+  -- at a multiple of 0x8000, where it can't grow in place; what it gains is as the free space held it
   pub accepted : verdict_on (resize_file 1 12) large ≡ Ok tt
   pub tree : nodes_in (after (resize_file 1 12) large) ≡ directory [] 3 ∷ file (0x61 ∷ []) 0x8000 12 ∷ file (0x62 ∷ []) 0x508 4 ∷ []
   pub bytes : span (after (resize_file 1 12) large) 0x8000 12 ≡ of_a ++ (0xEE ∷ 0xEE ∷ 0xEE ∷ 0xEE ∷ [])
