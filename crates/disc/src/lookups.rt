@@ -43,6 +43,7 @@ fn file_in(disc: &OpenDisc<'_>, number: u32) -> Result<FileEntry, Refusal>
 }
 
 /// Entry `number`.
+#[tactic(auto, using(crate::proofs::Asked::not_asked), unfolding(crate::specs::Files::entry_answer))]
 pub fn entry(image: &[u8], words: &mut [u32], number: u32) -> Found
     ensures answer { result ≡ entry_answer image.now (length words.old) number }
     ensures words_zero { words.new ≡ zeros words.old }
@@ -56,6 +57,7 @@ pub fn entry(image: &[u8], words: &mut [u32], number: u32) -> Found
 
 /// The entry that a path leads to from the entry `start`. Refuses 9 for a path of more than 1,024
 /// bytes, then 15, 17 and 18.
+#[tactic(auto, using(crate::proofs::Asked::not_asked), unfolding(crate::specs::Files::lookup_answer))]
 pub fn lookup(image: &[u8], words: &mut [u32], start: u32, path: &[u8]) -> Found
     ensures answer { result ≡ lookup_answer image.now (length words.old) start path.now }
     ensures words_zero { words.new ≡ zeros words.old }

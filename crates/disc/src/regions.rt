@@ -15,6 +15,7 @@ use refusal::Refusal;
 use space::{Clusters, DiscRegion, Totals, UsedRegions};
 
 /// Opens an image and tells of its disc, or says why it is refused.
+#[tactic(auto, using(crate::proofs::Asked::not_asked), unfolding(crate::specs::Calls::opened_of))]
 pub fn open(image: &[u8], words: &mut [u32]) -> Result<Disc, Refusal>
     ensures answer { result ≡ opened_of image.now (length words.old) }
     ensures words_zero { words.new ≡ zeros words.old }
@@ -25,6 +26,7 @@ pub fn open(image: &[u8], words: &mut [u32]) -> Result<Disc, Refusal>
 }
 
 /// The disc end and the used total.
+#[tactic(auto, using(crate::proofs::Asked::not_asked), unfolding(crate::specs::Calls::totals_answer))]
 pub fn totals(image: &[u8], words: &mut [u32]) -> Result<DiscTotals, Refusal>
     ensures answer { result ≡ totals_answer image.now (length words.old) }
     ensures words_zero { words.new ≡ zeros words.old }
@@ -55,6 +57,7 @@ fn record_of(disc: &OpenDisc<'_>) -> Totals
 }
 
 /// A totals record of the image, its count 0.
+#[tactic(auto, using(crate::proofs::Asked::not_asked), unfolding(crate::specs::Calls::record_answer))]
 pub fn make_record(image: &[u8], words: &mut [u32]) -> Result<Totals, Refusal>
     ensures answer { result ≡ record_answer image.now (length words.old) }
     ensures words_zero { words.new ≡ zeros words.old }
@@ -65,6 +68,7 @@ pub fn make_record(image: &[u8], words: &mut [u32]) -> Result<Totals, Refusal>
 }
 
 /// Where the program lies, before the table or behind it; `None` if the image has none.
+#[tactic(auto, using(crate::proofs::Asked::not_asked), unfolding(crate::specs::Calls::program_answer))]
 pub fn program(image: &[u8], words: &mut [u32]) -> Program
     ensures answer { result ≡ program_answer image.now (length words.old) }
     ensures words_zero { words.new ≡ zeros words.old }
@@ -116,6 +120,7 @@ pub fn max_region_size(
 
 /// The largest free place for `size` bytes at a multiple of `align`, the last among equals. Refuses
 /// 22 for an `align` that is no power of two, 21 if there is no such place.
+#[tactic(auto, using(crate::proofs::Asked::not_asked), unfolding(crate::specs::Calls::allocate_answer))]
 pub fn allocate(
     image: &[u8],
     words: &mut [u32],
