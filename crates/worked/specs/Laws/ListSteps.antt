@@ -49,7 +49,7 @@ module _ {image next : List ℕ} {nodes nodes' : List Node} {free free' : List D
 abbrev insert_b : Edit
 insert_b = insert_file 0 (0x62 ∷ [])
 
-insert-plan : plan_of insert_b (disc_of first) ≡ change 2 (table_only (tree_b 0 0))
+pub insert-plan : plan_of insert_b (disc_of first) ≡ change 2 (table_only (tree_b 0 0))
 unfolding insert_verdict insert_at splice bump child_of first_child same_bytes plain safe parent_of parent_below shut units
 insert-plan = rw at_first.tree
 
@@ -90,7 +90,7 @@ onto-itself = refused OverlappingMove (move_file 1 0x580) (totals 1644 6140 1) (
 abbrev move_b : Change
 move_b = relocated (tree_b 0 0) 2 no_place (at 0x900 0)
 
-move-plan : plan_of (move_file 2 0x900) (disc_of (with_b 0 0 [])) ≡ change 2 move_b
+pub move-plan : plan_of (move_file 2 0x900) (disc_of (with_b 0 0 [])) ≡ change 2 move_b
 unfolding plan_move max_size_from beside_free
 move-plan = rw (at-inserted.tree, space at-inserted)
 
@@ -111,7 +111,7 @@ moved = step at-inserted at_moved (move_file 2 0x900) _ (totals 1644 6140 1) _ m
 abbrev grow_b : Change
 grow_b = resized (tree_b 0x900 0) 2 (at 0x900 0) 3
 
-fill-plan : plan_of (fill_file 2 clip) (disc_of (with_b 0x900 0 [])) ≡ filled 2 clip (change 2 grow_b)
+pub fill-plan : plan_of (fill_file 2 clip) (disc_of (with_b 0x900 0 [])) ≡ filled 2 clip (change 2 grow_b)
 unfolding plan_fill plan_resize max_size_from beside_free
 fill-plan = rw (at_moved.tree, space at_moved)
 
@@ -132,7 +132,7 @@ filled-b = step at_moved at-filled (fill_file 2 clip) _ (totals 1644 6140 2) _ f
 abbrev more_b : Change
 more_b = resized (tree_b 0x900 3) 2 (at 0x900 3) 5
 
-resize-plan : plan_of (resize_file 2 5) (disc_of (with_b 0x900 3 clip)) ≡ change 2 more_b
+pub resize-plan : plan_of (resize_file 2 5) (disc_of (with_b 0x900 3 clip)) ≡ change 2 more_b
 unfolding plan_resize max_size_from beside_free
 resize-plan = rw (at-filled.tree, space at-filled)
 
